@@ -1,0 +1,91 @@
+#!/usr/bin/env python3
+"""Times `confstore format` on inputs of several sizes, beside `wc -c` on the same file.
+
+For each form of text that is read, and each size, it prints the best time of five runs, the speed, and the greatest memory.
+It says at the end whether the time a byte grew by more than a quarter from the smallest size to the largest, and whether the
+memory stayed below 12 times the input. Run it from the repository's root after the program is built:
+
+    python3 bench/format.py
+"""
+
+import os
+import subprocess
+import sys
+import tempfile
+import time
+
+TOP = os.path.dirname(os.path.dirname(os.path.abspath(__file__)))
+PROGRAM = os.path.join(TOP, "crates", "confstore", "out", "confstore")
+SIZES = [64 * 1024, 256 * 1024, 1024 * 1024]
+# In the one style some texts grow: the inputs are cut so that the style's limit of 1 MiB isn't passed.
+FORMS = {
+    "plain words": lambda i: f"key-{i:07}: value/of.{i:07}\n",
+    "double quotes": lambda i: f'key-{i:07}: "the value of key {i}, as text"\n',
+    "long values": lambda i: f'k{i:06}: "' + "lorem ipsum dolor " * 20 + '"\n',
+}
+
+
+def text_of(form, size):
+    lines, length, i = [], 0, 0
+    while True:
+        line = FORMS[form](i)
+        if length + len(line) > size:
+            return "".join(lines)
+        lines.append(line)
+        length += len(line)
+        i += 1
+
+
+def run(words, path):
+    """The wall time of one run, its greatest memory in bytes, and its status."""
+    with open(path, "rb") as source:
+        start = time.perf_counter()
+        process = subprocess.Popen(words, stdin=source, stdout=subprocess.DEVNULL)
+        _, status, usage = os.wait4(process.pid, 0)
+        seconds = time.perf_counter() - start
+    return seconds, usage.ru_maxrss * 1024, status
+
+
+def best(words, path, times=5):
+    runs = [run(words, path) for _ in range(times)]
+    if any(status != 0 for _, _, status in runs):
+        sys.exit(f"{words[0]} failed on {path}")
+    return min(seconds for seconds, _, _ in runs), max(memory for _, memory, _ in runs)
+
+
+def main():
+    if not os.access(PROGRAM, os.X_OK):
+        sys.exit("the program is not built: run ./confstore --version first")
+    sound = True
+    with tempfile.TemporaryDirectory() as folder:
+        empty = os.path.join(folder, "word")
+        with open(empty, "w") as target:
+            target.write("a: b\n")
+        start, floor = best([PROGRAM, "format"], empty)
+        print(f"start of the program: {start * 1000:.1f} ms, {floor / 2**20:.1f} MiB")
+        for form in FORMS:
+            costs = []
+            for size in SIZES:
+                path = os.path.join(folder, "input.yaml")
+                with open(path, "w") as target:
+                    target.write(text_of(form, size))
+                length = os.path.getsize(path)
+                seconds, memory = best([PROGRAM, "format"], path)
+                peer, _ = best(["wc", "-c"], path)
+                work = max(seconds - start, 1e-6)
+                costs.append(work / length)
+                fits = memory - floor <= 12 * length
+                sound = sound and fits
+                print(
+                    f"{form:14} {length:8} bytes  {seconds * 1000:7.2f} ms  {length / work / 1e6:7.1f} MB/s"
+                    f"  wc -c {peer * 1000:5.2f} ms  {memory / 2**20:6.1f} MiB ({(memory - floor) / length:4.1f} times the input)"
+                )
+            growth = costs[-1] / costs[0]
+            sound = sound and growth <= 1.25
+            print(f"{form:14} the time a byte at the largest size is {growth:.2f} times that at the smallest")
+    print("linear, and within 12 times the input" if sound else "NOT within the bounds")
+    return 0 if sound else 1
+
+
+if __name__ == "__main__":
+    sys.exit(main())

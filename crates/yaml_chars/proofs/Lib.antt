@@ -1,0 +1,4 @@
+pub mod Classes
+pub mod Places
+pub mod Runs
+pub mod Breaks

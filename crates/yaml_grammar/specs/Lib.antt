@@ -1,0 +1,11 @@
+pub mod Texts
+pub mod Separation
+pub mod FlowScalars
+pub mod FlowNodes
+pub mod BlockScalars
+pub mod BlockNodes
+pub mod Streams
+pub mod Events
+pub mod Trees
+pub mod Style
+pub mod Reads

@@ -1,0 +1,54 @@
+-- What a text reads as, and the tree that it gives within limits.
+use Rattle.std.specs.Prelude.{◌≡◌, ℕ, ◌≤◌, List, IsTrue}
+use Rattle.yaml_grammar.specs.Texts.{IsText, byte_len}
+use Rattle.yaml_grammar.specs.Events.{Event}
+use Rattle.yaml_grammar.specs.Streams.{Stream, spelled, fits, meant}
+use Rattle.yaml_grammar.specs.Trees.{Tree, IsTreeOf, depth, distinct, IsTextTree}
+use Rattle.yaml_grammar.specs.Style.{style_text}
+
+-- a presentation of the text, which fits
+pub record Presents (p : Stream) (text : List ℕ) : Type 0 where
+  pub fits : IsTrue (fits p)
+  pub spells : spelled p ≡ text
+
+-- some presentation of the text means these events
+pub record CanRead (text : List ℕ) (events : List Event) : Type 0 where
+  pub presentation : Stream
+  pub presents : Presents presentation text
+  pub means : meant presentation ≡ events
+
+-- some presentation means these events, and every one does
+pub record Reads (text : List ℕ) (events : List Event) : Type 0 where
+  pub source : IsText text
+  pub some : CanRead text events
+  pub every : (p : Stream) → Presents p text → meant p ≡ events
+
+-- at most so many bytes of text, so much depth, and so many bytes in the one style
+pub record Limits : Type 0 where
+  pub bytes : ℕ
+  pub depth : ℕ
+  pub style : ℕ
+
+-- all is text, in each mapping the keys differ, and the tree is within the limits of depth and style
+pub record Good (t : Tree) (limits : Limits) : Type 0 where
+  pub texts : IsTextTree t
+  pub keys : IsTrue (distinct t)
+  pub deep : depth t ≤ limits.depth
+  pub long : byte_len (style_text t) ≤ limits.style
+
+-- the text reads as one document that holds the tree, and both are within the limits
+pub record Gives (text : List ℕ) (limits : Limits) (t : Tree) : Type 0 where
+  pub short : byte_len text ≤ limits.bytes
+  pub events : List Event
+  pub reads : Reads text events
+  pub tree : IsTreeOf events t
+  pub good : Good t limits
+
+-- the same by some presentation, whatever others mean
+pub record CanGive (text : List ℕ) (limits : Limits) (t : Tree) : Type 0 where
+  pub short : byte_len text ≤ limits.bytes
+  pub source : IsText text
+  pub events : List Event
+  pub reads : CanRead text events
+  pub tree : IsTreeOf events t
+  pub good : Good t limits
