@@ -1,6 +1,6 @@
 -- Block nodes: block sequences and mappings, and the scalars and flow nodes in them (YAML 1.2.2, 8.2).
 -- Indentations are counted from m = n + 1, the least indentation of what stands below an indentation of n; at a document's
--- top, where n is -1, m is 0. k is the indentation of the items of a sequence or the pairs of a mapping.
+-- top, where n is -1, m is 0. k is the indentation of the items of a sequence or the pairs of a mapping. A flow node here is handed m, which is its own n.
 use Rattle.std.specs.Prelude.{ℕ, suc, ◌+◌, Bool, true, false, not, ◌&&◌, nat_le, ◌==◌, List, ◌++◌, codes, if◌then◌else◌}
 use Rattle.yaml_chars.specs.Classes.{white, ns}
 use Rattle.yaml_grammar.specs.Texts.{every, first, spaces, byte_len, starts_line}
@@ -43,7 +43,7 @@ mutual
     node : Node → Indented
     omitted : List LineEnd → Indented
 
--- ---- what they spell; the first item and the first pair stand behind their indentation
+-- ---- what they spell; items_text and pairs_text leave out the indentation of the first one
 
 abbrev mutual
   pub node_text : Node → List ℕ
@@ -73,7 +73,7 @@ abbrev mutual
   indented_text (omitted comments) k = comments_text comments
 
 -- ---- what they have to meet
--- In block-out, a value behind `?` or `:`, a sequence may stand as deep as its parent (8.2.2, seq-space); shallow tells it.
+-- In block-out, which is what stands behind `?` or `:`, a sequence may stand as deep as its parent (8.2.3, seq-space); shallow tells it.
 
 abbrev pub is_omitted : Indented → Bool
 is_omitted (omitted comments) = true

@@ -19,7 +19,7 @@ mutual
     last : Entry → Option Sep → Entries
     next : Entry → Option Sep → Option Sep → Entries → Entries
 
-  -- perhaps a `?` with the white behind it; a node, which is the key where it has a value; and a value
+  -- perhaps a `?` with the white behind it; a node, which is the key unless it stands alone in a sequence; and a value
   pub data Entry : Type 0 where
     entry : Option Sep → Flow → Value → Entry
 
@@ -71,12 +71,12 @@ before_colon absent = []
 before_colon (empty gap) = gap_text gap
 before_colon (given before behind f) = gap_text before
 
--- 7.4.1: an entry of a sequence that is a pair without `?`; its key stands on one line
+-- 7.4.2: an entry of a sequence that is a pair without `?`; its key stands on one line
 abbrev pub single_pair : Bool → Option Sep → Value → Bool
 single_pair in_seq None value = in_seq && has_colon value
 single_pair in_seq (Some sep) value = false
 
--- 7.4.1, 8.2.2: `:` comes at most 1,024 characters behind the start of a key on one line; white before the `:` counts
+-- 7.4.2, 8.2.2: `:` comes at most 1,024 characters behind the start of a key on one line; white before the `:` counts
 abbrev pub short_key : Flow → List ℕ → Bool
 short_key key gap = nat_le (length (flow_text key ++ gap)) 1024
 

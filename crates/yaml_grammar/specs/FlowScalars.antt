@@ -19,7 +19,7 @@ inside inner = inner
 inside block_key = flow_key
 inside flow_key = flow_key
 
--- keys stand on one line
+-- a block key and the key of a single pair without `?` stand on one line, and so does all in them; keys in `{ }` need not
 abbrev pub one_line : FlowContext → Bool
 one_line outer = false
 one_line inner = false
@@ -40,7 +40,7 @@ pub record Empty : Type 0 where
   pub stop : Break
 
 -- a further line: how it is joined to the one before it, and what it holds.
--- The join is a backslash or none, white, a break, empty lines, and the white at the line's front (6.5, 7.3.1).
+-- The join is white, perhaps a backslash, a break, empty lines, and the white at the line's front (6.5, 7.3.1).
 pub record Line (A : Type 0) : Type 0 where
   pub escaped : Bool
   pub blank : List ℕ

@@ -9,3 +9,4 @@ pub mod Events
 pub mod Trees
 pub mod Style
 pub mod Reads
+pub mod Closings

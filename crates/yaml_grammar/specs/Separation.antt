@@ -48,7 +48,7 @@ abbrev pub line_end_fits : Bool → LineEnd → List ℕ → Bool
 line_end_fits bol e behind =
     every white e.blank && comment_fits (bol || not (is_empty e.blank)) e.comment && stop_fits e.stop behind
 
--- a line of white or a comment, which is not empty
+-- the same where it isn't empty: a line of white or a comment, or what ends the line before it
 abbrev pub comment_line_fits : Bool → LineEnd → List ℕ → Bool
 comment_line_fits bol e behind = not (is_empty (line_end_text e)) && line_end_fits bol e behind
 
@@ -76,7 +76,7 @@ sep_text (lines comments lead) = comments_text comments ++ lead
 abbrev pub indents : ℕ → List ℕ → Bool
 indents n blank = every white blank && begins (spaces n) blank
 
--- in a key all stands on one line
+-- in a key on one line (`block_key`, `flow_key`) all stands on that line
 abbrev pub sep_fits : ℕ → Bool → Bool → Sep → List ℕ → Bool
 sep_fits n key bol (inline blank) behind = every white blank && (bol || not (is_empty blank))
 sep_fits n key bol (lines comments lead) behind = not key && comments_fit bol comments (lead ++ behind) && indents n lead

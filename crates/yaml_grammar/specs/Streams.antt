@@ -1,4 +1,4 @@
--- Streams of documents (YAML 1.2.2, chapters 6.8 and 9).
+-- Streams of documents (YAML 1.2.2, 6.8 and chapter 9).
 use Rattle.std.specs.Prelude.{ℕ, ◌+◌, Bool, true, false, not, ◌&&◌, List, [], ◌∷◌, ◌++◌, Option, Some, None, codes, flat_map, if◌then◌else◌}
 use Rattle.yaml_chars.specs.Classes.{white}
 use Rattle.yaml_grammar.specs.Texts.{every, is_empty, optional, byte_len, ends_word, starts_line}
@@ -19,7 +19,7 @@ pub data Document : Type 0 where
   explicit : Explicit → Document
   directed : List ℕ → Bool → List LineEnd → Explicit → Document
 
--- what follows the first document (9.2): `...` lines, comments and perhaps a document; a line; a further explicit document
+-- what follows the front and perhaps a first document (9.2): `...` lines, comments and perhaps a document; a line; a further explicit document
 pub data Part : Type 0 where
   suffixes : List LineEnd → List (List LineEnd) → List LineEnd → Option Document → Part
   line : LineEnd → Part

@@ -92,7 +92,7 @@ abbrev mutual
   members_distinct no_member = true
   members_distinct (member key t ms) = not (has_key key ms) && distinct t && members_distinct ms
 
--- ---- each text and each key is a text
+-- ---- each text and each key consists of Unicode scalar values
 
 abbrev mutual
   pub IsTextTree : Tree → Type 0

@@ -1,0 +1,5 @@
+pub mod Files
+pub mod Images
+pub mod Log
+pub mod Moments
+pub mod Stops

@@ -1,0 +1,66 @@
+-- What a stop during a run of calls leaves.
+use Rattle.std.proofs.Common.{◌≤◌, inl, inr, ⊎_elim, ◌≡◌, ℕ, Result, subst, arith}
+use Rattle.conf_disk.specs.Folder.{Folder, Step, Performs}
+use Rattle.conf_disk.specs.Image.{Image, IsImage}
+use Rattle.conf_disk.specs.Moments.{Elapses, LeavesOnly}
+use Rattle.conf_disk.specs.declared.disk.DiskFault.{DiskFault}
+use Rattle.conf_disk.proofs.Images.{grown, grown-grows, Performs-grown}
+
+-- no call
+pub LeavesOnly-start : {D : Type 0} (moment : D → ℕ) (left : D → ℕ → Image → Type 0) (old : D) (P : Image → Type 0)
+    → ((image : Image) → left old (moment old) image → P image) → LeavesOnly moment left old old P
+LeavesOnly-start moment left old P only = record { later = omega arith; each = only; before = λ t image le is. inl is }
+
+-- a call during which a stop leaves only P
+pub LeavesOnly-call : {D : Type 0} (moment : D → ℕ) (left : D → ℕ → Image → Type 0) (old new : D) (may_leave P : Image → Type 0)
+    → Elapses (moment old) (moment new) (left old) (left new) may_leave → ((image : Image) → left old (moment old) image → P image) → ((image : Image) → may_leave image → P image)
+    → LeavesOnly moment left old new P
+LeavesOnly-call moment left old new may_leave P time only here = record {
+  later = time.later;
+  each = λ image is. ⊎_elim (only image) (here image) (time.nothing_else (moment old) image (omega arith) is);
+  before = λ t image le is. ⊎_elim (λ past. inl past) (λ now. inr (here image now)) (time.nothing_else t image le is);
+}
+
+-- one run of calls behind another
+pub LeavesOnly-joined : {D : Type 0} (moment : D → ℕ) (left : D → ℕ → Image → Type 0) (old mid new : D) (P Q R : Image → Type 0)
+    → LeavesOnly moment left old mid P → LeavesOnly moment left mid new Q → ((image : Image) → P image → R image) → ((image : Image) → Q image → R image)
+    → LeavesOnly moment left old new R
+LeavesOnly-joined moment left old mid new P Q R first second p q = record {
+  later = omega (arith, first.later, second.later);
+  each = λ image is. ⊎_elim (λ was. p image (first.each image was)) (q image) (second.before (moment old) image first.later is);
+  before = λ t image le is. ⊎_elim
+      (λ was. ⊎_elim (λ past. inl past) (λ now. inr (p image now)) (first.before t image le was))
+      (λ now. inr (q image now))
+      (second.before t image (omega (arith, le, first.later)) is);
+}
+
+pub LeavesOnly-weaker : {D : Type 0} (moment : D → ℕ) (left : D → ℕ → Image → Type 0) (old new : D) (P R : Image → Type 0)
+    → LeavesOnly moment left old new P → ((image : Image) → P image → R image) → LeavesOnly moment left old new R
+LeavesOnly-weaker moment left old new P R run p = record {
+  later = run.later;
+  each = λ image is. p image (run.each image is);
+  before = λ t image le is. ⊎_elim (λ past. inl past) (λ now. inr (p image now)) (run.before t image le is);
+}
+
+-- what a stop leaves now is among what it may have left since
+pub LeavesOnly-now : {D : Type 0} (folder : D → Folder) (moment : D → ℕ) (left : D → ℕ → Image → Type 0) (old new : D) (P : Image → Type 0)
+    → ((t : ℕ) (image : Image) → t ≤ moment new → IsImage (folder new) image → left new t image) → LeavesOnly moment left old new P
+    → (image : Image) → IsImage (folder new) image → P image
+LeavesOnly-now folder moment left old new P counts run image is = run.each image (counts (moment old) image run.later is)
+
+module _ {D : Type 0} (folder : D → Folder) (moment : D → ℕ) (left : D → ℕ → Image → Type 0) where
+  -- a call that changes something, whatever it answers
+  pub LeavesOnly-step : {T : Type 0} (step : Step) (old new : D) (result : Result T DiskFault) → ((image : Image) → left old (moment old) image → IsImage (folder old) image)
+      → Elapses (moment old) (moment new) (left old) (left new) (IsImage (folder new)) → Performs step (folder old) (folder new) result
+      → LeavesOnly moment left old new (IsImage (grown step (folder old)))
+  LeavesOnly-step step old new result only time performs =
+      LeavesOnly-call moment left old new (IsImage (folder new)) (IsImage (grown step (folder old))) time
+      (λ image is. grown-grows step (folder old) image (only image is))
+      (Performs-grown step (folder old) (folder new) result performs)
+
+  -- a call that changes nothing
+  pub LeavesOnly-same : (old new : D) → ((image : Image) → left old (moment old) image → IsImage (folder old) image)
+      → Elapses (moment old) (moment new) (left old) (left new) (IsImage (folder new)) → folder new ≡ folder old
+      → LeavesOnly moment left old new (IsImage (folder old))
+  LeavesOnly-same old new only time same =
+      LeavesOnly-call moment left old new (IsImage (folder new)) (IsImage (folder old)) time only (λ image is. subst (λ (f : Folder). IsImage f image) same is)

@@ -1,0 +1,151 @@
+-- The cuts of a stage and its images; what a stop leaves.
+use Rattle.std.proofs.Common.{◌≡◌, ◌↔◌, ℕ, zero, suc, ◌+◌, List, [], ◌∷◌, ◌++◌, length, get_or, take, replicate, Option, Some, None, Contains, slice_get, Bool, true, false, nat_le, ◌==◌, ◌&&◌, if◌then◌else◌, refl, sym, ◌∙◌, ap, subst, arith}
+use Rattle.std.proofs.lemmas.List.{append-nil, take_all}
+use Rattle.std.proofs.lemmas.List.Elements.{Contains-append_right}
+use Rattle.std.proofs.lemmas.Bool.{le-leb, leb-true}
+use Rattle.std.proofs.lemmas.Option.{slice_get-get_or, slice_get_within, get_or_from_slice_get}
+use Rattle.conf_disk.specs.Folder.{File, empty_file, file_bytes, Stage, Folder, stages, bytes_at}
+use Rattle.conf_disk.specs.Image.{Image, IsImage, IsTorn, IsTornAt, torn_bytes, image_now, folder_of_image, folder_with_files, cut_file, cut_at, both_cut, image_of_stage, image_at}
+use Rattle.conf_disk.specs.declared.memory.Cuts.{Cuts}
+
+-- a torn file is a cut one
+cut_file-torn : (file : File) (bytes : List ℕ) (torn : IsTorn file bytes) → cut_file file torn.keep torn.zeros ≡ Some (Some bytes)
+cut_file-torn file bytes torn =
+    rw (le-leb (torn.keep + torn.zeros) (length file.pending) torn.fits) (ap (λ (l : List ℕ). Some (Some l)) (sym torn.is))
+
+cut_at-torn : (files : List File) (place : Option ℕ) (bytes : Option (List ℕ)) → IsTornAt files place bytes → (keep : ℕ) × ((zero_count : ℕ) × (cut_at files place keep zero_count ≡ Some bytes))
+cut_at-torn files None None torn = (0, (0, refl))
+cut_at-torn files None (Some bytes) torn = absurd torn
+cut_at-torn files (Some id) None torn = absurd torn
+cut_at-torn files (Some id) (Some bytes) torn = (torn.keep, (torn.zeros, cut_file-torn (get_or files id empty_file) bytes torn))
+
+-- a cut file is a torn one
+torn-cut_file : (file : File) (keep zero_count : ℕ) (bytes : Option (List ℕ)) (fits : Bool) → nat_le (keep + zero_count) (length file.pending) ≡ fits
+    → (if fits then Some (Some (torn_bytes file keep zero_count)) else None) ≡ Some bytes → (l : List ℕ) × ((bytes ≡ Some l) × IsTorn file l)
+torn-cut_file file keep zero_count bytes true fits is =
+    (torn_bytes file keep zero_count, (cc, record { keep = keep; zeros = zero_count; fits = leb-true (keep + zero_count) (length file.pending) fits; is = refl }))
+torn-cut_file file keep zero_count bytes false fits is = cc
+
+torn-cut_none : (bytes : Option (List ℕ)) (none : Bool) → let no_file : Option (Option (List ℕ)) = Some None in (if none then no_file else None) ≡ Some bytes → bytes ≡ None
+torn-cut_none bytes true is = cc
+torn-cut_none bytes false is = cc
+
+torn-cut_at : (files : List File) (place : Option ℕ) (keep zero_count : ℕ) (bytes : Option (List ℕ)) → cut_at files place keep zero_count ≡ Some bytes → IsTornAt files place bytes
+torn-cut_at files None keep zero_count bytes is = subst (λ (b : Option (List ℕ)). IsTornAt files None b) (sym (torn-cut_none bytes ((keep == 0) && (zero_count == 0)) is)) tt
+torn-cut_at files (Some id) keep zero_count bytes is =
+    let torn = torn-cut_file (get_or files id empty_file) keep zero_count bytes (nat_le (keep + zero_count) (length (get_or files id empty_file).pending)) refl is in
+    subst (λ (b : Option (List ℕ)). IsTornAt files (Some id) b) (sym torn.1.0) torn.1.1
+
+both_cut-some : (store next : Option (Option (List ℕ))) (image : Image) → both_cut store next ≡ Some image → (store ≡ Some image.store) × (next ≡ Some image.next)
+both_cut-some None next image is = cc
+both_cut-some (Some store) None image is = cc
+both_cut-some (Some store) (Some next) image is =
+    let same : record { store = store; next = next } ≡ image = cc in
+    (ap (λ (i : Image). Some i.store) same, ap (λ (i : Image). Some i.next) same)
+
+image_at-stage : (folder : Folder) (place : ℕ) (cuts : Cuts) (image : Image) (stage : Option Stage) → slice_get (stages folder) place ≡ stage → image_of_stage folder.files stage cuts ≡ Some image → IsImage folder image
+image_at-stage folder place cuts image None at is = cc
+image_at-stage folder place cuts image (Some stage) at is =
+    let both = both_cut-some (cut_at folder.files stage.store cuts.store.0 cuts.store.1) (cut_at folder.files stage.next cuts.next.0 cuts.next.1) image is in
+    record {
+      stage = stage;
+      among = (place, slice_get_within (stages folder) place stage at, get_or_from_slice_get (stages folder) place stage _ at);
+      store = torn-cut_at folder.files stage.store cuts.store.0 cuts.store.1 image.store both.0;
+      next = torn-cut_at folder.files stage.next cuts.next.0 cuts.next.1 image.next both.1;
+    }
+
+image-cuts : (folder : Folder) (image : Image) → IsImage folder image → (stage : ℕ) × ((cuts : Cuts) × (image_at folder stage cuts ≡ Some image))
+image-cuts folder image is =
+    let store = cut_at-torn folder.files is.stage.store image.store is.store in
+    let next = cut_at-torn folder.files is.stage.next image.next is.next in
+    let at : slice_get (stages folder) is.among.0 ≡ Some is.stage = slice_get-get_or (stages folder) is.among.0 _ is.among.1 ∙ ap Some is.among.2 in
+    let cuts : Cuts = record { store = (store.0, store.1.0); next = (next.0, next.1.0) } in (
+      is.among.0,
+      (
+        cuts,
+        ap (λ (stage : Option Stage). image_of_stage folder.files stage cuts) at
+            ∙ (λ i. both_cut (store.1.1 i) (next.1.1 i)),
+      ),
+    )
+
+pub images-cuts : (folder : Folder) (image : Image) → IsImage folder image ↔ ((stage : ℕ) × ((cuts : Cuts) × (image_at folder stage cuts ≡ Some image)))
+images-cuts folder image = (image-cuts folder image, λ found. image_at-stage folder found.0 found.1.0 image (slice_get (stages folder) found.0) refl found.1.1)
+
+-- a file may be left whole
+IsTorn-whole : (file : File) → IsTorn file (file_bytes file)
+IsTorn-whole file = record {
+  keep = length file.pending;
+  zeros = 0;
+  fits = omega arith;
+  is = ap (λ (l : List ℕ). file.synced ++ l) (sym (take_all (length file.pending) file.pending (omega arith))) ∙ sym (append-nil (file.synced ++ take (length file.pending) file.pending));
+}
+
+pub IsTornAt-whole : (files : List File) (place : Option ℕ) → IsTornAt files place (bytes_at files place)
+IsTornAt-whole files None = tt
+IsTornAt-whole files (Some id) = IsTorn-whole (get_or files id empty_file)
+
+pub reading-image : (folder : Folder) → IsImage folder (image_now folder)
+reading-image folder = record {
+  stage = folder.now;
+  among = Contains-append_right folder.earlier (folder.now ∷ []) folder.now (0, omega arith, refl);
+  store = IsTornAt-whole folder.files folder.now.store;
+  next = IsTornAt-whole folder.files folder.now.next;
+}
+
+take-nil : (n : ℕ) → let none : List ℕ = [] in take n none ≡ none
+take-nil zero = refl
+take-nil (suc n) = refl
+
+-- a file of which nothing is pending is left as it is
+pub IsTorn-synced : (file : File) (bytes : List ℕ) → file.pending ≡ [] → IsTorn file bytes → bytes ≡ file_bytes file
+IsTorn-synced file bytes none torn =
+    let no_zeros : torn.zeros ≡ 0 = omega (arith, torn.fits, ap length none) in
+    torn.is
+    ∙ (λ i. file.synced ++ take torn.keep (none i) ++ replicate (no_zeros i) 0)
+    ∙ ap (λ (l : List ℕ). file.synced ++ l ++ []) (take-nil torn.keep)
+    ∙ append-nil (file.synced ++ [])
+    ∙ ap (λ (l : List ℕ). file.synced ++ l) (sym none)
+
+-- where no file under the names has pending bytes
+AllSyncedAt : List File → Option ℕ → Type 0
+AllSyncedAt files None = Unit {0}
+AllSyncedAt files (Some id) = (get_or files id empty_file).pending ≡ []
+
+IsTornAt-synced : (files : List File) (place : Option ℕ) (bytes : Option (List ℕ)) → AllSyncedAt files place → IsTornAt files place bytes → bytes ≡ bytes_at files place
+unfolding AllSyncedAt
+IsTornAt-synced files None None synced torn = refl
+IsTornAt-synced files None (Some bytes) synced torn = absurd torn
+IsTornAt-synced files (Some id) None synced torn = absurd torn
+IsTornAt-synced files (Some id) (Some bytes) synced torn = ap Some (IsTorn-synced (get_or files id empty_file) bytes synced torn)
+
+pub only_stage : (stage last : Stage) → Contains (last ∷ []) stage → stage ≡ last
+only_stage stage last (zero, lt, is) = sym is
+only_stage stage last (suc k, lt, is) = absurd (omega arith)
+
+-- a folder of one stage of which nothing is pending leaves what reads
+one_stage : (files : List File) (now : Stage) → AllSyncedAt files now.store → AllSyncedAt files now.next
+    → (later : Image) → IsImage (record { files = files; earlier = []; now = now }) later → later ≡ record { store = bytes_at files now.store; next = bytes_at files now.next }
+one_stage files now store next later is =
+    let same = only_stage is.stage now is.among in
+    let s = IsTornAt-synced files now.store later.store store (subst (λ (stage : Stage). IsTornAt files stage.store later.store) same is.store) in
+    let n = IsTornAt-synced files now.next later.next next (subst (λ (stage : Stage). IsTornAt files stage.next later.next) same is.next) in
+    λ i. record { store = s i; next = n i }
+
+pub image-reads : (store next : Option (List ℕ)) → image_now (folder_with_files store next) ≡ record { store = store; next = next }
+image-reads None None = refl
+image-reads (Some s) None = ap (λ (l : List ℕ). record { store = Some l; next = None }) (append-nil s)
+image-reads None (Some n) = ap (λ (l : List ℕ). record { store = None; next = Some l }) (append-nil n)
+image-reads (Some s) (Some n) = λ i. record { store = Some (append-nil s i); next = Some (append-nil n i) }
+
+image-left : (store next : Option (List ℕ)) (later : Image) → IsImage (folder_with_files store next) later → later ≡ image_now (folder_with_files store next)
+unfolding AllSyncedAt
+image-left None None later is = one_stage _ _ tt tt later is
+image-left (Some s) None later is = one_stage _ _ refl tt later is
+image-left None (Some n) later is = one_stage _ _ tt refl later is
+image-left (Some s) (Some n) later is = one_stage _ _ refl refl later is
+
+pub image-stays : (image later : Image) → IsImage (folder_of_image image) later ↔ (later ≡ image)
+image-stays image later = (
+  λ is. image-left image.store image.next later is ∙ image-reads image.store image.next,
+  λ same. subst (λ (i : Image). IsImage (folder_of_image image) i) (image-reads image.store image.next ∙ sym same) (reading-image (folder_of_image image)),
+)

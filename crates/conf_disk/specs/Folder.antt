@@ -1,0 +1,134 @@
+-- A folder of two names: its files, its stages, and what each call makes of it.
+use Rattle.std.specs.Prelude.{◌≡◌, ℕ, zero, suc, ◌≤◌, ◌<◌, List, [], ◌∷◌, ◌++◌, length, get_or, take, drop, set, Option, Some, None, Result, MatchResult}
+use Rattle.conf_disk.specs.declared.disk.Name.{Name}
+use Rattle.conf_disk.specs.declared.disk.Name.TheVariants.{Store, Next}
+use Rattle.conf_disk.specs.declared.disk.Content.{Content}
+use Rattle.conf_disk.specs.declared.disk.Content.TheVariants.{Missing, Bytes, TooLong}
+use Rattle.conf_disk.specs.declared.disk.DiskFault.{DiskFault}
+
+-- A file's bytes: those that a stop leaves, then those that were appended since the last sync.
+pub record File : Type 0 where
+  pub synced : List ℕ
+  pub pending : List ℕ
+
+abbrev pub empty_file : File
+empty_file = record { synced = []; pending = [] }
+
+abbrev pub file_bytes : File → List ℕ
+file_bytes file = file.synced ++ file.pending
+
+-- which file stands under each name, by its place among the folder's files
+pub record Stage : Type 0 where
+  pub store : Option ℕ
+  pub next : Option ℕ
+
+-- Each file that was ever made, the stages since the last sync of the folder but for the last one, oldest first, and the
+-- stage now.
+pub record Folder : Type 0 where
+  pub files : List File
+  pub earlier : List Stage
+  pub now : Stage
+
+abbrev pub empty_folder : Folder
+empty_folder = record { files = []; earlier = []; now = record { store = None; next = None } }
+
+-- from the one after the last sync of the folder to the one now
+abbrev pub stages : Folder → List Stage
+stages folder = folder.earlier ++ folder.now ∷ []
+
+abbrev pub under : Stage → Name → Option ℕ
+under stage Store = stage.store
+under stage Next = stage.next
+
+-- one of the calls that change something
+pub data Step : Type 0 where
+  CreateNext : Step
+  Append : (name : Name) (bytes : List ℕ) → Step
+  Sync : (name : Name) → Step
+  RenameNext : Step
+  RemoveNext : Step
+  SyncFolder : Step
+
+-- the folder with one file changed, where there is one
+abbrev pub with_file : Folder → Option ℕ → (File → File) → Folder
+with_file folder None change = folder
+with_file folder (Some id) change = record {
+  files = set folder.files id (change (get_or folder.files id empty_file));
+  earlier = folder.earlier;
+  now = folder.now;
+}
+
+-- the folder with one stage more
+abbrev pub with_stage : Folder → Stage → Folder
+with_stage folder stage = record { files = folder.files; earlier = stages folder; now = stage }
+
+abbrev pub appended : List ℕ → File → File
+appended bytes file = record { synced = file.synced; pending = file.pending ++ bytes }
+
+abbrev pub synced_whole : File → File
+synced_whole file = record { synced = file.synced ++ file.pending; pending = [] }
+
+-- so many of the pending bytes are synced
+abbrev pub synced_first : ℕ → File → File
+synced_first count file = record { synced = file.synced ++ take count file.pending; pending = drop count file.pending }
+
+abbrev pub created : Folder → Folder
+created folder = record {
+  files = folder.files ++ empty_file ∷ [];
+  earlier = stages folder;
+  now = record { store = folder.now.store; next = Some (length folder.files) };
+}
+
+-- the file of the one name is put under the other
+abbrev pub renamed : Folder → Option ℕ → Folder
+renamed folder None = folder
+renamed folder (Some id) = with_stage folder (record { store = Some id; next = None })
+
+abbrev pub removed : Folder → Option ℕ → Folder
+removed folder None = folder
+removed folder (Some id) = with_stage folder (record { store = folder.now.store; next = None })
+
+-- the folder after a call that answers Ok
+abbrev pub after : Step → Folder → Folder
+after CreateNext folder = created folder
+after (Append name bytes) folder = with_file folder (under folder.now name) (appended bytes)
+after (Sync name) folder = with_file folder (under folder.now name) synced_whole
+after RenameNext folder = renamed folder folder.now.next
+after RemoveNext folder = removed folder folder.now.next
+after SyncFolder folder = record { files = folder.files; earlier = []; now = folder.now }
+
+-- The folder after a call that failed when it had come so far: nowhere at 0, and else to its end, or to a part of it: of an
+-- append some first bytes, of a sync some first bytes or some oldest stages.
+abbrev pub partly : ℕ → Step → Folder → Folder
+partly zero step folder = folder
+partly (suc k) CreateNext folder = after CreateNext folder
+partly (suc k) (Append name bytes) folder = with_file folder (under folder.now name) (appended (take (suc k) bytes))
+partly (suc k) (Sync name) folder = with_file folder (under folder.now name) (synced_first (suc k))
+partly (suc k) RenameNext folder = after RenameNext folder
+partly (suc k) RemoveNext folder = after RemoveNext folder
+partly (suc k) SyncFolder folder = record { files = folder.files; earlier = drop (suc k) folder.earlier; now = folder.now }
+
+-- what a call that changes something makes of the folder
+abbrev pub Performs : {T : Type 0} → Step → Folder → Folder → Result T DiskFault → Type 0
+Performs step old new result = MatchResult result (λ _. new ≡ after step old) (λ _. (k : ℕ) × (new ≡ partly k step old))
+
+-- the bytes of a file, where there is one
+abbrev pub bytes_at : List File → Option ℕ → Option (List ℕ)
+bytes_at files None = None
+bytes_at files (Some id) = Some (file_bytes (get_or files id empty_file))
+
+-- what a name reads as
+abbrev pub bytes_under : Folder → Name → Option (List ℕ)
+bytes_under folder name = bytes_at folder.files (under folder.now name)
+
+-- what a read of at most so many bytes answers
+abbrev pub Tells : Option (List ℕ) → ℕ → Content → Type 0
+Tells None max Missing = Unit {0}
+Tells None max (Bytes read) = ⊥
+Tells None max TooLong = ⊥
+Tells (Some bytes) max Missing = ⊥
+Tells (Some bytes) max (Bytes read) = (read.items ≡ bytes) × (length bytes ≤ max)
+Tells (Some bytes) max TooLong = max < length bytes
+
+abbrev pub Reads : Folder → Name → ℕ → Content → Type 0
+Reads folder name max content = Tells (bytes_under folder name) max content

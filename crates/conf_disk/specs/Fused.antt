@@ -1,0 +1,129 @@
+-- A disk with a fuse: which calls pass to the disk below, and what becomes of the others.
+use Rattle.std.specs.Prelude.{◌≡◌, ◌≢◌, ℕ, ◌+◌, ◌-◌, min, true, false, Option, Some, None, Result, Err, ◌==◌, if◌then◌else◌}
+use Rattle.conf_disk.specs.Folder.{Folder, Step, Performs}
+use Rattle.conf_disk.specs.Moments.{CountsFailures, greatest}
+use Rattle.conf_disk.specs.declared.disk.Name.{Name}
+use Rattle.conf_disk.specs.declared.disk.Content.{Content}
+use Rattle.conf_disk.specs.declared.disk.DiskFault.{DiskFault}
+use Rattle.conf_disk.specs.declared.disk.DiskFault.TheVariants.{Device, OutOfMemory}
+use Rattle.conf_disk.specs.declared.fused.Fuse.{Fuse}
+use Rattle.conf_disk.specs.declared.fused.Fuse.TheVariants.{Stop, FailOnce}
+use Rattle.conf_disk.specs.declared.fused.FusedDisk.{FusedDisk}
+use Rattle.conf_disk.specs.declared.fused.FuseCounter.{FuseCounter}
+use Rattle.conf_disk.specs.declared.fused.Outcome.{Outcome}
+use Rattle.conf_disk.specs.declared.fused.Outcome.TheVariants as outcome
+
+-- How many calls are still to pass before it is the fuse's turn; the fuse, unless it failed its one call; how many calls
+-- passed, and how many the fuse failed.
+pub record FuseState : Type 0 where
+  pub calls : ℕ
+  pub fuse : Option Fuse
+  pub passed : ℕ
+  pub blown : ℕ
+
+-- what becomes of a call: it passes, it fails without its effect, or it fails with it
+pub data Trip : Type 0 where
+  Passes : Trip
+  Fails : Trip
+  FailsDone : Trip
+
+-- what the fuse makes of a call once it is its turn; nothing, where it failed its one call already
+abbrev pub trip_of_fuse : Option Fuse → Trip
+trip_of_fuse None = Passes
+trip_of_fuse (Some Stop) = Fails
+trip_of_fuse (Some (FailOnce false)) = Fails
+trip_of_fuse (Some (FailOnce true)) = FailsDone
+
+abbrev pub fuse_left : Option Fuse → Option Fuse
+fuse_left None = None
+fuse_left (Some Stop) = Some Stop
+fuse_left (Some (FailOnce done)) = None
+
+-- so many calls pass before it
+abbrev pub trip_of_calls : ℕ → Option Fuse → Trip
+trip_of_calls calls fuse = if calls == 0 then trip_of_fuse fuse else Passes
+
+-- one call less passes before it, or it had its turn
+abbrev pub turned : FuseState → FuseState
+turned state = record {
+  calls = state.calls - 1;
+  fuse = if state.calls == 0 then fuse_left state.fuse else state.fuse;
+  passed = state.passed;
+  blown = state.blown;
+}
+
+-- the call is counted among those that passed, or among the fuse's own failures
+abbrev pub counted : Trip → FuseState → FuseState
+counted Passes state = record state { passed = min (state.passed + 1) greatest }
+counted Fails state = record state { blown = min (state.blown + 1) greatest }
+counted FailsDone state = record state { blown = min (state.blown + 1) greatest }
+
+-- a disk whose failures stand at the greatest number does nothing more
+abbrev pub trip_of : ℕ → FuseState → Trip
+trip_of failures state = if failures == greatest then Fails else trip_of_calls state.calls state.fuse
+
+abbrev pub state_after : ℕ → FuseState → FuseState
+state_after failures state = if failures == greatest then state else counted (trip_of_calls state.calls state.fuse) (turned state)
+
+-- what the trait's clauses say of a call of the disk below that changes something
+pub record IsCall {D : Type 0} (honest : Type 0) (folder : D → Folder) (failure_count : D → ℕ)
+    (also_changes : D → Step → Result (Unit {0}) DiskFault → D → Type 0)
+    (old : D) (step : Step) (result : Result (Unit {0}) DiskFault) (new : D) : Type 0 where
+  pub change : honest → Performs step (folder old) (folder new) result
+  pub failures : CountsFailures (failure_count old) (failure_count new) result
+  pub fault : result ≢ Err OutOfMemory
+  pub also : also_changes old step result new
+
+-- A call that passes is one of the disk below. One that fails answers Device, and the disk below is as it was, or has had
+-- the call.
+abbrev pub Trips : {T : Type 0} → Trip → (Result T DiskFault → Type 0) → Type 0 → Result T DiskFault → Type 0
+Trips Passes Calls Unchanged result = Calls result
+Trips Fails Calls Unchanged result = (result ≡ Err Device) × Unchanged
+Trips {T = T} FailsDone Calls Unchanged result = (result ≡ Err Device) × ((answer : Result T DiskFault) × Calls answer)
+
+abbrev pub fused_inner : {D : Type 0} → FusedDisk D → D
+fused_inner disk = disk.inner
+
+abbrev pub counter_state : FuseCounter → FuseState
+counter_state counter = record { calls = counter.calls; fuse = counter.fuse; passed = counter.passed; blown = counter.blown }
+
+abbrev pub fuse_of : {D : Type 0} → FusedDisk D → FuseState
+fuse_of disk = counter_state disk.counter
+
+abbrev pub trip_told : Outcome → Trip
+trip_told outcome.Passes = Passes
+trip_told outcome.Fails = Fails
+trip_told outcome.FailsDone = FailsDone
+
+-- how many calls went through to the disk below, up to the greatest number
+abbrev pub passed_count : {D : Type 0} → FusedDisk D → ℕ
+passed_count disk = disk.counter.passed
+
+-- the failures of the disk below and the fuse's own, up to the greatest number
+abbrev pub fused_failures : {D : Type 0} → (D → ℕ) → FusedDisk D → ℕ
+fused_failures failure_count disk = min (failure_count disk.inner + disk.counter.blown) greatest
+
+-- how a call that changes something goes
+pub record FusesChange {D : Type 0} (honest : Type 0) (folder : D → Folder) (failure_count : D → ℕ)
+    (also_changes : D → Step → Result (Unit {0}) DiskFault → D → Type 0)
+    (old : FusedDisk D) (step : Step) (result : Result (Unit {0}) DiskFault) (new : FusedDisk D) : Type 0 where
+  pub fuse : fuse_of new ≡ state_after (fused_failures failure_count old) (fuse_of old)
+  pub trip : Trips (trip_of (fused_failures failure_count old) (fuse_of old))
+      (λ answer. IsCall honest folder failure_count also_changes (fused_inner old) step answer (fused_inner new))
+      (fused_inner new ≡ fused_inner old) result
+
+-- a read has no effect that it could have had
+abbrev pub without_effect : Trip → Trip
+without_effect Passes = Passes
+without_effect Fails = Fails
+without_effect FailsDone = Fails
+
+-- how a read goes: where it doesn't pass, the disk below is not read
+pub record FusesRead {D : Type 0} (failure_count : D → ℕ)
+    (also_reads : D → Name → ℕ → Result Content DiskFault → D → Type 0)
+    (old : FusedDisk D) (name : Name) (max : ℕ) (result : Result Content DiskFault) (new : FusedDisk D) : Type 0 where
+  pub fuse : fuse_of new ≡ state_after (fused_failures failure_count old) (fuse_of old)
+  pub trip : Trips (without_effect (trip_of (fused_failures failure_count old) (fuse_of old)))
+      (λ answer. also_reads (fused_inner old) name max answer (fused_inner new)
+      × CountsFailures (failure_count (fused_inner old)) (failure_count (fused_inner new)) answer)
+      (fused_inner new ≡ fused_inner old) result

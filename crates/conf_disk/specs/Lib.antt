@@ -1,0 +1,9 @@
+pub mod Folder
+pub mod Image
+pub mod Moments
+pub mod Log
+pub mod LogLaws
+pub mod Memory
+pub mod Replay
+pub mod Fused
+pub mod Laws

@@ -1,0 +1,111 @@
+-- What a disk that keeps a log of its steps owes: the moments now, and that its folder is whole.
+use Rattle.std.specs.Prelude.{◌≡◌, ℕ, ◌+◌, ◌≤◌, List, [], ◌∷◌, ◌++◌, length, take, Option, Some, None}
+use Rattle.std.proofs.Common.{refl, sym, ◌∙◌, ap, subst, arith, length-append}
+use Rattle.std.proofs.lemmas.List.{take_all, length-set}
+use Rattle.std.proofs.lemmas.List.Elements.{All-weaker, All-contains, All-push, All-nil, Contains-append_right}
+use Rattle.std.proofs.lemmas.Option.{slice_get_past}
+use Rattle.conf_disk.specs.Folder.{Stage, File, empty_file, Folder, empty_folder, stages, under, Step, CreateNext, Append, Sync, RenameNext, RemoveNext, SyncFolder, after, with_file, with_stage, created, renamed, removed}
+use Rattle.conf_disk.specs.Image.{Image, IsImage, IsMade, IsApartFrom, IsStage, IsWhole}
+use Rattle.conf_disk.specs.Log.{folder_after, folder_within, folder_at, IsLeftSince}
+
+-- when all steps are done, the folder is the one after them
+pub folder_at-length : (steps : List Step) (part : ℕ) → folder_at steps (length steps) part ≡ folder_after steps empty_folder
+folder_at-length steps part =
+    ap (λ (step : Option Step). folder_within step part (folder_after (take (length steps) steps) empty_folder)) (slice_get_past steps (length steps) (omega arith))
+    ∙ ap (λ (done : List Step). folder_after done empty_folder) (take_all (length steps) steps (omega arith))
+
+pub left_now : (steps : List Step) (t : ℕ) (image : Image) → t ≤ length steps → IsImage (folder_after steps empty_folder) image → IsLeftSince steps t image
+left_now steps t image le is = record {
+  done = length steps;
+  part = 0;
+  since = le;
+  until = omega arith;
+  is = subst (λ (folder : Folder). IsImage folder image) (sym (folder_at-length steps 0)) is;
+}
+
+pub left_only_now : (steps : List Step) (image : Image) → IsLeftSince steps (length steps) image → IsImage (folder_after steps empty_folder) image
+left_only_now steps image left =
+    let all : left.done ≡ length steps = omega (arith, left.since, left.until) in
+    let here = subst (λ (done : ℕ). IsImage (folder_at steps done left.part) image) all left.is in
+    subst (λ (folder : Folder). IsImage folder image) (folder_at-length steps left.part) here
+
+-- more files
+IsMade-more : (m n : ℕ) (place : Option ℕ) → m ≤ n → IsMade m place → IsMade n place
+IsMade-more m n None le is = tt
+IsMade-more m n (Some id) le is = omega (arith, is)
+
+IsStage-more : (m n : ℕ) (next : Option ℕ) → m ≤ n → (stage : Stage) → IsStage m next stage → IsStage n next stage
+IsStage-more m n next le stage is = record {
+  store = IsMade-more m n stage.store le is.store;
+  next = IsMade-more m n stage.next le is.next;
+  apart = is.apart;
+}
+
+pub now_staged : (folder : Folder) → IsWhole folder → IsStage (length folder.files) folder.now.next folder.now
+now_staged folder whole =
+    All-contains (IsStage (length folder.files) folder.now.next) (stages folder) folder.now whole
+    (Contains-append_right folder.earlier (folder.now ∷ []) folder.now (0, omega arith, refl))
+
+-- a file that is made now is the store of no stage
+made_apart : (n : ℕ) (store : Option ℕ) → IsMade n store → IsApartFrom (Some n) store
+made_apart n None is = λ same. cc
+made_apart n (Some id) is = λ same. absurd (let equal : id ≡ n = cc in omega (arith, is, equal))
+
+IsStage-made : (n m : ℕ) (next : Option ℕ) → n ≤ m → (stage : Stage) → IsStage n next stage → IsStage m (Some n) stage
+IsStage-made n m next le stage is = record {
+  store = IsMade-more n m stage.store le is.store;
+  next = IsMade-more n m stage.next le is.next;
+  apart = made_apart n stage.store is.store;
+}
+
+IsStage-no_next : (n : ℕ) (next : Option ℕ) (stage : Stage) → IsStage n next stage → IsStage n None stage
+IsStage-no_next n next stage is = record { store = is.store; next = is.next; apart = tt }
+
+with_file-whole : (folder : Folder) (place : Option ℕ) (change : File → File) → IsWhole folder → IsWhole (with_file folder place change)
+with_file-whole folder None change whole = whole
+with_file-whole folder (Some id) change whole =
+    All-weaker (IsStage (length folder.files) folder.now.next) (IsStage (length (with_file folder (Some id) change).files) folder.now.next)
+    (IsStage-more (length folder.files) (length (with_file folder (Some id) change).files) folder.now.next (omega (arith, length-set {A = File}))) (stages folder) whole
+
+-- with a stage that has no staged file
+with_stage-whole : (folder : Folder) (store : Option ℕ) → IsMade (length folder.files) store → IsWhole folder → IsWhole (with_stage folder (record { store = store; next = None }))
+with_stage-whole folder store made whole =
+    All-push (IsStage (length folder.files) None) (stages folder) (record { store = store; next = None })
+    (All-weaker (IsStage (length folder.files) folder.now.next) (IsStage (length folder.files) None) (IsStage-no_next (length folder.files) folder.now.next) (stages folder) whole)
+    (record { store = made; next = tt; apart = tt })
+
+renamed-whole : (folder : Folder) (place : Option ℕ) → IsMade (length folder.files) place → IsWhole folder → IsWhole (renamed folder place)
+renamed-whole folder None made whole = whole
+renamed-whole folder (Some id) made whole = with_stage-whole folder (Some id) made whole
+
+removed-whole : (folder : Folder) (place : Option ℕ) → IsWhole folder → IsWhole (removed folder place)
+removed-whole folder None whole = whole
+removed-whole folder (Some id) whole = with_stage-whole folder folder.now.store (now_staged folder whole).store whole
+
+created-whole : (folder : Folder) → IsWhole folder → IsWhole (created folder)
+created-whole folder whole =
+    let n = length folder.files in
+    let m = length (folder.files ++ empty_file ∷ []) in
+    let longer : m ≡ n + 1 = length-append folder.files (empty_file ∷ []) in
+    let le : n ≤ m = omega (arith, longer) in
+    let here = now_staged folder whole in
+    All-push (IsStage m (Some n)) (stages folder) (created folder).now
+    (All-weaker (IsStage n folder.now.next) (IsStage m (Some n)) (IsStage-made n m folder.now.next le) (stages folder) whole)
+    (record { store = IsMade-more n m folder.now.store le here.store; next = omega (arith, longer); apart = made_apart n folder.now.store here.store })
+
+pub after-whole : (step : Step) (folder : Folder) → IsWhole folder → IsWhole (after step folder)
+after-whole CreateNext folder whole = created-whole folder whole
+after-whole (Append name bytes) folder whole = with_file-whole folder (under folder.now name) _ whole
+after-whole (Sync name) folder whole = with_file-whole folder (under folder.now name) _ whole
+after-whole RenameNext folder whole = renamed-whole folder folder.now.next (now_staged folder whole).next whole
+after-whole RemoveNext folder whole = removed-whole folder folder.now.next whole
+after-whole SyncFolder folder whole =
+    All-push (IsStage (length folder.files) folder.now.next) [] folder.now (All-nil (IsStage (length folder.files) folder.now.next)) (now_staged folder whole)
+
+steps-whole : (steps : List Step) (folder : Folder) → IsWhole folder → IsWhole (folder_after steps folder)
+steps-whole [] folder whole = whole
+steps-whole (step ∷ steps) folder whole = steps-whole steps (after step folder) (after-whole step folder whole)
+
+pub folder_after-whole : (steps : List Step) → IsWhole (folder_after steps empty_folder)
+folder_after-whole steps =
+    steps-whole steps empty_folder (All-push (IsStage 0 None) [] empty_folder.now (All-nil (IsStage 0 None)) (record { store = tt; next = tt; apart = tt }))

@@ -1,0 +1,33 @@
+-- What the calls of a disk do to the moments at which it may stop, and to the number of its failures.
+use Rattle.std.specs.Prelude.{◌≡◌, ◌⊎◌, ℕ, ◌≤◌, ◌<◌, Result, IsErrOf}
+use Rattle.conf_disk.specs.Folder.{Folder}
+use Rattle.conf_disk.specs.Image.{Image, IsImage}
+use Rattle.conf_disk.specs.declared.disk.DiskFault.{DiskFault}
+use Rattle.conf_disk.specs.declared.disk.DiskFault.TheVariants.{Device}
+
+-- the greatest number of failures that is counted
+abbrev pub greatest : ℕ
+greatest = 18446744073709551615
+
+-- Time goes on: a stop since t might have left what it might have left before the call, or what it may leave now.
+pub record Elapses (before now : ℕ) (past since : ℕ → Image → Type 0) (may_leave : Image → Type 0) : Type 0 where
+  pub later : before ≤ now
+  pub nothing_else : (t : ℕ) (image : Image) → t ≤ before → since t image → past t image ⊎ may_leave image
+  pub keeps : (t : ℕ) (image : Image) → t ≤ before → past t image → since t image
+
+-- how a call goes on from the one value of a disk to the next
+abbrev pub TimeGoesOn : {D : Type 0} → (D → Folder) → (D → ℕ) → (D → ℕ → Image → Type 0) → D → D → Type 0
+TimeGoesOn folder moment left old new = Elapses (moment old) (moment new) (left old) (left new) (IsImage (folder new))
+
+-- A device's failures are counted, up to the greatest number. Where they stand at it every call fails.
+pub record CountsFailures {T : Type 0} (before now : ℕ) (result : Result T DiskFault) : Type 0 where
+  pub never_falls : before ≤ now
+  pub device : IsErrOf result Device → (before < now) ⊎ (before ≡ greatest)
+  pub spent : before ≡ greatest → IsErrOf result Device
+
+-- A stop at any moment since `old` leaves an image that has P.
+pub record LeavesOnly {D : Type 0} (moment : D → ℕ) (left : D → ℕ → Image → Type 0) (old new : D) (P : Image → Type 0) : Type 0 where
+  pub later : moment old ≤ moment new
+  pub each : (image : Image) → left new (moment old) image → P image
+  -- for a run that began earlier
+  pub before : (t : ℕ) (image : Image) → t ≤ moment old → left new t image → left old t image ⊎ P image

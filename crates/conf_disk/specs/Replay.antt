@@ -1,0 +1,37 @@
+-- A folder's data as the folder of the model.
+use Rattle.std.specs.Prelude.{ℕ, List, map, Option, Some, None, option_map, Vec}
+use Rattle.std.specs.declared.alloc.Global.{Global}
+use Rattle.conf_disk.specs.Folder.{File, Stage, Folder, Step, CreateNext, Append, Sync, RenameNext, RemoveNext, SyncFolder}
+use Rattle.conf_disk.specs.declared.folder.FileData.{FileData}
+use Rattle.conf_disk.specs.declared.folder.FolderData.{FolderData}
+use Rattle.conf_disk.specs.declared.folder.StageData.{StageData}
+use Rattle.conf_disk.specs.declared.folder.Change.{Change}
+use Rattle.conf_disk.specs.declared.folder.Change.TheVariants as change
+
+abbrev pub file_of : FileData → File
+file_of file = record { synced = file.synced.items; pending = file.pending.items }
+
+abbrev pub files_of : Vec FileData Global → List File
+files_of files = map file_of files.items
+
+abbrev pub stage_of : StageData → Stage
+stage_of stage = record { store = stage.store; next = stage.next }
+
+abbrev pub folder_of : FolderData → Folder
+folder_of folder = record { files = files_of folder.files; earlier = map stage_of folder.earlier.items; now = stage_of folder.current }
+
+abbrev pub step_of : Change → Step
+step_of change.CreateNext = CreateNext
+step_of (change.Append name bytes) = Append name bytes.items
+step_of (change.Sync name) = Sync name
+step_of change.RenameNext = RenameNext
+step_of change.RemoveNext = RemoveNext
+step_of change.SyncFolder = SyncFolder
+
+-- the bytes of a file, where there is one
+abbrev pub items_of : Option (Vec ℕ Global) → Option (List ℕ)
+items_of None = None
+items_of (Some bytes) = Some bytes.items
+
+abbrev pub bytes_of_cut : Option (Option (Vec ℕ Global)) → Option (Option (List ℕ))
+bytes_of_cut bytes = option_map items_of bytes

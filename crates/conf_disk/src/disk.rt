@@ -1,0 +1,152 @@
+// The trait: what a call answers, what it makes of the folder, and when a stop within it comes.
+ghost use Rattle.std.specs.Prelude.{◌≡◌, ◌≢◌, ◌≤◌, ℕ, None, IsSome, IfOk, Result, Err};
+ghost use Rattle.conf_disk.specs.Folder.{Folder, Step, CreateNext, Append, Sync, RenameNext, RemoveNext, SyncFolder, under, Performs, Reads};
+ghost use Rattle.conf_disk.specs.Image.{Image, IsImage, IsWhole};
+ghost use Rattle.conf_disk.specs.Moments.{TimeGoesOn, CountsFailures};
+ghost use Rattle.conf_disk.specs.declared.disk.DiskFault.{DiskFault};
+ghost use Rattle.conf_disk.specs.declared.disk.Content.{Content};
+ghost use Rattle.conf_disk.specs.declared.disk.Name.{Name};
+
+use std::alloc::Global;
+use thiserror::Error;
+
+/// The two names of a folder.
+#[derive(Clone, Copy, Debug, PartialEq, Eq)]
+pub enum Name {
+    /// `store.yaml`, the live file.
+    Store,
+    /// `next.yaml`, the file that is to take its place.
+    Next,
+}
+
+/// What stands under a name.
+#[derive(Debug, Drop)]
+pub enum Content {
+    /// There is no file.
+    Missing,
+    /// The whole of the file's bytes.
+    Bytes(Vec<u8>),
+    /// The file has more bytes than were asked for.
+    TooLong,
+}
+
+/// Why a call failed.
+#[derive(Clone, Copy, Debug, PartialEq, Eq, Error)]
+pub enum DiskFault {
+    /// The device failed. What a call that changes something had done by then may have been done or not.
+    #[error("Device")]
+    Device,
+    /// There was no memory for the bytes that were read. Only a read answers this.
+    #[error("OutOfMemory")]
+    OutOfMemory,
+}
+
+/// A folder of two names.
+///
+/// A file has synced bytes, which a stop leaves, and pending ones behind them, of which it leaves some first ones and
+/// perhaps zeros. The folder has stages, one for each change of its names since its last sync, and a stop leaves one of them.
+///
+/// The clauses on what the disk holds, reads and leaves have the premise that the disk is `honest`, and so have the
+/// callers' conditions. A disk that isn't, as one over a real folder, answers [`DiskFault::Device`] where such a condition
+/// does not hold. The clauses on faults have no premise.
+pub trait Disk {
+    /// Whether the disk is one that the clauses below speak of. It does not depend on the value, so no call changes it.
+    ghost honest: { Type 0 };
+
+    /// The folder's files and stages.
+    ghost folder: { Self → Folder };
+
+    /// The moment, as a number that never falls.
+    ghost moment: { Self → ℕ };
+
+    /// The images that a stop at some moment from that one to now might have left, moments inside calls included.
+    ghost left: { Self → ℕ → Image → Type 0 };
+
+    /// How often the device has failed.
+    ghost failure_count: { Self → ℕ };
+
+    /// What a disk promises of a changing call beside the clauses below: the disk before, the call, its answer, the disk then.
+    ghost also_changes: { Self → Step → Result (Unit {0}) DiskFault → Self → Type 0 } = { λ _ _ _ _. Unit {0} };
+
+    /// The same of a read of a name with a limit.
+    ghost also_reads: { Self → Name → ℕ → Result Content DiskFault → Self → Type 0 } = { λ _ _ _ _ _. Unit {0} };
+
+    /// How often the device has failed, up to 18,446,744,073,709,551,615. At that number every other call fails and
+    /// changes nothing.
+    fn failures(&self) -> u64
+        ensures { result ≡ failure_count self.now };
+
+    /// The bytes under a name, if they are at most `max`. A read changes nothing, whatever it answers.
+    fn read(&mut self, alloc: Global, name: Name, max: u64) -> Result<Content, DiskFault>
+        ensures content { honest → IfOk result (λ content. Reads (folder self.old) name max content) }
+        ensures same { honest → folder self.new ≡ folder self.old }
+        ensures time { honest → TimeGoesOn folder moment left self.old self.new }
+        ensures failures { CountsFailures (failure_count self.old) (failure_count self.new) result }
+        ensures also { also_reads self.old name max result self.new };
+
+    /// Makes an empty file under the name `Next`, where there is none.
+    fn create_next(&mut self) -> Result<(), DiskFault>
+        requires { honest → (folder self.old).now.next ≡ None }
+        ensures change { honest → Performs CreateNext (folder self.old) (folder self.new) result }
+        ensures spent { honest → failure_count self.old ≡ u64.MAX → folder self.new ≡ folder self.old }
+        ensures time { honest → TimeGoesOn folder moment left self.old self.new }
+        ensures failures { CountsFailures (failure_count self.old) (failure_count self.new) result }
+        ensures fault { result ≢ Err DiskFault.OutOfMemory }
+        ensures also { also_changes self.old CreateNext result self.new };
+
+    /// Puts bytes behind those of the file under a name. They are pending until the file is synced.
+    fn append(&mut self, name: Name, bytes: &[u8]) -> Result<(), DiskFault>
+        requires { honest → IsSome (under (folder self.old).now name) }
+        ensures change { honest → Performs (Append name bytes.now) (folder self.old) (folder self.new) result }
+        ensures spent { honest → failure_count self.old ≡ u64.MAX → folder self.new ≡ folder self.old }
+        ensures time { honest → TimeGoesOn folder moment left self.old self.new }
+        ensures failures { CountsFailures (failure_count self.old) (failure_count self.new) result }
+        ensures fault { result ≢ Err DiskFault.OutOfMemory }
+        ensures also { also_changes self.old (Append name bytes.now) result self.new };
+
+    /// From its `Ok` on, a stop leaves all bytes of the file under a name. Where there is none it does nothing.
+    fn sync(&mut self, name: Name) -> Result<(), DiskFault>
+        ensures change { honest → Performs (Sync name) (folder self.old) (folder self.new) result }
+        ensures spent { honest → failure_count self.old ≡ u64.MAX → folder self.new ≡ folder self.old }
+        ensures time { honest → TimeGoesOn folder moment left self.old self.new }
+        ensures failures { CountsFailures (failure_count self.old) (failure_count self.new) result }
+        ensures fault { result ≢ Err DiskFault.OutOfMemory }
+        ensures also { also_changes self.old (Sync name) result self.new };
+
+    /// Puts the file under `Next` under `Store`, in the place of the one that is there.
+    fn rename_next(&mut self) -> Result<(), DiskFault>
+        requires { honest → IsSome (folder self.old).now.next }
+        ensures change { honest → Performs RenameNext (folder self.old) (folder self.new) result }
+        ensures spent { honest → failure_count self.old ≡ u64.MAX → folder self.new ≡ folder self.old }
+        ensures time { honest → TimeGoesOn folder moment left self.old self.new }
+        ensures failures { CountsFailures (failure_count self.old) (failure_count self.new) result }
+        ensures fault { result ≢ Err DiskFault.OutOfMemory }
+        ensures also { also_changes self.old RenameNext result self.new };
+
+    /// Takes the file under `Next` away. Where there is none it does nothing.
+    fn remove_next(&mut self) -> Result<(), DiskFault>
+        ensures change { honest → Performs RemoveNext (folder self.old) (folder self.new) result }
+        ensures spent { honest → failure_count self.old ≡ u64.MAX → folder self.new ≡ folder self.old }
+        ensures time { honest → TimeGoesOn folder moment left self.old self.new }
+        ensures failures { CountsFailures (failure_count self.old) (failure_count self.new) result }
+        ensures fault { result ≢ Err DiskFault.OutOfMemory }
+        ensures also { also_changes self.old RemoveNext result self.new };
+
+    /// From its `Ok` on, a stop leaves the names as they are.
+    fn sync_folder(&mut self) -> Result<(), DiskFault>
+        ensures change { honest → Performs SyncFolder (folder self.old) (folder self.new) result }
+        ensures spent { honest → failure_count self.old ≡ u64.MAX → folder self.new ≡ folder self.old }
+        ensures time { honest → TimeGoesOn folder moment left self.old self.new }
+        ensures failures { CountsFailures (failure_count self.old) (failure_count self.new) result }
+        ensures fault { result ≢ Err DiskFault.OutOfMemory }
+        ensures also { also_changes self.old SyncFolder result self.new };
+
+    /// This moment is one of those since an earlier one.
+    ghost counts_now: { (disk : Self) (t : ℕ) (image : Image) → honest → t ≤ moment disk → IsImage (folder disk) image → left disk t image };
+
+    /// Since this moment there is no other.
+    ghost only_now: { (disk : Self) (image : Image) → honest → left disk (moment disk) image → IsImage (folder disk) image };
+
+    /// Each file that stands under a name is one of the folder's, and the staged one was never the live one.
+    ghost whole: { (disk : Self) → honest → IsWhole (folder disk) };
+}

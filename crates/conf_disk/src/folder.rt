@@ -1,0 +1,198 @@
+// A folder as data: its files, and its stages since its last sync.
+ghost use Rattle.std.specs.Prelude.{◌≡◌, [], ◌∷◌, ◌++◌, map, set, get_or, Some, None, OnOk, IfOk, option_map, slice_get};
+ghost use Rattle.conf_disk.specs.Folder.{CreateNext, under, after, appended, synced_whole, empty_file, empty_folder, file_bytes, stages};
+ghost use Rattle.conf_disk.specs.Image.{cut_at};
+ghost use Rattle.conf_disk.specs.Replay.{file_of, files_of, stage_of, folder_of, step_of, bytes_of_cut};
+
+use crate::Name;
+use std::alloc::{AllocError, Global};
+
+// The files, by their places among the folder's files, that stand under the two names.
+#[derive(Clone, Copy, Debug, PartialEq, Eq)]
+pub(crate) struct StageData {
+    pub(crate) store: Option<usize>,
+    pub(crate) next: Option<usize>,
+}
+
+impl StageData {
+    pub(crate) fn under(self, name: Name) -> Option<usize>
+        ensures { result ≡ under (stage_of self) name }
+    {
+        match name {
+            Name::Store => self.store,
+            Name::Next => self.next,
+        }
+    }
+}
+
+// A call that changed something.
+#[derive(Drop)]
+pub(crate) enum Change {
+    CreateNext,
+    Append(Name, Vec<u8>),
+    Sync(Name),
+    RenameNext,
+    RemoveNext,
+    SyncFolder,
+}
+
+#[derive(Drop)]
+pub(crate) struct FileData {
+    pub(crate) synced: Vec<u8>,
+    pub(crate) pending: Vec<u8>,
+}
+
+#[derive(Drop)]
+pub(crate) struct FolderData {
+    pub(crate) files: Vec<FileData>,
+    pub(crate) earlier: Vec<StageData>,
+    pub(crate) current: StageData,
+}
+
+impl FolderData {
+    pub(crate) fn new(alloc: Global) -> Self
+        ensures { folder_of result ≡ empty_folder }
+    {
+        FolderData {
+            files: Vec::new(alloc),
+            earlier: Vec::new(alloc),
+            current: StageData {
+                store: None,
+                next: None,
+            },
+        }
+    }
+
+    pub(crate) fn apply(&mut self, alloc: Global, change: &Change) -> Result<(), AllocError>
+        ensures { OnOk result (folder_of self.new ≡ after (step_of change.now) (folder_of self.old)) }
+    {
+        match change {
+            Change::CreateNext => self.create_next(alloc),
+            Change::Append(name, bytes) => match self.current.under(*name) {
+                None => Ok(()),
+                Some(id) => append_to(&mut self.files, id, bytes),
+            },
+            Change::Sync(name) => match self.current.under(*name) {
+                None => Ok(()),
+                Some(id) => sync_whole(&mut self.files, id),
+            },
+            Change::RenameNext => match self.current.next {
+                None => Ok(()),
+                Some(id) => self.restage(Some(id), None),
+            },
+            Change::RemoveNext => match self.current.next {
+                None => Ok(()),
+                Some(_) => self.restage(self.current.store, None),
+            },
+            Change::SyncFolder => {
+                self.earlier.clear();
+                Ok(())
+            }
+        }
+    }
+
+    fn create_next(&mut self, alloc: Global) -> Result<(), AllocError>
+        ensures { OnOk result (folder_of self.new ≡ after CreateNext (folder_of self.old)) }
+    {
+        let id = self.files.len();
+        self.files.push(FileData {
+            synced: Vec::new(alloc),
+            pending: Vec::new(alloc),
+        })?;
+        self.restage(self.current.store, Some(id))
+    }
+
+    fn restage(&mut self, store: Option<usize>, next: Option<usize>) -> Result<(), AllocError>
+        ensures stages { OnOk result (self.new.earlier.items ≡ self.old.earlier.items ++ self.old.current ∷ []) }
+        ensures now { OnOk result (stage_of self.new.current ≡ record { store = store; next = next }) }
+        ensures files { OnOk result (self.new.files ≡ self.old.files) }
+    {
+        self.earlier.push(self.current)?;
+        self.current = StageData { store, next };
+        Ok(())
+    }
+
+    // The stage at a place, counted from 0, oldest first.
+    pub(crate) fn stage_at(&self, place: usize) -> Option<StageData>
+        ensures { option_map stage_of result ≡ slice_get (stages (folder_of self.now)) place }
+    {
+        if place < self.earlier.len() {
+            return Some(self.earlier[place]);
+        }
+        if place == self.earlier.len() {
+            Some(self.current)
+        } else {
+            None
+        }
+    }
+
+    // All bytes of a file.
+    pub(crate) fn bytes(&self, alloc: Global, id: usize) -> Result<Vec<u8>, AllocError>
+        ensures { IfOk result
+            (λ bytes. bytes.items ≡ file_bytes (get_or (files_of self.now.files) id empty_file)) }
+    {
+        let mut bytes = Vec::new(alloc);
+        if id < self.files.len() {
+            bytes.extend_from_slice(&self.files[id].synced)?;
+            bytes.extend_from_slice(&self.files[id].pending)?;
+        }
+        Ok(bytes)
+    }
+
+    // What a stop leaves of a file, where one stands there: its synced bytes, so many pending ones and so many zeros.
+    pub(crate) fn torn_bytes(
+        &self,
+        alloc: Global,
+        id: Option<usize>,
+        keep: usize,
+        zeros: usize,
+    ) -> Result<Option<Option<Vec<u8>>>, AllocError>
+        ensures { IfOk result
+            (λ bytes. bytes_of_cut bytes ≡ cut_at (files_of self.now.files) id keep zeros) }
+    {
+        let Some(id) = id else {
+            return Ok(if keep == 0 && zeros == 0 {
+                Some(None)
+            } else {
+                None
+            });
+        };
+        let mut bytes = Vec::new(alloc);
+        if id < self.files.len() {
+            let file = &self.files[id];
+            if keep > file.pending.len() || zeros > file.pending.len() - keep {
+                return Ok(None);
+            }
+            bytes.extend_from_slice(&file.synced)?;
+            bytes.extend_from_slice(&file.pending[..keep])?;
+            bytes.resize(bytes.len() + zeros, 0)?;
+        } else if keep > 0 || zeros > 0 {
+            return Ok(None);
+        }
+        Ok(Some(Some(bytes)))
+    }
+}
+
+fn append_to(files: &mut Vec<FileData>, id: usize, bytes: &[u8]) -> Result<(), AllocError>
+    ensures { OnOk result
+        (files_of files.new ≡ set (files_of files.old) id
+        (appended bytes.now (get_or (files_of files.old) id empty_file))) }
+{
+    if id < files.len() {
+        files[id].pending.extend_from_slice(bytes)?;
+    }
+    Ok(())
+}
+
+fn sync_whole(files: &mut Vec<FileData>, id: usize) -> Result<(), AllocError>
+    ensures { OnOk result
+        (files_of files.new ≡ set (files_of files.old) id
+        (synced_whole (get_or (files_of files.old) id empty_file))) }
+{
+    if id < files.len() {
+        let file = &mut files[id];
+        file.synced.extend_from_slice(&file.pending)?;
+        file.pending.clear();
+    }
+    Ok(())
+}

@@ -1,0 +1,231 @@
+// A disk that fails from a call on, or once.
+ghost use Rattle.std.specs.Prelude.{◌≡◌, ℕ, Some};
+ghost use Rattle.conf_disk.specs.Fused.{trip_of, state_after, trip_of_calls, turned, trip_told, counter_state};
+
+use crate::{Content, Disk, DiskFault, Name};
+use std::alloc::Global;
+
+/// How a [`FusedDisk`] fails when its calls have passed.
+#[derive(Clone, Copy, Debug, PartialEq, Eq)]
+pub enum Fuse {
+    /// Every call from then on fails, with no effect.
+    Stop,
+    /// One call fails, and the rest pass.
+    FailOnce {
+        /// Whether the call has its effect. A read has none.
+        done: bool,
+    },
+}
+
+/// A disk over another one, for tests: some calls pass to it, and then a [`Fuse`] lets calls fail with
+/// [`DiskFault::Device`]. All calls count but [`Disk::failures`].
+#[derive(Drop)]
+pub struct FusedDisk<D> {
+    inner: D,
+    counter: FuseCounter,
+}
+
+// How many calls are still to pass before it is the fuse's turn; the fuse, if it still fails a call; how many calls
+// passed, and how many the fuse failed.
+#[derive(Clone, Copy, Debug, PartialEq, Eq)]
+pub(crate) struct FuseCounter {
+    pub(crate) calls: u64,
+    pub(crate) fuse: Option<Fuse>,
+    pub(crate) passed: u64,
+    pub(crate) blown: u64,
+}
+
+// What becomes of a call.
+#[derive(Clone, Copy, Debug, PartialEq, Eq)]
+pub(crate) enum Outcome {
+    Passes,
+    Fails,
+    FailsDone,
+}
+
+impl FuseCounter {
+    // What becomes of the next call of a disk that failed so often. At the greatest number it does nothing more.
+    fn next_outcome(&mut self, failures: u64) -> Outcome
+        ensures outcome { trip_told result ≡ trip_of failures (counter_state self.old) }
+        ensures state { counter_state self.new ≡ state_after failures (counter_state self.old) }
+    {
+        if failures == u64::MAX {
+            return Outcome::Fails;
+        }
+        let outcome = self.turn();
+        match outcome {
+            Outcome::Passes => self.passed = self.passed.saturating_add(1),
+            Outcome::Fails | Outcome::FailsDone => self.blown = self.blown.saturating_add(1),
+        }
+        outcome
+    }
+
+    // What the calls that are still to pass, and then the fuse, make of the next call.
+    fn turn(&mut self) -> Outcome
+        ensures outcome { trip_told result ≡ trip_of_calls self.old.calls self.old.fuse }
+        ensures state { counter_state self.new ≡ turned (counter_state self.old) }
+    {
+        if self.calls > 0 {
+            self.calls -= 1;
+            return Outcome::Passes;
+        }
+        match self.fuse {
+            None => Outcome::Passes,
+            Some(Fuse::Stop) => Outcome::Fails,
+            Some(Fuse::FailOnce { done }) => {
+                self.fuse = None;
+                if done {
+                    Outcome::FailsDone
+                } else {
+                    Outcome::Fails
+                }
+            }
+        }
+    }
+}
+
+impl<D: Disk> FusedDisk<D> {
+    ghost use Rattle.conf_disk.specs.Fused.{fused_inner, fuse_of, passed_count, fused_failures};
+
+    /// A disk whose first `calls` calls pass to `inner`. Then it is the fuse's turn.
+    pub fn new(inner: D, calls: u64, fuse: Fuse) -> Self
+        ensures inner { fused_inner result ≡ inner }
+        ensures fuse { fuse_of result ≡ record { calls = calls; fuse = Some fuse; passed = 0; blown = 0 } }
+    {
+        FusedDisk {
+            inner,
+            counter: FuseCounter {
+                calls,
+                fuse: Some(fuse),
+                passed: 0,
+                blown: 0,
+            },
+        }
+    }
+
+    /// How many calls went through to the disk below, whatever it answered. At 18,446,744,073,709,551,615 it stays there.
+    pub fn passed(&self) -> u64
+        ensures { result ≡ passed_count self.now }
+    {
+        self.counter.passed
+    }
+
+    /// The disk below.
+    pub fn into_inner(self) -> D
+        ensures { result ≡ fused_inner self }
+    {
+        let FusedDisk { inner, counter: _ } = self;
+        inner
+    }
+
+    fn next_outcome(&mut self) -> Outcome
+        ensures outcome { trip_told result ≡ trip_of (fused_failures D.failure_count self.old) (fuse_of self.old) }
+        ensures state { fuse_of self.new ≡ state_after (fused_failures D.failure_count self.old)
+            (fuse_of self.old) }
+        ensures inner { fused_inner self.new ≡ fused_inner self.old }
+    {
+        let failures = self.failures();
+        self.counter.next_outcome(failures)
+    }
+}
+
+impl<D: Disk> Disk for FusedDisk<D> {
+    ghost use Rattle.conf_disk.specs.Fused.{fused_failures, FusesChange, FusesRead};
+
+    ghost honest = { D.honest };
+
+    ghost folder = { λ disk. D.folder disk.inner };
+
+    ghost moment = { λ disk. D.moment disk.inner };
+
+    ghost left = { λ disk. D.left disk.inner };
+
+    ghost failure_count = { λ disk. fused_failures D.failure_count disk };
+
+    ghost also_changes = { λ old step result new. FusesChange D.honest D.folder D.failure_count D.also_changes old step result new };
+
+    ghost also_reads = { λ old name max result new. FusesRead D.failure_count D.also_reads old name max result new };
+
+    ghost counts_now = { λ disk t image honest le is. D.counts_now disk.inner t image honest le is };
+
+    ghost only_now = { λ disk image honest is. D.only_now disk.inner image honest is };
+
+    ghost whole = { λ disk honest. D.whole disk.inner honest };
+
+    fn failures(&self) -> u64 {
+        self.inner.failures().saturating_add(self.counter.blown)
+    }
+
+    fn read(&mut self, alloc: Global, name: Name, max: u64) -> Result<Content, DiskFault> {
+        match self.next_outcome() {
+            Outcome::Passes => self.inner.read(alloc, name, max),
+            Outcome::Fails | Outcome::FailsDone => Err(DiskFault::Device),
+        }
+    }
+
+    fn create_next(&mut self) -> Result<(), DiskFault> {
+        match self.next_outcome() {
+            Outcome::Passes => self.inner.create_next(),
+            Outcome::Fails => Err(DiskFault::Device),
+            Outcome::FailsDone => {
+                let _ = self.inner.create_next();
+                Err(DiskFault::Device)
+            }
+        }
+    }
+
+    fn append(&mut self, name: Name, bytes: &[u8]) -> Result<(), DiskFault> {
+        match self.next_outcome() {
+            Outcome::Passes => self.inner.append(name, bytes),
+            Outcome::Fails => Err(DiskFault::Device),
+            Outcome::FailsDone => {
+                let _ = self.inner.append(name, bytes);
+                Err(DiskFault::Device)
+            }
+        }
+    }
+
+    fn sync(&mut self, name: Name) -> Result<(), DiskFault> {
+        match self.next_outcome() {
+            Outcome::Passes => self.inner.sync(name),
+            Outcome::Fails => Err(DiskFault::Device),
+            Outcome::FailsDone => {
+                let _ = self.inner.sync(name);
+                Err(DiskFault::Device)
+            }
+        }
+    }
+
+    fn rename_next(&mut self) -> Result<(), DiskFault> {
+        match self.next_outcome() {
+            Outcome::Passes => self.inner.rename_next(),
+            Outcome::Fails => Err(DiskFault::Device),
+            Outcome::FailsDone => {
+                let _ = self.inner.rename_next();
+                Err(DiskFault::Device)
+            }
+        }
+    }
+
+    fn remove_next(&mut self) -> Result<(), DiskFault> {
+        match self.next_outcome() {
+            Outcome::Passes => self.inner.remove_next(),
+            Outcome::Fails => Err(DiskFault::Device),
+            Outcome::FailsDone => {
+                let _ = self.inner.remove_next();
+                Err(DiskFault::Device)
+            }
+        }
+    }
+
+    fn sync_folder(&mut self) -> Result<(), DiskFault> {
+        match self.next_outcome() {
+            Outcome::Passes => self.inner.sync_folder(),
+            Outcome::Fails => Err(DiskFault::Device),
+            Outcome::FailsDone => {
+                let _ = self.inner.sync_folder();
+                Err(DiskFault::Device)
+            }
+        }
+    }
+}

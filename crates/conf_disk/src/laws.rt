@@ -1,0 +1,34 @@
+// Facts about the model, each the contract of a function that does nothing.
+ghost use Rattle.std.specs.Prelude.{◌≤◌, ℕ};
+ghost use Rattle.conf_disk.specs.Image.{image_now};
+ghost use Rattle.conf_disk.specs.Laws.{ImagesAreCuts, ImagesRead, ImagesAreStable, ReadingIsAnImage, CallsLeaveNoOther};
+
+use crate::Disk;
+
+/// A law: the choices that [`MemoryDisk::image`](crate::MemoryDisk::image) takes give every image that a stop may leave,
+/// and nothing else.
+pub fn images_are_cuts()
+    ensures { ImagesAreCuts }
+{}
+
+/// A law: what a stop leaves reads so, and every later stop leaves it.
+pub fn images_are_stable()
+    ensures reads { ImagesRead }
+    ensures stays { ImagesAreStable }
+{}
+
+/// A law: what reads is one of the images that a stop may leave.
+pub fn reading_is_an_image()
+    ensures { ReadingIsAnImage }
+{}
+
+/// A law: a stop within a call leaves nothing that a stop before it or after it doesn't.
+pub fn calls_leave_no_other_image()
+    ensures { CallsLeaveNoOther }
+{}
+
+/// A law of an honest disk: what it reads is what a stop since any moment might have left.
+pub fn what_reads_may_be_left<D: Disk>(_disk: &D)
+    ensures { D.honest → (t : ℕ) → t ≤ D.moment _disk.now →
+        D.left _disk.now t (image_now (D.folder _disk.now)) }
+{}

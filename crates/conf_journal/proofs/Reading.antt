@@ -1,0 +1,151 @@
+-- What reads after a call.
+use Rattle.std.proofs.Common.{◌≡◌, inl, inr, ℕ, zero, suc, ◌<◌, List, [], ◌∷◌, ◌++◌, length, get_or, set, take, drop, Option, Some, None, Result, Ok, Err, OnOk, refl, sym, ◌∙◌, ap, append_assoc, take-append-drop}
+use Rattle.std.proofs.lemmas.List.{append-nil, get_or-set_same, get_or-set_other, get_or_append_left, get_or_at}
+use Rattle.conf_disk.specs.Folder.{File, empty_file, file_bytes, Folder, Step, Append, Sync, RenameNext, RemoveNext, SyncFolder, with_file, appended, synced_whole, synced_first, removed, created, renamed, after, partly, Performs, bytes_at, bytes_under, under}
+use Rattle.conf_disk.specs.Image.{Image, image_now, IsMade, IsApartFrom, IsWhole}
+use Rattle.conf_disk.specs.LogLaws.{now_staged}
+use Rattle.conf_disk.specs.declared.disk.Name.{Name}
+use Rattle.conf_disk.specs.declared.disk.Name.TheVariants.{Store, Next}
+use Rattle.conf_disk.specs.declared.disk.DiskFault.{DiskFault}
+use Rattle.conf_disk.proofs.Images.{get_or-set_cases}
+use Rattle.conf_journal.specs.Store.{extended}
+
+pub file_bytes-appended : (bytes : List ℕ) (file : File) → file_bytes (appended bytes file) ≡ file_bytes file ++ bytes
+file_bytes-appended bytes file = sym (append_assoc file.synced file.pending bytes)
+
+file_bytes-synced_whole : (file : File) → file_bytes (synced_whole file) ≡ file_bytes file
+file_bytes-synced_whole file = append-nil (file.synced ++ file.pending)
+
+file_bytes-synced_first : (k : ℕ) (file : File) → file_bytes (synced_first k file) ≡ file_bytes file
+file_bytes-synced_first k file = append_assoc file.synced (take k file.pending) (drop k file.pending) ∙ ap (λ (l : List ℕ). file.synced ++ l) (take-append-drop k file.pending)
+
+-- a file that is replaced by one of the same bytes
+bytes_at-set_same_bytes : (files : List File) (id : ℕ) (file : File) → file_bytes file ≡ file_bytes (get_or files id empty_file) → (place : Option ℕ) → bytes_at (set files id file) place ≡ bytes_at files place
+bytes_at-set_same_bytes files id file same None = refl
+bytes_at-set_same_bytes files id file same (Some k) = elim (get_or-set_cases files id k file) [
+  | inl kept ↦ ap (λ (x : File). Some (file_bytes x)) kept
+  | inr both ↦ ap (λ (x : File). Some (file_bytes x)) both.1 ∙ ap Some same ∙ ap (λ (j : ℕ). Some (file_bytes (get_or files j empty_file))) (sym both.0)
+]
+
+-- a change that keeps the bytes of a file keeps what reads
+with_file-reads_same : (folder : Folder) (place : Option ℕ) (change : File → File) → ((file : File) → file_bytes (change file) ≡ file_bytes file) → image_now (with_file folder place change) ≡ image_now folder
+with_file-reads_same folder None change same = refl
+with_file-reads_same folder (Some id) change same =
+    let kept = bytes_at-set_same_bytes folder.files id (change (get_or folder.files id empty_file)) (same (get_or folder.files id empty_file)) in
+    λ i. record { store = kept folder.now.store i; next = kept folder.now.next i }
+
+pub synced-reads_same : (name : Name) (folder : Folder) → image_now (after (Sync name) folder) ≡ image_now folder
+synced-reads_same name folder = with_file-reads_same folder (under folder.now name) synced_whole file_bytes-synced_whole
+
+partly_synced-reads_same : (k : ℕ) (name : Name) (folder : Folder) → image_now (partly k (Sync name) folder) ≡ image_now folder
+partly_synced-reads_same zero name folder = refl
+partly_synced-reads_same (suc k) name folder = with_file-reads_same folder (under folder.now name) (synced_first (suc k)) (file_bytes-synced_first (suc k))
+
+-- a sync changes nothing that reads, whatever it answers
+pub sync-reads_same : {T : Type 0} (name : Name) (old new : Folder) (result : Result T DiskFault) → Performs (Sync name) old new result → image_now new ≡ image_now old
+sync-reads_same name old new (Ok x) is = ap image_now is ∙ synced-reads_same name old
+sync-reads_same name old new (Err x) is = ap image_now is.1 ∙ partly_synced-reads_same is.0 name old
+
+-- the file at a place gets more bytes
+bytes_at-appended : (files : List File) (id : ℕ) (bytes : List ℕ) → id < length files
+    → bytes_at (set files id (appended bytes (get_or files id empty_file))) (Some id) ≡ extended (bytes_at files (Some id)) bytes
+bytes_at-appended files id bytes within =
+    ap (λ (x : File). Some (file_bytes x)) (get_or-set_same files id (appended bytes (get_or files id empty_file)) empty_file within)
+    ∙ ap Some (file_bytes-appended bytes (get_or files id empty_file))
+
+bytes_at-set_other : (files : List File) (id : ℕ) (file : File) (place : Option ℕ) → (place ≡ Some id → ⊥) → bytes_at (set files id file) place ≡ bytes_at files place
+bytes_at-set_other files id file None other = refl
+bytes_at-set_other files id file (Some k) other = ap (λ (x : File). Some (file_bytes x)) (get_or-set_other files id k file empty_file (λ same. other (ap Some same)))
+
+-- the other name's file is another one
+next_apart : (next store : Option ℕ) (id : ℕ) → IsApartFrom next store → store ≡ Some id → next ≡ Some id → ⊥
+next_apart None store id apart is at = cc
+next_apart (Some k) store id apart is at = apart (is ∙ sym at)
+
+append_store-at : (files : List File) (store next : Option ℕ) (bytes : List ℕ) → IsMade (length files) store → IsApartFrom next store → (folder : Folder) → folder.files ≡ files
+    → (bytes_at (with_file folder store (appended bytes)).files store ≡ extended (bytes_at files store) bytes) × (bytes_at (with_file folder store (appended bytes)).files next ≡ bytes_at files next)
+append_store-at files None next bytes made apart folder is = (refl, ap (λ (l : List File). bytes_at l next) is)
+append_store-at files (Some id) next bytes made apart folder is =
+    let changed : (with_file folder (Some id) (appended bytes)).files ≡ set files id (appended bytes (get_or files id empty_file)) = ap (λ (l : List File). set l id (appended bytes (get_or l id empty_file))) is in (
+      ap (λ (l : List File). bytes_at l (Some id)) changed ∙ bytes_at-appended files id bytes made,
+      ap (λ (l : List File). bytes_at l next) changed ∙ bytes_at-set_other files id _ next (λ at. next_apart next (Some id) id apart refl at),
+    )
+
+append_next-at : (files : List File) (store next : Option ℕ) (bytes : List ℕ) → IsMade (length files) next → IsApartFrom next store → (folder : Folder) → folder.files ≡ files
+    → (bytes_at (with_file folder next (appended bytes)).files store ≡ bytes_at files store) × (bytes_at (with_file folder next (appended bytes)).files next ≡ extended (bytes_at files next) bytes)
+append_next-at files store None bytes made apart folder is = (ap (λ (l : List File). bytes_at l store) is, refl)
+append_next-at files store (Some id) bytes made apart folder is =
+    let changed : (with_file folder (Some id) (appended bytes)).files ≡ set files id (appended bytes (get_or files id empty_file)) = ap (λ (l : List File). set l id (appended bytes (get_or l id empty_file))) is in (
+      ap (λ (l : List File). bytes_at l store) changed ∙ bytes_at-set_other files id _ store apart,
+      ap (λ (l : List File). bytes_at l (Some id)) changed ∙ bytes_at-appended files id bytes made,
+    )
+
+now_same : (folder : Folder) (place : Option ℕ) (change : File → File) → (with_file folder place change).now ≡ folder.now
+now_same folder None change = refl
+now_same folder (Some id) change = refl
+
+image_now-with_file : (folder : Folder) (place : Option ℕ) (change : File → File) (store next : Option (List ℕ))
+    → bytes_at (with_file folder place change).files folder.now.store ≡ store → bytes_at (with_file folder place change).files folder.now.next ≡ next
+    → image_now (with_file folder place change) ≡ record { store = store; next = next }
+image_now-with_file folder None change store next s n = λ i. record { store = s i; next = n i }
+image_now-with_file folder (Some id) change store next s n = λ i. record { store = s i; next = n i }
+
+pub appended_store-reads : (bytes : List ℕ) (folder : Folder) → IsWhole folder → image_now (after (Append Store bytes) folder) ≡ record { store = extended (bytes_under folder Store) bytes; next = bytes_under folder Next }
+appended_store-reads bytes folder whole =
+    let here = now_staged folder whole in
+    let both = append_store-at folder.files folder.now.store folder.now.next bytes here.store here.apart folder refl in
+    image_now-with_file folder folder.now.store (appended bytes) _ _ both.0 both.1
+
+pub appended_next-reads : (bytes : List ℕ) (folder : Folder) → IsWhole folder → image_now (after (Append Next bytes) folder) ≡ record { store = bytes_under folder Store; next = extended (bytes_under folder Next) bytes }
+appended_next-reads bytes folder whole =
+    let here = now_staged folder whole in
+    let both = append_next-at folder.files folder.now.store folder.now.next bytes here.next here.apart folder refl in
+    image_now-with_file folder folder.now.next (appended bytes) _ _ both.0 both.1
+
+bytes_at-created : (files : List File) (place : Option ℕ) → IsMade (length files) place → bytes_at (files ++ empty_file ∷ []) place ≡ bytes_at files place
+bytes_at-created files None made = refl
+bytes_at-created files (Some id) made = ap (λ (x : File). Some (file_bytes x)) (get_or_append_left files (empty_file ∷ []) empty_file id made)
+
+pub created-reads : (folder : Folder) → IsWhole folder → image_now (created folder) ≡ record { store = bytes_under folder Store; next = Some [] }
+created-reads folder whole =
+    let here = now_staged folder whole in
+    let old = bytes_at-created folder.files folder.now.store here.store in
+    let new = get_or_at folder.files empty_file [] empty_file (length folder.files) refl in
+    λ i. record { store = old i; next = Some (file_bytes (new i)) }
+
+removed-store : (folder : Folder) (place : Option ℕ) → bytes_under (removed folder place) Store ≡ bytes_under folder Store
+removed-store folder None = refl
+removed-store folder (Some id) = refl
+
+pub removed-reads_store : (folder : Folder) → bytes_under (after RemoveNext folder) Store ≡ bytes_under folder Store
+removed-reads_store folder = removed-store folder folder.now.next
+
+renamed-at : (folder : Folder) (next : Option ℕ) → (next ≡ None → ⊥) → image_now (renamed folder next) ≡ record { store = bytes_at folder.files next; next = None }
+renamed-at folder None some = absurd (some refl)
+renamed-at folder (Some id) some = refl
+
+pub renamed-reads : (folder : Folder) → (folder.now.next ≡ None → ⊥) → image_now (after RenameNext folder) ≡ record { store = bytes_under folder Next; next = None }
+renamed-reads folder some = renamed-at folder folder.now.next some
+
+-- what reads when a call answers Ok
+pub performed-reads : {T : Type 0} (step : Step) (old new : Folder) (result : Result T DiskFault) (reads : Image) → image_now (after step old) ≡ reads → Performs step old new result → OnOk result (image_now new ≡ reads)
+performed-reads step old new (Ok x) reads same is = ap image_now is ∙ same
+performed-reads step old new (Err x) reads same is = tt
+
+pub OnOk-always : {T E P : Type 0} (result : Result T E) → P → OnOk result P
+OnOk-always (Ok x) is = is
+OnOk-always (Err x) is = tt
+
+-- a name that reads as bytes has a file
+pub file_there : (files : List File) (place : Option ℕ) (bytes : List ℕ) → bytes_at files place ≡ Some bytes → place ≡ None → ⊥
+file_there files None bytes is none = cc
+file_there files (Some id) bytes is none = cc
+
+partly_folder-reads_same : (k : ℕ) (folder : Folder) → image_now (partly k SyncFolder folder) ≡ image_now folder
+partly_folder-reads_same zero folder = refl
+partly_folder-reads_same (suc k) folder = refl
+
+-- nor does a sync of the folder
+pub sync_folder-reads_same : {T : Type 0} (old new : Folder) (result : Result T DiskFault) → Performs SyncFolder old new result → image_now new ≡ image_now old
+sync_folder-reads_same old new (Ok x) is = ap image_now is
+sync_folder-reads_same old new (Err x) is = ap image_now is.1 ∙ partly_folder-reads_same is.0 old

@@ -1,0 +1,183 @@
+-- What a stop may leave under `store.yaml` when a call changed something else, or put bytes behind it.
+use Rattle.std.proofs.Common.{◌≡◌, ◌≢◌, ◌⊎◌, inl, inr, ⊎_elim, ℕ, ◌<◌, List, [], ◌∷◌, ◌++◌, length, get_or, set, take, replicate, Option, Some, None, Contains, Result, Ok, Err, OnOk, refl, sym, ◌∙◌, ap, subst, arith, length-append}
+use Rattle.std.proofs.lemmas.List.{append-nil, get_or-set_same, get_or-set_other, get_or_append_left}
+use Rattle.std.proofs.lemmas.List.Elements.{All-contains, Contains-append_right, Contains-append_cases}
+use Rattle.std.proofs.lemmas.Bool.{cases_eq}
+use Rattle.conf_disk.specs.Folder.{File, empty_file, file_bytes, Stage, Folder, stages, CreateNext, Append, Sync, RenameNext, RemoveNext, with_file, appended, synced_whole, removed, created, renamed, after, Performs, bytes_at, bytes_under, under}
+use Rattle.conf_disk.specs.Image.{Image, IsImage, IsTorn, IsTornAt, IsMade, IsApartFrom, IsStage, IsWhole}
+use Rattle.conf_disk.specs.LogLaws.{now_staged, after-whole}
+use Rattle.conf_disk.specs.declared.disk.Name.{Name}
+use Rattle.conf_disk.specs.declared.disk.Name.TheVariants.{Store, Next}
+use Rattle.conf_disk.specs.declared.disk.DiskFault.{DiskFault}
+use Rattle.conf_disk.proofs.Images.{after-grown}
+use Rattle.conf_disk.proofs.Stops.{IsTornAt-whole, IsTorn-synced, only_stage}
+use Rattle.conf_journal.specs.Store.{IsStoreOf, IsTail, IsSynced, IsSyncedAt}
+use Rattle.conf_journal.proofs.Reading.{synced-reads_same}
+
+-- one of the folder's stages has this store
+IsStoreOf-stage : (folder : Folder) (stage : Stage) (store : Option (List ℕ)) → Contains (stages folder) stage → IsTornAt folder.files stage.store store → IsStoreOf folder store
+IsStoreOf-stage folder stage store among torn = record {
+  image = record { store = store; next = bytes_at folder.files stage.next };
+  is = record { stage = stage; among = among; store = torn; next = IsTornAt-whole folder.files stage.next };
+  same = refl;
+}
+
+pub IsStoreOf-image : (folder : Folder) (image : Image) → IsImage folder image → IsStoreOf folder image.store
+IsStoreOf-image folder image is = record { image = image; is = is; same = refl }
+
+-- where each image of one folder has a store of the other
+pub IsStoreOf-along : (new old : Folder) → ((image : Image) → IsImage new image → IsStoreOf old image.store) → (store : Option (List ℕ)) → IsStoreOf new store → IsStoreOf old store
+IsStoreOf-along new old along store is = subst (λ (s : Option (List ℕ)). IsStoreOf old s) is.same (along is.image is.is)
+
+stage_of_whole : (folder : Folder) (stage : Stage) → IsWhole folder → Contains (stages folder) stage → IsStage (length folder.files) folder.now.next stage
+stage_of_whole folder stage whole among = All-contains (IsStage (length folder.files) folder.now.next) (stages folder) stage whole among
+
+now_among : (folder : Folder) → Contains (stages folder) folder.now
+now_among folder = Contains-append_right folder.earlier (folder.now ∷ []) folder.now (0, omega arith, refl)
+
+-- the stages of a folder and one more, which has the same store
+one_more : (folder : Folder) (files : List File) (stage last : Stage) (store : Option (List ℕ)) → last.store ≡ folder.now.store
+    → ((place : Option ℕ) → IsMade (length folder.files) place → IsTornAt files place store → IsTornAt folder.files place store) → IsWhole folder
+    → Contains (stages folder ++ last ∷ []) stage → IsTornAt files stage.store store → IsStoreOf folder store
+one_more folder files stage last store same back whole among torn = elim (Contains-append_cases (stages folder) (last ∷ []) stage among) [
+  | inl old ↦ IsStoreOf-stage folder stage store old (back stage.store (stage_of_whole folder stage whole old).store torn)
+  | inr new ↦
+      let at_last : stage.store ≡ folder.now.store = ap (λ (s : Stage). s.store) (only_stage stage last new) ∙ same in
+      IsStoreOf-stage folder folder.now store (now_among folder) (back folder.now.store (now_staged folder whole).store (subst (λ (place : Option ℕ). IsTornAt files place store) at_last torn))
+]
+
+removed-keeps : (folder : Folder) (place : Option ℕ) → IsWhole folder → (image : Image) → IsImage (removed folder place) image → IsStoreOf folder image.store
+removed-keeps folder None whole image is = IsStoreOf-image folder image is
+removed-keeps folder (Some id) whole image is =
+    one_more folder folder.files is.stage (record { store = folder.now.store; next = None }) image.store refl (λ place made torn. torn) whole is.among is.store
+
+created_back : (files : List File) (store : Option (List ℕ)) (place : Option ℕ) → IsMade (length files) place → IsTornAt (files ++ empty_file ∷ []) place store → IsTornAt files place store
+created_back files None None made torn = tt
+created_back files (Some bytes) None made torn = absurd torn
+created_back files None (Some id) made torn = absurd torn
+created_back files (Some bytes) (Some id) made torn = subst (λ (x : File). IsTorn x bytes) (get_or_append_left files (empty_file ∷ []) empty_file id made) torn
+
+created-keeps : (folder : Folder) → IsWhole folder → (image : Image) → IsImage (created folder) image → IsStoreOf folder image.store
+created-keeps folder whole image is =
+    one_more folder (created folder).files is.stage (created folder).now image.store refl (created_back folder.files image.store) whole is.among is.store
+
+set_back : (files : List File) (id : ℕ) (file : File) (place : Option ℕ) (store : Option (List ℕ)) → place ≢ Some id → IsTornAt (set files id file) place store → IsTornAt files place store
+set_back files id file None None other torn = tt
+set_back files id file None (Some bytes) other torn = absurd torn
+set_back files id file (Some k) None other torn = absurd torn
+set_back files id file (Some k) (Some bytes) other torn = subst (λ (x : File). IsTorn x bytes) (get_or-set_other files id k file empty_file (λ same. other (ap Some same))) torn
+
+-- the staged file is no stage's store
+append_next-keeps : (folder : Folder) (next : Option ℕ) (change : File → File) → folder.now.next ≡ next → IsWhole folder → (image : Image) → IsImage (with_file folder next change) image → IsStoreOf folder image.store
+append_next-keeps folder None change at whole image is = IsStoreOf-image folder image is
+append_next-keeps folder (Some id) change at whole image is =
+    let apart = subst (λ (next : Option ℕ). IsApartFrom next is.stage.store) at (stage_of_whole folder is.stage whole is.among).apart in
+    IsStoreOf-stage folder is.stage image.store is.among (set_back folder.files id _ is.stage.store image.store apart is.store)
+
+pub removed-leaves : (folder : Folder) → IsWhole folder → (image : Image) → IsImage (after RemoveNext folder) image → IsStoreOf folder image.store
+removed-leaves folder whole image is = removed-keeps folder folder.now.next whole image is
+
+pub begun-leaves : (folder : Folder) → IsWhole folder → (image : Image) → IsImage (after CreateNext (after RemoveNext folder)) image → IsStoreOf folder image.store
+begun-leaves folder whole image is =
+    IsStoreOf-along (after RemoveNext folder) folder (removed-leaves folder whole) image.store (created-keeps (after RemoveNext folder) (after-whole RemoveNext folder whole) image is)
+
+pub appended_next-leaves : (bytes : List ℕ) (folder : Folder) → IsWhole folder → (image : Image) → IsImage (after (Append Next bytes) folder) image → IsStoreOf folder image.store
+appended_next-leaves bytes folder whole image is = append_next-keeps folder folder.now.next (appended bytes) refl whole image is
+
+pub begun-whole : (folder : Folder) → IsWhole folder → IsWhole (after CreateNext (after RemoveNext folder))
+begun-whole folder whole = after-whole CreateNext (after RemoveNext folder) (after-whole RemoveNext folder whole)
+
+pub staged-leaves : (bytes : List ℕ) (folder : Folder) → IsWhole folder → (image : Image) → IsImage (after (Append Next bytes) (after CreateNext (after RemoveNext folder))) image → IsStoreOf folder image.store
+staged-leaves bytes folder whole image is =
+    IsStoreOf-along (after CreateNext (after RemoveNext folder)) folder (begun-leaves folder whole) image.store
+    (appended_next-leaves bytes (after CreateNext (after RemoveNext folder)) (begun-whole folder whole) image is)
+
+staged_torn : (files : List File) (id : ℕ) (store : Option (List ℕ)) → (get_or files id empty_file).pending ≡ [] → IsTornAt files (Some id) store → store ≡ bytes_at files (Some id)
+staged_torn files id None none torn = absurd torn
+staged_torn files id (Some bytes) none torn = ap Some (IsTorn-synced (get_or files id empty_file) bytes none torn)
+
+renamed-at : (folder : Folder) (next : Option ℕ) → IsSyncedAt folder.files next → (image : Image) → IsImage (renamed folder next) image → IsStoreOf folder image.store ⊎ (image.store ≡ bytes_at folder.files next)
+renamed-at folder None synced image is = absurd synced
+renamed-at folder (Some id) synced image is = elim (Contains-append_cases (stages folder) (record { store = Some id; next = None } ∷ []) is.stage is.among) [
+  | inl old ↦ inl (IsStoreOf-stage folder is.stage image.store old is.store)
+  | inr new ↦
+      let at_last : is.stage.store ≡ Some id = ap (λ (s : Stage). s.store) (only_stage is.stage (record { store = Some id; next = None }) new) in
+      inr (staged_torn folder.files id image.store synced (subst (λ (place : Option ℕ). IsTornAt folder.files place image.store) at_last is.store))
+]
+
+pub renamed-leaves : (folder : Folder) → IsSynced folder Next → (image : Image) → IsImage (after RenameNext folder) image → IsStoreOf folder image.store ⊎ (image.store ≡ bytes_under folder Next)
+renamed-leaves folder synced image is = renamed-at folder folder.now.next synced image is
+
+synced_at : (folder : Folder) (place : Option ℕ) → IsMade (length folder.files) place → (place ≡ None → ⊥) → IsSyncedAt (with_file folder place synced_whole).files place
+synced_at folder None made some = absurd (some refl)
+synced_at folder (Some id) made some = ap (λ (x : File). x.pending) (get_or-set_same folder.files id (synced_whole (get_or folder.files id empty_file)) empty_file made)
+
+with_file-now : (folder : Folder) (place : Option ℕ) (change : File → File) → (with_file folder place change).now ≡ folder.now
+with_file-now folder None change = refl
+with_file-now folder (Some id) change = refl
+
+-- a file that is there is synced by its sync
+pub synced-is_synced : (name : Name) (folder : Folder) → IsWhole folder → (under folder.now name ≡ None → ⊥) → IsSynced (after (Sync name) folder) name
+synced-is_synced name folder whole some =
+    subst (λ (stage : Stage). IsSyncedAt (after (Sync name) folder).files (under stage name)) (sym (with_file-now folder (under folder.now name) synced_whole))
+    (synced_at folder (under folder.now name) (made_under folder name whole) some)
+  where
+    made_under : (folder : Folder) (name : Name) → IsWhole folder → IsMade (length folder.files) (under folder.now name)
+    made_under folder Store whole = (now_staged folder whole).store
+    made_under folder Next whole = (now_staged folder whole).next
+
+pub finished-leaves : (folder : Folder) → IsWhole folder → (folder.now.next ≡ None → ⊥) → (image : Image) → IsImage (after RenameNext (after (Sync Next) folder)) image
+    → IsStoreOf folder image.store ⊎ (image.store ≡ bytes_under folder Next)
+finished-leaves folder whole some image is =
+    let synced = after (Sync Next) folder in
+    ⊎_elim
+    (λ was. inl (IsStoreOf-along synced folder (λ before image. IsStoreOf-image folder before (after-grown (Sync Next) folder before image)) image.store was))
+    (λ staged. inr (staged ∙ ap (λ (now : Image). now.next) (synced-reads_same Next folder)))
+    (renamed-leaves synced (synced-is_synced Next folder whole some) image is)
+
+-- more bytes behind a file of which nothing is pending
+appended_tail : (file : File) (bytes torn : List ℕ) → file.pending ≡ [] → IsTorn (appended bytes file) torn → IsTail (Some (file_bytes file)) bytes (Some torn)
+appended_tail file bytes torn none is = record {
+  start = file_bytes file;
+  was = refl;
+  keep = is.keep;
+  zeros = is.zeros;
+  fits = omega (arith, is.fits, length-append file.pending bytes, ap length none);
+  is = ap Some (is.is
+      ∙ (λ i. file.synced ++ take is.keep (none i ++ bytes) ++ replicate is.zeros 0)
+      ∙ ap (λ (l : List ℕ). l ++ take is.keep bytes ++ replicate is.zeros 0) (sym (append-nil file.synced))
+      ∙ ap (λ (l : List ℕ). (file.synced ++ l) ++ take is.keep bytes ++ replicate is.zeros 0) (sym none));
+}
+
+appended_at : (folder : Folder) (id : ℕ) (bytes : List ℕ) → id < length folder.files → (get_or folder.files id empty_file).pending ≡ []
+    → (stage : Stage) → Contains (stages folder) stage → (place : Option ℕ) → stage.store ≡ place → (store : Option (List ℕ))
+    → IsTornAt (set folder.files id (appended bytes (get_or folder.files id empty_file))) place store
+    → IsStoreOf folder store ⊎ IsTail (Some (file_bytes (get_or folder.files id empty_file))) bytes store
+appended_at folder id bytes within none stage among None at None torn =
+    inl (IsStoreOf-stage folder stage None among (subst (λ (place : Option ℕ). IsTornAt folder.files place None) (sym at) tt))
+appended_at folder id bytes within none stage among None at (Some torn) is = absurd is
+appended_at folder id bytes within none stage among (Some k) at None is = absurd is
+appended_at folder id bytes within none stage among (Some k) at (Some torn) is = elim (cases_eq k id) [
+  | inl same ↦
+      let there = ap (λ (j : ℕ). get_or (set folder.files id (appended bytes (get_or folder.files id empty_file))) j empty_file) same
+      ∙ get_or-set_same folder.files id (appended bytes (get_or folder.files id empty_file)) empty_file within in
+      inr (appended_tail (get_or folder.files id empty_file) bytes torn none (subst (λ (x : File). IsTorn x torn) there is))
+  | inr other ↦
+      let kept = subst (λ (x : File). IsTorn x torn) (get_or-set_other folder.files id k (appended bytes (get_or folder.files id empty_file)) empty_file other) is in
+      inl (IsStoreOf-stage folder stage (Some torn) among (subst (λ (place : Option ℕ). IsTornAt folder.files place (Some torn)) (sym at) kept))
+]
+
+appended_store-at : (folder : Folder) (store : Option ℕ) (bytes : List ℕ) → IsMade (length folder.files) store → IsSyncedAt folder.files store → (image : Image) → IsImage (with_file folder store (appended bytes)) image
+    → IsStoreOf folder image.store ⊎ IsTail (bytes_at folder.files store) bytes image.store
+appended_store-at folder None bytes made synced image is = absurd synced
+appended_store-at folder (Some id) bytes made synced image is = appended_at folder id bytes made synced is.stage is.among is.stage.store refl image.store is.store
+
+pub appended_store-leaves : (bytes : List ℕ) (folder : Folder) → IsWhole folder → IsSynced folder Store → (image : Image) → IsImage (after (Append Store bytes) folder) image
+    → IsStoreOf folder image.store ⊎ IsTail (bytes_under folder Store) bytes image.store
+appended_store-leaves bytes folder whole synced image is =
+    appended_store-at folder folder.now.store bytes (now_staged folder whole).store synced image is
+
+-- a sync that answers Ok
+pub performed-synced : {T : Type 0} (name : Name) (old new : Folder) (result : Result T DiskFault) → IsWhole old → (under old.now name ≡ None → ⊥) → Performs (Sync name) old new result → OnOk result (IsSynced new name)
+performed-synced name old new (Ok x) whole some is = subst (λ (folder : Folder). IsSynced folder name) (sym is) (synced-is_synced name old whole some)
+performed-synced name old new (Err x) whole some is = tt

@@ -1,0 +1,8 @@
+use Rattle.conf_journal.proofs.Held.{held-left, synced-left}
+use Rattle.conf_journal.proofs.laws.held_store_is_left.Goals as goal
+
+pub returns-clause-held : goal.returns-clause-held
+returns-clause-held c = held-left
+
+pub returns-clause-synced : goal.returns-clause-synced
+returns-clause-synced c = synced-left

@@ -1,0 +1,28 @@
+-- One file that stands under `store.yaml` in every stage.
+use Rattle.std.specs.Prelude.{◌≡◌, ℕ, List, get_or, All, Option, Some, None}
+use Rattle.conf_disk.specs.Folder.{File, empty_file, Stage, Folder, stages}
+use Rattle.conf_disk.specs.Image.{Image, IsImage, IsTorn, synced_file}
+
+abbrev pub file_at : List File → Option ℕ → Option File
+file_at files None = None
+file_at files (Some id) = Some (get_or files id empty_file)
+
+-- Every stage has this file under `store.yaml`, and the same one; or none has a file there.
+pub record HoldsStore (folder : Folder) (file : Option File) : Type 0 where
+  pub same : All (λ (stage : Stage). stage.store ≡ folder.now.store) (stages folder)
+  pub is : file_at folder.files folder.now.store ≡ file
+
+-- what a stop leaves of a file, where there is one
+abbrev pub IsLeftOf : Option File → Option (List ℕ) → Type 0
+IsLeftOf None None = Unit {0}
+IsLeftOf None (Some bytes) = ⊥
+IsLeftOf (Some file) None = ⊥
+IsLeftOf (Some file) (Some bytes) = IsTorn file bytes
+
+-- a stop leaves of the store what it leaves of the file that is held there
+abbrev pub HeldIsLeft : Type 0
+HeldIsLeft = (folder : Folder) (file : Option File) → HoldsStore folder file → (image : Image) → IsImage folder image → IsLeftOf file image.store
+
+-- and of one of which nothing is pending just its bytes
+abbrev pub SyncedIsLeft : Type 0
+SyncedIsLeft = (folder : Folder) (bytes : List ℕ) → HoldsStore folder (Some (synced_file bytes)) → (image : Image) → IsImage folder image → image.store ≡ Some bytes

@@ -1,0 +1,36 @@
+-- What a stop may leave under `store.yaml`, in plain words.
+use Rattle.std.specs.Prelude.{◌≡◌, ℕ, ◌+◌, ◌≤◌, List, [], ◌++◌, length, get_or, take, replicate, Option, Some, None, option_map}
+use Rattle.conf_disk.specs.Folder.{File, empty_file, Folder, under}
+use Rattle.conf_disk.specs.Image.{Image, IsImage, image_now}
+use Rattle.conf_disk.specs.declared.disk.Name.{Name}
+
+-- some image of the folder has this under `store.yaml`
+pub record IsStoreOf (folder : Folder) (store : Option (List ℕ)) : Type 0 where
+  pub image : Image
+  pub is : IsImage folder image
+  pub same : image.store ≡ store
+
+-- the old bytes, some first ones of the new, and zeros, together no more than the old and the new
+pub record IsTail (old : Option (List ℕ)) (bytes : List ℕ) (store : Option (List ℕ)) : Type 0 where
+  pub start : List ℕ
+  pub was : old ≡ Some start
+  pub keep : ℕ
+  pub zeros : ℕ
+  pub fits : keep + zeros ≤ length bytes
+  pub is : store ≡ Some (start ++ take keep bytes ++ replicate zeros 0)
+
+abbrev pub IsSyncedAt : List File → Option ℕ → Type 0
+IsSyncedAt files None = ⊥
+IsSyncedAt files (Some id) = (get_or files id empty_file).pending ≡ []
+
+-- the file is there, and nothing of it is pending
+abbrev pub IsSynced : Folder → Name → Type 0
+IsSynced folder name = IsSyncedAt folder.files (under folder.now name)
+
+-- with more bytes behind those of a file, where there is one
+abbrev pub extended : Option (List ℕ) → List ℕ → Option (List ℕ)
+extended old bytes = option_map (λ (start : List ℕ). start ++ bytes) old
+
+-- the folder reads so under the two names
+abbrev pub ReadsAs : Folder → Option (List ℕ) → Option (List ℕ) → Type 0
+ReadsAs folder store next = image_now folder ≡ record { store = store; next = next }

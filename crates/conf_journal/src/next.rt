@@ -1,0 +1,167 @@
+// The procedures that put a new file in the live one's place.
+ghost use Rattle.std.specs.Prelude.{◌≡◌, ◌≢◌, ◌⊎◌, ℕ, List, [], ◌∷◌, Option, IsSome, OnOk, Some, None, Err};
+ghost use Rattle.conf_disk.specs.Folder.{File, CreateNext, Append, Sync, RenameNext, RemoveNext, SyncFolder, after, bytes_under};
+ghost use Rattle.conf_disk.specs.Image.{IsImage, synced_file};
+ghost use Rattle.conf_disk.specs.Log.{folder_after};
+ghost use Rattle.conf_disk.specs.Moments.{CountsFailures, LeavesOnly};
+ghost use Rattle.conf_journal.specs.Store.{IsStoreOf, IsSynced, ReadsAs, extended};
+ghost use Rattle.conf_journal.specs.Held.{HoldsStore};
+
+use conf_disk::{Disk, DiskFault, Name};
+
+/// Makes `next.yaml` anew, with no bytes. `store.yaml` is left alone.
+///
+/// # Errors
+/// `Device`: there may be no `next.yaml`.
+pub fn begin_next<D: Disk>(disk: &mut D) -> Result<(), DiskFault>
+    ensures folder { D.honest →
+        OnOk result
+        (D.folder disk.new ≡ folder_after (RemoveNext ∷ CreateNext ∷ []) (D.folder disk.old)) }
+    ensures any_moment { D.honest →
+        LeavesOnly D.moment D.left disk.old disk.new
+        (IsImage (folder_after (RemoveNext ∷ CreateNext ∷ []) (D.folder disk.old))) }
+    ensures spent { D.honest → D.failure_count disk.old ≡ u64.MAX → D.folder disk.new ≡ D.folder disk.old }
+    ensures failures { CountsFailures (D.failure_count disk.old) (D.failure_count disk.new) result }
+    ensures fault { result ≢ Err DiskFault.OutOfMemory }
+
+    ensures reads { D.honest →
+        OnOk result
+        (ReadsAs (D.folder disk.new) (bytes_under (D.folder disk.old) Name.Store) (Some [])) }
+    // A stop leaves an old store.
+    ensures store { D.honest →
+        LeavesOnly D.moment D.left disk.old disk.new
+        (λ image. IsStoreOf (D.folder disk.old) image.store) }
+    ensures holds { D.honest → (file : Option File) → HoldsStore (D.folder disk.old) file →
+        OnOk result (HoldsStore (D.folder disk.new) file) }
+{
+    disk.remove_next()?;
+    disk.create_next()
+}
+
+/// Puts bytes behind those of `next.yaml`. They are pending until the file is synced. `store.yaml` is left alone.
+///
+/// # Errors
+/// `Device`: some first ones of the bytes may stand there.
+pub fn append_next<D: Disk>(disk: &mut D, bytes: &[u8]) -> Result<(), DiskFault>
+    requires { D.honest → IsSome (D.folder disk.old).now.next }
+    ensures folder { D.honest →
+        OnOk result (D.folder disk.new ≡ after (Append Name.Next bytes.now) (D.folder disk.old)) }
+    ensures any_moment { D.honest →
+        LeavesOnly D.moment D.left disk.old disk.new
+        (IsImage (after (Append Name.Next bytes.now) (D.folder disk.old))) }
+    ensures spent { D.honest → D.failure_count disk.old ≡ u64.MAX → D.folder disk.new ≡ D.folder disk.old }
+    ensures failures { CountsFailures (D.failure_count disk.old) (D.failure_count disk.new) result }
+    ensures fault { result ≢ Err DiskFault.OutOfMemory }
+
+    ensures reads { D.honest →
+        OnOk result
+        (ReadsAs (D.folder disk.new) (bytes_under (D.folder disk.old) Name.Store)
+        (extended (bytes_under (D.folder disk.old) Name.Next) bytes.now)) }
+    // A stop leaves an old store.
+    ensures store { D.honest →
+        LeavesOnly D.moment D.left disk.old disk.new
+        (λ image. IsStoreOf (D.folder disk.old) image.store) }
+    ensures holds { D.honest → (file : Option File) → HoldsStore (D.folder disk.old) file →
+        OnOk result (HoldsStore (D.folder disk.new) file) }
+{
+    disk.append(Name::Next, bytes)
+}
+
+/// Makes `next.yaml` anew of these bytes, and syncs them. `store.yaml` is left alone. It is what [`swap_next`] asks for.
+///
+/// # Errors
+/// `Device`: there may be no `next.yaml`, or one with some first ones of the bytes.
+pub fn stage_next<D: Disk>(disk: &mut D, bytes: &[u8]) -> Result<(), DiskFault>
+    ensures folder { D.honest →
+        OnOk result
+        (D.folder disk.new ≡ folder_after
+        (RemoveNext ∷ CreateNext ∷ Append Name.Next bytes.now ∷ Sync Name.Next ∷ [])
+        (D.folder disk.old)) }
+    ensures any_moment { D.honest →
+        LeavesOnly D.moment D.left disk.old disk.new
+        (IsImage
+        (folder_after (RemoveNext ∷ CreateNext ∷ Append Name.Next bytes.now ∷ [])
+        (D.folder disk.old))) }
+    ensures spent { D.honest → D.failure_count disk.old ≡ u64.MAX → D.folder disk.new ≡ D.folder disk.old }
+    ensures failures { CountsFailures (D.failure_count disk.old) (D.failure_count disk.new) result }
+    ensures fault { result ≢ Err DiskFault.OutOfMemory }
+
+    ensures reads { D.honest →
+        OnOk result
+        (ReadsAs (D.folder disk.new) (bytes_under (D.folder disk.old) Name.Store)
+        (Some bytes.now)) }
+    ensures synced { D.honest → OnOk result (IsSynced (D.folder disk.new) Name.Next) }
+    // A stop leaves an old store.
+    ensures store { D.honest →
+        LeavesOnly D.moment D.left disk.old disk.new
+        (λ image. IsStoreOf (D.folder disk.old) image.store) }
+    ensures holds { D.honest → (file : Option File) → HoldsStore (D.folder disk.old) file →
+        OnOk result (HoldsStore (D.folder disk.new) file) }
+{
+    begin_next(disk)?;
+    append_next(disk, bytes)?;
+    disk.sync(Name::Next)
+}
+
+/// Puts the staged file in the place of `store.yaml`. From its `Ok` on, a stop leaves it there.
+///
+/// # Errors
+/// `Device`: the staged file may stand in the place or not.
+pub fn swap_next<D: Disk>(disk: &mut D) -> Result<(), DiskFault>
+    requires { D.honest → IsSynced (D.folder disk.old) Name.Next }
+    ensures folder { D.honest →
+        OnOk result
+        (D.folder disk.new ≡ folder_after (RenameNext ∷ SyncFolder ∷ []) (D.folder disk.old)) }
+    ensures any_moment { D.honest →
+        LeavesOnly D.moment D.left disk.old disk.new
+        (IsImage (after RenameNext (D.folder disk.old))) }
+    ensures spent { D.honest → D.failure_count disk.old ≡ u64.MAX → D.folder disk.new ≡ D.folder disk.old }
+    ensures failures { CountsFailures (D.failure_count disk.old) (D.failure_count disk.new) result }
+    ensures fault { result ≢ Err DiskFault.OutOfMemory }
+
+    ensures reads { D.honest →
+        OnOk result (ReadsAs (D.folder disk.new) (bytes_under (D.folder disk.old) Name.Next) None) }
+    // A stop leaves an old store, or the whole staged file.
+    ensures store { D.honest →
+        LeavesOnly D.moment D.left disk.old disk.new
+        (λ image. IsStoreOf (D.folder disk.old) image.store
+        ⊎ (image.store ≡ bytes_under (D.folder disk.old) Name.Next)) }
+    ensures holds { D.honest → (bytes : List ℕ) → bytes_under (D.folder disk.old) Name.Next ≡ Some bytes →
+        OnOk result (HoldsStore (D.folder disk.new) (Some (synced_file bytes))) }
+{
+    disk.rename_next()?;
+    disk.sync_folder()
+}
+
+/// Syncs `next.yaml`, and puts it in the place of `store.yaml`. From its `Ok` on, a stop leaves it there.
+///
+/// # Errors
+/// `Device`: the staged file may stand in the place or not.
+pub fn finish_next<D: Disk>(disk: &mut D) -> Result<(), DiskFault>
+    requires { D.honest → IsSome (D.folder disk.old).now.next }
+    ensures folder { D.honest →
+        OnOk result
+        (D.folder disk.new ≡ folder_after (Sync Name.Next ∷ RenameNext ∷ SyncFolder ∷ [])
+        (D.folder disk.old)) }
+    ensures any_moment { D.honest →
+        LeavesOnly D.moment D.left disk.old disk.new
+        (λ image. IsImage (D.folder disk.old) image
+        ⊎ IsImage
+        (folder_after (Sync Name.Next ∷ RenameNext ∷ []) (D.folder disk.old)) image) }
+    ensures spent { D.honest → D.failure_count disk.old ≡ u64.MAX → D.folder disk.new ≡ D.folder disk.old }
+    ensures failures { CountsFailures (D.failure_count disk.old) (D.failure_count disk.new) result }
+    ensures fault { result ≢ Err DiskFault.OutOfMemory }
+
+    ensures reads { D.honest →
+        OnOk result (ReadsAs (D.folder disk.new) (bytes_under (D.folder disk.old) Name.Next) None) }
+    // A stop leaves an old store, or the whole staged file.
+    ensures store { D.honest →
+        LeavesOnly D.moment D.left disk.old disk.new
+        (λ image. IsStoreOf (D.folder disk.old) image.store
+        ⊎ (image.store ≡ bytes_under (D.folder disk.old) Name.Next)) }
+    ensures holds { D.honest → (bytes : List ℕ) → bytes_under (D.folder disk.old) Name.Next ≡ Some bytes →
+        OnOk result (HoldsStore (D.folder disk.new) (Some (synced_file bytes))) }
+{
+    disk.sync(Name::Next)?;
+    swap_next(disk)
+}

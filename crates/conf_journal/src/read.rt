@@ -1,0 +1,40 @@
+// The procedure that reads the live file.
+ghost use Rattle.std.specs.Prelude.{◌≡◌, [], ◌∷◌, OnOk, IfOk, Err, option_map};
+ghost use Rattle.conf_disk.specs.Folder.{Sync, SyncFolder, bytes_under, Reads};
+ghost use Rattle.conf_disk.specs.Image.{IsImage, image_now, synced_file};
+ghost use Rattle.conf_disk.specs.Log.{folder_after};
+ghost use Rattle.conf_disk.specs.Moments.{CountsFailures, LeavesOnly};
+ghost use Rattle.conf_journal.specs.Held.{HoldsStore};
+
+use conf_disk::{Content, Disk, DiskFault, Name};
+use std::alloc::Global;
+
+/// The greatest length of `store.yaml`, in bytes.
+pub const STORE_LIMIT: u64 = 1_073_741_824;
+
+/// Reads `store.yaml`, when the names and its bytes are synced: after `Ok` a stop leaves just what was read.
+///
+/// # Errors
+/// `Device`: what reads is as it was. `OutOfMemory`: all is synced, and the bytes were not read.
+pub fn load<D: Disk>(alloc: Global, disk: &mut D) -> Result<Content, DiskFault>
+    ensures content { D.honest → IfOk result (λ content. Reads (D.folder disk.old) Name.Store STORE_LIMIT content) }
+    ensures folder { D.honest →
+        OnOk result
+        (D.folder disk.new ≡ folder_after (SyncFolder ∷ Sync Name.Store ∷ [])
+        (D.folder disk.old)) }
+    ensures unread { D.honest → result ≡ Err DiskFault.OutOfMemory →
+        D.folder disk.new ≡ folder_after (SyncFolder ∷ Sync Name.Store ∷ []) (D.folder disk.old) }
+    ensures any_moment { D.honest → LeavesOnly D.moment D.left disk.old disk.new (IsImage (D.folder disk.old)) }
+    ensures spent { D.honest → D.failure_count disk.old ≡ u64.MAX → D.folder disk.new ≡ D.folder disk.old }
+    ensures failures { CountsFailures (D.failure_count disk.old) (D.failure_count disk.new) result }
+
+    ensures reads { D.honest → image_now (D.folder disk.new) ≡ image_now (D.folder disk.old) }
+    ensures holds { D.honest →
+        OnOk result
+        (HoldsStore (D.folder disk.new)
+        (option_map synced_file (bytes_under (D.folder disk.old) Name.Store))) }
+{
+    disk.sync_folder()?;
+    disk.sync(Name::Store)?;
+    disk.read(alloc, Name::Store, STORE_LIMIT)
+}

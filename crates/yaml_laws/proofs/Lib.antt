@@ -1,0 +1,16 @@
+pub mod Presented
+pub mod Characters
+pub mod Spelled
+pub mod QuotedChars
+pub mod Literals
+pub mod Meant
+pub mod ScalarsFit
+pub mod Fits
+pub mod StyleTexts
+pub mod StyleRead
+pub mod Closings
+pub mod StyleLines
+pub mod FramedClosings
+pub mod PieceLists
+pub mod PiecesFound
+pub mod Rows

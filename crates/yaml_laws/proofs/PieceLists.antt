@@ -1,0 +1,115 @@
+-- Bytes have one list of pieces, and the pieces of torn texts are the whole ones.
+use Rattle.std.proofs.Common.{◌≡◌, refl, sym, ◌∙◌, ap, inl, inr, arith, ◌<◌, ◌≤◌, append_assoc}
+use Rattle.std.specs.Prelude.{ℕ, true, List, [], ◌∷◌, ◌++◌, length, replicate, map}
+use Rattle.std.specs.List.{All, concat}
+use Rattle.std.proofs.lemmas.List.{append-nil}
+use Rattle.std.proofs.lemmas.List.Elements.{All-nil, All-cons, All-head, All-tail}
+use Rattle.std.proofs.lemmas.Bool.{cases_lt, false≢true}
+use Rattle.yaml_grammar.specs.Trees.{Tree}
+use Rattle.yaml_grammar.specs.Closings.{ClosesAt, ClosesOnce}
+use Rattle.yaml_laws.specs.Closed.{framed, framed_all, TornPieces, TornInPieces, OnePieces}
+use Rattle.yaml_laws.proofs.Closings.{closes, closes_from, closes_at, piece_closes, padding_closed, closes_before_padding, closes_within}
+use Rattle.yaml_laws.proofs.FramedClosings.{framed_piece, framed_once, cut_after}
+
+-- ---- one list of pieces
+
+-- what closes at its end does so whatever stands behind it
+closed_front : (piece behind : List ℕ) → ClosesOnce piece → closes true (piece ++ behind) (length piece) ≡ true
+closed_front piece behind c =
+    closes_within true piece [] behind (length piece) (omega arith) (ap (λ s. closes true s (length piece)) (append-nil piece) ∙ closes_from piece (length piece) c.closes)
+
+-- of two pieces that bytes begin with neither is longer
+no_longer : (one other behind rest : List ℕ) → ClosesOnce one → ClosesOnce other → one ++ behind ≡ other ++ rest → length one ≤ length other → length one ≡ length other
+no_longer one other behind rest c d e l =
+    let here : closes true (other ++ rest) (length one) ≡ true = ap (λ s. closes true s (length one)) (sym e) ∙ closed_front one behind c in
+    let within : closes true other (length one) ≡ true = ap (λ s. closes true s (length one)) (sym (append-nil other)) ∙ closes_within true other rest [] (length one) l here in
+    d.once (length one) (closes_at other (length one) within)
+
+same_front : (one other behind rest : List ℕ) → length one ≡ length other → one ++ behind ≡ other ++ rest → (one ≡ other) × (behind ≡ rest)
+same_front [] [] behind rest l e = (refl, e)
+same_front [] (d ∷ ds) behind rest l e = absurd (omega (arith, l))
+same_front (c ∷ cs) [] behind rest l e = absurd (omega (arith, l))
+same_front (c ∷ cs) (d ∷ ds) behind rest l e =
+    let same : c ≡ d = cc e in
+    let tail : cs ++ behind ≡ ds ++ rest = cc e in
+    let more : (cs ≡ ds) × (behind ≡ rest) = same_front cs ds behind rest (omega (arith, l)) tail in
+    (cc (same, more.0), more.1)
+
+same_pieces : (one other behind rest : List ℕ) → ClosesOnce one → ClosesOnce other → one ++ behind ≡ other ++ rest → (one ≡ other) × (behind ≡ rest)
+same_pieces one other behind rest c d e = elim (cases_lt (length one) (length other)) [
+  | inl l ↦ same_front one other behind rest (no_longer one other behind rest c d e (omega (arith, l))) e
+  | inr l ↦ same_front one other behind rest (sym (no_longer other one rest behind d c (sym e) l)) e
+]
+
+unclosed_front : (piece behind rest : List ℕ) → ClosesOnce piece → ((place : ℕ) → ClosesAt rest place → ⊥) → rest ≡ piece ++ behind → ⊥
+unclosed_front piece behind rest c open_end e =
+    open_end (length piece) (closes_at rest (length piece) (ap (λ s. closes true s (length piece)) e ∙ closed_front piece behind c))
+
+joined_alike : (ps qs : List (List ℕ)) (rest other : List ℕ) → All ClosesOnce ps → All ClosesOnce qs → ((place : ℕ) → ClosesAt rest place → ⊥) → ((place : ℕ) → ClosesAt other place → ⊥)
+    → concat ps ++ rest ≡ concat qs ++ other → (ps ≡ qs) × (rest ≡ other)
+joined_alike [] [] rest other h k f g e = (refl, e)
+joined_alike [] (q ∷ qs) rest other h k f g e = absurd (unclosed_front q (concat qs ++ other) rest (All-head ClosesOnce q qs k) f (e ∙ append_assoc q (concat qs) other))
+joined_alike (p ∷ ps) [] rest other h k f g e = absurd (unclosed_front p (concat ps ++ rest) other (All-head ClosesOnce p ps h) g (sym e ∙ append_assoc p (concat ps) rest))
+joined_alike (p ∷ ps) (q ∷ qs) rest other h k f g e =
+    let s : (p ≡ q) × (concat ps ++ rest ≡ concat qs ++ other) =
+    same_pieces p q (concat ps ++ rest) (concat qs ++ other) (All-head ClosesOnce p ps h) (All-head ClosesOnce q qs k) (sym (append_assoc p (concat ps) rest) ∙ (e ∙ append_assoc q (concat qs) other)) in
+    let more : (ps ≡ qs) × (rest ≡ other) = joined_alike ps qs rest other (All-tail ClosesOnce p ps h) (All-tail ClosesOnce q qs k) f g s.1 in
+    (cc (s.0, more.0), more.1)
+
+pub one_list : OnePieces
+one_list bytes ps qs rest other a b = joined_alike ps qs rest other a.closed b.closed a.unclosed b.unclosed (sym a.joined ∙ b.joined)
+
+-- ---- torn texts
+
+padding_unclosed : (padding place : ℕ) → ClosesAt (replicate padding 0) place → ⊥
+padding_unclosed padding place c = false≢true (sym (padding_closed true padding place) ∙ closes_from (replicate padding 0) place c)
+
+-- a front of a text, shorter than it, isn't closed
+short_unclosed : (t : Tree) (behind front lost : List ℕ) (padding place : ℕ) → framed t ++ behind ≡ front ++ lost → length front < length (framed t)
+    → ClosesAt (front ++ replicate padding 0) place → ⊥
+short_unclosed t behind front lost padding place e l c =
+    let p : (place ≤ length front) × (closes true (front ++ lost) place ≡ true) = closes_before_padding true front lost padding place (closes_from (front ++ replicate padding 0) place c) in
+    elim (piece_closes (framed t) behind place (framed_piece t) (ap (λ s. closes true s place) e ∙ p.1)) [
+      | inl q ↦ omega (arith, l, p.0, q)
+      | inr r ↦ omega (arith, l, p.0, r.1)
+    ]
+
+pub torn_pieces : TornInPieces
+torn_pieces [] [] lost padding e =
+    record {
+      whole = [];
+      further = [];
+      kept = [];
+      all = refl;
+      cut = refl;
+      short = λ next more d. absurd (cc d);
+      pieces = record { joined = refl; closed = All-nil ClosesOnce; unclosed = padding_unclosed padding };
+    }
+torn_pieces [] (c ∷ cs) lost padding e = absurd (cc e)
+torn_pieces (t ∷ ts) front lost padding e = elim (cases_lt (length front) (length (framed t))) [
+  | inl l ↦ record {
+    whole = [];
+    further = t ∷ ts;
+    kept = front;
+    all = refl;
+    cut = refl;
+    short = λ next more d. (let same : t ≡ next = cc d in rw same at l);
+    pieces = record { joined = refl; closed = All-nil ClosesOnce; unclosed = λ place c. short_unclosed t (framed_all ts) front lost padding place e l c };
+  }
+  | inr l ↦ (let m : (more : List ℕ) × (front ≡ framed t ++ more) × (framed_all ts ≡ more ++ lost) = cut_after (framed t) (framed_all ts) front lost l e in
+      let inner : TornPieces ts m.0 padding = torn_pieces ts m.0 lost padding m.2 in
+      let zeros : List ℕ = replicate padding 0 in
+      record {
+        whole = t ∷ inner.whole;
+        further = inner.further;
+        kept = inner.kept;
+        all = ap (λ us. t ∷ us) inner.all;
+        cut = m.1 ∙ (ap (λ s. framed t ++ s) inner.cut ∙ sym (append_assoc (framed t) (framed_all inner.whole) inner.kept));
+        short = inner.short;
+        pieces = record {
+          joined = ap (λ s. s ++ zeros) m.1 ∙ (append_assoc (framed t) m.0 zeros ∙ (ap (λ s. framed t ++ s) inner.pieces.joined ∙ sym (append_assoc (framed t) (framed_all inner.whole) (inner.kept ++ zeros))));
+          closed = All-cons ClosesOnce (framed t) (map framed inner.whole) (framed_once t) inner.pieces.closed;
+          unclosed = inner.pieces.unclosed;
+        };
+      })
+]

@@ -1,0 +1,57 @@
+-- Worked trees, and worked closings, by computation.
+use Rattle.std.proofs.Common.{◌≡◌, refl}
+use Rattle.std.specs.Prelude.{true, false, ◌++◌, codes}
+use Rattle.yaml_grammar.specs.Streams.{spelled, fits, meant}
+use Rattle.yaml_grammar.specs.Trees.{Tree, text, sequence, mapping, no_element, element, no_member, member, IsTreeOf}
+use Rattle.yaml_grammar.specs.Style.{style_text}
+use Rattle.yaml_grammar.specs.Closings.{ClosesAt}
+use Rattle.yaml_laws.proofs.Presented.{presentation_of, framed_presentation_of}
+use Rattle.yaml_laws.proofs.Closings.{closes, closes_at}
+
+-- ---- a tree with a kept, a stripped and a quoted text, and with empty collections
+
+abbrev tree : Tree
+tree =
+    mapping
+    (member (codes "k") (text (codes "a\n\nb\n\n"))
+    (member (codes "1")
+    (sequence (element (text (codes "x")) (element (mapping (member (codes "y") (text (codes "q\nr")) no_member)) (element (sequence no_element) no_element))))
+    (member (codes "m") (mapping (member (codes "z") (mapping no_member) no_member)) no_member)))
+
+row_text : style_text tree ≡ codes "k: |+\n  a\n\n  b\n\n\"1\":\n  - x\n  - \"y\": |-\n      q\n      r\n  - []\nm:\n  z: {}\n"
+row_text = refl
+
+row_spelled : spelled (presentation_of tree) ≡ style_text tree
+row_spelled = refl
+
+row_fits : fits (presentation_of tree) ≡ true
+row_fits = refl
+
+row_tree : IsTreeOf (meant (presentation_of tree)) tree
+row_tree = refl
+
+row_framed : spelled (framed_presentation_of tree) ≡ codes "---\n" ++ (style_text tree ++ codes "...\n")
+row_framed = refl
+
+row_framed_fits : fits (framed_presentation_of tree) ≡ true
+row_framed_fits = refl
+
+-- ---- closings
+
+two_lines : ClosesAt (codes "...\n...\n") 4
+two_lines = closes_at (codes "...\n...\n") 4 refl
+
+behind_text : ClosesAt (codes "a\n...\n...\n") 10
+behind_text = closes_at (codes "a\n...\n...\n") 10 refl
+
+within_line : closes true (codes "a...\n") 5 ≡ false
+within_line = refl
+
+other_break : closes true (codes "...\r\n") 5 ≡ false
+other_break = refl
+
+behind_return : closes true (codes "a\r...\n") 6 ≡ false
+behind_return = refl
+
+with_comment : closes true (codes "... #\n") 6 ≡ false
+with_comment = refl

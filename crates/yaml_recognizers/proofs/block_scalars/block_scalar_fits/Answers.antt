@@ -1,0 +1,5 @@
+use Rattle.yaml_recognizers.proofs.BlockScalarFacts.{blocks_read}
+use Rattle.yaml_recognizers.proofs.block_scalars.block_scalar_fits.Goals as goal
+
+pub returns : goal.returns
+returns c = blocks_read.sound

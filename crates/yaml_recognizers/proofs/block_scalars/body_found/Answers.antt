@@ -1,0 +1,5 @@
+use Rattle.yaml_recognizers.proofs.BlockScalarFacts.{body_is}
+use Rattle.yaml_recognizers.proofs.block_scalars.body_found.Goals as goal
+
+pub returns : goal.returns
+returns c = body_is

@@ -1,0 +1,5 @@
+use Rattle.yaml_recognizers.proofs.BlockScalarFacts.{header_is}
+use Rattle.yaml_recognizers.proofs.block_scalars.header_found.Goals as goal
+
+pub returns : goal.returns
+returns c = header_is

@@ -1,0 +1,5 @@
+use Rattle.yaml_recognizers.proofs.GapsComplete.{gap_read}
+use Rattle.yaml_recognizers.proofs.comments.gap_found.Goals as goal
+
+pub returns : goal.returns
+returns c = gap_read

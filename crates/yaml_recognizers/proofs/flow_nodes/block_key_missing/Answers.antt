@@ -1,0 +1,7 @@
+use Rattle.yaml_recognizers.specs.FlowScalars.{read_scalar}
+use Rattle.yaml_recognizers.proofs.BlockKeysWhole.{no_block_key}
+use Rattle.yaml_recognizers.proofs.ScalarsInNodes.{reads_scalars}
+use Rattle.yaml_recognizers.proofs.flow_nodes.block_key_missing.Goals as goal
+
+pub returns : goal.returns
+returns c = no_block_key read_scalar reads_scalars

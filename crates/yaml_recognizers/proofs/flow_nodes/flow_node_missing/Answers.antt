@@ -1,0 +1,5 @@
+use Rattle.yaml_recognizers.proofs.FlowNodesFound.{missing}
+use Rattle.yaml_recognizers.proofs.flow_nodes.flow_node_missing.Goals as goal
+
+pub returns : goal.returns
+returns c = missing

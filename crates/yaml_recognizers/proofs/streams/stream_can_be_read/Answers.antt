@@ -1,0 +1,10 @@
+use Rattle.yaml_recognizers.specs.FlowScalars.{read_scalar}
+use Rattle.yaml_recognizers.specs.BlockScalars.{read_block}
+use Rattle.yaml_recognizers.proofs.StreamsWhole.{whole_stream_is}
+use Rattle.yaml_recognizers.proofs.NestedStreams.{can_read}
+use Rattle.yaml_recognizers.proofs.ScalarsInNodes.{reads_scalars}
+use Rattle.yaml_recognizers.proofs.BlockScalarFacts.{blocks_read}
+use Rattle.yaml_recognizers.proofs.streams.stream_can_be_read.Goals as goal
+
+pub returns : goal.returns
+returns c = λ text s e. let p = whole_stream_is read_scalar reads_scalars read_block blocks_read text s e in can_read text s p.0 p.1

@@ -1,0 +1,9 @@
+use Rattle.yaml_recognizers.specs.FlowScalars.{read_scalar}
+use Rattle.yaml_recognizers.specs.BlockScalars.{read_block}
+use Rattle.yaml_recognizers.proofs.StreamsWhole.{whole_stream_read}
+use Rattle.yaml_recognizers.proofs.ScalarsInNodes.{reads_scalars}
+use Rattle.yaml_recognizers.proofs.BlockScalarFacts.{blocks_read}
+use Rattle.yaml_recognizers.proofs.streams.stream_found.Goals as goal
+
+pub returns : goal.returns
+returns c = whole_stream_read read_scalar reads_scalars read_block blocks_read

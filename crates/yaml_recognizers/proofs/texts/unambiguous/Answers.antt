@@ -1,0 +1,9 @@
+use Rattle.yaml_recognizers.specs.FlowScalars.{read_scalar}
+use Rattle.yaml_recognizers.specs.BlockScalars.{read_block}
+use Rattle.yaml_recognizers.proofs.Meaning.{same_meaning}
+use Rattle.yaml_recognizers.proofs.ScalarsInNodes.{reads_scalars}
+use Rattle.yaml_recognizers.proofs.BlockScalarFacts.{blocks_read}
+use Rattle.yaml_recognizers.proofs.texts.unambiguous.Goals as goal
+
+pub returns : goal.returns
+returns c = same_meaning read_scalar reads_scalars read_block blocks_read

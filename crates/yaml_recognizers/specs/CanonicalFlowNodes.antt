@@ -1,0 +1,46 @@
+-- Flow nodes whose separation is canonical. The rest is as in the grammar.
+use Rattle.std.specs.Prelude.{ℕ, Bool, true, false, not, ◌&&◌, ◌||◌, List, ◌++◌, is_some, codes, if◌then◌else◌}
+use Rattle.yaml_grammar.specs.Texts.{first, starts_line}
+use Rattle.yaml_grammar.specs.Separation.{gap_text}
+use Rattle.yaml_grammar.specs.FlowScalars.{FlowContext, flow_key, inside, one_line, safe, scalar_fits}
+use Rattle.yaml_grammar.specs.FlowNodes.{Flow, scalar, seq, map, Entries, none, last, next, Entry, entry, Value, absent, empty, given, flow_text, entries_text, value_text, is_plain, before_colon, single_pair, short_key}
+use Rattle.yaml_recognizers.specs.CanonicalComments.{canonical_gap}
+
+abbrev mutual
+  pub canonical_flow : Flow → ℕ → FlowContext → Bool → List ℕ → Bool
+  canonical_flow (scalar s) n c bol behind = scalar_fits n c bol s behind
+  canonical_flow (seq gap es) n c bol behind =
+      canonical_gap n (one_line c) gap (entries_text es ++ (codes "]" ++ behind))
+      && canonical_entries es n (inside c) true (starts_line false (gap_text gap)) (codes "]" ++ behind)
+  canonical_flow (map gap es) n c bol behind =
+      canonical_gap n (one_line c) gap (entries_text es ++ (codes "}" ++ behind))
+      && canonical_entries es n (inside c) false (starts_line false (gap_text gap)) (codes "}" ++ behind)
+
+  -- in the context d between the brackets; in_seq: they are a sequence's
+  pub canonical_entries : Entries → ℕ → FlowContext → Bool → Bool → List ℕ → Bool
+  canonical_entries none n d in_seq bol behind = true
+  canonical_entries (last e gap) n d in_seq bol behind =
+      canonical_entry e n d in_seq bol (gap_text gap ++ behind) && canonical_gap n (one_line d) gap behind
+  canonical_entries (next e before after es) n d in_seq bol behind =
+      let rest = gap_text after ++ (entries_text es ++ behind) in
+      canonical_entry e n d in_seq bol (gap_text before ++ (codes "," ++ rest))
+      && canonical_gap n (one_line d) before (codes "," ++ rest) && canonical_gap n (one_line d) after (entries_text es ++ behind)
+      && canonical_entries es n d in_seq (starts_line false (gap_text after)) behind
+
+  pub canonical_entry : Entry → ℕ → FlowContext → Bool → Bool → List ℕ → Bool
+  canonical_entry (entry ask key value) n d in_seq bol behind =
+      canonical_gap n (one_line d) ask (flow_text key ++ (value_text value ++ behind))
+      && (if single_pair in_seq ask value
+      then canonical_flow key 0 flow_key bol (value_text value ++ behind) && short_key key (before_colon value)
+      else canonical_flow key n d (if is_some ask then starts_line false (gap_text ask) else bol) (value_text value ++ behind))
+      && canonical_value value n d (one_line d || single_pair in_seq ask value) (is_plain key) behind
+
+  -- key: the white before the `:` stands on its line; after_plain: a plain key's `:` wants white before its value
+  pub canonical_value : Value → ℕ → FlowContext → Bool → Bool → List ℕ → Bool
+  canonical_value absent n d key after_plain behind = true
+  canonical_value (empty gap) n d key after_plain behind =
+      canonical_gap n key gap (codes ":" ++ behind) && not (after_plain && first (safe d) behind)
+  canonical_value (given before after f) n d key after_plain behind =
+      canonical_gap n key before (codes ":" ++ (gap_text after ++ (flow_text f ++ behind)))
+      && (is_some after || not after_plain) && canonical_gap n (one_line d) after (flow_text f ++ behind)
+      && canonical_flow f n d (starts_line false (gap_text after)) behind

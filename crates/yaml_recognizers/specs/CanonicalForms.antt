@@ -1,0 +1,14 @@
+-- What a canonical stream has to share with a presentation to stand for it.
+use Rattle.std.specs.Prelude.{◌≡◌, IsTrue}
+use Rattle.yaml_grammar.specs.Streams.{Stream, spelled, fits, meant}
+use Rattle.yaml_recognizers.specs.CanonicalStreams.{FlatStream, flat_text, canonical_stream, flat_meant}
+
+-- it is canonical, and has the same text and the same meaning
+pub record IsCanonicalFormOf (s : Stream) (c : FlatStream) : Type 0 where
+  pub canonical : IsTrue (canonical_stream c)
+  pub text : flat_text c ≡ spelled s
+  pub meaning : flat_meant c ≡ meant s
+
+-- each presentation that fits has one
+abbrev pub HaveCanonicalForms : Type 0
+HaveCanonicalForms = (s : Stream) → IsTrue (fits s) → (c : FlatStream) × IsCanonicalFormOf s c

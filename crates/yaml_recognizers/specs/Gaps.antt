@@ -1,0 +1,31 @@
+-- The recognizer of the separation between two parts of a flow node, which may be left out (YAML 1.2.2, 6.7).
+use Rattle.std.specs.Prelude.{ℕ, Bool, true, false, List, [], ◌∷◌, length, Option, Some, None, if◌then◌else◌}
+use Rattle.yaml_chars.specs.Classes.{white}
+use Rattle.yaml_grammar.specs.Separation.{LineEnd, Sep, inline, lines, indents}
+use Rattle.yaml_recognizers.specs.Fronts.{taken, dropped}
+use Rattle.yaml_recognizers.specs.Reading.{Read}
+use Rattle.yaml_recognizers.specs.Comments.{read_line_end, read_comments}
+
+-- a gap, and the rest of the text
+abbrev pub GapRead : Type 0
+GapRead = Option Sep × List ℕ
+
+-- white on the line
+abbrev pub inline_gap : List ℕ → List ℕ → GapRead
+inline_gap [] rest = (None, rest)
+inline_gap (c ∷ cs) rest = (Some (inline (c ∷ cs)), rest)
+
+abbrev pub lines_gap : ℕ → List ℕ → List LineEnd → List ℕ → List ℕ → GapRead
+lines_gap n text comments lead rest = if indents n lead then (Some (lines comments lead), rest) else (None, text)
+
+abbrev pub gap_behind : ℕ → List ℕ → LineEnd → List LineEnd × List ℕ → GapRead
+gap_behind n text e more = lines_gap n text (e ∷ more.0) (taken white more.1) (dropped white more.1)
+
+abbrev pub gap_from : ℕ → List ℕ → Read LineEnd → GapRead
+gap_from n text None = inline_gap (taken white text) (dropped white text)
+gap_from n text (Some r) = gap_behind n text r.0 (read_comments (length text) true r.1)
+
+-- in a key all stands on one line
+abbrev pub read_gap : ℕ → Bool → List ℕ → GapRead
+read_gap n true text = inline_gap (taken white text) (dropped white text)
+read_gap n false text = gap_from n text (read_line_end false text)

@@ -1,0 +1,32 @@
+-- texts, and what recognizers give
+pub mod Signs
+pub mod Fronts
+pub mod Reading
+-- the canonical form
+pub mod CanonicalComments
+pub mod CanonicalFlowNodes
+pub mod CanonicalBlockScalars
+pub mod CanonicalBlockNodes
+pub mod CanonicalStreams
+-- the recognizers, by production
+pub mod Ends
+pub mod Comments
+pub mod Gaps
+pub mod Repeated
+pub mod Joins
+pub mod QuotedScalars
+pub mod PlainScalars
+pub mod FlowScalars
+pub mod BlockScalars
+pub mod FlowNodes
+pub mod BlockNodes
+pub mod Streams
+pub mod Scalars
+pub mod Recognizers
+-- what laws of them speak of
+pub mod WholeScalars
+pub mod QuotedSteps
+pub mod BlockScalarFacts
+pub mod OneLine
+pub mod NestedStreams
+pub mod CanonicalForms

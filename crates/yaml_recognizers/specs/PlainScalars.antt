@@ -1,0 +1,49 @@
+-- The recognizer of plain scalars: it reads as far as a plain scalar goes.
+use Rattle.std.specs.Prelude.{ℕ, Bool, false, not, ◌&&◌, ◌||◌, List, [], ◌∷◌, length, drop, Some, None, is_some, if◌then◌else◌}
+use Rattle.yaml_chars.specs.Classes.{white}
+use Rattle.yaml_grammar.specs.Texts.{is_empty, no_marker}
+use Rattle.yaml_grammar.specs.FlowScalars.{FlowContext, one_line, Line, Scalar, plain, plain_first, plain_next}
+use Rattle.yaml_recognizers.specs.Reading.{Read, on}
+use Rattle.yaml_recognizers.specs.Repeated.{all_of}
+use Rattle.yaml_recognizers.specs.Joins.{Join, read_join, line_of}
+
+-- white and plain characters behind the character prev, as long as they end with a plain character
+unfoldable pub read_run : FlowContext → ℕ → List ℕ → List ℕ
+read_run c prev [] = []
+read_run c prev (x ∷ xs) =
+    let more = read_run c x xs in
+    if plain_next c prev x xs || (white x && not (is_empty more)) then x ∷ more else []
+
+-- a join, and a line that holds this run
+abbrev pub with_run : Join → List ℕ → List ℕ → Read (Line ℕ)
+with_run j text run = if is_empty run then None else Some (line_of j run, drop (length run) text)
+
+unfoldable pub read_plain_line : ℕ → FlowContext → List ℕ → Read (Line ℕ)
+read_plain_line n c text = on (read_join false n text) (λ j rest. with_run j rest (read_run c 32 rest))
+
+abbrev pub plain_lines_at : ℕ → FlowContext → List ℕ → List (Line ℕ) × List ℕ
+plain_lines_at n c text = if one_line c then ([], text) else all_of (read_plain_line n c) text
+
+abbrev pub with_lines : List ℕ → List (Line ℕ) × List ℕ → Read Scalar
+with_lines front more = Some (plain front more.0, more.1)
+
+unfoldable pub read_plain : ℕ → FlowContext → Bool → List ℕ → Read Scalar
+read_plain n c bol [] = None
+read_plain n c bol (x ∷ xs) =
+    if no_marker bol (x ∷ xs) && plain_first c x xs
+    then (let run = read_run c x xs in with_lines (x ∷ run) (plain_lines_at n c (drop (length run) xs))) else None
+
+-- ---- where a plain scalar ends
+
+-- the last character, or prev
+unfoldable pub last_of : ℕ → List ℕ → ℕ
+last_of prev [] = prev
+last_of prev (x ∷ xs) = last_of x xs
+
+unfoldable pub last_char : List ℕ → List (Line ℕ) → ℕ
+last_char front [] = last_of 32 front
+last_char front (l ∷ ls) = last_char l.held ls
+
+-- behind its last character the line goes on with no plain character, and where it isn't a key no further line does
+unfoldable pub plain_ends : ℕ → FlowContext → ℕ → List ℕ → Bool
+plain_ends n c last behind = is_empty (read_run c last behind) && (one_line c || not (is_some (read_plain_line n c behind)))

@@ -1,0 +1,35 @@
+//! What texts mean: the laws that join the recognizers to the presentations of the grammar.
+
+ghost use Rattle.std.specs.Prelude.{◌≡◌, ℕ, List, Some, None};
+ghost use Rattle.yaml_grammar.specs.Texts.{IsText};
+ghost use Rattle.yaml_grammar.specs.Events.{Event};
+ghost use Rattle.yaml_grammar.specs.Streams.{Stream, meant};
+ghost use Rattle.yaml_grammar.specs.Reads.{Presents, CanRead, Reads};
+ghost use Rattle.yaml_recognizers.specs.CanonicalStreams.{FlatStream, flat_meant};
+ghost use Rattle.yaml_recognizers.specs.CanonicalForms.{HaveCanonicalForms};
+ghost use Rattle.yaml_recognizers.specs.Recognizers.{stream_at};
+
+/// Each presentation has a canonical form: a flat stream with the same text and the same meaning.
+pub fn canonical_forms()
+    ensures { HaveCanonicalForms }
+{}
+
+/// All presentations of a text, whatever form they have, mean the same.
+pub fn unambiguous()
+    ensures { (text : List ℕ) (one other : Stream) → Presents one text → Presents other text → meant one ≡ meant other }
+{}
+
+/// A text in which a stream is found reads as what that stream means, and as nothing else.
+pub fn text_reads()
+    ensures { (text : List ℕ) (stream : FlatStream) → IsText text → stream_at text ≡ Some stream → Reads text (flat_meant stream) }
+{}
+
+/// What a text can be read as is found.
+pub fn text_reading_found()
+    ensures { (text : List ℕ) (events : List Event) → CanRead text events → (stream : FlatStream) × (stream_at text ≡ Some stream) × (flat_meant stream ≡ events) }
+{}
+
+/// Whether a text has a presentation is decided: one in which no stream is found has none.
+pub fn decided()
+    ensures { (text : List ℕ) (presentation : Stream) → stream_at text ≡ None → Presents presentation text → ⊥ }
+{}
