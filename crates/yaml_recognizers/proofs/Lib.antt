@@ -70,6 +70,7 @@ pub mod StreamsWhole
 pub mod StreamsDepth
 pub mod Steps
 pub mod StreamExamples
+pub mod StreamEdgeExamples
 -- canonical forms, and the meaning of a text
 pub mod NestedStreams
 pub mod CommentsForm
@@ -82,4 +83,6 @@ pub mod StreamsFlatFit
 pub mod DocumentsForm
 pub mod StreamsForm
 pub mod FormExamples
+pub mod StandingNodes
+pub mod DocumentEnds
 pub mod Meaning

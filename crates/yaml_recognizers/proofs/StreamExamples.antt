@@ -14,25 +14,25 @@ use Rattle.yaml_recognizers.specs.PlainScalars.{read_run, read_plain_line, read_
 use Rattle.yaml_recognizers.specs.FlowScalars.{read_scalar, scalar_ends}
 use Rattle.yaml_recognizers.specs.Recognizers.{stream_at}
 
-record Example : Type 0 where
-  text : List ℕ
-  events : Option (List Event)
+pub record Example : Type 0 where
+  pub text : List ℕ
+  pub events : Option (List Event)
 
-abbrev refused : List ℕ → Example
+abbrev pub refused : List ℕ → Example
 refused text = record { text = text; events = None }
 
-abbrev read : List ℕ → List Event → Example
+abbrev pub read : List ℕ → List Event → Example
 read text events = record { text = text; events = Some events }
 
 abbrev events_of : Option FlatStream → Option (List Event)
 events_of None = None
 events_of (Some s) = Some (flat_meant s)
 
-abbrev wanted : List Example → List (Option (List Event))
+abbrev pub wanted : List Example → List (Option (List Event))
 wanted [] = []
 wanted (e ∷ es) = e.events ∷ wanted es
 
-abbrev found : List Example → List (Option (List Event))
+abbrev pub found : List Example → List (Option (List Event))
 found [] = []
 found (e ∷ es) = events_of (stream_at e.text) ∷ found es
 

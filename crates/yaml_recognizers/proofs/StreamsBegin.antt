@@ -248,7 +248,7 @@ node_long (pairs comments k ps) m shallow bol behind h = omega (arith, pairs_lon
 
 -- ---- what stands behind a document ends it
 
-marked : (m : ℕ) (shallow : Bool) (text : List ℕ) → marker text ≡ true → ended m shallow text ≡ true
+pub marked : (m : ℕ) (shallow : Bool) (text : List ℕ) → marker text ≡ true → ended m shallow text ≡ true
 marked m shallow text h = or_left _ _ (or_left _ _ (or_right (is_empty text) _ h))
 
 explicit_ends : (x : Explicit) (bol : Bool) (rest : List ℕ) → canonical_explicit x bol rest ≡ true → marker (explicit_text x ++ rest) ≡ true

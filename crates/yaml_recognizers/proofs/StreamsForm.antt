@@ -52,7 +52,7 @@ comment_wider : (apart : Bool) (comment : Option (List ℕ)) → comment_fits ap
 comment_wider apart None h = refl
 comment_wider apart (Some text) h = (and_parts _ _ h).1
 
-line_wider : (bol : Bool) (e : LineEnd) (behind : List ℕ) → comment_line_fits bol e behind ≡ true → comment_line_fits true e behind ≡ true
+pub line_wider : (bol : Bool) (e : LineEnd) (behind : List ℕ) → comment_line_fits bol e behind ≡ true → comment_line_fits true e behind ≡ true
 line_wider bol e behind h =
     let l : LineParts bol e behind = line_parts bol e behind h in
     and_from _ _ l.some (and_from _ _ (and_from _ _ l.blank_white (comment_wider _ e.comment l.comment_fit)) l.stop_fit)

@@ -28,5 +28,6 @@ pub mod WholeScalars
 pub mod QuotedSteps
 pub mod BlockScalarFacts
 pub mod OneLine
+pub mod StandingNodes
 pub mod NestedStreams
 pub mod CanonicalForms

@@ -1,10 +1,12 @@
 //! Laws of block nodes (YAML 1.2.2, 8.2).
 
 ghost use Rattle.std.specs.Prelude.{◌≡◌, ℕ, suc, ◌+◌, ◌==◌, nat_le, Bool, true, false, ◌&&◌, if◌then◌else◌, List, ◌++◌, Some, None};
+ghost use Rattle.std.proofs.Math.Logic.{◌⊎◌};
 ghost use Rattle.yaml_grammar.specs.BlockScalars.{spaces_before, past_spaces};
 ghost use Rattle.yaml_grammar.specs.BlockNodes.{Node, compact_items, compact_pairs, node_text};
 ghost use Rattle.yaml_recognizers.specs.CanonicalBlockNodes.{canonical_node};
 ghost use Rattle.yaml_recognizers.specs.Ends.{ended};
+ghost use Rattle.yaml_recognizers.specs.StandingNodes.{BlockNodeStands, SameBlockNode, NoBlockNode};
 ghost use Rattle.yaml_recognizers.specs.Comments.{all_comments};
 ghost use Rattle.yaml_recognizers.specs.BlockScalars.{read_block};
 ghost use Rattle.yaml_recognizers.specs.Signs.{dash, question};
@@ -30,6 +32,18 @@ pub fn block_node_once()
     ensures { (one other : Node) (m : ℕ) (shallow bol : Bool) (rest behind : List ℕ) → node_text one ++ rest ≡ node_text other ++ behind
         → canonical_node one m shallow bol rest ≡ true → canonical_node other m shallow bol behind ≡ true → ended m shallow rest ≡ true
         → ended m shallow behind ≡ true → (one ≡ other) × (rest ≡ behind) }
+{}
+
+/// For each block node that stands at the front of a text, in whatever form, one that means the same is found. What is left is what
+/// stands behind the lines of comments behind the node, or these lines too: those behind a block scalar that can't have them.
+/// All that stand there mean the same, and have the same behind the lines of comments behind them. Where none is found none stands.
+pub fn block_node_stands()
+    ensures found { (m : ℕ) (shallow bol : Bool) (text : List ℕ) (node : Node) (rest : List ℕ) (stands : BlockNodeStands m shallow bol text node rest)
+        → (found : Node) × (left : List ℕ) × (block_node_at m shallow bol text ≡ Some (found, left)) × SameBlockNode found node
+        × ((left ≡ stands.behind.behind) ⊎ (left ≡ rest)) }
+    ensures once { (m : ℕ) (shallow bol : Bool) (text : List ℕ) (one other : Node) (rest behind : List ℕ) (stands : BlockNodeStands m shallow bol text one rest)
+        (too : BlockNodeStands m shallow bol text other behind) → SameBlockNode one other × (stands.behind.behind ≡ too.behind.behind) }
+    ensures missing { (m : ℕ) (shallow bol : Bool) (text : List ℕ) → block_node_at m shallow bol text ≡ None → NoBlockNode m shallow bol text }
 {}
 
 /// What the recognizers of block nodes and their parts find, said by one another: how deep they go is no matter.

@@ -14,6 +14,7 @@ ghost use Rattle.yaml_recognizers.specs.FlowScalars.{read_scalar};
 ghost use Rattle.yaml_recognizers.specs.OneLine.{widens, on_one_line};
 ghost use Rattle.yaml_recognizers.specs.Signs.{open_bracket, close_bracket, open_brace, close_brace};
 ghost use Rattle.yaml_recognizers.specs.Fronts.{past};
+ghost use Rattle.yaml_recognizers.specs.StandingNodes.{FlowNodeStands, SameFlowNode, IsFlowNode, NoFlowNode};
 ghost use Rattle.yaml_recognizers.specs.Reading.{on};
 ghost use Rattle.yaml_recognizers.specs.FlowNodes.{in_brackets, next_entry, is_asked, asked_entry, keyed_entry, made, some_value, read_flow};
 ghost use Rattle.yaml_recognizers.specs.Recognizers.{flow_node_at, flow_entries_at, flow_entry_at, flow_value_at, flow_node_stops, StandsFlow, block_key_in, IsBlockKey};
@@ -44,6 +45,16 @@ pub fn flow_node_once()
 /// Where no flow node is found none stands.
 pub fn flow_node_missing()
     ensures { (n : ℕ) (c : FlowContext) (bol : Bool) (text : List ℕ) (f : Flow) (rest : List ℕ) → flow_node_at n c bol text ≡ None → StandsFlow n c bol text f rest → ⊥ }
+{}
+
+/// The flow nodes that stand at the front of a text, in whatever form, are decided. For each there is found one with the same text
+/// and meaning and the same rest. What is found stands there, and is the only one but for its form. Where none is found none stands.
+pub fn flow_node_stands()
+    ensures found { (n : ℕ) (c : FlowContext) (bol : Bool) (text : List ℕ) (f : Flow) (rest : List ℕ) → FlowNodeStands n c bol text f rest
+        → (found : Flow) × (flow_node_at n c bol text ≡ Some (found, rest)) × SameFlowNode found f }
+    ensures only { (n : ℕ) (c : FlowContext) (bol : Bool) (text : List ℕ) (f : Flow) (rest : List ℕ) → flow_node_at n c bol text ≡ Some (f, rest)
+        → IsFlowNode n c bol text f rest }
+    ensures missing { (n : ℕ) (c : FlowContext) (bol : Bool) (text : List ℕ) → flow_node_at n c bol text ≡ None → NoFlowNode n c bol text }
 {}
 
 /// With any depth that is enough for the text, the recognizer of flow nodes finds the same.

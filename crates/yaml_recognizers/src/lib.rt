@@ -8,6 +8,9 @@
 //! have it. Flow scalars have no comments, and the laws about them are about all their presentations. What ends a part is said in
 //! `specs/Ends`; a block scalar and a stream end by themselves.
 //!
+//! Nodes in whatever form, canonical or not, are spoken of by `flow_node_stands` and `block_node_stands`: what is found where one stands
+//! means the same, and where none is found none stands. That what stands behind a document ends its node says `document_node_ends`.
+//!
 //! What they come to stands in `texts`: all presentations of a text, in whatever form, mean the same, and the recognizer of streams
 //! decides whether a text has one, and finds what it means.
 #![tactic(auto)]

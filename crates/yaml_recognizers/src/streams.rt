@@ -1,10 +1,11 @@
 //! Laws of streams (YAML 1.2.2, 6.8 and 9).
 
-ghost use Rattle.std.specs.Prelude.{◌≡◌, ℕ, Bool, true, false, if◌then◌else◌, drop, List, [], Some, None};
+ghost use Rattle.std.specs.Prelude.{◌≡◌, ℕ, Bool, true, false, if◌then◌else◌, drop, List, [], ◌++◌, Some, None};
 ghost use Rattle.yaml_grammar.specs.Texts.{is_empty, first, starts_line};
-ghost use Rattle.yaml_grammar.specs.Streams.{meant};
+ghost use Rattle.yaml_grammar.specs.Streams.{Part, Stream, parts_text, fits, meant};
 ghost use Rattle.yaml_grammar.specs.Reads.{Presents, CanRead};
 ghost use Rattle.yaml_recognizers.specs.CanonicalStreams.{piece_text, opens, FlatStream, flat_text, canonical_stream, flat_meant};
+ghost use Rattle.yaml_recognizers.specs.StandingNodes.{EndsNode};
 ghost use Rattle.yaml_recognizers.specs.NestedStreams.{nested};
 ghost use Rattle.yaml_recognizers.specs.Recognizers.{piece_at, pieces_at, stream_at};
 ghost use Rattle.yaml_recognizers.specs.Streams.{order_mark, more_pieces, with_mark};
@@ -46,4 +47,10 @@ pub fn stream_presents()
 /// A text in which a stream is found can be read as what that stream means.
 pub fn stream_can_be_read()
     ensures { (text : List ℕ) (stream : FlatStream) → stream_at text ≡ Some stream → CanRead text (flat_meant stream) }
+{}
+
+/// In a stream that fits, what stands behind its first document, or behind any of its parts, ends the node of a document: lines of
+/// white or comments, and then the end of the text or a marker.
+pub fn document_node_ends()
+    ensures { (stream : Stream) (before behind : List Part) → fits stream ≡ true → stream.parts ≡ before ++ behind → EndsNode 0 false (parts_text behind) }
 {}

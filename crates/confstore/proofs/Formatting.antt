@@ -1,0 +1,61 @@
+-- What a text that was read and one that was written say of the reader and the writer.
+use Rattle.std.proofs.Common.{◌≡◌, refl, sym, ◌∙◌, ap, subst, arith, ◌<◌, ◌≤◌, length}
+use Rattle.std.specs.Prelude.{ℕ, List, ◌++◌, Option, Some, None, encode_utf8_all}
+use Rattle.std.specs.Io.KnownBytes.{Keeps, Appends}
+use Rattle.std.specs.Str.{chars, IsUtf8}
+use Rattle.std.proofs.lemmas.Str.{encodes-chars}
+use Rattle.yaml_grammar.specs.Style.{style_text}
+use Rattle.yaml_grammar.specs.Trees.{Tree}
+use Rattle.yaml_tree.specs.Reading.{IsRead, Refuses}
+use Rattle.yaml_tree.specs.declared.fault.ReadFault.{ReadFault}
+use Rattle.yaml_tree.specs.declared.fault.ReadFault.TheVariants.{TooLong, NotUtf8, Syntax, Documents, KeyNotText, KeyTwice, TooDeep, LargeInStyle, OutOfMemory}
+use Rattle.yaml_tree.proofs.ByteLemmas.{byte_len-chars}
+use Rattle.confstore.specs.declared.tools.ToolFault.TheVariants.{Read}
+use Rattle.confstore.specs.Tools.{configuration, HasRead, Formats, RefusesInput, StopsInOutput, Stops}
+
+keeps_itself : (held : Option (List ℕ)) → Keeps held held
+keeps_itself None = tt
+keeps_itself (Some bytes) = refl
+
+refused_input : (given left held : Option (List ℕ)) (bytes : List ℕ) (fault : ReadFault) → HasRead given left bytes 1048577 → Refuses bytes configuration fault
+    → RefusesInput given left held held fault
+refused_input given left held bytes fault read refuses = record { bytes = bytes; read = read; refuses = refuses; keeps = keeps_itself held }
+
+pub refused : (given left held : Option (List ℕ)) (bytes : List ℕ) (fault : ReadFault) → HasRead given left bytes 1048577 → Refuses bytes configuration fault
+    → Stops given left held held (Read fault)
+refused given left held bytes TooLong read refuses = refused_input given left held bytes _ read refuses
+refused given left held bytes (NotUtf8 at) read refuses = refused_input given left held bytes _ read refuses
+refused given left held bytes (Syntax line column why) read refuses = refused_input given left held bytes _ read refuses
+refused given left held bytes (Documents count) read refuses = refused_input given left held bytes _ read refuses
+refused given left held bytes KeyNotText read refuses = refused_input given left held bytes _ read refuses
+refused given left held bytes KeyTwice read refuses = refused_input given left held bytes _ read refuses
+refused given left held bytes TooDeep read refuses = refused_input given left held bytes _ read refuses
+refused given left held bytes LargeInStyle read refuses = refused_input given left held bytes _ read refuses
+refused given left held bytes OutOfMemory read refuses = keeps_itself held
+
+-- what is read as a tree is short, so the reader's end was reached
+short : (bytes : List ℕ) (t : Tree) → IsRead bytes configuration t → length bytes < 1048577
+short bytes t is_read = omega (arith, is_read.gives.short, byte_len-chars bytes is_read.utf8)
+
+pub stopped : (given left : Option (List ℕ)) (bytes : List ℕ) (t : Tree) → HasRead given left bytes 1048577 → IsRead bytes configuration t → StopsInOutput given left
+stopped given left bytes t read is_read =
+    record { bytes = bytes; tree = t; taken = read.taken; at_end = read.at_end (short bytes t is_read); reads = is_read }
+
+then_kept : (held written flushed : Option (List ℕ)) (text : List ℕ) → Appends held written text → Keeps written flushed → Appends held flushed text
+then_kept None written flushed text a k = tt
+then_kept (Some xs) None flushed text a k = absurd a
+then_kept (Some xs) (Some ys) None text a k = absurd k
+then_kept (Some xs) (Some ys) (Some zs) text a k = k ∙ a
+
+pub formatted : (given left held written flushed : Option (List ℕ)) (bytes text : List ℕ) (t : Tree) → HasRead given left bytes 1048577 → IsRead bytes configuration t
+    → IsUtf8 text → chars text ≡ style_text t → Appends held written text → Keeps written flushed → Formats given left held flushed
+formatted given left held written flushed bytes text t read is_read utf8 style appends keeps =
+    let spelled : encode_utf8_all (style_text t) ≡ text = ap encode_utf8_all (sym style) ∙ encodes-chars text utf8 in
+    record {
+      bytes = bytes;
+      tree = t;
+      taken = read.taken;
+      at_end = read.at_end (short bytes t is_read);
+      reads = is_read;
+      writes = subst (λ xs. Appends held flushed xs) (sym spelled) (then_kept held written flushed text appends keeps);
+    }

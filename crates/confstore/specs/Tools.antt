@@ -1,0 +1,51 @@
+-- What a tool has read from its reader, and what it has written to its writer. Each knows its bytes, or says nothing of them.
+use Rattle.std.specs.Prelude.{◌≡◌, ℕ, ◌<◌, ◌≤◌, List, Option, length, encode_utf8_all}
+use Rattle.std.specs.Io.KnownBytes.{Consumes, IsAtEnd, Keeps, Appends}
+use Rattle.yaml_grammar.specs.Reads.{Limits}
+use Rattle.yaml_grammar.specs.Style.{style_text}
+use Rattle.yaml_grammar.specs.Trees.{Tree}
+use Rattle.yaml_tree.specs.Reading.{IsRead, Refuses}
+use Rattle.yaml_tree.specs.declared.fault.ReadFault.{ReadFault}
+use Rattle.confstore.specs.declared.tools.ToolFault.{ToolFault}
+use Rattle.confstore.specs.declared.tools.ToolFault.TheVariants.{Input, Output, Read}
+
+-- the limits of a configuration
+abbrev pub configuration : Limits
+configuration = record { bytes = 1048576; depth = 64; style = 1048576 }
+
+-- the bytes that the reader gave up to its end, or the first `most` of them
+pub record HasRead (given left : Option (List ℕ)) (bytes : List ℕ) (most : ℕ) : Type 0 where
+  pub taken : Consumes given left bytes
+  pub within : length bytes ≤ most
+  pub at_end : length bytes < most → IsAtEnd left
+
+-- the reader's bytes, to its end, give a tree, and its text in the one style was written
+pub record Formats (given left held written : Option (List ℕ)) : Type 0 where
+  pub bytes : List ℕ
+  pub tree : Tree
+  pub taken : Consumes given left bytes
+  pub at_end : IsAtEnd left
+  pub reads : IsRead bytes configuration tree
+  pub writes : Appends held written (encode_utf8_all (style_text tree))
+
+-- the bytes that were read are refused, and nothing was written
+pub record RefusesInput (given left held written : Option (List ℕ)) (fault : ReadFault) : Type 0 where
+  pub bytes : List ℕ
+  pub read : HasRead given left bytes 1048577
+  pub refuses : Refuses bytes configuration fault
+  pub keeps : Keeps held written
+
+-- the reader's bytes give a tree, whose text could not be written whole
+pub record StopsInOutput (given left : Option (List ℕ)) : Type 0 where
+  pub bytes : List ℕ
+  pub tree : Tree
+  pub taken : Consumes given left bytes
+  pub at_end : IsAtEnd left
+  pub reads : IsRead bytes configuration tree
+
+-- what holds where a tool stops; want of memory may come before all is read
+abbrev pub Stops : Option (List ℕ) → Option (List ℕ) → Option (List ℕ) → Option (List ℕ) → ToolFault → Type 0
+Stops given left held written Input = Keeps held written
+Stops given left held written Output = StopsInOutput given left
+Stops given left held written (Read ReadFault.OutOfMemory) = Keeps held written
+Stops given left held written (Read fault) = RefusesInput given left held written fault

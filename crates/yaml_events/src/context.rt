@@ -1,0 +1,24 @@
+// In what place a node stands.
+
+/// Where a flow node stands (YAML 1.2.2, 7.1): it says which characters end a plain scalar, and whether the node may run
+/// over lines.
+#[derive(Clone, Copy, Debug, PartialEq, Eq)]
+pub enum FlowContext {
+    /// Outside of brackets (`flow-out`).
+    Outer,
+    /// Between brackets (`flow-in`).
+    Inner,
+    /// A key of a block mapping, on one line (`block-key`).
+    BlockKey,
+    /// A key of a flow mapping, on one line (`flow-key`).
+    FlowKey,
+}
+
+/// Where a block node stands (YAML 1.2.2, 8.2): it says how far a sequence in it is indented at least.
+#[derive(Clone, Copy, Debug, PartialEq, Eq)]
+pub enum BlockContext {
+    /// In a sequence, or at a document's top (`block-in`).
+    Bin,
+    /// In a mapping (`block-out`), where a sequence may stand as deep as its key.
+    Bout,
+}

@@ -1,0 +1,65 @@
+// Why a scanner stops.
+use thiserror::Error;
+
+/// Why no node stands where one is looked for. Which of them a text gets is no promise: it is there to help its writer.
+#[derive(Clone, Copy, Debug, PartialEq, Eq, Error)]
+pub enum Why {
+    /// The text may be right: it is not read yet.
+    #[error("NotYet")]
+    NotYet,
+    /// An alias (`*name`), which the profile leaves out.
+    #[error("Alias")]
+    Alias,
+    /// An anchor (`&name`), which the profile leaves out.
+    #[error("Anchor")]
+    Anchor,
+    /// A tag (`!name`), which the profile leaves out.
+    #[error("Tag")]
+    Tag,
+    /// A directive other than `%YAML 1.1` and `%YAML 1.2`, or one in a wrong place.
+    #[error("Directive")]
+    Directive,
+    /// A value without a key, which the profile leaves out.
+    #[error("OmittedKey")]
+    OmittedKey,
+    /// A byte order mark that is not at the text's start.
+    #[error("ByteOrderMark")]
+    ByteOrderMark,
+    /// A character that may not stand there.
+    #[error("Character")]
+    Character,
+    /// An escape that there is not.
+    #[error("Escape")]
+    Escape,
+    /// A line that has too few or too many spaces.
+    #[error("Indent")]
+    Indent,
+    /// A quote that is not closed.
+    #[error("Quote")]
+    Quote,
+    /// A flow collection that is not closed, or an entry that is none.
+    #[error("Flow")]
+    Flow,
+    /// A key that is too long or runs over lines, or a second one on its line.
+    #[error("Key")]
+    Key,
+    /// A block scalar's header that is none.
+    #[error("BlockHeader")]
+    BlockHeader,
+    /// A document's mark inside a node.
+    #[error("Marker")]
+    Marker,
+    #[error("Other")]
+    Other,
+}
+
+/// Why a scanner answers nothing.
+#[derive(Clone, Copy, Debug, PartialEq, Eq, Error)]
+pub enum ScanFault {
+    /// No node stands there; `at` is a byte of the text, counted from 0.
+    #[error("At {at} {why}")]
+    At { at: usize, why: Why },
+    /// There was no memory for a value.
+    #[error("OutOfMemory")]
+    OutOfMemory,
+}

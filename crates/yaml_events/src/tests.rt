@@ -1,0 +1,57 @@
+// The list's calls, once each.
+use super::*;
+use std::borrow::CowStr;
+use std::test::Fail;
+
+fn scalar(value: &str) -> Event<'_> {
+    Event::Scalar {
+        style: Style::Plain,
+        span: Span {
+            start: 0,
+            end: value.len(),
+        },
+        value: CowStr::Borrowed(value),
+    }
+}
+
+fn is_scalar(event: &Event<'_>, text: &str) -> bool {
+    match event {
+        Event::Scalar { value, .. } => value.as_str() == text,
+        _ => false,
+    }
+}
+
+#[test]
+fn events_in_order(rt: HostRuntime) -> Result<(), Fail> {
+    let mut events = Events::new(rt.alloc());
+    assert_eq!(rt; events.as_slice().len(), 0);
+    events.push(Event::DocStart)?;
+    events.push(scalar("b"))?;
+    let len = events.as_slice().len();
+    assert_eq!(rt; len, 2);
+    events.insert(1, scalar("a"))?;
+    match events.as_slice() {
+        [Event::DocStart, first, second] => {
+            assert!(rt; is_scalar(first, "a"));
+            assert!(rt; is_scalar(second, "b"));
+        }
+        _ => assert!(rt; false, "three events"),
+    }
+    events.truncate(1);
+    match events.as_slice() {
+        [Event::DocStart] => {}
+        _ => assert!(rt; false, "one event"),
+    }
+    Ok(())
+}
+
+#[test]
+fn faults_by_name(rt: HostRuntime) -> Result<(), Fail> {
+    let fault = ScanFault::At {
+        at: 3,
+        why: Why::Indent,
+    };
+    let text = format!(in rt.alloc(); "{fault}")?;
+    assert_eq!(rt; text.as_str(), "At 3 Indent");
+    Ok(())
+}

@@ -1,0 +1,16 @@
+pub mod ByteLemmas
+pub mod KeyLemmas
+pub mod LengthLemmas
+pub mod LiteralLemmas
+pub mod QuotedLemmas
+pub mod ScalarLemmas
+pub mod SeenLemmas
+pub mod StyleLemmas
+pub mod TextLemmas
+pub mod TextsLemmas
+pub mod WalkLemmas
+pub mod KnownWords
+pub mod KnownPresented
+pub mod KnownSlices
+pub mod KnownReadSoFar
+pub mod KnownReads

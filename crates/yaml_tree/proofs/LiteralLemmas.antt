@@ -1,0 +1,65 @@
+-- A literal's lines, cut at its line feeds.
+use Rattle.std.proofs.Common.{◌≡◌, ℕ, ◌+◌, ◌<◌, true, false, ◌==◌, List, [], ◌∷◌, ◌++◌, length, length-append, get_or, take, drop, codes, IsUtf8, refl, sym, ap, ◌∙◌, subst, append_assoc, arith}
+use Rattle.std.proofs.Math.Seq.{take-append_seam, drop-append-add, get_or-append_seam}
+use Rattle.std.proofs.lemmas.Str.{IsUtf8-take, IsUtf8-drop, IsCharBoundary-before_ascii, IsCharBoundary-after_ascii, chars_from_encodes, chars-append}
+use Rattle.std.specs.Str.{chars, NoCharPasses, NonePass}
+use Rattle.yaml_grammar.specs.Texts.{spaces}
+use Rattle.yaml_grammar.specs.Style.{literal_lines}
+use Rattle.yaml_tree.specs.Lines.{line_text}
+
+-- no line feed in it
+abbrev pub IsOneLine : List ℕ → Type 0
+IsOneLine cs = NonePass (λ d. d == 10) cs
+
+within_line : (j : ℕ) (xs ys : List ℕ) → IsOneLine xs → literal_lines j false (xs ++ 10 ∷ ys) ≡ xs ++ 10 ∷ literal_lines j true ys
+within_line j [] ys one = refl
+within_line j (x ∷ xs) ys one = rw one.0 (ap (λ cs. x ∷ cs) (within_line j xs ys one.1))
+
+within_last : (j : ℕ) (xs : List ℕ) → IsOneLine xs → literal_lines j false xs ≡ xs ++ codes "\n"
+within_last j [] one = refl
+within_last j (x ∷ xs) one = rw one.0 (ap (λ cs. x ∷ cs) (within_last j xs one.1))
+
+-- a line and what stands behind it
+pub literal_line : (j : ℕ) (xs ys : List ℕ) → IsOneLine xs → line_text j xs ++ literal_lines j true ys ≡ literal_lines j true (xs ++ 10 ∷ ys)
+literal_line j [] ys one = refl
+literal_line j (x ∷ xs) ys one =
+    rw one.0 (simp append_assoc (ap (λ cs. spaces j ++ x ∷ cs) (sym (within_line j xs ys one.1))))
+
+-- the last line, which no line feed ends
+pub literal_last : (j : ℕ) (xs : List ℕ) → IsOneLine xs → (length xs ≡ 0 → ⊥) → line_text j xs ≡ literal_lines j true xs
+literal_last j [] one some = absurd (some refl)
+literal_last j (x ∷ xs) one some =
+    rw one.0 (simp append_assoc (ap (λ cs. spaces j ++ x ∷ cs) (sym (within_last j xs one.1))))
+
+-- ---- the same of bytes
+
+pub line_IsUtf8 : (bs front behind : List ℕ) → IsUtf8 bs → bs ≡ front ++ 10 ∷ behind → IsUtf8 front
+line_IsUtf8 bs front behind utf8 e =
+    let within : length front < length bs = omega (arith, ap length e, length-append front (10 ∷ behind)) in
+    let feed : get_or bs (length front) 0 ≡ 10 = rw e (get_or-append_seam front 10 behind 0) in
+    subst IsUtf8 (ap (take (length front)) e ∙ take-append_seam front (10 ∷ behind))
+    (IsUtf8-take bs (length front) utf8 (IsCharBoundary-before_ascii bs (length front) within (omega (arith, feed))))
+
+pub chars-feed : (bs : List ℕ) → chars (10 ∷ bs) ≡ 10 ∷ chars bs
+unfolding chars
+chars-feed [] = refl
+chars-feed (b ∷ bs) = refl
+
+pub line_is_one : (bs : List ℕ) → IsUtf8 bs → NoCharPasses (λ d. d == 10) bs → IsOneLine (chars bs)
+line_is_one bs utf8 none = subst IsOneLine (chars_from_encodes none.0 bs utf8 none.1) none.2
+
+pub chars-lines : (bs front behind : List ℕ) → IsUtf8 bs → bs ≡ front ++ 10 ∷ behind → chars bs ≡ chars front ++ 10 ∷ chars behind
+chars-lines bs front behind utf8 e =
+    ap chars e ∙ chars-append front (10 ∷ behind) (line_IsUtf8 bs front behind utf8 e)
+    ∙ ap (λ cs. chars front ++ cs) (chars-feed behind)
+
+pub line_filled : (j : ℕ) (cs : List ℕ) → (length cs ≡ 0 → ⊥) → spaces j ++ cs ++ codes "\n" ≡ line_text j cs
+line_filled j [] some = absurd (some refl)
+line_filled j (c ∷ cs) some = refl
+
+pub behind_IsUtf8 : (bs front behind : List ℕ) → IsUtf8 bs → bs ≡ front ++ 10 ∷ behind → IsUtf8 behind
+behind_IsUtf8 bs front behind utf8 e =
+    let within : length front < length bs = omega (arith, ap length e, length-append front (10 ∷ behind)) in
+    let feed : get_or bs (length front) 0 ≡ 10 = rw e (get_or-append_seam front 10 behind 0) in
+    let cut = IsUtf8-drop bs (length front + 1) utf8 (IsCharBoundary-after_ascii bs (length front) utf8 within (omega (arith, feed))) in
+    subst IsUtf8 (ap (drop (length front + 1)) e ∙ drop-append-add front (10 ∷ behind) 1) cut

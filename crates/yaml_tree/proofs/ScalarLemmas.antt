@@ -1,0 +1,77 @@
+-- The tests by which a scalar's style is chosen.
+use Rattle.std.proofs.Common.{◌≡◌, ℕ, suc, ◌+◌, ◌<◌, Bool, true, false, ◌==◌, if◌then◌else◌, List, [], ◌∷◌, ◌++◌, length, length-append, get_or, take, map, IsUtf8, encode_utf8_all, refl, sym, ap, ap₂, ◌∙◌, subst, lit<, arith}
+use Rattle.std.proofs.Math.Seq.{take-append_seam, get_or-append_seam}
+use Rattle.std.proofs.lemmas.Bool.{and_parts, eqb-true}
+use Rattle.std.proofs.lemmas.Bool.Decides.{nat_tests}
+use Rattle.std.proofs.lemmas.Str.{encode_ascii, chars-append, encodes-chars, encodes-append, IsUtf8-take, IsCharBoundary-before_ascii}
+use Rattle.std.specs.Char.{to_ascii_lowercase}
+use Rattle.std.specs.Str.{chars}
+use Rattle.yaml_chars.specs.Classes.{between}
+use Rattle.yaml_grammar.specs.Texts.{every}
+use Rattle.yaml_grammar.specs.Style.{word_char, lower, feeds_at_end}
+use Rattle.yaml_tree.proofs.TextLemmas.{every-push}
+
+pub word_char-below : (c : ℕ) → word_char c ≡ true → c < 128
+word_char-below c e = grind (arith, nat_tests)
+
+same_lower : (c : ℕ) → to_ascii_lowercase c ≡ (if between 65 90 c then c + 32 else c)
+same_lower c = grind (arith, nat_tests)
+
+pub map-lower : (cs : List ℕ) → map to_ascii_lowercase cs ≡ lower cs
+map-lower [] = refl
+map-lower (c ∷ cs) = ap₂ (λ d ds. d ∷ ds) (same_lower c) (map-lower cs)
+
+-- ---- line feeds at the end
+
+abbrev is_feed : ℕ → Bool
+is_feed c = c == 10
+
+-- one more at the end
+pub feeds_at_end-feed : (xs : List ℕ) → feeds_at_end (xs ++ 10 ∷ []) ≡ suc (feeds_at_end xs)
+feeds_at_end-feed [] = refl
+feeds_at_end-feed (x ∷ xs) =
+    rw (every-push is_feed (x ∷ xs) 10 refl)
+    (if-suc (every is_feed (x ∷ xs)) _ _ _ _ (ap suc (omega (arith, length-append xs (10 ∷ [])))) (feeds_at_end-feed xs))
+  where
+    if-suc : (b : Bool) (m n p q : ℕ) → m ≡ suc p → n ≡ suc q → (if b then m else n) ≡ suc (if b then p else q)
+    if-suc true m n p q e f = e
+    if-suc false m n p q e f = f
+
+ends_in_feed : (x : ℕ) (xs : List ℕ) → every is_feed (x ∷ xs) ≡ true → (front : List ℕ) × (x ∷ xs ≡ front ++ 10 ∷ [])
+ends_in_feed x [] e = ([], ap (λ d. d ∷ []) (eqb-true x 10 (and_parts (x == 10) true e).0))
+ends_in_feed x (y ∷ ys) e =
+    let behind = ends_in_feed y ys (and_parts (x == 10) (every is_feed (y ∷ ys)) e).1 in
+    (x ∷ behind.0, ap (λ zs. x ∷ zs) behind.1)
+
+-- none where the text doesn't end in one
+pub feeds_at_end-none : (xs : List ℕ) → ((front : List ℕ) → xs ≡ front ++ 10 ∷ [] → ⊥) → feeds_at_end xs ≡ 0
+feeds_at_end-none [] none = refl
+feeds_at_end-none (x ∷ xs) none =
+    if-zero (every is_feed (x ∷ xs)) _ _
+    (λ e. let ends = ends_in_feed x xs e in none ends.0 ends.1)
+    (feeds_at_end-none xs (λ front e. none (x ∷ front) (ap (λ zs. x ∷ zs) e)))
+  where
+    if-zero : (b : Bool) (m n : ℕ) → (b ≡ true → ⊥) → n ≡ 0 → (if b then m else n) ≡ 0
+    if-zero true m n never e = absurd (never refl)
+    if-zero false m n never e = e
+
+-- the same of a text's bytes
+pub no_feed_at_end : (bs : List ℕ) → IsUtf8 bs → ((front : List ℕ) → bs ≡ front ++ 10 ∷ [] → ⊥) → feeds_at_end (chars bs) ≡ 0
+no_feed_at_end bs utf8 none =
+    feeds_at_end-none (chars bs)
+    (λ front e. none (encode_utf8_all front) (sym (encodes-chars bs utf8) ∙ ap encode_utf8_all e ∙ encodes-append front (10 ∷ [])
+    ∙ ap (λ bytes. encode_utf8_all front ++ (bytes ++ [])) (encode_ascii 10 (lit< tt))))
+
+pub front_IsUtf8 : (bs front : List ℕ) → IsUtf8 bs → bs ≡ front ++ 10 ∷ [] → IsUtf8 front
+front_IsUtf8 bs front utf8 e =
+    let within : length front < length bs = omega (arith, ap length e, length-append front (10 ∷ [])) in
+    let feed : get_or bs (length front) 0 ≡ 10 = rw e (get_or-append_seam front 10 [] 0) in
+    subst IsUtf8 (ap (take (length front)) e ∙ take-append_seam front (10 ∷ []))
+    (IsUtf8-take bs (length front) utf8 (IsCharBoundary-before_ascii bs (length front) within (omega (arith, feed))))
+
+pub feed_at_end : (bs front : List ℕ) → IsUtf8 bs → bs ≡ front ++ 10 ∷ [] → feeds_at_end (chars bs) ≡ suc (feeds_at_end (chars front))
+unfolding chars
+feed_at_end bs front utf8 e =
+    ap (λ xs. feeds_at_end (chars xs)) e
+    ∙ ap feeds_at_end (chars-append front (10 ∷ []) (front_IsUtf8 bs front utf8 e))
+    ∙ feeds_at_end-feed (chars front)

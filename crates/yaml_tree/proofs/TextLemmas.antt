@@ -1,0 +1,73 @@
+-- Tests of a text's characters, and texts that are ASCII.
+use Rattle.std.proofs.Common.{◌≡◌, ℕ, zero, suc, ◌<◌, Bool, true, ◌&&◌, ◌||◌, ◌==◌, List, [], ◌∷◌, ◌++◌, length, drop, encode_utf8, encode_utf8_all, IsUtf8, IsAscii, zero-add, subst, refl, sym, ap, ap₂, ◌∙◌, arith}
+use Rattle.std.proofs.lemmas.Bool.{and_parts, and_from, eqb-true, eq-eqb}
+use Rattle.std.proofs.lemmas.Bool.Decides.{nat_tests}
+use Rattle.std.proofs.lemmas.Str.{chars-nil, encodes-chars, encodes-IsAscii, IsCharBoundary-past_char, drop_past_char}
+use Rattle.std.specs.Char.{len_utf8}
+use Rattle.std.specs.Bool.{Decides}
+use Rattle.std.specs.List.{list_all, list_any}
+use Rattle.std.specs.Str.{chars, IsCharBoundary}
+use Rattle.yaml_chars.specs.Classes.{is_in}
+use Rattle.yaml_grammar.specs.Texts.{every, same_text}
+
+pub list_all-every : (p : ℕ → Bool) (xs : List ℕ) → list_all p xs ≡ every p xs
+list_all-every p [] = refl
+list_all-every p (x ∷ xs) = ap (λ b. p x && b) (list_all-every p xs)
+
+-- one character more at the end, which passes
+pub every-push : (p : ℕ → Bool) (xs : List ℕ) (d : ℕ) → p d ≡ true → every p (xs ++ d ∷ []) ≡ every p xs
+every-push p [] d e = rw e refl
+every-push p (x ∷ xs) d e = ap (λ b. p x && b) (every-push p xs d e)
+
+same_either_way : (a b : ℕ) → (a == b) ≡ (b == a)
+same_either_way a b = grind (arith, nat_tests)
+
+pub list_any-is_in : (c : ℕ) (xs : List ℕ) → list_any (λ d. d == c) xs ≡ is_in c xs
+list_any-is_in c [] = refl
+list_any-is_in c (x ∷ xs) = ap₂ (λ a b. a || b) (same_either_way x c) (list_any-is_in c xs)
+
+-- `same_text` is equality
+pub same_text-true : (xs ys : List ℕ) → same_text xs ys ≡ true → xs ≡ ys
+same_text-true [] [] e = refl
+same_text-true [] (y ∷ ys) e = cc
+same_text-true (x ∷ xs) [] e = cc
+same_text-true (x ∷ xs) (y ∷ ys) e =
+    let parts = and_parts (x == y) (same_text xs ys) e in
+    ap₂ (λ z zs. z ∷ zs) (eqb-true x y parts.0) (same_text-true xs ys parts.1)
+
+pub same_text-self : (xs : List ℕ) → same_text xs xs ≡ true
+same_text-self [] = refl
+same_text-self (x ∷ xs) = and_from (x == x) (same_text xs xs) (eq-eqb x x refl) (same_text-self xs)
+
+pub same_text-Decides : (xs ys : List ℕ) → Decides (same_text xs ys) (xs ≡ ys)
+same_text-Decides xs ys = (same_text-true xs ys, λ e. rw e (same_text-self ys))
+
+-- a text all of whose characters pass a test that ASCII alone passes
+pub every-IsAscii : (p : ℕ → Bool) → ((c : ℕ) → p c ≡ true → c < 128) → (cs : List ℕ) → every p cs ≡ true → IsAscii cs
+every-IsAscii p below [] e i = omega arith
+every-IsAscii p below (c ∷ cs) e zero = below c (and_parts (p c) (every p cs) e).0
+every-IsAscii p below (c ∷ cs) e (suc i) = every-IsAscii p below cs (and_parts (p c) (every p cs) e).1 i
+
+pub chars-same : (bs : List ℕ) → IsUtf8 bs → IsAscii (chars bs) → chars bs ≡ bs
+chars-same bs utf8 ascii = sym (encodes-IsAscii (chars bs) ascii) ∙ encodes-chars bs utf8
+
+-- a text behind its first character
+pub boundary_past_char : (bs rest : List ℕ) (c : ℕ) → IsUtf8 bs → bs ≡ encode_utf8 c ++ rest → IsCharBoundary bs (len_utf8 c)
+boundary_past_char bs rest c utf8 e =
+    let at : ℕ → Type 0 = λ n. IsCharBoundary bs n in
+    subst at (zero-add (len_utf8 c)) (IsCharBoundary-past_char bs rest 0 c (omega arith) utf8 e)
+
+pub drop_char : (bs rest : List ℕ) (c : ℕ) → bs ≡ encode_utf8 c ++ rest → drop (len_utf8 c) bs ≡ rest
+drop_char bs rest c e = ap (λ n. drop n bs) (sym (zero-add (len_utf8 c))) ∙ drop_past_char bs rest 0 c e
+
+pub chars_empty : (bs : List ℕ) → length bs ≡ 0 → chars bs ≡ []
+chars_empty [] e = chars-nil
+chars_empty (b ∷ bs) e = absurd (omega arith)
+
+no_length : (xs : List ℕ) → length xs ≡ 0 → xs ≡ []
+no_length [] e = refl
+no_length (x ∷ xs) e = absurd (omega arith)
+
+pub chars_filled : (bs : List ℕ) → IsUtf8 bs → (length bs ≡ 0 → ⊥) → length (chars bs) ≡ 0 → ⊥
+chars_filled bs utf8 filled e =
+    filled (ap length (sym (encodes-chars bs utf8) ∙ ap encode_utf8_all (no_length (chars bs) e)))

@@ -1,0 +1,48 @@
+-- Each text of a tree is a text.
+use Rattle.std.proofs.Common.{◌≡◌, ℕ, ◌<◌, ◌≤◌, ◌⊎◌, true, List, [], ◌∷◌, map, Global, String, string_bytes, refl, sym, subst, arith}
+use Rattle.std.proofs.lemmas.Bool.{and_parts, and_from}
+use Rattle.std.proofs.lemmas.Bool.Decides.{nat_tests}
+use Rattle.std.proofs.lemmas.Str.{scalars-chars, IsUtf8-string_bytes}
+use Rattle.std.proofs.Math.Utf8.{scalar, scalars, scalar_cases}
+use Rattle.std.specs.Str.{chars}
+use Rattle.yaml_grammar.specs.Texts.{every, IsText}
+use Rattle.yaml_grammar.specs.Trees.{Tree as Seen, IsTextTree, AreTextElements, AreTextMembers}
+use Rattle.yaml_chars.specs.Classes.{code_point}
+use Rattle.yaml_tree.specs.Seen.{Pair, tree_of, level, elements_from, members_from}
+use Rattle.yaml_tree.specs.declared.tree.Tree.{Tree}
+use Rattle.yaml_tree.specs.declared.tree.Tree.TheFolds.{map-Tree, ind-Tree, fold-roll-Tree}
+use Rattle.yaml_tree.specs.declared.tree.Tree.TheOpen.{Tree-F}
+
+passes : (c : ℕ) → (c < 55296) ⊎ ((57344 ≤ c) × (c < 1114112)) → code_point c ≡ true
+passes c h = grind (arith, nat_tests)
+
+all_code_points : (cs : List ℕ) → scalars cs ≡ true → IsText cs
+all_code_points [] e = refl
+all_code_points (c ∷ cs) e =
+    let parts = and_parts (scalar c) (scalars cs) e in
+    and_from (code_point c) (every code_point cs) (passes c (scalar_cases c parts.0)) (all_code_points cs parts.1)
+
+pub chars-IsText : (s : String Global) → IsText (chars (string_bytes s))
+chars-IsText s = all_code_points (chars (string_bytes s)) (scalars-chars (string_bytes s) (IsUtf8-string_bytes s))
+
+-- a tree with the fact of it
+abbrev Told : Type 0
+Told = (t : Tree) × IsTextTree (tree_of t)
+
+elements_told : (es : List Told) → AreTextElements (elements_from (map tree_of (map (λ e. e.0) es)))
+elements_told [] = tt
+elements_told (e ∷ es) = (e.1, elements_told es)
+
+members_told : (ms : List (String Global × Told)) → AreTextMembers (members_from (map (λ (m : Pair). (m.0, tree_of m.1)) (map (λ (m : String Global × Told). (m.0, m.1.0)) ms)))
+members_told [] = tt
+members_told (m ∷ ms) = (chars-IsText m.0, m.1.1, members_told ms)
+
+of_level : (y : Tree-F Told) → IsTextTree (level (map-Tree Tree Seen tree_of (map-Tree Told Tree (λ e. e.0) y)))
+of_level (Tree-F.Text s) = chars-IsText s
+of_level (Tree-F.Seq items) = elements_told items.items
+of_level (Tree-F.Map pairs) = members_told pairs.items
+
+pub tree_of-IsTextTree : (t : Tree) → IsTextTree (tree_of t)
+tree_of-IsTextTree = ind-Tree (λ t. IsTextTree (tree_of t)) (λ x y is.
+    subst IsTextTree (sym (fold-roll-Tree Seen level x))
+    (subst (λ z. IsTextTree (level (map-Tree Tree Seen tree_of z))) is (of_level y)))

@@ -1,0 +1,19 @@
+use Rattle.std.proofs.Common.{rules, ◌∙◌}
+use Rattle.std.proofs.lemmas.Iterator.{YieldsList-from_chars}
+use Rattle.std.proofs.lemmas.Iterator.Search.{all_from_yields_List}
+use Rattle.std.specs.Str.{chars}
+use borrow.Author.Tests.{tests}
+use Rattle.yaml_grammar.specs.Style.{word_char}
+use Rattle.yaml_tree.proofs.TextLemmas.{list_all-every, every-IsAscii, chars-same}
+use Rattle.yaml_tree.proofs.ScalarLemmas.{word_char-below}
+use Rattle.yaml_tree.proofs.scalar.has_word_chars.Goals as goal
+
+pub returns-clause-word : goal.returns-clause-word
+returns-clause-word c =
+    all_from_yields_List word_char _ _ _ c.all.ensures.ran (YieldsList-from_chars c.args.text.now c.utf8.text c.chars.ensures.rest)
+    (λ x b q k. search (rules, tests)) ∙ list_all-every word_char (chars c.args.text.now)
+
+pub returns-clause-ascii : goal.returns-clause-ascii
+returns-clause-ascii c = λ all.
+    chars-same c.args.text.now c.utf8.text
+    (every-IsAscii word_char word_char-below (chars c.args.text.now) (rw (← returns-clause-word c) all))

@@ -1,0 +1,29 @@
+-- Which trees are within limits, and what is wrong with the others.
+use Rattle.std.specs.Prelude.{◌≡◌, ◌<◌, ◌≤◌, IsTrue, false}
+use Rattle.yaml_grammar.specs.Reads as grammar
+use Rattle.yaml_grammar.specs.Reads.{Good}
+use Rattle.yaml_grammar.specs.Style.{style_text}
+use Rattle.yaml_grammar.specs.Texts.{byte_len}
+use Rattle.yaml_grammar.specs.Trees.{Tree, depth, distinct}
+use Rattle.yaml_tree.specs.declared.fault.Limits.{Limits}
+use Rattle.yaml_tree.specs.declared.fault.ReadFault.{ReadFault}
+use Rattle.yaml_tree.specs.declared.fault.ReadFault.TheVariants.{KeyTwice, TooDeep, LargeInStyle, OutOfMemory}
+
+abbrev pub limits_of : Limits → grammar.Limits
+limits_of limits = record { bytes = limits.bytes; depth = limits.depth; style = limits.style }
+
+-- A Config's own limits: of depth, and of bytes in the one style, which its text as it is read may have too.
+abbrev pub own_limits : grammar.Limits
+own_limits = record { bytes = 67108864; depth = 66; style = 67108864 }
+
+-- all is text, in each mapping the keys differ, and the tree is within a Config's own limits
+abbrev pub IsKept : Tree → Type 0
+IsKept t = Good t own_limits
+
+-- What a tree is refused for: no earlier fault holds. Want of memory may come of any tree.
+abbrev pub IsFirstFault : grammar.Limits → Tree → ReadFault → Type 0
+IsFirstFault limits t KeyTwice = distinct t ≡ false
+IsFirstFault limits t TooDeep = IsTrue (distinct t) × (limits.depth < depth t)
+IsFirstFault limits t LargeInStyle = IsTrue (distinct t) × (depth t ≤ limits.depth) × (limits.style < byte_len (style_text t))
+IsFirstFault limits t OutOfMemory = Unit {0}
+IsFirstFault limits t _ = ⊥

@@ -1,0 +1,14 @@
+-- Parts of what stands between double quotes.
+use Rattle.std.specs.Prelude.{ℕ, ◌/◌, ◌%◌, Bool, not, ◌&&◌, ◌||◌, ◌==◌, nat_le, List, [], ◌∷◌, ◌++◌, codes, if◌then◌else◌}
+use Rattle.yaml_chars.specs.Classes.{between}
+use Rattle.yaml_grammar.specs.Style.{hex}
+
+-- an ASCII character that stands for itself
+abbrev pub stands_alone : ℕ → Bool
+stands_alone c = between 0x20 0x7e c && not ((c == 34) || (c == 92))
+
+-- a character by its number
+abbrev pub number_escape : ℕ → List ℕ
+number_escape c =
+    if nat_le c 0xff then codes "\\x" ++ hex (c / 16) ∷ hex (c % 16) ∷ []
+    else codes "\\u" ++ hex (c / 4096) ∷ hex (c / 256 % 16) ∷ hex (c / 16 % 16) ∷ hex (c % 16) ∷ []

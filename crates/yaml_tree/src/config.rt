@@ -1,0 +1,126 @@
+// A tree that is good to keep.
+ghost use Rattle.std.specs.Prelude.{◌≡◌, ◌≤◌, IfOk, IfErr, MatchOption};
+ghost use Rattle.yaml_grammar.specs.Reads.{Good};
+ghost use Rattle.yaml_grammar.specs.Trees.{depth};
+ghost use Rattle.yaml_tree.specs.Kept.{IsKept, IsFirstFault, own_limits, limits_of};
+ghost use Rattle.yaml_tree.specs.Seen.{tree_of};
+
+use crate::keys::has_distinct_keys;
+use crate::{Limits, ReadFault, Tree, style_len};
+use std::alloc::{AllocError, Global};
+use std::marker::Model;
+
+/// The limits that each [`Config`] keeps.
+const OWN_LIMITS: Limits = Limits {
+    bytes: 67_108_864,
+    depth: 66,
+    style: 67_108_864,
+};
+
+/// A tree in whose mappings no key stands twice, which is at most 66 deep and has at most 67,108,864 bytes in the one
+/// style. Contracts see the tree.
+#[derive(Debug, Drop)]
+pub struct Config {
+    tree: Tree,
+}
+
+impl Model for Config {
+    ghost use Rattle.yaml_tree.specs.declared.tree.Tree.{Tree};
+    ghost use Rattle.yaml_tree.specs.contracts.tree.Tree as trees;
+
+    ghost Value = { Tree };
+
+    ghost coded = { trees.the_row.coded };
+
+    ghost use Rattle.yaml_tree.specs.Kept.{IsKept};
+    ghost use Rattle.yaml_tree.specs.Seen.{tree_of};
+
+    ghost view = { λ c. c.tree };
+
+    ghost invariant = { λ c. IsKept (tree_of c.tree) };
+}
+
+impl Config {
+    /// The configuration that a tree is. A tree that is none comes back with the first of these faults: a mapping holds a
+    /// key twice ([`ReadFault::KeyTwice`]), the tree is more than 66 deep ([`ReadFault::TooDeep`]), it has more than
+    /// 67,108,864 bytes in the one style ([`ReadFault::LargeInStyle`]); or with [`ReadFault::OutOfMemory`], for want of
+    /// memory to look keys up. The stack grows with the tree's depth.
+    pub fn new(alloc: Global, tree: Tree) -> Result<Config, (Tree, ReadFault)>
+        ensures ok { IfOk result (λ config. (config ≡ tree) × IsKept (tree_of tree)) }
+        ensures refused { IfErr result (λ refused. (refused.0 ≡ tree)
+            × IsFirstFault own_limits (tree_of tree) refused.1) }
+    {
+        Config::within(alloc, tree, &OWN_LIMITS)
+    }
+
+    /// The same within limits that are at most a configuration's own.
+    pub(crate) fn within(
+        alloc: Global,
+        tree: Tree,
+        limits: &Limits,
+    ) -> Result<Config, (Tree, ReadFault)>
+        requires depth { limits.now.depth ≤ 66 }
+        requires style { limits.now.style ≤ 67108864 }
+        ensures ok { IfOk result (λ config. (config ≡ tree) × Good (tree_of tree) (limits_of limits.now)) }
+        ensures refused { IfErr result (λ refused. (refused.0 ≡ tree)
+            × IsFirstFault (limits_of limits.now) (tree_of tree) refused.1) }
+    {
+        match first_fault(alloc, &tree, limits) {
+            None => Ok(Config { tree }),
+            Some(fault) => Err((tree, fault)),
+        }
+    }
+
+    /// The tree.
+    pub fn tree(&self) -> &Tree
+        ensures same { result.now ≡ self.now }
+        ensures kept { IsKept (tree_of self.now) }
+    {
+        &self.tree
+    }
+
+    /// The tree, which may then be changed.
+    pub fn into_tree(self) -> Tree
+        ensures same { result ≡ self }
+        ensures kept { IsKept (tree_of self) }
+    {
+        let Config { tree } = self;
+        tree
+    }
+
+    /// How deep the tree is, at most 66.
+    pub fn depth(&self) -> u64
+        ensures { result ≡ depth (tree_of self.now) }
+    {
+        self.tree.depth()
+    }
+
+    /// A copy: a configuration of the same texts in the same order. Only want of memory can fail.
+    pub fn try_copy(&self, alloc: Global) -> Result<Config, AllocError>
+        ensures { IfOk result (λ copy. tree_of copy ≡ tree_of self.now) }
+    {
+        let tree = self.tree.try_copy(alloc)?;
+        Ok(Config { tree })
+    }
+}
+
+/// What a tree is refused for within limits of depth and style, or None.
+fn first_fault(alloc: Global, tree: &Tree, limits: &Limits) -> Option<ReadFault>
+    requires { limits.now.depth ≤ 66 }
+    ensures { MatchOption result
+        (Good (tree_of tree.now) (limits_of limits.now))
+        (IsFirstFault (limits_of limits.now) (tree_of tree.now)) }
+{
+    match has_distinct_keys(alloc, tree) {
+        Err(_) => return Some(ReadFault::OutOfMemory),
+        Ok(false) => return Some(ReadFault::KeyTwice),
+        Ok(true) => {}
+    }
+    if tree.depth() > limits.depth {
+        return Some(ReadFault::TooDeep);
+    }
+    match style_len(tree, limits.style) {
+        None => Some(ReadFault::LargeInStyle),
+        Some(_) => None,
+    }
+}

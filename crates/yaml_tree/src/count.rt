@@ -1,0 +1,121 @@
+// Lengths in the one style, counted and not written.
+ghost use Rattle.std.specs.Prelude.{◌≡◌, ◌≤◌};
+ghost use Rattle.std.specs.Option.{SomeIff};
+ghost use Rattle.std.specs.Str.{chars};
+ghost use Rattle.yaml_grammar.specs.Texts.{byte_len};
+ghost use Rattle.yaml_grammar.specs.Style.{long_key, style_text};
+ghost use Rattle.yaml_tree.specs.Budget.{left_after};
+ghost use Rattle.yaml_tree.specs.Seen.{tree_of};
+
+use crate::style::{write_key_text, write_style};
+use crate::{Sink, Tree};
+use std::convert::Infallible;
+
+/// A count of characters, which stands still at the greatest `u64`.
+#[derive(Drop)]
+struct CharCount {
+    count: u64,
+}
+
+impl Sink for CharCount {
+    ghost use Rattle.std.specs.Prelude.{◌≡◌, ◌+◌, min, length};
+    ghost use Rattle.std.proofs.Common.{arith, length-append};
+
+    type Fault = Infallible;
+
+    ghost Takes = { λ a cs b. min b.count 18446744073709551615 ≡ min (a.count + length cs) 18446744073709551615 };
+
+    ghost takes_none = { λ s. Prim.omega arith };
+
+    ghost takes_both = { λ a b c xs ys first second. Prim.omega (arith, length-append xs ys) };
+
+    fn put_text(&mut self, text: &str) -> Result<(), Infallible> {
+        self.count = self.count.saturating_add(text.chars().count() as u64);
+        Ok(())
+    }
+
+    fn put_char(&mut self, _c: char) -> Result<(), Infallible> {
+        self.count = self.count.saturating_add(1);
+        Ok(())
+    }
+
+    fn put_spaces(&mut self, count: u64) -> Result<(), Infallible> {
+        self.count = self.count.saturating_add(count);
+        Ok(())
+    }
+}
+
+/// Whether a key's spelling, quotes counted, has more than 1,000 characters.
+pub(crate) fn is_long_key(key: &str) -> bool
+    ensures { result ≡ long_key (chars key.now) }
+{
+    let mut spelling = CharCount { count: 0 };
+    match write_key_text(key, &mut spelling) {
+        Ok(()) => spelling.count > 1000,
+        Err(never) => match never {},
+    }
+}
+
+/// How many bytes may still come; None once more came than might.
+#[derive(Drop)]
+struct ByteBudget {
+    left: Option<u64>,
+}
+
+impl ByteBudget {
+    fn spend(&mut self, bytes: u64)
+        ensures { self.new.left ≡ left_after self.old.left bytes }
+    {
+        self.left = match self.left {
+            Some(left) => left.checked_sub(bytes),
+            None => None,
+        };
+    }
+}
+
+impl Sink for ByteBudget {
+    ghost use Rattle.std.specs.Prelude.{◌≡◌};
+    ghost use Rattle.yaml_grammar.specs.Texts.{byte_len};
+    ghost use Rattle.yaml_tree.specs.Budget.{left_after};
+    ghost use Rattle.yaml_tree.specs.BudgetLaws.{left_after-none, left_after-more};
+
+    type Fault = Infallible;
+
+    ghost Takes = { λ a cs b. b.left ≡ left_after a.left (byte_len cs) };
+
+    ghost takes_none = { λ s. left_after-none s.left };
+
+    ghost takes_both = { λ a b c xs ys first second. left_after-more a.left b.left c.left xs ys first second };
+
+    fn put_text(&mut self, text: &str) -> Result<(), Infallible> {
+        self.spend(text.len() as u64);
+        Ok(())
+    }
+
+    fn put_char(&mut self, c: char) -> Result<(), Infallible> {
+        self.spend(c.len_utf8() as u64);
+        Ok(())
+    }
+
+    fn put_spaces(&mut self, count: u64) -> Result<(), Infallible> {
+        self.spend(count);
+        Ok(())
+    }
+}
+
+/// How many bytes a tree has in the one style; None where these are more than `max`. It takes no memory; the stack grows
+/// with the tree's depth.
+pub fn style_len(tree: &Tree, max: u64) -> Option<u64>
+    ensures { SomeIff result
+        (byte_len (style_text (tree_of tree.now)) ≤ max) (byte_len (style_text (tree_of tree.now))) }
+{
+    // Each level of a tree has at least two bytes, so that the indentation fits its type below.
+    if tree.depth() > max / 2 {
+        return None;
+    }
+    let mut budget = ByteBudget { left: Some(max) };
+    match write_style(tree, &mut budget) {
+        Ok(()) => Some(max - budget.left?),
+        Err(never) => match never {},
+    }
+}

@@ -1,0 +1,30 @@
+//! Trees of texts, the ones that may be kept, and how the one style writes them.
+//!
+//! A [`Tree`] is any tree, a [`Config`] one within limits in whose mappings no key stands twice. [`write_style`] writes a
+//! tree's text in the one style to a [`Sink`], which may be a buffer or a count; [`style_len`] is the text's length.
+#![tactic(auto)]
+
+mod config;
+mod count;
+mod fault;
+mod keys;
+mod known;
+mod literal;
+mod quoted;
+mod read;
+mod scalar;
+mod sink;
+mod style;
+mod tree;
+
+pub use config::Config;
+pub use count::style_len;
+pub use fault::{Limits, ReadFault};
+pub use read::read_one;
+pub use scalar::{ScalarStyle, scalar_style};
+pub use sink::Sink;
+pub use style::write_style;
+pub use tree::Tree;
+
+#[cfg(test)]
+mod tests;

@@ -1,0 +1,37 @@
+// Literals (YAML 1.2.2, 8.1.2).
+ghost use Rattle.std.specs.Prelude.{true, OnOk};
+ghost use Rattle.std.specs.Str.{chars};
+ghost use Rattle.yaml_grammar.specs.Style.{literal_lines};
+ghost use Rattle.yaml_tree.specs.Lines.{line_text};
+
+use crate::Sink;
+
+/// Writes a literal's lines behind `indent` spaces, an empty line with none.
+pub(crate) fn write_literal_lines<S: Sink>(
+    text: &str,
+    indent: u64,
+    sink: &mut S,
+) -> Result<(), S::Fault>
+    ensures { OnOk result (S.Takes sink.old (literal_lines indent true (chars text.now)) sink.new) }
+{
+    let mut rest = text;
+    while let Some((line, behind)) = rest.split_once('\n') {
+        write_line(line, indent, sink)?;
+        rest = behind;
+    }
+    if rest.is_empty() {
+        return Ok(());
+    }
+    write_line(rest, indent, sink)
+}
+
+fn write_line<S: Sink>(line: &str, indent: u64, sink: &mut S) -> Result<(), S::Fault>
+    ensures { OnOk result (S.Takes sink.old (line_text indent (chars line.now)) sink.new) }
+{
+    if line.is_empty() {
+        return sink.put_char('\n');
+    }
+    sink.put_spaces(indent)?;
+    sink.put_text(line)?;
+    sink.put_char('\n')
+}

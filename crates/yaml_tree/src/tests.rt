@@ -1,0 +1,202 @@
+// Styles of scalars, what a configuration refuses, and lengths.
+use super::*;
+use std::alloc::{AllocError, Global};
+use std::test::Fail;
+use yaml_events::Why;
+
+fn text(alloc: Global, value: &str) -> Result<Tree, AllocError> {
+    Ok(Tree::Text(String::from_str(alloc, value)?))
+}
+
+fn pair(alloc: Global, key: &str, value: &str) -> Result<(String, Tree), AllocError> {
+    Ok((String::from_str(alloc, key)?, text(alloc, value)?))
+}
+
+/// A tree inside sequences of one element, one in another.
+fn in_sequences(alloc: Global, tree: Tree, levels: u32) -> Result<Tree, AllocError> {
+    let mut whole = tree;
+    for _ in 0..levels {
+        whole = Tree::Seq(vec![in alloc; whole]?);
+    }
+    Ok(whole)
+}
+
+fn repeated(alloc: Global, piece: &str, times: u32) -> Result<Tree, AllocError> {
+    let mut all = String::new(alloc);
+    for _ in 0..times {
+        all.push_str(piece)?;
+    }
+    Ok(Tree::Text(all))
+}
+
+/// The fault of a tree that is refused.
+fn fault(alloc: Global, tree: Tree) -> Option<ReadFault> {
+    match Config::new(alloc, tree) {
+        Ok(_) => None,
+        Err((_, fault)) => Some(fault),
+    }
+}
+
+#[test]
+fn styles_of_values(rt: HostRuntime) {
+    assert_eq!(rt; scalar_style("example", false), ScalarStyle::Plain);
+    assert_eq!(rt; scalar_style("a/b-c_d.9", false), ScalarStyle::Plain);
+    assert_eq!(rt; scalar_style("on", false), ScalarStyle::Double);
+    assert_eq!(rt; scalar_style("NULL", false), ScalarStyle::Double);
+    assert_eq!(rt; scalar_style("8080", false), ScalarStyle::Double);
+    assert_eq!(rt; scalar_style("", false), ScalarStyle::Double);
+    assert_eq!(rt; scalar_style("a ", false), ScalarStyle::Double);
+    assert_eq!(rt; scalar_style("é", false), ScalarStyle::Double);
+    assert_eq!(rt; scalar_style("a b\nc", false), ScalarStyle::LiteralStrip);
+    assert_eq!(rt; scalar_style("a b\nc\n", false), ScalarStyle::LiteralClip);
+    assert_eq!(rt; scalar_style("a\n\n", false), ScalarStyle::LiteralKeep);
+    assert_eq!(rt; scalar_style(" a\nb", false), ScalarStyle::Double);
+    assert_eq!(rt; scalar_style("\na", false), ScalarStyle::Double);
+    assert_eq!(rt; scalar_style("a\tb\nc", false), ScalarStyle::Double);
+}
+
+#[test]
+fn styles_of_keys(rt: HostRuntime) {
+    assert_eq!(rt; scalar_style("host", true), ScalarStyle::Plain);
+    assert_eq!(rt; scalar_style("y", true), ScalarStyle::Double);
+    assert_eq!(rt; scalar_style("a\nb", true), ScalarStyle::Double);
+}
+
+#[test]
+fn a_plain_text_has_at_most_128_characters(rt: HostRuntime) -> Result<(), Fail> {
+    let Tree::Text(most) = repeated(rt.alloc(), "k", 128)? else {
+        return Ok(());
+    };
+    assert_eq!(rt; scalar_style(&most, false), ScalarStyle::Plain);
+    let Tree::Text(more) = repeated(rt.alloc(), "k", 129)? else {
+        return Ok(());
+    };
+    assert_eq!(rt; scalar_style(&more, false), ScalarStyle::Double);
+    Ok(())
+}
+
+#[test]
+fn a_key_twice_is_refused(rt: HostRuntime) -> Result<(), Fail> {
+    let alloc = rt.alloc();
+    let tree = Tree::Map(vec![in alloc;
+        pair(alloc, "a", "1")?,
+        pair(alloc, "b", "1")?,
+        pair(alloc, "a", "2")?,
+    ]?);
+    assert_eq!(rt; fault(alloc, tree), Some(ReadFault::KeyTwice));
+    let tree = Tree::Map(vec![in alloc; pair(alloc, "a", "1")?, pair(alloc, "b", "1")?]?);
+    assert_eq!(rt; fault(alloc, tree), None);
+    Ok(())
+}
+
+#[test]
+fn depth_is_at_most_66(rt: HostRuntime) -> Result<(), Fail> {
+    let alloc = rt.alloc();
+    let deepest = in_sequences(alloc, text(alloc, "x")?, 65)?;
+    assert_eq!(rt; deepest.depth(), 66);
+    assert_eq!(rt; fault(alloc, deepest), None);
+    assert_eq!(rt;
+        fault(alloc, in_sequences(alloc, text(alloc, "x")?, 66)?),
+        Some(ReadFault::TooDeep)
+    );
+    Ok(())
+}
+
+#[test]
+fn the_style_has_at_most_67108864_bytes(rt: HostRuntime) -> Result<(), Fail> {
+    let alloc = rt.alloc();
+    // 65 times `- `, a header of 2 bytes, and lines of `a` behind 130 spaces, of 132 bytes each
+    let most = in_sequences(alloc, repeated(alloc, "a\n", 508_399)?, 65)?;
+    assert_eq!(rt; style_len(&most, 67_108_864), Some(67_108_800));
+    assert_eq!(rt; fault(alloc, most), None);
+    let more = in_sequences(alloc, repeated(alloc, "a\n", 508_400)?, 65)?;
+    assert_eq!(rt; fault(alloc, more), Some(ReadFault::LargeInStyle));
+    Ok(())
+}
+
+#[test]
+fn a_length_past_the_most_is_none(rt: HostRuntime) -> Result<(), Fail> {
+    let alloc = rt.alloc();
+    let items = vec![in alloc; text(alloc, "x")?, text(alloc, "y: z")?]?;
+    let b = (String::from_str(alloc, "b")?, Tree::Seq(items));
+    let tree = Tree::Map(vec![in alloc; pair(alloc, "a", "1")?, b]?);
+    assert_eq!(rt; style_len(&tree, 27), Some(27));
+    assert_eq!(rt; style_len(&tree, 26), None);
+    assert_eq!(rt; style_len(&tree, 3), None);
+    Ok(())
+}
+
+#[test]
+fn copies_are_equal(rt: HostRuntime) -> Result<(), Fail> {
+    let alloc = rt.alloc();
+    let items = vec![in alloc; text(alloc, "x")?]?;
+    let list = (String::from_str(alloc, "list")?, Tree::Seq(items));
+    let tree = Tree::Map(vec![in alloc; pair(alloc, "k", "v")?, list]?);
+    let copy = tree.try_copy(alloc)?;
+    assert_eq!(rt; style_len(&copy, 100), Some(17));
+    let Ok(config) = Config::new(alloc, copy) else {
+        assert!(rt; false, "a good tree");
+        return Ok(());
+    };
+    let again = config.try_copy(alloc)?;
+    assert_eq!(rt; again.depth(), 3);
+    assert_eq!(rt; again.tree().depth(), 3);
+    match again.into_tree() {
+        Tree::Map(pairs) => assert_eq!(rt; pairs.len(), 2),
+        _ => assert!(rt; false, "a mapping"),
+    }
+    Ok(())
+}
+
+#[test]
+fn faults_by_name(rt: HostRuntime) -> Result<(), Fail> {
+    let fault = ReadFault::Documents { count: 2 };
+    let name = format!(in rt.alloc(); "{fault}")?;
+    assert_eq!(rt; name.as_str(), "Documents");
+    Ok(())
+}
+
+#[test]
+fn reads_known_lines(rt: HostRuntime) -> Result<(), Fail> {
+    let alloc = rt.alloc();
+    let wide = Limits {
+        bytes: 100,
+        depth: 64,
+        style: 100,
+    };
+    let Ok(config) = read_one(alloc, b"host: \"example\"\nport: 8080\n", &wide) else {
+        assert!(rt; false, "two known lines");
+        return Ok(());
+    };
+    // `host: example` and `port: "8080"`, each with its line feed
+    assert_eq!(rt; style_len(config.tree(), 100), Some(27));
+
+    let shallow = Limits { depth: 1, ..wide };
+    let small = Limits { style: 4, ..wide };
+    let short = Limits { bytes: 4, ..wide };
+    let cases: [(&[u8], &Limits, ReadFault); 8] = [
+        (b"a: b\n", &short, ReadFault::TooLong),
+        (b"a: b\xff\n", &wide, ReadFault::NotUtf8 { at: 4 }),
+        (b"a: [x]\n", &wide, not_yet(1)),
+        (b"a: 1\n- b\n", &wide, not_yet(2)),
+        (b"a: b", &wide, not_yet(1)),
+        (b"a: 1\na: 2\n", &shallow, ReadFault::KeyTwice),
+        (b"a: b\n", &shallow, ReadFault::TooDeep),
+        (b"a: b\n", &small, ReadFault::LargeInStyle),
+    ];
+    for (bytes, limits, fault) in cases {
+        assert!(rt;
+            read_one(alloc, bytes, limits).is_err_and(|found| found == fault),
+            "{fault}"
+        );
+    }
+    Ok(())
+}
+
+fn not_yet(line: u64) -> ReadFault {
+    ReadFault::Syntax {
+        line,
+        column: 1,
+        why: Why::NotYet,
+    }
+}
