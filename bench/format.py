@@ -1,7 +1,8 @@
 #!/usr/bin/env python3
 """Times `confstore format` on inputs of several sizes, beside `wc -c` on the same file.
 
-For each form of text that is read, and each size, it prints the best time of five runs, the speed, and the greatest memory.
+For each form of text that is read, and each size, it prints the least processor time of fifteen runs, the speed without the
+start of the program, and the greatest memory.
 It says at the end whether the time a byte grew by more than a quarter from the smallest size to the largest, and whether the
 memory stayed below 12 times the input. Run it from the repository's root after the program is built:
 
@@ -12,7 +13,6 @@ import os
 import subprocess
 import sys
 import tempfile
-import time
 
 TOP = os.path.dirname(os.path.dirname(os.path.abspath(__file__)))
 PROGRAM = os.path.join(TOP, "crates", "confstore", "out", "confstore")
@@ -36,21 +36,27 @@ def text_of(form, size):
         i += 1
 
 
-def run(words, path):
-    """The wall time of one run, its greatest memory in bytes, and its status."""
+def processor_seconds(words, path):
+    """The processor time of one run."""
     with open(path, "rb") as source:
-        start = time.perf_counter()
         process = subprocess.Popen(words, stdin=source, stdout=subprocess.DEVNULL)
         _, status, usage = os.wait4(process.pid, 0)
-        seconds = time.perf_counter() - start
-    return seconds, usage.ru_maxrss * 1024, status
-
-
-def best(words, path, times=5):
-    runs = [run(words, path) for _ in range(times)]
-    if any(status != 0 for _, _, status in runs):
+    if status != 0:
         sys.exit(f"{words[0]} failed on {path}")
-    return min(seconds for seconds, _, _ in runs), max(memory for _, memory, _ in runs)
+    return usage.ru_utime + usage.ru_stime
+
+
+def greatest_memory(words, path):
+    """The greatest memory of one run in bytes, as `time` tells it."""
+    with open(path, "rb") as source:
+        told = subprocess.run(
+            ["/usr/bin/time", "-f", "%M", *words], stdin=source, stdout=subprocess.DEVNULL, stderr=subprocess.PIPE, text=True, check=True
+        )
+    return int(told.stderr.split()[-1]) * 1024
+
+
+def best(words, path, times=15):
+    return min(processor_seconds(words, path) for _ in range(times))
 
 
 def main():
@@ -61,8 +67,9 @@ def main():
         empty = os.path.join(folder, "word")
         with open(empty, "w") as target:
             target.write("a: b\n")
-        start, floor = best([PROGRAM, "format"], empty)
-        print(f"start of the program: {start * 1000:.1f} ms, {floor / 2**20:.1f} MiB")
+        start = best([PROGRAM, "format"], empty)
+        floor = greatest_memory([PROGRAM, "format"], empty)
+        print(f"start of the program: {start * 1000:.2f} ms, {floor / 2**20:.1f} MiB")
         for form in FORMS:
             costs = []
             for size in SIZES:
@@ -70,8 +77,9 @@ def main():
                 with open(path, "w") as target:
                     target.write(text_of(form, size))
                 length = os.path.getsize(path)
-                seconds, memory = best([PROGRAM, "format"], path)
-                peer, _ = best(["wc", "-c"], path)
+                seconds = best([PROGRAM, "format"], path)
+                memory = greatest_memory([PROGRAM, "format"], path)
+                peer = best(["wc", "-c"], path)
                 work = max(seconds - start, 1e-6)
                 costs.append(work / length)
                 fits = memory - floor <= 12 * length

@@ -81,6 +81,9 @@ pub fn perform<R: Read, W: Write, E: Write>(
     };
     match command.try_get_matches_from(words) {
         Ok(matches) => run(alloc, &matches, reader, writer, errors).code(),
+        Err(error) if error.kind() == clap::error::ErrorKind::OutOfMemory => {
+            told(errors, ToolFault::from(AllocError)).code()
+        }
         Err(error) if error.use_stderr() => {
             let _ = write!(errors, "{error}");
             Status::WrongWords.code()
