@@ -1,0 +1,8 @@
+pub mod Descents
+pub mod EditLaws
+pub mod Edits
+pub mod Numbers
+pub mod Places
+pub mod Pointers
+pub mod StepLaws
+pub mod Steps

@@ -1,0 +1,315 @@
+-- Pointers: a path's text reads back as the path, and where a text goes wrong no path has it.
+use Rattle.std.proofs.Common.{◌≡◌, ◌==◌, ℕ, zero, suc, ◌+◌, ◌<◌, Bool, true, false, cond, not, ◌||◌, List, [], ◌∷◌, ◌++◌, length, length-append, get_or, set, map, String, Global, string_bytes, Option, Some, None, option_map, Result, Ok, Err, refl, sym, ap, ap₂, subst, ◌∙◌, append_assoc, arith}
+use Rattle.std.specs.Char.{len_utf8}
+use Rattle.std.specs.Str.{chars, IsUtf8}
+use Rattle.std.proofs.lemmas.Bool.{eqb-true}
+use Rattle.std.proofs.lemmas.Bool.Decides.{nat_tests}
+use Rattle.std.proofs.lemmas.Str.{length-encode, encodes-chars, encodes-append, chars-append, chars-nil, chars_past_char, IsUtf8-encode, IsUtf8-string_bytes, IsUtf8-past_char}
+use Rattle.std.specs.Char.{IsScalar}
+use Rattle.std.specs.Option.{MatchOption}
+use Rattle.std.specs.Result.{OnOk, is_ok}
+use Rattle.tree_path.specs.Steps.{texts, escaped_by}
+use lib.Utf8.{encodes, encode}
+use Rattle.yaml_grammar.specs.Texts.{byte_len}
+use Rattle.tree_path.specs.Pointers.{slash, tilde, spelled, escaped, pointer_text, stray, first_stray, bad_place, first_piece, pieces, unescaped, path_of, tokens_or_place}
+use Rattle.tree_path.specs.declared.fault.PathFault.{PathFault}
+use Rattle.tree_path.specs.declared.fault.PathFault.TheVariants.{BadPath}
+
+-- ---- a character's spelling: two characters, or itself
+
+pub data Spelling (c : ℕ) : Type 0 where
+  as_tilde : spelled c ≡ 126 ∷ 48 ∷ [] → c ≡ 126 → Spelling c
+  as_slash : spelled c ≡ 126 ∷ 49 ∷ [] → c ≡ 47 → Spelling c
+  as_itself : spelled c ≡ c ∷ [] → (c == 126) ≡ false → (c == 47) ≡ false → Spelling c
+
+pub spelling : (c : ℕ) → Spelling c
+spelling c =
+    let P : Bool → Type 0 = λ b. (c == 126) ≡ b → Spelling c in
+    let Q : Bool → Type 0 = λ b. (c == 47) ≡ b → (c == 126) ≡ false → Spelling c in
+    (elim (c == 126) as P [
+      | true ↦ λ e. as_tilde (rw e) (eqb-true c 126 e)
+      | false ↦ λ e. (elim (c == 47) as Q [
+        | true ↦ λ s e. as_slash (rw (e, s)) (eqb-true c 47 s)
+        | false ↦ λ s e. as_itself (rw (e, s)) e s
+      ]) refl e
+    ]) refl
+
+-- ---- the pieces of a path's text are its tokens, escaped
+
+unescaped-escaped : (token : List ℕ) → unescaped (escaped token) ≡ token
+unescaped-escaped [] = refl
+unescaped-escaped (c ∷ cs) = elim (spelling c) [
+  | as_tilde is same ↦ rw is (ap₂ ◌∷◌ (sym same) (unescaped-escaped cs))
+  | as_slash is same ↦ rw is (ap₂ ◌∷◌ (sym same) (unescaped-escaped cs))
+  | as_itself is other no_slash ↦ rw (is, other) (ap (λ ds. c ∷ ds) (unescaped-escaped cs))
+]
+
+pieces-escaped : (token more : List ℕ) → pieces (escaped token ++ more) ≡ pieces more
+pieces-escaped [] more = refl
+pieces-escaped (c ∷ cs) more = elim (spelling c) [
+  | as_tilde is same ↦ rw is (pieces-escaped cs more)
+  | as_slash is same ↦ rw is (pieces-escaped cs more)
+  | as_itself is other no_slash ↦ rw (is, no_slash) (pieces-escaped cs more)
+]
+
+first_piece-escaped : (token more : List ℕ) → first_piece more ≡ [] → first_piece (escaped token ++ more) ≡ escaped token
+first_piece-escaped [] more ends = ends
+first_piece-escaped (c ∷ cs) more ends = elim (spelling c) [
+  | as_tilde is same ↦ rw is (ap (λ ds. 126 ∷ 48 ∷ ds) (first_piece-escaped cs more ends))
+  | as_slash is same ↦ rw is (ap (λ ds. 126 ∷ 49 ∷ ds) (first_piece-escaped cs more ends))
+  | as_itself is other no_slash ↦ rw (is, no_slash) (ap (λ ds. c ∷ ds) (first_piece-escaped cs more ends))
+]
+
+first_piece-pointer : (tokens : List (List ℕ)) → first_piece (pointer_text tokens) ≡ []
+first_piece-pointer [] = refl
+first_piece-pointer (token ∷ tokens) = refl
+
+unescaped-pieces : (tokens : List (List ℕ)) → map unescaped (pieces (pointer_text tokens)) ≡ tokens
+unescaped-pieces [] = refl
+unescaped-pieces (token ∷ tokens) =
+    ap₂ ◌∷◌ (ap unescaped (first_piece-escaped token (pointer_text tokens) (first_piece-pointer tokens)) ∙ unescaped-escaped token)
+    (ap (map unescaped) (pieces-escaped token (pointer_text tokens)) ∙ unescaped-pieces tokens)
+
+-- ---- no `~` of a path's text is stray
+
+option_map-zero : (o : Option ℕ) → o ≡ option_map (λ n. 0 + n) o
+option_map-zero None = refl
+option_map-zero (Some n) = ap Some (omega arith)
+
+option_map-sum : (a b : ℕ) (o : Option ℕ) → option_map (λ n. a + n) (option_map (λ n. b + n) o) ≡ option_map (λ n. a + b + n) o
+option_map-sum a b None = refl
+option_map-sum a b (Some n) = ap Some (omega arith)
+
+option_map-two : (b : ℕ) (o : Option ℕ) → option_map (λ n. 1 + n) (option_map (λ n. 1 + n) (option_map (λ n. b + n) o)) ≡ option_map (λ n. 1 + (1 + b) + n) o
+option_map-two b None = refl
+option_map-two b (Some n) = ap Some (omega arith)
+
+first_stray-escaped : (token more : List ℕ) → first_stray (escaped token ++ more) ≡ option_map (λ n. byte_len (escaped token) + n) (first_stray more)
+first_stray-escaped [] more = option_map-zero (first_stray more)
+first_stray-escaped (c ∷ cs) more = elim (spelling c) [
+  | as_tilde is same ↦ rw is (ap (λ o. option_map (λ n. 1 + n) (option_map (λ n. 1 + n) o)) (first_stray-escaped cs more) ∙ option_map-two (byte_len (escaped cs)) (first_stray more))
+  | as_slash is same ↦ rw is (ap (λ o. option_map (λ n. 1 + n) (option_map (λ n. 1 + n) o)) (first_stray-escaped cs more) ∙ option_map-two (byte_len (escaped cs)) (first_stray more))
+  | as_itself is other no_slash ↦ rw (is, other)
+      (ap (option_map (λ n. len_utf8 c + n)) (first_stray-escaped cs more) ∙ option_map-sum (len_utf8 c) (byte_len (escaped cs)) (first_stray more))
+]
+
+byte_len-append : (xs ys : List ℕ) → byte_len (xs ++ ys) ≡ byte_len xs + byte_len ys
+byte_len-append [] ys = omega arith
+byte_len-append (x ∷ xs) ys = let e = byte_len-append xs ys in omega (arith, e)
+
+first_stray-pointer : (tokens : List (List ℕ)) (more : List ℕ)
+    → first_stray (pointer_text tokens ++ more) ≡ option_map (λ n. byte_len (pointer_text tokens) + n) (first_stray more)
+first_stray-pointer [] more = option_map-zero (first_stray more)
+first_stray-pointer (token ∷ tokens) more =
+    ap (λ s. option_map (λ n. 1 + n) (first_stray s)) (append_assoc (escaped token) (pointer_text tokens) more)
+    ∙ ap (option_map (λ n. 1 + n))
+    (first_stray-escaped token (pointer_text tokens ++ more)
+    ∙ ap (option_map (λ n. byte_len (escaped token) + n)) (first_stray-pointer tokens more)
+    ∙ option_map-sum (byte_len (escaped token)) (byte_len (pointer_text tokens)) (first_stray more))
+    ∙ option_map-sum 1 (byte_len (escaped token) + byte_len (pointer_text tokens)) (first_stray more)
+    ∙ ap (λ m. option_map (λ n. 1 + m + n) (first_stray more)) (sym (byte_len-append (escaped token) (pointer_text tokens)))
+
+first_stray-none : (tokens : List (List ℕ)) → first_stray (pointer_text tokens) ≡ None
+first_stray-none [] = refl
+first_stray-none (token ∷ tokens) =
+    ap (option_map (λ n. 1 + n))
+    (first_stray-escaped token (pointer_text tokens) ∙ ap (option_map (λ n. byte_len (escaped token) + n)) (first_stray-none tokens))
+
+-- ---- what a text is read as
+
+bad_place-pointer : (tokens : List (List ℕ)) → bad_place (pointer_text tokens) ≡ None
+bad_place-pointer [] = refl
+bad_place-pointer (token ∷ tokens) = first_stray-none (token ∷ tokens)
+
+pub path_of-pointer_text : (tokens : List (List ℕ)) → path_of (pointer_text tokens) ≡ Ok tokens
+path_of-pointer_text tokens =
+    ap (λ o. tokens_or_place o (pointer_text tokens)) (bad_place-pointer tokens) ∙ ap Ok (unescaped-pieces tokens)
+
+-- behind a path's text that isn't empty stands a stray `~`
+pub path_of-stray : (text behind : List ℕ) (tokens : List (List ℕ)) (at : ℕ) → text ≡ pointer_text tokens ++ behind → 0 < length tokens
+    → stray behind ≡ true → at ≡ byte_len (pointer_text tokens) → path_of text ≡ Err (BadPath at)
+path_of-stray text behind [] at split some is place = absurd (omega arith)
+path_of-stray text [] (token ∷ tokens) at split some is place = cc
+path_of-stray text (c ∷ cs) (token ∷ tokens) at split some is place =
+    let found : first_stray (c ∷ cs) ≡ Some 0 = rw is in
+    let here : bad_place text ≡ Some at =
+    ap bad_place split ∙ first_stray-pointer (token ∷ tokens) (c ∷ cs) ∙ ap (option_map (λ n. byte_len (pointer_text (token ∷ tokens)) + n)) found
+    ∙ ap Some (omega arith) in
+    ap (λ o. tokens_or_place o text) here
+
+-- the text begins with something else than `/`
+pub path_of-front : (text cs : List ℕ) (c : ℕ) → text ≡ c ∷ cs → (c == 47) ≡ false → path_of text ≡ Err (BadPath 0)
+path_of-front text cs c split other =
+    let here : bad_place (c ∷ cs) ≡ Some 0 = rw other in
+    ap path_of split ∙ ap (λ o. tokens_or_place o (c ∷ cs)) here
+
+-- a text that is read as no path is no path's
+pub no_path : (text : List ℕ) (fault : PathFault) (tokens : List (List ℕ)) → path_of text ≡ Err fault → text ≡ pointer_text tokens → ⊥
+no_path text fault tokens refused is =
+    let read : path_of text ≡ Ok tokens = ap path_of is ∙ path_of-pointer_text tokens in cc
+
+-- ---- what the code reads and builds
+
+append-none : (xs : List ℕ) → xs ++ [] ≡ xs
+append-none [] = refl
+append-none (x ∷ xs) = ap (λ ys. x ∷ ys) (append-none xs)
+
+byte_len-encodes : (cs : List ℕ) → byte_len cs ≡ length (encodes cs)
+byte_len-encodes [] = refl
+byte_len-encodes (c ∷ cs) =
+    let e = byte_len-encodes cs in omega (arith, e, length-encode c, length-append (encode c) (encodes cs))
+
+-- how many bytes a text has, behind a path's text
+pub length-read : (text rest read : List ℕ) → IsUtf8 text → IsUtf8 rest → chars text ≡ read ++ chars rest → length text ≡ byte_len read + length rest
+length-read text rest read utf8 rest_utf8 split =
+    let e : text ≡ encodes read ++ rest =
+    sym (encodes-chars text utf8) ∙ ap encodes split ∙ encodes-append read (chars rest) ∙ ap (λ bs. encodes read ++ bs) (encodes-chars rest rest_utf8) in
+    omega (arith, ap length e, length-append (encodes read) rest, byte_len-encodes read)
+
+chars-push : (bs ds : List ℕ) (c : ℕ) → IsUtf8 bs → IsScalar c → ds ≡ bs ++ encode c → chars ds ≡ chars bs ++ c ∷ []
+chars-push bs ds c utf8 scalar is =
+    ap chars is ∙ chars-append bs (encode c) utf8
+    ∙ ap (λ cs. chars bs ++ cs) (chars_past_char (encode c) [] c (IsUtf8-encode c scalar) (sym (append-none (encode c))) ∙ ap (λ cs. c ∷ cs) chars-nil)
+
+escaped-append : (cs ds : List ℕ) → escaped (cs ++ ds) ≡ escaped cs ++ escaped ds
+escaped-append [] ds = refl
+escaped-append (c ∷ cs) ds = ap (λ es. spelled c ++ es) (escaped-append cs ds) ∙ sym (append_assoc (spelled c) (escaped cs) (escaped ds))
+
+-- the last token, with one more character
+pub pointer_text-lengthened : (xs : List (String Global)) (i c : ℕ) (s longer : String Global) → i + 1 ≡ length xs → s ≡ get_or xs i s → IsScalar c
+    → string_bytes longer ≡ string_bytes s ++ encode c → pointer_text (texts (set xs i longer)) ≡ pointer_text (texts xs) ++ spelled c
+pointer_text-lengthened [] i c s longer count is scalar pushed = absurd (omega arith)
+pointer_text-lengthened (x ∷ []) zero c s longer count is scalar pushed =
+    let token = chars-push (string_bytes s) (string_bytes longer) c (IsUtf8-string_bytes s) scalar pushed in
+    ap (λ t. 47 ∷ (escaped t ++ [])) token
+    ∙ ap (λ es. 47 ∷ es) (append-none (escaped (chars (string_bytes s) ++ c ∷ [])) ∙ escaped-append (chars (string_bytes s)) (c ∷ [])
+    ∙ ap (λ es. escaped (chars (string_bytes s)) ++ es) (append-none (spelled c))
+    ∙ ap (λ t. t ++ spelled c) (sym (append-none (escaped (chars (string_bytes s))))))
+    ∙ ap (λ t. (47 ∷ (escaped (chars (string_bytes t)) ++ [])) ++ spelled c) is
+pointer_text-lengthened (x ∷ []) (suc i) c s longer count is scalar pushed = absurd (omega arith)
+pointer_text-lengthened (x ∷ y ∷ ys) zero c s longer count is scalar pushed = absurd (omega arith)
+pointer_text-lengthened (x ∷ y ∷ ys) (suc i) c s longer count is scalar pushed =
+    ap (λ t. 47 ∷ (escaped (chars (string_bytes x)) ++ t)) (pointer_text-lengthened (y ∷ ys) i c s longer (omega arith) is scalar pushed)
+    ∙ ap (λ t. 47 ∷ t) (sym (append_assoc (escaped (chars (string_bytes x))) (pointer_text (texts (y ∷ ys))) (spelled c)))
+
+pub pushed-OnOk : {E : Type 0} (r : Result (Unit {0}) E) (bytes old : List ℕ) (c : ℕ) → bytes ≡ cond (is_ok r) (old ++ encode c) old → OnOk r (bytes ≡ old ++ encode c)
+pushed-OnOk (Ok x) bytes old c is = is
+pushed-OnOk (Err e) bytes old c is = tt
+
+-- one more token, empty
+pub pointer_text-push : (xs : List (String Global)) (s : String Global) → string_bytes s ≡ [] → pointer_text (texts (xs ++ s ∷ [])) ≡ pointer_text (texts xs) ++ 47 ∷ []
+pointer_text-push [] s empty = ap (λ bs. 47 ∷ (escaped (chars bs) ++ [])) empty ∙ ap (λ cs. 47 ∷ (escaped cs ++ [])) chars-nil
+pointer_text-push (x ∷ xs) s empty =
+    ap (λ t. 47 ∷ (escaped (chars (string_bytes x)) ++ t)) (pointer_text-push xs s empty)
+    ∙ ap (λ t. 47 ∷ t) (sym (append_assoc (escaped (chars (string_bytes x))) (pointer_text (texts xs)) (47 ∷ [])))
+
+-- the next character of what is left
+pub next_read : (text old new read : List ℕ) (c : ℕ) → IsUtf8 old → old ≡ encode c ++ new → chars text ≡ read ++ chars old
+    → (chars text ≡ read ++ c ∷ chars new) × IsUtf8 new
+next_read text old new read c utf8 is split =
+    (split ∙ ap (λ cs. read ++ cs) (chars_past_char old new c utf8 is), IsUtf8-past_char old new c utf8 is)
+
+pub read_more : (text read cs ds : List ℕ) → text ≡ read ++ (cs ++ ds) → text ≡ (read ++ cs) ++ ds
+read_more text read cs ds is = is ∙ sym (append_assoc read cs ds)
+
+-- what `~` and the digit behind it spell
+pub escaped_by-spelled : (digit : Option ℕ) (c : ℕ) → escaped_by digit ≡ Some c → (d : ℕ) × (digit ≡ Some d) × (spelled c ≡ 126 ∷ d ∷ [])
+escaped_by-spelled None c is = cc
+escaped_by-spelled (Some d) c is =
+    let P : Bool → Type 0 = λ b. (d == 48) ≡ b → cond b (Some 126) (cond (d == 49) (Some 47) None) ≡ Some c → (e : ℕ) × (Some d ≡ Some e) × (spelled c ≡ 126 ∷ e ∷ []) in
+    let Q : Bool → Type 0 = λ b. (d == 49) ≡ b → cond b (Some 47) None ≡ Some c → (e : ℕ) × (Some d ≡ Some e) × (spelled c ≡ 126 ∷ e ∷ []) in
+    (elim (d == 48) as P [
+      | true ↦ λ z e. let same : 126 ≡ c = cc in (48, ap Some (eqb-true d 48 z), ap spelled (sym same))
+      | false ↦ λ z e. (elim (d == 49) as Q [
+        | true ↦ λ o e. let same : 47 ≡ c = cc in (49, ap Some (eqb-true d 49 o), ap spelled (sym same))
+        | false ↦ λ o e. cc
+      ]) refl e
+    ]) refl is
+
+some_none : (a : ℕ) → Some a ≡ None → ⊥
+some_none a is = cc
+
+pub stray-digit : (d : ℕ) (cs : List ℕ) → escaped_by (Some d) ≡ None → stray (126 ∷ d ∷ cs) ≡ true
+stray-digit d cs is =
+    let P : Bool → Type 0 = λ b. cond {A = Option ℕ} b (Some 126) (cond {A = Option ℕ} (d == 49) (Some 47) None) ≡ None → not (b || (d == 49)) ≡ true in
+    let Q : Bool → Type 0 = λ b. cond {A = Option ℕ} b (Some 47) None ≡ None → not b ≡ true in
+    (elim (d == 48) as P [
+      | true ↦ λ e. absurd (some_none 126 e)
+      | false ↦ λ e. (elim (d == 49) as Q [ true ↦ λ o. absurd (some_none 47 o) | false ↦ λ o. refl ]) e
+    ]) is
+
+-- ---- one turn of the loop: what is read, and what is left
+
+abbrev pub Read : List ℕ → List ℕ → List ℕ → Type 0
+Read text read left = (chars text ≡ read ++ chars left) × IsUtf8 left
+
+pub slash-read : (text old new : List ℕ) (tokens longer : List (String Global)) (s : String Global) (c : ℕ) → Read text (pointer_text (texts tokens)) old
+    → old ≡ encode c ++ new → c ≡ 47 → longer ≡ tokens ++ s ∷ [] → string_bytes s ≡ [] → Read text (pointer_text (texts longer)) new
+slash-read text old new tokens longer s c read is slash pushed empty =
+    let n = next_read text old new (pointer_text (texts tokens)) c read.1 is read.0 in
+    let more = subst (λ d. chars text ≡ pointer_text (texts tokens) ++ d ∷ chars new) slash n.0 in (
+      read_more (chars text) (pointer_text (texts tokens)) (47 ∷ []) (chars new) more
+          ∙ ap (λ p. p ++ chars new) (sym (ap (λ xs. pointer_text (texts xs)) pushed ∙ pointer_text-push tokens s empty)),
+      n.1,
+    )
+
+spelled-itself : (c : ℕ) → (c ≡ 47 → ⊥) → (c ≡ 126 → ⊥) → spelled c ≡ c ∷ []
+spelled-itself c no_slash no_tilde = elim (spelling c) [
+  | as_tilde is same ↦ absurd (no_tilde same)
+  | as_slash is same ↦ absurd (no_slash same)
+  | as_itself is other none ↦ is
+]
+
+pub itself-read : (text old new before longer : List ℕ) (c : ℕ) → Read text before old → old ≡ encode c ++ new → (c ≡ 47 → ⊥) → (c ≡ 126 → ⊥)
+    → longer ≡ before ++ spelled c → Read text longer new
+itself-read text old new before longer c read is no_slash no_tilde pushed =
+    let n = next_read text old new before c read.1 is read.0 in (
+      read_more (chars text) before (c ∷ []) (chars new) n.0
+          ∙ ap (λ p. p ++ chars new) (sym (pushed ∙ ap (λ cs. before ++ cs) (spelled-itself c no_slash no_tilde))),
+      n.1,
+    )
+
+-- a `~` is read, and the character behind it
+pub tilde-read : (text old new : List ℕ) (before : List ℕ) (c : ℕ) → Read text before old → old ≡ encode c ++ new → c ≡ 126
+    → (chars text ≡ before ++ 126 ∷ chars new) × IsUtf8 new
+tilde-read text old new before c read is tilde =
+    let n = next_read text old new before c read.1 is read.0 in
+    (subst (λ d. chars text ≡ before ++ d ∷ chars new) tilde n.0, n.1)
+
+pub escape-read : (text new left before longer : List ℕ) (digit : Option ℕ) (k : ℕ) (A : Type 0) → chars text ≡ before ++ 126 ∷ chars new → IsUtf8 new
+    → MatchOption digit A (λ d. new ≡ encode d ++ left) → Some k ≡ escaped_by digit → longer ≡ before ++ spelled k → Read text longer left
+escape-read text new left before longer digit k A split utf8 steps is pushed =
+    let e = escaped_by-spelled digit k (sym is) in
+    let step = subst (λ o. MatchOption o A (λ d. new ≡ encode d ++ left)) e.1 steps in
+    let rest : chars new ≡ e.0 ∷ chars left = chars_past_char new left e.0 utf8 step in (
+      read_more (chars text) before (126 ∷ e.0 ∷ []) (chars left) (split ∙ ap (λ cs. before ++ 126 ∷ cs) rest)
+          ∙ ap (λ p. p ++ chars left) (sym (pushed ∙ ap (λ cs. before ++ cs) e.2)),
+      IsUtf8-past_char new left e.0 utf8 step,
+    )
+
+pub escape-stray : (new left : List ℕ) (digit : Option ℕ) (A : Type 0) → IsUtf8 new → MatchOption digit ((length new ≡ 0) × A) (λ d. new ≡ encode d ++ left)
+    → None ≡ escaped_by digit → stray (126 ∷ chars new) ≡ true
+escape-stray [] left None A utf8 steps is = ap (λ cs. stray (126 ∷ cs)) chars-nil
+escape-stray (b ∷ bs) left None A utf8 steps is = absurd (omega (arith, steps.0))
+escape-stray new left (Some d) A utf8 steps is =
+    ap (λ cs. stray (126 ∷ cs)) (chars_past_char new left d utf8 steps) ∙ stray-digit d (chars left) (sym is)
+
+-- where that `~` stands
+pub tilde-place : (text old new before : List ℕ) (c : ℕ) → IsUtf8 text → Read text before old → old ≡ encode c ++ new → c ≡ 126
+    → length text ≡ byte_len before + (1 + length new)
+tilde-place text old new before c utf8 read is tilde =
+    let n = length-read text old before utf8 read.1 read.0 in
+    let one : length (encode c) ≡ 1 = length-encode c ∙ ap len_utf8 tilde in
+    omega (arith, n, ap length is, length-append (encode c) new, one)
+
+pub end-read : (text old before : List ℕ) → Read text before old → length old ≡ 0 → chars text ≡ before
+end-read text [] before read empty = read.0 ∙ ap (λ cs. before ++ cs) chars-nil ∙ append-none before
+end-read text (b ∷ bs) before read empty = absurd (omega arith)
+
+-- nothing is read yet, and no `/` comes
+pub front-read : (text old new : List ℕ) (tokens : List (String Global)) (c : ℕ) → Read text (pointer_text (texts tokens)) old → old ≡ encode c ++ new
+    → length tokens ≡ 0 → (c ≡ 47 → ⊥) → path_of (chars text) ≡ Err (BadPath 0)
+front-read text old new [] c read is empty other =
+    let n = next_read text old new [] c read.1 is read.0 in
+    path_of-front (chars text) (chars new) c n.0 (grind (arith, nat_tests))
+front-read text old new (s ∷ ss) c read is empty other = absurd (omega arith)

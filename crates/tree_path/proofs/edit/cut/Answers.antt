@@ -1,0 +1,20 @@
+use Rattle.std.proofs.Common.{ap, ◌∙◌, sym}
+use Rattle.std.proofs.lemmas.Result.{IfOk-weaker}
+use Rattle.std.specs.Str.{chars}
+use Rattle.yaml_grammar.specs.Trees.{mapping}
+use Rattle.yaml_tree.specs.Seen.{tree_of, members_of}
+use Rattle.yaml_tree.proofs.SeenLemmas.{tree_of-Text, tree_of-Map}
+use Rattle.tree_path.specs.Paths.{child, cut}
+use Rattle.tree_path.proofs.Steps.{cut-Text}
+use Rattle.tree_path.proofs.edit.cut.Goals as goal
+
+pub returns-in-Text-clause-missed : goal.returns-in-Text-clause-missed
+returns-in-Text-clause-missed c =
+    let token = chars c.args.token.now in
+    ap (λ t. cut t token) (ap tree_of c.in-Text.is ∙ tree_of-Text _) ∙ cut-Text _ token
+
+pub returns-in-Map-clause-removed : goal.returns-in-Map-clause-removed
+returns-in-Map-clause-removed c =
+    let token = chars c.args.token.now in
+    let seen = ap tree_of c.in-Map.is ∙ tree_of-Map c.in-Map.pairs ∙ ap (λ w. mapping (members_of w.items)) (sym c.in-Map.pairs-is) in
+    IfOk-weaker c.cut_pair.result _ _ (λ x h. ap (λ t. child t token) seen ∙ h) c.cut_pair.ensures.removed

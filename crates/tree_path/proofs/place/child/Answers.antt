@@ -1,0 +1,59 @@
+use Rattle.std.proofs.Common.{Ok, Err, ap, ◌∙◌, sym, rules}
+use Rattle.std.proofs.lemmas.Result.{err_from_is_err_and}
+use Rattle.std.specs.Str.{chars}
+use Rattle.yaml_tree.specs.Seen.{tree_of}
+use Rattle.yaml_tree.proofs.SeenLemmas.{tree_of-Text, tree_of-Seq, tree_of-Map}
+use Rattle.tree_path.specs.Paths.{child}
+use Rattle.tree_path.proofs.Steps.{child-Text, child-Seq, child-Seq-missed, child-Map, child-Map-missed, index-counted, place-within, place-found, place-missed}
+use Rattle.tree_path.proofs.place.child.Goals as goal
+
+pub returns-in_err-index-in-Seq-clause-missed : goal.returns-in_err-index-in-Seq-clause-missed
+returns-in_err-index-in-Seq-clause-missed c =
+    let p = err_from_is_err_and c.from_residual.result c.from_residual.ensures.1 in
+    let v = c.in-Seq.items in
+    let token = chars c.args.token.now in
+    rw (p.1, p.2)
+    (ap (λ t. child t token) (ap tree_of c.in-Seq.is ∙ tree_of-Seq v)
+    ∙ child-Seq-missed v.items token c.in_err-index-in-Seq.field-0.0 (index-counted v token c.len.result _ c.len.ensures c.in_err-index-in-Seq.ensures))
+
+pub returns-in_err-place-in-Map-clause-missed : goal.returns-in_err-place-in-Map-clause-missed
+returns-in_err-place-in-Map-clause-missed c =
+    let p = err_from_is_err_and c.from_residual-in_err-place-in-Map.result c.from_residual-in_err-place-in-Map.ensures.1 in
+    let v = c.in-Map.pairs in
+    let token = chars c.args.token.now in
+    let m = place-missed c.key_place.result token c.deref.result.now v.items c.in_err-place-in-Map.field-0.0 c.in_err-place-in-Map.ensures.value
+    c.key_place.ensures c.deref.ensures.value in
+    rw (p.1, p.2)
+    (ap (λ t. child t token) (ap tree_of c.in-Map.is ∙ tree_of-Map v) ∙ child-Map-missed v.items token m.0 ∙ ap Err m.1)
+
+pub index-requires-in-Map : goal.index-requires-in-Map
+index-requires-in-Map c =
+    let v = c.in-Map.pairs in
+    let token = chars c.args.token.now in
+    let m = place-found c.key_place.result token c.deref.result.now v.items c.in_ok-place-in-Map.place c.in_ok-place-in-Map.ensures.value
+    c.key_place.ensures c.deref.ensures.value in
+    let h = place-within v.items token c.in_ok-place-in-Map.place m in
+    search rules
+
+pub returns-in_ok-index-in-Seq-clause-ok : goal.returns-in_ok-index-in-Seq-clause-ok
+returns-in_ok-index-in-Seq-clause-ok c =
+    let v = c.in-Seq.items in
+    let token = chars c.args.token.now in
+    ap (λ t. child t token) (ap tree_of c.in-Seq.is ∙ tree_of-Seq v)
+    ∙ (child-Seq v.items token c.in_ok-index-in-Seq.index c.index.result.now (index-counted v token c.len.result _ c.len.ensures c.in_ok-index-in-Seq.ensures)).1
+    ∙ ap (λ x. Ok (tree_of x)) (sym c.index.ensures)
+
+pub returns-in_ok-place-in-Map-clause-ok : goal.returns-in_ok-place-in-Map-clause-ok
+returns-in_ok-place-in-Map-clause-ok c =
+    let v = c.in-Map.pairs in
+    let token = chars c.args.token.now in
+    let m = place-found c.key_place.result token c.deref.result.now v.items c.in_ok-place-in-Map.place c.in_ok-place-in-Map.ensures.value
+    c.key_place.ensures c.deref.ensures.value in
+    ap (λ t. child t token) (ap tree_of c.in-Map.is ∙ tree_of-Map v)
+    ∙ child-Map v.items token c.in_ok-place-in-Map.place c.index-in-Map.result.now m
+    ∙ ap (λ x. Ok (tree_of x.1)) (sym c.index-in-Map.ensures)
+
+pub returns-in-Text-clause-missed : goal.returns-in-Text-clause-missed
+returns-in-Text-clause-missed c =
+    let token = chars c.args.token.now in
+    ap (λ t. child t token) (ap tree_of c.in-Text.is ∙ tree_of-Text _) ∙ child-Text _ token

@@ -1,0 +1,133 @@
+-- What paths do in trees: the value at a place, and the trees after a `set` and a `delete`. Each is a tree, or the first
+-- refusal on the way; steps count from 1.
+use Rattle.std.specs.Prelude.{ℕ, zero, suc, ◌+◌, ◌-◌, ◌*◌, Bool, false, ◌==◌, if◌then◌else◌, List, [], ◌∷◌, codes, Option, Some, None, option_map, Result, Ok, Err}
+use Rattle.yaml_chars.specs.Classes.{between}
+use Rattle.yaml_grammar.specs.Texts.{every, is_empty, same_text}
+use Rattle.yaml_grammar.specs.Trees.{Tree, text, sequence, mapping, Elements, no_element, element, Members, no_member, member}
+use Rattle.tree_path.specs.declared.fault.PathFault.{PathFault}
+use Rattle.tree_path.specs.declared.fault.PathFault.TheVariants.{NoSuchPlace, NotIndex}
+use Rattle.tree_path.specs.declared.place.Miss.{Miss}
+use Rattle.tree_path.specs.declared.place.Miss.TheVariants.{Absent, NoIndex}
+
+-- ---- indices (RFC 6901, 4)
+
+abbrev pub digit : ℕ → Bool
+digit c = between 48 57 c
+
+-- `0`, or digits without a leading zero
+abbrev pub is_number : List ℕ → Bool
+is_number [] = false
+is_number (c ∷ cs) = if c == 48 then is_empty cs else every digit (c ∷ cs)
+
+-- the number that digits spell behind a number n
+abbrev pub number_behind : ℕ → List ℕ → ℕ
+number_behind n [] = n
+number_behind n (c ∷ cs) = number_behind (10 * n + (c - 48)) cs
+
+-- what a token is in a sequence: the index of an element, from 0; `-`, the place behind the last one; or neither
+pub data Index : Type 0 where
+  number : ℕ → Index
+  behind_last no_index : Index
+
+abbrev pub index_of : List ℕ → Index
+index_of token =
+    if same_text token (codes "-") then behind_last else (if is_number token then number (number_behind 0 token) else no_index)
+
+-- ---- one step: the value that it leads to, and the tree with another value there, or without it
+
+abbrev pub element_at : Elements → ℕ → Option Tree
+element_at no_element n = None
+element_at (element t ts) zero = Some t
+element_at (element t ts) (suc n) = element_at ts n
+
+abbrev pub put_element : Elements → ℕ → Tree → Option Elements
+put_element no_element n v = None
+put_element (element t ts) zero v = Some (element v ts)
+put_element (element t ts) (suc n) v = option_map (element t) (put_element ts n v)
+
+abbrev pub cut_element : Elements → ℕ → Option Elements
+cut_element no_element n = None
+cut_element (element t ts) zero = Some ts
+cut_element (element t ts) (suc n) = option_map (element t) (cut_element ts n)
+
+abbrev pub push_element : Elements → Tree → Elements
+push_element no_element v = element v no_element
+push_element (element t ts) v = element t (push_element ts v)
+
+-- A tree may hold a key twice, though no configuration does: the first member with the key counts.
+abbrev pub value_of : Members → List ℕ → Option Tree
+value_of no_member key = None
+value_of (member other t ms) key = if same_text key other then Some t else value_of ms key
+
+-- a key that is there keeps its place, a new one goes last
+abbrev pub put_member : Members → List ℕ → Tree → Members
+put_member no_member key v = member key v no_member
+put_member (member other t ms) key v = if same_text key other then member other v ms else member other t (put_member ms key v)
+
+abbrev pub cut_member : Members → List ℕ → Option Members
+cut_member no_member key = None
+cut_member (member other t ms) key = if same_text key other then Some ms else option_map (member other t) (cut_member ms key)
+
+abbrev pub present : {A : Type 0} → Option A → Result A Miss
+present (Some x) = Ok x
+present None = Err Absent
+
+-- what a token stands for in a sequence: what is at the number, or behind the last element
+abbrev pub at_index : {A : Type 0} → Index → (ℕ → Option A) → Result A Miss → Result A Miss
+at_index (number n) inside behind = present (inside n)
+at_index behind_last inside behind = behind
+at_index no_index inside behind = Err NoIndex
+
+unfoldable pub child : Tree → List ℕ → Result Tree Miss
+child (text value) token = Err Absent
+child (sequence ts) token = at_index (index_of token) (element_at ts) (Err Absent)
+child (mapping ms) token = present (value_of ms token)
+
+unfoldable pub put : Tree → List ℕ → Tree → Result Tree Miss
+put (text value) token v = Err Absent
+put (sequence ts) token v =
+    at_index (index_of token) (λ n. option_map sequence (put_element ts n v)) (Ok (sequence (push_element ts v)))
+put (mapping ms) token v = Ok (mapping (put_member ms token v))
+
+unfoldable pub cut : Tree → List ℕ → Result Tree Miss
+cut (text value) token = Err Absent
+cut (sequence ts) token = at_index (index_of token) (λ n. option_map sequence (cut_element ts n)) (Err Absent)
+cut (mapping ms) token = present (option_map mapping (cut_member ms token))
+
+-- ---- paths: what each step does, or the refusal of the first one that leads nowhere
+
+abbrev pub refusal : Miss → ℕ → PathFault
+refusal Absent step = NoSuchPlace step
+refusal NoIndex step = NotIndex step
+
+abbrev pub at_step : ℕ → Result Tree Miss → (Tree → Result Tree PathFault) → Result Tree PathFault
+at_step step (Ok t) next = next t
+at_step step (Err miss) next = Err (refusal miss step)
+
+abbrev pub and_then : Result Tree PathFault → (Tree → Result Tree PathFault) → Result Tree PathFault
+and_then (Ok t) next = next t
+and_then (Err fault) next = Err fault
+
+abbrev pub at_from : ℕ → Tree → List (List ℕ) → Result Tree PathFault
+at_from step t [] = Ok t
+at_from step t (token ∷ tokens) = at_step step (child t token) (λ u. at_from (suc step) u tokens)
+
+-- the tree with the last step's edit made in the value that the steps before it lead to
+abbrev pub edit_from : (Tree → List ℕ → Result Tree Miss) → ℕ → Tree → List ℕ → List (List ℕ) → Result Tree PathFault
+edit_from edit step t token [] = at_step step (edit t token) Ok
+edit_from edit step t token (next ∷ tokens) =
+    at_step step (child t token) (λ u. and_then (edit_from edit (suc step) u next tokens) (λ v. at_step step (put t token v) Ok))
+
+-- the value at the path
+abbrev pub at : Tree → List (List ℕ) → Result Tree PathFault
+at t path = at_from 1 t path
+
+-- the tree with v at the path; the empty path stands for the whole
+abbrev pub set : Tree → List (List ℕ) → Tree → Result Tree PathFault
+set t [] v = Ok v
+set t (token ∷ tokens) v = edit_from (λ u last. put u last v) 1 t token tokens
+
+-- The tree without the value at the path. The whole can't be taken out of itself: no caller asks for it, and it stays.
+abbrev pub delete : Tree → List (List ℕ) → Result Tree PathFault
+delete t [] = Ok t
+delete t (token ∷ tokens) = edit_from cut 1 t token tokens

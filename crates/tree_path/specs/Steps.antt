@@ -1,0 +1,52 @@
+-- What the parts of one step are: the number that a token is, the element and the pair that it leads to.
+use Rattle.std.specs.Prelude.{◌≡◌, ◌==◌, ℕ, suc, List, [], ◌∷◌, Option, Some, None, option_map, min, Result, Ok, Err, if◌then◌else◌, nat_lt, map, String, string_bytes}
+use Rattle.std.specs.declared.alloc.Global.{Global}
+use Rattle.std.specs.Str.{chars}
+use Rattle.yaml_grammar.specs.Texts.{same_text}
+use Rattle.yaml_grammar.specs.Trees.{Tree}
+use Rattle.yaml_tree.specs.Seen.{Pair}
+use Rattle.tree_path.specs.Pointers.{tilde, slash}
+use Rattle.tree_path.specs.Paths.{is_number, number_behind, index_of, at_index, child, put}
+use Rattle.tree_path.specs.declared.place.Miss.{Miss}
+use Rattle.tree_path.specs.declared.place.Miss.TheVariants.{Absent}
+
+abbrev pub number_of : List ℕ → Option ℕ
+number_of token = if is_number token then Some (number_behind 0 token) else None
+
+-- a number as a `usize` has it: at most the greatest one
+abbrev pub saturated : ℕ → ℕ
+saturated n = min n 0xffff_ffff_ffff_ffff
+
+-- the index of an element of a sequence of that many, or why the token leads to none
+abbrev pub index_below : List ℕ → ℕ → Result ℕ Miss
+index_below token count = at_index (index_of token) (λ n. if nat_lt n count then Some n else None) (Err Absent)
+
+-- the place, from 0, of the first pair with the key
+abbrev pub key_place : List ℕ → List Pair → Option ℕ
+key_place key [] = None
+key_place key (pair ∷ pairs) =
+    if same_text key (chars (string_bytes pair.0)) then Some 0 else option_map suc (key_place key pairs)
+
+-- tokens of the code as texts
+abbrev pub texts : List (String Global) → List (List ℕ)
+texts tokens = map (λ token. chars (string_bytes token)) tokens
+
+-- the character that `~` and this one spell
+abbrev pub escaped_by : Option ℕ → Option ℕ
+escaped_by None = None
+escaped_by (Some d) = if d == 48 then Some tilde else (if d == 49 then Some slash else None)
+
+-- ---- a tree taken apart along a path
+
+-- From t and above, one step after another: the child is taken out, what is above goes into its place, and the tree so left
+-- is what is above the child. The last child and what is above it are u and b.
+abbrev pub Lowered : List (List ℕ) → Tree → Tree → Tree → Tree → Type 0
+Lowered [] t above u b = (u ≡ t) × (b ≡ above)
+Lowered (token ∷ tokens) t above u b =
+    (next : Tree) × (left : Tree) × (child t token ≡ Ok next) × (put t token above ≡ Ok left) × Lowered tokens next left u b
+
+-- t with v in the place of its value at the path is r
+abbrev pub Rebuilt : List (List ℕ) → Tree → Tree → Tree → Type 0
+Rebuilt [] t v r = r ≡ v
+Rebuilt (token ∷ tokens) t v r =
+    (next : Tree) × (w : Tree) × (child t token ≡ Ok next) × Rebuilt tokens next v w × (put t token w ≡ Ok r)

@@ -1,0 +1,270 @@
+// The value at a path, and the edits of a tree there. An edit goes down to the parent of its place and back up in loops:
+// on the way down each value is taken out of its parent, and what is above it is kept in the place that so comes free.
+ghost use Rattle.std.specs.Prelude.{◌≡◌, ◌⊎◌, ◌<◌, IfOk, IfErr, OnOk, OnErr, Ok, Err, length};
+ghost use Rattle.std.specs.Str.{chars};
+ghost use Rattle.yaml_grammar.specs.Trees.{Tree as Meant, sequence, mapping};
+ghost use Rattle.yaml_tree.specs.Seen.{tree_of, elements_of, members_of};
+ghost use Rattle.tree_path.specs.Paths.{at_step, at, put, cut, set, delete, child};
+ghost use Rattle.tree_path.specs.Steps.{texts, Lowered, Rebuilt};
+
+use crate::fault::PathFault;
+use crate::path::Path;
+use crate::place::{self, Miss};
+use std::alloc::Global;
+use std::mem;
+use yaml_tree::Tree;
+
+/// The value at a path (RFC 6901, 4). Refused are a step that leads to nothing (`NoSuchPlace`), and one into a sequence that
+/// is no index (`NotIndex`).
+pub fn at<'t>(tree: &'t Tree, path: &Path) -> Result<&'t Tree, PathFault>
+    ensures ok { IfOk result (λ value. at (tree_of tree.now) path.now ≡ Ok (tree_of value.now)) }
+    ensures refused { IfErr result (λ fault. at (tree_of tree.now) path.now ≡ Err fault) }
+{
+    value_at(tree, &path.tokens)
+}
+
+/// Puts a value at a path, where the tree stands. Every step but the last leads to a value that is there, as in [`at`]. At
+/// the last one a key that is there keeps its place in the mapping, and a new key goes last; an index replaces its element,
+/// and `-` stands for a new element behind the last one. The empty path replaces the whole tree. A refusal, and want of
+/// memory, hands the value back and leaves the tree as it was.
+pub fn set(
+    alloc: Global,
+    tree: &mut Tree,
+    path: &Path,
+    value: Tree,
+) -> Result<(), (Tree, PathFault)>
+    ensures ok { OnOk result (set (tree_of tree.old) path.now (tree_of value) ≡ Ok (tree_of tree.new)) }
+    ensures refused { IfErr result
+        (λ refused. (refused.1 ≡ PathFault.OutOfMemory)
+        ⊎ (set (tree_of tree.old) path.now (tree_of value) ≡ Err refused.1)) }
+    ensures value_back { IfErr result (λ refused. tree_of refused.0 ≡ tree_of value) }
+    ensures unchanged { OnErr result (tree_of tree.new ≡ tree_of tree.old) }
+{
+    set_at(alloc, tree, &path.tokens, value)
+}
+
+/// Takes the value at a path out of the tree: the pair with its key, or the element, whose followers close up. The path is
+/// not empty. Steps lead on as in [`at`]. A refusal leaves the tree as it was.
+pub fn delete(tree: &mut Tree, path: &Path) -> Result<Tree, PathFault>
+    requires { 0 < length path.now }
+    ensures ok { OnOk result (delete (tree_of tree.old) path.now ≡ Ok (tree_of tree.new)) }
+    ensures removed { IfOk result (λ removed. at (tree_of tree.old) path.now ≡ Ok (tree_of removed)) }
+    ensures refused { IfErr result (λ fault. delete (tree_of tree.old) path.now ≡ Err fault) }
+    ensures unchanged { OnErr result (tree_of tree.new ≡ tree_of tree.old) }
+{
+    delete_at(*path.tokens.allocator(), tree, &path.tokens)
+}
+
+fn value_at<'t>(tree: &'t Tree, tokens: &[String]) -> Result<&'t Tree, PathFault>
+    ensures ok { IfOk result (λ value. at (tree_of tree.now) (texts tokens.now) ≡ Ok (tree_of value.now)) }
+    ensures refused { IfErr result (λ fault. at (tree_of tree.now) (texts tokens.now) ≡ Err fault) }
+{
+    let mut value = tree;
+    for (passed, token) in tokens.iter().enumerate() {
+        value = match place::child(value, token.as_str()) {
+            Ok(child) => child,
+            Err(miss) => return Err(miss.at_step(passed + 1)),
+        };
+    }
+    Ok(value)
+}
+
+fn set_at(
+    alloc: Global,
+    tree: &mut Tree,
+    tokens: &[String],
+    value: Tree,
+) -> Result<(), (Tree, PathFault)>
+    ensures ok { OnOk result (set (tree_of tree.old) (texts tokens.now) (tree_of value) ≡ Ok (tree_of tree.new)) }
+    ensures refused { IfErr result
+        (λ refused. (refused.1 ≡ PathFault.OutOfMemory)
+        ⊎ (set (tree_of tree.old) (texts tokens.now) (tree_of value) ≡ Err refused.1)) }
+    ensures value_back { IfErr result (λ refused. refused.0 ≡ value) }
+    ensures unchanged { OnErr result (tree_of tree.new ≡ tree_of tree.old) }
+{
+    let Some((last, parents)) = tokens.split_last() else {
+        *tree = value;
+        return Ok(());
+    };
+    let mut above = Tree::Seq(Vec::new(alloc));
+    if let Err(fault) = descend(tree, &mut above, parents) {
+        return Err((value, fault));
+    }
+    let outcome = put(alloc, tree, last.as_str(), tokens.len(), value);
+    ascend(tree, &mut above, parents);
+    outcome
+}
+
+fn delete_at(alloc: Global, tree: &mut Tree, tokens: &[String]) -> Result<Tree, PathFault>
+    requires { 0 < length tokens.now }
+    ensures ok { OnOk result (delete (tree_of tree.old) (texts tokens.now) ≡ Ok (tree_of tree.new)) }
+    ensures removed { IfOk result (λ removed. at (tree_of tree.old) (texts tokens.now) ≡ Ok (tree_of removed)) }
+    ensures refused { IfErr result (λ fault. delete (tree_of tree.old) (texts tokens.now) ≡ Err fault) }
+    ensures unchanged { OnErr result (tree_of tree.new ≡ tree_of tree.old) }
+{
+    let (last, parents) = tokens.split_last().unwrap();
+    let mut above = Tree::Seq(Vec::new(alloc));
+    descend(tree, &mut above, parents)?;
+    let outcome = cut(tree, last.as_str());
+    ascend(tree, &mut above, parents);
+    match outcome {
+        Ok(removed) => Ok(removed),
+        Err(miss) => Err(miss.at_step(tokens.len())),
+    }
+}
+
+/// Goes down a tree by each token: the tree becomes the value that they lead to, and what is above it goes into `above`,
+/// together with what was there. A refusal changes neither.
+fn descend(tree: &mut Tree, above: &mut Tree, tokens: &[String]) -> Result<(), PathFault>
+    ensures ok { OnOk result
+        (Lowered (texts tokens.now) (tree_of tree.old) (tree_of above.old) (tree_of tree.new) (tree_of above.new)) }
+    ensures refused { IfErr result (λ fault. at (tree_of tree.old) (texts tokens.now) ≡ Err fault) }
+    ensures unchanged { OnErr result (tree_of tree.new ≡ tree_of tree.old) }
+{
+    for (passed, token) in tokens.iter().enumerate() {
+        match place::exchange(tree, token.as_str(), above) {
+            Ok(()) => mem::swap(tree, above),
+            Err(miss) => {
+                ascend(tree, above, &tokens[..passed]);
+                return Err(miss.at_step(passed + 1));
+            }
+        }
+    }
+    Ok(())
+}
+
+/// Goes back up by the tokens that `descend` took: the tree becomes the one above, with what it was in its place.
+fn ascend(tree: &mut Tree, above: &mut Tree, tokens: &[String])
+    requires { (t a u : Meant) × Lowered (texts tokens.now) t a u (tree_of above.old) }
+    ensures { (t a u : Meant) → Lowered (texts tokens.now) t a u (tree_of above.old)
+        → Rebuilt (texts tokens.now) t (tree_of tree.old) (tree_of tree.new) × (tree_of above.new ≡ a) }
+{
+    let mut left = tokens;
+    while let Some((token, rest)) = left.split_last() {
+        mem::swap(tree, above);
+        place::exchange(tree, token.as_str(), above).unwrap();
+        left = rest;
+    }
+}
+
+/// Puts a value where a path's last step leads, counted from 1. A refusal hands the value back and changes nothing.
+fn put(
+    alloc: Global,
+    tree: &mut Tree,
+    token: &str,
+    step: usize,
+    value: Tree,
+) -> Result<(), (Tree, PathFault)>
+    ensures ok { OnOk result (put (tree_of tree.old) (chars token.now) (tree_of value) ≡ Ok (tree_of tree.new)) }
+    ensures refused { IfErr result
+        (λ refused. (refused.1 ≡ PathFault.OutOfMemory)
+        ⊎ (at_step step (put (tree_of tree.old) (chars token.now) (tree_of value)) Ok ≡ Err refused.1)) }
+    ensures value_back { IfErr result (λ refused. refused.0 ≡ value) }
+    ensures unchanged { OnErr result (tree_of tree.new ≡ tree_of tree.old) }
+{
+    match tree {
+        Tree::Text(_) => Err((value, PathFault::NoSuchPlace { step })),
+        Tree::Seq(items) => put_element(items, token, step, value),
+        Tree::Map(pairs) => put_pair(alloc, pairs, token, value),
+    }
+}
+
+/// Puts an element at an index, or behind the last one.
+fn put_element(
+    items: &mut Vec<Tree>,
+    token: &str,
+    step: usize,
+    value: Tree,
+) -> Result<(), (Tree, PathFault)>
+    ensures ok { OnOk result
+        (put (sequence (elements_of items.old.items)) (chars token.now) (tree_of value)
+        ≡ Ok (sequence (elements_of items.new.items))) }
+    ensures refused { IfErr result
+        (λ refused. (refused.1 ≡ PathFault.OutOfMemory)
+        ⊎ (at_step step (put (sequence (elements_of items.old.items)) (chars token.now) (tree_of value)) Ok
+        ≡ Err refused.1)) }
+    ensures value_back { IfErr result (λ refused. refused.0 ≡ value) }
+    ensures unchanged { OnErr result (items.new.items ≡ items.old.items) }
+{
+    if token == "-" {
+        return match items.push(value) {
+            Ok(()) => Ok(()),
+            Err(refused) => Err((refused.value, PathFault::OutOfMemory)),
+        };
+    }
+    match place::element_index(token, items.len()) {
+        Ok(index) => {
+            items[index] = value;
+            Ok(())
+        }
+        Err(miss) => Err((value, miss.at_step(step))),
+    }
+}
+
+/// Puts a value in the place of the first pair with the key, or behind the last pair.
+fn put_pair(
+    alloc: Global,
+    pairs: &mut Vec<(String, Tree)>,
+    key: &str,
+    value: Tree,
+) -> Result<(), (Tree, PathFault)>
+    ensures ok { OnOk result
+        (put (mapping (members_of pairs.old.items)) (chars key.now) (tree_of value)
+        ≡ Ok (mapping (members_of pairs.new.items))) }
+    ensures refused { IfErr result (λ refused. refused.1 ≡ PathFault.OutOfMemory) }
+    ensures value_back { IfErr result (λ refused. refused.0 ≡ value) }
+    ensures unchanged { OnErr result (pairs.new.items ≡ pairs.old.items) }
+{
+    if let Some(place) = place::key_place(pairs, key) {
+        pairs[place].1 = value;
+        return Ok(());
+    }
+    let Ok(key) = String::from_str(alloc, key) else {
+        return Err((value, PathFault::OutOfMemory));
+    };
+    match pairs.push((key, value)) {
+        Ok(()) => Ok(()),
+        Err(refused) => Err((refused.value.1, PathFault::OutOfMemory)),
+    }
+}
+
+/// Takes out the value to which a step leads.
+fn cut(tree: &mut Tree, token: &str) -> Result<Tree, Miss>
+    ensures ok { OnOk result (cut (tree_of tree.old) (chars token.now) ≡ Ok (tree_of tree.new)) }
+    ensures removed { IfOk result (λ removed. child (tree_of tree.old) (chars token.now) ≡ Ok (tree_of removed)) }
+    ensures missed { IfErr result (λ miss. cut (tree_of tree.old) (chars token.now) ≡ Err miss) }
+    ensures unchanged { OnErr result (tree.new ≡ tree.old) }
+{
+    match tree {
+        Tree::Text(_) => Err(Miss::Absent),
+        Tree::Seq(items) => cut_element(items, token),
+        Tree::Map(pairs) => cut_pair(pairs, token),
+    }
+}
+
+/// Takes out the element at an index.
+fn cut_element(items: &mut Vec<Tree>, token: &str) -> Result<Tree, Miss>
+    ensures ok { OnOk result
+        (cut (sequence (elements_of items.old.items)) (chars token.now) ≡ Ok (sequence (elements_of items.new.items))) }
+    ensures removed { IfOk result
+        (λ removed. child (sequence (elements_of items.old.items)) (chars token.now) ≡ Ok (tree_of removed)) }
+    ensures missed { IfErr result
+        (λ miss. cut (sequence (elements_of items.old.items)) (chars token.now) ≡ Err miss) }
+    ensures unchanged { OnErr result (items.new ≡ items.old) }
+{
+    let index = place::element_index(token, items.len())?;
+    Ok(items.remove(index))
+}
+
+/// Takes out the first pair with the key.
+fn cut_pair(pairs: &mut Vec<(String, Tree)>, key: &str) -> Result<Tree, Miss>
+    ensures ok { OnOk result
+        (cut (mapping (members_of pairs.old.items)) (chars key.now) ≡ Ok (mapping (members_of pairs.new.items))) }
+    ensures removed { IfOk result
+        (λ removed. child (mapping (members_of pairs.old.items)) (chars key.now) ≡ Ok (tree_of removed)) }
+    ensures missed { IfErr result (λ miss. cut (mapping (members_of pairs.old.items)) (chars key.now) ≡ Err miss) }
+    ensures unchanged { OnErr result (pairs.new ≡ pairs.old) }
+{
+    let place = place::key_place(pairs, key).ok_or(Miss::Absent)?;
+    Ok(pairs.remove(place).1)
+}

@@ -1,0 +1,209 @@
+// Paths as texts, the examples of RFC 6901, and edits.
+use crate::{Path, PathFault, at, delete, set};
+use std::alloc::{AllocError, Global};
+use std::process::Abort;
+use std::test::Fail;
+use yaml_tree::Tree;
+
+fn text(alloc: Global, value: &str) -> Result<Tree, AllocError> {
+    Ok(Tree::Text(String::from_str(alloc, value)?))
+}
+
+fn sequence(alloc: Global, values: &[&str]) -> Result<Tree, AllocError> {
+    let mut items = Vec::new(alloc);
+    for value in values {
+        items.push(text(alloc, value)?)?;
+    }
+    Ok(Tree::Seq(items))
+}
+
+fn pair(alloc: Global, key: &str, value: Tree) -> Result<(String, Tree), AllocError> {
+    Ok((String::from_str(alloc, key)?, value))
+}
+
+/// A tree on one line: texts as they are, sequences in brackets, mappings in braces.
+fn show(alloc: Global, tree: &Tree) -> Result<String, AllocError> {
+    match tree {
+        Tree::Text(value) => value.clone(),
+        Tree::Seq(items) => {
+            let mut shown = String::from_str(alloc, "[")?;
+            for item in items {
+                let item = show(alloc, item)?;
+                shown.push_str(item.as_str())?;
+                shown.push_str(";")?;
+            }
+            shown.push_str("]")?;
+            Ok(shown)
+        }
+        Tree::Map(pairs) => {
+            let mut shown = String::from_str(alloc, "{")?;
+            for (key, value) in pairs {
+                let value = show(alloc, value)?;
+                shown.push_str(key.as_str())?;
+                shown.push_str(": ")?;
+                shown.push_str(value.as_str())?;
+                shown.push_str(";")?;
+            }
+            shown.push_str("}")?;
+            Ok(shown)
+        }
+    }
+}
+
+#[test]
+fn texts_are_read_as_paths(rt: HostRuntime) -> Result<(), Fail> {
+    for (text, steps) in [("", 0), ("/", 1), ("/~01", 1), ("//", 2), ("/a~1b/é/0", 3)] {
+        assert_eq!(rt;
+            Path::parse(rt.alloc(), text)?.steps(),
+            steps,
+            "in {text:?}"
+        );
+    }
+    for (text, place) in [("a", 0), ("/~", 1), ("/a~2", 2), ("/é~0~", 5), ("/~~0", 1)] {
+        assert_eq!(rt;
+            Path::parse(rt.alloc(), text).err(),
+            Some(PathFault::BadPath { at: place }),
+            "in {text:?}"
+        );
+    }
+    let path = Path::parse(rt.alloc(), "/~01/")?;
+    let tokens: &[String] = &path.tokens;
+    assert_eq!(rt; tokens.len(), 2);
+    assert_eq!(rt; tokens[0].as_str(), "~1");
+    assert_eq!(rt; tokens[1].as_str(), "");
+    Ok(())
+}
+
+// RFC 6901, section 5: the document, with texts for its numbers, and what each pointer leads to in it.
+#[test]
+fn examples_of_the_standard(rt: HostRuntime) -> Result<(), Fail> {
+    let alloc = rt.alloc();
+    let mut pairs = Vec::new(alloc);
+    pairs.push(pair(alloc, "foo", sequence(alloc, &["bar", "baz"])?)?)?;
+    for (key, value) in [
+        ("", "0"),
+        ("a/b", "1"),
+        ("c%d", "2"),
+        ("e^f", "3"),
+        ("g|h", "4"),
+        ("i\\j", "5"),
+        ("k\"l", "6"),
+        (" ", "7"),
+        ("m~n", "8"),
+    ] {
+        pairs.push(pair(alloc, key, text(alloc, value)?)?)?;
+    }
+    let document = Tree::Map(pairs);
+    let whole = show(alloc, &document)?;
+    for (pointer, value) in [
+        ("", whole.as_str()),
+        ("/foo", "[bar;baz;]"),
+        ("/foo/0", "bar"),
+        ("/", "0"),
+        ("/a~1b", "1"),
+        ("/c%d", "2"),
+        ("/e^f", "3"),
+        ("/g|h", "4"),
+        ("/i\\j", "5"),
+        ("/k\"l", "6"),
+        ("/ ", "7"),
+        ("/m~0n", "8"),
+    ] {
+        let path = Path::parse(alloc, pointer)?;
+        let shown = show(alloc, at(&document, &path)?)?;
+        assert_eq!(rt; shown.as_str(), value, "at {pointer:?}");
+    }
+    Ok(())
+}
+
+#[test]
+fn steps_into_a_sequence(rt: HostRuntime) -> Result<(), Fail> {
+    let alloc = rt.alloc();
+    let mut tree = sequence(alloc, &["x"])?;
+    for (pointer, fault) in [
+        ("/-", PathFault::NoSuchPlace { step: 1 }),
+        ("/99999999999999999999", PathFault::NoSuchPlace { step: 1 }),
+        ("/00", PathFault::NotIndex { step: 1 }),
+        ("/", PathFault::NotIndex { step: 1 }),
+        ("/+0", PathFault::NotIndex { step: 1 }),
+        ("/0/0", PathFault::NoSuchPlace { step: 2 }),
+    ] {
+        let path = Path::parse(alloc, pointer)?;
+        assert_eq!(rt; at(&tree, &path).err(), Some(fault), "at {pointer:?}");
+    }
+    let first = Path::parse(alloc, "/0")?;
+    assert!(rt; first.steps() > 0);
+    let removed = show(alloc, &delete(&mut tree, &first)?)?;
+    assert_eq!(rt; removed.as_str(), "x");
+    assert_eq!(rt; show(alloc, &tree)?.as_str(), "[]");
+    Ok(())
+}
+
+/// Sets a text at a path, and compares the outcome and the tree with what is wanted.
+fn check_set<R: Abort + Alloc<A = Global>>(
+    rt: &R,
+    tree: &mut Tree,
+    pointer: &str,
+    value: &str,
+    fault: Option<PathFault>,
+    shown: &str,
+) -> Result<(), Fail> {
+    let path = Path::parse(rt.alloc(), pointer)?;
+    match set(rt.alloc(), tree, &path, text(rt.alloc(), value)?) {
+        Ok(()) => assert!(rt; fault.is_none(), "at {pointer:?}"),
+        Err((back, refused)) => {
+            assert_eq!(rt; Some(refused), fault, "at {pointer:?}");
+            assert_eq!(rt; show(rt.alloc(), &back)?.as_str(), value);
+        }
+    }
+    assert_eq!(rt; show(rt.alloc(), tree)?.as_str(), shown, "at {pointer:?}");
+    Ok(())
+}
+
+// The tree `a/b: [x]`, edited.
+#[test]
+fn edits(rt: HostRuntime) -> Result<(), Fail> {
+    let alloc = rt.alloc();
+    let mut pairs = Vec::new(alloc);
+    pairs.push(pair(alloc, "a/b", sequence(alloc, &["x"])?)?)?;
+    let mut tree = Tree::Map(pairs);
+    let absent = Some(PathFault::NoSuchPlace { step: 2 });
+    check_set(&rt, &mut tree, "/a~1b/-", "z", None, "{a/b: [x;z;];}")?;
+    check_set(&rt, &mut tree, "/a~1b/2", "w", absent, "{a/b: [x;z;];}")?;
+    check_set(
+        &rt,
+        &mut tree,
+        "/a~1b/01",
+        "w",
+        Some(PathFault::NotIndex { step: 2 }),
+        "{a/b: [x;z;];}",
+    )?;
+    check_set(&rt, &mut tree, "/c", "1", None, "{a/b: [x;z;];c: 1;}")?;
+    check_set(&rt, &mut tree, "/a~1b/0", "y", None, "{a/b: [y;z;];c: 1;}")?;
+    check_set(
+        &rt,
+        &mut tree,
+        "/a~1b/0/0",
+        "w",
+        Some(PathFault::NoSuchPlace { step: 3 }),
+        "{a/b: [y;z;];c: 1;}",
+    )?;
+    check_set(
+        &rt,
+        &mut tree,
+        "/d/e",
+        "w",
+        Some(PathFault::NoSuchPlace { step: 1 }),
+        "{a/b: [y;z;];c: 1;}",
+    )?;
+    check_set(&rt, &mut tree, "/a~1b", "2", None, "{a/b: 2;c: 1;}")?;
+    let key = Path::parse(alloc, "/a~1b")?;
+    assert!(rt; key.steps() > 0);
+    assert_eq!(rt; show(alloc, &delete(&mut tree, &key)?)?.as_str(), "2");
+    assert_eq!(rt;
+        delete(&mut tree, &key).err(),
+        Some(PathFault::NoSuchPlace { step: 1 })
+    );
+    assert_eq!(rt; show(alloc, &tree)?.as_str(), "{c: 1;}");
+    check_set(&rt, &mut tree, "", "whole", None, "whole")
+}
