@@ -171,24 +171,27 @@ fn reads_known_lines(rt: HostRuntime) -> Result<(), Fail> {
     // `host: example` and `port: "8080"`, each with its line feed
     assert_eq!(rt; style_len(config.tree(), 100), Some(27));
 
-    let shallow = Limits { depth: 1, ..wide };
-    let small = Limits { style: 4, ..wide };
-    let short = Limits { bytes: 4, ..wide };
-    let cases: [(&[u8], &Limits, ReadFault); 8] = [
-        (b"a: b\n", &short, ReadFault::TooLong),
-        (b"a: b\xff\n", &wide, ReadFault::NotUtf8 { at: 4 }),
-        (b"a: [x]\n", &wide, not_yet(1)),
-        (b"a: 1\n- b\n", &wide, not_yet(2)),
-        (b"a: b", &wide, not_yet(1)),
-        (b"a: 1\na: 2\n", &shallow, ReadFault::KeyTwice),
-        (b"a: b\n", &shallow, ReadFault::TooDeep),
-        (b"a: b\n", &small, ReadFault::LargeInStyle),
+    // the most bytes, the greatest depth and the most bytes in the one style
+    let cases: [(&[u8], u64, u64, u64, ReadFault); 8] = [
+        (b"a: b\n", 4, 64, 100, ReadFault::TooLong),
+        (b"a: b\xff\n", 100, 64, 100, ReadFault::NotUtf8 { at: 4 }),
+        (b"a: [x]\n", 100, 64, 100, not_yet(1)),
+        (b"a: 1\n- b\n", 100, 64, 100, not_yet(2)),
+        (b"a: b", 100, 64, 100, not_yet(1)),
+        (b"a: 1\na: 2\n", 100, 1, 100, ReadFault::KeyTwice),
+        (b"a: b\n", 100, 1, 100, ReadFault::TooDeep),
+        (b"a: b\n", 100, 64, 4, ReadFault::LargeInStyle),
     ];
-    for (bytes, limits, fault) in cases {
-        assert!(rt;
-            read_one(alloc, bytes, limits).is_err_and(|found| found == fault),
-            "{fault}"
-        );
+    for (source, bytes, depth, style, fault) in cases {
+        let limits = Limits {
+            bytes,
+            depth: depth.min(64),
+            style: style.min(100),
+        };
+        match read_one(alloc, source, &limits) {
+            Ok(_) => assert!(rt; false, "{fault}"),
+            Err(found) => assert_eq!(rt; found, fault),
+        }
     }
     Ok(())
 }
