@@ -23,7 +23,7 @@ pub use fault::{Limits, ReadFault};
 pub use read::read_one;
 pub use scalar::{ScalarStyle, scalar_style};
 pub use sink::Sink;
-pub use style::write_style;
+pub use style::{write_key, write_style, write_value};
 pub use tree::Tree;
 
 #[cfg(test)]

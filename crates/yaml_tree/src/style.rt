@@ -66,7 +66,7 @@ pub(crate) fn write_key_text<S: Sink>(key: &str, sink: &mut S) -> Result<(), S::
 }
 
 /// Writes a key through its `:`, a long one behind `? ` on a line of its own.
-fn write_key<S: Sink>(key: &str, indent: u64, sink: &mut S) -> Result<(), S::Fault>
+pub fn write_key<S: Sink>(key: &str, indent: u64, sink: &mut S) -> Result<(), S::Fault>
     ensures { OnOk result (S.Takes sink.old (key_lines indent (chars key.now)) sink.new) }
 {
     if is_long_key(key) {
@@ -144,7 +144,7 @@ fn write_members<S: Sink>(
 
 /// Writes a value behind the `:` of its key at `indent`.
 #[cycle(lines)]
-fn write_value<S: Sink>(tree: &Tree, indent: u64, sink: &mut S) -> Result<(), S::Fault>
+pub fn write_value<S: Sink>(tree: &Tree, indent: u64, sink: &mut S) -> Result<(), S::Fault>
     requires room { indent + 2 * depth (tree_of tree.now) < 2 ^ 64 }
     ensures { OnOk result (S.Takes sink.old (value_at (tree_of tree.now) indent) sink.new) }
 {

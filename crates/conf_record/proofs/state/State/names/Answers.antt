@@ -1,0 +1,15 @@
+use Rattle.std.proofs.Common.{List, [], ◌∷◌, String, Global, string_bytes, ◌≡◌, refl, ap, ◌∙◌}
+use Rattle.std.specs.Map.{keys_of}
+use Rattle.std.specs.Str.{chars}
+use Rattle.yaml_tree.specs.declared.tree.Tree.{Tree}
+use Rattle.conf_record.specs.States.{names_of}
+use Rattle.conf_record.specs.Kept.{names_from, entries_of}
+use Rattle.conf_record.proofs.state.State.names.Goals as goal
+
+same_names : (es : List (String Global × Tree)) → names_from (keys_of es) ≡ names_of (entries_of es)
+same_names [] = refl
+same_names (e ∷ es) = ap (λ names. chars (string_bytes e.0) ∷ names) (same_names es)
+
+pub returns : goal.returns
+returns c =
+    ap names_from c.keys.ensures.rest ∙ same_names c.self.inside.configs.entries ∙ ap (λ s. names_of s.configs) c.self.view_is

@@ -1,0 +1,39 @@
+use Rattle.std.proofs.Common.{◌≡◌, ◌+◌, string_bytes, min, Ok, IsUtf8, ap, sym, subst, ◌∙◌, arith}
+use Rattle.std.specs.Str.{chars}
+use Rattle.yaml_tree.specs.Seen.{tree_of}
+use Rattle.conf_record.specs.States.{put_config}
+use Rattle.conf_record.specs.BaseTexts.{entries_length}
+use Rattle.conf_record.specs.Kept.{entries_of}
+use Rattle.conf_record.specs.Steps.{counted}
+use Rattle.conf_record.proofs.EntryLemmas.{insert_entry-named}
+use Rattle.conf_record.proofs.NameLemmas.{good_name-ascii}
+use Rattle.conf_record.proofs.StateLemmas.{kept_put}
+use Rattle.conf_record.proofs.state.State.put.Goals as goal
+
+pub invariant_of-self-2 : goal.invariant_of-self-2
+invariant_of-self-2 c =
+    let name = string_bytes c.args.name in
+    let tree = tree_of c.args.config in
+    let utf8 = subst IsUtf8 c.deref.ensures c.deref.utf8 in
+    let room = c.in_ok-check_room.ensures.ok (put_config c.args.self.now.configs (chars name) tree)
+    (c.length_with-entries.ensures ∙ ap (λ bs. min (entries_length (put_config c.args.self.now.configs (chars bs) tree)) 18446744073709551615) c.deref.ensures) in
+    kept_put c.self.inside.configs.entries c.self.inside.count c.self.invariant
+    (omega (arith, ap (λ s. s.count) c.self.view_is, c.in_ok-check_room.ensures.counts))
+    c.args.name c.args.config utf8 (good_name-ascii name utf8 c.requires.named)
+    c.requires.named c.requires.within c.args.fits _
+    (subst (λ s. counted s c.args.fits (put_config s.configs (chars name) tree) ≡ Ok (record { configs = put_config s.configs (chars name) tree; count = s.count + 1 }))
+    (sym c.self.view_is) room)
+    c.insert.new.configs.entries c.in_ok-insert.ensures.ok
+
+pub returns-clause-ok : goal.returns-clause-ok
+returns-clause-ok c =
+    let name = string_bytes c.args.name in
+    let tree = tree_of c.args.config in
+    let es = c.self.inside.configs.entries in
+    let room = c.in_ok-check_room.ensures.ok (put_config c.args.self.now.configs (chars name) tree)
+    (c.length_with-entries.ensures ∙ ap (λ bs. min (entries_length (put_config c.args.self.now.configs (chars bs) tree)) 18446744073709551615) c.deref.ensures) in
+    let seen : entries_of c.insert.new.configs.entries ≡ put_config (entries_of es) (chars name) tree =
+    ap entries_of c.in_ok-insert.ensures.ok
+    ∙ insert_entry-named c.args.name (subst IsUtf8 c.deref.ensures c.deref.utf8) c.args.config es c.self.invariant.plain in
+    room ∙ ap (λ s. Ok (record { configs = put_config s.configs (chars name) tree; count = s.count + 1 })) (sym c.self.view_is)
+    ∙ ap (λ cs. Ok (record { configs = cs; count = c.self.inside.count + 1 })) (sym seen)

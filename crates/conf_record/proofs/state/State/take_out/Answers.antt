@@ -1,0 +1,29 @@
+use Rattle.std.proofs.Common.{◌≡◌, ◌+◌, Ok, ap, sym, subst, ◌∙◌, arith}
+use Rattle.std.specs.Str.{chars}
+use Rattle.conf_record.specs.States.{cut_config}
+use Rattle.conf_record.specs.Kept.{entries_of}
+use Rattle.conf_record.specs.Steps.{counted}
+use Rattle.conf_record.proofs.EntryLemmas.{shift_remove_entry-named}
+use Rattle.conf_record.proofs.StateLemmas.{kept_cut}
+use Rattle.conf_record.proofs.state.State.take_out.Goals as goal
+
+pub invariant_of-self : goal.invariant_of-self
+invariant_of-self c =
+    let name = chars c.args.name.now in
+    let room = c.in_ok-check_room.ensures.ok (cut_config c.args.self.now.configs name) (omega (arith, c.length_without-entries.ensures)) in
+    kept_cut c.self.inside.configs.entries c.self.inside.count c.self.invariant
+    (omega (arith, ap (λ s. s.count) c.self.view_is, c.in_ok-check_room.ensures.counts))
+    c.args.name.now c.utf8.name c.args.fits _
+    (subst (λ s. counted s c.args.fits (cut_config s.configs name) ≡ Ok (record { configs = cut_config s.configs name; count = s.count + 1 }))
+    (sym c.self.view_is) room)
+    c.shift_remove.new.self.entries c.shift_remove.ensures.entries
+
+pub returns-clause-ok : goal.returns-clause-ok
+returns-clause-ok c =
+    let name = chars c.args.name.now in
+    let es = c.self.inside.configs.entries in
+    let room = c.in_ok-check_room.ensures.ok (cut_config c.args.self.now.configs name) (omega (arith, c.length_without-entries.ensures)) in
+    let seen : entries_of c.shift_remove.new.self.entries ≡ cut_config (entries_of es) name =
+    ap entries_of c.shift_remove.ensures.entries ∙ shift_remove_entry-named c.args.name.now c.utf8.name es c.self.invariant.plain in
+    room ∙ ap (λ s. Ok (record { configs = cut_config s.configs name; count = s.count + 1 })) (sym c.self.view_is)
+    ∙ ap (λ cs. Ok (record { configs = cs; count = c.self.inside.count + 1 })) (sym seen)

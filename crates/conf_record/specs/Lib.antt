@@ -1,0 +1,9 @@
+pub mod BaseTexts
+pub mod Commands
+pub mod Kept
+pub mod Limits
+pub mod Names
+pub mod PathFaults
+pub mod States
+pub mod Steps
+pub mod TreeCode

@@ -1,0 +1,17 @@
+-- The limits that a state keeps.
+use Rattle.std.specs.Prelude.{◌≡◌, ◌≤◌, true, List, [], ◌∷◌}
+use Rattle.yaml_grammar.specs.Reads.{Good}
+use Rattle.conf_record.specs.Names.{good_name}
+use Rattle.conf_record.specs.States.{Entry, Contents, names_of, names_differ, config_limits, base_limit, count_limit}
+use Rattle.conf_record.specs.BaseTexts.{base_length}
+
+-- each name is good, and each tree keeps to the limits of a configuration
+abbrev pub AreConfigs : List Entry → Type 0
+AreConfigs [] = Unit {0}
+AreConfigs (e ∷ es) = (good_name e.0 ≡ true) × Good e.1 config_limits × AreConfigs es
+
+pub record IsState (s : Contents) : Type 0 where
+  pub configs : AreConfigs s.configs
+  pub distinct : names_differ (names_of s.configs) ≡ true
+  pub short : base_length s ≤ base_limit
+  pub numbered : s.count ≤ count_limit

@@ -1,0 +1,79 @@
+-- What a command makes of a state: the new state, or the first refusal that holds. They come in this order: BadName, NoConfig,
+-- Path, TooDeep, ConfigLarge, StoreFull, JournalLong, CountFull.
+use Rattle.std.specs.Prelude.{ℕ, ◌+◌, Bool, true, not, nat_le, nat_lt, if◌then◌else◌, List, [], ◌∷◌, Option, Some, None, Result, Ok, Err}
+use Rattle.yaml_grammar.specs.Texts.{byte_len}
+use Rattle.yaml_grammar.specs.Trees.{Tree, depth}
+use Rattle.yaml_grammar.specs.Style.{style_text}
+use Rattle.tree_path.specs.Paths.{set, delete}
+use Rattle.tree_path.specs.Pointers.{path_of}
+use Rattle.tree_path.specs.declared.fault.PathFault.{PathFault}
+use Rattle.conf_record.specs.Names.{good_name}
+use Rattle.conf_record.specs.Commands.{Command, import_as, set_at, delete_at, name_of}
+use Rattle.conf_record.specs.States.{Entry, Contents, config_named, put_config, cut_config, config_limits, base_limit, count_limit}
+use Rattle.conf_record.specs.BaseTexts.{base_length}
+use Rattle.conf_record.specs.declared.fault.StoreFault.{StoreFault}
+use Rattle.conf_record.specs.declared.fault.StoreFault.TheVariants.{BadName, NoConfig, Path, TooDeep, ConfigLarge, StoreFull, JournalLong, CountFull}
+
+-- the first refusal of two calls in a row, or what the second gives
+abbrev pub and_then : {A B : Type 0} → Result A StoreFault → (A → Result B StoreFault) → Result B StoreFault
+and_then (Ok x) next = next x
+and_then (Err fault) next = Err fault
+
+-- ---- the configurations after a command whose name is good
+
+abbrev pub found : Option Tree → Result Tree StoreFault
+found (Some t) = Ok t
+found None = Err NoConfig
+
+-- what a path says, as the store tells it
+abbrev pub by_path : {A : Type 0} → Result A PathFault → Result A StoreFault
+by_path (Ok x) = Ok x
+by_path (Err fault) = Err (Path fault)
+
+-- a tree that keeps to the limits of a configuration
+abbrev pub limited : Tree → Result Tree StoreFault
+limited t =
+    if nat_lt config_limits.depth (depth t) then Err TooDeep
+    else if nat_lt config_limits.style (byte_len (style_text t)) then Err ConfigLarge
+    else Ok t
+
+abbrev pub placed : List Entry → List ℕ → Tree → Result (List Entry) StoreFault
+placed configs name t = and_then (limited t) (λ u. Ok (put_config configs name u))
+
+-- the empty path takes the configuration out, any other edits it
+abbrev pub deleted : List Entry → List ℕ → Tree → List (List ℕ) → Result (List Entry) StoreFault
+deleted configs name t [] = Ok (cut_config configs name)
+deleted configs name t (token ∷ tokens) = and_then (by_path (delete t (token ∷ tokens))) (placed configs name)
+
+abbrev pub configs_after : List Entry → Command → Result (List Entry) StoreFault
+configs_after configs (import_as name tree) = placed configs name tree
+configs_after configs (set_at name path value) =
+    and_then (found (config_named configs name)) (λ t.
+    and_then (by_path (path_of path)) (λ tokens.
+    and_then (by_path (set t tokens value)) (placed configs name)))
+configs_after configs (delete_at name path) =
+    and_then (found (config_named configs name)) (λ t.
+    and_then (by_path (path_of path)) (deleted configs name t))
+
+-- ---- the state after a command
+
+-- the state with these configurations, one command on; `fits` says whether the journal has room for the command's record
+abbrev pub counted : Contents → Bool → List Entry → Result Contents StoreFault
+counted s fits configs =
+    let new : Contents = record { configs = configs; count = s.count + 1 } in
+    if nat_lt base_limit (base_length new) then Err StoreFull
+    else if not fits then Err JournalLong
+    else if nat_le count_limit s.count then Err CountFull
+    else Ok new
+
+-- what a command whose name is good makes of a state
+abbrev pub performed : Contents → Command → Bool → Result Contents StoreFault
+performed s command fits = and_then (configs_after s.configs command) (counted s fits)
+
+abbrev pub step : Contents → Command → Bool → Result Contents StoreFault
+step s command fits = if good_name (name_of command) then performed s command fits else Err BadName
+
+-- the state after commands that are accepted one after the other, or the first refusal
+abbrev pub after : Contents → List Command → Result Contents StoreFault
+after s [] = Ok s
+after s (command ∷ commands) = and_then (step s command true) (λ new. after new commands)

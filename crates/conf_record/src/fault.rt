@@ -1,0 +1,72 @@
+// Why a store refuses a command.
+ghost use Rattle.std.specs.Prelude.{◌≡◌};
+
+use std::alloc::AllocError;
+use thiserror::Error;
+use tree_path::PathFault;
+use yaml_tree::ReadFault;
+
+/// Why a command is refused. Reopen comes before all others, then the one that stands further up here; want of memory may
+/// come at any point. The message is the innermost fault's own name.
+#[derive(Clone, Copy, Debug, PartialEq, Eq, Error)]
+pub enum StoreFault {
+    /// The name isn't 1 to 64 small letters, digits, `_` and `-`, a letter first.
+    #[error("BadName")]
+    BadName,
+    /// No configuration has the name.
+    #[error("NoConfig")]
+    NoConfig,
+    /// The path is none, or leads to no place.
+    #[error("{0}")]
+    Path(PathFault),
+    /// The text to import isn't read.
+    #[error("{0}")]
+    Read(ReadFault),
+    /// The configuration would be more than 64 deep.
+    #[error("TooDeep")]
+    TooDeep,
+    /// The configuration would have more than 1,048,576 bytes in the one style.
+    #[error("ConfigLarge")]
+    ConfigLarge,
+    /// The base text of the state would have more than 67,108,864 bytes.
+    #[error("StoreFull")]
+    StoreFull,
+    /// The journal has no room for the command's record.
+    #[error("JournalLong")]
+    JournalLong,
+    /// 18,446,744,073,709,551,615 commands were accepted, and no more can be counted.
+    #[error("CountFull")]
+    CountFull,
+    /// The device failed before, and the store has to be opened again.
+    #[error("Reopen")]
+    Reopen,
+    /// The device failed.
+    #[error("Device")]
+    Device,
+    /// There was no memory. It never stands inside Path or Read.
+    #[error("OutOfMemory")]
+    OutOfMemory,
+}
+
+impl From<AllocError> for StoreFault {
+    ghost use Rattle.conf_record.specs.declared.fault.StoreFault.TheVariants.{OutOfMemory};
+
+    ghost from_gives = { λ _ fault. fault ≡ OutOfMemory };
+
+    fn from(_error: AllocError) -> StoreFault {
+        StoreFault::OutOfMemory
+    }
+}
+
+impl From<PathFault> for StoreFault {
+    ghost use Rattle.conf_record.specs.PathFaults.{told};
+
+    ghost from_gives = { λ fault result. result ≡ told fault };
+
+    fn from(fault: PathFault) -> StoreFault {
+        match fault {
+            PathFault::OutOfMemory => StoreFault::OutOfMemory,
+            other => StoreFault::Path(other),
+        }
+    }
+}

@@ -1,0 +1,209 @@
+// The state of a store.
+ghost use Rattle.std.specs.Prelude.{◌≡◌, ◌≢◌, ◌+◌, ◌<◌, ◌≤◌, ◌⊎◌, ℕ, List, [], min, true, option_map, length, string_bytes, string_eq, Ok, Err, OnOk, IfErr, OnErr};
+ghost use Rattle.std.specs.Str.{chars};
+ghost use Rattle.std.specs.Iterator.{YieldsFirstBy, item_count};
+ghost use Rattle.yaml_grammar.specs.Reads.{Good};
+ghost use Rattle.yaml_tree.specs.Seen.{tree_of};
+ghost use Rattle.conf_record.specs.Commands.{text_of};
+ghost use Rattle.conf_record.specs.Names.{good_name};
+ghost use Rattle.conf_record.specs.Limits.{IsState};
+ghost use Rattle.conf_record.specs.States.{Entry, names_of, config_named, put_config, cut_config, config_limits};
+ghost use Rattle.conf_record.specs.BaseTexts.{entry_length, entries_length};
+ghost use Rattle.conf_record.specs.Steps.{counted};
+ghost use Rattle.indexmap.specs.IndexMap.{insert_entry};
+
+use crate::StoreFault;
+use crate::base::{BASE_LIMIT, base_length, entry_length};
+use indexmap::IndexMap;
+use indexmap::map::Keys;
+use std::alloc::{AllocError, Global};
+use std::marker::Model;
+use yaml_tree::Config;
+
+/// The configurations of a store by name, in order, and how many commands were accepted. Contracts see the list of
+/// configurations, with each name as its characters, and the count.
+#[derive(Drop)]
+pub struct State {
+    configs: IndexMap<String, Config>,
+    count: u64,
+}
+
+impl Model for State {
+    ghost use Rattle.conf_record.specs.States.{Contents};
+    ghost use Rattle.conf_record.specs.TreeCode.{contents_code};
+
+    ghost Value = { Contents };
+
+    ghost coded = { contents_code };
+
+    ghost use Rattle.conf_record.specs.Kept.{entries_of, IsKept};
+
+    ghost view = { λ s. record { configs = entries_of s.configs.entries; count = s.count } };
+
+    ghost invariant = { λ s. IsKept s.configs.entries s.count };
+}
+
+impl State {
+    /// No configurations, and no command accepted. It takes no memory.
+    pub fn new(alloc: Global) -> State
+        ensures { result ≡ record { configs = []; count = 0 } }
+    {
+        State {
+            configs: IndexMap::new(alloc),
+            count: 0,
+        }
+    }
+
+    /// How many commands were accepted.
+    pub fn count(&self) -> u64
+        ensures count { result ≡ self.now.count }
+        ensures limits { IsState self.now }
+    {
+        self.count
+    }
+
+    /// The configuration under a name.
+    pub fn get(&self, name: &str) -> Option<&Config>
+        ensures { option_map (λ config. tree_of config.now) result ≡ config_named self.now.configs (chars name.now) }
+    {
+        self.configs.get(name)
+    }
+
+    /// The names, in the order of the configurations.
+    pub fn names(&self) -> Names<'_>
+        ensures { result ≡ names_of self.now.configs }
+    {
+        Names {
+            keys: self.configs.keys(),
+        }
+    }
+
+    /// Puts a configuration under a name, where the store has room for it.
+    pub(crate) fn put(&mut self, name: String, config: Config, fits: bool) -> Result<(), StoreFault>
+        requires named { good_name (text_of name) ≡ true }
+        requires within { Good (tree_of config) config_limits }
+        ensures ok { OnOk result
+            (counted self.old fits (put_config self.old.configs (text_of name) (tree_of config)) ≡ Ok self.new) }
+        ensures refused { IfErr result (λ fault. (fault ≡ StoreFault.OutOfMemory)
+            ⊎ (counted self.old fits (put_config self.old.configs (text_of name) (tree_of config)) ≡ Err fault)) }
+        ensures unchanged { OnErr result (self.new ≡ self.old) }
+    {
+        let entries = self.length_with(&name, &config);
+        self.check_room(entries, fits)?;
+        insert(&mut self.configs, name, config)?;
+        self.count += 1;
+        Ok(())
+    }
+
+    /// Takes out the configuration under a name.
+    pub(crate) fn take_out(&mut self, name: &str, fits: bool) -> Result<(), StoreFault>
+        ensures ok { OnOk result (counted self.old fits (cut_config self.old.configs (chars name.now)) ≡ Ok self.new) }
+        ensures refused { IfErr result
+            (λ fault. counted self.old fits (cut_config self.old.configs (chars name.now)) ≡ Err fault) }
+        ensures unchanged { OnErr result (self.new ≡ self.old) }
+    {
+        let entries = self.length_without(name);
+        self.check_room(entries, fits)?;
+        let _ = self.configs.shift_remove(name);
+        self.count += 1;
+        Ok(())
+    }
+
+    /// Whether the store has room for one command more, after which the configurations have so many bytes in the base text.
+    fn check_room(&self, entries: u64, fits: bool) -> Result<(), StoreFault>
+        ensures ok { OnOk result ((configs : List Entry) → entries ≡ min (entries_length configs) u64.MAX
+            → counted self.now fits configs ≡ Ok (record { configs = configs; count = self.now.count + 1 })) }
+        ensures counts { OnOk result (self.now.count < u64.MAX) }
+        ensures refused { IfErr result (λ fault. (configs : List Entry) → entries ≡ min (entries_length configs) u64.MAX
+            → counted self.now fits configs ≡ Err fault) }
+    {
+        if base_length(u128::from(self.count) + 1, entries) > BASE_LIMIT {
+            return Err(StoreFault::StoreFull);
+        }
+        if !fits {
+            return Err(StoreFault::JournalLong);
+        }
+        if self.count == u64::MAX {
+            return Err(StoreFault::CountFull);
+        }
+        Ok(())
+    }
+
+    /// How many bytes all configurations have in the base text.
+    fn entries_length(&self) -> u64
+        ensures { result ≡ entries_length self.now.configs }
+    {
+        let mut total = 0u64;
+        for (name, config) in self.configs.iter() {
+            total = total.saturating_add(entry_length(name, config));
+        }
+        total
+    }
+
+    /// How many bytes the configuration under a name has in the base text; 0 where there is none.
+    fn length_of(&self, name: &str) -> u64
+        ensures { result + entries_length (cut_config self.now.configs (chars name.now)) ≡ entries_length self.now.configs }
+    {
+        let _ = &self.count;
+        match self.get(name) {
+            Some(config) => entry_length(name, config),
+            None => 0,
+        }
+    }
+
+    /// How many bytes the configurations would have in the base text with this one under its name. The greatest `u64`
+    /// stands for all that are more.
+    fn length_with(&self, name: &str, config: &Config) -> u64
+        ensures { result ≡ min (entries_length (put_config self.now.configs (chars name.now) (tree_of config.now))) u64.MAX }
+    {
+        self.length_without(name)
+            .saturating_add(entry_length(name, config))
+    }
+
+    /// How many bytes the configurations would have in the base text without the one under this name.
+    fn length_without(&self, name: &str) -> u64
+        ensures { result ≡ entries_length (cut_config self.now.configs (chars name.now)) }
+    {
+        self.entries_length() - self.length_of(name)
+    }
+}
+
+/// Puts a configuration under a name: last where the name is new, else in the place of the one that is there.
+fn insert(
+    configs: &mut IndexMap<String, Config>,
+    name: String,
+    config: Config,
+) -> Result<(), AllocError>
+    ensures ok { OnOk result (configs.new.entries ≡ insert_entry string_eq configs.old.entries name config) }
+    ensures unchanged { OnErr result (configs.new.entries ≡ configs.old.entries) }
+{
+    let _ = configs.insert(name, config)?;
+    Ok(())
+}
+
+/// The names of a state's configurations that are left, in order. Contracts see the list of them.
+#[derive(Drop)]
+pub struct Names<'a> {
+    keys: Keys<'a, String, Config>,
+}
+
+impl<'a> Model for Names<'a> {
+    ghost use Rattle.std.specs.Prelude.{List, ℕ};
+    ghost use Rattle.conf_record.specs.Kept.{names_from};
+
+    ghost Value = { List (List ℕ) };
+
+    ghost view = { λ names. names_from names.keys };
+}
+
+impl<'a> Iterator for Names<'a> {
+    type Item = &'a str;
+
+    ghost next_gives = { YieldsFirstBy (λ name. chars name.now) (λ names. names) };
+
+    ghost remaining = { item_count (λ names. names) };
+
+    fn next(&mut self) -> Option<&'a str> {
+        Some(self.keys.next()?.as_str())
+    }
+}
