@@ -369,11 +369,9 @@ fn is_before(state: &State, number: u32) -> bool {
     }
 }
 
-// It is also run with each of its allocations refused in turn: then the step is answered OutOfMemory, the state is as it
-// was, and the same step is answered as ever.
-#[test]
-fn a_step_without_memory_changes_nothing(rt: HostRuntime) {
-    let alloc = rt.alloc();
+/// Performs the run, and answers how many steps were refused memory. Such a step has to leave the state as it was, and to be
+/// answered as ever when it is asked again.
+fn refusals(rt: &impl Abort, alloc: Global) -> u32 {
     let mut state = State::new(alloc);
     let mut refusals = 0u32;
     for number in 0..8u32 {
@@ -386,7 +384,20 @@ fn a_step_without_memory_changes_nothing(rt: HostRuntime) {
         assert_eq!(rt; answered, answer(number), "at step {number}");
         assert_eq!(rt; is_before(&state, number + 1), true, "after step {number}");
     }
-    assert_eq!(rt; refusals <= 1, true);
+    refusals
+}
+
+// A script runs these two with each allocation refused in turn. The first has to hold all the same, and the second exactly
+// where none of the run's allocations was refused.
+#[test]
+fn a_step_without_memory_changes_nothing(rt: HostRuntime) {
+    let refused = refusals(&rt, rt.alloc());
+    assert_eq!(rt; refused <= 1, true);
+}
+
+#[test]
+fn no_step_wants_memory(rt: HostRuntime) {
+    assert_eq!(rt; refusals(&rt, rt.alloc()), 0);
 }
 
 // In quotes and with the end of its line, 1,048,573 letters have 1,048,576 bytes.

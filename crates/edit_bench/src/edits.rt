@@ -1,0 +1,86 @@
+// The edits themselves: of a tree, and of a configuration by commands.
+use crate::order::{Order, Target};
+use conf_record::{Command, State, StoreFault, step};
+use std::alloc::{AllocError, Global};
+use std::io;
+use thiserror::Error;
+use tree_path::{Path, PathFault, delete, set};
+use yaml_tree::{Config, ReadFault, Tree, style_len};
+
+/// Something was refused.
+#[derive(Debug, Drop, Error)]
+pub(crate) enum Refused {
+    #[error("{0}")]
+    Path(#[from] PathFault),
+    #[error("{0}")]
+    Step(#[from] StoreFault),
+    #[error("{0}")]
+    Tree(ReadFault),
+    #[error("{0}")]
+    Memory(#[from] AllocError),
+    #[error("{0}")]
+    Output(#[from] io::Error),
+    #[error("the tree is longer than any")]
+    Long,
+}
+
+/// How many bytes the tree has in the one style.
+pub(crate) fn length_in_style(alloc: Global, order: &Order) -> Result<u64, Refused> {
+    let tree = order.shape.tree(alloc)?;
+    style_len(&tree, u64::MAX).ok_or(Refused::Long)
+}
+
+/// Makes the edits.
+pub(crate) fn run(alloc: Global, order: &Order) -> Result<(), Refused> {
+    let tree = order.shape.tree(alloc)?;
+    let pointer = order.shape.end(alloc)?;
+    match order.target {
+        Target::Tree => edit_tree(alloc, tree, &pointer, order.rounds),
+        Target::State => edit_state(alloc, tree, &pointer, order.rounds),
+    }
+}
+
+fn edit_tree(alloc: Global, mut tree: Tree, pointer: &str, rounds: u32) -> Result<(), Refused> {
+    let path = Path::parse(alloc, pointer)?;
+    for _ in 0..rounds {
+        set_and_delete(alloc, &mut tree, &path)?;
+    }
+    Ok(())
+}
+
+fn set_and_delete(alloc: Global, tree: &mut Tree, path: &Path) -> Result<(), Refused> {
+    let value = Tree::Text(String::from_str(alloc, "set")?);
+    set(alloc, tree, path, value).map_err(|(_, fault)| fault)?;
+    // The pointer to the end has steps; of an empty one nothing could be deleted.
+    if path.steps() > 0 {
+        let _ = delete(tree, path)?;
+    }
+    Ok(())
+}
+
+fn edit_state(alloc: Global, tree: Tree, pointer: &str, rounds: u32) -> Result<(), Refused> {
+    let mut state = State::new(alloc);
+    let import = Command::Import {
+        name: String::from_str(alloc, "c")?,
+        tree: config(alloc, tree)?,
+    };
+    step(alloc, &mut state, import, true)?;
+    for _ in 0..rounds {
+        let set = Command::Set {
+            name: String::from_str(alloc, "c")?,
+            path: String::from_str(alloc, pointer)?,
+            value: config(alloc, Tree::Text(String::from_str(alloc, "set")?))?,
+        };
+        step(alloc, &mut state, set, true)?;
+        let delete = Command::Delete {
+            name: String::from_str(alloc, "c")?,
+            path: String::from_str(alloc, pointer)?,
+        };
+        step(alloc, &mut state, delete, true)?;
+    }
+    Ok(())
+}
+
+fn config(alloc: Global, tree: Tree) -> Result<Config, Refused> {
+    Config::new(alloc, tree).map_err(|(_, fault)| Refused::Tree(fault))
+}

@@ -1,0 +1,32 @@
+// Closing lines: where one text of a row ends and the next begins.
+ghost use Rattle.std.specs.Prelude.{IfSome, IfNone};
+ghost use Rattle.yaml_docs.specs.NextClosing.{StartsLine, IsNextClosing, NoClosingBehind};
+
+use memchr::memmem;
+
+/// The line that closes a text: three dots and a line feed.
+const CLOSING_LINE: &[u8] = b"...\n";
+
+/// The same behind the end of another line.
+const LINE_AND_CLOSING_LINE: &[u8] = b"\n...\n";
+
+/// The first place behind `at` that stands just behind a closing line: a line of exactly `...` and a line feed. Places count
+/// bytes from 0. A line has to start at `at`, as at 0 and behind each closing line, so that the next one can be looked for from there.
+///
+/// A `...` with CR and LF, or with a comment, ends a document (9.1.4) and closes nothing: so of a text that was cut short no
+/// front is closed that it doesn't hold whole.
+pub fn next_close(bytes: &[u8], at: usize) -> Option<usize>
+    requires { StartsLine bytes.now at }
+    ensures found { IfSome result (IsNextClosing bytes.now at) }
+    ensures starts_line { IfSome result (StartsLine bytes.now) }
+    ensures none { IfNone result (NoClosingBehind bytes.now at) }
+{
+    let rest = &bytes[at..];
+    if rest.starts_with(CLOSING_LINE) {
+        return Some(at + CLOSING_LINE.len());
+    }
+    let Some(line) = memmem::find(rest, LINE_AND_CLOSING_LINE) else {
+        return None;
+    };
+    Some(at + line + LINE_AND_CLOSING_LINE.len())
+}
