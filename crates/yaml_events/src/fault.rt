@@ -1,4 +1,7 @@
 // Why a scanner stops.
+ghost use Rattle.std.specs.Prelude.{◌≡◌};
+
+use std::alloc::AllocError;
 use thiserror::Error;
 
 /// Why no node stands where one is looked for. Which of them a text gets is no promise: it is there to help its writer.
@@ -62,4 +65,14 @@ pub enum ScanFault {
     /// There was no memory for a value.
     #[error("OutOfMemory")]
     OutOfMemory,
+}
+
+impl From<AllocError> for ScanFault {
+    ghost use Rattle.yaml_events.specs.declared.fault.ScanFault.TheVariants.{OutOfMemory};
+
+    ghost from_gives = { λ _ fault. fault ≡ OutOfMemory };
+
+    fn from(_error: AllocError) -> ScanFault {
+        ScanFault::OutOfMemory
+    }
 }

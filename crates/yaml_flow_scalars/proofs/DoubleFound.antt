@@ -1,0 +1,85 @@
+-- A double-quoted scalar at a place of a text: where one stands, where none does, and which are borrowed.
+use Rattle.std.proofs.Common.{◌≡◌, ℕ, ◌+◌, ◌-◌, ◌<◌, ◌≤◌, true, false, List, [], ◌∷◌, refl, ap, sym, ◌∙◌, subst, arith, length, inl, inr, get_or, drop, length-take, length-drop, Some, None}
+use Rattle.std.specs.Prelude.{◌==◌, slice_range}
+use Rattle.std.specs.List.{AllPass}
+use Rattle.std.specs.Str.{IsUtf8, IsCharBoundary, chars}
+use Rattle.std.proofs.lemmas.Bool.{cases_lt, not-true, or_parts, eqb-false}
+use Rattle.std.proofs.lemmas.List.{get_or-take, get_or-drop}
+use Rattle.std.proofs.lemmas.Str.{IsUtf8-nil}
+use Rattle.yaml_chars.specs.Classes.{line_break}
+use Rattle.yaml_chars.specs.Places.{rest, IsRun}
+use Rattle.yaml_chars.proofs.Places.{char_at, rest-end}
+use Rattle.yaml_chars.proofs.Runs.{blind-line_break, test-char_at}
+use Rattle.yaml_grammar.specs.Texts.{first}
+use Rattle.yaml_grammar.specs.Events.{double_style}
+use Rattle.yaml_grammar.specs.FlowScalars.{FlowContext}
+use Rattle.yaml_recognizers.specs.Joins.{at_break}
+use Rattle.yaml_recognizers.specs.WholeScalars.{IsScalar, NoScalar}
+use Rattle.yaml_recognizers.proofs.Reading.{none_some}
+use Rattle.yaml_events.specs.Places.{line_starts}
+use Rattle.yaml_flow_scalars.specs.Standing.{ScalarAt, NoScalarAt}
+use Rattle.yaml_flow_scalars.specs.DoubleScan.{double_value, raw_char, ClosesAt}
+use Rattle.yaml_flow_scalars.specs.DoubleBorrowed.{is_verbatim}
+use Rattle.yaml_flow_scalars.proofs.DoublePlaces.{byte_read}
+use Rattle.yaml_flow_scalars.proofs.DoubleReads.{double_found, double_missing, double_quoted_first}
+use Rattle.yaml_flow_scalars.proofs.DoubleAdds.{no_char, run_adds, run_stray, closes}
+
+module _ (n : ℕ) (c : FlowContext) (text : List ℕ) (u : IsUtf8 text) where
+  -- ---- none
+
+  pub no_quote_at : (at : ℕ) → IsCharBoundary text at → (at < length text → get_or text at 0 ≡ 34 → ⊥) → NoScalarAt double_style n c text at
+  no_quote_at at b h s behind e = double_quoted_first n c (line_starts text at) (rest text at) s behind other e
+    where
+      other : first (λ x. x == 34) (rest text at) ≡ false
+      other = elim (cases_lt at (length text)) [
+        | inl l ↦ (let there = char_at text at u b l in ap (first (λ x. x == 34)) there.1.splits ∙ no_char text at there.0 34 there.1 (omega arith) (h l))
+        | inr past ↦ ap (first (λ x. x == 34)) (rest-end text at past)
+      ]
+
+  module _ (at : ℕ) (l : at < length text) (q : get_or text at 0 ≡ 34) where
+    there : rest text at ≡ 34 ∷ rest text (at + 1)
+    there = byte_read text at 34 u l q (omega arith)
+
+    pub none_behind : double_value n c (rest text (at + 1)) ≡ None → NoScalarAt double_style n c text at
+    none_behind h s behind e stands =
+        subst (λ (t : List ℕ). NoScalar n c (line_starts text at) t) (sym there) (double_missing n c (line_starts text at) (rest text (at + 1)) h) s behind stands
+
+    -- ---- one
+
+    pub scalar_there : (value : List ℕ) (end : ℕ) → at < end → IsCharBoundary text end → double_value n c (rest text (at + 1)) ≡ Some (value, rest text end)
+        → ScalarAt double_style n c text at value end
+    scalar_there value end above b h = record {
+      above = above;
+      boundary = b;
+      scalar = subst (λ (t : List ℕ). IsScalar n c (line_starts text at) t double_style value (rest text end)) (sym there)
+          (double_found n c (line_starts text at) (rest text (at + 1)) value (rest text end) h);
+    }
+
+  -- the first run of characters is all
+  pub run_closes : (start end : ℕ) → IsCharBoundary text start → IsRun raw_char text start end → end < length text → get_or text end 0 ≡ 34
+      → double_value n c (rest text start) ≡ Some (chars (slice_range text start end), rest text (end + 1))
+  run_closes start end b run l q =
+      closes n c text start (slice_range text start end) end u
+      (run_adds n c text u start end b run [] (slice_range text start end) IsUtf8-nil (ap at_break (byte_read text end 34 u l q (omega arith))) refl) l q
+
+  -- ---- where the first run is not all, a break or a backslash stands between the quotes
+
+  byte_between : (start k end : ℕ) → start ≤ k → k < end → end ≤ length text → (k - start < length (slice_range text start end)) × (get_or (slice_range text start end) (k - start) 0 ≡ get_or text k 0)
+  byte_between start k end above below within =
+      let size : k - start < length (slice_range text start end) = omega (arith, length-take (end - start) (drop start text), length-drop start text) in
+      (size, get_or-take (end - start) (drop start text) (k - start) 0 (omega arith) ∙ get_or-drop start text (k - start) 0 ∙ ap (λ x. get_or text x 0) (let e : start + (k - start) ≡ k = omega arith in e))
+
+  pub not_verbatim : (start beyond : ℕ) (value : List ℕ) (end : ℕ) → IsCharBoundary text start → IsRun raw_char text start beyond → (beyond < length text → get_or text beyond 0 ≡ 34 → ⊥)
+      → ClosesAt n c text start beyond value end → AllPass is_verbatim (slice_range text start (end - 1)) → ⊥
+  not_verbatim start beyond value end b run open_still h verbatim =
+      let more = h.above in
+      let within = h.boundary.0 in
+      let above = run.above in
+      let inside : beyond < length text = omega arith in
+      let byte = byte_between start beyond (end - 1) run.above (omega arith) (omega arith) in
+      let kept : is_verbatim (get_or text beyond 0) ≡ true = ap is_verbatim (sym byte.1) ∙ verbatim (beyond - start) 0 byte.0 in
+      let neither = or_parts (line_break (get_or text beyond 0)) (get_or text beyond 0 == 92) (not-true _ kept) in
+      let there = char_at text beyond u run.boundary inside in
+      let unbroken : first line_break (rest text beyond) ≡ false =
+      ap (first line_break) there.1.splits ∙ (test-char_at line_break text beyond there.0 blind-line_break u there.1 ∙ neither.0) in
+      none_some _ (sym (run_stray n c text u start beyond b run open_still (λ _ e. eqb-false (get_or text beyond 0) 92 neither.1 e) unbroken) ∙ h.means)

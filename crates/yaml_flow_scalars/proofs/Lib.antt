@@ -1,0 +1,14 @@
+pub mod FoldBytes
+pub mod FoldSteps
+pub mod WhiteEnds
+pub mod Refusals
+pub mod PlainPieces
+pub mod PlainStarts
+pub mod PlainLines
+pub mod PlainFound
+pub mod SingleSteps
+pub mod SinglePlaces
+pub mod DoubleReads
+pub mod DoublePlaces
+pub mod DoubleAdds
+pub mod DoubleFound

@@ -1,0 +1,113 @@
+-- From the places of a plain scalar's lines to the scalar that stands there.
+use Rattle.std.proofs.Common.{◌≡◌, refl, sym, ◌∙◌, ap, subst, arith, length, length-drop, ℕ, ◌+◌, ◌-◌, ◌<◌, ◌≤◌, get_or}
+use Rattle.std.specs.Prelude.{Bool, true, false, List, [], ◌∷◌, ◌++◌, drop, flat_map, slice_range, slice_index, Some, None}
+use Rattle.std.specs.Str.{IsUtf8, IsCharBoundary}
+use Rattle.std.proofs.lemmas.Bool.{and_parts, false≢true, not-true}
+use Rattle.std.proofs.lemmas.List.{append_cancel_right, get_or-take, get_or-drop, length-take}
+use Rattle.std.proofs.Math.Seq.{drop-append_seam}
+use Rattle.yaml_chars.specs.Breaks.{NoBreak}
+use Rattle.yaml_chars.specs.Classes.{line_break, ns}
+use Rattle.yaml_chars.specs.Places.{rest, between}
+use Rattle.yaml_chars.proofs.Places.{rest-between}
+use Rattle.yaml_grammar.specs.Events.{plain_style}
+use Rattle.yaml_grammar.specs.Texts.{no_marker}
+use Rattle.yaml_grammar.specs.FlowScalars.{FlowContext, Line, plain, single, double, plain_first, char_value, line_value}
+use Rattle.yaml_events.specs.Places.{line_starts}
+use Rattle.yaml_recognizers.specs.FlowScalars.{Stands, scalar_ends}
+use Rattle.yaml_recognizers.specs.WholeScalars.{IsScalar}
+use Rattle.yaml_recognizers.specs.PlainScalars.{read_run, read_plain, with_lines, plain_lines_at}
+use Rattle.yaml_recognizers.proofs.Reading.{none_some, sound_is}
+use Rattle.yaml_recognizers.proofs.FlowScalars.{complete}
+use Rattle.yaml_recognizers.proofs.PlainScalars.{plain_read, plain_sound}
+use Rattle.yaml_recognizers.proofs.PlainSteps.{step_begin, no_begin}
+use Rattle.yaml_recognizers.proofs.WholeScalars.{is_scalar, whole_stands}
+use Rattle.yaml_flow_scalars.specs.PlainPlaces.{begins_plain, BeginsPlain, NoPlainBegins, IsPlainRun, IsNextLine, lines_value}
+use Rattle.yaml_flow_scalars.specs.Standing.{ScalarAt, NoScalarAt}
+use Rattle.yaml_flow_scalars.proofs.PlainLines.{values_are}
+
+-- ---- found
+
+first_is_ns : (c : FlowContext) (x : ℕ) (xs : List ℕ) → plain_first c x xs ≡ true → ns x ≡ true
+first_is_ns c x xs h = (and_parts (ns x) _ h).0
+
+-- what the recognizer of plain scalars reads stands there
+read_stands : (n : ℕ) (c : FlowContext) (bol : Bool) (text front : List ℕ) (more : List (Line ℕ)) (behind value : List ℕ)
+    → read_plain n c bol text ≡ Some (plain front more, behind) → front ++ flat_map (line_value char_value) more ≡ value → IsScalar n c bol text plain_style value behind
+read_stands n c bol text front more behind value e v =
+    let stands : Stands n c bol text (plain front more) behind = sound_is (Stands n c bol text) (read_plain n c bol text) (plain front more, behind) (plain_sound n c bol text) e in
+    subst (λ t. IsScalar n c bol text plain_style t behind) (ap (λ t. t ++ flat_map (line_value char_value) more) (values_are front) ∙ v)
+    (is_scalar n c bol text (plain front more) behind (complete n c bol text (plain front more) behind stands))
+
+module _ (n : ℕ) (c : FlowContext) (text : List ℕ) (at behind end : ℕ) (u : IsUtf8 text) (b : IsCharBoundary text at) (begins : BeginsPlain c text at behind)
+    (run : IsPlainRun c true text behind end) where
+  first_line_read : read_plain n c (line_starts text at) (rest text at) ≡ with_lines (begins.character ∷ between text behind end) (plain_lines_at n c (rest text end))
+  first_line_read =
+      let x : ℕ = begins.character in
+      let xs : List ℕ = rest text behind in
+      let held : List ℕ = between text behind end in
+      let fits = and_parts (no_marker (line_starts text at) (x ∷ xs)) (plain_first c x xs) begins.begins in
+      let reads : read_run c x xs ≡ held = run.reads x (first_is_ns c x xs fits.1) in
+      let left : drop (length held) xs ≡ rest text end =
+      ap (drop (length held)) (rest-between text behind end u run.above begins.boundary run.boundary) ∙ drop-append_seam held (rest text end) in
+      ap (read_plain n c (line_starts text at)) begins.splits
+      ∙ (step_begin n c (line_starts text at) x xs begins.begins
+      ∙ (ap (λ r. with_lines (x ∷ r) (plain_lines_at n c (drop (length r) xs))) reads
+      ∙ ap (λ t. with_lines (x ∷ held) (plain_lines_at n c t)) left))
+
+  first_line_text : begins.character ∷ between text behind end ≡ between text at end
+  first_line_text =
+      let above = begins.above in
+      let further = run.above in
+      append_cancel_right (begins.character ∷ between text behind end) (between text at end) (rest text end)
+      (ap (λ t. begins.character ∷ t) (sym (rest-between text behind end u run.above begins.boundary run.boundary))
+      ∙ (sym begins.splits ∙ rest-between text at end u (omega arith) b run.boundary))
+
+  -- its first line goes up to the place `end`, and the further ones up to another
+  pub plain_found : (last : ℕ) (value : List ℕ) → end ≤ last → IsCharBoundary text last → (plain_lines_at n c (rest text end)).1 ≡ rest text last
+      → between text at end ++ lines_value n c text end ≡ value → ScalarAt plain_style n c text at value last
+  plain_found last value l d left v =
+      let above = begins.above in
+      let further = run.above in
+      let more : List (Line ℕ) × List ℕ = plain_lines_at n c (rest text end) in
+      let front : List ℕ = begins.character ∷ between text behind end in
+      record {
+        above = omega arith;
+        boundary = d;
+        scalar = read_stands n c (line_starts text at) (rest text at) front more.0 (rest text last) value
+            (first_line_read ∙ ap (λ (t : List ℕ). Some (plain front more.0, t)) left)
+            (ap (λ t. t ++ lines_value n c text end) first_line_text ∙ v);
+      }
+
+-- ---- not found
+
+read_none : (n : ℕ) (c : FlowContext) (bol : Bool) (text : List ℕ) → begins_plain c bol text ≡ false → read_plain n c bol text ≡ None
+unfolding read_plain
+read_none n c bol [] h = refl
+read_none n c bol (x ∷ xs) h = no_begin n c bol x xs h
+
+plain_reads : (n : ℕ) (c : FlowContext) (bol : Bool) (text front : List ℕ) (more : List (Line ℕ)) (behind : List ℕ) → Stands n c bol text (plain front more) behind
+    → read_plain n c bol text ≡ Some (plain front more, behind)
+unfolding scalar_ends
+plain_reads n c bol text front more behind h = ap (read_plain n c bol) h.spells ∙ plain_read n c bol front more behind h.fits h.ends
+
+pub plain_missing : (n : ℕ) (c : FlowContext) (text : List ℕ) (at : ℕ) → NoPlainBegins c text at → NoScalarAt plain_style n c text at
+plain_missing n c text at h (plain front more) behind e stands =
+    none_some (plain front more, behind) (sym (read_none n c (line_starts text at) (rest text at) h)
+    ∙ plain_reads n c (line_starts text at) (rest text at) front more behind (whole_stands n c (line_starts text at) (rest text at) (plain front more) behind stands))
+plain_missing n c text at h (single front more) behind e stands = cc
+plain_missing n c text at h (double front more) behind e stands = cc
+
+-- ---- memory
+
+-- before a further line stands a break
+pub line_breaks : (n : ℕ) (c : FlowContext) (text : List ℕ) (at end empties start stop last : ℕ) → at ≤ end → IsNextLine n c text end empties start stop → stop ≤ last → last ≤ length text
+    → NoBreak (slice_range text at last) → ⊥
+line_breaks n c text at end empties start stop last l next m within none =
+    let behind = next.behind in
+    let before = next.before in
+    let holds = next.holds in
+    let k : ℕ = next.stop - at in
+    let size : k < length (slice_range text at last) = omega (arith, length-take (last - at) (drop at text), length-drop at text) in
+    let there : get_or (slice_range text at last) k 0 ≡ slice_index text next.stop =
+    get_or-take (last - at) (drop at text) k 0 (omega arith) ∙ (get_or-drop at text k 0 ∙ ap (λ x. get_or text x 0) (let e : at + k ≡ next.stop = omega arith in e)) in
+    false≢true (sym (not-true (line_break (get_or (slice_range text at last) k 0)) (none k 0 size)) ∙ (ap line_break there ∙ next.breaks))

@@ -1,0 +1,48 @@
+use Rattle.std.proofs.Common.{◌≡◌, subst, arith, ◌+◌, ◌-◌, get_or}
+use Rattle.yaml_flow_scalars.proofs.DoublePlaces.{DigitsTo, digits_none, digits_more, digits_all, digits_end, digits_broken, number_fits, digit_fits}
+use Rattle.yaml_flow_scalars.proofs.double_quoted.hex_number.Goals as goal
+
+pub loop-end-init : goal.loop-end-init
+loop-end-init c = record { few = omega arith; digits = digits_none c.args.text.now c.args.at c.requires.at }
+
+pub returns-then-end-text-clause-none : goal.returns-then-end-text-clause-none
+returns-then-end-text-clause-none c =
+    let d = c.loop-end.invariant.digits in
+    digits_end c.args.text.now c.args.at c.loop-end.end c.args.count c.loop-end.number c.requires.utf8 c.requires.at d (omega arith) (omega arith)
+
+pub overflow_mul-number : goal.overflow_mul-number
+overflow_mul-number c =
+    let d = c.loop-end.invariant.digits in
+    omega (arith, number_fits (c.loop-end.end - c.args.at) c.loop-end.number 0 (omega (arith, c.requires.few)) d.fits (omega arith))
+
+pub returns-in_err-number-clause-none : goal.returns-in_err-number-clause-none
+returns-in_err-number-clause-none c =
+    let d = c.loop-end.invariant.digits in
+    let within = d.boundary.0 in
+    rw c.from_residual.ensures (digits_broken c.args.text.now c.args.at c.loop-end.end c.args.count c.loop-end.number c.requires.utf8 c.requires.at d (omega arith) (omega arith)
+    c.in_err-number.ensures.none)
+
+pub overflow_add-number : goal.overflow_add-number
+overflow_add-number c =
+    let d = c.loop-end.invariant.digits in
+    omega (
+      arith,
+      number_fits (c.loop-end.end - c.args.at) c.loop-end.number c.in_ok-number.field-0 (omega (arith, c.requires.few)) d.fits
+          (digit_fits (get_or c.args.text.now c.loop-end.end 0) c.in_ok-number.field-0 c.in_ok-number.ensures.found),
+    )
+
+pub loop-end-preserved : goal.loop-end-preserved
+loop-end-preserved c =
+    let d = c.loop-end.invariant.digits in
+    let within = d.boundary.0 in record {
+      few = omega arith;
+      digits = digits_more c.args.text.now c.args.at c.loop-end.end c.loop-end.number c.in_ok-number.field-0 c.requires.utf8 c.requires.at d (omega arith) c.in_ok-number.ensures.found;
+    }
+
+pub returns-clause-found : goal.returns-clause-found
+returns-clause-found c =
+    let i = c.loop-end.invariant in
+    let d = i.digits in
+    let above = d.above in
+    let e : c.loop-end.end ≡ c.args.at + c.args.count = omega arith in
+    digits_all c.args.text.now c.args.at c.args.count c.loop-end.number c.requires.utf8 c.requires.at (subst (λ k. DigitsTo c.args.text.now c.args.at k c.loop-end.number) e d)

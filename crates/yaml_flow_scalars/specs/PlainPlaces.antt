@@ -1,0 +1,94 @@
+-- Plain scalars at places of a text: the first character, a line's run of characters, and further lines.
+-- Here black tells whether the character before a place is neither white nor a break.
+use Rattle.std.specs.Prelude.{◌≡◌, ℕ, ◌<◌, ◌≤◌, Bool, true, false, not, ◌&&◌, nat_lt, List, [], ◌∷◌, ◌++◌, codes, flat_map, slice_index, slice_range}
+use Rattle.std.specs.Cow.{IsBorrowedStr, cow_str_bytes}
+use Rattle.std.specs.Str.{IsCharBoundary, chars}
+use Rattle.std.specs.declared.borrow.CowStr.{CowStr}
+use Rattle.yaml_chars.specs.Breaks.{NoBreak}
+use Rattle.yaml_chars.specs.Classes.{is_in, line_break, ns}
+use Rattle.yaml_chars.specs.Places.{rest, between}
+use Rattle.yaml_grammar.specs.Texts.{no_marker}
+use Rattle.yaml_grammar.specs.FlowScalars.{FlowContext, Line, safe, plain_first, plain_next, line_value, char_value, folded_break}
+use Rattle.yaml_events.specs.Places.{line_starts}
+use Rattle.yaml_recognizers.specs.PlainScalars.{read_run, plain_lines_at}
+
+-- ---- characters
+
+-- a plain character wherever it stands in a scalar, and a byte of its own
+abbrev pub simple : FlowContext → ℕ → Bool
+simple c x = nat_lt x 128 && (safe c x && not (is_in x (codes ":#")))
+
+-- where bol tells whether a line starts there, the text begins with the first character of a plain scalar
+abbrev pub begins_plain : FlowContext → Bool → List ℕ → Bool
+begins_plain c bol [] = false
+begins_plain c bol (x ∷ xs) = no_marker bol (x ∷ xs) && plain_first c x xs
+
+-- the text behind a character begins with a plain one
+abbrev pub goes_on_plain : FlowContext → ℕ → List ℕ → Bool
+goes_on_plain c before [] = false
+goes_on_plain c before (x ∷ xs) = plain_next c before x xs
+
+-- a plain scalar begins with the character between the two places
+pub record BeginsPlain (c : FlowContext) (text : List ℕ) (at end : ℕ) : Type 0 where
+  pub above : at < end
+  pub boundary : IsCharBoundary text end
+  pub character : ℕ
+  pub splits : rest text at ≡ character ∷ rest text end
+  pub begins : no_marker (line_starts text at) (character ∷ rest text end) && plain_first c character (rest text end) ≡ true
+
+abbrev pub NoPlainBegins : FlowContext → List ℕ → ℕ → Type 0
+NoPlainBegins c text at = begins_plain c (line_starts text at) (rest text at) ≡ false
+
+-- ---- runs of a line
+
+-- What stands between the two places is read, and the run goes on behind it, there behind a character that is no white.
+pub record IsPlainPiece (c : FlowContext) (black : Bool) (text : List ℕ) (at end : ℕ) : Type 0 where
+  pub above : at < end
+  pub boundary : IsCharBoundary text end
+  pub goes_on : (before last : ℕ) → ns before ≡ black → ns last ≡ true → read_run c before (rest text at) ≡ between text at end ++ read_run c last (rest text end)
+
+-- no plain character stands at the place
+abbrev pub NoPlainPiece : FlowContext → Bool → List ℕ → ℕ → Type 0
+NoPlainPiece c black text at = (before : ℕ) → ns before ≡ black → goes_on_plain c before (rest text at) ≡ false
+
+-- The run of white and plain characters from the one place goes to the other.
+pub record IsPlainRun (c : FlowContext) (black : Bool) (text : List ℕ) (from to : ℕ) : Type 0 where
+  pub above : from ≤ to
+  pub boundary : IsCharBoundary text to
+  pub reads : (before : ℕ) → ns before ≡ black → read_run c before (rest text from) ≡ between text from to
+
+-- ---- further lines
+
+-- A further line begins behind a line that ends at the place `at`. A break and so many empty lines lead to it; what it holds
+-- stands between `start` and `end`.
+pub record IsNextLine (n : ℕ) (c : FlowContext) (text : List ℕ) (at empties start end : ℕ) : Type 0 where
+  pub stop : ℕ
+  pub behind : at ≤ stop
+  pub before : stop < start
+  pub breaks : line_break (slice_index text stop) ≡ true
+  pub holds : start < end
+  pub front : IsCharBoundary text start
+  pub boundary : IsCharBoundary text end
+  pub line : Line ℕ
+  pub found : plain_lines_at n c (rest text at) ≡ (line ∷ (plain_lines_at n c (rest text end)).0, (plain_lines_at n c (rest text end)).1)
+  pub means : line_value char_value line ≡ folded_break empties ++ between text start end
+
+abbrev pub NoNextLine : ℕ → FlowContext → List ℕ → ℕ → Type 0
+NoNextLine n c text at = plain_lines_at n c (rest text at) ≡ ([], rest text at)
+
+-- what the further lines behind a place mean
+abbrev pub lines_value : ℕ → FlowContext → List ℕ → ℕ → List ℕ
+lines_value n c text at = flat_map (line_value char_value) (plain_lines_at n c (rest text at)).0
+
+-- From the line that ends at the place `at` all further ones go to the end, and the value is added to by what they mean.
+pub record PushesLines (n : ℕ) (c : FlowContext) (text : List ℕ) (at : ℕ) (line value longer : List ℕ) (end : ℕ) : Type 0 where
+  pub above : at ≤ end
+  pub boundary : IsCharBoundary text end
+  pub left : (plain_lines_at n c (rest text at)).1 ≡ rest text end
+  pub means : chars longer ≡ chars value ++ line ++ lines_value n c text at
+
+-- ---- memory
+
+-- What stands on one line is borrowed from the text.
+abbrev pub BorrowsOneLine : {A : Type 0} → List ℕ → ℕ → CowStr A → ℕ → Type 0
+BorrowsOneLine text at value end = NoBreak (slice_range text at end) → IsBorrowedStr value × (cow_str_bytes value ≡ slice_range text at end)

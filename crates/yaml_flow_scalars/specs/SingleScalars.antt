@@ -1,0 +1,39 @@
+-- Scalars in single quotes: what stands between the quotes at a place of a text, and what of it a value borrows.
+use Rattle.std.specs.Prelude.{◌≡◌, ℕ, ◌<◌, Bool, true, false, not, ◌&&◌, ◌||◌, ◌⊎◌, List, Some, slice_range}
+use Rattle.std.specs.Cow.{cow_str_bytes, IsBorrowedStr}
+use Rattle.std.specs.List.{AllPass}
+use Rattle.std.specs.Str.{IsCharBoundary}
+use Rattle.std.specs.declared.borrow.CowStr.{CowStr}
+use Rattle.yaml_chars.specs.Classes.{nb_json, line_break}
+use Rattle.yaml_chars.specs.Places.{rest}
+use Rattle.yaml_grammar.specs.FlowScalars.{FlowContext, char_value, one_line}
+use Rattle.yaml_recognizers.specs.Reading.{Read}
+use Rattle.yaml_recognizers.specs.QuotedScalars.{quote, read_quoted, read_single_one, single_closes}
+use Rattle.yaml_recognizers.specs.QuotedSteps.{quoted_value}
+use Rattle.yaml_flow_scalars.specs.Folds.{NoFold}
+
+-- a character that stands for itself between single quotes
+abbrev pub content : ℕ → Bool
+content c = nb_json c && not (quote c)
+
+-- a byte that is neither a quote nor of a break
+abbrev pub unchanged : ℕ → Bool
+unchanged b = not (quote b || line_break b)
+
+-- Where neither a quote nor a break stands between the quotes the value is borrowed, and is what stands there.
+abbrev pub BorrowsContent : {A : Type 0} → List ℕ → ℕ → ℕ → CowStr A → Type 0
+BorrowsContent text from to value = AllPass unchanged (slice_range text from to) → IsBorrowedStr value × (cow_str_bytes value ≡ slice_range text from to)
+
+-- the value of what stands behind an opening quote up to the closing one, and what stands behind that
+abbrev pub read_inside : ℕ → FlowContext → List ℕ → Read (List ℕ)
+read_inside n c text = quoted_value char_value (read_quoted read_single_one single_closes false n c text)
+
+-- the value is read from the place on, up to the other place behind the closing quote
+pub record IsInside (n : ℕ) (c : FlowContext) (text : List ℕ) (start : ℕ) (value : List ℕ) (end : ℕ) : Type 0 where
+  pub above : start < end
+  pub boundary : IsCharBoundary text end
+  pub reads : read_inside n c (rest text start) ≡ Some (value, rest text end)
+
+-- in a key there is no fold
+abbrev pub NoFoldIn : ℕ → FlowContext → List ℕ → ℕ → Type 0
+NoFoldIn n c text at = (one_line c ≡ true) ⊎ NoFold n text at

@@ -1,0 +1,315 @@
+// Scalars in double quotes (YAML 1.2.2, 7.3.1).
+ghost use Rattle.std.specs.Prelude.{◌≡◌, ◌≢◌, ◌↔◌, ◌+◌, ◌<◌, ◌≤◌, false, None, IsTrue, IfOk, IfErr, IfSome, IfNone, length, slice_index, codes, if◌then◌else◌};
+ghost use Rattle.std.specs.Str.{IsCharBoundary, IsUtf8, chars};
+ghost use Rattle.std.specs.String.{string_bytes};
+ghost use Rattle.std.specs.Cow.{cow_str_bytes};
+ghost use Rattle.yaml_chars.specs.Classes.{line_break, is_in};
+ghost use Rattle.yaml_chars.specs.Places.{rest, IsRun};
+ghost use Rattle.yaml_grammar.specs.Texts.{first};
+ghost use Rattle.yaml_grammar.specs.Events.{double_style};
+ghost use Rattle.yaml_grammar.specs.FlowScalars.{one_line, escape, double_item, hex_digit, digits_behind};
+ghost use Rattle.yaml_events.specs.Meant.{context_of};
+ghost use Rattle.yaml_events.specs.Places.{Refuses};
+ghost use Rattle.yaml_flow_scalars.specs.Standing.{ScalarAt, NoScalarAt};
+ghost use Rattle.yaml_flow_scalars.specs.DoubleScan.{double_value, raw_char, Adds, ClosesAt, EscapeAt, NoEscapeAt, IsEscape, IsDigit, digits_at, IsNumberAt, JoinsAt, NoJoinAt};
+ghost use Rattle.yaml_flow_scalars.specs.DoubleBorrowed.{BorrowsVerbatim};
+
+use crate::bytes::{break_end, white_start};
+use crate::fold::{Fold, fold_at, fold_fault, push_fold, push_line_feeds, stands_on_one_line};
+use std::alloc::Global;
+use std::borrow::CowStr;
+use yaml_events::{FlowContext, ScanFault, Why};
+
+/// What an escape means, and the place behind it.
+#[derive(Clone, Copy)]
+struct Escape {
+    meant: char,
+    end: usize,
+}
+
+/// The scalar in double quotes at a place (7.3.1): its value, and the place behind its closing quote.
+///
+/// Places count bytes from 0. A further line is indented by `n` spaces or more; in a key there is none. Where neither a break
+/// nor a backslash stands between the quotes the value is borrowed, and no memory is taken.
+///
+/// Answers [`ScanFault::At`] exactly where no such scalar stands there: without an opening or a closing quote, at an escape that
+/// there is not, at a control character, at a break in a key, and at a line that is indented too little or is a document's mark;
+/// and [`ScanFault::OutOfMemory`] where there is no memory for a value that is not borrowed.
+pub fn double<'a>(
+    alloc: Global,
+    text: &'a str,
+    at: usize,
+    n: u64,
+    context: FlowContext,
+) -> Result<(CowStr<'a>, usize), ScanFault>
+    requires { IsCharBoundary text.now at }
+    ensures found { IfOk result (λ r. ScalarAt double_style n (context_of context) text.now at (chars (cow_str_bytes r.0)) r.1) }
+    ensures borrowed { IfOk result (λ r. BorrowsVerbatim text.now at r.0 r.1) }
+    ensures none { IfErr result (λ fault. Refuses fault (NoScalarAt double_style n (context_of context) text.now at)) }
+{
+    let bytes = text.as_bytes();
+    if !stands_at(bytes, at, b'"') {
+        return Err(ScanFault::At {
+            at,
+            why: Why::Quote,
+        });
+    }
+    let start = at + 1;
+    let end = raw_end(bytes, start);
+    if stands_at(bytes, end, b'"') {
+        return Ok((CowStr::Borrowed(&text[start..end]), end + 1));
+    }
+    let (value, end) = unescaped(alloc, text, start, end, n, context)?;
+    Ok((CowStr::Owned(value), end))
+}
+
+/// The value of a scalar of which the first run of characters goes from `start` to `first`, and the place behind its closing
+/// quote.
+fn unescaped(
+    alloc: Global,
+    text: &str,
+    start: usize,
+    first: usize,
+    n: u64,
+    context: FlowContext,
+) -> Result<(String, usize), ScanFault>
+    requires start { IsCharBoundary text.now start }
+    requires run { IsRun raw_char text.now start first }
+    requires goes_on { first < length text.now → slice_index text.now first ≢ 34 }
+    ensures ok { IfOk result (λ r. ClosesAt n (context_of context) text.now start first (string_bytes r.0) r.1) }
+    ensures err { IfErr result (λ fault. Refuses fault (double_value n (context_of context) (rest text.now start) ≡ None)) }
+{
+    let bytes = text.as_bytes();
+    let mut value = String::new(alloc);
+    let mut place = start;
+    let mut end = first;
+    'runs: while !stands_at(bytes, end, b'"') {
+        place = push_run(&mut value, text, place, end, n, context)?;
+        end = raw_end(bytes, place);
+    }
+    value.push_str(&text[place..end])?;
+    Ok((value, end + 1))
+}
+
+/// Adds a run of characters, and what the escape or the break behind it means. Answers the place behind that.
+fn push_run(
+    value: &mut String,
+    text: &str,
+    from: usize,
+    end: usize,
+    n: u64,
+    context: FlowContext,
+) -> Result<usize, ScanFault>
+    requires from { IsCharBoundary text.now from }
+    requires run { IsRun raw_char text.now from end }
+    requires goes_on { end < length text.now → slice_index text.now end ≢ 34 }
+    ensures further { IfOk result (λ next. end < next) }
+    ensures ok { IfOk result (λ next. Adds n (context_of context) text.now (string_bytes value.old) from (string_bytes value.new) next) }
+    ensures err { IfErr result (λ fault. Refuses fault (double_value n (context_of context) (rest text.now from) ≡ None)) }
+{
+    let bytes = text.as_bytes();
+    if stands_at(bytes, end, b'\\') {
+        value.push_str(&text[from..end])?;
+        return push_escape(value, bytes, end, n, context);
+    }
+    if !breaks_at(bytes, end) {
+        let why = if end == bytes.len() {
+            Why::Quote
+        } else {
+            Why::Character
+        };
+        return Err(ScanFault::At { at: end, why });
+    }
+    let white = white_start(bytes, from, end);
+    value.push_str(&text[from..white])?;
+    let fold = line_behind(bytes, end, n, context)?;
+    push_fold(value, fold.empties)?;
+    Ok(fold.next)
+}
+
+/// Adds what the backslash at a place means with what stands behind it. Answers the place behind that.
+fn push_escape(
+    value: &mut String,
+    text: &[u8],
+    at: usize,
+    n: u64,
+    context: FlowContext,
+) -> Result<usize, ScanFault>
+    requires utf8 { IsUtf8 text.now }
+    requires within { at < length text.now }
+    requires backslash { slice_index text.now at ≡ 92 }
+    ensures further { IfOk result (λ next. at < next) }
+    ensures ok { IfOk result (λ next. Adds n (context_of context) text.now (string_bytes value.old) at (string_bytes value.new) next) }
+    ensures err { IfErr result (λ fault. Refuses fault (double_value n (context_of context) (rest text.now at) ≡ None)) }
+{
+    if let Some(escape) = escape_at(text, at) {
+        value.push(escape.meant)?;
+        return Ok(escape.end);
+    }
+    let fold = line_behind(text, at + 1, n, context)?;
+    push_line_feeds(value, fold.empties)?;
+    Ok(fold.next)
+}
+
+/// The fold whose break stands at the place, where lines may be joined there. No other join stands right behind it.
+fn line_behind(text: &[u8], at: usize, n: u64, context: FlowContext) -> Result<Fold, ScanFault>
+    requires utf8 { IsUtf8 text.now }
+    requires at { IsCharBoundary text.now at }
+    ensures ok { IfOk result (λ fold. JoinsAt n (context_of context) text.now at fold.empties fold.next) }
+    ensures err { IfErr result (λ fault. Refuses fault (NoJoinAt n (context_of context) text.now at)) }
+{
+    if !breaks_at(text, at) {
+        return Err(ScanFault::At {
+            at,
+            why: Why::Escape,
+        });
+    }
+    if stands_on_one_line(context) {
+        return Err(ScanFault::At { at, why: Why::Key });
+    }
+    let Some(fold) = fold_at(text, at, n) else {
+        return Err(fold_fault(text, at));
+    };
+    if stands_at(text, fold.next, b'\\') && breaks_at(text, fold.next + 1) {
+        return Err(ScanFault::At {
+            at: fold.next,
+            why: Why::Escape,
+        });
+    }
+    Ok(fold)
+}
+
+/// Whether this byte stands at the place.
+fn stands_at(text: &[u8], at: usize, byte: u8) -> bool
+    ensures { IsTrue result ↔ ((at < length text.now) × (slice_index text.now at ≡ byte)) }
+{
+    at < text.len() && text[at] == byte
+}
+
+/// Whether a break stands at the place.
+fn breaks_at(text: &[u8], at: usize) -> bool
+    requires utf8 { IsUtf8 text.now }
+    requires at { IsCharBoundary text.now at }
+    ensures { result ≡ first line_break (rest text.now at) }
+{
+    break_end(text, at).is_some()
+}
+
+/// Whether a byte stands for itself between the quotes: it is no control but TAB, no quote and no backslash.
+#[tactic(auto, unfolding(crate::specs::DoubleScan::raw_char))]
+fn is_raw(byte: u8) -> bool
+    ensures { result ≡ raw_char byte }
+{
+    (byte >= b' ' || byte == b'\t') && byte != b'"' && byte != b'\\'
+}
+
+/// Behind all characters from the place on that stand for themselves.
+fn raw_end(text: &[u8], at: usize) -> usize
+    requires utf8 { IsUtf8 text.now }
+    requires at { IsCharBoundary text.now at }
+    ensures { IsRun raw_char text.now at result }
+{
+    let mut end = at;
+    while end < text.len() && is_raw(text[end]) {
+        end += 1;
+    }
+    end
+}
+
+/// The escape whose backslash stands at the place (5.7, `c-ns-esc-char`).
+fn escape_at(text: &[u8], at: usize) -> Option<Escape>
+    requires utf8 { IsUtf8 text.now }
+    requires within { at < length text.now }
+    requires backslash { slice_index text.now at ≡ 92 }
+    ensures found { IfSome result (λ escape. EscapeAt text.now at escape.meant escape.end) }
+    ensures none { IfNone result (NoEscapeAt text.now at) }
+{
+    let sign = at + 1;
+    if sign == text.len() {
+        return None;
+    }
+    let digits = digits_behind(text[sign]);
+    if digits == 0 {
+        return Some(Escape {
+            meant: escaped_char(text[sign])?,
+            end: sign + 1,
+        });
+    }
+    let number = hex_number(text, sign + 1, digits)?;
+    Some(Escape {
+        meant: char::from_u32(number)?,
+        end: sign + 1 + digits,
+    })
+}
+
+/// How many digits stand behind the sign of an escape; 0 where it is a whole escape or none.
+fn digits_behind(sign: u8) -> usize
+    ensures { result ≡ (if is_in sign (codes "xuU") then digits_behind sign else 0) }
+{
+    match sign {
+        b'x' => 2,
+        b'u' => 4,
+        b'U' => 8,
+        _ => 0,
+    }
+}
+
+/// What a sign behind a backslash means that takes no digits.
+fn escaped_char(sign: u8) -> Option<char>
+    ensures found { IfSome result (IsEscape sign) }
+    ensures none { IfNone result (double_item (escape sign) ≡ false) }
+{
+    match sign {
+        b'0' => Some('\0'),
+        b'a' => Some('\u{7}'),
+        b'b' => Some('\u{8}'),
+        b't' | b'\t' => Some('\t'),
+        b'n' => Some('\n'),
+        b'v' => Some('\u{b}'),
+        b'f' => Some('\u{c}'),
+        b'r' => Some('\r'),
+        b'e' => Some('\u{1b}'),
+        b' ' => Some(' '),
+        b'"' => Some('"'),
+        b'/' => Some('/'),
+        b'\\' => Some('\\'),
+        b'N' => Some('\u{85}'),
+        b'_' => Some('\u{a0}'),
+        b'L' => Some('\u{2028}'),
+        b'P' => Some('\u{2029}'),
+        _ => None,
+    }
+}
+
+/// The number that so many hexadecimal digits from the place on are.
+fn hex_number(text: &[u8], at: usize, count: usize) -> Option<u32>
+    requires utf8 { IsUtf8 text.now }
+    requires at { IsCharBoundary text.now at }
+    requires few { count ≤ 8 }
+    ensures found { IfSome result (IsNumberAt text.now at count) }
+    ensures none { IfNone result (digits_at text.now at count ≡ false) }
+{
+    let mut number = 0;
+    let mut end = at;
+    while end - at < count {
+        if end == text.len() {
+            return None;
+        }
+        number = number * 16 + hex_digit(text[end])?;
+        end += 1;
+    }
+    Some(number)
+}
+
+/// The value of a hexadecimal digit.
+fn hex_digit(byte: u8) -> Option<u32>
+    ensures found { IfSome result (IsDigit byte) }
+    ensures none { IfNone result (hex_digit byte ≡ false) }
+{
+    match byte {
+        b'0'..=b'9' => Some(u32::from(byte - b'0')),
+        b'A'..=b'F' => Some(u32::from(byte - b'A') + 10),
+        b'a'..=b'f' => Some(u32::from(byte - b'a') + 10),
+        _ => None,
+    }
+}

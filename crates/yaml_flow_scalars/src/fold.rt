@@ -1,0 +1,145 @@
+// Folds: what joins two lines of a flow scalar (YAML 1.2.2, 6.5 and 7.3.1).
+ghost use Rattle.std.specs.Prelude.{◌≡◌, ◌++◌, IfSome, IfNone, OnOk};
+ghost use Rattle.std.specs.Str.{IsCharBoundary, IsUtf8};
+ghost use Rattle.std.specs.String.{string_bytes};
+ghost use Rattle.yaml_grammar.specs.FlowScalars.{line_feeds, folded_break, one_line};
+ghost use Rattle.yaml_events.specs.Meant.{context_of};
+ghost use Rattle.yaml_flow_scalars.specs.Folds.{IsFold, NoFold, IsFront, IsMargin};
+
+use crate::bytes::{break_end, is_marker, white_end};
+use std::alloc::AllocError;
+use yaml_events::{FlowContext, ScanFault, Why};
+
+/// A break inside a scalar, with the empty lines behind it and the white at the front of the next line.
+#[derive(Clone, Copy)]
+pub(crate) struct Fold {
+    /// How many empty lines there are.
+    pub(crate) empties: usize,
+    /// The place of what the next line holds.
+    pub(crate) next: usize,
+}
+
+/// The fold whose break stands at the place: behind it come empty lines, and a line that is indented by `indent` spaces or
+/// more and is no document's mark. There is none where no break stands there, or no such line.
+pub(crate) fn fold_at(text: &[u8], at: usize, indent: u64) -> Option<Fold>
+    requires utf8 { IsUtf8 text.now }
+    requires at { IsCharBoundary text.now at }
+    ensures found { IfSome result (λ fold. IsFold indent text.now at fold.empties fold.next) }
+    ensures none { IfNone result (NoFold indent text.now at) }
+{
+    let Some(behind) = break_end(text, at) else {
+        return None;
+    };
+    let mut line = behind;
+    let mut empties = 0;
+    'lines: loop {
+        let front = line_front(text, line, indent);
+        if let Some(next) = break_end(text, front.end) {
+            empties += 1;
+            line = next;
+            continue;
+        }
+        if !front.indented || is_marker(text, line) {
+            return None;
+        }
+        return Some(Fold {
+            empties,
+            next: front.end,
+        });
+    }
+}
+
+/// The white at the front of a line.
+#[derive(Clone, Copy)]
+struct Front {
+    /// The place behind it; in a line that is indented too little, the one behind its spaces.
+    end: usize,
+    /// Whether it begins with all the spaces of the indentation.
+    indented: bool,
+}
+
+/// The white at the front of the line that starts at the place.
+fn line_front(text: &[u8], at: usize, indent: u64) -> Front
+    requires utf8 { IsUtf8 text.now }
+    requires at { IsCharBoundary text.now at }
+    ensures { IsFront indent text.now at result.end result.indented }
+{
+    let margin = margin_end(text, at, indent);
+    if ((margin - at) as u64) < indent {
+        return Front {
+            end: margin,
+            indented: false,
+        };
+    }
+    Front {
+        end: white_end(text, margin),
+        indented: true,
+    }
+}
+
+/// Behind the spaces from the place on, `indent` of them at most.
+fn margin_end(text: &[u8], at: usize, indent: u64) -> usize
+    requires utf8 { IsUtf8 text.now }
+    requires at { IsCharBoundary text.now at }
+    ensures { IsMargin indent text.now at result }
+{
+    let mut end = at;
+    while end < text.len() && ((end - at) as u64) < indent && text[end] == b' ' {
+        end += 1;
+    }
+    end
+}
+
+/// Why no fold begins with the break at the place, and the line that is at fault: the first one behind it that is not empty. No
+/// contract says it, since it only helps the writer of the text.
+pub(crate) fn fold_fault(text: &[u8], at: usize) -> ScanFault
+    requires utf8 { IsUtf8 text.now }
+    requires at { IsCharBoundary text.now at }
+{
+    let mut line = at;
+    'lines: loop {
+        let front = white_end(text, line);
+        if let Some(next) = break_end(text, front) {
+            line = next;
+            continue;
+        }
+        let why = if front == text.len() {
+            Why::Quote
+        } else if is_marker(text, line) {
+            Why::Marker
+        } else {
+            Why::Indent
+        };
+        return ScanFault::At { at: line, why };
+    }
+}
+
+/// Adds what a fold means: a space, or a line feed for each empty line.
+pub(crate) fn push_fold(value: &mut String, empties: usize) -> Result<(), AllocError>
+    ensures { OnOk result (string_bytes value.new ≡ string_bytes value.old ++ folded_break empties) }
+{
+    if empties == 0 {
+        return value.push(' ');
+    }
+    push_line_feeds(value, empties)
+}
+
+/// Adds that many line feeds: what a fold behind a backslash means.
+pub(crate) fn push_line_feeds(value: &mut String, count: usize) -> Result<(), AllocError>
+    ensures { OnOk result (string_bytes value.new ≡ string_bytes value.old ++ line_feeds count) }
+{
+    for _ in 0..count {
+        value.push('\n')?;
+    }
+    Ok(())
+}
+
+/// Whether what stands in the context stands on one line: a key does.
+pub(crate) fn stands_on_one_line(context: FlowContext) -> bool
+    ensures { result ≡ one_line (context_of context) }
+{
+    match context {
+        FlowContext::Outer | FlowContext::Inner => false,
+        FlowContext::BlockKey | FlowContext::FlowKey => true,
+    }
+}

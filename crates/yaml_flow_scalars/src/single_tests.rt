@@ -1,0 +1,162 @@
+// Scalars from outside, with their values and ends.
+use super::*;
+use std::alloc::Global;
+use std::borrow::CowStr;
+use std::test::Fail;
+use yaml_events::{FlowContext, ScanFault, Why};
+
+// ---- scalars in single quotes
+
+/// What `single` answers at a place of a text; none where nothing stands there.
+fn single_at(
+    alloc: Global,
+    text: &str,
+    at: usize,
+    n: u64,
+    context: FlowContext,
+) -> Result<Option<(String, usize)>, Fail> {
+    if !text.is_char_boundary(at) {
+        return Err(Fail::from("no place"));
+    }
+    match single(alloc, text, at, n, context) {
+        Ok((value, end)) => Ok(Some((value.into_owned(alloc)?, end))),
+        Err(ScanFault::At { at: _, why: _ }) => Ok(None),
+        Err(ScanFault::OutOfMemory) => Err(Fail::from("out of memory")),
+    }
+}
+
+/// Whether the text's front is a scalar with this value and end.
+fn is_single(alloc: Global, text: &str, n: u64, value: &str, end: usize) -> Result<bool, Fail> {
+    Ok(match single_at(alloc, text, 0, n, FlowContext::Outer)? {
+        Some((found, behind)) => found.as_str() == value && behind == end,
+        None => false,
+    })
+}
+
+/// Whether no scalar stands at the text's front.
+fn no_single(alloc: Global, text: &str, n: u64, context: FlowContext) -> Result<bool, Fail> {
+    Ok(single_at(alloc, text, 0, n, context)?.is_none())
+}
+
+#[test]
+fn single_on_one_line(rt: HostRuntime) -> Result<(), Fail> {
+    assert!(rt; is_single(rt.alloc(), "'it''s'", 0, "it's", 7)?);
+    assert!(rt; is_single(rt.alloc(), "''", 0, "", 2)?);
+    assert!(rt; is_single(rt.alloc(), "''''", 0, "'", 4)?);
+    assert!(rt; is_single(rt.alloc(), "' a\t' # b", 0, " a\t", 5)?);
+    assert!(rt; is_single(rt.alloc(), "'é\u{1f600}', x", 0, "é\u{1f600}", 8)?);
+    assert!(rt;
+        is_single(
+            rt.alloc(),
+            "'a\\n\"\u{feff}\u{7f}\u{85}'",
+            0,
+            "a\\n\"\u{feff}\u{7f}\u{85}",
+            12
+        )?
+    );
+    let inner = single_at(rt.alloc(), "k: 'v' ", 3, 0, FlowContext::BlockKey)?;
+    match inner {
+        Some((value, end)) => {
+            assert_eq!(rt; value.as_str(), "v");
+            assert_eq!(rt; end, 6);
+        }
+        None => assert!(rt; false, "a scalar"),
+    }
+    Ok(())
+}
+
+#[test]
+fn single_over_lines(rt: HostRuntime) -> Result<(), Fail> {
+    assert!(rt; is_single(rt.alloc(), "'a\n\n  b'", 1, "a\nb", 8)?);
+    assert!(rt; is_single(rt.alloc(), "'a\nb'", 0, "a b", 5)?);
+    assert!(rt; is_single(rt.alloc(), "'a\n---b'", 0, "a ---b", 8)?);
+    assert!(rt;
+        is_single(
+            rt.alloc(),
+            "' a \n  b\t\r\n\r\n\n c ' ",
+            1,
+            " a b\n\nc ",
+            18
+        )?
+    );
+    assert!(rt; is_single(rt.alloc(), "'\n'", 0, " ", 3)?);
+    assert!(rt;
+        is_single(
+            rt.alloc(),
+            "'a\r\r \r  ''b''\r\n \n c'",
+            1,
+            "a\n\n'b'\nc",
+            20
+        )?
+    );
+    // Example 7.9 of YAML 1.2.2.
+    assert!(rt;
+        is_single(
+            rt.alloc(),
+            "' 1st non-empty\n\n 2nd non-empty \n\t3rd non-empty '",
+            0,
+            " 1st non-empty\n2nd non-empty 3rd non-empty ",
+            49
+        )?
+    );
+    Ok(())
+}
+
+#[test]
+fn single_refused(rt: HostRuntime) -> Result<(), Fail> {
+    assert!(rt; no_single(rt.alloc(), "'it''abc", 0, FlowContext::Outer)?);
+    assert!(rt; no_single(rt.alloc(), "it", 0, FlowContext::Outer)?);
+    assert!(rt; no_single(rt.alloc(), "", 0, FlowContext::Outer)?);
+    assert!(rt; no_single(rt.alloc(), "'a\nb'", 1, FlowContext::Outer)?);
+    assert!(rt; no_single(rt.alloc(), "'a\n\tb'", 1, FlowContext::Outer)?);
+    assert!(rt; no_single(rt.alloc(), "'a\n--- b'", 0, FlowContext::Outer)?);
+    assert!(rt; no_single(rt.alloc(), "'a\n...\n", 0, FlowContext::Inner)?);
+    assert!(rt; no_single(rt.alloc(), "'a\n b'", 0, FlowContext::BlockKey)?);
+    assert!(rt; no_single(rt.alloc(), "'a\n b'", 0, FlowContext::FlowKey)?);
+    assert!(rt; no_single(rt.alloc(), "'a\u{1}'", 0, FlowContext::Outer)?);
+    Ok(())
+}
+
+#[test]
+fn single_borrowed(rt: HostRuntime) -> Result<(), Fail> {
+    let (value, end) = match single(rt.alloc(), "'é a '", 0, 0, FlowContext::Inner) {
+        Ok(found) => found,
+        Err(_) => return Err(Fail::from("a scalar")),
+    };
+    assert!(rt; matches!(&value, CowStr::Borrowed(_)));
+    assert_eq!(rt; value.as_str(), "é a ");
+    assert_eq!(rt; end, 7);
+    Ok(())
+}
+
+/// Where `single` finds fault, and why.
+fn single_fault(alloc: Global, text: &str, n: u64, context: FlowContext) -> Option<ScanFault> {
+    match single(alloc, text, 0, n, context) {
+        Ok((_, _)) => None,
+        Err(fault) => Some(fault),
+    }
+}
+
+#[test]
+fn single_faults(rt: HostRuntime) {
+    for (text, at, why) in [
+        ("a", 0, Why::Quote),
+        ("'a", 2, Why::Quote),
+        ("'a\n \n", 5, Why::Quote),
+        ("'a\u{1}'", 2, Why::Character),
+        ("'a\n\nb'", 4, Why::Indent),
+        ("'a\n... ", 3, Why::Marker),
+    ] {
+        assert_eq!(rt;
+            single_fault(rt.alloc(), text, 1, FlowContext::Outer),
+            Some(ScanFault::At { at, why })
+        );
+    }
+    assert_eq!(rt;
+        single_fault(rt.alloc(), "'a\nb'", 0, FlowContext::FlowKey),
+        Some(ScanFault::At {
+            at: 2,
+            why: Why::Key
+        })
+    );
+}
