@@ -1,0 +1,134 @@
+-- The lines of a scalar, with the empty lines before them, and its whole body.
+use Rattle.std.proofs.Common.{◌≡◌, ℕ, zero, suc, ◌<◌, Bool, true, false, List, [], ◌∷◌, ◌++◌, Option, Some, None, refl, ap, sym, ◌∙◌, subst, arith, length, drop}
+use Rattle.std.specs.Str.{chars}
+use Rattle.std.proofs.lemmas.Bool.{and_right, false≢true}
+use Rattle.std.proofs.lemmas.Str.{chars-nil}
+use Rattle.yaml_chars.specs.Places.{rest}
+use Rattle.yaml_grammar.specs.BlockScalars.{Chomping, strip, clip, keep, Gap, TextLine, block_value, chomped, goes_on, kept, text_value}
+use Rattle.yaml_grammar.specs.FlowScalars.{line_feeds}
+use Rattle.yaml_grammar.specs.Texts.{is_empty}
+use Rattle.yaml_recognizers.proofs.BlockScalarFacts.{body_found, body_is, no_body}
+use Rattle.yaml_recognizers.proofs.BlockScalarSteps.{lines_step}
+use Rattle.yaml_recognizers.proofs.Reading.{on_parts, some_parts}
+use Rattle.yaml_recognizers.specs.BlockScalars.{Body, body_at, digit_fits, find_indent, gaps_at, lines_at, read_body, read_text_line}
+use Rattle.yaml_recognizers.specs.BlockScalarFacts.{BodyStands, IsBody, NoBody}
+use Rattle.yaml_recognizers.specs.Reading.{Read, on}
+use Rattle.yaml_block_scalars.specs.declared.line.Line.{Line}
+use Rattle.yaml_block_scalars.specs.Found.{AreLines, ArePiece}
+use Rattle.yaml_block_scalars.specs.Lines.{AreGaps, ArePushed, IsLine, IsNotAlone, IsPastGaps, value_from}
+use Rattle.yaml_block_scalars.specs.Pieces.{is_one_piece}
+use Rattle.yaml_block_scalars.proofs.Values.{chars_feeds}
+
+-- ---- one piece
+
+filled : (n : ℕ) (xs : List ℕ) → 0 < n → line_feeds n ≡ xs → is_empty xs ≡ false
+filled zero xs l e = absurd (omega arith)
+filled (suc n) xs l e = ap is_empty (sym e)
+
+pub piece_fed : (chomping : Chomping) (gs : List Gap) (l : TextLine) (ls : List TextLine) (n : ℕ) → 0 < n → line_feeds n ≡ chomped chomping l → is_one_piece chomping gs (l ∷ ls) ≡ false
+piece_fed chomping gs l [] n h e = and_right (is_empty gs) _ (filled n (chomped chomping l) h e)
+piece_fed chomping gs l (m ∷ ms) n h e = refl
+
+piece_longer : (chomping : Chomping) (gs : List Gap) (l : TextLine) (ls : List TextLine) → (ls ≡ [] → ⊥) → is_one_piece chomping gs (l ∷ ls) ≡ false
+piece_longer chomping gs l [] n = absurd (n refl)
+piece_longer chomping gs l (m ∷ ms) n = refl
+
+some_lines : (q : ℕ) (text behind : List ℕ) → goes_on q text ≡ true → IsPastGaps q text → lines_at q text ≡ Some ([], behind) → ⊥
+some_lines q text behind g past e =
+    let one = on_parts (read_text_line q (drop q text)) (λ l rest. on (lines_at q rest) (λ ls behind. Some (l ∷ ls, behind))) ([], behind) (sym (lines_step q text g past) ∙ e) in
+    let more = on_parts (lines_at q one.1) (λ ls behind. Some (one.0 ∷ ls, behind)) ([], behind) one.3 in
+    let parts = some_parts (one.0 ∷ more.0) [] more.1 behind more.3 in
+    let none : one.0 ∷ more.0 ≡ [] = parts.0 in
+    cc
+
+pub piece_ended : (q : ℕ) (chomping : Chomping) (text behind : List ℕ) (gs : List Gap) (l : TextLine) (ls : List TextLine) → goes_on q text ≡ true → IsPastGaps q text
+    → lines_at q text ≡ Some (ls, behind) → is_one_piece chomping gs (l ∷ ls) ≡ false
+piece_ended q chomping text behind gs l ls g past e =
+    piece_longer chomping gs l ls (λ n. some_lines q text behind g past (e ∙ ap (λ x. Some (x, behind)) n))
+
+-- ---- the lines
+
+chars_kept : (chomping : Chomping) (n : ℕ) → chars (kept chomping n) ≡ kept chomping n
+chars_kept strip n = chars-nil
+chars_kept clip n = chars-nil
+chars_kept keep n = chars_feeds n
+
+module _ (q : ℕ) (folded : Bool) (chomping : Chomping) (bs : List ℕ) (i gaps j : ℕ) (g : AreGaps q bs i gaps j) where
+  -- what is read of them, by what is read behind the empty lines
+  read_as : (r : Read (List TextLine)) → lines_at q (rest bs j) ≡ r
+      → on (lines_at q (gaps_at q (rest bs i)).1) (λ ls behind. Some (block_value folded chomping (gaps_at q (rest bs i)).0 ls, behind))
+      ≡ on r (λ ls behind. Some (block_value folded chomping (gaps_at q (rest bs i)).0 ls, behind))
+  read_as r e = ap (λ (x : Read (List TextLine)). on x (λ ls behind. Some (block_value folded chomping (gaps_at q (rest bs i)).0 ls, behind))) (ap (lines_at q) g.leaves ∙ e)
+
+  -- what a piece says of the lines behind the empty lines
+  piece_lines : (r : Read (List TextLine)) → lines_at q (rest bs j) ≡ r → ArePiece q chomping (rest bs i)
+      → (ls : List TextLine) × (behind : List ℕ) × (r ≡ Some (ls, behind)) × (is_one_piece chomping (gaps_at q (rest bs i)).0 ls ≡ true)
+  piece_lines r e p = (p.0, p.1, sym e ∙ ap (lines_at q) (sym g.leaves) ∙ p.2, p.3)
+
+  -- no text line
+  pub lines_none : (value : List ℕ) → lines_at q (rest bs j) ≡ Some ([], rest bs j) → value ≡ kept chomping gaps → AreLines q folded chomping bs i value j
+  lines_none value e v =
+      let whole : kept chomping (length (gaps_at q (rest bs i)).0) ≡ chars value = ap (kept chomping) g.counts ∙ sym (chars_kept chomping gaps) ∙ ap chars (sym v) in
+      record {
+        above = let above = g.above in omega arith;
+        boundary = g.boundary;
+        reads = read_as (Some ([], rest bs j)) e ∙ ap (λ x. Some (x, rest bs j)) whole;
+      }
+
+  module _ (line : Line) (n : IsLine q bs j line) where
+    -- the first line is put in front of those behind it
+    in_front : (r : Read (List TextLine))
+        → on (on r (λ ls behind. Some (n.read ∷ ls, behind))) (λ ls behind. Some (block_value folded chomping (gaps_at q (rest bs i)).0 ls, behind))
+        ≡ on r (λ ls behind. Some (line_feeds (length (gaps_at q (rest bs i)).0) ++ text_value folded chomping n.read ls, behind))
+    in_front None = refl
+    in_front (Some r) = refl
+
+    pub lines_pushed : (front value : List ℕ) (end : ℕ) → front ≡ [] ++ line_feeds gaps → ArePushed q folded chomping bs line front value end → AreLines q folded chomping bs i value end
+    lines_pushed front value end f p =
+        let fed : chars front ≡ line_feeds (length (gaps_at q (rest bs i)).0) = ap chars f ∙ chars_feeds gaps ∙ ap line_feeds (sym g.counts) in
+        record {
+          above = let above = g.above in let after = n.after in let within = n.placed.above in let behind = n.placed.behind in let further = p.above in omega arith;
+          boundary = p.boundary;
+          reads = read_as (on (lines_at q (rest bs line.next)) (λ ls behind. Some (n.read ∷ ls, behind))) n.reads ∙ in_front (lines_at q (rest bs line.next))
+              ∙ ap (λ x. value_from q folded chomping x n.read (rest bs line.next)) (sym fed) ∙ p.reads n.read n.described n.spells;
+        }
+
+    pub piece_more : IsNotAlone q chomping bs gaps line → ArePiece q chomping (rest bs i) → ⊥
+    piece_more a p =
+        let found = piece_lines (on (lines_at q (rest bs line.next)) (λ ls behind. Some (n.read ∷ ls, behind))) n.reads p in
+        let more = on_parts (lines_at q (rest bs line.next)) (λ ls behind. Some (n.read ∷ ls, behind)) (found.0, found.1) found.2 in
+        let same = (some_parts (n.read ∷ more.0) found.0 more.1 found.1 more.3).0 in
+        false≢true (sym (a n.read (gaps_at q (rest bs i)).0 more.0 more.1 n.described g.counts more.2) ∙ ap (is_one_piece chomping (gaps_at q (rest bs i)).0) same ∙ found.3)
+
+-- ---- the whole body
+
+module _ (digit : Option ℕ) (m : ℕ) (folded : Bool) (chomping : Chomping) (q : ℕ) (bs : List ℕ) (i : ℕ) (f : find_indent digit m (rest bs i) ≡ Some q) where
+  -- the body with these text lines
+  with_lines : List TextLine → Body
+  with_lines ls = record { indent = q; gaps = (gaps_at q (rest bs i)).0; texts = ls }
+
+  body_read_as : read_body digit m (rest bs i) ≡ on (lines_at q (gaps_at q (rest bs i)).1) (λ ls behind. Some (with_lines ls, behind))
+  unfolding with_lines
+  body_read_as = ap (body_at (rest bs i)) f
+
+  pub no_body_lines : lines_at q (gaps_at q (rest bs i)).1 ≡ None → NoBody digit m (rest bs i)
+  no_body_lines e = no_body digit m (rest bs i) (body_read_as ∙ ap (λ (r : Read (List TextLine)). on r (λ ls behind. Some (with_lines ls, behind))) e)
+
+  pub body_there : (value : List ℕ) (end : ℕ) → digit_fits digit ≡ true → AreLines q folded chomping bs i value end → IsBody digit m folded chomping (rest bs i) (chars value) (rest bs end)
+  unfolding with_lines
+  body_there value end d h =
+      let found = on_parts (lines_at q (gaps_at q (rest bs i)).1) (λ ls behind. Some (block_value folded chomping (gaps_at q (rest bs i)).0 ls, behind)) (chars value, rest bs end) h.reads in
+      let same = some_parts (block_value folded chomping (gaps_at q (rest bs i)).0 found.0) (chars value) found.1 (rest bs end) found.3 in
+      let reads : read_body digit m (rest bs i) ≡ Some (with_lines found.0, rest bs end) =
+      body_read_as ∙ ap (λ (r : Read (List TextLine)). on r (λ ls behind. Some (with_lines ls, behind))) found.2 ∙ ap (λ x. Some (with_lines found.0, x)) same.1 in
+      subst (λ x. IsBody digit m folded chomping (rest bs i) x (rest bs end)) same.0 (body_is digit m folded chomping (rest bs i) (with_lines found.0) (rest bs end) d reads)
+
+  pub piece_there : (body : Body) (behind : List ℕ) → BodyStands digit m (rest bs i) body behind → is_one_piece chomping body.gaps body.texts ≡ true → ArePiece q chomping (rest bs i)
+  unfolding with_lines
+  piece_there body behind s p =
+      let found = on_parts (lines_at q (gaps_at q (rest bs i)).1) (λ ls behind. Some (with_lines ls, behind)) (body, behind) (sym body_read_as ∙ body_found digit m (rest bs i) body behind s) in
+      let same : with_lines found.0 ≡ body = (some_parts (with_lines found.0) body found.1 behind found.3).0 in
+      (found.0, found.1, found.2, ap (λ (b : Body). is_one_piece chomping b.gaps b.texts) same ∙ p)
+
+pub no_body_indent : (digit : Option ℕ) (m : ℕ) (bs : List ℕ) (i : ℕ) → find_indent digit m (rest bs i) ≡ None → NoBody digit m (rest bs i)
+no_body_indent digit m bs i e = no_body digit m (rest bs i) (ap (body_at (rest bs i)) e)

@@ -1,0 +1,80 @@
+-- The indentation that lines set, by the places of the lines of spaces and of the first other line.
+use Rattle.std.proofs.Common.{◌≡◌, ℕ, ◌-◌, ◌<◌, ◌≤◌, true, false, List, Option, Some, None, ap, ◌∙◌, arith, length}
+use Rattle.std.specs.Prelude.{◌&&◌, ◌||◌, max, not, nat_le, nat_lt, if◌then◌else◌}
+use Rattle.std.specs.Str.{IsUtf8}
+use Rattle.std.proofs.lemmas.Bool.{and_from, and_left, and_right, cond-true, cond-false, le-leb, le-ltb, lt-leb, lt-ltb, or_from, or_left, or_right}
+use Rattle.yaml_chars.specs.Classes.{nb}
+use Rattle.yaml_chars.specs.Places.{rest}
+use Rattle.yaml_chars.proofs.Places.{char_at, rest-end}
+use Rattle.yaml_grammar.specs.BlockScalars.{last_spaces, past_spaces, sets_none, spaces_before}
+use Rattle.yaml_grammar.specs.Texts.{first, is_empty, marker}
+use Rattle.yaml_recognizers.specs.BlockScalars.{all_gaps, find_indent}
+use Rattle.yaml_block_scalars.specs.Lines.{AreLeading}
+use Rattle.yaml_block_scalars.specs.Places.{AreSpaces, IsNb}
+use Rattle.yaml_block_scalars.proofs.Runs.{AreCounted, spaces_counted_at}
+
+-- by the widest line of spaces and what stands behind all of them
+indent_by : ℕ → ℕ → List ℕ → Option ℕ
+indent_by m width text =
+    if sets_none m text then Some (max m (max width (last_spaces text)))
+    else if nat_le width (spaces_before text) && first nb (past_spaces text) then Some (spaces_before text)
+    else None
+
+found_by : (m : ℕ) (bs : List ℕ) (i width j : ℕ) → AreLeading bs i width j → find_indent None m (rest bs i) ≡ indent_by m width (rest bs j)
+unfolding indent_by
+found_by m bs i width j h =
+    ap (λ x. indent_by m x (all_gaps (rest bs i)).1) h.widest_is ∙ ap (indent_by m width) h.leaves
+
+module _ (m : ℕ) (bs : List ℕ) (i width j k : ℕ) (u : IsUtf8 bs) (h : AreLeading bs i width j) (s : AreSpaces bs j k) where
+  counted : AreCounted bs j k
+  counted = spaces_counted_at bs j k u h.boundary s
+
+  set_none : (q : ℕ) → sets_none m (rest bs j) ≡ true → last_spaces (rest bs j) ≡ q → find_indent None m (rest bs i) ≡ Some (max m (max width q))
+  unfolding indent_by
+  set_none q n l =
+      found_by m bs i width j h ∙ cond-true (sets_none m (rest bs j)) _ _ n ∙ ap (λ x. Some (max m (max width x))) l
+
+  pub indent_at_end : length bs ≤ k → find_indent None m (rest bs i) ≡ Some (max m (max width (k - j)))
+  indent_at_end l =
+      let none : is_empty (past_spaces (rest bs j)) ≡ true = ap is_empty (counted.leaves ∙ rest-end bs k l) in
+      set_none (k - j) (or_left _ _ (or_left _ _ none)) (cond-true (is_empty (past_spaces (rest bs j))) (spaces_before (rest bs j)) 0 none ∙ counted.counts)
+
+  filled : k < length bs → is_empty (past_spaces (rest bs j)) ≡ false
+  filled l = let there = char_at bs k u s.boundary l in ap is_empty (counted.leaves ∙ there.1.splits)
+
+  least : (q : ℕ) → sets_none m (rest bs j) ≡ true → k < length bs → find_indent None m (rest bs i) ≡ Some (max m width)
+  least q n l =
+      set_none 0 n (cond-false (is_empty (past_spaces (rest bs j))) (spaces_before (rest bs j)) 0 (filled l))
+      ∙ ap (λ x. Some (max m x)) (let e : max width 0 ≡ width = omega arith in e)
+
+  pub indent_narrow : k < length bs → k - j < m → find_indent None m (rest bs i) ≡ Some (max m width)
+  indent_narrow l w =
+      least 0 (or_left _ _ (or_right (is_empty (past_spaces (rest bs j))) _ (ap (λ x. nat_lt x m) counted.counts ∙ lt-ltb (k - j) m w))) l
+
+  pub indent_marked : k < length bs → marker (rest bs j) ≡ true → find_indent None m (rest bs i) ≡ Some (max m width)
+  indent_marked l e =
+      least 0 (or_right (is_empty (past_spaces (rest bs j)) || nat_lt (spaces_before (rest bs j)) m) _ (ap (λ x. not (not x)) e)) l
+
+  set_here : k < length bs → m ≤ k - j → marker (rest bs j) ≡ false
+      → find_indent None m (rest bs i) ≡ (if nat_le width (spaces_before (rest bs j)) && first nb (past_spaces (rest bs j)) then Some (spaces_before (rest bs j)) else None)
+  unfolding indent_by
+  set_here l w e =
+      found_by m bs i width j h
+      ∙ cond-false (sets_none m (rest bs j)) _ _ (or_from _ _ (or_from _ _ (filled l) (ap (λ x. nat_lt x m) counted.counts ∙ le-ltb (k - j) m w)) (ap (λ x. not (not x)) e))
+
+  pub indent_too_wide : k < length bs → m ≤ k - j → marker (rest bs j) ≡ false → k - j < width → find_indent None m (rest bs i) ≡ None
+  indent_too_wide l w e x =
+      set_here l w e ∙ cond-false _ _ None (and_left (nat_le width (spaces_before (rest bs j))) _ (ap (nat_le width) counted.counts ∙ lt-leb width (k - j) x))
+
+  pub indent_no_text : k < length bs → m ≤ k - j → marker (rest bs j) ≡ false → first nb (rest bs k) ≡ false → find_indent None m (rest bs i) ≡ None
+  indent_no_text l w e x =
+      set_here l w e ∙ cond-false _ _ None (and_right (nat_le width (spaces_before (rest bs j))) _ (ap (first nb) counted.leaves ∙ x))
+
+  pub indent_set : k < length bs → m ≤ k - j → marker (rest bs j) ≡ false → width ≤ k - j → first nb (rest bs k) ≡ true → find_indent None m (rest bs i) ≡ Some (k - j)
+  indent_set l w e x n =
+      set_here l w e
+      ∙ cond-true _ _ None (and_from _ _ (ap (nat_le width) counted.counts ∙ le-leb width (k - j) x) (ap (first nb) counted.leaves ∙ n))
+      ∙ ap (λ (y : ℕ). Some y) counted.counts
+
+pub nb_there : (bs : List ℕ) (i j : ℕ) → IsNb bs i j → first nb (rest bs i) ≡ true
+nb_there bs i j h = ap (first nb) h.splits ∙ h.fits

@@ -1,0 +1,114 @@
+-- Text lines, by the places where they start and end.
+use Rattle.std.proofs.Common.{◌≡◌, ℕ, ◌+◌, ◌-◌, ◌<◌, ◌≤◌, true, false, List, [], ◌∷◌, Option, Some, refl, ap, sym, ◌∙◌, arith, inl, inr}
+use Rattle.std.specs.Prelude.{◌&&◌, ◌==◌, not, nat_lt}
+use Rattle.std.specs.Str.{IsUtf8, IsCharBoundary}
+use Rattle.std.proofs.lemmas.Bool.{and_from, and_left, and_right, cases_Bool, cases_lt, cond-true, cond-false, eq-eqb, false≢true, le-ltb, lt-ltb, ne_eqb, or_from, or_left, or_right}
+use Rattle.yaml_chars.specs.Classes.{nb, white}
+use Rattle.yaml_chars.specs.Places.{between, rest}
+use Rattle.yaml_chars.proofs.Classes.{white_is_nb}
+use Rattle.yaml_chars.proofs.Places.{between-nil}
+use Rattle.yaml_grammar.specs.BlockScalars.{TextLine, goes_on, past_spaces, spaces_before}
+use Rattle.yaml_grammar.specs.Separation.{Break}
+use Rattle.yaml_grammar.specs.Texts.{first, marker, no_marker}
+use Rattle.yaml_recognizers.proofs.BlockScalarSteps.{lines_step}
+use Rattle.yaml_recognizers.proofs.Spaces.{goes_on_text}
+use Rattle.yaml_recognizers.specs.BlockScalars.{gaps_at, lines_at, read_text_line}
+use Rattle.yaml_recognizers.specs.Comments.{read_stop}
+use Rattle.yaml_recognizers.specs.Fronts.{dropped, taken}
+use Rattle.yaml_recognizers.specs.Reading.{Read, on}
+use Rattle.yaml_block_scalars.specs.declared.line.Line.{Line}
+use Rattle.yaml_block_scalars.specs.Lines.{AreGaps, IsLine, IsPastGaps, IsTextStart}
+use Rattle.yaml_block_scalars.specs.Places.{AreSpaces, AreTaken, IsStop}
+use Rattle.yaml_block_scalars.proofs.EmptyLines.{gaps_past}
+use Rattle.yaml_block_scalars.proofs.Runs.{AreCounted, spaces_counted_at, spaces_dropped_at}
+
+-- ---- where a line goes on
+
+module _ (q : ℕ) (bs : List ℕ) (i j : ℕ) (u : IsUtf8 bs) (b : IsCharBoundary bs i) (s : AreSpaces bs i j) where
+  counted : AreCounted bs i j
+  counted = spaces_counted_at bs i j u b s
+
+  stays : IsPastGaps q (rest bs i) → nat_lt q (j - i) ≡ false → (spaces_before (rest bs i) == q) && first nb (past_spaces (rest bs i)) && no_marker true (rest bs i) ≡ false → goes_on q (rest bs i) ≡ false
+  stays past w t = or_from _ _ (or_from _ _ (ap (nat_lt q) counted.counts ∙ w) past) t
+
+  pub line_narrow : IsPastGaps q (rest bs i) → j - i < q → goes_on q (rest bs i) ≡ false
+  line_narrow past w =
+      stays past (le-ltb q (j - i) (omega arith)) (and_left _ _ (and_left _ _ (ap (λ x. x == q) counted.counts ∙ ne_eqb (j - i) q (λ e. omega arith))))
+
+  pub line_no_text : IsPastGaps q (rest bs i) → j - i ≡ q → first nb (rest bs j) ≡ false → goes_on q (rest bs i) ≡ false
+  line_no_text past w n =
+      stays past (le-ltb q (j - i) (omega arith)) (and_left _ _ (and_right (spaces_before (rest bs i) == q) _ (ap (first nb) counted.leaves ∙ n)))
+
+  pub line_marked : IsPastGaps q (rest bs i) → j - i ≡ q → marker (rest bs i) ≡ true → goes_on q (rest bs i) ≡ false
+  line_marked past w e =
+      stays past (le-ltb q (j - i) (omega arith)) (and_right ((spaces_before (rest bs i) == q) && first nb (past_spaces (rest bs i))) _ (ap not e))
+
+  starts : q ≤ j - i → goes_on q (rest bs i) ≡ true → IsTextStart q bs i (i + q)
+  starts w g = let there = spaces_dropped_at bs i j q u b s w in record { above = omega arith; boundary = there.1; goes = g; drops = there.0 }
+
+  pub start_wide : q < j - i → IsTextStart q bs i (i + q)
+  start_wide w = starts (omega arith) (or_left _ _ (or_left _ _ (ap (nat_lt q) counted.counts ∙ lt-ltb q (j - i) w)))
+
+  pub start_there : j - i ≡ q → first nb (rest bs j) ≡ true → marker (rest bs i) ≡ false → IsTextStart q bs i (i + q)
+  start_there w n e =
+      starts (omega arith)
+      (or_right _ _ (and_from _ _ (and_from _ _ (ap (λ x. x == q) counted.counts ∙ eq-eqb (j - i) q w) (ap (first nb) counted.leaves ∙ n)) (ap not e)))
+
+-- ---- the line
+
+white_taken : (cs : List ℕ) → first white (taken nb cs) ≡ first white cs
+white_taken [] = refl
+white_taken (c ∷ cs) = elim (cases_Bool (nb c)) [
+  | inl e ↦ ap (first white) (cond-true (nb c) (c ∷ taken nb cs) [] e)
+  | inr e ↦ ap (first white) (cond-false (nb c) (c ∷ taken nb cs) [] e) ∙ sym (elim (cases_Bool (white c)) [
+    | inl w ↦ absurd (false≢true (sym e ∙ white_is_nb c w))
+    | inr w ↦ w
+  ])
+]
+
+some_taken : (cs : List ℕ) → first nb cs ≡ true → taken nb cs ≡ [] → ⊥
+some_taken [] h e = false≢true h
+some_taken (c ∷ cs) h e = let none : c ∷ taken nb cs ≡ [] = sym (cond-true (nb c) (c ∷ taken nb cs) [] h) ∙ e in cc
+
+module _ (q : ℕ) (bs : List ℕ) (i : ℕ) (past : IsPastGaps q (rest bs i)) where
+  stepped : (start : ℕ) → IsTextStart q bs i start
+      → lines_at q (rest bs i) ≡ on (read_text_line q (rest bs start)) (λ l t. on (lines_at q t) (λ ls behind. Some (l ∷ ls, behind)))
+  stepped start h =
+      lines_step q (rest bs i) h.goes past
+      ∙ ap (λ (t : List ℕ). on (read_text_line q t) (λ l t'. on (lines_at q t') (λ ls behind. Some (l ∷ ls, behind)))) h.drops
+
+  -- a text line is not empty
+  long : (start end : ℕ) → IsTextStart q bs i start → AreTaken nb bs start end → start < end
+  long start end h t =
+      let filled : first nb (rest bs start) ≡ true = ap (first nb) (sym h.drops) ∙ (goes_on_text q (rest bs i) h.goes past).filled in
+      let above = t.above in
+      elim (cases_lt start end) [
+        | inl l ↦ l
+        | inr l ↦ (let e : end ≡ start = omega arith in
+            absurd (some_taken (rest bs start) filled (t.takes ∙ ap (between bs start) e ∙ between-nil bs start)))
+      ]
+
+  pub line_there : (line : Line) (behind : ℕ) → IsTextStart q bs i line.start → AreTaken nb bs line.start line.end → IsStop bs line.end line.has_break behind
+      → AreGaps q bs behind line.gaps line.next → line.white ≡ first white (rest bs line.start) → IsLine q bs i line
+  line_there line behind h t s g w =
+      let read : TextLine = record { text = taken nb (rest bs line.start); stop = s.stop; gaps = (gaps_at q (rest bs behind)).0 } in
+      let stops : read_stop (dropped nb (rest bs line.start)) ≡ Some (s.stop, rest bs behind) = ap read_stop t.leaves ∙ s.reads in
+      let further = s.above in
+      let more = g.above in
+      record {
+        after = h.above;
+        placed = record {
+          above = long line.start line.end h t;
+          behind = omega arith;
+          start_boundary = h.boundary;
+          end_boundary = t.boundary;
+          next_boundary = g.boundary;
+          past = gaps_past q bs behind line.gaps line.next g;
+        };
+        read = read;
+        described = record { begins_white = white_taken (rest bs line.start) ∙ sym w; breaks = s.is_break; empties = g.counts };
+        spells = t.takes;
+        reads = stepped line.start h
+            ∙ ap (λ (r : Read (Option Break)). on (on r (λ stop t'. let g = gaps_at q t' in Some (record { text = taken nb (rest bs line.start); stop = stop; gaps = g.0 }, g.1))) (λ l t'. on (lines_at q t') (λ ls behind. Some (l ∷ ls, behind)))) stops
+            ∙ ap (λ (t' : List ℕ). on (lines_at q t') (λ ls behind. Some (read ∷ ls, behind))) g.leaves;
+      }

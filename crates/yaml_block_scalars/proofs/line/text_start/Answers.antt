@@ -1,0 +1,26 @@
+use Rattle.std.proofs.Common.{arith, sym, ◌∙◌}
+use Rattle.yaml_block_scalars.proofs.Indents.{nb_there}
+use Rattle.yaml_block_scalars.proofs.TextLines.{line_marked, line_narrow, line_no_text, start_there, start_wide}
+use Rattle.yaml_block_scalars.proofs.line.text_start.Goals as goal
+use Rattle.yaml_block_scalars.proofs.line.text_start.Goals.{then-width-indent-2+in-Some+else-is_marker, else-width-indent-2}
+
+pub returns-then-width-indent : goal.returns-then-width-indent
+returns-then-width-indent c =
+    line_narrow c.args.indent c.args.text.now c.args.at c.spaces_end-end.result c.utf8.text c.requires.boundary c.spaces_end-end.ensures c.requires.past c.if-width-indent.true
+
+pub returns-in_default : goal.returns-in_default
+returns-in_default c =
+    line_no_text c.args.indent c.args.text.now c.args.at c.spaces_end-end.result c.utf8.text c.requires.boundary c.spaces_end-end.ensures c.requires.past c.if-width-indent-2.true c.in_default.ensures
+
+pub returns-then-is_marker : goal.returns-then-is_marker
+returns-then-is_marker c =
+    line_marked c.args.indent c.args.text.now c.args.at c.spaces_end-end.result c.utf8.text c.requires.boundary c.spaces_end-end.ensures c.requires.past c.if-width-indent-2.true (sym c.is_marker.ensures ∙ c.if-is_marker.true)
+
+pub returns : goal.returns
+returns c = elim c.if-width-indent-2.branch [
+  | then-width-indent-2+in-Some+else-is_marker w ↦
+      start_there c.args.indent c.args.text.now c.args.at c.spaces_end-end.result c.utf8.text c.requires.boundary c.spaces_end-end.ensures w.if-width-indent-2.true
+      (nb_there c.args.text.now c.spaces_end-end.result w.in-Some.field-0 w.in-Some.ensures) (sym w.is_marker.ensures ∙ w.if-is_marker.false)
+  | else-width-indent-2 w ↦
+      start_wide c.args.indent c.args.text.now c.args.at c.spaces_end-end.result c.utf8.text c.requires.boundary c.spaces_end-end.ensures (omega (arith, w.if-width-indent-2.false))
+]

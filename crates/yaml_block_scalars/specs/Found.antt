@@ -1,0 +1,42 @@
+-- What the scanner answers.
+use Rattle.std.specs.Prelude.{◌≡◌, ℕ, ◌≤◌, Bool, true, List, Some}
+use Rattle.std.specs.Str.{IsCharBoundary, chars}
+use Rattle.yaml_chars.specs.Places.{rest}
+use Rattle.yaml_grammar.specs.BlockScalars.{Gap, TextLine, block_value}
+use Rattle.yaml_grammar.specs.BlockScalars as grammar
+use Rattle.yaml_recognizers.specs.BlockScalars.{Body, gaps_at, lines_at}
+use Rattle.yaml_recognizers.specs.BlockScalarFacts.{IsHeader, IsBody, BodyStands}
+use Rattle.yaml_recognizers.specs.Reading.{on}
+use Rattle.yaml_block_scalars.specs.Meant.{chomping_of}
+use Rattle.yaml_block_scalars.specs.Pieces.{is_one_piece}
+use Rattle.yaml_block_scalars.specs.declared.parts.Header.{Header}
+
+-- the header at a place, up to a later one
+pub record IsHeaderAt (text : List ℕ) (at : ℕ) (header : Header) (end : ℕ) : Type 0 where
+  pub above : at ≤ end
+  pub boundary : IsCharBoundary text end
+  pub says : IsHeader (rest text at) header.folded header.digit (chomping_of header.chomping) (rest text end)
+
+-- the body behind a header, literal or folded, of a scalar whose least indentation is m
+pub record IsBodyAt (m : ℕ) (folded : Bool) (header : Header) (text : List ℕ) (at : ℕ) (value : List ℕ) (end : ℕ) : Type 0 where
+  pub above : at ≤ end
+  pub boundary : IsCharBoundary text end
+  pub means : IsBody header.digit m folded (chomping_of header.chomping) (rest text at) (chars value) (rest text end)
+
+-- the body there has its value in one piece
+pub record IsPieceAt (m : ℕ) (header : Header) (text : List ℕ) (at end : ℕ) : Type 0 where
+  pub body : Body
+  pub stands : BodyStands header.digit m (rest text at) body (rest text end)
+  pub piece : is_one_piece (chomping_of header.chomping) body.gaps body.texts ≡ true
+
+-- the lines at a place, with the empty lines before them
+pub record AreLines (q : ℕ) (folded : Bool) (chomping : grammar.Chomping) (text : List ℕ) (at : ℕ) (value : List ℕ) (end : ℕ) : Type 0 where
+  pub above : at ≤ end
+  pub boundary : IsCharBoundary text end
+  pub reads : on (lines_at q (gaps_at q (rest text at)).1) (λ ls behind. Some (block_value folded chomping (gaps_at q (rest text at)).0 ls, behind))
+      ≡ Some (chars value, rest text end)
+
+-- what they are where their value is in one piece
+abbrev pub ArePiece : ℕ → grammar.Chomping → List ℕ → Type 0
+ArePiece q chomping text =
+    (ls : List TextLine) × (behind : List ℕ) × (lines_at q (gaps_at q text).1 ≡ Some (ls, behind)) × (is_one_piece chomping (gaps_at q text).0 ls ≡ true)

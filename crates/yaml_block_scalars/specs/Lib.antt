@@ -1,0 +1,5 @@
+pub mod Meant
+pub mod Pieces
+pub mod Places
+pub mod Lines
+pub mod Found

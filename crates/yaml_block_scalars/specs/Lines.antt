@@ -1,0 +1,84 @@
+-- The lines of a block scalar at places of a text, in terms of the recognizers.
+use Rattle.std.specs.Prelude.{◌≡◌, ℕ, ◌+◌, ◌<◌, ◌≤◌, Bool, true, false, ◌&&◌, nat_le, List, [], ◌∷◌, ◌++◌, length, drop, Some, is_some}
+use Rattle.std.specs.Str.{IsCharBoundary, chars}
+use Rattle.yaml_chars.specs.Classes.{white, line_break}
+use Rattle.yaml_chars.specs.Places.{rest, between}
+use Rattle.yaml_grammar.specs.BlockScalars.{Chomping, Gap, TextLine, chomped, goes_on, spaces_before, past_spaces, text_value, widest}
+use Rattle.yaml_grammar.specs.FlowScalars.{line_feeds}
+use Rattle.yaml_grammar.specs.Texts.{first}
+use Rattle.yaml_recognizers.specs.BlockScalars.{all_gaps, gaps_at, lines_at}
+use Rattle.yaml_recognizers.specs.Reading.{Read, on}
+use Rattle.yaml_block_scalars.specs.Pieces.{is_one_piece}
+use Rattle.yaml_block_scalars.specs.declared.line.Line.{Line}
+
+-- no empty line of the indentation q stands at the front
+abbrev pub IsPastGaps : ℕ → List ℕ → Type 0
+IsPastGaps q text = nat_le (spaces_before text) q && first line_break (past_spaces text) ≡ false
+
+-- all empty lines of the indentation q from a place on
+pub record AreGaps (q : ℕ) (text : List ℕ) (at count end : ℕ) : Type 0 where
+  pub above : at + count ≤ end
+  pub boundary : IsCharBoundary text end
+  pub counts : length (gaps_at q (rest text at)).0 ≡ count
+  pub leaves : (gaps_at q (rest text at)).1 ≡ rest text end
+
+-- all lines of spaces from a place on, of which the widest has so many
+pub record AreLeading (text : List ℕ) (at width end : ℕ) : Type 0 where
+  pub above : at ≤ end
+  pub boundary : IsCharBoundary text end
+  pub widest_is : widest (all_gaps (rest text at)).0 ≡ width
+  pub leaves : (all_gaps (rest text at)).1 ≡ rest text end
+
+-- a line that goes on, and where its text starts
+pub record IsTextStart (q : ℕ) (text : List ℕ) (at start : ℕ) : Type 0 where
+  pub above : at ≤ start
+  pub boundary : IsCharBoundary text start
+  pub goes : goes_on q (rest text at) ≡ true
+  pub drops : drop q (rest text at) ≡ rest text start
+
+-- the places of a text line
+pub record IsPlaced (q : ℕ) (text : List ℕ) (line : Line) : Type 0 where
+  pub above : line.start < line.end
+  pub behind : line.end + line.gaps ≤ line.next
+  pub start_boundary : IsCharBoundary text line.start
+  pub end_boundary : IsCharBoundary text line.end
+  pub next_boundary : IsCharBoundary text line.next
+  pub past : IsPastGaps q (rest text line.next)
+
+-- what is known of a text line
+pub record Describes (line : Line) (l : TextLine) : Type 0 where
+  pub begins_white : first white l.text ≡ line.white
+  pub breaks : is_some l.stop ≡ line.has_break
+  pub empties : length l.gaps ≡ line.gaps
+
+-- the text line at a place, and what is read from there on
+pub record IsLine (q : ℕ) (text : List ℕ) (at : ℕ) (line : Line) : Type 0 where
+  pub after : at ≤ line.start
+  pub placed : IsPlaced q text line
+  pub read : TextLine
+  pub described : Describes line read
+  pub spells : read.text ≡ between text line.start line.end
+  pub reads : lines_at q (rest text at) ≡ on (lines_at q (rest text line.next)) (λ ls behind. Some (read ∷ ls, behind))
+
+-- the value of the text line l and of the lines behind it, which stand at the front of the text; behind what stands in front
+abbrev pub value_from : ℕ → Bool → Chomping → List ℕ → TextLine → List ℕ → Read (List ℕ)
+value_from q folded chomping front l text = on (lines_at q text) (λ ls behind. Some (front ++ text_value folded chomping l ls, behind))
+
+-- the value with the text line first and all lines behind it
+pub record ArePushed (q : ℕ) (folded : Bool) (chomping : Chomping) (text : List ℕ) (first_line : Line) (front value : List ℕ) (end : ℕ) : Type 0 where
+  pub above : first_line.next ≤ end
+  pub boundary : IsCharBoundary text end
+  pub reads : (l : TextLine) → Describes first_line l → l.text ≡ between text first_line.start first_line.end
+      → value_from q folded chomping (chars front) l (rest text first_line.next) ≡ Some (chars value, rest text end)
+
+-- no line stands behind the text line, and neither the empty lines before it nor what stands behind it add to its text
+pub record IsAlone (q : ℕ) (chomping : Chomping) (text : List ℕ) (gaps : ℕ) (line : Line) : Type 0 where
+  pub last : lines_at q (rest text line.next) ≡ Some ([], rest text line.next)
+  pub first_feeds : line_feeds gaps ≡ []
+  pub last_feeds : (l : TextLine) → Describes line l → chomped chomping l ≡ []
+
+-- one of those does
+abbrev pub IsNotAlone : ℕ → Chomping → List ℕ → ℕ → Line → Type 0
+IsNotAlone q chomping text gaps line =
+    (l : TextLine) (gs : List Gap) (ls : List TextLine) (behind : List ℕ) → Describes line l → length gs ≡ gaps → lines_at q (rest text line.next) ≡ Some (ls, behind)
+    → is_one_piece chomping gs (l ∷ ls) ≡ false

@@ -1,0 +1,15 @@
+-- What the types of src/ mean in the grammar.
+use Rattle.std.specs.Prelude.{ℕ, ◌+◌, ℤ, pos, negsuc}
+use Rattle.yaml_grammar.specs.BlockScalars as grammar
+use Rattle.yaml_block_scalars.specs.declared.parts.Chomping.{Chomping}
+use Rattle.yaml_block_scalars.specs.declared.parts.Chomping.TheVariants.{Strip, Clip, Keep}
+
+abbrev pub chomping_of : Chomping → grammar.Chomping
+chomping_of Strip = grammar.strip
+chomping_of Clip = grammar.clip
+chomping_of Keep = grammar.keep
+
+-- the least indentation of a block scalar below one of n, which is -1 at a document's top
+abbrev pub least_indent : ℤ → ℕ
+least_indent (pos n) = n + 1
+least_indent (negsuc n) = 0

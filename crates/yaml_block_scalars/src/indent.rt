@@ -1,0 +1,60 @@
+// The indentation of a block scalar without a digit (YAML 1.2.2, 8.1.1.1).
+ghost use Rattle.std.specs.Prelude.{◌≡◌, None, Some, IfOk, IfErr};
+ghost use Rattle.std.specs.Str.{IsCharBoundary};
+ghost use Rattle.yaml_chars.specs.Places.{rest};
+ghost use Rattle.yaml_events.specs.Places.{Refuses};
+ghost use Rattle.yaml_recognizers.specs.BlockScalars.{find_indent};
+ghost use Rattle.yaml_block_scalars.specs.Lines.{AreLeading};
+
+use crate::place::{break_end, is_marker, nb_at, spaces_end};
+use yaml_events::{ScanFault, Why};
+
+/// How many spaces the widest line of spaces has, of all that stand at `at` one behind the other, and where they end.
+fn leading_lines(text: &str, at: usize) -> (usize, usize)
+    requires { IsCharBoundary text.now at }
+    ensures { AreLeading text.now at result.0 result.1 }
+{
+    let mut widest = 0;
+    let mut place = at;
+    'lines: loop {
+        let end = spaces_end(text, place);
+        let Some(next) = break_end(text, end) else {
+            return (widest, place);
+        };
+        widest = widest.max(end - place);
+        place = next;
+    }
+}
+
+/// The indentation that the lines at `at` set, of `least` or more: that of the first line that holds something else than spaces.
+pub(crate) fn detected(text: &str, at: usize, least: usize) -> Result<usize, ScanFault>
+    requires { IsCharBoundary text.now at }
+    ensures found { IfOk result (λ indent. find_indent None least (rest text.now at) ≡ Some indent) }
+    ensures none { IfErr result (λ fault. Refuses fault (find_indent None least (rest text.now at) ≡ None)) }
+{
+    let (widest, place) = leading_lines(text, at);
+    let end = spaces_end(text, place);
+    let width = end - place;
+    if end == text.len() {
+        return Ok(least.max(widest.max(width)));
+    }
+    if width < least {
+        return Ok(least.max(widest));
+    }
+    if is_marker(text, place) {
+        return Ok(least.max(widest));
+    }
+    if width < widest {
+        return Err(ScanFault::At {
+            at: place,
+            why: Why::Indent,
+        });
+    }
+    match nb_at(text, end) {
+        Some(_) => Ok(width),
+        None => Err(ScanFault::At {
+            at: end,
+            why: Why::Character,
+        }),
+    }
+}

@@ -1,0 +1,99 @@
+// The lines of a block scalar at an indentation.
+ghost use Rattle.std.specs.Prelude.{◌≡◌, false, [], None, Some, MatchOption, IfOk, IfErr};
+ghost use Rattle.std.specs.Str.{IsCharBoundary};
+ghost use Rattle.yaml_chars.specs.Places.{rest};
+ghost use Rattle.yaml_events.specs.Places.{Refuses};
+ghost use Rattle.yaml_grammar.specs.BlockScalars.{goes_on};
+ghost use Rattle.yaml_recognizers.specs.BlockScalars.{lines_at};
+ghost use Rattle.yaml_block_scalars.specs.Lines.{IsPastGaps, AreGaps, IsTextStart, IsLine};
+
+use crate::place::{break_end, is_marker, is_white, nb_at, nb_end, spaces_end, stop_at};
+use yaml_events::{ScanFault, Why};
+
+/// A text line, and the empty lines behind it.
+#[derive(Clone, Copy)]
+pub(crate) struct Line {
+    /// Where its text starts, behind the indentation, and where it ends.
+    pub(crate) start: usize,
+    pub(crate) end: usize,
+    /// Whether its text begins with white.
+    pub(crate) white: bool,
+    /// Whether it has a break.
+    pub(crate) has_break: bool,
+    /// How many empty lines stand behind it.
+    pub(crate) gaps: usize,
+    /// Where the line behind those starts.
+    pub(crate) next: usize,
+}
+
+/// How many empty lines stand at `at`, and the place behind them: lines of at most `indent` spaces and a break.
+pub(crate) fn empty_lines(text: &str, at: usize, indent: usize) -> (usize, usize)
+    requires { IsCharBoundary text.now at }
+    ensures { AreGaps indent text.now at result.0 result.1 }
+{
+    let mut count = 0;
+    let mut place = at;
+    'lines: loop {
+        let end = spaces_end(text, place);
+        if end - place > indent {
+            return (count, place);
+        }
+        let Some(next) = break_end(text, end) else {
+            return (count, place);
+        };
+        count += 1;
+        place = next;
+    }
+}
+
+/// Where the text of the text line at `at` starts, where no empty line stands; None where no text line does.
+pub(crate) fn text_start(text: &str, at: usize, indent: usize) -> Option<usize>
+    requires boundary { IsCharBoundary text.now at }
+    requires past { IsPastGaps indent (rest text.now at) }
+    ensures { MatchOption result (goes_on indent (rest text.now at) ≡ false) (IsTextStart indent text.now at) }
+{
+    let end = spaces_end(text, at);
+    let width = end - at;
+    if width < indent {
+        return None;
+    }
+    if width == indent {
+        let Some(_) = nb_at(text, end) else {
+            return None;
+        };
+        if is_marker(text, at) {
+            return None;
+        }
+    }
+    Some(at + indent)
+}
+
+/// The text line at `at`, where no empty line stands; None where no text line does.
+///
+/// Answers a fault where its text ends neither in a break nor at the end of the text.
+pub(crate) fn text_line(text: &str, at: usize, indent: usize) -> Result<Option<Line>, ScanFault>
+    requires boundary { IsCharBoundary text.now at }
+    requires past { IsPastGaps indent (rest text.now at) }
+    ensures found { IfOk result (λ found. MatchOption found (lines_at indent (rest text.now at) ≡ Some ([], rest text.now at)) (IsLine indent text.now at)) }
+    ensures none { IfErr result (λ fault. Refuses fault (lines_at indent (rest text.now at) ≡ None)) }
+{
+    let Some(start) = text_start(text, at, indent) else {
+        return Ok(None);
+    };
+    let end = nb_end(text, start);
+    let Some(stop) = stop_at(text, end) else {
+        return Err(ScanFault::At {
+            at: end,
+            why: Why::Character,
+        });
+    };
+    let (gaps, next) = empty_lines(text, stop.next, indent);
+    Ok(Some(Line {
+        start,
+        end,
+        white: is_white(text, start),
+        has_break: stop.has_break,
+        gaps,
+        next,
+    }))
+}

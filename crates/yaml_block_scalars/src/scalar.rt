@@ -1,0 +1,186 @@
+// Block scalars behind their headers.
+ghost use Rattle.std.specs.Prelude.{◌≡◌, ◌≤◌, ◌^◌, ◌≤ℤ◌, negsuc, true, false, [], None, Some, IsTrue, IfOk, IfErr, MatchBool, length, string_bytes};
+ghost use Rattle.std.specs.Cow.{cow_str_bytes, IsBorrowedStr};
+ghost use Rattle.std.specs.Str.{IsCharBoundary, chars};
+ghost use Rattle.yaml_chars.specs.Places.{rest};
+ghost use Rattle.yaml_events.specs.Places.{Refuses};
+ghost use Rattle.yaml_recognizers.specs.BlockScalars.{digit_fits, find_indent, gaps_at, lines_at};
+ghost use Rattle.yaml_recognizers.specs.BlockScalarFacts.{NoBody};
+ghost use Rattle.yaml_block_scalars.specs.Found.{IsBodyAt, IsPieceAt, AreLines, ArePiece};
+ghost use Rattle.yaml_block_scalars.specs.Lines.{IsPlaced, IsAlone, IsNotAlone, ArePushed};
+ghost use Rattle.yaml_block_scalars.specs.Meant.{chomping_of, least_indent};
+
+use crate::indent::detected;
+use crate::line::{Line, empty_lines, text_line, text_start};
+use crate::parts::{Chomping, Header};
+use crate::value::{feeds_behind, no_lines, push_between, push_feeds};
+use std::alloc::Global;
+use std::borrow::CowStr;
+use yaml_events::ScanFault;
+
+/// How the breaks of a block scalar are read.
+#[derive(Clone, Copy)]
+struct Style {
+    folded: bool,
+    chomping: Chomping,
+}
+
+/// Pushes the text line `first` and all behind it into the value, and tells where they end.
+fn push_lines(
+    value: &mut String,
+    text: &str,
+    first: Line,
+    indent: usize,
+    style: Style,
+) -> Result<usize, ScanFault>
+    requires { IsPlaced indent text.now first }
+    ensures found { IfOk result (ArePushed indent style.folded (chomping_of style.chomping) text.now first (string_bytes value.old) (string_bytes value.new)) }
+    ensures none { IfErr result (λ fault. Refuses fault (lines_at indent (rest text.now first.next) ≡ None)) }
+{
+    let mut line = first;
+    'lines: loop {
+        value.push_str(&text[line.start..line.end])?;
+        let Some(next) = text_line(text, line.next, indent)? else {
+            push_feeds(value, feeds_behind(style.chomping, line))?;
+            return Ok(line.next);
+        };
+        push_between(value, style.folded, line, next)?;
+        line = next;
+    }
+}
+
+/// Whether a value with the text line `line`, behind so many empty lines, is the text of that line.
+fn is_alone(text: &str, gaps: usize, line: Line, indent: usize, chomping: Chomping) -> bool
+    requires { IsPlaced indent text.now line }
+    ensures { MatchBool result (IsAlone indent (chomping_of chomping) text.now gaps line) (IsNotAlone indent (chomping_of chomping) text.now gaps line) }
+{
+    if gaps > 0 {
+        return false;
+    }
+    if feeds_behind(chomping, line) > 0 {
+        return false;
+    }
+    match text_start(text, line.next, indent) {
+        Some(_) => false,
+        None => true,
+    }
+}
+
+/// The value of the lines at `at`, and where they end.
+fn lines<'a>(
+    alloc: Global,
+    text: &'a str,
+    at: usize,
+    indent: usize,
+    style: Style,
+) -> Result<(CowStr<'a>, usize), ScanFault>
+    requires { IsCharBoundary text.now at }
+    ensures found { IfOk result (λ found. AreLines indent style.folded (chomping_of style.chomping) text.now at (cow_str_bytes found.0) found.1) }
+    ensures borrowed { IfOk result (λ found. ArePiece indent (chomping_of style.chomping) (rest text.now at) → IsBorrowedStr found.0) }
+    ensures none { IfErr result (λ fault. Refuses fault (lines_at indent (gaps_at indent (rest text.now at)).1 ≡ None)) }
+{
+    let (gaps, place) = empty_lines(text, at, indent);
+    let Some(line) = text_line(text, place, indent)? else {
+        return Ok((no_lines(alloc, style.chomping, gaps)?, place));
+    };
+    if is_alone(text, gaps, line, indent, style.chomping) {
+        return Ok((CowStr::Borrowed(&text[line.start..line.end]), line.next));
+    }
+    let mut value = String::new(alloc);
+    push_feeds(&mut value, gaps)?;
+    let end = push_lines(&mut value, text, line, indent, style)?;
+    Ok((CowStr::Owned(value), end))
+}
+
+/// The least indentation of a scalar below one of `n`.
+fn least_indent(n: i64) -> usize
+    ensures value { result ≡ least_indent n }
+    ensures fits { result ≤ 2 ^ 63 }
+{
+    if n < 0 { 0 } else { n as usize + 1 }
+}
+
+/// The indentation of the lines at `at`, of `least` or more.
+fn indent_at(text: &str, at: usize, least: usize, digit: Option<u8>) -> Result<usize, ScanFault>
+    requires boundary { IsCharBoundary text.now at }
+    requires fits { least ≤ 2 ^ 63 }
+    ensures found { IfOk result (λ indent. find_indent digit least (rest text.now at) ≡ Some indent) }
+    ensures none { IfErr result (λ fault. Refuses fault (find_indent digit least (rest text.now at) ≡ None)) }
+{
+    match digit {
+        Some(digit) => Ok(least.saturating_sub(1) + digit as usize),
+        None => detected(text, at, least),
+    }
+}
+
+/// The value of the scalar whose header ends at `at`, literal or folded, and where its lines end.
+fn body<'a>(
+    alloc: Global,
+    text: &'a str,
+    at: usize,
+    least: usize,
+    header: &Header,
+    folded: bool,
+) -> Result<(CowStr<'a>, usize), ScanFault>
+    requires boundary { IsCharBoundary text.now at }
+    requires fits { least ≤ 2 ^ 63 }
+    requires digit { IsTrue (digit_fits header.now.digit) }
+    ensures found { IfOk result (λ found. IsBodyAt least folded header.now text.now at (cow_str_bytes found.0) found.1) }
+    ensures borrowed { IfOk result (λ found. IsPieceAt least header.now text.now at found.1 → IsBorrowedStr found.0) }
+    ensures none { IfErr result (λ fault. Refuses fault (NoBody header.now.digit least (rest text.now at))) }
+{
+    let indent = indent_at(text, at, least, header.digit)?;
+    let style = Style {
+        folded,
+        chomping: header.chomping,
+    };
+    lines(alloc, text, at, indent, style)
+}
+
+/// The value of the literal scalar whose header ends at `at`, and the place behind its last text line or empty line; `at` where it
+/// has neither (YAML 1.2.2, 8.1.2).
+///
+/// `at` is on a boundary of a character. The scalar stands below an indentation of `n`, which is -1 at a document's top. Of the
+/// header the digit, from 1 to 9, and the chomping count; `folded` is not looked at. Each break in the value is one LF. The value
+/// is borrowed where it is the text of the only text line, and where it is empty and there is no text line.
+///
+/// Answers [`ScanFault::At`] where no such scalar stands: where a line of spaces before the first text line is too wide, or a
+/// line holds a character that none may hold. Answers [`ScanFault::OutOfMemory`] where there is no memory for the value.
+pub fn literal<'a>(
+    alloc: Global,
+    text: &'a str,
+    at: usize,
+    n: i64,
+    header: &Header,
+) -> Result<(CowStr<'a>, usize), ScanFault>
+    requires boundary { IsCharBoundary text.now at }
+    requires below { negsuc 0 ≤ℤ n }
+    requires digit { IsTrue (digit_fits header.now.digit) }
+    ensures found { IfOk result (λ found. IsBodyAt (least_indent n) false header.now text.now at (cow_str_bytes found.0) found.1) }
+    ensures borrowed { IfOk result (λ found. IsPieceAt (least_indent n) header.now text.now at found.1 → IsBorrowedStr found.0) }
+    ensures none { IfErr result (λ fault. Refuses fault (NoBody header.now.digit (least_indent n) (rest text.now at))) }
+{
+    body(alloc, text, at, least_indent(n), header, false)
+}
+
+/// The value of the folded scalar whose header ends at `at`, and the place behind its last text line or empty line; `at` where it
+/// has neither (YAML 1.2.2, 8.1.3).
+///
+/// As [`literal`], but that a break between two text lines that begin with no white is folded: it is a space, or the LF of each
+/// empty line there.
+pub fn folded<'a>(
+    alloc: Global,
+    text: &'a str,
+    at: usize,
+    n: i64,
+    header: &Header,
+) -> Result<(CowStr<'a>, usize), ScanFault>
+    requires boundary { IsCharBoundary text.now at }
+    requires below { negsuc 0 ≤ℤ n }
+    requires digit { IsTrue (digit_fits header.now.digit) }
+    ensures found { IfOk result (λ found. IsBodyAt (least_indent n) true header.now text.now at (cow_str_bytes found.0) found.1) }
+    ensures borrowed { IfOk result (λ found. IsPieceAt (least_indent n) header.now text.now at found.1 → IsBorrowedStr found.0) }
+    ensures none { IfErr result (λ fault. Refuses fault (NoBody header.now.digit (least_indent n) (rest text.now at))) }
+{
+    body(alloc, text, at, least_indent(n), header, true)
+}

@@ -1,0 +1,82 @@
+// The value of a block scalar (YAML 1.2.2, 8.1.1.2, 8.1.2 and 8.1.3).
+ghost use Rattle.std.specs.Prelude.{◌≡◌, ◌<◌, ◌++◌, true, IfOk, OnOk, string_bytes};
+ghost use Rattle.std.specs.Cow.{cow_str_bytes, IsBorrowedStr};
+ghost use Rattle.yaml_grammar.specs.BlockScalars.{TextLine, between_lines, chomped, kept};
+ghost use Rattle.yaml_grammar.specs.FlowScalars.{line_feeds};
+ghost use Rattle.yaml_grammar.specs.Texts.{is_empty};
+ghost use Rattle.yaml_block_scalars.specs.Lines.{Describes};
+ghost use Rattle.yaml_block_scalars.specs.Meant.{chomping_of};
+
+use crate::line::Line;
+use crate::parts::Chomping;
+use std::alloc::{AllocError, Global};
+use std::borrow::CowStr;
+
+/// How many line feeds stand behind the last text line in the value.
+pub(crate) fn feeds_behind(chomping: Chomping, line: Line) -> usize
+    requires { line.gaps < usize.MAX }
+    ensures { (l : TextLine) → Describes line l → line_feeds result ≡ chomped (chomping_of chomping) l }
+{
+    let of_break = if line.has_break { 1 } else { 0 };
+    match chomping {
+        Chomping::Strip => 0,
+        Chomping::Clip => of_break,
+        Chomping::Keep => of_break + line.gaps,
+    }
+}
+
+/// How many line feeds the value has, where there is no text line.
+fn kept_feeds(chomping: Chomping, gaps: usize) -> usize
+    ensures { line_feeds result ≡ kept (chomping_of chomping) gaps }
+{
+    match chomping {
+        Chomping::Strip | Chomping::Clip => 0,
+        Chomping::Keep => gaps,
+    }
+}
+
+pub(crate) fn push_feeds(value: &mut String, count: usize) -> Result<(), AllocError>
+    ensures { OnOk result (string_bytes value.new ≡ string_bytes value.old ++ line_feeds count) }
+{
+    for _ in 0..count {
+        value.push('\n')?;
+    }
+    Ok(())
+}
+
+/// Pushes what stands between two text lines in the value.
+pub(crate) fn push_between(
+    value: &mut String,
+    folded: bool,
+    line: Line,
+    next: Line,
+) -> Result<(), AllocError>
+    requires { line.gaps < usize.MAX }
+    ensures { OnOk result ((l m : TextLine) → Describes line l → Describes next m → string_bytes value.new ≡ string_bytes value.old ++ between_lines folded l m) }
+{
+    if !folded || line.white || next.white {
+        return push_feeds(value, line.gaps + 1);
+    }
+    if line.gaps == 0 {
+        return value.push(' ');
+    }
+    push_feeds(value, line.gaps)
+}
+
+/// The value where there is no text line, behind so many empty lines.
+pub(crate) fn no_lines<'a>(
+    alloc: Global,
+    chomping: Chomping,
+    gaps: usize,
+) -> Result<CowStr<'a>, AllocError>
+    ensures value { IfOk result (λ value. cow_str_bytes value ≡ kept (chomping_of chomping) gaps) }
+    ensures borrowed { is_empty (kept (chomping_of chomping) gaps) ≡ true → IfOk result IsBorrowedStr }
+{
+    let feeds = kept_feeds(chomping, gaps);
+    if feeds == 0 {
+        return Ok(CowStr::Borrowed(""));
+    }
+    let mut value = String::new(alloc);
+    push_feeds(&mut value, feeds)?;
+    Ok(CowStr::Owned(value))
+}
