@@ -56,14 +56,14 @@ digits_not_literal ds all = rw (digits_no_feed ds all) refl
 by_tests : (p l : Bool) (plain literal double : List ℕ) → p ≡ false → l ≡ false → (if p then plain else if l then literal else double) ≡ double
 by_tests p l plain literal double not_plain not_literal = rw (not_plain, not_literal) refl
 
-count_line : (ds : List ℕ) → AllDigits 10 ds → scalar_lines 2 ds ≡ codes "\"" ++ ds ++ codes "\"" ++ codes "\n"
+pub count_line : (ds : List ℕ) → AllDigits 10 ds → scalar_lines 2 ds ≡ codes "\"" ++ ds ++ codes "\"" ++ codes "\n"
 count_line ds all =
     by_tests (plain_in_style ds) (literal_in_style ds) (ds ++ codes "\n")
     (literal_mark (feeds_at_end ds) ++ codes "\n" ++ literal_lines 2 true ds) (quoted ds ++ codes "\n")
     (digits_not_plain ds all) (digits_not_literal ds all)
     ∙ ap (λ cs. codes "\"" ++ cs ++ codes "\"" ++ codes "\n") (digits_quoted ds all)
 
-count_bytes : (ds : List ℕ) → AllDigits 10 ds → byte_len (scalar_lines 2 ds) ≡ 3 + length ds
+pub count_bytes : (ds : List ℕ) → AllDigits 10 ds → byte_len (scalar_lines 2 ds) ≡ 3 + length ds
 count_bytes ds all =
     let line = ap byte_len (count_line ds all) in
     omega (

@@ -1,7 +1,14 @@
+pub mod AcceptedLemmas
 pub mod BaseLemmas
 pub mod CountLemmas
 pub mod EntryLemmas
 pub mod LimitLemmas
+pub mod LineLemmas
 pub mod NameLemmas
+pub mod PathLemmas
+pub mod PointerLemmas
+pub mod ReadLemmas
+pub mod RecordLemmas
 pub mod RunLaws
+pub mod SizeLemmas
 pub mod StateLemmas

@@ -6,4 +6,7 @@ pub mod Names
 pub mod PathFaults
 pub mod States
 pub mod Steps
+pub mod Texts
 pub mod TreeCode
+pub mod Records
+pub mod RecordsRead

@@ -23,12 +23,20 @@ const LINE_FEED: u64 = 1;
 
 /// A count of bytes, which stands still at the greatest `u64`.
 #[derive(Drop)]
-struct ByteCount {
+pub(crate) struct ByteCount {
     count: u64,
 }
 
 impl ByteCount {
-    fn total(&self) -> u64
+    /// Nothing is counted.
+    pub(crate) fn new() -> ByteCount
+        ensures { result.count ≡ 0 }
+    {
+        ByteCount { count: 0 }
+    }
+
+    /// How many bytes are counted.
+    pub(crate) fn total(&self) -> u64
         ensures { result ≡ self.now.count }
     {
         self.count
@@ -66,7 +74,11 @@ impl Sink for ByteCount {
 }
 
 /// Writes a configuration under its name as a base text has it, at the indentation 2.
-fn write_entry<S: Sink>(name: &str, config: &Config, sink: &mut S) -> Result<(), S::Fault>
+pub(crate) fn write_entry<S: Sink>(
+    name: &str,
+    config: &Config,
+    sink: &mut S,
+) -> Result<(), S::Fault>
     ensures { OnOk result (S.Takes sink.old (entry_lines (chars name.now) (tree_of config.now)) sink.new) }
 {
     let tree = config.tree();
@@ -79,7 +91,7 @@ fn write_entry<S: Sink>(name: &str, config: &Config, sink: &mut S) -> Result<(),
 pub(crate) fn entry_length(name: &str, config: &Config) -> u64
     ensures { result ≡ min (entry_length (chars name.now) (tree_of config.now)) u64.MAX }
 {
-    let mut bytes = ByteCount { count: 0 };
+    let mut bytes = ByteCount::new();
     match write_entry(name, config, &mut bytes) {
         Ok(()) => bytes.total(),
         Err(never) => match never {},

@@ -1,20 +1,29 @@
 //! The state of a store: configurations by name, and what each command makes of them.
+//!
+//! A state and a command are told by texts: [`base_text`] holds a whole state, and [`record_text`] one command with its number.
 #![tactic(auto)]
 
 mod base;
+mod base_writer;
 mod command;
 mod fault;
 mod laws;
 mod name;
+mod record;
 mod state;
 mod steps;
+mod text_buffer;
 
+pub use base_writer::base_text;
 pub use command::Command;
 pub use fault::StoreFault;
-pub use laws::{accepted_commands_are_counted, runs_are_joined};
+pub use laws::{accepted_commands_are_counted, records_read, runs_are_joined};
 pub use name::good_name;
+pub use record::record_text;
 pub use state::{Names, State};
 pub use steps::step;
 
+#[cfg(test)]
+mod record_tests;
 #[cfg(test)]
 mod tests;

@@ -8,17 +8,19 @@ ghost use Rattle.conf_record.specs.Commands.{text_of};
 ghost use Rattle.conf_record.specs.Names.{good_name};
 ghost use Rattle.conf_record.specs.Limits.{IsState};
 ghost use Rattle.conf_record.specs.States.{Entry, names_of, config_named, put_config, cut_config, config_limits};
-ghost use Rattle.conf_record.specs.BaseTexts.{entry_length, entries_length};
+ghost use Rattle.yaml_grammar.specs.Trees.{mapping};
+ghost use Rattle.yaml_grammar.specs.Style.{value_at};
+ghost use Rattle.conf_record.specs.BaseTexts.{members, base_length, entry_length, entries_length};
 ghost use Rattle.conf_record.specs.Steps.{counted};
 ghost use Rattle.indexmap.specs.IndexMap.{insert_entry};
 
 use crate::StoreFault;
-use crate::base::{BASE_LIMIT, base_length, entry_length};
+use crate::base::{BASE_LIMIT, base_length, entry_length, write_entry};
 use indexmap::IndexMap;
 use indexmap::map::Keys;
 use std::alloc::{AllocError, Global};
 use std::marker::Model;
-use yaml_tree::Config;
+use yaml_tree::{Config, Sink};
 
 /// The configurations of a store by name, in order, and how many commands were accepted. Contracts see the list of
 /// configurations, with each name as its characters, and the count.
@@ -138,6 +140,27 @@ impl State {
             total = total.saturating_add(entry_length(name, config));
         }
         total
+    }
+
+    /// How many bytes the base text has.
+    pub(crate) fn base_length(&self) -> u64
+        ensures { result ≡ base_length self.now }
+    {
+        base_length(u128::from(self.count), self.entries_length())
+    }
+
+    /// Writes the configurations as a base text has them behind `configs:`.
+    pub(crate) fn write_configs<S: Sink>(&self, sink: &mut S) -> Result<(), S::Fault>
+        ensures { OnOk result (S.Takes sink.old (value_at (mapping (members self.now.configs)) 0) sink.new) }
+    {
+        if self.configs.is_empty() {
+            return sink.put_text(" {}\n");
+        }
+        sink.put_char('\n')?;
+        for (name, config) in self.configs.iter() {
+            write_entry(name, config, sink)?;
+        }
+        Ok(())
     }
 
     /// How many bytes the configuration under a name has in the base text; 0 where there is none.

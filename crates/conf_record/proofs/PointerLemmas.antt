@@ -1,0 +1,93 @@
+-- A pointer has at most twice the bytes of its tokens.
+use Rattle.std.proofs.Common.{◌≡◌, ℕ, ◌+◌, ◌*◌, ◌≤◌, Bool, true, false, not, ◌&&◌, ◌||◌, ◌==◌, if◌then◌else◌, List, [], ◌∷◌, map, Option, Some, None, option_map, Ok, Err, refl, ap, arith}
+use Rattle.std.proofs.lemmas.Bool.Decides.{nat_tests}
+use Rattle.std.proofs.lemmas.Str.{len_utf8_bounds}
+use Rattle.std.specs.Char.{len_utf8}
+use Rattle.yaml_grammar.specs.Texts.{byte_len}
+use Rattle.tree_path.specs.Pointers.{slash, tilde, stray, first_stray, first_piece, pieces, unescaped, tokens_or_place, path_of}
+use Rattle.tree_path.specs.declared.fault.PathFault.TheVariants.{BadPath}
+use Rattle.conf_record.proofs.PathLemmas.{tokens_size}
+
+-- what stands in front of the first `/`, and the tokens behind it
+abbrev parts_size : List ℕ → ℕ
+parts_size cs = byte_len (unescaped (first_piece cs)) + tokens_size (map unescaped (pieces cs))
+
+kept_behind : (c : ℕ) (cs : List ℕ) → first_stray (c ∷ cs) ≡ None → (stray (c ∷ cs) ≡ false) × (first_stray cs ≡ None)
+kept_behind c cs none = by (stray (c ∷ cs)) (first_stray cs) none
+  where
+    by : (b : Bool) (o : Option ℕ) → (if b then Some 0 else option_map (λ n. len_utf8 c + n) o) ≡ None → (b ≡ false) × (o ≡ None)
+    by true o e = cc
+    by false None e = (refl, refl)
+    by false (Some n) e = cc
+
+slash_byte : (c : ℕ) → (c == slash) ≡ true → len_utf8 c ≡ 1
+slash_byte c e = grind (arith, nat_tests)
+
+tilde_byte : (c : ℕ) → (c == tilde) ≡ true → len_utf8 c ≡ 1
+tilde_byte c e = grind (arith, nat_tests)
+
+digit_byte : (d : ℕ) → ((d == 48) || (d == 49)) ≡ true → len_utf8 d ≡ 1
+digit_byte d e = grind (arith, nat_tests)
+
+digit_no_slash : (d : ℕ) → ((d == 48) || (d == 49)) ≡ true → (d == slash) ≡ false
+digit_no_slash d e = grind (arith, nat_tests)
+
+digit_no_tilde : (d : ℕ) → ((d == 48) || (d == 49)) ≡ true → (d == tilde) ≡ false
+digit_no_tilde d e = grind (arith, nat_tests)
+
+slash_more : (c : ℕ) (cs : List ℕ) → (c == slash) ≡ true → byte_len cs ≤ 2 * parts_size cs → byte_len (c ∷ cs) ≤ 2 * parts_size (c ∷ cs)
+slash_more c cs is rest =
+    let parts : parts_size (c ∷ cs) ≡ 1 + parts_size cs = rw is (omega arith) in
+    omega (arith, slash_byte c is, parts, rest)
+
+itself_more : (c : ℕ) (cs : List ℕ) → (c == slash) ≡ false → (c == tilde) ≡ false → byte_len cs ≤ 2 * parts_size cs
+    → byte_len (c ∷ cs) ≤ 2 * parts_size (c ∷ cs)
+itself_more c cs no_slash no_tilde rest =
+    let parts : parts_size (c ∷ cs) ≡ len_utf8 c + parts_size cs = rw (no_slash, no_tilde) (omega arith) in
+    omega (arith, parts, rest)
+
+tilde_more : (c d : ℕ) (ds : List ℕ) → (c == slash) ≡ false → (c == tilde) ≡ true → ((d == 48) || (d == 49)) ≡ true → byte_len ds ≤ 2 * parts_size ds
+    → byte_len (c ∷ d ∷ ds) ≤ 2 * parts_size (c ∷ d ∷ ds)
+tilde_more c d ds no_slash is digit rest =
+    let spelled = if d == 48 then tilde else slash in
+    let parts : parts_size (c ∷ d ∷ ds) ≡ len_utf8 spelled + parts_size ds =
+    rw (no_slash, is, digit_no_slash d digit, digit_no_tilde d digit) (omega arith) in
+    omega (arith, tilde_byte c is, digit_byte d digit, len_utf8_bounds spelled, parts, rest)
+
+pieces_bytes : (cs : List ℕ) → first_stray cs ≡ None → byte_len cs ≤ 2 * parts_size cs
+pieces_bytes [] none = omega arith
+pieces_bytes (c ∷ []) none = by (c == slash) refl (c == tilde) refl
+  where
+    by : (s : Bool) → (c == slash) ≡ s → (t : Bool) → (c == tilde) ≡ t → byte_len (c ∷ []) ≤ 2 * parts_size (c ∷ [])
+    by true is t e = slash_more c [] is (omega arith)
+    by false no_slash false e = itself_more c [] no_slash e (omega arith)
+    by false no_slash true e = let bad = rw e at (kept_behind c [] none).0 in cc
+pieces_bytes (c ∷ d ∷ ds) none =
+    let kept = kept_behind c (d ∷ ds) none in
+    by (c == slash) refl (c == tilde) refl kept.0 (pieces_bytes (d ∷ ds) kept.1) (pieces_bytes ds (kept_behind d ds kept.1).1)
+  where
+    by : (s : Bool) → (c == slash) ≡ s → (t : Bool) → (c == tilde) ≡ t → (t && not ((d == 48) || (d == 49))) ≡ false
+        → byte_len (d ∷ ds) ≤ 2 * parts_size (d ∷ ds) → byte_len ds ≤ 2 * parts_size ds → byte_len (c ∷ d ∷ ds) ≤ 2 * parts_size (c ∷ d ∷ ds)
+    by true is t e kept rest further = slash_more c (d ∷ ds) is rest
+    by false no_slash false e kept rest further = itself_more c (d ∷ ds) no_slash e rest
+    by false no_slash true e kept rest further = tilde_more c d ds no_slash e (negated ((d == 48) || (d == 49)) kept) further
+      where
+        negated : (b : Bool) → not b ≡ false → b ≡ true
+        negated true h = refl
+        negated false h = cc
+
+-- the pointer is empty, or begins with `/` and has no stray `~`
+pub pointer_bytes : (path : List ℕ) (tokens : List (List ℕ)) → path_of path ≡ Ok tokens → byte_len path ≤ 2 * tokens_size tokens
+pointer_bytes [] tokens is = omega arith
+pointer_bytes (c ∷ cs) tokens is = by (c == slash) refl (first_stray (c ∷ cs)) refl is
+  where
+    by : (s : Bool) → (c == slash) ≡ s → (o : Option ℕ) → first_stray (c ∷ cs) ≡ o → tokens_or_place (if s then o else Some 0) (c ∷ cs) ≡ Ok tokens
+        → byte_len (c ∷ cs) ≤ 2 * tokens_size tokens
+    by true slashed None none told =
+        let same : map unescaped (pieces (c ∷ cs)) ≡ tokens = cc in
+        let bytes = pieces_bytes (c ∷ cs) none in
+        let front : byte_len (unescaped (first_piece (c ∷ cs))) ≡ 0 = rw slashed refl in
+        let behind = ap tokens_size same in
+        omega (arith, bytes, front, behind)
+    by true slashed (Some n) stray told = let refused : Err (BadPath n) ≡ Ok tokens = told in cc
+    by false other o stray told = let refused : Err (BadPath 0) ≡ Ok tokens = told in cc

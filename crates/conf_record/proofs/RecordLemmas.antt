@@ -1,0 +1,244 @@
+-- The trees of records and bases: they are good, within the limits, and tell what they were made of.
+use Rattle.std.proofs.Common.{◌≡◌, ℕ, ◌+◌, ◌≤◌, true, not, ◌&&◌, ◌||◌, nat_le, if◌then◌else◌, List, [], ◌∷◌, ◌++◌, length, codes, decimal, Some, None, append_assoc, refl, ap, sym, ◌∙◌, arith}
+use Rattle.std.proofs.lemmas.Bool.{and_parts, and_from}
+use Rattle.std.proofs.lemmas.Bool.Decides.{nat_tests}
+use Rattle.std.proofs.lemmas.Fmt.{decimal_is_IsNumeral, length-decimal-le}
+use Rattle.std.proofs.lemmas.Str.Parse.{tells_digits}
+use Rattle.std.specs.Char.{len_utf8}
+use Rattle.std.specs.Str.Parse.{AllDigits, digits_value}
+use Rattle.yaml_chars.specs.Classes.{code_point, between}
+use Rattle.yaml_grammar.specs.Texts.{IsText, byte_len, every, first, same_text}
+use Rattle.yaml_grammar.specs.Trees.{Tree, text, Members, no_member, member, members_depth, distinct, members_distinct, has_key, AreTextMembers}
+use Rattle.yaml_grammar.specs.Reads.{Good}
+use Rattle.yaml_grammar.specs.Style.{scalar_lines, key_lines, value_at, members_behind, style_text}
+use Rattle.yaml_laws.specs.Closed.{framed_text}
+use Rattle.yaml_tree.specs.BudgetLaws.{byte_len-append}
+use Rattle.yaml_tree.specs.Kept.{own_limits}
+use Rattle.yaml_tree.proofs.TextLemmas.{same_text-self}
+use Rattle.conf_record.specs.Names.{small_letter, name_char, good_name}
+use Rattle.conf_record.specs.Commands.{Command, import_as, set_at, delete_at}
+use Rattle.conf_record.specs.States.{Entry, Contents, count_limit, names_of, has_name, names_differ}
+use Rattle.conf_record.specs.Limits.{AreConfigs, IsState}
+use Rattle.conf_record.specs.BaseTexts.{members, base_tree, base_text, base_length, closed_document}
+use Rattle.conf_record.specs.Records.{command_members, record_tree}
+use Rattle.conf_record.specs.RecordsRead.{number_told, record_of, entries, base_of, IsCommand}
+use Rattle.conf_record.proofs.AcceptedLemmas.{IsAccepted}
+use Rattle.conf_record.proofs.BaseLemmas.{count_bytes}
+use Rattle.conf_record.proofs.SizeLemmas.{size, scalar_most, value_size}
+
+-- ---- numbers and names
+
+digit_is_text : (c : ℕ) → between 48 57 c ≡ true → code_point c ≡ true
+digit_is_text c e = grind (arith, nat_tests)
+
+digit : (c : ℕ) (cs : List ℕ) → AllDigits 10 (c ∷ cs) → between 48 57 c ≡ true
+digit c cs all = let here = (tells_digits.parts c cs all).0 in grind (arith, nat_tests, here)
+
+digits_are_text : (ds : List ℕ) → AllDigits 10 ds → IsText ds
+digits_are_text [] all = refl
+digits_are_text (c ∷ cs) all =
+    and_from (code_point c) (every code_point cs) (digit_is_text c (digit c cs all)) (digits_are_text cs (tells_digits.parts c cs all).1)
+
+name_char_is_text : (c : ℕ) → name_char c ≡ true → code_point c ≡ true
+name_char_is_text c e = grind (arith, nat_tests)
+
+name_char_byte : (c : ℕ) → name_char c ≡ true → len_utf8 c ≡ 1
+name_char_byte c e = grind (arith, nat_tests)
+
+at_most : (n : ℕ) → nat_le n 64 ≡ true → n ≤ 64
+at_most n e = grind (arith, nat_tests)
+
+chars_are_text : (cs : List ℕ) → every name_char cs ≡ true → IsText cs
+chars_are_text [] all = refl
+chars_are_text (c ∷ cs) all =
+    let parts = and_parts (name_char c) (every name_char cs) all in
+    and_from (code_point c) (every code_point cs) (name_char_is_text c parts.0) (chars_are_text cs parts.1)
+
+chars_bytes : (cs : List ℕ) → every name_char cs ≡ true → byte_len cs ≡ length cs
+chars_bytes [] all = refl
+chars_bytes (c ∷ cs) all =
+    let parts = and_parts (name_char c) (every name_char cs) all in
+    omega (arith, name_char_byte c parts.0, chars_bytes cs parts.1)
+
+pub name_is_text : (name : List ℕ) → good_name name ≡ true → IsText name
+name_is_text name good =
+    let outer = and_parts (first small_letter name && every name_char name) (nat_le (length name) 64) good in
+    chars_are_text name (and_parts (first small_letter name) (every name_char name) outer.0).1
+
+name_bytes : (name : List ℕ) → good_name name ≡ true → byte_len name ≤ 64
+name_bytes name good =
+    let outer = and_parts (first small_letter name && every name_char name) (nat_le (length name) 64) good in
+    omega (arith, chars_bytes name (and_parts (first small_letter name) (every name_char name) outer.0).1, at_most (length name) outer.1)
+
+pub decimal_is_text : (n : ℕ) → n ≤ count_limit → IsText (decimal n)
+decimal_is_text n small = digits_are_text (decimal n) (decimal_is_IsNumeral n (omega arith)).0.1
+
+decimal_bytes : (n : ℕ) → n ≤ count_limit → byte_len (scalar_lines 2 (decimal n)) ≤ 23
+decimal_bytes n small =
+    omega (arith, count_bytes (decimal n) (decimal_is_IsNumeral n (omega arith)).0.1, length-decimal-le 20 n (omega arith) (omega arith) (omega arith))
+
+-- ---- a number is told by its decimal text
+
+le-true : (a b : ℕ) → a ≤ b → nat_le a b ≡ true
+le-true a b h = grind (arith, nat_tests)
+
+pub number_told-decimal : (n : ℕ) → n ≤ count_limit → number_told (decimal n) ≡ Some n
+number_told-decimal n small = by (digits_value 10 (decimal n)) (decimal_is_IsNumeral n (omega arith)).1
+  where
+    by : (v : ℕ) → v ≡ n → (if nat_le v count_limit && same_text (decimal n) (decimal v) then Some v else None) ≡ Some n
+    by v is = rw (is, le-true n count_limit small, same_text-self (decimal n)) refl
+
+-- ---- records
+
+pub record_tells : (command : Command) (number : ℕ) → IsAccepted command → number ≤ count_limit → record_of (record_tree command number) ≡ Some (command, number)
+unfolding record_of
+record_tells (import_as name tree) number ok small = rw (ok.0, number_told-decimal number small) refl
+record_tells (set_at name path value) number ok small = rw (ok.0, ok.1.parsed, number_told-decimal number small) refl
+record_tells (delete_at name path) number ok small = rw (ok.0, ok.1.parsed, number_told-decimal number small) refl
+
+-- the same parts, grouped otherwise
+pub framed_document : (t : Tree) → framed_text t ≡ closed_document t
+framed_document t = sym (append_assoc (codes "---\n") (style_text t) (codes "...\n"))
+
+-- a tree within a Config's limits whose framed text is, too
+pub record FramedGood (t : Tree) : Type 0 where
+  pub good : Good t own_limits
+  pub short : byte_len (framed_text t) ≤ 67108864
+
+framed_bytes : (t : Tree) → byte_len (framed_text t) ≡ 8 + size t
+framed_bytes t =
+    omega (arith, byte_len-append (codes "---\n") (style_text t ++ codes "...\n"), byte_len-append (style_text t) (codes "...\n"))
+
+-- the bytes of a mapping at the top, member by member
+members_bytes : (key : List ℕ) (t : Tree) (ms : Members)
+    → byte_len (members_behind (member key t ms) 0) ≡ byte_len (key_lines 0 key) + byte_len (value_at t 0) + byte_len (members_behind ms 0)
+members_bytes key t ms =
+    omega (arith, byte_len-append (key_lines 0 key ++ value_at t 0) (members_behind ms 0), byte_len-append (key_lines 0 key) (value_at t 0))
+
+command_bytes : (command : Command) → IsAccepted command → byte_len (members_behind (command_members command) 0) ≤ 67000000
+command_bytes (import_as name tree) ok =
+    let small = ok.1.bytes in
+    let value = (value_size tree).most in
+    omega (
+      arith,
+      small,
+      value,
+      name_bytes name ok.0,
+      scalar_most name,
+      members_bytes (codes "import") (text name) (member (codes "tree") tree no_member),
+      members_bytes (codes "tree") tree no_member,
+    )
+command_bytes (set_at name path value) ok =
+    let short = ok.1.bytes in
+    let small = ok.2.bytes in
+    let valued = (value_size value).most in
+    omega (
+      arith,
+      short,
+      small,
+      valued,
+      name_bytes name ok.0,
+      scalar_most name,
+      scalar_most path,
+      members_bytes (codes "set") (text name) (member (codes "path") (text path) (member (codes "value") value no_member)),
+      members_bytes (codes "path") (text path) (member (codes "value") value no_member),
+      members_bytes (codes "value") value no_member,
+    )
+command_bytes (delete_at name path) ok =
+    let short = ok.1.bytes in
+    omega (
+      arith,
+      short,
+      name_bytes name ok.0,
+      scalar_most name,
+      scalar_most path,
+      members_bytes (codes "delete") (text name) (member (codes "path") (text path) no_member),
+      members_bytes (codes "path") (text path) no_member,
+    )
+
+record_bytes : (command : Command) (number : ℕ) → IsAccepted command → number ≤ count_limit → size (record_tree command number) ≤ 67100000
+record_bytes command number ok small =
+    omega (arith, command_bytes command ok, decimal_bytes number small, members_bytes (codes "at") (text (decimal number)) (command_members command))
+
+command_texts : (command : Command) → IsCommand command → IsAccepted command → AreTextMembers (command_members command)
+command_texts (import_as name tree) is ok = (refl, name_is_text name ok.0, (refl, is.texts, tt))
+command_texts (set_at name path value) is ok = (refl, name_is_text name ok.0, (refl, is.0, (refl, is.1.texts, tt)))
+command_texts (delete_at name path) is ok = (refl, name_is_text name ok.0, (refl, is, tt))
+
+command_depth : (command : Command) → IsAccepted command → members_depth (command_members command) ≤ 64
+command_depth (import_as name tree) ok = let deep = ok.1.deep in omega arith
+command_depth (set_at name path value) ok = let deep = ok.2.deep in omega arith
+command_depth (delete_at name path) ok = omega arith
+
+record_distinct : (command : Command) (number : ℕ) → IsCommand command → distinct (record_tree command number) ≡ true
+record_distinct (import_as name tree) number is = let keys = is.keys in rw keys refl
+record_distinct (set_at name path value) number is = let keys = is.1.keys in rw keys refl
+record_distinct (delete_at name path) number is = refl
+
+pub record_good : (command : Command) (number : ℕ) → IsCommand command → IsAccepted command → number ≤ count_limit → FramedGood (record_tree command number)
+record_good command number is ok small =
+    let bytes = record_bytes command number ok small in
+    let deep = command_depth command ok in
+    record {
+      good = record {
+        texts = (refl, decimal_is_text number small, command_texts command is ok);
+        keys = record_distinct command number is;
+        deep = omega arith;
+        long = omega arith;
+      };
+      short = omega (arith, framed_bytes (record_tree command number));
+    }
+
+-- ---- bases
+
+entries_members : (es : List Entry) → entries (members es) ≡ es
+entries_members [] = refl
+entries_members (e ∷ es) = ap (λ rest. e ∷ rest) (entries_members es)
+
+pub base_tells : (s : Contents) → s.count ≤ count_limit → base_of (base_tree s) ≡ Some s
+unfolding base_of
+base_tells s small = rw (number_told-decimal s.count small, entries_members s.configs) refl
+
+config_texts : (es : List Entry) → AreConfigs es → AreTextMembers (members es)
+config_texts [] all = tt
+config_texts (e ∷ es) all = (name_is_text e.0 all.0, all.1.texts, config_texts es all.2)
+
+config_depth : (es : List Entry) → AreConfigs es → members_depth (members es) ≤ 64
+config_depth [] all = omega arith
+config_depth (e ∷ es) all = let deep = all.1.deep in let rest = config_depth es all.2 in omega arith
+
+same_names : (name : List ℕ) (es : List Entry) → has_key name (members es) ≡ has_name name (names_of es)
+same_names name [] = refl
+same_names name (e ∷ es) = ap (λ b. same_text name e.0 || b) (same_names name es)
+
+config_distinct : (es : List Entry) → AreConfigs es → names_differ (names_of es) ≡ true → members_distinct (members es) ≡ true
+config_distinct [] all differ = refl
+config_distinct (e ∷ es) all differ =
+    let parts = and_parts (not (has_name e.0 (names_of es))) (names_differ (names_of es)) differ in
+    let absent : not (has_key e.0 (members es)) ≡ true = ap not (same_names e.0 es) ∙ parts.0 in
+    and_from (not (has_key e.0 (members es)) && distinct e.1) (members_distinct (members es))
+    (and_from (not (has_key e.0 (members es))) (distinct e.1) absent all.1.keys) (config_distinct es all.2 parts.1)
+
+base_distinct : (s : Contents) → IsState s → distinct (base_tree s) ≡ true
+base_distinct s kept = let keys = config_distinct s.configs kept.configs kept.distinct in rw keys refl
+
+base_bytes : (s : Contents) → IsState s → byte_len (framed_text (base_tree s)) ≤ 67108864
+unfolding base_length base_text
+base_bytes s kept =
+    let short = kept.short in
+    let same = ap byte_len (framed_document (base_tree s)) in
+    omega arith
+
+pub base_good : (s : Contents) → IsState s → FramedGood (base_tree s)
+base_good s kept =
+    let bytes = base_bytes s kept in
+    let deep = config_depth s.configs kept.configs in
+    record {
+      good = record {
+        texts = (refl, refl, (refl, decimal_is_text s.count kept.numbered, (refl, config_texts s.configs kept.configs, tt)));
+        keys = base_distinct s kept;
+        deep = omega arith;
+        long = omega (arith, framed_bytes (base_tree s));
+      };
+      short = bytes;
+    }

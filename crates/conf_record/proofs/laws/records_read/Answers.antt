@@ -1,0 +1,58 @@
+use Rattle.std.proofs.Common.{◌≡◌, ℕ, Some, ap, sym, subst, ◌∙◌}
+use Rattle.yaml_grammar.specs.Reads.{Gives}
+use Rattle.yaml_grammar.specs.Trees.{Tree}
+use Rattle.yaml_laws.specs.Laws.{FramedReads}
+use Rattle.yaml_tree.specs.Kept.{own_limits}
+use Rattle.conf_record.specs.BaseTexts.{base_tree, base_text, closed_document}
+use Rattle.conf_record.specs.Commands.{Command}
+use Rattle.conf_record.specs.Records.{record_tree, record_text}
+use Rattle.conf_record.specs.RecordsRead.{record_of, base_of}
+use Rattle.conf_record.proofs.AcceptedLemmas.{accepted}
+use Rattle.conf_record.proofs.ReadLemmas.{gives_one}
+use Rattle.conf_record.proofs.RecordLemmas.{FramedGood, framed_document, record_good, record_tells, base_good, base_tells}
+use Rattle.conf_record.proofs.laws.records_read.Goals as goal
+
+-- a closed document gives its tree
+document_gives : FramedReads → (t : Tree) → FramedGood t → Gives (closed_document t) own_limits t
+document_gives reads t framed = subst (λ source. Gives source own_limits t) (framed_document t) (reads t own_limits framed.good framed.short)
+
+some_same : {A : Type 0} (x y : A) → Some x ≡ Some y → y ≡ x
+some_same x y e = cc
+
+pair_same : (own other : Command × ℕ) → Some own ≡ Some other → (other.0 ≡ own.0) × (other.1 ≡ own.1)
+pair_same own other e = let same = some_same own other e in (ap (λ p. p.0) same, ap (λ p. p.1) same)
+
+pub returns-clause-base : goal.returns-clause-base
+unfolding base_text
+returns-clause-base c = λ s kept.
+    record {
+      tree = base_tree s;
+      gives = document_gives c.style_reads.ensures.framed (base_tree s) (base_good s kept);
+      tells = base_tells s kept.numbered;
+      kept = kept;
+    }
+
+pub returns-clause-one_base : goal.returns-clause-one_base
+unfolding base_text
+returns-clause-one_base c = λ s other kept reads.
+    let own = document_gives c.style_reads.ensures.framed (base_tree s) (base_good s kept) in
+    let same = gives_one (closed_document (base_tree s)) own_limits (base_tree s) reads.tree own reads.gives in
+    some_same s other (sym (base_tells s kept.numbered) ∙ ap base_of same ∙ reads.tells)
+
+pub returns-clause-record : goal.returns-clause-record
+unfolding record_text
+returns-clause-record c = λ s new command fits number kept is done numbered.
+    let ok = accepted s new command fits kept done in
+    record {
+      tree = record_tree command number;
+      gives = document_gives c.style_reads.ensures.framed (record_tree command number) (record_good command number is ok numbered);
+      tells = record_tells command number ok numbered;
+    }
+
+pub returns-clause-one_record : goal.returns-clause-one_record
+unfolding record_text
+returns-clause-one_record c = λ s new command other fits number told kept is done numbered reads.
+    let ok = accepted s new command fits kept done in
+    let own = document_gives c.style_reads.ensures.framed (record_tree command number) (record_good command number is ok numbered) in
+    let same = gives_one (closed_document (record_tree command number)) own_limits (record_tree command number) reads.tree own reads.gives in
+    pair_same (command, number) (other, told) (sym (record_tells command number ok numbered) ∙ ap record_of same ∙ reads.tells)

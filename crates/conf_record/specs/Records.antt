@@ -1,0 +1,18 @@
+-- Records: the documents that tell commands, each with the number that it was accepted under.
+use Rattle.std.specs.Prelude.{ℕ, List, codes, decimal}
+use Rattle.yaml_grammar.specs.Trees.{Tree, text, mapping, Members, no_member, member}
+use Rattle.conf_record.specs.Commands.{Command, import_as, set_at, delete_at}
+use Rattle.conf_record.specs.BaseTexts.{closed_document}
+
+-- what stands behind the number
+abbrev pub command_members : Command → Members
+command_members (import_as name tree) = member (codes "import") (text name) (member (codes "tree") tree no_member)
+command_members (set_at name path value) =
+    member (codes "set") (text name) (member (codes "path") (text path) (member (codes "value") value no_member))
+command_members (delete_at name path) = member (codes "delete") (text name) (member (codes "path") (text path) no_member)
+
+abbrev pub record_tree : Command → ℕ → Tree
+record_tree command number = mapping (member (codes "at") (text (decimal number)) (command_members command))
+
+unfoldable pub record_text : Command → ℕ → List ℕ
+record_text command number = closed_document (record_tree command number)

@@ -1,0 +1,33 @@
+// The base text of a state: the document that holds all of it.
+ghost use Rattle.std.specs.Prelude.{◌≡◌, string_bytes, IfOk, OnOk};
+ghost use Rattle.std.specs.Str.{chars};
+ghost use Rattle.conf_record.specs.BaseTexts.{base_text};
+
+use crate::State;
+use crate::record::write_number;
+use crate::text_buffer::TextBuffer;
+use std::alloc::{AllocError, Global};
+use yaml_tree::Sink;
+
+/// The base text of a state: an explicit document (YAML 1.2.2, 9.1.4), which is a line of `---`, a mapping in the one style
+/// and a line of `...`. The mapping tells, in this order, the format (`store`), the count of accepted commands as decimal
+/// digits (`at`), and the configurations by name, in their order (`configs`). It is linear in the text's length, and takes
+/// memory once, for the text, which has at most 67,108,864 bytes. Only want of memory can fail.
+pub fn base_text(alloc: Global, state: &State) -> Result<String, AllocError>
+    ensures { IfOk result (λ text. chars (string_bytes text) ≡ base_text state.now) }
+{
+    let mut buffer = TextBuffer::with_capacity(alloc, state.base_length())?;
+    write_base(state, &mut buffer)?;
+    Ok(buffer.into_text())
+}
+
+fn write_base<S: Sink>(state: &State, sink: &mut S) -> Result<(), S::Fault>
+    ensures { OnOk result (S.Takes sink.old (base_text state.now) sink.new) }
+{
+    sink.put_text("---\n")?;
+    sink.put_text("store: confstore-1\n")?;
+    write_number(state.count(), sink)?;
+    sink.put_text("configs:")?;
+    state.write_configs(sink)?;
+    sink.put_text("...\n")
+}
