@@ -3,10 +3,10 @@
 
 A pair is set behind all others and deleted again, over and over: in a tree by itself, and in a configuration of a store's
 state by commands. It prints the processor time an edit, the least of nine runs, beside the tree's size: what a run of many
-edits takes more than a run of one round, which builds the same tree. Run it from the repository's root after the program is
-built, which `rt run edit_bench` does:
+edits takes more than a run of one round, which builds the same tree. `rt run`, in
+crates/edit_bench, builds the program:
 
-    python3 bench/edits.py
+    (cd crates/edit_bench && rt run -- tree wide 1 1) && python3 bench/edits.py
 """
 
 import os
