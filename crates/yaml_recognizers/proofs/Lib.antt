@@ -53,6 +53,10 @@ pub mod FlowNodesSound
 pub mod FlowNodesWhole
 pub mod FlowNodesFound
 pub mod FlowNodesDepth
+pub mod FlowFrames
+pub mod StuckGaps
+pub mod SinglePairs
+pub mod OneLineText
 -- block nodes
 pub mod BlockNodesBegin
 pub mod BlockNodesEnd
@@ -60,6 +64,7 @@ pub mod BlockNodesComplete
 pub mod BlockNodesSound
 pub mod BlockKeys
 pub mod BlockKeysWhole
+pub mod KeyLeaves
 pub mod BlockNodesWhole
 pub mod BlockNodesDepth
 -- streams
@@ -69,6 +74,8 @@ pub mod StreamsSound
 pub mod StreamsWhole
 pub mod StreamsDepth
 pub mod Steps
+pub mod BlockFrames
+pub mod EventFronts
 pub mod StreamExamples
 pub mod StreamEdgeExamples
 -- canonical forms, and the meaning of a text

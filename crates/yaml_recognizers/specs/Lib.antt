@@ -28,6 +28,8 @@ pub mod WholeScalars
 pub mod QuotedSteps
 pub mod BlockScalarFacts
 pub mod OneLine
+pub mod FlowFrames
+pub mod BlockFrames
 pub mod StandingNodes
 pub mod NestedStreams
 pub mod CanonicalForms
