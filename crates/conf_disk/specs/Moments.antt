@@ -1,5 +1,5 @@
 -- What the calls of a disk do to the moments at which it may stop, and to the number of its failures.
-use Rattle.std.specs.Prelude.{◌≡◌, ◌⊎◌, ℕ, ◌≤◌, ◌<◌, Result, IsErrOf}
+use Rattle.std.specs.Prelude.{◌≡◌, ◌⊎◌, ℕ, ◌≤◌, ◌<◌, Result, IsErrOf, OnOk}
 use Rattle.conf_disk.specs.Folder.{Folder}
 use Rattle.conf_disk.specs.Image.{Image, IsImage}
 use Rattle.conf_disk.specs.declared.disk.DiskFault.{DiskFault}
@@ -19,9 +19,12 @@ pub record Elapses (before now : ℕ) (past since : ℕ → Image → Type 0) (m
 abbrev pub TimeGoesOn : {D : Type 0} → (D → Folder) → (D → ℕ) → (D → ℕ → Image → Type 0) → D → D → Type 0
 TimeGoesOn folder moment left old new = Elapses (moment old) (moment new) (left old) (left new) (IsImage (folder new))
 
--- A device's failures are counted, up to the greatest number. Where they stand at it every call fails.
+-- A device's failures are counted, up to the greatest number. Where they are at it every call fails, and a call that answers Ok
+-- leaves them as they were.
 pub record CountsFailures {T : Type 0} (before now : ℕ) (result : Result T DiskFault) : Type 0 where
   pub never_falls : before ≤ now
+  pub within : now ≤ greatest
+  pub steady : OnOk result (now ≡ before)
   pub device : IsErrOf result Device → (before < now) ⊎ (before ≡ greatest)
   pub spent : before ≡ greatest → IsErrOf result Device
 

@@ -3,7 +3,7 @@ use Rattle.conf_disk.specs.Image.{IsImage}
 use Rattle.conf_disk.specs.declared.disk.Name.TheVariants.{Next}
 use Rattle.conf_disk.proofs.Moments.{LeavesOnly-step, LeavesOnly-weaker}
 use Rattle.conf_journal.specs.Store.{IsStoreOf}
-use Rattle.conf_journal.proofs.Reading.{appended_next-reads, performed-reads}
+use Rattle.conf_journal.proofs.Reading.{append_next-leaves_store, appended_next-reads, performed-reads}
 use Rattle.conf_journal.proofs.Stores.{appended_next-leaves}
 use Rattle.conf_journal.proofs.next.append_next.Goals as goal
 
@@ -28,3 +28,9 @@ returns-clause-store g c h =
     let bytes = c.args.bytes.now in
     LeavesOnly-weaker d.moment d.left old c.append.new.self (IsImage (after (Append Next bytes) (d.folder old))) (λ image. IsStoreOf (d.folder old) image.store)
     (returns-clause-any_moment g c h) (appended_next-leaves bytes (d.folder old) (g.met.D.Disk.whole old h))
+
+pub returns-clause-left_alone : goal.returns-clause-left_alone
+returns-clause-left_alone g c h =
+    let d = g.D.Disk in
+    let old = c.args.disk.now in
+    append_next-leaves_store c.args.bytes.now (d.folder old) (d.folder c.append.new.self) c.append.result (g.met.D.Disk.whole old h) (c.append.ensures.change h)

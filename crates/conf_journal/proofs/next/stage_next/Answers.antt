@@ -5,7 +5,7 @@ use Rattle.conf_disk.specs.declared.disk.Name.TheVariants.{Next}
 use Rattle.conf_disk.proofs.Images.{grown-grows}
 use Rattle.conf_disk.proofs.Moments.{LeavesOnly-step, LeavesOnly-joined, LeavesOnly-weaker}
 use Rattle.conf_journal.specs.Store.{IsStoreOf, extended}
-use Rattle.conf_journal.proofs.Reading.{sync-reads_same, OnOk-always, file_there}
+use Rattle.conf_journal.proofs.Reading.{sync-leaves_store, sync-reads_same, OnOk-always, file_there}
 use Rattle.conf_journal.proofs.Stores.{staged-leaves, performed-synced}
 use Rattle.conf_journal.proofs.next.stage_next.Goals as goal
 
@@ -83,3 +83,12 @@ returns-clause-synced g c h =
     ∙ ap (λ (image : Image). extended image.next bytes) (c.in_ok-begin_next.ensures.reads h) in
     performed-synced Next (d.folder all) (d.folder c.sync.new.self) c.sync.result (g.met.D.Disk.whole all h)
     (file_there (d.folder all).files (d.folder all).now.next bytes there) (c.sync.ensures.change h)
+
+pub returns-in_err-append_next-clause-left_alone : goal.returns-in_err-append_next-clause-left_alone
+returns-in_err-append_next-clause-left_alone g c h = c.append_next.ensures.left_alone h ∙ c.begin_next.ensures.left_alone h
+
+pub returns-clause-left_alone : goal.returns-clause-left_alone
+returns-clause-left_alone g c h =
+    let d = g.D.Disk in
+    sync-leaves_store Next (d.folder c.append_next.new.disk) (d.folder c.sync.new.self) c.sync.result (c.sync.ensures.change h)
+    ∙ (c.append_next.ensures.left_alone h ∙ c.begin_next.ensures.left_alone h)
