@@ -14,7 +14,7 @@ returns-in_err-remove_next-clause-any_moment g c h =
     let old = c.args.disk.now in
     let gone = after RemoveNext (d.folder old) in
     let removed = LeavesOnly-step d.folder d.moment d.left RemoveNext old c.remove_next.new.self c.remove_next.result
-    (λ image left. g.met.D.Disk.only_now old image h left) (c.remove_next.ensures.time h) (c.remove_next.ensures.change h) in
+    (λ image left. g.met.D.Disk.only_now old image h left) (c.remove_next.ensures.goes.time h) (c.remove_next.ensures.goes.change h) in
     LeavesOnly-weaker d.moment d.left old c.remove_next.new.self (IsImage gone) (IsImage (after CreateNext gone)) removed (grown-grows CreateNext gone)
 
 pub returns-clause-any_moment : goal.returns-clause-any_moment
@@ -24,11 +24,11 @@ returns-clause-any_moment g c h =
     let mid = c.remove_next.new.self in
     let gone = after RemoveNext (d.folder old) in
     let removed = LeavesOnly-step d.folder d.moment d.left RemoveNext old mid c.remove_next.result
-    (λ image left. g.met.D.Disk.only_now old image h left) (c.remove_next.ensures.time h) (c.remove_next.ensures.change h) in
+    (λ image left. g.met.D.Disk.only_now old image h left) (c.remove_next.ensures.goes.time h) (c.remove_next.ensures.goes.change h) in
     let created = LeavesOnly-step d.folder d.moment d.left CreateNext mid c.create_next.new.self c.create_next.result
-    (λ image left. g.met.D.Disk.only_now mid image h left) (c.create_next.ensures.time h) (c.create_next.ensures.change h) in
+    (λ image left. g.met.D.Disk.only_now mid image h left) (c.create_next.ensures.goes.time h) (c.create_next.ensures.goes.change h) in
     LeavesOnly-joined d.moment d.left old mid c.create_next.new.self (IsImage gone) (IsImage (after CreateNext (d.folder mid))) (IsImage (after CreateNext gone)) removed created
-    (grown-grows CreateNext gone) (λ image is. subst (λ (folder : Folder). IsImage (after CreateNext folder) image) (c.in_ok-remove_next.ensures.change h) is)
+    (grown-grows CreateNext gone) (λ image is. subst (λ (folder : Folder). IsImage (after CreateNext folder) image) (c.in_ok-remove_next.ensures.goes.change h) is)
 
 pub returns-in_err-remove_next-clause-store : goal.returns-in_err-remove_next-clause-store
 returns-in_err-remove_next-clause-store g c h =
@@ -46,12 +46,12 @@ returns-clause-store g c h =
 
 pub returns-in_err-remove_next-clause-left_alone : goal.returns-in_err-remove_next-clause-left_alone
 returns-in_err-remove_next-clause-left_alone g c h =
-    remove-leaves_store (g.D.Disk.folder c.args.disk.now) (g.D.Disk.folder c.remove_next.new.self) c.remove_next.result (c.remove_next.ensures.change h)
+    remove-leaves_store (g.D.Disk.folder c.args.disk.now) (g.D.Disk.folder c.remove_next.new.self) c.remove_next.result (c.remove_next.ensures.goes.change h)
 
 pub returns-clause-left_alone : goal.returns-clause-left_alone
 returns-clause-left_alone g c h =
     let d = g.D.Disk in
     let old = c.args.disk.now in
     let mid = c.remove_next.new.self in
-    create-leaves_store (d.folder mid) (d.folder c.create_next.new.self) c.create_next.result (g.met.D.Disk.whole mid h) (c.create_next.ensures.change h)
-    ∙ remove-leaves_store (d.folder old) (d.folder mid) c.remove_next.result (c.remove_next.ensures.change h)
+    create-leaves_store (d.folder mid) (d.folder c.create_next.new.self) c.create_next.result (g.met.D.Disk.whole mid h) (c.create_next.ensures.goes.change h)
+    ∙ remove-leaves_store (d.folder old) (d.folder mid) c.remove_next.result (c.remove_next.ensures.goes.change h)
