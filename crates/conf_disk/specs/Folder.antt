@@ -1,5 +1,5 @@
 -- A folder of two names: its files, its stages, and what each call makes of it.
-use Rattle.std.specs.Prelude.{◌≡◌, ℕ, zero, suc, ◌≤◌, ◌<◌, List, [], ◌∷◌, ◌++◌, length, get_or, take, drop, set, Option, Some, None, Result, MatchResult}
+use Rattle.std.specs.Prelude.{◌≡◌, ℕ, zero, suc, ◌≤◌, ◌<◌, List, [], ◌∷◌, ◌++◌, length, get_or, take, drop, set, Option, Some, None, IsSome, Result, MatchResult}
 use Rattle.conf_disk.specs.declared.disk.Name.{Name}
 use Rattle.conf_disk.specs.declared.disk.Name.TheVariants.{Store, Next}
 use Rattle.conf_disk.specs.declared.disk.Content.{Content}
@@ -48,6 +48,15 @@ pub data Step : Type 0 where
   RenameNext : Step
   RemoveNext : Step
   SyncFolder : Step
+
+-- what a caller sees to before a call: no file is made where there is one, and none is appended to or renamed that isn't there
+abbrev pub MayBeMade : Step → Folder → Type 0
+MayBeMade CreateNext folder = folder.now.next ≡ None
+MayBeMade (Append name bytes) folder = IsSome (under folder.now name)
+MayBeMade (Sync name) folder = Unit {0}
+MayBeMade RenameNext folder = IsSome folder.now.next
+MayBeMade RemoveNext folder = Unit {0}
+MayBeMade SyncFolder folder = Unit {0}
 
 -- the folder with one file changed, where there is one
 abbrev pub with_file : Folder → Option ℕ → (File → File) → Folder

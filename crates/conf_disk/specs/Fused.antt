@@ -1,6 +1,6 @@
 -- A disk with a fuse: which calls pass to the disk below, and what becomes of the others.
 use Rattle.std.specs.Prelude.{◌≡◌, ◌≢◌, ℕ, ◌+◌, ◌-◌, min, true, false, Option, Some, None, Result, Err, ◌==◌, if◌then◌else◌}
-use Rattle.conf_disk.specs.Folder.{Folder, Step, Performs}
+use Rattle.conf_disk.specs.Folder.{Folder, Step, CreateNext, Append, Sync, RenameNext, RemoveNext, SyncFolder, Performs}
 use Rattle.conf_disk.specs.Moments.{CountsFailures, greatest}
 use Rattle.conf_disk.specs.declared.disk.Name.{Name}
 use Rattle.conf_disk.specs.declared.disk.Content.{Content}
@@ -10,8 +10,19 @@ use Rattle.conf_disk.specs.declared.fused.Fuse.{Fuse}
 use Rattle.conf_disk.specs.declared.fused.Fuse.TheVariants.{Stop, FailOnce}
 use Rattle.conf_disk.specs.declared.fused.FusedDisk.{FusedDisk}
 use Rattle.conf_disk.specs.declared.fused.FuseCounter.{FuseCounter}
+use Rattle.conf_disk.specs.declared.fused.Call.{Call}
+use Rattle.conf_disk.specs.declared.fused.Call.TheVariants as call
 use Rattle.conf_disk.specs.declared.fused.Outcome.{Outcome}
 use Rattle.conf_disk.specs.declared.fused.Outcome.TheVariants as outcome
+
+-- what a call does
+abbrev pub call_step : Call → Step
+call_step call.CreateNext = CreateNext
+call_step (call.Append name bytes) = Append name bytes.now
+call_step (call.Sync name) = Sync name
+call_step call.RenameNext = RenameNext
+call_step call.RemoveNext = RemoveNext
+call_step call.SyncFolder = SyncFolder
 
 -- How many calls are still to pass before it is the fuse's turn; the fuse, unless it failed its one call; how many calls
 -- passed, and how many the fuse failed.

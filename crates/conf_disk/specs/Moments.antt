@@ -1,9 +1,9 @@
 -- What the calls of a disk do to the moments at which it may stop, and to the number of its failures.
-use Rattle.std.specs.Prelude.{◌≡◌, ◌⊎◌, ℕ, ◌≤◌, ◌<◌, Result, IsErrOf}
-use Rattle.conf_disk.specs.Folder.{Folder}
+use Rattle.std.specs.Prelude.{◌≡◌, ◌≢◌, ◌⊎◌, ℕ, ◌≤◌, ◌<◌, Result, Err, IsErrOf, OnOk}
+use Rattle.conf_disk.specs.Folder.{Folder, Step, Performs}
 use Rattle.conf_disk.specs.Image.{Image, IsImage}
 use Rattle.conf_disk.specs.declared.disk.DiskFault.{DiskFault}
-use Rattle.conf_disk.specs.declared.disk.DiskFault.TheVariants.{Device}
+use Rattle.conf_disk.specs.declared.disk.DiskFault.TheVariants.{Device, OutOfMemory}
 
 -- the greatest number of failures that is counted
 abbrev pub greatest : ℕ
@@ -19,11 +19,24 @@ pub record Elapses (before now : ℕ) (past since : ℕ → Image → Type 0) (m
 abbrev pub TimeGoesOn : {D : Type 0} → (D → Folder) → (D → ℕ) → (D → ℕ → Image → Type 0) → D → D → Type 0
 TimeGoesOn folder moment left old new = Elapses (moment old) (moment new) (left old) (left new) (IsImage (folder new))
 
--- A device's failures are counted, up to the greatest number. Where they stand at it every call fails.
+-- A device's failures are counted, up to the greatest number. Where they are at it every call fails, and a call that answers Ok
+-- leaves them as they were.
 pub record CountsFailures {T : Type 0} (before now : ℕ) (result : Result T DiskFault) : Type 0 where
   pub never_falls : before ≤ now
+  pub within : now ≤ greatest
+  pub steady : OnOk result (now ≡ before)
   pub device : IsErrOf result Device → (before < now) ⊎ (before ≡ greatest)
   pub spent : before ≡ greatest → IsErrOf result Device
+
+-- How a call that changes something goes, whatever it answers: what it makes of the folder, which is nothing where the failures are at
+-- their greatest number; which moments lie within it; and when it fails, which is never for memory.
+pub record IsChange {D : Type 0} (honest : Type 0) (folder : D → Folder) (moment : D → ℕ) (left : D → ℕ → Image → Type 0) (failure_count : D → ℕ)
+    (step : Step) (old : D) (result : Result (Unit {0}) DiskFault) (new : D) : Type 0 where
+  pub change : honest → Performs step (folder old) (folder new) result
+  pub spent : honest → failure_count old ≡ greatest → folder new ≡ folder old
+  pub time : honest → TimeGoesOn folder moment left old new
+  pub failures : CountsFailures (failure_count old) (failure_count new) result
+  pub fault : result ≢ Err OutOfMemory
 
 -- A stop at any moment since `old` leaves an image that has P.
 pub record LeavesOnly {D : Type 0} (moment : D → ℕ) (left : D → ℕ → Image → Type 0) (old new : D) (P : Image → Type 0) : Type 0 where

@@ -2,7 +2,7 @@
 ghost use Rattle.std.specs.Prelude.{◌≡◌, ◌≢◌, ◌≤◌, ℕ, None, IsSome, IfOk, Result, Err};
 ghost use Rattle.conf_disk.specs.Folder.{Folder, Step, CreateNext, Append, Sync, RenameNext, RemoveNext, SyncFolder, under, Performs, Reads};
 ghost use Rattle.conf_disk.specs.Image.{Image, IsImage, IsWhole};
-ghost use Rattle.conf_disk.specs.Moments.{TimeGoesOn, CountsFailures};
+ghost use Rattle.conf_disk.specs.Moments.{TimeGoesOn, CountsFailures, IsChange};
 ghost use Rattle.conf_disk.specs.declared.disk.DiskFault.{DiskFault};
 ghost use Rattle.conf_disk.specs.declared.disk.Content.{Content};
 ghost use Rattle.conf_disk.specs.declared.disk.Name.{Name};
@@ -87,58 +87,34 @@ pub trait Disk {
     /// Makes an empty file under the name `Next`, where there is none.
     fn create_next(&mut self) -> Result<(), DiskFault>
         requires { honest → (folder self.old).now.next ≡ None }
-        ensures change { honest → Performs CreateNext (folder self.old) (folder self.new) result }
-        ensures spent { honest → failure_count self.old ≡ u64.MAX → folder self.new ≡ folder self.old }
-        ensures time { honest → TimeGoesOn folder moment left self.old self.new }
-        ensures failures { CountsFailures (failure_count self.old) (failure_count self.new) result }
-        ensures fault { result ≢ Err DiskFault.OutOfMemory }
+        ensures goes { IsChange honest folder moment left failure_count CreateNext self.old result self.new }
         ensures also { also_changes self.old CreateNext result self.new };
 
     /// Puts bytes behind those of the file under a name. They are pending until the file is synced.
     fn append(&mut self, name: Name, bytes: &[u8]) -> Result<(), DiskFault>
         requires { honest → IsSome (under (folder self.old).now name) }
-        ensures change { honest → Performs (Append name bytes.now) (folder self.old) (folder self.new) result }
-        ensures spent { honest → failure_count self.old ≡ u64.MAX → folder self.new ≡ folder self.old }
-        ensures time { honest → TimeGoesOn folder moment left self.old self.new }
-        ensures failures { CountsFailures (failure_count self.old) (failure_count self.new) result }
-        ensures fault { result ≢ Err DiskFault.OutOfMemory }
+        ensures goes { IsChange honest folder moment left failure_count (Append name bytes.now) self.old result self.new }
         ensures also { also_changes self.old (Append name bytes.now) result self.new };
 
     /// From its `Ok` on, a stop leaves all bytes of the file under a name. Where there is none it does nothing.
     fn sync(&mut self, name: Name) -> Result<(), DiskFault>
-        ensures change { honest → Performs (Sync name) (folder self.old) (folder self.new) result }
-        ensures spent { honest → failure_count self.old ≡ u64.MAX → folder self.new ≡ folder self.old }
-        ensures time { honest → TimeGoesOn folder moment left self.old self.new }
-        ensures failures { CountsFailures (failure_count self.old) (failure_count self.new) result }
-        ensures fault { result ≢ Err DiskFault.OutOfMemory }
+        ensures goes { IsChange honest folder moment left failure_count (Sync name) self.old result self.new }
         ensures also { also_changes self.old (Sync name) result self.new };
 
     /// Puts the file under `Next` under `Store`, in the place of the one that is there.
     fn rename_next(&mut self) -> Result<(), DiskFault>
         requires { honest → IsSome (folder self.old).now.next }
-        ensures change { honest → Performs RenameNext (folder self.old) (folder self.new) result }
-        ensures spent { honest → failure_count self.old ≡ u64.MAX → folder self.new ≡ folder self.old }
-        ensures time { honest → TimeGoesOn folder moment left self.old self.new }
-        ensures failures { CountsFailures (failure_count self.old) (failure_count self.new) result }
-        ensures fault { result ≢ Err DiskFault.OutOfMemory }
+        ensures goes { IsChange honest folder moment left failure_count RenameNext self.old result self.new }
         ensures also { also_changes self.old RenameNext result self.new };
 
     /// Takes the file under `Next` away. Where there is none it does nothing.
     fn remove_next(&mut self) -> Result<(), DiskFault>
-        ensures change { honest → Performs RemoveNext (folder self.old) (folder self.new) result }
-        ensures spent { honest → failure_count self.old ≡ u64.MAX → folder self.new ≡ folder self.old }
-        ensures time { honest → TimeGoesOn folder moment left self.old self.new }
-        ensures failures { CountsFailures (failure_count self.old) (failure_count self.new) result }
-        ensures fault { result ≢ Err DiskFault.OutOfMemory }
+        ensures goes { IsChange honest folder moment left failure_count RemoveNext self.old result self.new }
         ensures also { also_changes self.old RemoveNext result self.new };
 
     /// From its `Ok` on, a stop leaves the names as they are.
     fn sync_folder(&mut self) -> Result<(), DiskFault>
-        ensures change { honest → Performs SyncFolder (folder self.old) (folder self.new) result }
-        ensures spent { honest → failure_count self.old ≡ u64.MAX → folder self.new ≡ folder self.old }
-        ensures time { honest → TimeGoesOn folder moment left self.old self.new }
-        ensures failures { CountsFailures (failure_count self.old) (failure_count self.new) result }
-        ensures fault { result ≢ Err DiskFault.OutOfMemory }
+        ensures goes { IsChange honest folder moment left failure_count SyncFolder self.old result self.new }
         ensures also { also_changes self.old SyncFolder result self.new };
 
     /// This moment is one of those since an earlier one.

@@ -1,6 +1,8 @@
 // A disk that fails from a call on, or once.
 ghost use Rattle.std.specs.Prelude.{◌≡◌, ℕ, Some};
-ghost use Rattle.conf_disk.specs.Fused.{trip_of, state_after, trip_of_calls, turned, trip_told, counter_state};
+ghost use Rattle.conf_disk.specs.Folder.{MayBeMade};
+ghost use Rattle.conf_disk.specs.Fused.{trip_of, state_after, trip_of_calls, turned, trip_told, counter_state, call_step};
+ghost use Rattle.conf_disk.specs.Moments.{IsChange};
 
 use crate::{Content, Disk, DiskFault, Name};
 use std::alloc::Global;
@@ -41,6 +43,34 @@ pub(crate) enum Outcome {
     Passes,
     Fails,
     FailsDone,
+}
+
+// A call that changes something.
+#[derive(Clone, Copy)]
+pub(crate) enum Call<'a> {
+    CreateNext,
+    Append(Name, &'a [u8]),
+    Sync(Name),
+    RenameNext,
+    RemoveNext,
+    SyncFolder,
+}
+
+impl Call<'_> {
+    fn make<D: Disk>(self, disk: &mut D) -> Result<(), DiskFault>
+        requires { D.honest → MayBeMade (call_step self) (D.folder disk.old) }
+        ensures goes { IsChange D.honest D.folder D.moment D.left D.failure_count (call_step self.entry) disk.old result disk.new }
+        ensures also { D.also_changes disk.old (call_step self.entry) result disk.new }
+    {
+        match self {
+            Call::CreateNext => disk.create_next(),
+            Call::Append(name, bytes) => disk.append(name, bytes),
+            Call::Sync(name) => disk.sync(name),
+            Call::RenameNext => disk.rename_next(),
+            Call::RemoveNext => disk.remove_next(),
+            Call::SyncFolder => disk.sync_folder(),
+        }
+    }
 }
 
 impl FuseCounter {
@@ -85,7 +115,7 @@ impl FuseCounter {
 }
 
 impl<D: Disk> FusedDisk<D> {
-    ghost use Rattle.conf_disk.specs.Fused.{fused_inner, fuse_of, passed_count, fused_failures};
+    ghost use Rattle.conf_disk.specs.Fused.{fused_inner, fuse_of, passed_count, fused_failures, FusesChange};
 
     /// A disk whose first `calls` calls pass to `inner`. Then it is the fuse's turn.
     pub fn new(inner: D, calls: u64, fuse: Fuse) -> Self
@@ -103,7 +133,8 @@ impl<D: Disk> FusedDisk<D> {
         }
     }
 
-    /// How many calls went through to the disk below, whatever it answered. At 18,446,744,073,709,551,615 it stays there.
+    /// How many calls the fuse let pass to the disk below, whatever that answered. A call that the fuse failed is not among them, even
+    /// where it had its effect. At 18,446,744,073,709,551,615 the number stays there.
     pub fn passed(&self) -> u64
         ensures { result ≡ passed_count self.now }
     {
@@ -126,6 +157,23 @@ impl<D: Disk> FusedDisk<D> {
     {
         let failures = self.failures();
         self.counter.next_outcome(failures)
+    }
+
+    // Makes a call, or lets it fail.
+    fn fuse(&mut self, call: Call<'_>) -> Result<(), DiskFault>
+        requires { D.honest → MayBeMade (call_step call) (D.folder (fused_inner self.old)) }
+        ensures goes { IsChange D.honest (λ disk. D.folder (fused_inner disk)) (λ disk. D.moment (fused_inner disk))
+            (λ disk. D.left (fused_inner disk)) (fused_failures D.failure_count) (call_step call.entry) self.old result self.new }
+        ensures fuses { FusesChange D.honest D.folder D.failure_count D.also_changes self.old (call_step call.entry) result self.new }
+    {
+        match self.next_outcome() {
+            Outcome::Passes => call.make(&mut self.inner),
+            Outcome::Fails => Err(DiskFault::Device),
+            Outcome::FailsDone => {
+                let _ = call.make(&mut self.inner);
+                Err(DiskFault::Device)
+            }
+        }
     }
 }
 
@@ -164,68 +212,26 @@ impl<D: Disk> Disk for FusedDisk<D> {
     }
 
     fn create_next(&mut self) -> Result<(), DiskFault> {
-        match self.next_outcome() {
-            Outcome::Passes => self.inner.create_next(),
-            Outcome::Fails => Err(DiskFault::Device),
-            Outcome::FailsDone => {
-                let _ = self.inner.create_next();
-                Err(DiskFault::Device)
-            }
-        }
+        self.fuse(Call::CreateNext)
     }
 
     fn append(&mut self, name: Name, bytes: &[u8]) -> Result<(), DiskFault> {
-        match self.next_outcome() {
-            Outcome::Passes => self.inner.append(name, bytes),
-            Outcome::Fails => Err(DiskFault::Device),
-            Outcome::FailsDone => {
-                let _ = self.inner.append(name, bytes);
-                Err(DiskFault::Device)
-            }
-        }
+        self.fuse(Call::Append(name, bytes))
     }
 
     fn sync(&mut self, name: Name) -> Result<(), DiskFault> {
-        match self.next_outcome() {
-            Outcome::Passes => self.inner.sync(name),
-            Outcome::Fails => Err(DiskFault::Device),
-            Outcome::FailsDone => {
-                let _ = self.inner.sync(name);
-                Err(DiskFault::Device)
-            }
-        }
+        self.fuse(Call::Sync(name))
     }
 
     fn rename_next(&mut self) -> Result<(), DiskFault> {
-        match self.next_outcome() {
-            Outcome::Passes => self.inner.rename_next(),
-            Outcome::Fails => Err(DiskFault::Device),
-            Outcome::FailsDone => {
-                let _ = self.inner.rename_next();
-                Err(DiskFault::Device)
-            }
-        }
+        self.fuse(Call::RenameNext)
     }
 
     fn remove_next(&mut self) -> Result<(), DiskFault> {
-        match self.next_outcome() {
-            Outcome::Passes => self.inner.remove_next(),
-            Outcome::Fails => Err(DiskFault::Device),
-            Outcome::FailsDone => {
-                let _ = self.inner.remove_next();
-                Err(DiskFault::Device)
-            }
-        }
+        self.fuse(Call::RemoveNext)
     }
 
     fn sync_folder(&mut self) -> Result<(), DiskFault> {
-        match self.next_outcome() {
-            Outcome::Passes => self.inner.sync_folder(),
-            Outcome::Fails => Err(DiskFault::Device),
-            Outcome::FailsDone => {
-                let _ = self.inner.sync_folder();
-                Err(DiskFault::Device)
-            }
-        }
+        self.fuse(Call::SyncFolder)
     }
 }

@@ -225,6 +225,8 @@ fn a_fuse_fails_once(rt: HostRuntime) -> Result<(), Fail> {
         assert!(rt; !matches!(disk.read(alloc, Name::Next, 10)?, Content::Missing));
         disk.append(Name::Next, b"de")?;
         assert_eq!(rt; disk.failures(), 1);
+        // The call that failed is not among those that passed, also where it had its effect.
+        assert_eq!(rt; disk.passed(), 3);
         reads(&rt, alloc, &mut disk.into_inner(), Name::Next, Some(bytes))?;
     }
     Ok(())

@@ -1,7 +1,7 @@
 -- What reads after a call.
 use Rattle.std.proofs.Common.{◌≡◌, inl, inr, ℕ, zero, suc, ◌<◌, List, [], ◌∷◌, ◌++◌, length, get_or, set, take, drop, Option, Some, None, Result, Ok, Err, OnOk, refl, sym, ◌∙◌, ap, append_assoc, take-append-drop}
 use Rattle.std.proofs.lemmas.List.{append-nil, get_or-set_same, get_or-set_other, get_or_append_left, get_or_at}
-use Rattle.conf_disk.specs.Folder.{File, empty_file, file_bytes, Folder, Step, Append, Sync, RenameNext, RemoveNext, SyncFolder, with_file, appended, synced_whole, synced_first, removed, created, renamed, after, partly, Performs, bytes_at, bytes_under, under}
+use Rattle.conf_disk.specs.Folder.{File, empty_file, file_bytes, Folder, Step, CreateNext, Append, Sync, RenameNext, RemoveNext, SyncFolder, with_file, appended, synced_whole, synced_first, removed, created, renamed, after, partly, Performs, bytes_at, bytes_under, under}
 use Rattle.conf_disk.specs.Image.{Image, image_now, IsMade, IsApartFrom, IsWhole}
 use Rattle.conf_disk.specs.LogLaws.{now_staged}
 use Rattle.conf_disk.specs.declared.disk.Name.{Name}
@@ -149,3 +149,33 @@ partly_folder-reads_same (suc k) folder = refl
 pub sync_folder-reads_same : {T : Type 0} (old new : Folder) (result : Result T DiskFault) → Performs SyncFolder old new result → image_now new ≡ image_now old
 sync_folder-reads_same old new (Ok x) is = ap image_now is
 sync_folder-reads_same old new (Err x) is = ap image_now is.1 ∙ partly_folder-reads_same is.0 old
+
+-- ---- calls on the staged file leave what `store.yaml` reads as, whatever they answer
+
+created-reads_store : (k : ℕ) (folder : Folder) → IsWhole folder → bytes_under (partly k CreateNext folder) Store ≡ bytes_under folder Store
+created-reads_store zero folder whole = refl
+created-reads_store (suc k) folder whole = ap (λ (i : Image). i.store) (created-reads folder whole)
+
+appended_next-reads_store : (k : ℕ) (bytes : List ℕ) (folder : Folder) → IsWhole folder → bytes_under (partly k (Append Next bytes) folder) Store ≡ bytes_under folder Store
+appended_next-reads_store zero bytes folder whole = refl
+appended_next-reads_store (suc k) bytes folder whole = ap (λ (i : Image). i.store) (appended_next-reads (take (suc k) bytes) folder whole)
+
+partly_removed-reads_store : (k : ℕ) (folder : Folder) → bytes_under (partly k RemoveNext folder) Store ≡ bytes_under folder Store
+partly_removed-reads_store zero folder = refl
+partly_removed-reads_store (suc k) folder = removed-reads_store folder
+
+pub create-leaves_store : {T : Type 0} (old new : Folder) (result : Result T DiskFault) → IsWhole old → Performs CreateNext old new result → bytes_under new Store ≡ bytes_under old Store
+create-leaves_store old new (Ok x) whole is = ap (λ (f : Folder). bytes_under f Store) is ∙ created-reads_store 1 old whole
+create-leaves_store old new (Err x) whole is = ap (λ (f : Folder). bytes_under f Store) is.1 ∙ created-reads_store is.0 old whole
+
+pub remove-leaves_store : {T : Type 0} (old new : Folder) (result : Result T DiskFault) → Performs RemoveNext old new result → bytes_under new Store ≡ bytes_under old Store
+remove-leaves_store old new (Ok x) is = ap (λ (f : Folder). bytes_under f Store) is ∙ removed-reads_store old
+remove-leaves_store old new (Err x) is = ap (λ (f : Folder). bytes_under f Store) is.1 ∙ partly_removed-reads_store is.0 old
+
+pub append_next-leaves_store : {T : Type 0} (bytes : List ℕ) (old new : Folder) (result : Result T DiskFault) → IsWhole old → Performs (Append Next bytes) old new result
+    → bytes_under new Store ≡ bytes_under old Store
+append_next-leaves_store bytes old new (Ok x) whole is = ap (λ (f : Folder). bytes_under f Store) is ∙ ap (λ (i : Image). i.store) (appended_next-reads bytes old whole)
+append_next-leaves_store bytes old new (Err x) whole is = ap (λ (f : Folder). bytes_under f Store) is.1 ∙ appended_next-reads_store is.0 bytes old whole
+
+pub sync-leaves_store : {T : Type 0} (name : Name) (old new : Folder) (result : Result T DiskFault) → Performs (Sync name) old new result → bytes_under new Store ≡ bytes_under old Store
+sync-leaves_store name old new result is = ap (λ (i : Image). i.store) (sync-reads_same name old new result is)

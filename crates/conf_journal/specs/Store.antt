@@ -4,6 +4,10 @@ use Rattle.conf_disk.specs.Folder.{File, empty_file, Folder, under}
 use Rattle.conf_disk.specs.Image.{Image, IsImage, image_now}
 use Rattle.conf_disk.specs.declared.disk.Name.{Name}
 
+-- the most bytes of `store.yaml`
+abbrev pub store_limit : ℕ
+store_limit = 1073741824
+
 -- some image of the folder has this under `store.yaml`
 pub record IsStoreOf (folder : Folder) (store : Option (List ℕ)) : Type 0 where
   pub image : Image

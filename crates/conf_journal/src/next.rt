@@ -27,6 +27,9 @@ pub fn begin_next<D: Disk>(disk: &mut D) -> Result<(), DiskFault>
     ensures reads { D.honest →
         OnOk result
         (ReadsAs (D.folder disk.new) (bytes_under (D.folder disk.old) Name.Store) (Some [])) }
+    // Whatever it answers, `store.yaml` reads as before.
+    ensures left_alone { D.honest →
+        bytes_under (D.folder disk.new) Name.Store ≡ bytes_under (D.folder disk.old) Name.Store }
     // A stop leaves an old store.
     ensures store { D.honest →
         LeavesOnly D.moment D.left disk.old disk.new
@@ -57,6 +60,9 @@ pub fn append_next<D: Disk>(disk: &mut D, bytes: &[u8]) -> Result<(), DiskFault>
         OnOk result
         (ReadsAs (D.folder disk.new) (bytes_under (D.folder disk.old) Name.Store)
         (extended (bytes_under (D.folder disk.old) Name.Next) bytes.now)) }
+    // Whatever it answers, `store.yaml` reads as before.
+    ensures left_alone { D.honest →
+        bytes_under (D.folder disk.new) Name.Store ≡ bytes_under (D.folder disk.old) Name.Store }
     // A stop leaves an old store.
     ensures store { D.honest →
         LeavesOnly D.moment D.left disk.old disk.new
@@ -91,6 +97,9 @@ pub fn stage_next<D: Disk>(disk: &mut D, bytes: &[u8]) -> Result<(), DiskFault>
         (ReadsAs (D.folder disk.new) (bytes_under (D.folder disk.old) Name.Store)
         (Some bytes.now)) }
     ensures synced { D.honest → OnOk result (IsSynced (D.folder disk.new) Name.Next) }
+    // Whatever it answers, `store.yaml` reads as before.
+    ensures left_alone { D.honest →
+        bytes_under (D.folder disk.new) Name.Store ≡ bytes_under (D.folder disk.old) Name.Store }
     // A stop leaves an old store.
     ensures store { D.honest →
         LeavesOnly D.moment D.left disk.old disk.new

@@ -5,6 +5,7 @@ ghost use Rattle.conf_disk.specs.Image.{IsImage, image_now, synced_file};
 ghost use Rattle.conf_disk.specs.Log.{folder_after};
 ghost use Rattle.conf_disk.specs.Moments.{CountsFailures, LeavesOnly};
 ghost use Rattle.conf_journal.specs.Held.{HoldsStore};
+ghost use Rattle.conf_journal.specs.Store.{store_limit};
 
 use conf_disk::{Content, Disk, DiskFault, Name};
 use std::alloc::Global;
@@ -17,7 +18,7 @@ pub const STORE_LIMIT: u64 = 1_073_741_824;
 /// # Errors
 /// `Device`: what reads is as it was. `OutOfMemory`: all is synced, and the bytes were not read.
 pub fn load<D: Disk>(alloc: Global, disk: &mut D) -> Result<Content, DiskFault>
-    ensures content { D.honest → IfOk result (λ content. Reads (D.folder disk.old) Name.Store STORE_LIMIT content) }
+    ensures content { D.honest → IfOk result (λ content. Reads (D.folder disk.old) Name.Store store_limit content) }
     ensures folder { D.honest →
         OnOk result
         (D.folder disk.new ≡ folder_after (SyncFolder ∷ Sync Name.Store ∷ [])

@@ -211,3 +211,78 @@ fn a_staged_file_is_swapped(rt: HostRuntime) -> Result<(), Fail> {
     }
     Ok(())
 }
+
+// A disk whose store has so many bytes and one more, by its own word: it holds none.
+#[derive(Drop)]
+struct LongStore {
+    most: u64,
+}
+
+impl Disk for LongStore {
+    ghost use Rattle.conf_disk.specs.Folder.{empty_folder};
+
+    ghost honest = { ⊥ };
+
+    ghost folder = { λ disk. empty_folder };
+
+    ghost moment = { λ disk. 0 };
+
+    ghost left = { λ disk t image. ⊥ };
+
+    ghost failure_count = { λ disk. 0 };
+
+    ghost counts_now = { λ disk t image honest le is. honest };
+
+    ghost only_now = { λ disk image honest is. absurd honest };
+
+    ghost whole = { λ disk honest. absurd honest };
+
+    fn failures(&self) -> u64 {
+        0
+    }
+
+    fn read(&mut self, alloc: Global, _name: Name, max: u64) -> Result<Content, DiskFault> {
+        if max <= self.most {
+            return Ok(Content::TooLong);
+        }
+        Ok(Content::Bytes(Vec::new(alloc)))
+    }
+
+    fn create_next(&mut self) -> Result<(), DiskFault> {
+        Ok(())
+    }
+
+    fn append(&mut self, _name: Name, _bytes: &[u8]) -> Result<(), DiskFault> {
+        Ok(())
+    }
+
+    fn sync(&mut self, _name: Name) -> Result<(), DiskFault> {
+        Ok(())
+    }
+
+    fn rename_next(&mut self) -> Result<(), DiskFault> {
+        Ok(())
+    }
+
+    fn remove_next(&mut self) -> Result<(), DiskFault> {
+        Ok(())
+    }
+
+    fn sync_folder(&mut self) -> Result<(), DiskFault> {
+        Ok(())
+    }
+}
+
+#[test]
+fn a_store_is_read_up_to_its_limit(rt: HostRuntime) -> Result<(), Fail> {
+    let alloc = rt.alloc();
+    let mut whole = LongStore {
+        most: 1_073_741_823,
+    };
+    assert!(rt; matches!(load(alloc, &mut whole)?, Content::Bytes(_)));
+    let mut longer = LongStore {
+        most: 1_073_741_824,
+    };
+    assert!(rt; matches!(load(alloc, &mut longer)?, Content::TooLong));
+    Ok(())
+}

@@ -16,14 +16,14 @@ swap_next-requires g c h =
     let d = g.D.Disk in
     let old = c.args.disk.now in
     let some = not_none (d.folder old).now.next (c.requires h) in
-    subst (λ (folder : Folder). IsSynced folder Next) (sym (c.in_ok-sync.ensures.change h)) (synced-is_synced Next (d.folder old) (g.met.D.Disk.whole old h) some)
+    subst (λ (folder : Folder). IsSynced folder Next) (sym (c.in_ok-sync.ensures.goes.change h)) (synced-is_synced Next (d.folder old) (g.met.D.Disk.whole old h) some)
 
 pub returns-in_err-sync-clause-any_moment : goal.returns-in_err-sync-clause-any_moment
 returns-in_err-sync-clause-any_moment g c h =
     let d = g.D.Disk in
     let old = c.args.disk.now in
     let synced = LeavesOnly-step d.folder d.moment d.left (Sync Next) old c.sync.new.self c.sync.result
-    (λ image left. g.met.D.Disk.only_now old image h left) (c.sync.ensures.time h) (c.sync.ensures.change h) in
+    (λ image left. g.met.D.Disk.only_now old image h left) (c.sync.ensures.goes.time h) (c.sync.ensures.goes.change h) in
     LeavesOnly-weaker d.moment d.left old c.sync.new.self (IsImage (d.folder old)) (λ image. IsImage (d.folder old) image ⊎ IsImage (after RenameNext (after (Sync Next) (d.folder old))) image)
     synced (λ image is. inl is)
 
@@ -33,11 +33,11 @@ returns-clause-any_moment g c h =
     let old = c.args.disk.now in
     let mid = c.sync.new.self in
     let synced = LeavesOnly-step d.folder d.moment d.left (Sync Next) old mid c.sync.result
-    (λ image left. g.met.D.Disk.only_now old image h left) (c.sync.ensures.time h) (c.sync.ensures.change h) in
+    (λ image left. g.met.D.Disk.only_now old image h left) (c.sync.ensures.goes.time h) (c.sync.ensures.goes.change h) in
     LeavesOnly-joined d.moment d.left old mid c.swap_next.new.disk (IsImage (d.folder old)) (IsImage (after RenameNext (d.folder mid)))
     (λ image. IsImage (d.folder old) image ⊎ IsImage (after RenameNext (after (Sync Next) (d.folder old))) image)
     synced (c.swap_next.ensures.any_moment h)
-    (λ image is. inl is) (λ image is. inr (subst (λ (folder : Folder). IsImage (after RenameNext folder) image) (c.in_ok-sync.ensures.change h) is))
+    (λ image is. inl is) (λ image is. inr (subst (λ (folder : Folder). IsImage (after RenameNext folder) image) (c.in_ok-sync.ensures.goes.change h) is))
 
 pub returns-in_err-sync-clause-store : goal.returns-in_err-sync-clause-store
 returns-in_err-sync-clause-store g c h =

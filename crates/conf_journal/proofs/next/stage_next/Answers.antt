@@ -5,7 +5,7 @@ use Rattle.conf_disk.specs.declared.disk.Name.TheVariants.{Next}
 use Rattle.conf_disk.proofs.Images.{grown-grows}
 use Rattle.conf_disk.proofs.Moments.{LeavesOnly-step, LeavesOnly-joined, LeavesOnly-weaker}
 use Rattle.conf_journal.specs.Store.{IsStoreOf, extended}
-use Rattle.conf_journal.proofs.Reading.{sync-reads_same, OnOk-always, file_there}
+use Rattle.conf_journal.proofs.Reading.{sync-leaves_store, sync-reads_same, OnOk-always, file_there}
 use Rattle.conf_journal.proofs.Stores.{staged-leaves, performed-synced}
 use Rattle.conf_journal.proofs.next.stage_next.Goals as goal
 
@@ -40,7 +40,7 @@ returns-clause-any_moment g c h =
     (c.begin_next.ensures.any_moment h) (c.append_next.ensures.any_moment h)
     (grown-grows step begun) (λ image is. subst (λ (folder : Folder). IsImage (after step folder) image) (c.in_ok-begin_next.ensures.folder h) is) in
     let synced = LeavesOnly-step d.folder d.moment d.left (Sync Next) all c.sync.new.self c.sync.result
-    (λ image left. g.met.D.Disk.only_now all image h left) (c.sync.ensures.time h) (c.sync.ensures.change h) in
+    (λ image left. g.met.D.Disk.only_now all image h left) (c.sync.ensures.goes.time h) (c.sync.ensures.goes.change h) in
     LeavesOnly-joined d.moment d.left old all c.sync.new.self (IsImage (after step begun)) (IsImage (d.folder all)) (IsImage (after step begun)) appended synced
     (λ image is. is)
     (λ image is. subst (λ (folder : Folder). IsImage (after step folder) image) (c.in_ok-begin_next.ensures.folder h)
@@ -68,7 +68,7 @@ pub returns-clause-reads : goal.returns-clause-reads
 returns-clause-reads g c h =
     let d = g.D.Disk in
     let bytes = c.args.bytes.now in
-    let synced = sync-reads_same Next (d.folder c.append_next.new.disk) (d.folder c.sync.new.self) c.sync.result (c.sync.ensures.change h) in
+    let synced = sync-reads_same Next (d.folder c.append_next.new.disk) (d.folder c.sync.new.self) c.sync.result (c.sync.ensures.goes.change h) in
     let begun = c.in_ok-begin_next.ensures.reads h in
     let appended = c.in_ok-append_next.ensures.reads h in
     OnOk-always c.sync.result (synced ∙ appended
@@ -82,4 +82,13 @@ returns-clause-synced g c h =
     let there = ap (λ (image : Image). image.next) (c.in_ok-append_next.ensures.reads h)
     ∙ ap (λ (image : Image). extended image.next bytes) (c.in_ok-begin_next.ensures.reads h) in
     performed-synced Next (d.folder all) (d.folder c.sync.new.self) c.sync.result (g.met.D.Disk.whole all h)
-    (file_there (d.folder all).files (d.folder all).now.next bytes there) (c.sync.ensures.change h)
+    (file_there (d.folder all).files (d.folder all).now.next bytes there) (c.sync.ensures.goes.change h)
+
+pub returns-in_err-append_next-clause-left_alone : goal.returns-in_err-append_next-clause-left_alone
+returns-in_err-append_next-clause-left_alone g c h = c.append_next.ensures.left_alone h ∙ c.begin_next.ensures.left_alone h
+
+pub returns-clause-left_alone : goal.returns-clause-left_alone
+returns-clause-left_alone g c h =
+    let d = g.D.Disk in
+    sync-leaves_store Next (d.folder c.append_next.new.disk) (d.folder c.sync.new.self) c.sync.result (c.sync.ensures.goes.change h)
+    ∙ (c.append_next.ensures.left_alone h ∙ c.begin_next.ensures.left_alone h)

@@ -15,14 +15,14 @@ returns-clause-any_moment g c h =
     let d = g.D.Disk in
     let old = c.args.disk.now in
     LeavesOnly-step d.folder d.moment d.left (Append Store c.args.bytes.now) old c.append.new.self c.append.result
-    (λ image left. g.met.D.Disk.only_now old image h left) (c.append.ensures.time h) (c.append.ensures.change h)
+    (λ image left. g.met.D.Disk.only_now old image h left) (c.append.ensures.goes.time h) (c.append.ensures.goes.change h)
 
 pub returns-clause-reads : goal.returns-clause-reads
 returns-clause-reads g c h =
     let d = g.D.Disk in
     let old = d.folder c.args.disk.now in
     performed-reads (Append Store c.args.bytes.now) old (d.folder c.append.new.self) c.append.result _
-    (appended_store-reads c.args.bytes.now old (g.met.D.Disk.whole c.args.disk.now h)) (c.append.ensures.change h)
+    (appended_store-reads c.args.bytes.now old (g.met.D.Disk.whole c.args.disk.now h)) (c.append.ensures.goes.change h)
 
 pub returns-clause-store : goal.returns-clause-store
 returns-clause-store g c h synced =

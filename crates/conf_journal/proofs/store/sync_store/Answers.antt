@@ -9,9 +9,9 @@ returns-clause-any_moment g c h =
     let d = g.D.Disk in
     let old = c.args.disk.now in
     LeavesOnly-step d.folder d.moment d.left (Sync Store) old c.sync.new.self c.sync.result
-    (λ image left. g.met.D.Disk.only_now old image h left) (c.sync.ensures.time h) (c.sync.ensures.change h)
+    (λ image left. g.met.D.Disk.only_now old image h left) (c.sync.ensures.goes.time h) (c.sync.ensures.goes.change h)
 
 pub returns-clause-reads : goal.returns-clause-reads
 returns-clause-reads g c h =
     let d = g.D.Disk in
-    sync-reads_same Store (d.folder c.args.disk.now) (d.folder c.sync.new.self) c.sync.result (c.sync.ensures.change h)
+    sync-reads_same Store (d.folder c.args.disk.now) (d.folder c.sync.new.self) c.sync.result (c.sync.ensures.goes.change h)
