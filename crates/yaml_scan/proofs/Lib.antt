@@ -1,0 +1,2 @@
+pub mod ByteRuns
+pub mod ByteBreaks
