@@ -1,2 +1,5 @@
 pub mod ByteRuns
 pub mod ByteBreaks
+pub mod ByteSigns
+pub mod LineStarts
+pub mod BetweenBytes

@@ -1,6 +1,6 @@
 // Breaks, the starts of lines, and what stands between two places.
-ghost use Rattle.std.specs.Prelude.{◌≡◌, ◌≤◌, not, nat_le, None, IfSome, IfNone, length};
-ghost use Rattle.std.specs.Str.{IsCharBoundary};
+ghost use Rattle.std.specs.Prelude.{◌≡◌, ◌≤◌, ◌↔◌, not, nat_le, [], ◌∷◌, None, IsTrue, IfSome, IfNone, length};
+ghost use Rattle.std.specs.Str.{IsCharBoundary, chars, encode_utf8_all};
 ghost use Rattle.yaml_chars.specs.Classes.{line_break};
 ghost use Rattle.yaml_chars.specs.Places.{rest, between};
 ghost use Rattle.yaml_events.specs.Places.{line_starts};
@@ -75,14 +75,20 @@ pub fn line_starts(text: &str, at: usize) -> bool
     requires { IsCharBoundary text.now at }
     ensures { result ≡ line_starts text.now at }
 {
-    let bytes = text.as_bytes();
     if at == 0 {
         return true;
     }
+    let bytes = text.as_bytes();
     if is_break(bytes[at - 1]) {
         return true;
     }
-    at == 3 && bytes[0] == 0xef && bytes[1] == 0xbb && bytes[2] == 0xbf
+    is_byte_order_mark(&text[..at])
+}
+
+fn is_byte_order_mark(text: &str) -> bool
+    ensures { IsTrue result ↔ (text.now ≡ encode_utf8_all (0xfeff ∷ [])) }
+{
+    text == "\u{feff}"
 }
 
 /// Returns whether a break stands between two places. Each byte between them is looked at once, up to the first break.
@@ -116,5 +122,11 @@ pub fn at_most_chars(text: &str, from: usize, to: usize, limit: usize) -> bool
     if len / 4 > limit {
         return false;
     }
-    text[from..to].chars().count() <= limit
+    count_chars(&text[from..to]) <= limit
+}
+
+fn count_chars(text: &str) -> usize
+    ensures { result ≡ length (chars text.now) }
+{
+    text.chars().count()
 }
