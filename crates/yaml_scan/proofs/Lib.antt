@@ -3,3 +3,4 @@ pub mod ByteBreaks
 pub mod ByteSigns
 pub mod LineStarts
 pub mod BetweenBytes
+pub mod LineSteps

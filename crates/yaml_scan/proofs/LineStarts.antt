@@ -1,7 +1,7 @@
 -- Whether a line starts at a place, by what stands before it.
-use Rattle.std.proofs.Common.{◌≡◌, ℕ, ◌+◌, ◌<◌, ◌≤◌, Bool, true, false, List, [], ◌∷◌, ◌++◌, refl, ap, sym, ◌∙◌, subst, arith, length, inl, inr, get_or, append_assoc, slice_range}
+use Rattle.std.proofs.Common.{◌≡◌, ℕ, ◌+◌, ◌-◌, ◌<◌, ◌≤◌, Bool, true, false, List, [], ◌∷◌, ◌++◌, Some, refl, ap, sym, ◌∙◌, subst, arith, length, inl, inr, get_or, append_assoc, slice_range}
 use Rattle.std.specs.Prelude.{◌&&◌, ◌||◌, ◌==◌, ◌↔◌, IsTrue, if◌then◌else◌}
-use lib.Utf8.{encodes}
+use lib.Utf8.{encode, encodes}
 use Rattle.std.specs.Str.{IsUtf8, IsCharBoundary, chars}
 use Rattle.std.proofs.lemmas.Bool.{and_parts, cases_lt, cases_Bool, eqb-true, false≢true}
 use Rattle.std.proofs.lemmas.Bool.Decides.{nat_tests}
@@ -19,7 +19,7 @@ use Rattle.yaml_recognizers.specs.Reading.{Read}
 use Rattle.yaml_recognizers.proofs.Breaks.{break_sound, BreakOf}
 use Rattle.yaml_recognizers.proofs.LineStarts.{starts_joined}
 use Rattle.yaml_recognizers.proofs.Reading.{Sound}
-use Rattle.yaml_scan.specs.Places.{IsBreak}
+use Rattle.yaml_scan.specs.Places.{IsBreak, byte_order_mark}
 use Rattle.yaml_scan.proofs.ByteSigns.{IsSign}
 
 -- ---- by the last character
@@ -133,10 +133,14 @@ starts_by_break bs at u b l h =
     let no_mark : (last.1 == 0xfeff) ≡ false = grind (arith, nat_tests) in
     sym (starts_after bs 0 at last.0 last.1 u (omega arith) start b last.2.splits no_mark ∙ is)
 
+mark_encoded : encodes (0xfeff ∷ []) ≡ byte_order_mark
+unfolding encode
+mark_encoded = refl
+
 pub starts_by_mark : (bs : List ℕ) (at : ℕ) (r : Bool) → IsUtf8 bs → IsCharBoundary bs at → 0 < at → line_break (get_or bs (at - 1) 0) ≡ false
-    → IsTrue r ↔ (slice_range bs 0 at ≡ encodes (0xfeff ∷ [])) → r ≡ line_starts bs at
+    → IsTrue r ↔ (slice_range bs 0 at ≡ byte_order_mark) → r ≡ line_starts bs at
 starts_by_mark bs at r u b l h decides = elim (cases_Bool r) [
-  | inl e ↦ (let mark : slice_range bs 0 at ≡ encodes (0xfeff ∷ []) = decides.0 (subst IsTrue (sym e) tt) in
+  | inl e ↦ (let mark : slice_range bs 0 at ≡ encodes (0xfeff ∷ []) = decides.0 e ∙ sym mark_encoded in
       e ∙ sym (ap (λ t. starts_line true (without_mark (chars t))) mark ∙ ap (λ t. starts_line true (without_mark t)) (chars-encodes (0xfeff ∷ []) refl)))
   | inr e ↦ (let start = IsCharBoundary-start bs u in
       let last = last_char bs 0 at u l start b in
@@ -144,12 +148,10 @@ starts_by_mark bs at r u b l h decides = elim (cases_Bool r) [
       e ∙ sym (elim (cases_Bool (last.1 == 0xfeff)) [
         | inr other ↦ starts_after bs 0 at last.0 last.1 u (omega arith) start b last.2.splits other ∙ is
         | inl mark ↦ ap (λ t. starts_line true (without_mark t)) last.2.splits ∙ (mark_alone last.0 last.1 mark ∙ filled last.0 last.1 (eqb-true last.1 0xfeff mark) last.2.splits
-            (λ same. decided e (decides.1 (sym (encodes-between bs 0 at u (omega arith) start b) ∙ ap encodes same))))
+            (λ same. false≢true (sym e ∙ decides.1 (sym (encodes-between bs 0 at u (omega arith) start b) ∙ (ap encodes same ∙ mark_encoded)))))
       ]))
 ]
   where
-    decided : r ≡ false → IsTrue r → ⊥
-    decided e t = subst IsTrue e t
     filled : (front : List ℕ) (x : ℕ) → x ≡ 0xfeff → between bs 0 at ≡ front ++ x ∷ [] → (between bs 0 at ≡ 0xfeff ∷ [] → ⊥) → is_empty front ≡ false
     filled [] x e s n = absurd (n (s ∙ ap (λ y. y ∷ []) e))
     filled (y ∷ ys) x e s n = refl

@@ -1,5 +1,5 @@
 -- What stands at a place of a text, which counts bytes from 0, in the words of the recognizers.
-use Rattle.std.specs.Prelude.{◌≡◌, ℕ, ◌-◌, ◌<◌, ◌≤◌, Bool, true, false, ◌||◌, ◌==◌, List, ◌∷◌, Option, Some, is_some, slice_index}
+use Rattle.std.specs.Prelude.{◌≡◌, ℕ, ◌-◌, ◌<◌, ◌≤◌, Bool, true, false, ◌||◌, ◌==◌, List, [], ◌∷◌, Option, Some, is_some, slice_index}
 use Rattle.std.specs.Str.{IsCharBoundary}
 use Rattle.yaml_chars.specs.Breaks.{no_break}
 use Rattle.yaml_chars.specs.Classes.{line_break, nb, space, white}
@@ -57,6 +57,10 @@ pub record IsStop (text : List ℕ) (at : ℕ) (has_break : Bool) (end : ℕ) : 
   pub stop : Option Break
   pub reads : read_stop (rest text at) ≡ Some (stop, rest text end)
   pub is_break : is_some stop ≡ has_break
+
+-- U+FEFF in UTF-8 (5.2)
+abbrev pub byte_order_mark : List ℕ
+byte_order_mark = 0xef ∷ 0xbb ∷ 0xbf ∷ []
 
 -- no break stands between the two places
 abbrev pub unbroken_between : List ℕ → ℕ → ℕ → Bool

@@ -1,11 +1,11 @@
 // Breaks, the starts of lines, and what stands between two places.
-ghost use Rattle.std.specs.Prelude.{◌≡◌, ◌≤◌, ◌↔◌, not, nat_le, [], ◌∷◌, None, IsTrue, IfSome, IfNone, length};
-ghost use Rattle.std.specs.Str.{IsCharBoundary, chars, encode_utf8_all};
+ghost use Rattle.std.specs.Prelude.{◌≡◌, ◌≤◌, ◌↔◌, not, nat_le, None, IsTrue, IfSome, IfNone, length};
+ghost use Rattle.std.specs.Str.{IsCharBoundary, chars};
 ghost use Rattle.yaml_chars.specs.Classes.{line_break};
 ghost use Rattle.yaml_chars.specs.Places.{rest, between};
 ghost use Rattle.yaml_events.specs.Places.{line_starts};
 ghost use Rattle.yaml_recognizers.specs.Comments.{read_break, read_stop};
-ghost use Rattle.yaml_scan.specs.Places.{IsBreak, IsStop, unbroken_between};
+ghost use Rattle.yaml_scan.specs.Places.{IsBreak, IsStop, byte_order_mark, unbroken_between};
 
 /// Returns the end of the break at `at`: a line feed, a carriage return, or both in this order (5.4, `b-break`). Returns None
 /// where no break stands.
@@ -86,7 +86,7 @@ pub fn line_starts(text: &str, at: usize) -> bool
 }
 
 fn is_byte_order_mark(text: &str) -> bool
-    ensures { IsTrue result ↔ (text.now ≡ encode_utf8_all (0xfeff ∷ [])) }
+    ensures { IsTrue result ↔ (text.now ≡ byte_order_mark) }
 {
     text == "\u{feff}"
 }

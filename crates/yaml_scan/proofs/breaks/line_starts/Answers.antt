@@ -14,4 +14,5 @@ returns-then-is_break c =
 pub returns : goal.returns
 returns c =
     starts_by_mark c.args.text.now c.args.at c.is_byte_order_mark.result c.utf8.text c.requires (omega arith)
-    (ap (λ x. line_break (get_or x (c.args.at - 1) 0)) (sym c.as_bytes-bytes.ensures.value) ∙ sym c.is_break.ensures ∙ c.if-is_break.false) ?
+    (ap (λ x. line_break (get_or x (c.args.at - 1) 0)) (sym c.as_bytes-bytes.ensures.value) ∙ sym c.is_break.ensures ∙ c.if-is_break.false)
+    (λ h. sym c.range.ensures.value ∙ c.is_byte_order_mark.ensures.0 h, λ e. c.is_byte_order_mark.ensures.1 (c.range.ensures.value ∙ e))
