@@ -4,3 +4,4 @@ pub mod ByteSigns
 pub mod LineStarts
 pub mod BetweenBytes
 pub mod LineSteps
+pub mod Outcomes

@@ -103,7 +103,7 @@ starts_on bs i j u l b d h =
 
 -- ---- after a break
 
-break_ends : (xs : List ℕ) (b : Break) → starts_line true (without_mark (xs ++ break_text b)) ≡ true
+pub break_ends : (xs : List ℕ) (b : Break) → starts_line true (without_mark (xs ++ break_text b)) ≡ true
 break_ends xs lf = mark_last xs 10 refl
 break_ends xs cr = mark_last xs 13 refl
 break_ends xs cr_lf = ap (λ t. starts_line true (without_mark t)) (sym (append_assoc xs (13 ∷ []) (10 ∷ []))) ∙ mark_last (xs ++ 13 ∷ []) 10 refl

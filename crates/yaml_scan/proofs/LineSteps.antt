@@ -154,11 +154,11 @@ starts_after_end bs i k e u l b d spelled bol fits = go e.stop refl
     front = e.blank ++ optional comment_text e.comment
     go : (stop : Option Break) → e.stop ≡ stop → IsLineStart bs k
     go None is = inr (empty_is (rest bs k) (subst (λ s. stop_fits s (rest bs k) ≡ true) is (line_parts bol e (rest bs k) fits).stop_fit))
-    go (Some br) is = inl (
-    ap (λ t. starts_line true (without_mark t))
-    (between-append bs 0 i k u (omega arith) l (IsCharBoundary-start bs u) b d
-    ∙ (ap (λ t. between bs 0 i ++ t) (text ∙ ap (λ s. front ++ optional break_text s) is) ∙ sym (append_assoc (between bs 0 i) front (break_text br))))
-    ∙ break_ends (between bs 0 i ++ front) br)
+    go (Some br) is =
+        let whole : between bs 0 k ≡ (between bs 0 i ++ front) ++ break_text br =
+        between-append bs 0 i k u (omega arith) l (IsCharBoundary-start bs u) b d
+        ∙ (ap (λ t. between bs 0 i ++ t) (text ∙ ap (λ s. front ++ optional break_text s) is) ∙ sym (append_assoc (between bs 0 i) front (break_text br))) in
+        inl (ap (λ t. starts_line true (without_mark t)) whole ∙ break_ends (between bs 0 i ++ front) br)
 
 pub line_end_there : (bol : Bool) (bs : List ℕ) (i j k : ℕ) (has_break : Bool) → IsUtf8 bs → i ≤ j → IsCharBoundary bs i → IsCharBoundary bs j → (k ≡ i → ⊥)
     → IsContentEnd bol bs i j → IsStop bs j has_break k → IsLineEnd bol bs i k
