@@ -5,3 +5,4 @@ pub mod LineStarts
 pub mod BetweenBytes
 pub mod LineSteps
 pub mod Outcomes
+pub mod GapSteps
