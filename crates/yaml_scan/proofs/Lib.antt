@@ -6,3 +6,4 @@ pub mod BetweenBytes
 pub mod LineSteps
 pub mod Outcomes
 pub mod GapSteps
+pub mod ByteTable
