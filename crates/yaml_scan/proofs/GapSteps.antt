@@ -1,37 +1,36 @@
 -- Gaps at places, by what stands there.
-use Rattle.std.proofs.Common.{◌≡◌, ℕ, zero, suc, ◌+◌, ◌-◌, ◌<◌, ◌≤◌, ◌⊎◌, Bool, true, false, List, [], ◌∷◌, ◌++◌, Option, Some, None, refl, ap, sym, ◌∙◌, subst, arith, length, inl, inr}
+use Rattle.std.proofs.Common.{◌≡◌, ℕ, zero, suc, ◌+◌, ◌-◌, ◌<◌, ◌≤◌, Bool, true, false, List, [], ◌∷◌, ◌++◌, Option, Some, None, refl, ap, sym, ◌∙◌, subst, arith, length, inl, inr}
 use Rattle.std.specs.Prelude.{not, ◌&&◌, ◌||◌, ◌==◌, nat_le, nat_lt, is_some, cond}
 use Rattle.std.specs.Str.{IsUtf8, IsCharBoundary}
 use Rattle.std.specs.Char.{len_utf8}
-use Rattle.std.proofs.lemmas.Bool.{and_from, and_parts, cases_Bool, cases_lt, eqb-true, false≢true, le-leb, lt-leb, lt-ltb, not-true, or_left}
+use Rattle.std.proofs.lemmas.Bool.{and_from, and_parts, cases_Bool, cases_lt, false≢true, le-leb, lt-leb, lt-ltb, or_left}
 use Rattle.std.proofs.lemmas.Bool.Decides.{nat_tests}
 use Rattle.std.proofs.lemmas.List.{append_cancel_right}
 use Rattle.yaml_chars.specs.Breaks.{no_break}
 use Rattle.yaml_chars.specs.Classes.{line_break, nb, white}
 use Rattle.yaml_chars.specs.Places.{rest, between}
 use Rattle.yaml_chars.proofs.Places.{between-nil, char_at, rest-between, rest-end, same_place}
-use Rattle.yaml_events.specs.Places.{line_starts}
 use Rattle.yaml_grammar.specs.BlockScalars.{spaces_before}
 use Rattle.yaml_grammar.specs.FlowScalars.{FlowContext, one_line}
-use Rattle.yaml_grammar.specs.Separation.{Break, LineEnd, Sep, break_text, comment_fits, comment_line_fits, comment_text, cr, cr_lf, gap_text, indents, inline, lf, line_end_text, lines}
+use Rattle.yaml_grammar.specs.Separation.{Break, LineEnd, Sep, break_text, comment_fits, comment_text, cr, cr_lf, gap_text, indents, inline, lf, lines}
 use Rattle.yaml_grammar.specs.Texts.{begins, every, first, is_empty, optional, spaces, starts_line}
 use Rattle.yaml_recognizers.specs.CanonicalComments.{hash, is_line_end, stops}
 use Rattle.yaml_recognizers.specs.Comments.{all_comments, read_line_end}
 use Rattle.yaml_recognizers.specs.Ends.{solid}
 use Rattle.yaml_recognizers.specs.Fronts.{dropped, past, taken}
-use Rattle.yaml_recognizers.specs.Gaps.{GapRead, gap_behind, inline_gap, lines_gap, read_gap}
+use Rattle.yaml_recognizers.specs.Gaps.{inline_gap, lines_gap, read_gap}
 use Rattle.yaml_recognizers.specs.OneLine.{gap_on_one_line}
 use Rattle.yaml_recognizers.proofs.CommentsComplete.{solid_no_line}
 use Rattle.yaml_recognizers.proofs.CommentsDepth.{gap_step, inline_step}
 use Rattle.yaml_recognizers.proofs.CommentsSound.{LineOf, line_sound}
-use Rattle.yaml_recognizers.proofs.Fronts.{dropped_all, every_space, taken_every, taken_split}
+use Rattle.yaml_recognizers.proofs.Fronts.{taken_every}
 use Rattle.yaml_recognizers.proofs.GapsSound.{GapOf, gap_sound}
 use Rattle.yaml_recognizers.proofs.LineEnds.{line_parts, line_regrouped}
 use Rattle.yaml_recognizers.proofs.OneLineText.{gap_one_line}
-use Rattle.yaml_recognizers.proofs.Reading.{Sound, sound_is}
+use Rattle.yaml_recognizers.proofs.Reading.{sound_is}
 use Rattle.yaml_scan.specs.Gaps.{IsGap, IsLinesGap, NoGap, NoLinesGap, after_comments, stuck, used_up}
 use Rattle.yaml_scan.specs.Lines.{IsLineEnd, IsSolidLine}
-use Rattle.yaml_scan.specs.Places.{AreSpaces, AreTaken, unbroken_between}
+use Rattle.yaml_scan.specs.Places.{AreSpaces, AreTaken}
 use Rattle.yaml_scan.specs.declared.gap.Gap.{Gap}
 use Rattle.yaml_scan.specs.declared.lines.Line.{Line}
 use Rattle.yaml_scan.proofs.LineSteps.{spaces_split_at}

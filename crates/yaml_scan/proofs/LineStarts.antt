@@ -1,21 +1,20 @@
 -- Whether a line starts at a place, by what stands before it.
-use Rattle.std.proofs.Common.{◌≡◌, ℕ, ◌+◌, ◌-◌, ◌<◌, ◌≤◌, Bool, true, false, List, [], ◌∷◌, ◌++◌, Some, refl, ap, sym, ◌∙◌, subst, arith, length, inl, inr, get_or, append_assoc, slice_range}
-use Rattle.std.specs.Prelude.{◌&&◌, ◌||◌, ◌==◌, ◌↔◌, IsTrue, if◌then◌else◌}
+use Rattle.std.proofs.Common.{◌≡◌, ℕ, ◌+◌, ◌-◌, ◌<◌, ◌≤◌, Bool, true, false, List, [], ◌∷◌, ◌++◌, Some, refl, ap, sym, ◌∙◌, subst, arith, inl, inr, get_or, append_assoc, slice_range}
+use Rattle.std.specs.Prelude.{◌==◌, ◌↔◌, IsTrue}
 use lib.Utf8.{encode, encodes}
 use Rattle.std.specs.Str.{IsUtf8, IsCharBoundary, chars}
-use Rattle.std.proofs.lemmas.Bool.{and_parts, cases_lt, cases_Bool, eqb-true, false≢true}
+use Rattle.std.proofs.lemmas.Bool.{and_parts, cases_Bool, eqb-true, false≢true}
 use Rattle.std.proofs.lemmas.Bool.Decides.{nat_tests}
 use Rattle.std.proofs.lemmas.List.{append_cancel_right}
 use Rattle.std.proofs.lemmas.Str.{chars-encodes, IsCharBoundary-start}
 use Rattle.yaml_chars.specs.Classes.{line_break, white}
 use Rattle.yaml_chars.specs.Places.{rest, between}
-use Rattle.yaml_chars.proofs.Places.{between-append, between-nil, encodes-between, rest-between, rest-end}
-use Rattle.yaml_chars.proofs.Runs.{IsLastChar, blind-line_break, last_char, test-last_char}
+use Rattle.yaml_chars.proofs.Places.{between-append, between-nil, encodes-between, rest-between}
+use Rattle.yaml_chars.proofs.Runs.{blind-line_break, last_char, test-last_char}
 use Rattle.yaml_events.specs.Places.{line_starts, without_mark}
 use Rattle.yaml_grammar.specs.Separation.{Break, break_text, lf, cr, cr_lf}
-use Rattle.yaml_grammar.specs.Texts.{every, first, is_empty, starts_line}
+use Rattle.yaml_grammar.specs.Texts.{every, is_empty, starts_line}
 use Rattle.yaml_recognizers.specs.Comments.{read_break}
-use Rattle.yaml_recognizers.specs.Reading.{Read}
 use Rattle.yaml_recognizers.proofs.Breaks.{break_sound, BreakOf}
 use Rattle.yaml_recognizers.proofs.LineStarts.{starts_joined}
 use Rattle.yaml_recognizers.proofs.Reading.{Sound}

@@ -1,5 +1,5 @@
 -- Gaps between the parts of a flow node at places of a text (YAML 1.2.2, 6.7).
-use Rattle.std.specs.Prelude.{◌≡◌, ℕ, ◌≤◌, Bool, true, false, not, ◌||◌, nat_lt, List, [], ◌∷◌, Option, None, is_some}
+use Rattle.std.specs.Prelude.{◌≡◌, ℕ, ◌≤◌, true, false, not, ◌||◌, nat_lt, List, [], ◌∷◌, Option, None, is_some}
 use Rattle.std.proofs.Math.Logic.{◌⊎◌}
 use Rattle.std.specs.Str.{IsCharBoundary}
 use Rattle.yaml_chars.specs.Classes.{line_break, white}

@@ -1,7 +1,6 @@
-use Rattle.std.proofs.Common.{◌≡◌, false, sym, ◌∙◌}
+use Rattle.std.proofs.Common.{sym, ◌∙◌}
 use Rattle.yaml_chars.specs.Places.{rest}
 use Rattle.yaml_events.specs.Meant.{context_of}
-use Rattle.yaml_grammar.specs.FlowScalars.{one_line}
 use Rattle.yaml_scan.specs.Gaps.{IsGap, IsLinesGap, NoGap, NoLinesGap}
 use Rattle.yaml_scan.proofs.GapSteps.{gap_over_lines_is, inline_gap_is, no_gap, reads_before_solid, reads_in_key, reads_on_line}
 use Rattle.yaml_scan.proofs.Outcomes.{faults_so, ok_so}

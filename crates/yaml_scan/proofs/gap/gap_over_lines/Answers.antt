@@ -1,4 +1,4 @@
-use Rattle.std.proofs.Common.{◌<◌, ◌≤◌, arith, length}
+use Rattle.std.proofs.Common.{arith}
 use Rattle.yaml_scan.proofs.GapSteps.{few_spaces, lines_gap_is, text_used_up}
 use Rattle.yaml_scan.proofs.gap.gap_over_lines.Goals as goal
 
