@@ -19,7 +19,8 @@ use Rattle.yaml_scan.specs.declared.gap.Gap.{Gap}
 abbrev pub after_comments : List ℕ → ℕ → List ℕ
 after_comments text at = (all_comments true (rest text at)).1
 
--- After the first line of a gap that goes over lines: the comments, and the white space of the last line, go to the end.
+-- After the first line of a gap that goes over lines: the comments, and the white space of the last
+-- line, go to the end.
 pub record IsLinesGap (n : ℕ) (text : List ℕ) (at : ℕ) (found : Gap) : Type 0 where
   pub above : at ≤ found.end
   pub boundary : IsCharBoundary text found.end
@@ -30,7 +31,8 @@ pub record IsLinesGap (n : ℕ) (text : List ℕ) (at : ℕ) (found : Gap) : Typ
 
 -- The last line has too few spaces, or the text ends.
 abbrev pub NoLinesGap : ℕ → List ℕ → ℕ → Type 0
-NoLinesGap n text at = (indents n (taken white (after_comments text at)) ≡ false) ⊎ (after_comments text at ≡ [])
+NoLinesGap n text at =
+    (indents n (taken white (after_comments text at)) ≡ false) ⊎ (after_comments text at ≡ [])
 
 -- The gap at the place, which may be empty, goes to the end of `found`.
 pub record IsGap (n : ℕ) (d : FlowContext) (text : List ℕ) (at : ℕ) (found : Gap) : Type 0 where
@@ -43,7 +45,9 @@ pub record IsGap (n : ℕ) (d : FlowContext) (text : List ℕ) (at : ℕ) (found
   pub over_lines : found.is_over_lines ≡ not (gap_on_one_line gap)
   pub breaks : found.is_over_lines ≡ not (unbroken_between text at found.end)
 
--- A gap after which nothing can go on: its last line has too few spaces, or the text ends after its lines.
+-- A gap after which nothing can go on: its last line has too few spaces, or the text ends after its
+-- lines.
 pub data NoGap (n : ℕ) (d : FlowContext) (text : List ℕ) : Type 0 where
-  stuck : (x : ℕ) (xs : List ℕ) → text ≡ x ∷ xs → white x || line_break x ≡ true → read_gap n (one_line d) text ≡ (None, text) → NoGap n d text
+  stuck : (x : ℕ) (xs : List ℕ) → text ≡ x ∷ xs → white x || line_break x ≡ true
+      → read_gap n (one_line d) text ≡ (None, text) → NoGap n d text
   used_up : (gap : Option Sep) → read_gap n (one_line d) text ≡ (gap, []) → NoGap n d text

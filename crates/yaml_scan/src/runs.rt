@@ -53,7 +53,8 @@ fn is_nb_byte(byte: u8) -> bool
     matches!(byte, b' '..=b'~' | b'\t')
 }
 
-/// Returns the end of the character at `at` if a line may hold it (5.4, `nb-char`), and None otherwise.
+/// Returns the end of the character at `at` if a line may hold it (5.4, `nb-char`), and None
+/// otherwise.
 pub fn nb_at(text: &str, at: usize) -> Option<usize>
     requires { IsCharBoundary text.now at }
     ensures found { IfSome result (IsNb text.now at) }

@@ -29,8 +29,8 @@ fn mask(context: FlowContext) -> u8
     }
 }
 
-/// Returns whether a byte is an ASCII character that is safe in a plain scalar in this context, and neither `:` nor `#` (7.3.3):
-/// such a one is a plain character wherever it stands after the first.
+/// Returns whether a byte is an ASCII character that is safe in a plain scalar in this context, and
+/// neither `:` nor `#` (7.3.3): such a one is a plain character wherever it stands after the first.
 pub fn is_simple(byte: u8, context: FlowContext) -> bool
     ensures { result ≡ simple (context_of context) byte }
 {
