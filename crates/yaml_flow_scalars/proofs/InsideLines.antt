@@ -42,10 +42,10 @@ first_inked x h = grind (arith, nat_tests)
 last_inked : (c : FlowContext) (before x : ℕ) (behind : List ℕ) → (white x || plain_next c before x behind) && not (white x) ≡ true → inked x ≡ true
 last_inked c before x behind h = by_cases (white x) (plain_next c before x behind) h (next_inked c before x behind)
   where
-  by_cases : (w p : Bool) → (w || p) && not w ≡ true → (p ≡ true → inked x ≡ true) → inked x ≡ true
-  by_cases true p h f = absurd (false≢true h)
-  by_cases false true h f = f refl
-  by_cases false false h f = absurd (false≢true h)
+    by_cases : (w p : Bool) → (w || p) && not w ≡ true → (p ≡ true → inked x ≡ true) → inked x ≡ true
+    by_cases true p h f = absurd (false≢true h)
+    by_cases false true h f = f refl
+    by_cases false false h f = absurd (false≢true h)
 
 run_ends : (c : FlowContext) (before x : ℕ) (xs behind : List ℕ) → plain_run c before (x ∷ xs) behind ≡ true → ends inked (x ∷ xs) ≡ true
 run_ends c before x [] behind h = last_inked c before x behind h
@@ -90,10 +90,10 @@ scalar_ends (double front more) n c bol behind h = ends_behind inked (codes "\""
 inked_parts : (x : ℕ) → inked x ≡ true → (line_break x ≡ false) × ((x == 0xfeff) ≡ false)
 inked_parts x h = by_cases (line_break x) (x == 0xfeff) h
   where
-  by_cases : (a b : Bool) → not (a || b) ≡ true → (a ≡ false) × (b ≡ false)
-  by_cases true b h = absurd (false≢true h)
-  by_cases false true h = absurd (false≢true h)
-  by_cases false false h = (refl, refl)
+    by_cases : (a b : Bool) → not (a || b) ≡ true → (a ≡ false) × (b ≡ false)
+    by_cases true b h = absurd (false≢true h)
+    by_cases false true h = absurd (false≢true h)
+    by_cases false false h = (refl, refl)
 
 no_line : (bol : Bool) (xs : List ℕ) → ends inked xs ≡ true → starts_line bol xs ≡ false
 no_line bol [] h = absurd (false≢true h)
@@ -105,9 +105,9 @@ no_line_marked [] h = absurd (false≢true h)
 no_line_marked (x ∷ xs) h =
     cond_both (x == 0xfeff) xs (x ∷ xs) (λ (t : List ℕ). starts_line true t ≡ false) (λ e. past_mark x xs e h) (λ _. no_line true (x ∷ xs) h)
   where
-  past_mark : (x : ℕ) (xs : List ℕ) → (x == 0xfeff) ≡ true → ends inked (x ∷ xs) ≡ true → starts_line true xs ≡ false
-  past_mark x [] e h = absurd (false≢true (sym (inked_parts x h).1 ∙ e))
-  past_mark x (y ∷ ys) e h = no_line true (y ∷ ys) h
+    past_mark : (x : ℕ) (xs : List ℕ) → (x == 0xfeff) ≡ true → ends inked (x ∷ xs) ≡ true → starts_line true xs ≡ false
+    past_mark x [] e h = absurd (false≢true (sym (inked_parts x h).1 ∙ e))
+    past_mark x (y ∷ ys) e h = no_line true (y ∷ ys) h
 
 pub ends_inside_line : (style : Style) (n : ℕ) (c : FlowContext) (text : List ℕ) (at : ℕ) (value : List ℕ) (end : ℕ) → IsUtf8 text → IsCharBoundary text at
     → ScalarAt style n c text at value end → line_starts text end ≡ false

@@ -33,10 +33,10 @@ run_unbroken c before (x ∷ xs) =
     cond_both (plain_next c before x xs || (white x && not (is_empty more))) (x ∷ more) [] (λ (t : List ℕ). every no_break t ≡ true)
     (λ h. and_from _ _ (by_cases (plain_next c before x xs) (white x) (not (is_empty more)) h (λ p. not_from_false _ (plain_unbroken c before x xs p)) (white_unbroken x)) (run_unbroken c x xs)) (λ _. refl)
   where
-  by_cases : (p w b : Bool) → p || (w && b) ≡ true → (p ≡ true → no_break x ≡ true) → (w ≡ true → no_break x ≡ true) → no_break x ≡ true
-  by_cases true w b h f g = f refl
-  by_cases false true b h f g = g refl
-  by_cases false false b h f g = absurd (false≢true h)
+    by_cases : (p w b : Bool) → p || (w && b) ≡ true → (p ≡ true → no_break x ≡ true) → (w ≡ true → no_break x ≡ true) → no_break x ≡ true
+    by_cases true w b h f g = f refl
+    by_cases false true b h f g = g refl
+    by_cases false false b h f g = absurd (false≢true h)
 
 -- ---- quoted
 
