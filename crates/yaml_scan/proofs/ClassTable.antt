@@ -1,0 +1,75 @@
+-- The table of classes holds what the classes say: 256 closed facts for each class, at once.
+use Rattle.std.proofs.Common.{◌≡◌, ℕ, ◌<◌, Bool, false, not, nat_eq, bit_and, ◌+◌, ◌≤◌, subst, inl, inr, List, refl, sym, ap, ◌∙◌, arith, get_or, map, true}
+use Rattle.std.specs.List.{range_with_len}
+use Rattle.std.proofs.lemmas.Bool.{cases_lt}
+use Rattle.std.proofs.lemmas.Bool.Decides.{nat_tests}
+use Rattle.std.proofs.lemmas.List.{get_or-map}
+use Rattle.std.proofs.lemmas.List.FromFn.{get_or-map-range_with_len}
+use Rattle.std.specs.Prelude.{nat_lt}
+use Rattle.yaml_chars.specs.Classes.{white}
+use Rattle.yaml_chars.proofs.Runs.{IsBlind}
+use Rattle.yaml_grammar.specs.FlowScalars.{FlowContext, inner, outer}
+use Rattle.yaml_scan.specs.Classes.{bit_of, double_quoted, line_ascii, simple, single_quoted, test_of, word}
+use Rattle.yaml_scan.specs.declared.classes.TheConstants.{CLASSES}
+use Rattle.yaml_scan.specs.declared.classes.Class.{Class}
+use Rattle.yaml_scan.specs.declared.classes.Class.TheVariants.{Words, WordsInside, SingleQuoted, DoubleQuoted, Line}
+
+-- whether a sum of bits has this bit
+abbrev pub has : ℕ → ℕ → Bool
+has bit k = not (nat_eq (bit_and k bit) 0)
+
+all_classes : (class : Class) → map (has (bit_of class)) CLASSES ≡ map (test_of class) (range_with_len 0 256)
+all_classes Words = refl
+all_classes WordsInside = refl
+all_classes SingleQuoted = refl
+all_classes DoubleQuoted = refl
+all_classes Line = refl
+
+pub class_is : (class : Class) (b : ℕ) → b < 256 → has (bit_of class) (get_or CLASSES b 0) ≡ test_of class b
+class_is class b l =
+    sym (get_or-map (has (bit_of class)) CLASSES b 0 false l)
+    ∙ (ap (λ t. get_or t b false) (all_classes class) ∙ get_or-map-range_with_len (test_of class) 0 256 b b false l (omega arith))
+
+-- ---- the characters from U+0080 on
+
+no_simple : (c : FlowContext) (x : ℕ) → 128 ≤ x → simple c x ≡ false
+no_simple c x h = let e : nat_lt x 128 ≡ false = grind (arith, nat_tests) in rw e refl
+
+blind-word : (c : FlowContext) → IsBlind (word c)
+blind-word c x h l = no_word x h ∙ sym (no_word 128 (omega arith))
+  where
+    no_word : (y : ℕ) → 128 ≤ y → word c y ≡ false
+    no_word y k = let e : white y ≡ false = grind (arith, nat_tests) in rw (no_simple c y k, e) refl
+
+blind-single : IsBlind single_quoted
+blind-single c h l = grind (arith, nat_tests)
+
+blind-double : IsBlind double_quoted
+blind-double c h l = grind (arith, nat_tests)
+
+blind-line : IsBlind line_ascii
+blind-line c h l = no_line c h ∙ sym (no_line 128 (omega arith))
+  where
+    no_line : (y : ℕ) → 128 ≤ y → line_ascii y ≡ false
+    no_line y k = let e : nat_lt y 128 ≡ false = grind (arith, nat_tests) in rw e refl
+
+pub blind-test : (class : Class) → IsBlind (test_of class)
+blind-test Words = blind-word outer
+blind-test WordsInside = blind-word inner
+blind-test SingleQuoted = blind-single
+blind-test DoubleQuoted = blind-double
+blind-test Line = blind-line
+
+-- ---- a loop over bytes
+
+pub one_more : (P : ℕ → Type 0) (from end : ℕ) → ((k : ℕ) → from ≤ k → k < end → P k) → P end → (k : ℕ) → from ≤ k → k < end + 1 → P k
+one_more P from end h here k l m = elim (cases_lt k end) [
+  | inl before ↦ h k l before
+  | inr at ↦ (let e : end ≡ k = omega arith in subst P e here)
+]
+
+pub nonzero : (x : ℕ) → (x ≡ 0 → ⊥) → not (nat_eq x 0) ≡ true
+nonzero x h = grind (arith, nat_tests)
+
+pub is_zero : (x : ℕ) → x ≡ 0 → not (nat_eq x 0) ≡ false
+is_zero x e = ap (λ y. not (nat_eq y 0)) e

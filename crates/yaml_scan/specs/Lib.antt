@@ -1,0 +1,4 @@
+pub mod Places
+pub mod Markers
+pub mod Lines
+pub mod Classes
