@@ -17,7 +17,7 @@ use Rattle.yaml_recognizers.specs.BlockScalarFacts.{BodyStands, HeaderStands, Is
 use Rattle.yaml_recognizers.proofs.LineStarts.{starts_joined}
 use Rattle.yaml_block_scalars.specs.declared.parts.Header.{Header as ScannedHeader}
 use Rattle.yaml_block_scalars.specs.Found.{IsBodyAt, IsHeaderAt}
-use Rattle.yaml_block_scalars.specs.Places.{IsLineStart}
+use Rattle.yaml_scan.specs.Lines.{IsLineStart}
 
 -- ---- texts: a line starts after xs, or nothing stands behind it
 
@@ -82,20 +82,6 @@ starts_at text at end xs u l b d spells h =
     let same : between text at end ≡ xs = append_cancel_right (between text at end) xs (rest text end) (sym (rest-between text at end u l b d) ∙ spells) in
     let whole : between text 0 end ≡ between text 0 at ++ xs = between-append text 0 at end u (omega arith) l (IsCharBoundary-start text u) b d ∙ ap (λ t. between text 0 at ++ t) same in
     ap (λ t. starts_line true (without_mark t)) whole ∙ starts_marked xs (between text 0 at) h
-
-pub header_ends : (text : List ℕ) (at : ℕ) (header : ScannedHeader) (end : ℕ) → IsUtf8 text → IsCharBoundary text at → IsHeaderAt text at header end → IsLineStart text end
-header_ends text at header end u b h =
-    let found : Header = h.says.header in
-    let stands : HeaderStands (rest text at) found (rest text end) = h.says.stands in
-    let e : LineEnd = found.line_end in
-    let signs : List ℕ =
-    (if found.folded then codes ">" else codes "|") ++ (if found.digit_last then chomping_text found.chomping ++ optional digit_text found.digit else optional digit_text found.digit ++ chomping_text found.chomping) in
-    let front : List ℕ = e.blank ++ optional comment_text e.comment in
-    let stop : stop_fits e.stop (rest text end) ≡ true = (and_parts _ _ (and_parts _ _ stands.fits).1).1 in
-    elim (stop_ends (starts_line (line_starts text at) signs) front e.stop (rest text end) stop) [
-      | inl starts ↦ inl (starts_at text at end (header_text found) u h.above b h.boundary stands.spells (starts_joined (line_starts text at) signs (line_end_text e) ∙ starts))
-      | inr none ↦ inr none
-    ]
 
 pub body_ends : (m : ℕ) (folded : Bool) (header : ScannedHeader) (text : List ℕ) (at : ℕ) (value : List ℕ) (end : ℕ) → IsUtf8 text → IsCharBoundary text at
     → IsBodyAt m folded header text at value end → IsLineStart text at → IsLineStart text end

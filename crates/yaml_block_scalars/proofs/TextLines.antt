@@ -18,26 +18,23 @@ use Rattle.yaml_recognizers.specs.Fronts.{dropped, taken}
 use Rattle.yaml_recognizers.specs.Reading.{Read, on}
 use Rattle.yaml_block_scalars.specs.declared.line.Line.{Line}
 use Rattle.yaml_block_scalars.specs.Lines.{AreGaps, IsLine, IsPastGaps, IsTextStart}
-use Rattle.yaml_block_scalars.specs.Places.{AreSpaces, AreTaken, IsStop}
+use Rattle.yaml_scan.specs.Places.{AreSpaces, AreTaken, IsStop}
 use Rattle.yaml_block_scalars.proofs.EmptyLines.{gaps_past}
-use Rattle.yaml_block_scalars.proofs.Runs.{AreCounted, spaces_counted_at, spaces_dropped_at}
+use Rattle.yaml_scan.proofs.ByteRuns.{spaces_dropped_at}
 
 -- ---- where a line goes on
 
 module _ (q : ℕ) (bs : List ℕ) (i j : ℕ) (u : IsUtf8 bs) (b : IsCharBoundary bs i) (s : AreSpaces bs i j) where
-  counted : AreCounted bs i j
-  counted = spaces_counted_at bs i j u b s
-
   stays : IsPastGaps q (rest bs i) → nat_lt q (j - i) ≡ false → (spaces_before (rest bs i) == q) && first nb (past_spaces (rest bs i)) && no_marker true (rest bs i) ≡ false → goes_on q (rest bs i) ≡ false
-  stays past w t = or_from _ _ (or_from _ _ (ap (nat_lt q) counted.counts ∙ w) past) t
+  stays past w t = or_from _ _ (or_from _ _ (ap (nat_lt q) s.counts ∙ w) past) t
 
   pub line_narrow : IsPastGaps q (rest bs i) → j - i < q → goes_on q (rest bs i) ≡ false
   line_narrow past w =
-      stays past (le-ltb q (j - i) (omega arith)) (and_left _ _ (and_left _ _ (ap (λ x. x == q) counted.counts ∙ ne_eqb (j - i) q (λ e. omega arith))))
+      stays past (le-ltb q (j - i) (omega arith)) (and_left _ _ (and_left _ _ (ap (λ x. x == q) s.counts ∙ ne_eqb (j - i) q (λ e. omega arith))))
 
   pub line_no_text : IsPastGaps q (rest bs i) → j - i ≡ q → first nb (rest bs j) ≡ false → goes_on q (rest bs i) ≡ false
   line_no_text past w n =
-      stays past (le-ltb q (j - i) (omega arith)) (and_left _ _ (and_right (spaces_before (rest bs i) == q) _ (ap (first nb) counted.leaves ∙ n)))
+      stays past (le-ltb q (j - i) (omega arith)) (and_left _ _ (and_right (spaces_before (rest bs i) == q) _ (ap (first nb) s.leaves ∙ n)))
 
   pub line_marked : IsPastGaps q (rest bs i) → j - i ≡ q → marker (rest bs i) ≡ true → goes_on q (rest bs i) ≡ false
   line_marked past w e =
@@ -47,12 +44,12 @@ module _ (q : ℕ) (bs : List ℕ) (i j : ℕ) (u : IsUtf8 bs) (b : IsCharBounda
   starts w g = let there = spaces_dropped_at bs i j q u b s w in record { above = omega arith; boundary = there.1; goes = g; drops = there.0 }
 
   pub start_wide : q < j - i → IsTextStart q bs i (i + q)
-  start_wide w = starts (omega arith) (or_left _ _ (or_left _ _ (ap (nat_lt q) counted.counts ∙ lt-ltb q (j - i) w)))
+  start_wide w = starts (omega arith) (or_left _ _ (or_left _ _ (ap (nat_lt q) s.counts ∙ lt-ltb q (j - i) w)))
 
   pub start_there : j - i ≡ q → first nb (rest bs j) ≡ true → marker (rest bs i) ≡ false → IsTextStart q bs i (i + q)
   start_there w n e =
       starts (omega arith)
-      (or_right _ _ (and_from _ _ (and_from _ _ (ap (λ x. x == q) counted.counts ∙ eq-eqb (j - i) q w) (ap (first nb) counted.leaves ∙ n)) (ap not e)))
+      (or_right _ _ (and_from _ _ (and_from _ _ (ap (λ x. x == q) s.counts ∙ eq-eqb (j - i) q w) (ap (first nb) s.leaves ∙ n)) (ap not e)))
 
 -- ---- the line
 

@@ -8,16 +8,17 @@ ghost use Rattle.yaml_recognizers.specs.BlockScalars.{digit_fits, find_indent, g
 ghost use Rattle.yaml_recognizers.specs.BlockScalarFacts.{NoBody};
 ghost use Rattle.yaml_block_scalars.specs.Found.{IsBodyAt, IsPieceAt, AreLines, ArePiece};
 ghost use Rattle.yaml_block_scalars.specs.Lines.{IsPlaced, IsAlone, IsNotAlone, ArePushed};
-ghost use Rattle.yaml_block_scalars.specs.Places.{IsLineStart};
+ghost use Rattle.yaml_scan.specs.Lines.{IsLineStart};
 ghost use Rattle.yaml_block_scalars.specs.Meant.{chomping_of, least_indent};
 
 use crate::indent::detected;
 use crate::line::{Line, empty_lines, text_line, text_start};
 use crate::parts::{Chomping, Header};
-use crate::value::{feeds_behind, no_lines, push_between, push_feeds};
+use crate::value::{feeds_behind, no_lines, push_between};
 use std::alloc::Global;
 use std::borrow::CowStr;
 use yaml_events::ScanFault;
+use yaml_scan::push_line_feeds;
 
 /// How the breaks of a block scalar are read.
 #[derive(Clone, Copy)]
@@ -42,7 +43,7 @@ fn push_lines(
     'lines: loop {
         value.push_str(&text[line.start..line.end])?;
         let Some(next) = text_line(text, line.next, indent)? else {
-            push_feeds(value, feeds_behind(style.chomping, line))?;
+            push_line_feeds(value, feeds_behind(style.chomping, line))?;
             return Ok(line.next);
         };
         push_between(value, style.folded, line, next)?;
@@ -88,7 +89,7 @@ fn lines<'a>(
         return Ok((CowStr::Borrowed(&text[line.start..line.end]), line.next));
     }
     let mut value = String::new(alloc);
-    push_feeds(&mut value, gaps)?;
+    push_line_feeds(&mut value, gaps)?;
     let end = push_lines(&mut value, text, line, indent, style)?;
     Ok((CowStr::Owned(value), end))
 }

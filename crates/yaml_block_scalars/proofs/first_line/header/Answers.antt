@@ -3,7 +3,6 @@ use Rattle.std.proofs.lemmas.Str.{IsCharBoundary-after_ascii}
 use Rattle.yaml_block_scalars.specs.Meant.{chomping_of}
 use Rattle.yaml_block_scalars.specs.Places.{IsHeaderEnd}
 use Rattle.yaml_block_scalars.proofs.FirstLines.{header_at_end, header_open, header_there, header_unsigned}
-use Rattle.yaml_block_scalars.proofs.LineStarts.{header_ends}
 use Rattle.yaml_block_scalars.proofs.first_line.header.Goals as goal
 use Rattle.yaml_block_scalars.proofs.first_line.header.Goals.{else-sign-ne124-via-then-sign-ne124+else-sign-ne62, else-sign-ne124-via-else-sign-ne124}
 
@@ -62,4 +61,6 @@ returns-clause-found c =
     }
 
 pub returns-clause-line : goal.returns-clause-line
-returns-clause-line c = header_ends c.args.text.now c.args.at _ c.in-Some.end c.utf8.text c.requires (returns-clause-found c)
+returns-clause-line c =
+    let end : IsHeaderEnd c.args.text.now c.signs_at-digit.result.2 c.in-Some.end = c.in-Some.ensures in
+    end.starts

@@ -8,7 +8,7 @@ use Rattle.yaml_events.specs.Places.{Refuses}
 use Rattle.yaml_recognizers.specs.BlockScalarFacts.{NoBody}
 use Rattle.yaml_block_scalars.specs.Found.{IsBodyAt, IsPieceAt}
 use Rattle.yaml_block_scalars.specs.Meant.{least_indent}
-use Rattle.yaml_block_scalars.specs.Places.{IsLineStart}
+use Rattle.yaml_scan.specs.Lines.{IsLineStart}
 use Rattle.yaml_block_scalars.proofs.LineStarts.{body_ends}
 use Rattle.yaml_block_scalars.proofs.scalar.folded.Goals as goal
 
