@@ -1,21 +1,21 @@
 -- Breaks, by the bytes at a place.
-use Rattle.std.proofs.Common.{◌≡◌, ℕ, ◌+◌, ◌<◌, ◌≤◌, ◌⊎◌, true, false, List, [], ◌∷◌, Some, None, refl, ap, sym, ◌∙◌, subst, arith, length, inl, inr, get_or}
-use Rattle.std.specs.Prelude.{◌&&◌, ◌==◌, codes}
+use Rattle.std.proofs.Common.{◌≡◌, ℕ, ◌+◌, ◌<◌, ◌≤◌, true, false, List, [], ◌∷◌, Some, None, refl, ap, sym, ◌∙◌, arith, length, inl, inr, get_or}
+use Rattle.std.specs.Prelude.{◌==◌}
 use Rattle.std.specs.Str.{IsUtf8, IsCharBoundary}
-use Rattle.std.proofs.lemmas.Bool.{and_parts, cases_Bool, cond-false, eqb-true, or_cases, ne_eqb, false≢true}
+use Rattle.std.proofs.lemmas.Bool.{cases_Bool, cond-false, ne_eqb}
 use Rattle.std.proofs.lemmas.Bool.Decides.{nat_tests}
-use Rattle.yaml_chars.specs.Classes.{line_break, white}
+use Rattle.yaml_chars.specs.Classes.{line_break}
 use Rattle.yaml_chars.specs.Places.{rest}
 use Rattle.std.specs.Char.{len_utf8}
 use Rattle.yaml_chars.proofs.Places.{char_at, rest-end}
-use Rattle.yaml_chars.proofs.Runs.{IsBlind, blind-line_break, blind-white, blind-or}
+use Rattle.yaml_chars.proofs.Runs.{IsBlind, blind-line_break}
 use Rattle.yaml_grammar.specs.Separation.{Break, lf, cr, cr_lf}
-use Rattle.yaml_grammar.specs.Texts.{begins, ends_word, first, marker}
+use Rattle.yaml_grammar.specs.Texts.{first}
 use Rattle.yaml_recognizers.proofs.Breaks.{unbroken}
 use Rattle.yaml_recognizers.specs.Comments.{read_break, read_cr, read_stop}
 use Rattle.yaml_recognizers.specs.Reading.{Read, on}
-use Rattle.yaml_scan.specs.Places.{IsBreak, IsStop, ends_word_byte}
-use Rattle.yaml_scan.proofs.ByteRuns.{ascii_front, ascii_in_front, first_at_end, first_there}
+use Rattle.yaml_scan.specs.Places.{IsBreak, IsStop}
+use Rattle.yaml_scan.proofs.ByteRuns.{ascii_front, first_at_end, first_there}
 
 -- ---- breaks
 

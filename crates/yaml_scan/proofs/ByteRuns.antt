@@ -35,7 +35,7 @@ first-rest test bs i blind u b = elim (cases_lt i (length bs)) [
   | inr past ↦ first_at_end test bs i past ∙ sym (ap (first test) (drop_all i bs past))
 ]
 
--- an ASCII character in front is a byte there, and what stands behind it
+-- an ASCII character in front is a byte there, and what follows it
 pub record IsAsciiAt (bs : List ℕ) (i c : ℕ) (behind : List ℕ) : Type 0 where
   pub within : i < length bs
   pub byte : get_or bs i 0 ≡ c
@@ -121,7 +121,7 @@ spaces_are bs i j u b l within h stop =
       leaves = ap past_spaces split ∙ spaces_passed (j - i) (rest bs j) end;
     }
 
--- behind the first q of them
+-- after the first q of them
 pub spaces_dropped_at : (bs : List ℕ) (i j q : ℕ) → IsUtf8 bs → IsCharBoundary bs i → AreSpaces bs i j → q ≤ j - i → (drop q (rest bs i) ≡ rest bs (i + q)) × IsCharBoundary bs (i + q)
 spaces_dropped_at bs i j q u b h l =
     let there = spaces_there bs i q u b (let below = h.boundary.0 in omega arith) (λ k from to. h.spaces k from (omega arith)) in

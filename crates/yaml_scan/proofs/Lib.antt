@@ -5,5 +5,6 @@ pub mod LineStarts
 pub mod BetweenBytes
 pub mod LineSteps
 pub mod Outcomes
+pub mod GapSteps
 pub mod ClassTable
 pub mod LineRuns

@@ -1,21 +1,20 @@
 -- Whether a line starts at a place, by what stands before it.
-use Rattle.std.proofs.Common.{◌≡◌, ℕ, ◌+◌, ◌-◌, ◌<◌, ◌≤◌, Bool, true, false, List, [], ◌∷◌, ◌++◌, Some, refl, ap, sym, ◌∙◌, subst, arith, length, inl, inr, get_or, append_assoc, slice_range}
-use Rattle.std.specs.Prelude.{◌&&◌, ◌||◌, ◌==◌, ◌↔◌, IsTrue, if◌then◌else◌}
+use Rattle.std.proofs.Common.{◌≡◌, ℕ, ◌+◌, ◌-◌, ◌<◌, ◌≤◌, Bool, true, false, List, [], ◌∷◌, ◌++◌, Some, refl, ap, sym, ◌∙◌, subst, arith, inl, inr, get_or, append_assoc, slice_range}
+use Rattle.std.specs.Prelude.{◌==◌, ◌↔◌, IsTrue}
 use lib.Utf8.{encode, encodes}
 use Rattle.std.specs.Str.{IsUtf8, IsCharBoundary, chars}
-use Rattle.std.proofs.lemmas.Bool.{and_parts, cases_lt, cases_Bool, eqb-true, false≢true}
+use Rattle.std.proofs.lemmas.Bool.{and_parts, cases_Bool, eqb-true, false≢true}
 use Rattle.std.proofs.lemmas.Bool.Decides.{nat_tests}
 use Rattle.std.proofs.lemmas.List.{append_cancel_right}
 use Rattle.std.proofs.lemmas.Str.{chars-encodes, IsCharBoundary-start}
 use Rattle.yaml_chars.specs.Classes.{line_break, white}
 use Rattle.yaml_chars.specs.Places.{rest, between}
-use Rattle.yaml_chars.proofs.Places.{between-append, between-nil, encodes-between, rest-between, rest-end}
-use Rattle.yaml_chars.proofs.Runs.{IsLastChar, blind-line_break, last_char, test-last_char}
+use Rattle.yaml_chars.proofs.Places.{between-append, between-nil, encodes-between, rest-between}
+use Rattle.yaml_chars.proofs.Runs.{blind-line_break, last_char, test-last_char}
 use Rattle.yaml_events.specs.Places.{line_starts, without_mark}
 use Rattle.yaml_grammar.specs.Separation.{Break, break_text, lf, cr, cr_lf}
-use Rattle.yaml_grammar.specs.Texts.{every, first, is_empty, starts_line}
+use Rattle.yaml_grammar.specs.Texts.{every, is_empty, starts_line}
 use Rattle.yaml_recognizers.specs.Comments.{read_break}
-use Rattle.yaml_recognizers.specs.Reading.{Read}
 use Rattle.yaml_recognizers.proofs.Breaks.{break_sound, BreakOf}
 use Rattle.yaml_recognizers.proofs.LineStarts.{starts_joined}
 use Rattle.yaml_recognizers.proofs.Reading.{Sound}
@@ -50,7 +49,8 @@ whole_front : (bs : List ℕ) (i j : ℕ) (front : List ℕ) (x : ℕ) → IsUtf
 whole_front bs i j front x u l b d e =
     between-append bs 0 i j u (omega arith) l (IsCharBoundary-start bs u) b d ∙ ap (λ t. between bs 0 i ++ t) e ∙ sym (append_assoc (between bs 0 i) front (x ∷ []))
 
--- A character stands before the place: whether a line starts there is whether it is a break, unless it is a byte order mark.
+-- A character stands before the place: whether a line starts there is whether it is a break, unless
+-- it is a byte order mark.
 pub starts_after : (bs : List ℕ) (i j : ℕ) (front : List ℕ) (x : ℕ) → IsUtf8 bs → i ≤ j → IsCharBoundary bs i → IsCharBoundary bs j → between bs i j ≡ front ++ x ∷ []
     → (x == 0xfeff) ≡ false → line_starts bs j ≡ line_break x
 starts_after bs i j front x u l b d e h =
@@ -96,7 +96,8 @@ joined (x ∷ xs) ys h = elim (cases_Bool (x == 0xfeff)) [
   | inr e ↦ (let k : starts_line (line_break x) xs ≡ false = rw e at h in rw e (starts_joined (line_break x) xs ys ∙ ap (λ b. starts_line b ys) k))
 ]
 
--- No line starts at the first place: whether one starts at the second is whether one starts after what stands between them.
+-- No line starts at the first place: whether one starts at the second is whether one starts after
+-- what stands between them.
 pub starts_on : (bs : List ℕ) (i j : ℕ) → IsUtf8 bs → i ≤ j → IsCharBoundary bs i → IsCharBoundary bs j → line_starts bs i ≡ false → starts_line false (between bs i j) ≡ line_starts bs j
 starts_on bs i j u l b d h =
     sym (ap (λ t. starts_line true (without_mark t)) (between-append bs 0 i j u (omega arith) l (IsCharBoundary-start bs u) b d) ∙ joined (between bs 0 i) (between bs i j) h)

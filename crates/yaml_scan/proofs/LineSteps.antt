@@ -1,29 +1,27 @@
 -- The ends of lines and lines of comments at places, by what stands there.
-use Rattle.std.proofs.Common.{◌≡◌, ℕ, zero, suc, ◌+◌, ◌-◌, ◌<◌, ◌≤◌, ◌⊎◌, Bool, true, false, List, [], ◌∷◌, ◌++◌, Option, Some, None, refl, ap, sym, ◌∙◌, subst, arith, length, inl, inr, get_or, append_assoc, append-nil, length-append}
-use Rattle.std.specs.Prelude.{not, ◌&&◌, ◌||◌, ◌==◌, if◌then◌else◌}
+use Rattle.std.proofs.Common.{◌≡◌, ℕ, ◌+◌, ◌-◌, ◌<◌, ◌≤◌, Bool, true, false, List, [], ◌∷◌, ◌++◌, Option, Some, None, refl, ap, sym, ◌∙◌, subst, arith, length, inl, inr, append_assoc, length-append}
+use Rattle.std.specs.Prelude.{not, ◌&&◌, ◌||◌, ◌==◌}
 use Rattle.std.specs.Str.{IsUtf8, IsCharBoundary}
-use Rattle.std.specs.Char.{len_utf8}
-use Rattle.std.proofs.lemmas.Bool.{cases_Bool, eqb-true, false≢true, not_from_false}
+use Rattle.std.proofs.lemmas.Bool.{cases_Bool, eqb-true, false≢true}
 use Rattle.std.proofs.lemmas.List.{append_cancel_right}
 use Rattle.std.proofs.lemmas.Str.{IsCharBoundary-start}
 use Rattle.yaml_chars.specs.Classes.{nb, space, white}
 use Rattle.yaml_chars.specs.Places.{rest, between}
 use Rattle.yaml_chars.proofs.Places.{between-append, between-nil, char_at, rest-between, rest-end, same_place}
-use Rattle.yaml_events.specs.Places.{line_starts, without_mark}
+use Rattle.yaml_events.specs.Places.{without_mark}
 use Rattle.yaml_grammar.specs.BlockScalars.{past_spaces, spaces_before}
 use Rattle.yaml_grammar.specs.Separation.{Break, LineEnd, break_text, comment_line_fits, comment_text, line_end_text, stop_fits}
 use Rattle.yaml_grammar.specs.Texts.{first, is_empty, optional, spaces, starts_line}
 use Rattle.yaml_recognizers.specs.CanonicalComments.{hash, is_line_end}
 use Rattle.yaml_recognizers.specs.Comments.{all_comments, closes_line, more_comments, read_behind_blank, read_line_end, read_stop, stopped}
 use Rattle.yaml_recognizers.specs.Ends.{solid}
-use Rattle.yaml_recognizers.specs.Fronts.{dropped, past, taken}
-use Rattle.yaml_recognizers.specs.Reading.{Read}
+use Rattle.yaml_recognizers.specs.Fronts.{dropped, taken}
 use Rattle.yaml_recognizers.proofs.CommentsComplete.{no_line, not_line_end}
 use Rattle.yaml_recognizers.proofs.CommentsDepth.{comments_step}
-use Rattle.yaml_recognizers.proofs.CommentsSound.{LineOf, StopOf, line_sound, no_line_end, stop_sound}
+use Rattle.yaml_recognizers.proofs.CommentsSound.{LineOf, StopOf, line_sound, stop_sound}
 use Rattle.yaml_recognizers.proofs.Fronts.{every_space, spaces_split, taken_split}
 use Rattle.yaml_recognizers.proofs.LineEnds.{line_parts}
-use Rattle.yaml_recognizers.proofs.Reading.{Sound, sound_is}
+use Rattle.yaml_recognizers.proofs.Reading.{sound_is}
 use Rattle.yaml_scan.specs.Lines.{IsCommentEnd, IsContentEnd, IsLineEnd, IsLineStart, IsSolidLine, past_comment}
 use Rattle.yaml_scan.specs.Places.{AreSpaces, AreTaken, IsStop}
 use Rattle.yaml_scan.specs.declared.lines.Line.{Line}

@@ -1,5 +1,5 @@
 -- The classes of characters that bytes tell: those from U+0080 on are all in a class or all outside of it.
-use Rattle.std.specs.Prelude.{ℕ, Bool, not, ◌&&◌, ◌||◌, ◌==◌, nat_lt, codes}
+use Rattle.std.specs.Prelude.{◌≡◌, ℕ, ◌<◌, ◌≤◌, Bool, true, not, ◌&&◌, ◌||◌, ◌==◌, nat_lt, List, length, slice_index, codes}
 use Rattle.yaml_chars.specs.Classes.{is_in, nb, nb_json, white}
 use Rattle.yaml_grammar.specs.FlowScalars.{FlowContext, outer, inner, safe}
 use Rattle.yaml_scan.specs.declared.classes.Class.{Class}
@@ -38,3 +38,9 @@ bit_of WordsInside = 2
 bit_of SingleQuoted = 4
 bit_of DoubleQuoted = 8
 bit_of Line = 16
+
+-- all bytes between two places pass the test
+pub record ArePassed (test : ℕ → Bool) (bytes : List ℕ) (from to : ℕ) : Type 0 where
+  pub above : from ≤ to
+  pub within : to ≤ length bytes
+  pub passes : (k : ℕ) → from ≤ k → k < to → test (slice_index bytes k) ≡ true

@@ -7,8 +7,8 @@ ghost use Rattle.yaml_events.specs.Places.{line_starts};
 ghost use Rattle.yaml_recognizers.specs.Comments.{read_break, read_stop};
 ghost use Rattle.yaml_scan.specs.Places.{IsBreak, IsStop, byte_order_mark, unbroken_between};
 
-/// Returns the end of the break at `at`: a line feed, a carriage return, or both in this order (5.4, `b-break`). Returns None
-/// where no break stands.
+/// Returns the end of the break at `at`: a line feed, a carriage return, or both in this order
+/// (5.4, `b-break`). Returns None where no break stands.
 pub fn break_end(text: &str, at: usize) -> Option<usize>
     requires { IsCharBoundary text.now at }
     ensures found { IfSome result (IsBreak text.now at) }
@@ -43,7 +43,8 @@ pub struct Stop {
     pub next: usize,
 }
 
-/// Returns how a line ends at `at`: by a break or by the end of the text. Returns None where neither is.
+/// Returns how a line ends at `at`: by a break or by the end of the text. Returns None where
+/// neither is.
 pub fn stop_at(text: &str, at: usize) -> Option<Stop>
     requires { IsCharBoundary text.now at }
     ensures found { IfSome result (λ stop. IsStop text.now at stop.has_break stop.next) }
@@ -70,7 +71,8 @@ fn is_break(byte: u8) -> bool
     matches!(byte, b'\n' | b'\r')
 }
 
-/// Returns whether a line starts at `at`: at the front of the text, after a byte order mark there, or after a break.
+/// Returns whether a line starts at `at`: at the front of the text, after a byte order mark there,
+/// or after a break.
 pub fn line_starts(text: &str, at: usize) -> bool
     requires { IsCharBoundary text.now at }
     ensures { result ≡ line_starts text.now at }
@@ -91,7 +93,8 @@ fn is_byte_order_mark(text: &str) -> bool
     text == "\u{feff}"
 }
 
-/// Returns whether a break stands between two places. Each byte between them is looked at once, up to the first break.
+/// Returns whether a break stands between two places. Each byte between them is looked at once, up
+/// to the first break.
 pub fn has_break(text: &str, from: usize, to: usize) -> bool
     requires order { from ≤ to }
     requires from { IsCharBoundary text.now from }
@@ -107,8 +110,8 @@ pub fn has_break(text: &str, from: usize, to: usize) -> bool
     false
 }
 
-/// Returns whether at most `limit` characters stand between two places. They are counted only where the number of bytes does
-/// not decide.
+/// Returns whether at most `limit` characters stand between two places. They are counted only where
+/// the number of bytes does not decide.
 pub fn at_most_chars(text: &str, from: usize, to: usize, limit: usize) -> bool
     requires order { from ≤ to }
     requires from { IsCharBoundary text.now from }

@@ -55,7 +55,8 @@ fn is_nb_byte(byte: u8) -> bool
     matches!(byte, b' '..=b'~' | b'\t')
 }
 
-/// Returns the end of the character at `at` if a line may hold it (5.4, `nb-char`), and None otherwise.
+/// Returns the end of the character at `at` if a line may hold it (5.4, `nb-char`), and None
+/// otherwise.
 pub fn nb_at(text: &str, at: usize) -> Option<usize>
     requires { IsCharBoundary text.now at }
     ensures found { IfSome result (IsNb text.now at) }
@@ -86,11 +87,13 @@ pub fn nb_end(text: &str, at: usize) -> usize
     requires { IsCharBoundary text.now at }
     ensures { AreTaken nb text.now at result }
 {
+    let bytes = text.as_bytes();
     let mut end = run_end(text, at, Class::Line);
-    'characters: loop {
+    'characters: while end < bytes.len() && bytes[end] >= 128 {
         let Some(next) = nb_at(text, end) else {
             return end;
         };
         end = run_end(text, next, Class::Line);
     }
+    end
 }

@@ -50,7 +50,8 @@ pub fn solid_at(text: &str, at: usize) -> bool
     at < bytes.len() && is_solid(bytes[at])
 }
 
-/// Returns whether a character stands at `at` that is printable, no white space and no break (5.5, `ns-char`).
+/// Returns whether a character stands at `at` that is printable, no white space and no break (5.5,
+/// `ns-char`).
 pub fn ns_at(text: &str, at: usize) -> bool
     requires { IsCharBoundary text.now at }
     ensures { result ≡ first ns (rest text.now at) }
@@ -61,7 +62,8 @@ pub fn ns_at(text: &str, at: usize) -> bool
     }
 }
 
-/// Returns whether this sign stands at `at`, and no `ns-char` after it: `-`, `?` and `:` of a block collection (8.2).
+/// Returns whether this sign stands at `at`, and no `ns-char` after it: `-`, `?` and `:` of a block
+/// collection (8.2).
 pub fn sign_at(text: &str, at: usize, character: u8) -> bool
     requires at { IsCharBoundary text.now at }
     requires ascii { character < 128 }
@@ -73,7 +75,8 @@ pub fn sign_at(text: &str, at: usize, character: u8) -> bool
     !ns_at(text, at + 1)
 }
 
-/// Returns whether a character stands at `at` that is safe in a plain scalar in this context (7.3.3, `ns-plain-safe`).
+/// Returns whether a character stands at `at` that is safe in a plain scalar in this context
+/// (7.3.3, `ns-plain-safe`).
 pub fn safe_at(text: &str, at: usize, context: FlowContext) -> bool
     requires { IsCharBoundary text.now at }
     ensures { result ≡ first (safe (context_of context)) (rest text.now at) }
@@ -96,8 +99,9 @@ pub fn is_safe(character: char, context: FlowContext) -> bool
     }
 }
 
-/// Returns whether a marker begins at `at`: `---` or `...` before white space, a break or the end of the text (9.1.2,
-/// `c-forbidden`). It is a marker only where a line starts, which this does not ask.
+/// Returns whether a marker begins at `at`: `---` or `...` before white space, a break or the end
+/// of the text (9.1.2, `c-forbidden`). It is a marker only where a line starts, which this does not
+/// ask.
 pub fn is_marker(text: &str, at: usize) -> bool
     requires { IsCharBoundary text.now at }
     ensures { result ≡ marker (rest text.now at) }
@@ -114,8 +118,8 @@ pub enum Marker {
     DocumentEnd,
 }
 
-/// Returns whether this marker begins at `at`: its three signs before white space, a break or the end of the text. It is a
-/// marker only where a line starts, which this does not ask.
+/// Returns whether this marker begins at `at`: its three signs before white space, a break or the
+/// end of the text. It is a marker only where a line starts, which this does not ask.
 pub fn is_marker_of(text: &str, at: usize, marker: Marker) -> bool
     requires { IsCharBoundary text.now at }
     ensures { result ≡ mark_at (sign_of marker) (rest text.now at) }

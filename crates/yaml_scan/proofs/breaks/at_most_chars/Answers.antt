@@ -1,4 +1,4 @@
-use Rattle.std.proofs.Common.{◌-◌, arith, ap, sym, ◌∙◌, length}
+use Rattle.std.proofs.Common.{◌-◌, arith, ap, ◌∙◌, length}
 use Rattle.std.specs.Prelude.{nat_le}
 use Rattle.std.specs.Str.{chars}
 use Rattle.yaml_scan.proofs.BetweenBytes.{few_bytes, fits_bytes, many_bytes}

@@ -1,4 +1,4 @@
-use Rattle.std.proofs.Common.{◌<◌, arith, sym, ◌∙◌}
+use Rattle.std.proofs.Common.{arith, sym, ◌∙◌}
 use Rattle.yaml_scan.proofs.ByteSigns.{sign_there}
 use Rattle.yaml_scan.proofs.LineSteps.{comment_missing, comment_there}
 use Rattle.yaml_scan.proofs.lines.comment_end.Goals as goal

@@ -1,4 +1,4 @@
-use Rattle.std.proofs.Common.{◌≡◌, ℕ, ◌+◌, ◌-◌, ◌<◌, ◌≤◌, List, refl, arith, ap, sym, ◌∙◌, subst, get_or, length}
+use Rattle.std.proofs.Common.{◌≡◌, ℕ, ◌+◌, ◌-◌, ◌<◌, ◌≤◌, List, arith, ap, sym, ◌∙◌, subst, get_or, length}
 use Rattle.yaml_scan.specs.Markers.{sign_of}
 use Rattle.yaml_scan.specs.Places.{ends_word_byte}
 use Rattle.yaml_scan.proofs.ByteSigns.{AreMarkerSigns, ascii_mark, marker_by_signs, marker_false, word_ends, word_ends_by}

@@ -1,4 +1,4 @@
-use Rattle.std.proofs.Common.{◌≡◌, ◌<◌, ◌≤◌, ℕ, Bool, true, false, List, arith, inl, inr, length, sym}
+use Rattle.std.proofs.Common.{◌≡◌, ◌<◌, ◌≤◌, ℕ, Bool, true, false, inl, inr, length, sym}
 use Rattle.yaml_events.specs.Meant.{context_of}
 use Rattle.yaml_grammar.specs.FlowScalars.{safe}
 use Rattle.std.proofs.lemmas.Bool.{cases_lt, false≢true}
