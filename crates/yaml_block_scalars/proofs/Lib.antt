@@ -5,3 +5,4 @@ pub mod TextLines
 pub mod Values
 pub mod Bodies
 pub mod LineStarts
+pub mod Feeds

@@ -1,5 +1,5 @@
 -- Text lines, by the places where they start and end.
-use Rattle.std.proofs.Common.{◌≡◌, ℕ, ◌+◌, ◌-◌, ◌<◌, ◌≤◌, true, false, List, [], ◌∷◌, Option, Some, refl, ap, sym, ◌∙◌, arith, inl, inr}
+use Rattle.std.proofs.Common.{◌≡◌, ℕ, ◌+◌, ◌-◌, ◌<◌, ◌≤◌, true, false, List, [], ◌∷◌, Option, Some, ◌++◌, refl, ap, sym, ◌∙◌, append_assoc, arith, inl, inr}
 use Rattle.std.specs.Prelude.{◌&&◌, ◌==◌, not, nat_lt}
 use Rattle.std.specs.Str.{IsUtf8, IsCharBoundary}
 use Rattle.std.proofs.lemmas.Bool.{and_from, and_left, and_right, cases_Bool, cases_lt, cond-true, cond-false, eq-eqb, false≢true, le-ltb, lt-ltb, ne_eqb, or_from, or_left, or_right}
@@ -7,11 +7,14 @@ use Rattle.yaml_chars.specs.Classes.{nb, white}
 use Rattle.yaml_chars.specs.Places.{between, rest}
 use Rattle.yaml_chars.proofs.Classes.{white_is_nb}
 use Rattle.yaml_chars.proofs.Places.{between-nil}
-use Rattle.yaml_grammar.specs.BlockScalars.{TextLine, goes_on, past_spaces, spaces_before}
-use Rattle.yaml_grammar.specs.Separation.{Break}
-use Rattle.yaml_grammar.specs.Texts.{first, marker, no_marker}
+use Rattle.yaml_grammar.specs.BlockScalars.{TextLine, gaps_text, goes_on, past_spaces, spaces_before}
+use Rattle.yaml_grammar.specs.Separation.{Break, break_text}
+use Rattle.yaml_grammar.specs.Texts.{first, marker, no_marker, optional}
 use Rattle.yaml_recognizers.proofs.BlockScalarSteps.{lines_step}
-use Rattle.yaml_recognizers.proofs.Spaces.{goes_on_text}
+use Rattle.yaml_recognizers.proofs.CommentsSound.{StopOf, stop_sound}
+use Rattle.yaml_recognizers.proofs.EmptyLines.{gaps_of_sound}
+use Rattle.yaml_recognizers.proofs.Reading.{sound_is}
+use Rattle.yaml_recognizers.proofs.Spaces.{at_most, goes_on_text}
 use Rattle.yaml_recognizers.specs.BlockScalars.{gaps_at, lines_at, read_text_line}
 use Rattle.yaml_recognizers.specs.Comments.{read_stop}
 use Rattle.yaml_recognizers.specs.Fronts.{dropped, taken}
@@ -105,6 +108,11 @@ module _ (q : ℕ) (bs : List ℕ) (i : ℕ) (past : IsPastGaps q (rest bs i)) w
         read = read;
         described = record { begins_white = white_taken (rest bs line.start) ∙ sym w; breaks = s.is_break; empties = g.counts };
         spells = t.takes;
+        follows = (let stop : rest bs line.end ≡ optional break_text s.stop ++ rest bs behind =
+            (sound_is (StopOf (rest bs line.end)) (read_stop (rest bs line.end)) (s.stop, rest bs behind) (stop_sound (rest bs line.end)) s.reads).0 in
+            let gaps : rest bs behind ≡ gaps_text (gaps_at q (rest bs behind)).0 ++ rest bs line.next =
+            (gaps_of_sound (at_most q) (rest bs behind)).0 ∙ ap (λ t'. gaps_text (gaps_at q (rest bs behind)).0 ++ t') g.leaves in
+            stop ∙ (ap (λ t'. optional break_text s.stop ++ t') gaps ∙ sym (append_assoc (optional break_text s.stop) (gaps_text (gaps_at q (rest bs behind)).0) (rest bs line.next))));
         reads = stepped line.start h
             ∙ ap (λ (r : Read (Option Break)). on (on r (λ stop t'. let g = gaps_at q t' in Some (record { text = taken nb (rest bs line.start); stop = stop; gaps = g.0 }, g.1))) (λ l t'. on (lines_at q t') (λ ls behind. Some (l ∷ ls, behind)))) stops
             ∙ ap (λ (t' : List ℕ). on (lines_at q t') (λ ls behind. Some (read ∷ ls, behind))) g.leaves;
