@@ -1,12 +1,14 @@
 -- The lines of a scalar, with the empty lines before them, and its whole body.
 use Rattle.std.proofs.Common.{◌≡◌, ℕ, zero, suc, ◌<◌, Bool, true, false, List, [], ◌∷◌, ◌++◌, Option, Some, None, refl, ap, sym, ◌∙◌, subst, arith, length, drop}
-use Rattle.std.specs.Str.{chars}
+use Rattle.std.specs.Prelude.{◌&&◌, ◌==◌, slice_range}
+use Rattle.std.specs.Str.{IsUtf8, chars}
 use Rattle.std.proofs.lemmas.Bool.{and_right, false≢true}
 use Rattle.std.proofs.lemmas.Str.{chars-nil}
-use Rattle.yaml_chars.specs.Places.{rest}
+use Rattle.yaml_chars.specs.Places.{between, rest}
+use Rattle.yaml_chars.proofs.Places.{between-append}
 use Rattle.yaml_grammar.specs.BlockScalars.{Chomping, strip, clip, keep, Gap, TextLine, block_value, chomped, goes_on, kept, text_value}
 use Rattle.yaml_grammar.specs.FlowScalars.{line_feeds}
-use Rattle.yaml_grammar.specs.Texts.{is_empty}
+use Rattle.yaml_grammar.specs.Texts.{begins, is_empty}
 use Rattle.yaml_recognizers.proofs.BlockScalarFacts.{body_found, body_is, no_body}
 use Rattle.yaml_recognizers.proofs.BlockScalarSteps.{lines_step}
 use Rattle.yaml_recognizers.proofs.Reading.{on_parts, some_parts}
@@ -15,19 +17,27 @@ use Rattle.yaml_recognizers.specs.BlockScalarFacts.{BodyStands, IsBody, NoBody}
 use Rattle.yaml_recognizers.specs.Reading.{Read, on}
 use Rattle.yaml_block_scalars.specs.declared.line.Line.{Line}
 use Rattle.yaml_block_scalars.specs.Found.{AreLines, ArePiece}
-use Rattle.yaml_block_scalars.specs.Lines.{AreGaps, ArePushed, IsLine, IsNotAlone, IsPastGaps, value_from}
-use Rattle.yaml_block_scalars.specs.Pieces.{is_one_piece}
+use Rattle.yaml_block_scalars.specs.Lines.{AreGaps, ArePushed, IsLine, IsNoPiece, IsPastGaps, IsPiece, value_from}
+use Rattle.yaml_block_scalars.specs.Pieces.{is_one_piece, text_behind}
 use Rattle.yaml_block_scalars.proofs.Values.{chars_feeds}
 
 -- ---- one piece
 
-filled : (n : ℕ) (xs : List ℕ) → 0 < n → line_feeds n ≡ xs → is_empty xs ≡ false
-filled zero xs l e = absurd (omega arith)
-filled (suc n) xs l e = ap is_empty (sym e)
+begins_longer : (xs ys zs : List ℕ) → begins xs (ys ++ zs) ≡ false → begins xs ys ≡ false
+begins_longer [] ys zs h = h
+begins_longer (x ∷ xs) [] zs h = refl
+begins_longer (x ∷ xs) (y ∷ ys) zs h = by_cases (y == x) (begins xs (ys ++ zs)) (begins xs ys) (begins_longer xs ys zs) h
+  where
+    by_cases : (e a b : Bool) → (a ≡ false → b ≡ false) → e && a ≡ false → e && b ≡ false
+    by_cases true a b f h = f h
+    by_cases false a b f h = h
 
-pub piece_fed : (chomping : Chomping) (gs : List Gap) (l : TextLine) (ls : List TextLine) (n : ℕ) → 0 < n → line_feeds n ≡ chomped chomping l → is_one_piece chomping gs (l ∷ ls) ≡ false
-piece_fed chomping gs l [] n h e = and_right (is_empty gs) _ (filled n (chomped chomping l) h e)
-piece_fed chomping gs l (m ∷ ms) n h e = refl
+-- behind the line's text stand other characters than the line feeds of the value
+pub piece_unfed : (chomping : Chomping) (gs : List Gap) (l : TextLine) (ls : List TextLine) (feeds : ℕ) (text behind : List ℕ) → begins (line_feeds feeds) text ≡ false
+    → line_feeds feeds ≡ chomped chomping l → text ≡ text_behind l ++ behind → is_one_piece chomping gs (l ∷ ls) ≡ false
+piece_unfed chomping gs l [] feeds text behind h c e =
+    and_right (is_empty gs) _ (begins_longer (chomped chomping l) (text_behind l) behind (ap (begins (chomped chomping l)) (sym e) ∙ (ap (λ xs. begins xs text) (sym c) ∙ h)))
+piece_unfed chomping gs l (m ∷ ms) feeds text behind h c e = refl
 
 piece_longer : (chomping : Chomping) (gs : List Gap) (l : TextLine) (ls : List TextLine) → (ls ≡ [] → ⊥) → is_one_piece chomping gs (l ∷ ls) ≡ false
 piece_longer chomping gs l [] n = absurd (n refl)
@@ -47,6 +57,10 @@ piece_ended q chomping text behind gs l ls g past e =
     piece_longer chomping gs l ls (λ n. some_lines q text behind g past (e ∙ ap (λ x. Some (x, behind)) n))
 
 -- ---- the lines
+
+empty_list : {A : Type 0} (xs : List A) → length xs ≡ 0 → xs ≡ []
+empty_list [] e = refl
+empty_list (x ∷ xs) e = absurd (omega arith)
 
 chars_kept : (chomping : Chomping) (n : ℕ) → chars (kept chomping n) ≡ kept chomping n
 chars_kept strip n = chars-nil
@@ -93,12 +107,30 @@ module _ (q : ℕ) (folded : Bool) (chomping : Chomping) (bs : List ℕ) (i gaps
               ∙ ap (λ x. value_from q folded chomping x n.read (rest bs line.next)) (sym fed) ∙ p.reads n.read n.described n.spells;
         }
 
-    pub piece_more : IsNotAlone q chomping bs gaps line → ArePiece q chomping (rest bs i) → ⊥
+    -- the value stands in the text
+    pub lines_piece : IsUtf8 bs → (value : List ℕ) (end : ℕ) → IsPiece q chomping bs gaps line end → value ≡ slice_range bs line.start end → AreLines q folded chomping bs i value line.next
+    lines_piece u value end p v =
+        let none : (gaps_at q (rest bs i)).0 ≡ [] = empty_list (gaps_at q (rest bs i)).0 (g.counts ∙ p.none_before) in
+        let placed = n.placed in
+        let within = placed.above in
+        let whole : block_value folded chomping (gaps_at q (rest bs i)).0 (n.read ∷ []) ≡ chars value =
+        ap (λ gs. block_value folded chomping gs (n.read ∷ [])) none
+        ∙ (ap (λ t. t ++ chomped chomping n.read) n.spells
+        ∙ (ap (λ t. between bs line.start line.end ++ t) (sym (p.spells n.read n.described))
+        ∙ (sym (between-append bs line.start line.end end u (omega arith) p.above placed.start_boundary placed.end_boundary p.boundary) ∙ ap chars (sym v)))) in
+        record {
+          above = let above = g.above in let after = n.after in let behind = placed.behind in omega arith;
+          boundary = placed.next_boundary;
+          reads = read_as (Some (n.read ∷ [], rest bs line.next)) (n.reads ∙ ap (λ (r : Read (List TextLine)). on r (λ ls behind. Some (n.read ∷ ls, behind))) p.last)
+              ∙ ap (λ t. Some (t, rest bs line.next)) whole;
+        }
+
+    pub piece_more : IsNoPiece q chomping bs gaps line → ArePiece q chomping (rest bs i) → ⊥
     piece_more a p =
         let found = piece_lines (on (lines_at q (rest bs line.next)) (λ ls behind. Some (n.read ∷ ls, behind))) n.reads p in
         let more = on_parts (lines_at q (rest bs line.next)) (λ ls behind. Some (n.read ∷ ls, behind)) (found.0, found.1) found.2 in
         let same = (some_parts (n.read ∷ more.0) found.0 more.1 found.1 more.3).0 in
-        false≢true (sym (a n.read (gaps_at q (rest bs i)).0 more.0 more.1 n.described g.counts more.2) ∙ ap (is_one_piece chomping (gaps_at q (rest bs i)).0) same ∙ found.3)
+        false≢true (sym (a n.read (gaps_at q (rest bs i)).0 more.0 more.1 n.described n.follows g.counts more.2) ∙ ap (is_one_piece chomping (gaps_at q (rest bs i)).0) same ∙ found.3)
 
 -- ---- the whole body
 

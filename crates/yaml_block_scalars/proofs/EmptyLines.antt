@@ -14,8 +14,7 @@ use Rattle.yaml_recognizers.proofs.Spaces.{at_most}
 use Rattle.yaml_recognizers.specs.BlockScalars.{all_gaps, gaps_at, gaps_of}
 use Rattle.yaml_recognizers.specs.Comments.{read_break}
 use Rattle.yaml_block_scalars.specs.Lines.{AreGaps, AreLeading, IsPastGaps}
-use Rattle.yaml_block_scalars.specs.Places.{AreSpaces, IsBreak}
-use Rattle.yaml_block_scalars.proofs.Runs.{spaces_counted_at}
+use Rattle.yaml_scan.specs.Places.{AreSpaces, IsBreak}
 
 -- ---- one of them
 
@@ -25,18 +24,16 @@ no_break_here cs e = sym (break_some cs) ∙ ap (λ r. is_some r) e
 gap_step : (p : ℕ → Bool) (bs : List ℕ) (i j k : ℕ) → IsUtf8 bs → IsCharBoundary bs i → AreSpaces bs i j → p (j - i) ≡ true → (h : IsBreak bs j k)
     → gaps_of p (rest bs i) ≡ (record { width = j - i; stop = h.break } ∷ (gaps_of p (rest bs k)).0, (gaps_of p (rest bs k)).1)
 gap_step p bs i j k u b s w h =
-    let n = spaces_counted_at bs i j u b s in
     let one : List Gap × List ℕ = (record { width = spaces_before (rest bs i); stop = h.break } ∷ (gaps_of p (rest bs k)).0, (gaps_of p (rest bs k)).1) in
-    gaps_step p (rest bs i) h.break (rest bs k) (ap p n.counts ∙ w) (ap read_break n.leaves ∙ h.reads)
-    ∙ ap (λ (x : ℕ). (record { width = x; stop = h.break } ∷ (gaps_of p (rest bs k)).0, (gaps_of p (rest bs k)).1)) n.counts
+    gaps_step p (rest bs i) h.break (rest bs k) (ap p s.counts ∙ w) (ap read_break s.leaves ∙ h.reads)
+    ∙ ap (λ (x : ℕ). (record { width = x; stop = h.break } ∷ (gaps_of p (rest bs k)).0, (gaps_of p (rest bs k)).1)) s.counts
 
 gap_wide : (p : ℕ → Bool) (bs : List ℕ) (i j : ℕ) → IsUtf8 bs → IsCharBoundary bs i → AreSpaces bs i j → p (j - i) ≡ false → gaps_of p (rest bs i) ≡ ([], rest bs i)
-gap_wide p bs i j u b s w = let n = spaces_counted_at bs i j u b s in gaps_stop p (rest bs i) (and_left _ _ (ap p n.counts ∙ w))
+gap_wide p bs i j u b s w = gaps_stop p (rest bs i) (and_left _ _ (ap p s.counts ∙ w))
 
 gap_unbroken : (p : ℕ → Bool) (bs : List ℕ) (i j : ℕ) → IsUtf8 bs → IsCharBoundary bs i → AreSpaces bs i j → read_break (rest bs j) ≡ None → gaps_of p (rest bs i) ≡ ([], rest bs i)
 gap_unbroken p bs i j u b s e =
-    let n = spaces_counted_at bs i j u b s in
-    gaps_stop p (rest bs i) (and_right (p (spaces_before (rest bs i))) _ (ap (first line_break) n.leaves ∙ no_break_here (rest bs j) e))
+    gaps_stop p (rest bs i) (and_right (p (spaces_before (rest bs i))) _ (ap (first line_break) s.leaves ∙ no_break_here (rest bs j) e))
 
 -- ---- empty lines
 

@@ -1,13 +1,14 @@
 -- The first line of a block scalar, by what stands at its places.
 use Rattle.std.proofs.Common.{◌≡◌, ℕ, ◌+◌, ◌-◌, ◌<◌, ◌≤◌, ◌⊎◌, Bool, true, false, List, [], ◌∷◌, ◌++◌, Option, Some, None, refl, ap, sym, ◌∙◌, subst, arith, length, inl, inr, get_or}
-use Rattle.std.specs.Prelude.{◌&&◌, ◌||◌, ◌==◌, cond}
+use Rattle.std.specs.Prelude.{◌&&◌, ◌||◌, ◌==◌, cond, IfNone, IfSome, MatchOption}
+use Rattle.std.specs.Char.{len_utf8}
 use Rattle.std.specs.Str.{IsUtf8, IsCharBoundary}
 use Rattle.std.proofs.lemmas.Bool.{and_from, and_right, cases_Bool, cond-true, cond-false, ne_eqb, le-leb, false≢true}
 use Rattle.std.proofs.lemmas.Bool.Decides.{nat_tests}
 use Rattle.yaml_chars.specs.Classes.{between, nb, white}
 use Rattle.yaml_chars.specs.Places.{rest}
 use Rattle.yaml_chars.specs.Places.{between as span}
-use Rattle.yaml_chars.proofs.Places.{between-nil, rest-between, rest-end, same_place}
+use Rattle.yaml_chars.proofs.Places.{char_at, rest-end}
 use Rattle.yaml_chars.proofs.Runs.{IsBlind}
 use Rattle.yaml_grammar.specs.BlockScalars.{Chomping, strip, clip, keep, Header}
 use Rattle.yaml_grammar.specs.Separation.{Break, lf, cr, cr_lf, LineEnd}
@@ -17,11 +18,12 @@ use Rattle.yaml_recognizers.proofs.Fronts.{taken_split}
 use Rattle.yaml_recognizers.specs.BlockScalarFacts.{IsHeader, NoHeader}
 use Rattle.yaml_recognizers.specs.BlockScalars.{read_digit, read_mark, behind_digit, read_header, read_header_end}
 use Rattle.yaml_recognizers.specs.CanonicalComments.{hash}
-use Rattle.yaml_recognizers.specs.Comments.{read_behind_blank, read_cr, read_stop, stopped}
+use Rattle.yaml_recognizers.specs.Comments.{read_line_end}
 use Rattle.yaml_recognizers.specs.Fronts.{taken, dropped}
 use Rattle.yaml_recognizers.specs.Reading.{Read, on}
-use Rattle.yaml_block_scalars.specs.Places.{AreSigns, AreTaken, IsCommentEnd, IsDigit, IsHeaderEnd, IsMark, IsStop, past_comment}
-use Rattle.yaml_block_scalars.proofs.Runs.{ascii_front, first_at_end, first_there}
+use Rattle.yaml_block_scalars.specs.Places.{AreSigns, IsDigit, IsHeaderEnd, IsMark}
+use Rattle.yaml_scan.specs.Lines.{IsLineEnd}
+use Rattle.yaml_scan.proofs.ByteRuns.{ascii_front, first_at_end, first_there}
 
 -- ---- the digit
 
@@ -95,108 +97,30 @@ mark_keep bs i u l e = let there = ascii_front bs i 43 u l (omega arith) e in re
 
 -- ---- the end of the line
 
-blind-hash : IsBlind hash
-blind-hash c h l = grind (arith, nat_tests)
+pub header_end_at_end : (bs : List ℕ) (i : ℕ) → IsCharBoundary bs i → length bs ≤ i → IsHeaderEnd bs i i
+header_end_at_end bs i b l = record {
+  above = omega arith;
+  boundary = b;
+  line_end = record { blank = []; comment = None; stop = None };
+  reads = ap read_header_end (rest-end bs i l) ∙ ap (λ (t : List ℕ). Some (record { blank = []; comment = None; stop = None }, t)) (sym (rest-end bs i l));
+  starts = inr (rest-end bs i l);
+}
 
-no_comment : (bs : List ℕ) (i : ℕ) → IsCharBoundary bs i → first hash (rest bs i) ≡ false → IsCommentEnd bs i i
-no_comment bs i b h = record { above = omega arith; boundary = b; leaves = cond-false (first hash (rest bs i)) _ (rest bs i) h }
+line_end_read : (text : List ℕ) → (text ≡ [] → ⊥) → read_header_end text ≡ read_line_end false text
+line_end_read [] n = absurd (n refl)
+line_end_read (c ∷ cs) n = refl
 
-pub comment_at_end : (bs : List ℕ) (i : ℕ) → IsCharBoundary bs i → length bs ≤ i → IsCommentEnd bs i i
-comment_at_end bs i b l = no_comment bs i b (first_at_end hash bs i l)
-
-pub comment_missing : (bs : List ℕ) (i : ℕ) → IsUtf8 bs → IsCharBoundary bs i → i < length bs → (get_or bs i 0 ≡ 35 → ⊥) → IsCommentEnd bs i i
-comment_missing bs i u b l h = no_comment bs i b (first_there hash bs i blind-hash u b l ∙ ne_eqb (get_or bs i 0) 35 h)
-
-pub comment_there : (bs : List ℕ) (i j : ℕ) → IsUtf8 bs → i < length bs → get_or bs i 0 ≡ 35 → AreTaken nb bs (i + 1) j → IsCommentEnd bs i j
-comment_there bs i j u l e h =
-    let there = ascii_front bs i 35 u l (omega arith) e in
-    record { above = let above = h.above in omega arith; boundary = h.boundary; leaves = ap past_comment there.0 ∙ h.leaves }
-
--- what stands behind white and a comment
-pub content_behind : List ℕ → List ℕ → List ℕ
-content_behind [] text = text
-content_behind (y ∷ ys) text = past_comment text
-
--- what a line's end gives, by what the end behind its content gives
-Closes : Read (Option Break) → Read LineEnd → Type 0
-Closes None found = found ≡ None
-Closes (Some r) found = (e : LineEnd) × (found ≡ Some (e, r.1))
-
-closes_white : (y : ℕ) (ys : List ℕ) (comment : Option (List ℕ)) (r : Read (Option Break)) → Closes r (stopped (y ∷ ys) comment r)
-unfolding Closes
-closes_white y ys comment None = refl
-closes_white y ys comment (Some r) = (record { blank = y ∷ ys; comment = comment; stop = r.0 }, refl)
-
-stop_is_break : (x : ℕ) (xs : List ℕ) → Closes (read_stop (x ∷ xs)) (stopped [] None (read_stop (x ∷ xs)))
-unfolding Closes
-stop_is_break x xs = elim (cases_Bool (x == 10)) [
-  | inl e ↦ rw e (record { blank = []; comment = None; stop = Some lf }, refl)
-  | inr e ↦ elim (cases_Bool (x == 13)) [ inl i ↦ rw (e, i) (by_cr (read_cr xs)) | inr i ↦ rw (e, i) refl ]
-]
+-- where the text does not end, it is the end of any line
+pub header_end_is : (bs : List ℕ) (i : ℕ) (found : Option ℕ) → IsUtf8 bs → IsCharBoundary bs i → i < length bs → IfSome found (IsLineEnd false bs i) → IfNone found (read_line_end false (rest bs i) ≡ None)
+    → MatchOption found (read_header_end (rest bs i) ≡ None) (IsHeaderEnd bs i)
+header_end_is bs i found u b l some none = by_cases found some none
   where
-    by_cr : (r : Break × List ℕ) → (e : LineEnd) × (stopped [] None (Some (Some r.0, r.1)) ≡ Some (e, r.1))
-    by_cr (lf, t) = (record { blank = []; comment = None; stop = Some lf }, refl)
-    by_cr (cr, t) = (record { blank = []; comment = None; stop = Some cr }, refl)
-    by_cr (cr_lf, t) = (record { blank = []; comment = None; stop = Some cr_lf }, refl)
+    reads : read_header_end (rest bs i) ≡ read_line_end false (rest bs i)
+    reads = line_end_read (rest bs i) (λ e. let there = char_at bs i u b l in let none : [] ≡ there.0 ∷ rest bs (i + len_utf8 there.0) = sym e ∙ there.1.splits in cc)
 
-behind_closes : (blank text : List ℕ) → (blank ≡ [] → text ≡ [] → ⊥) → Closes (read_stop (content_behind blank text)) (read_behind_blank false blank text)
-unfolding content_behind
-behind_closes [] [] n = absurd (n refl refl)
-behind_closes [] (x ∷ xs) n =
-    subst (Closes (read_stop (x ∷ xs))) (sym (cond-false ((x == 35) && false) _ (stopped [] None (read_stop (x ∷ xs))) (and_right (x == 35) false refl))) (stop_is_break x xs)
-behind_closes (y ∷ ys) [] n = closes_white y ys None (read_stop [])
-behind_closes (y ∷ ys) (x ∷ xs) n = elim (cases_Bool (x == 35)) [
-  | inl e ↦ rw e (closes_white y ys (Some (taken nb xs)) (read_stop (dropped nb xs)))
-  | inr e ↦ rw e (closes_white y ys None (read_stop (x ∷ xs)))
-]
-
-header_closes : (text : List ℕ) → Closes (read_stop (content_behind (taken white text) (dropped white text))) (read_header_end text)
-unfolding Closes content_behind
-header_closes [] = (record { blank = []; comment = None; stop = None }, refl)
-header_closes (c ∷ cs) =
-    behind_closes (taken white (c ∷ cs)) (dropped white (c ∷ cs)) (λ b d. let none : c ∷ cs ≡ [] = taken_split white (c ∷ cs) ∙ ap (λ x. x ++ dropped white (c ∷ cs)) b ∙ d in cc)
-
-content_of : (blank text behind : List ℕ) → (blank ≡ [] → ⊥) → past_comment text ≡ behind → content_behind blank text ≡ behind
-unfolding content_behind
-content_of [] text behind n e = absurd (n refl)
-content_of (y ∷ ys) text behind n e = e
-
--- the place behind white at a place, and behind a comment behind white
-pub record IsContentEnd (bs : List ℕ) (i j : ℕ) : Type 0 where
-  pub above : i ≤ j
-  pub content : read_stop (content_behind (taken white (rest bs i)) (dropped white (rest bs i))) ≡ read_stop (rest bs j)
-
-span_filled : (bs : List ℕ) (i j : ℕ) → IsUtf8 bs → i < j → IsCharBoundary bs i → IsCharBoundary bs j → span bs i j ≡ [] → ⊥
-span_filled bs i j u l b d e =
-    let same : rest bs i ≡ rest bs j = rest-between bs i j u (omega arith) b d ∙ ap (λ x. x ++ rest bs j) e in
-    let place : i ≡ j = same_place bs i j u b d same in
-    omega arith
-
-pub content_commented : (bs : List ℕ) (i j k : ℕ) → IsUtf8 bs → IsCharBoundary bs i → i < j → AreTaken white bs i j → IsCommentEnd bs j k → IsContentEnd bs i k
-content_commented bs i j k u b l w h =
-    let filled = span_filled bs i j u l b w.boundary in
-    record {
-      above = let above = h.above in omega arith;
-      content = ap read_stop (content_of (taken white (rest bs i)) (dropped white (rest bs i)) (rest bs k) (λ e. filled (sym w.takes ∙ e)) (ap past_comment w.leaves ∙ h.leaves));
-    }
-
-pub content_none : (bs : List ℕ) (i j : ℕ) → IsCharBoundary bs i → j ≤ i → AreTaken white bs i j → IsContentEnd bs i j
-unfolding content_behind
-content_none bs i j b l w =
-    let e : i ≡ j = let above = w.above in omega arith in
-    let none : taken white (rest bs i) ≡ [] = w.takes ∙ ap (span bs i) (sym e) ∙ between-nil bs i in
-    record { above = w.above; content = ap (λ x. read_stop (content_behind x (dropped white (rest bs i)))) none ∙ ap read_stop w.leaves }
-
-pub header_end_is : (bs : List ℕ) (i j k : ℕ) (has_break : Bool) → IsContentEnd bs i j → IsStop bs j has_break k → IsHeaderEnd bs i k
-unfolding Closes
-header_end_is bs i j k has_break h s =
-    let reads = h.content ∙ s.reads in
-    let found : Closes (Some (s.stop, rest bs k)) (read_header_end (rest bs i)) = subst (λ r. Closes r (read_header_end (rest bs i))) reads (header_closes (rest bs i)) in
-    record { above = let above = h.above in let further = s.above in omega arith; boundary = s.boundary; line_end = found.0; reads = found.1 }
-
-pub header_end_none : (bs : List ℕ) (i j : ℕ) → IsContentEnd bs i j → read_stop (rest bs j) ≡ None → read_header_end (rest bs i) ≡ None
-unfolding Closes
-header_end_none bs i j h s = subst (λ r. Closes r (read_header_end (rest bs i))) (h.content ∙ s) (header_closes (rest bs i))
+    by_cases : (found : Option ℕ) → IfSome found (IsLineEnd false bs i) → IfNone found (read_line_end false (rest bs i) ≡ None) → MatchOption found (read_header_end (rest bs i) ≡ None) (IsHeaderEnd bs i)
+    by_cases None some none = reads ∙ none
+    by_cases (Some end) some none = record { above = let above = some.above in omega arith; boundary = some.boundary; line_end = some.line_end; reads = reads ∙ some.reads; starts = some.starts }
 
 -- ---- the whole line
 

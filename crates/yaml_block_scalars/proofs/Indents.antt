@@ -10,8 +10,7 @@ use Rattle.yaml_grammar.specs.BlockScalars.{last_spaces, past_spaces, sets_none,
 use Rattle.yaml_grammar.specs.Texts.{first, is_empty, marker}
 use Rattle.yaml_recognizers.specs.BlockScalars.{all_gaps, find_indent}
 use Rattle.yaml_block_scalars.specs.Lines.{AreLeading}
-use Rattle.yaml_block_scalars.specs.Places.{AreSpaces, IsNb}
-use Rattle.yaml_block_scalars.proofs.Runs.{AreCounted, spaces_counted_at}
+use Rattle.yaml_scan.specs.Places.{AreSpaces, IsNb}
 
 -- by the widest line of spaces and what stands behind all of them
 indent_by : ℕ → ℕ → List ℕ → Option ℕ
@@ -26,9 +25,6 @@ found_by m bs i width j h =
     ap (λ x. indent_by m x (all_gaps (rest bs i)).1) h.widest_is ∙ ap (indent_by m width) h.leaves
 
 module _ (m : ℕ) (bs : List ℕ) (i width j k : ℕ) (u : IsUtf8 bs) (h : AreLeading bs i width j) (s : AreSpaces bs j k) where
-  counted : AreCounted bs j k
-  counted = spaces_counted_at bs j k u h.boundary s
-
   set_none : (q : ℕ) → sets_none m (rest bs j) ≡ true → last_spaces (rest bs j) ≡ q → find_indent None m (rest bs i) ≡ Some (max m (max width q))
   unfolding indent_by
   set_none q n l =
@@ -36,11 +32,11 @@ module _ (m : ℕ) (bs : List ℕ) (i width j k : ℕ) (u : IsUtf8 bs) (h : AreL
 
   pub indent_at_end : length bs ≤ k → find_indent None m (rest bs i) ≡ Some (max m (max width (k - j)))
   indent_at_end l =
-      let none : is_empty (past_spaces (rest bs j)) ≡ true = ap is_empty (counted.leaves ∙ rest-end bs k l) in
-      set_none (k - j) (or_left _ _ (or_left _ _ none)) (cond-true (is_empty (past_spaces (rest bs j))) (spaces_before (rest bs j)) 0 none ∙ counted.counts)
+      let none : is_empty (past_spaces (rest bs j)) ≡ true = ap is_empty (s.leaves ∙ rest-end bs k l) in
+      set_none (k - j) (or_left _ _ (or_left _ _ none)) (cond-true (is_empty (past_spaces (rest bs j))) (spaces_before (rest bs j)) 0 none ∙ s.counts)
 
   filled : k < length bs → is_empty (past_spaces (rest bs j)) ≡ false
-  filled l = let there = char_at bs k u s.boundary l in ap is_empty (counted.leaves ∙ there.1.splits)
+  filled l = let there = char_at bs k u s.boundary l in ap is_empty (s.leaves ∙ there.1.splits)
 
   least : (q : ℕ) → sets_none m (rest bs j) ≡ true → k < length bs → find_indent None m (rest bs i) ≡ Some (max m width)
   least q n l =
@@ -49,7 +45,7 @@ module _ (m : ℕ) (bs : List ℕ) (i width j k : ℕ) (u : IsUtf8 bs) (h : AreL
 
   pub indent_narrow : k < length bs → k - j < m → find_indent None m (rest bs i) ≡ Some (max m width)
   indent_narrow l w =
-      least 0 (or_left _ _ (or_right (is_empty (past_spaces (rest bs j))) _ (ap (λ x. nat_lt x m) counted.counts ∙ lt-ltb (k - j) m w))) l
+      least 0 (or_left _ _ (or_right (is_empty (past_spaces (rest bs j))) _ (ap (λ x. nat_lt x m) s.counts ∙ lt-ltb (k - j) m w))) l
 
   pub indent_marked : k < length bs → marker (rest bs j) ≡ true → find_indent None m (rest bs i) ≡ Some (max m width)
   indent_marked l e =
@@ -60,21 +56,21 @@ module _ (m : ℕ) (bs : List ℕ) (i width j k : ℕ) (u : IsUtf8 bs) (h : AreL
   unfolding indent_by
   set_here l w e =
       found_by m bs i width j h
-      ∙ cond-false (sets_none m (rest bs j)) _ _ (or_from _ _ (or_from _ _ (filled l) (ap (λ x. nat_lt x m) counted.counts ∙ le-ltb (k - j) m w)) (ap (λ x. not (not x)) e))
+      ∙ cond-false (sets_none m (rest bs j)) _ _ (or_from _ _ (or_from _ _ (filled l) (ap (λ x. nat_lt x m) s.counts ∙ le-ltb (k - j) m w)) (ap (λ x. not (not x)) e))
 
   pub indent_too_wide : k < length bs → m ≤ k - j → marker (rest bs j) ≡ false → k - j < width → find_indent None m (rest bs i) ≡ None
   indent_too_wide l w e x =
-      set_here l w e ∙ cond-false _ _ None (and_left (nat_le width (spaces_before (rest bs j))) _ (ap (nat_le width) counted.counts ∙ lt-leb width (k - j) x))
+      set_here l w e ∙ cond-false _ _ None (and_left (nat_le width (spaces_before (rest bs j))) _ (ap (nat_le width) s.counts ∙ lt-leb width (k - j) x))
 
   pub indent_no_text : k < length bs → m ≤ k - j → marker (rest bs j) ≡ false → first nb (rest bs k) ≡ false → find_indent None m (rest bs i) ≡ None
   indent_no_text l w e x =
-      set_here l w e ∙ cond-false _ _ None (and_right (nat_le width (spaces_before (rest bs j))) _ (ap (first nb) counted.leaves ∙ x))
+      set_here l w e ∙ cond-false _ _ None (and_right (nat_le width (spaces_before (rest bs j))) _ (ap (first nb) s.leaves ∙ x))
 
   pub indent_set : k < length bs → m ≤ k - j → marker (rest bs j) ≡ false → width ≤ k - j → first nb (rest bs k) ≡ true → find_indent None m (rest bs i) ≡ Some (k - j)
   indent_set l w e x n =
       set_here l w e
-      ∙ cond-true _ _ None (and_from _ _ (ap (nat_le width) counted.counts ∙ le-leb width (k - j) x) (ap (first nb) counted.leaves ∙ n))
-      ∙ ap (λ (y : ℕ). Some y) counted.counts
+      ∙ cond-true _ _ None (and_from _ _ (ap (nat_le width) s.counts ∙ le-leb width (k - j) x) (ap (first nb) s.leaves ∙ n))
+      ∙ ap (λ (y : ℕ). Some y) s.counts
 
 pub nb_there : (bs : List ℕ) (i j : ℕ) → IsNb bs i j → first nb (rest bs i) ≡ true
 nb_there bs i j h = ap (first nb) h.splits ∙ h.fits

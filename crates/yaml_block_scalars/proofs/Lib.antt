@@ -1,9 +1,8 @@
-pub mod Runs
-pub mod Signs
 pub mod FirstLines
 pub mod EmptyLines
 pub mod Indents
 pub mod TextLines
 pub mod Values
 pub mod Bodies
-pub mod Faults
+pub mod LineStarts
+pub mod Feeds

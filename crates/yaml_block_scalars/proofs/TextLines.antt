@@ -1,5 +1,5 @@
 -- Text lines, by the places where they start and end.
-use Rattle.std.proofs.Common.{◌≡◌, ℕ, ◌+◌, ◌-◌, ◌<◌, ◌≤◌, true, false, List, [], ◌∷◌, Option, Some, refl, ap, sym, ◌∙◌, arith, inl, inr}
+use Rattle.std.proofs.Common.{◌≡◌, ℕ, ◌+◌, ◌-◌, ◌<◌, ◌≤◌, true, false, List, [], ◌∷◌, Option, Some, ◌++◌, refl, ap, sym, ◌∙◌, append_assoc, arith, inl, inr}
 use Rattle.std.specs.Prelude.{◌&&◌, ◌==◌, not, nat_lt}
 use Rattle.std.specs.Str.{IsUtf8, IsCharBoundary}
 use Rattle.std.proofs.lemmas.Bool.{and_from, and_left, and_right, cases_Bool, cases_lt, cond-true, cond-false, eq-eqb, false≢true, le-ltb, lt-ltb, ne_eqb, or_from, or_left, or_right}
@@ -7,37 +7,37 @@ use Rattle.yaml_chars.specs.Classes.{nb, white}
 use Rattle.yaml_chars.specs.Places.{between, rest}
 use Rattle.yaml_chars.proofs.Classes.{white_is_nb}
 use Rattle.yaml_chars.proofs.Places.{between-nil}
-use Rattle.yaml_grammar.specs.BlockScalars.{TextLine, goes_on, past_spaces, spaces_before}
-use Rattle.yaml_grammar.specs.Separation.{Break}
-use Rattle.yaml_grammar.specs.Texts.{first, marker, no_marker}
+use Rattle.yaml_grammar.specs.BlockScalars.{TextLine, gaps_text, goes_on, past_spaces, spaces_before}
+use Rattle.yaml_grammar.specs.Separation.{Break, break_text}
+use Rattle.yaml_grammar.specs.Texts.{first, marker, no_marker, optional}
 use Rattle.yaml_recognizers.proofs.BlockScalarSteps.{lines_step}
-use Rattle.yaml_recognizers.proofs.Spaces.{goes_on_text}
+use Rattle.yaml_recognizers.proofs.CommentsSound.{StopOf, stop_sound}
+use Rattle.yaml_recognizers.proofs.EmptyLines.{gaps_of_sound}
+use Rattle.yaml_recognizers.proofs.Reading.{sound_is}
+use Rattle.yaml_recognizers.proofs.Spaces.{at_most, goes_on_text}
 use Rattle.yaml_recognizers.specs.BlockScalars.{gaps_at, lines_at, read_text_line}
 use Rattle.yaml_recognizers.specs.Comments.{read_stop}
 use Rattle.yaml_recognizers.specs.Fronts.{dropped, taken}
 use Rattle.yaml_recognizers.specs.Reading.{Read, on}
 use Rattle.yaml_block_scalars.specs.declared.line.Line.{Line}
 use Rattle.yaml_block_scalars.specs.Lines.{AreGaps, IsLine, IsPastGaps, IsTextStart}
-use Rattle.yaml_block_scalars.specs.Places.{AreSpaces, AreTaken, IsStop}
+use Rattle.yaml_scan.specs.Places.{AreSpaces, AreTaken, IsStop}
 use Rattle.yaml_block_scalars.proofs.EmptyLines.{gaps_past}
-use Rattle.yaml_block_scalars.proofs.Runs.{AreCounted, spaces_counted_at, spaces_dropped_at}
+use Rattle.yaml_scan.proofs.ByteRuns.{spaces_dropped_at}
 
 -- ---- where a line goes on
 
 module _ (q : ℕ) (bs : List ℕ) (i j : ℕ) (u : IsUtf8 bs) (b : IsCharBoundary bs i) (s : AreSpaces bs i j) where
-  counted : AreCounted bs i j
-  counted = spaces_counted_at bs i j u b s
-
   stays : IsPastGaps q (rest bs i) → nat_lt q (j - i) ≡ false → (spaces_before (rest bs i) == q) && first nb (past_spaces (rest bs i)) && no_marker true (rest bs i) ≡ false → goes_on q (rest bs i) ≡ false
-  stays past w t = or_from _ _ (or_from _ _ (ap (nat_lt q) counted.counts ∙ w) past) t
+  stays past w t = or_from _ _ (or_from _ _ (ap (nat_lt q) s.counts ∙ w) past) t
 
   pub line_narrow : IsPastGaps q (rest bs i) → j - i < q → goes_on q (rest bs i) ≡ false
   line_narrow past w =
-      stays past (le-ltb q (j - i) (omega arith)) (and_left _ _ (and_left _ _ (ap (λ x. x == q) counted.counts ∙ ne_eqb (j - i) q (λ e. omega arith))))
+      stays past (le-ltb q (j - i) (omega arith)) (and_left _ _ (and_left _ _ (ap (λ x. x == q) s.counts ∙ ne_eqb (j - i) q (λ e. omega arith))))
 
   pub line_no_text : IsPastGaps q (rest bs i) → j - i ≡ q → first nb (rest bs j) ≡ false → goes_on q (rest bs i) ≡ false
   line_no_text past w n =
-      stays past (le-ltb q (j - i) (omega arith)) (and_left _ _ (and_right (spaces_before (rest bs i) == q) _ (ap (first nb) counted.leaves ∙ n)))
+      stays past (le-ltb q (j - i) (omega arith)) (and_left _ _ (and_right (spaces_before (rest bs i) == q) _ (ap (first nb) s.leaves ∙ n)))
 
   pub line_marked : IsPastGaps q (rest bs i) → j - i ≡ q → marker (rest bs i) ≡ true → goes_on q (rest bs i) ≡ false
   line_marked past w e =
@@ -47,12 +47,12 @@ module _ (q : ℕ) (bs : List ℕ) (i j : ℕ) (u : IsUtf8 bs) (b : IsCharBounda
   starts w g = let there = spaces_dropped_at bs i j q u b s w in record { above = omega arith; boundary = there.1; goes = g; drops = there.0 }
 
   pub start_wide : q < j - i → IsTextStart q bs i (i + q)
-  start_wide w = starts (omega arith) (or_left _ _ (or_left _ _ (ap (nat_lt q) counted.counts ∙ lt-ltb q (j - i) w)))
+  start_wide w = starts (omega arith) (or_left _ _ (or_left _ _ (ap (nat_lt q) s.counts ∙ lt-ltb q (j - i) w)))
 
   pub start_there : j - i ≡ q → first nb (rest bs j) ≡ true → marker (rest bs i) ≡ false → IsTextStart q bs i (i + q)
   start_there w n e =
       starts (omega arith)
-      (or_right _ _ (and_from _ _ (and_from _ _ (ap (λ x. x == q) counted.counts ∙ eq-eqb (j - i) q w) (ap (first nb) counted.leaves ∙ n)) (ap not e)))
+      (or_right _ _ (and_from _ _ (and_from _ _ (ap (λ x. x == q) s.counts ∙ eq-eqb (j - i) q w) (ap (first nb) s.leaves ∙ n)) (ap not e)))
 
 -- ---- the line
 
@@ -108,6 +108,11 @@ module _ (q : ℕ) (bs : List ℕ) (i : ℕ) (past : IsPastGaps q (rest bs i)) w
         read = read;
         described = record { begins_white = white_taken (rest bs line.start) ∙ sym w; breaks = s.is_break; empties = g.counts };
         spells = t.takes;
+        follows = (let stop : rest bs line.end ≡ optional break_text s.stop ++ rest bs behind =
+            (sound_is (StopOf (rest bs line.end)) (read_stop (rest bs line.end)) (s.stop, rest bs behind) (stop_sound (rest bs line.end)) s.reads).0 in
+            let gaps : rest bs behind ≡ gaps_text (gaps_at q (rest bs behind)).0 ++ rest bs line.next =
+            (gaps_of_sound (at_most q) (rest bs behind)).0 ∙ ap (λ t'. gaps_text (gaps_at q (rest bs behind)).0 ++ t') g.leaves in
+            stop ∙ (ap (λ t'. optional break_text s.stop ++ t') gaps ∙ sym (append_assoc (optional break_text s.stop) (gaps_text (gaps_at q (rest bs behind)).0) (rest bs line.next))));
         reads = stepped line.start h
             ∙ ap (λ (r : Read (Option Break)). on (on r (λ stop t'. let g = gaps_at q t' in Some (record { text = taken nb (rest bs line.start); stop = stop; gaps = g.0 }, g.1))) (λ l t'. on (lines_at q t') (λ ls behind. Some (l ∷ ls, behind)))) stops
             ∙ ap (λ (t' : List ℕ). on (lines_at q t') (λ ls behind. Some (read ∷ ls, behind))) g.leaves;

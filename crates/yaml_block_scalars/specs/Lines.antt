@@ -8,7 +8,7 @@ use Rattle.yaml_grammar.specs.FlowScalars.{line_feeds}
 use Rattle.yaml_grammar.specs.Texts.{first}
 use Rattle.yaml_recognizers.specs.BlockScalars.{all_gaps, gaps_at, lines_at}
 use Rattle.yaml_recognizers.specs.Reading.{Read, on}
-use Rattle.yaml_block_scalars.specs.Pieces.{is_one_piece}
+use Rattle.yaml_block_scalars.specs.Pieces.{is_one_piece, text_behind}
 use Rattle.yaml_block_scalars.specs.declared.line.Line.{Line}
 
 -- no empty line of the indentation q stands at the front
@@ -58,6 +58,7 @@ pub record IsLine (q : ℕ) (text : List ℕ) (at : ℕ) (line : Line) : Type 0 
   pub read : TextLine
   pub described : Describes line read
   pub spells : read.text ≡ between text line.start line.end
+  pub follows : rest text line.end ≡ text_behind read ++ rest text line.next
   pub reads : lines_at q (rest text at) ≡ on (lines_at q (rest text line.next)) (λ ls behind. Some (read ∷ ls, behind))
 
 -- the value of the text line l and of the lines behind it, which stand at the front of the text; behind what stands in front
@@ -71,14 +72,23 @@ pub record ArePushed (q : ℕ) (folded : Bool) (chomping : Chomping) (text : Lis
   pub reads : (l : TextLine) → Describes first_line l → l.text ≡ between text first_line.start first_line.end
       → value_from q folded chomping (chars front) l (rest text first_line.next) ≡ Some (chars value, rest text end)
 
--- no line stands behind the text line, and neither the empty lines before it nor what stands behind it add to its text
-pub record IsAlone (q : ℕ) (chomping : Chomping) (text : List ℕ) (gaps : ℕ) (line : Line) : Type 0 where
-  pub last : lines_at q (rest text line.next) ≡ Some ([], rest text line.next)
-  pub first_feeds : line_feeds gaps ≡ []
-  pub last_feeds : (l : TextLine) → Describes line l → chomped chomping l ≡ []
+-- so many line feeds from a place on
+pub record AreFeeds (text : List ℕ) (at count end : ℕ) : Type 0 where
+  pub above : at ≤ end
+  pub boundary : IsCharBoundary text end
+  pub spells : between text at end ≡ line_feeds count
 
--- one of those does
-abbrev pub IsNotAlone : ℕ → Chomping → List ℕ → ℕ → Line → Type 0
-IsNotAlone q chomping text gaps line =
-    (l : TextLine) (gs : List Gap) (ls : List TextLine) (behind : List ℕ) → Describes line l → length gs ≡ gaps → lines_at q (rest text line.next) ≡ Some (ls, behind)
-    → is_one_piece chomping gs (l ∷ ls) ≡ false
+-- No line stands behind the text line, no empty line before it, and the line feeds that the value has behind its text stand there,
+-- up to the end.
+pub record IsPiece (q : ℕ) (chomping : Chomping) (text : List ℕ) (gaps : ℕ) (line : Line) (end : ℕ) : Type 0 where
+  pub last : lines_at q (rest text line.next) ≡ Some ([], rest text line.next)
+  pub none_before : gaps ≡ 0
+  pub above : line.end ≤ end
+  pub boundary : IsCharBoundary text end
+  pub spells : (l : TextLine) → Describes line l → between text line.end end ≡ chomped chomping l
+
+-- one of these fails
+abbrev pub IsNoPiece : ℕ → Chomping → List ℕ → ℕ → Line → Type 0
+IsNoPiece q chomping text gaps line =
+    (l : TextLine) (gs : List Gap) (ls : List TextLine) (behind : List ℕ) → Describes line l → rest text line.end ≡ text_behind l ++ rest text line.next
+    → length gs ≡ gaps → lines_at q (rest text line.next) ≡ Some (ls, behind) → is_one_piece chomping gs (l ∷ ls) ≡ false

@@ -1,11 +1,16 @@
 -- Values that the text has in one piece.
-use Rattle.std.specs.Prelude.{Bool, false, ◌&&◌, List, [], ◌∷◌, length}
-use Rattle.yaml_grammar.specs.BlockScalars.{Chomping, Gap, TextLine, kept, chomped}
-use Rattle.yaml_grammar.specs.Texts.{is_empty}
+use Rattle.std.specs.Prelude.{Bool, false, ◌&&◌, List, [], ◌∷◌, ◌++◌, ℕ, length}
+use Rattle.yaml_grammar.specs.BlockScalars.{Chomping, Gap, TextLine, kept, chomped, gaps_text}
+use Rattle.yaml_grammar.specs.Separation.{break_text}
+use Rattle.yaml_grammar.specs.Texts.{begins, is_empty, optional}
 
--- There is no text line and the value is empty; or there is one, and neither the empty lines before it nor what stands behind it
--- add to its text. The gaps are the empty lines before the first text line.
+-- what stands behind the text of a text line, up to the next text line
+abbrev pub text_behind : TextLine → List ℕ
+text_behind l = optional break_text l.stop ++ gaps_text l.gaps
+
+-- There is no text line and the value is empty; or there is one and no empty line before it, and behind its text stand the line
+-- feeds that the value has there. The gaps are the empty lines before the first text line.
 abbrev pub is_one_piece : Chomping → List Gap → List TextLine → Bool
 is_one_piece chomping gaps [] = is_empty (kept chomping (length gaps))
-is_one_piece chomping gaps (l ∷ []) = is_empty gaps && is_empty (chomped chomping l)
+is_one_piece chomping gaps (l ∷ []) = is_empty gaps && begins (chomped chomping l) (text_behind l)
 is_one_piece chomping gaps (l ∷ m ∷ ls) = false

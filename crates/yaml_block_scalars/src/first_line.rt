@@ -7,11 +7,12 @@ ghost use Rattle.yaml_recognizers.specs.BlockScalars.{digit_fits, read_digit, re
 ghost use Rattle.yaml_recognizers.specs.BlockScalarFacts.{NoHeader};
 ghost use Rattle.yaml_block_scalars.specs.Found.{IsHeaderAt};
 ghost use Rattle.yaml_block_scalars.specs.Meant.{chomping_of};
-ghost use Rattle.yaml_block_scalars.specs.Places.{IsDigit, IsMark, AreSigns, IsCommentEnd, IsHeaderEnd};
+ghost use Rattle.yaml_scan.specs.Lines.{IsLineStart};
+ghost use Rattle.yaml_block_scalars.specs.Places.{IsDigit, IsMark, AreSigns, IsHeaderEnd};
 
 use crate::parts::{Chomping, Header};
-use crate::place::{nb_end, stop_at, white_end};
 use yaml_events::{ScanFault, Why};
+use yaml_scan::rest_of_line_end;
 
 /// The digit at `at`, from 1 to 9, which may be missing, and the place behind it.
 fn digit_at(text: &str, at: usize) -> (Option<u8>, usize)
@@ -66,37 +67,16 @@ fn signs_at(text: &str, at: usize) -> (Option<u8>, Chomping, usize)
     }
 }
 
-/// Behind the comment at `at`, which may be missing.
-fn comment_end(text: &str, at: usize) -> usize
-    requires { IsCharBoundary text.now at }
-    ensures { IsCommentEnd text.now at result }
-{
-    let bytes = text.as_bytes();
-    if at == bytes.len() {
-        return at;
-    }
-    if bytes[at] != b'#' {
-        return at;
-    }
-    nb_end(text, at + 1)
-}
-
 /// Behind the end of a header's line at `at`: white, a comment behind white, and a break or the end of the text. None where
 /// something else stands there.
 fn header_end(text: &str, at: usize) -> Option<usize>
     requires { IsCharBoundary text.now at }
     ensures { MatchOption result (read_header_end (rest text.now at) ≡ None) (IsHeaderEnd text.now at) }
 {
-    let white = white_end(text, at);
-    let end = if white > at {
-        comment_end(text, white)
-    } else {
-        white
-    };
-    match stop_at(text, end) {
-        Some(stop) => Some(stop.next),
-        None => None,
+    if at == text.len() {
+        return Some(at);
     }
+    rest_of_line_end(text, at)
 }
 
 /// The header of the block scalar at `at`, and the place behind its line, its break included (YAML 1.2.2, 8.1.1).
@@ -108,6 +88,7 @@ pub fn header(text: &str, at: usize) -> Result<(Header, usize), ScanFault>
     requires { IsCharBoundary text.now at }
     ensures found { IfOk result (λ found. IsHeaderAt text.now at found.0 found.1) }
     ensures digit { IfOk result (λ found. IsTrue (digit_fits found.0.digit)) }
+    ensures line { IfOk result (λ found. IsLineStart text.now found.1) }
     ensures none { IfErr result (λ fault. Refuses fault (NoHeader (rest text.now at))) }
     ensures memory { IfErr result (λ fault. fault ≢ ScanFault.OutOfMemory) }
 {

@@ -6,8 +6,8 @@ ghost use Rattle.yaml_events.specs.Places.{Refuses};
 ghost use Rattle.yaml_recognizers.specs.BlockScalars.{find_indent};
 ghost use Rattle.yaml_block_scalars.specs.Lines.{AreLeading};
 
-use crate::place::{break_end, is_marker, nb_at, spaces_end};
 use yaml_events::{ScanFault, Why};
+use yaml_scan::{break_end, is_marker, nb_at, spaces_end};
 
 /// How many spaces the widest line of spaces has, of all that stand at `at` one behind the other, and where they end.
 fn leading_lines(text: &str, at: usize) -> (usize, usize)

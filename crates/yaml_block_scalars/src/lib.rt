@@ -8,7 +8,6 @@ mod first_line;
 mod indent;
 mod line;
 mod parts;
-mod place;
 mod scalar;
 mod value;
 

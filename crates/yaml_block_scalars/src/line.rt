@@ -7,8 +7,8 @@ ghost use Rattle.yaml_grammar.specs.BlockScalars.{goes_on};
 ghost use Rattle.yaml_recognizers.specs.BlockScalars.{lines_at};
 ghost use Rattle.yaml_block_scalars.specs.Lines.{IsPastGaps, AreGaps, IsTextStart, IsLine};
 
-use crate::place::{break_end, is_marker, is_white, nb_at, nb_end, spaces_end, stop_at};
 use yaml_events::{ScanFault, Why};
+use yaml_scan::{break_end, is_marker, nb_at, nb_end, spaces_end, stop_at, white_at};
 
 /// A text line, and the empty lines behind it.
 #[derive(Clone, Copy)]
@@ -91,7 +91,7 @@ pub(crate) fn text_line(text: &str, at: usize, indent: usize) -> Result<Option<L
     Ok(Some(Line {
         start,
         end,
-        white: is_white(text, start),
+        white: white_at(text, start),
         has_break: stop.has_break,
         gaps,
         next,

@@ -1,22 +1,27 @@
 // Block scalars behind their headers.
-ghost use Rattle.std.specs.Prelude.{◌≡◌, ◌≤◌, ◌^◌, ◌≤ℤ◌, negsuc, true, false, [], None, Some, IsTrue, IfOk, IfErr, MatchBool, length, string_bytes};
+ghost use Rattle.std.specs.Prelude.{◌≡◌, ◌≤◌, ◌^◌, ◌≤ℤ◌, negsuc, true, false, [], None, Some, IsTrue, IfOk, IfErr, MatchOption, length, string_bytes};
 ghost use Rattle.std.specs.Cow.{cow_str_bytes, IsBorrowedStr};
 ghost use Rattle.std.specs.Str.{IsCharBoundary, chars};
 ghost use Rattle.yaml_chars.specs.Places.{rest};
 ghost use Rattle.yaml_events.specs.Places.{Refuses};
+ghost use Rattle.yaml_grammar.specs.FlowScalars.{line_feeds};
+ghost use Rattle.yaml_grammar.specs.Texts.{begins};
 ghost use Rattle.yaml_recognizers.specs.BlockScalars.{digit_fits, find_indent, gaps_at, lines_at};
 ghost use Rattle.yaml_recognizers.specs.BlockScalarFacts.{NoBody};
 ghost use Rattle.yaml_block_scalars.specs.Found.{IsBodyAt, IsPieceAt, AreLines, ArePiece};
-ghost use Rattle.yaml_block_scalars.specs.Lines.{IsPlaced, IsAlone, IsNotAlone, ArePushed};
+ghost use Rattle.yaml_block_scalars.specs.Lines.{AreFeeds, IsPlaced, IsPiece, IsNoPiece, ArePushed};
+ghost use Rattle.yaml_scan.specs.Lines.{IsLineStart};
 ghost use Rattle.yaml_block_scalars.specs.Meant.{chomping_of, least_indent};
 
 use crate::indent::detected;
 use crate::line::{Line, empty_lines, text_line, text_start};
 use crate::parts::{Chomping, Header};
-use crate::value::{feeds_behind, no_lines, push_between, push_feeds};
+use crate::value::{feeds_behind, no_lines, push_between};
 use std::alloc::Global;
 use std::borrow::CowStr;
+use yaml_chars::next_break;
 use yaml_events::ScanFault;
+use yaml_scan::{break_end, push_line_feeds, spaces_end};
 
 /// How the breaks of a block scalar are read.
 #[derive(Clone, Copy)]
@@ -41,7 +46,7 @@ fn push_lines(
     'lines: loop {
         value.push_str(&text[line.start..line.end])?;
         let Some(next) = text_line(text, line.next, indent)? else {
-            push_feeds(value, feeds_behind(style.chomping, line))?;
+            push_line_feeds(value, feeds_behind(style.chomping, line))?;
             return Ok(line.next);
         };
         push_between(value, style.folded, line, next)?;
@@ -49,20 +54,64 @@ fn push_lines(
     }
 }
 
-/// Whether a value with the text line `line`, behind so many empty lines, is the text of that line.
-fn is_alone(text: &str, gaps: usize, line: Line, indent: usize, chomping: Chomping) -> bool
+/// The end of so many line feeds at `at`; None where other characters stand there.
+fn feeds_end(text: &str, at: usize, count: usize) -> Option<usize>
+    requires { IsCharBoundary text.now at }
+    ensures { MatchOption result (begins (line_feeds count) (rest text.now at) ≡ false) (AreFeeds text.now at count) }
+{
+    let bytes = text.as_bytes();
+    let mut end = at;
+    while end - at < count {
+        if end == bytes.len() {
+            return None;
+        }
+        if bytes[end] != b'\n' {
+            return None;
+        }
+        end += 1;
+    }
+    Some(end)
+}
+
+/// Where the value ends in the text, if the text has it in one piece from the start of the text line `line` on, behind so many
+/// empty lines; None where it has not.
+fn piece_end(
+    text: &str,
+    gaps: usize,
+    line: Line,
+    indent: usize,
+    chomping: Chomping,
+) -> Option<usize>
     requires { IsPlaced indent text.now line }
-    ensures { MatchBool result (IsAlone indent (chomping_of chomping) text.now gaps line) (IsNotAlone indent (chomping_of chomping) text.now gaps line) }
+    ensures { MatchOption result (IsNoPiece indent (chomping_of chomping) text.now gaps line) (IsPiece indent (chomping_of chomping) text.now gaps line) }
 {
     if gaps > 0 {
-        return false;
+        return None;
     }
-    if feeds_behind(chomping, line) > 0 {
-        return false;
-    }
+    let Some(end) = feeds_end(text, line.end, feeds_behind(chomping, line)) else {
+        return None;
+    };
     match text_start(text, line.next, indent) {
-        Some(_) => false,
-        None => true,
+        Some(_) => None,
+        None => Some(end),
+    }
+}
+
+/// How many bytes the value of the lines from `line` on may have: those up to the first line that is indented less. It says how
+/// much memory to take, and no contract says it.
+fn room(text: &str, line: Line, indent: usize) -> usize
+    requires { IsPlaced indent text.now line }
+{
+    let mut place = line.next;
+    'lines: loop {
+        let first = spaces_end(text, place);
+        if first - place < indent && break_end(text, first).is_none() {
+            return place.saturating_sub(line.start);
+        }
+        let Some((start, len)) = next_break(text, first) else {
+            return text.len().saturating_sub(line.start);
+        };
+        place = start + len;
     }
 }
 
@@ -83,11 +132,11 @@ fn lines<'a>(
     let Some(line) = text_line(text, place, indent)? else {
         return Ok((no_lines(alloc, style.chomping, gaps)?, place));
     };
-    if is_alone(text, gaps, line, indent, style.chomping) {
-        return Ok((CowStr::Borrowed(&text[line.start..line.end]), line.next));
+    if let Some(end) = piece_end(text, gaps, line, indent, style.chomping) {
+        return Ok((CowStr::Borrowed(&text[line.start..end]), line.next));
     }
-    let mut value = String::new(alloc);
-    push_feeds(&mut value, gaps)?;
+    let mut value = String::with_capacity(alloc, gaps.saturating_add(room(text, line, indent)))?;
+    push_line_feeds(&mut value, gaps)?;
     let end = push_lines(&mut value, text, line, indent, style)?;
     Ok((CowStr::Owned(value), end))
 }
@@ -142,7 +191,8 @@ fn body<'a>(
 ///
 /// `at` is on a boundary of a character. The scalar stands below an indentation of `n`, which is -1 at a document's top. Of the
 /// header the digit, from 1 to 9, and the chomping count; `folded` is not looked at. Each break in the value is one LF. The value
-/// is borrowed where it is the text of the only text line, and where it is empty and there is no text line.
+/// is borrowed where the text has it in one piece: where it is the text of the only text line and the line feeds that stand behind it,
+/// and where it is empty and there is no text line. Memory for any other is taken once.
 ///
 /// Answers [`ScanFault::At`] where no such scalar stands: where a line of spaces before the first text line is too wide, or a
 /// line holds a character that none may hold. Answers [`ScanFault::OutOfMemory`] where there is no memory for the value.
@@ -157,6 +207,7 @@ pub fn literal<'a>(
     requires below { negsuc 0 ≤ℤ n }
     requires digit { IsTrue (digit_fits header.now.digit) }
     ensures found { IfOk result (λ found. IsBodyAt (least_indent n) false header.now text.now at (cow_str_bytes found.0) found.1) }
+    ensures line { IsLineStart text.now at → IfOk result (λ found. IsLineStart text.now found.1) }
     ensures borrowed { IfOk result (λ found. IsPieceAt (least_indent n) header.now text.now at found.1 → IsBorrowedStr found.0) }
     ensures none { IfErr result (λ fault. Refuses fault (NoBody header.now.digit (least_indent n) (rest text.now at))) }
 {
@@ -179,6 +230,7 @@ pub fn folded<'a>(
     requires below { negsuc 0 ≤ℤ n }
     requires digit { IsTrue (digit_fits header.now.digit) }
     ensures found { IfOk result (λ found. IsBodyAt (least_indent n) true header.now text.now at (cow_str_bytes found.0) found.1) }
+    ensures line { IsLineStart text.now at → IfOk result (λ found. IsLineStart text.now found.1) }
     ensures borrowed { IfOk result (λ found. IsPieceAt (least_indent n) header.now text.now at found.1 → IsBorrowedStr found.0) }
     ensures none { IfErr result (λ fault. Refuses fault (NoBody header.now.digit (least_indent n) (rest text.now at))) }
 {

@@ -11,6 +11,7 @@ use crate::line::Line;
 use crate::parts::Chomping;
 use std::alloc::{AllocError, Global};
 use std::borrow::CowStr;
+use yaml_scan::push_line_feeds;
 
 /// How many line feeds stand behind the last text line in the value.
 pub(crate) fn feeds_behind(chomping: Chomping, line: Line) -> usize
@@ -35,15 +36,6 @@ fn kept_feeds(chomping: Chomping, gaps: usize) -> usize
     }
 }
 
-pub(crate) fn push_feeds(value: &mut String, count: usize) -> Result<(), AllocError>
-    ensures { OnOk result (string_bytes value.new ≡ string_bytes value.old ++ line_feeds count) }
-{
-    for _ in 0..count {
-        value.push('\n')?;
-    }
-    Ok(())
-}
-
 /// Pushes what stands between two text lines in the value.
 pub(crate) fn push_between(
     value: &mut String,
@@ -55,12 +47,12 @@ pub(crate) fn push_between(
     ensures { OnOk result ((l m : TextLine) → Describes line l → Describes next m → string_bytes value.new ≡ string_bytes value.old ++ between_lines folded l m) }
 {
     if !folded || line.white || next.white {
-        return push_feeds(value, line.gaps + 1);
+        return push_line_feeds(value, line.gaps + 1);
     }
     if line.gaps == 0 {
         return value.push(' ');
     }
-    push_feeds(value, line.gaps)
+    push_line_feeds(value, line.gaps)
 }
 
 /// The value where there is no text line, behind so many empty lines.
@@ -77,6 +69,6 @@ pub(crate) fn no_lines<'a>(
         return Ok(CowStr::Borrowed(""));
     }
     let mut value = String::new(alloc);
-    push_feeds(&mut value, feeds)?;
+    push_line_feeds(&mut value, feeds)?;
     Ok(CowStr::Owned(value))
 }

@@ -11,14 +11,18 @@ use Rattle.std.proofs.lemmas.Bool.{iff_false, and_parts, and_from, and_left, and
 use Rattle.std.proofs.lemmas.Bool.Decides.{nat_tests}
 use Rattle.std.proofs.lemmas.Str.{IsCharBoundary-after_ascii}
 use Rattle.yaml_chars.specs.Classes.{line_break, is_in, code_point}
-use Rattle.yaml_chars.specs.Places.{rest, between}
+use Rattle.yaml_chars.specs.Places.{rest, between, IsRun}
 use Rattle.yaml_chars.proofs.Places.{char_at, rest-ascii, rest-end, rest-between, code_point-scalar, between-nil, between-push_ascii}
 use Rattle.yaml_chars.proofs.Runs.{IsBlind, test-char_at}
 use Rattle.yaml_grammar.specs.Texts.{every, first}
 use Rattle.yaml_grammar.specs.FlowScalars.{escape, number as counted, hex_digit, digit_of, hex_value, digits_behind, double_item, escaped_char}
 use Rattle.yaml_recognizers.specs.QuotedScalars.{read_item, read_number}
 use Rattle.yaml_recognizers.proofs.Breaks.{break_some}
-use Rattle.yaml_flow_scalars.specs.Folds.{BreakAt, NoBreakAt}
+use Rattle.yaml_recognizers.specs.Comments.{read_break}
+use Rattle.yaml_scan.specs.Places.{IsBreak, is_sign}
+use Rattle.yaml_scan.specs.Classes.{double_quoted}
+use Rattle.yaml_scan.proofs.ByteRuns.{ascii_in_front}
+use Rattle.yaml_scan.proofs.ByteSigns.{sign_there}
 use Rattle.yaml_flow_scalars.specs.DoubleScan.{raw_char, EscapeAt, NoEscapeAt, IsEscape, IsDigit, digits_at, IsNumberAt}
 
 -- ---- tests that do not tell characters from 128 on apart
@@ -54,16 +58,26 @@ byte_read bs i k u l e a = rest-ascii bs i u l (omega arith) ∙ ap (λ x. x ∷
 pub behind_byte : (bs : List ℕ) (i k : ℕ) → IsUtf8 bs → i < length bs → get_or bs i 0 ≡ k → k < 128 → IsCharBoundary bs (i + 1)
 behind_byte bs i k u l e a = IsCharBoundary-after_ascii bs i u l (omega arith)
 
--- what a test of a byte says, where the bytes are those of a text
-pub stands : (bs text : List ℕ) (i k : ℕ) (b : Bool) → bs ≡ text → IsTrue b ↔ ((i < length bs) × (slice_index bs i ≡ k)) → b ≡ true → (i < length text) × (get_or text i 0 ≡ k)
-stands bs text i k b same h e = subst (λ (x : List ℕ). (i < length x) × (get_or x i 0 ≡ k)) same (h.0 e)
+-- what a test of a byte at a place says
+pub stands : (text : List ℕ) (i k : ℕ) (b : Bool) → IsUtf8 text → IsCharBoundary text i → k < 128 → b ≡ first (is_sign k) (rest text i) → b ≡ true
+    → (i < length text) × (get_or text i 0 ≡ k)
+stands text i k b u d a h e =
+    let sign = sign_there text i k u d a (sym h ∙ e) in
+    let front = ascii_in_front text i k (rest text (i + 1)) u d a sign.splits in
+    (front.within, front.byte)
 
-pub stands_not : (bs text : List ℕ) (i k : ℕ) (b : Bool) → bs ≡ text → IsTrue b ↔ ((i < length bs) × (slice_index bs i ≡ k)) → b ≡ false → i < length text → get_or text i 0 ≡ k → ⊥
-stands_not bs text i k b same h e l q = iff_false h e (subst (λ (x : List ℕ). (i < length x) × (get_or x i 0 ≡ k)) (sym same) (l, q))
+pub stands_not : (text : List ℕ) (i k : ℕ) (b : Bool) → IsUtf8 text → k < 128 → b ≡ first (is_sign k) (rest text i) → b ≡ false → i < length text → get_or text i 0 ≡ k → ⊥
+stands_not text i k b u a h e l q =
+    false≢true (sym e ∙ (h ∙ (ap (first (is_sign k)) (byte_read text i k u l q a) ∙ eq-eqb k k refl)))
 
-pub break_there : (text : List ℕ) (at : ℕ) (r : Option ℕ) → IfSome r (BreakAt text at) → IfNone r (NoBreakAt text at) → is_some r ≡ first line_break (rest text at)
-break_there text at (Some end) h n = sym (ap is_some h.found) ∙ break_some (rest text at)
+pub break_there : (text : List ℕ) (at : ℕ) (r : Option ℕ) → IfSome r (IsBreak text at) → IfNone r (read_break (rest text at) ≡ None) → is_some r ≡ first line_break (rest text at)
+break_there text at (Some end) h n = sym (ap is_some h.reads) ∙ break_some (rest text at)
 break_there text at None h n = sym (ap is_some n) ∙ break_some (rest text at)
+
+-- the class of the table is that of the characters that stand for themselves
+pub raw_run : (text : List ℕ) (i j : ℕ) → IsRun double_quoted text i j → IsRun raw_char text i j
+unfolding raw_char
+raw_run text i j run = run
 
 -- ---- digits
 

@@ -27,8 +27,9 @@ use Rattle.yaml_recognizers.proofs.JoinSteps.{Passed, no_lead, passed_all, passe
 use Rattle.yaml_recognizers.proofs.Joins.{empty_shrinks}
 use Rattle.yaml_recognizers.proofs.Reading.{chosen, none_some, on_parts, some_parts}
 use Rattle.yaml_recognizers.proofs.Repeated.{repeated_end}
-use Rattle.yaml_flow_scalars.specs.Folds.{BreakAt, IsFold, IsFront, IsMargin, NoFold}
-use Rattle.yaml_flow_scalars.proofs.FoldBytes.{first-rest}
+use Rattle.yaml_flow_scalars.specs.Folds.{IsFold, IsFront, IsMargin, NoFold}
+use Rattle.yaml_scan.specs.Places.{IsBreak}
+use Rattle.yaml_scan.proofs.ByteRuns.{first-rest}
 
 -- ---- runs
 
@@ -203,15 +204,15 @@ pub record Folding (n : ℕ) (text : List ℕ) (at line empties : ℕ) : Type 0 
   pub count : length lines ≡ empties
   pub passed : Passed n start lines (rest text line)
 
-pub folding_begins : (n : ℕ) (text : List ℕ) (at line : ℕ) → BreakAt text at line → Folding n text at line 0
+pub folding_begins : (n : ℕ) (text : List ℕ) (at line : ℕ) → IsBreak text at line → Folding n text at line 0
 folding_begins n text at line b =
     let above = b.above in
     record {
       above = omega arith;
       boundary = b.boundary;
-      stop = b.stop;
+      stop = b.break;
       start = rest text line;
-      broken = b.found;
+      broken = b.reads;
       lines = [];
       count = refl;
       passed = passed_none n (rest text line);
@@ -222,9 +223,9 @@ length-more [] e = refl
 length-more (x ∷ xs) e = let more : length (xs ++ e ∷ []) ≡ length xs + 1 = length-more xs e in omega arith
 
 pub folding_goes_on : (n : ℕ) (text : List ℕ) (at line empties front next : ℕ) (indented : Bool) → Folding n text at line empties → IsFront n text line front indented
-    → BreakAt text front next → Folding n text at next (empties + 1)
+    → IsBreak text front next → Folding n text at next (empties + 1)
 folding_goes_on n text at line empties front next indented g f b =
-    let found = f.empty b.stop (rest text next) b.found in
+    let found = f.empty b.break (rest text next) b.reads in
     let above = g.above in
     let further = f.above in
     let behind = b.above in

@@ -1,9 +1,8 @@
-pub mod FoldBytes
 pub mod FoldSteps
 pub mod WhiteEnds
-pub mod Refusals
+pub mod Results
 pub mod PlainPieces
-pub mod PlainStarts
+pub mod PlainWords
 pub mod PlainLines
 pub mod PlainFound
 pub mod SingleSteps
@@ -12,3 +11,5 @@ pub mod DoubleReads
 pub mod DoublePlaces
 pub mod DoubleAdds
 pub mod DoubleFound
+pub mod InsideLines
+pub mod Unbroken

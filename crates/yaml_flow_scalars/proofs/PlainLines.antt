@@ -20,7 +20,7 @@ use Rattle.yaml_recognizers.proofs.Fronts.{taken_all, dropped_all}
 use Rattle.yaml_recognizers.proofs.JoinSteps.{no_break}
 use Rattle.yaml_recognizers.proofs.PlainSteps.{line_behind_join, no_line_no_join, lines_of_key, no_more_lines, one_more_line}
 use Rattle.yaml_recognizers.proofs.Reading.{none_some}
-use Rattle.yaml_flow_scalars.proofs.FoldBytes.{first-rest}
+use Rattle.yaml_scan.proofs.ByteRuns.{first-rest}
 use Rattle.yaml_flow_scalars.proofs.FoldSteps.{run_every, run_first}
 use Rattle.yaml_flow_scalars.proofs.PlainPieces.{between_some}
 use Rattle.yaml_flow_scalars.specs.Folds.{IsFold, NoFold}

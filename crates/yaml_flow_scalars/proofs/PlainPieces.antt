@@ -18,7 +18,8 @@ use Rattle.yaml_recognizers.specs.PlainScalars.{read_run, last_of}
 use Rattle.yaml_recognizers.proofs.PlainRuns.{no_run, no_run_at_end}
 use Rattle.yaml_recognizers.proofs.PlainSteps.{step_char, step_white, stop_white}
 use Rattle.yaml_flow_scalars.proofs.FoldSteps.{run_every, run_first}
-use Rattle.yaml_flow_scalars.specs.PlainPlaces.{simple, goes_on_plain, IsPlainPiece, NoPlainPiece, IsPlainRun}
+use Rattle.yaml_scan.specs.Classes.{simple}
+use Rattle.yaml_flow_scalars.specs.PlainPlaces.{goes_on_plain, IsPlainPiece, NoPlainPiece, IsPlainRun}
 
 -- ---- the character before
 
@@ -64,23 +65,8 @@ pub one_goes_on : (c : FlowContext) (before last x : ℕ) (xs : List ℕ) → pl
 one_goes_on c before last x xs h e =
     step_char c before x xs h ∙ ap (λ t. x ∷ t) (run_by_ns c x last xs (plain_is_ns c before x xs h ∙ sym e))
 
-simple_is_plain : (c : FlowContext) (before x : ℕ) (xs : List ℕ) → simple c x ≡ true → plain_next c before x xs ≡ true
+pub simple_is_plain : (c : FlowContext) (before x : ℕ) (xs : List ℕ) → simple c x ≡ true → plain_next c before x xs ≡ true
 simple_is_plain c before x xs h = rw ((and_parts (nat_lt x 128) _ h).1) refl
-
-pub simple_goes_on : (c : FlowContext) (before last : ℕ) (front behind : List ℕ) → list_all (simple c) front ≡ true → is_empty front ≡ false → ns last ≡ true
-    → read_run c before (front ++ behind) ≡ front ++ read_run c last behind
-simple_goes_on c before last [] behind h s e = absurd (false≢true (sym s))
-simple_goes_on c before last (x ∷ []) behind h s e = one_goes_on c before last x behind (simple_is_plain c before x behind (and_parts _ _ h).0) e
-simple_goes_on c before last (x ∷ y ∷ ys) behind h s e =
-    let p : (simple c x ≡ true) × (list_all (simple c) (y ∷ ys) ≡ true) = and_parts _ _ h in
-    step_char c before x ((y ∷ ys) ++ behind) (simple_is_plain c before x ((y ∷ ys) ++ behind) p.0)
-    ∙ ap (λ t. x ∷ t) (simple_goes_on c x last (y ∷ ys) behind p.1 refl e)
-
-pub blind-simple : (c : FlowContext) → IsBlind (simple c)
-blind-simple c x h l = above x h ∙ sym (above 128 (omega arith))
-  where
-    above : (y : ℕ) → 128 ≤ y → simple c y ≡ false
-    above y k = let e : nat_lt y 128 ≡ false = grind (arith, nat_tests) in rw e refl
 
 -- ---- white
 
@@ -132,34 +118,12 @@ no_run_here c before (x ∷ xs) h w = no_run c before x xs h w
 
 -- ---- at places
 
--- where no character is found the text ends
-pub rest_none : (text : List ℕ) (at : ℕ) → ((◌≡◌ {A = Bool} false true → at < length text) × (at < length text → ◌≡◌ {A = Bool} false true)) → rest text at ≡ []
-rest_none text at h = elim (cases_lt at (length text)) [ inl l ↦ absurd (false≢true (h.1 l)) | inr past ↦ rest-end text at past ]
-
--- a loop over bytes, one further
-pub one_more : (P : ℕ → Type 0) (from end : ℕ) → ((k : ℕ) → from ≤ k → k < end → P k) → P end → (k : ℕ) → from ≤ k → k < end + 1 → P k
-one_more P from end h here k l m = elim (cases_lt k end) [
-  | inl before ↦ h k l before
-  | inr at ↦ (let e : end ≡ k = omega arith in subst P e here)
-]
-
 pub between_some : (text : List ℕ) (i j : ℕ) → IsUtf8 text → i < j → IsCharBoundary text i → IsCharBoundary text j → is_empty (between text i j) ≡ false
 between_some text i j u l b d = some (between text i j) (encodes-between text i j u (omega arith) b d)
   where
     some : (xs : List ℕ) → encodes xs ≡ slice_range text i j → is_empty xs ≡ false
     some [] e = absurd (omega (arith, ap (λ (x : List ℕ). length x) e, length-take (j - i) (drop i text), length-drop i text, d.0))
     some (x ∷ xs) e = refl
-
--- a piece of simple characters
-pub simple_piece : (c : FlowContext) (black : Bool) (text : List ℕ) (at end : ℕ) → IsUtf8 text → IsCharBoundary text at → IsRun (simple c) text at end → at < end → IsPlainPiece c black text at end
-simple_piece c black text at end u b run l = record {
-  above = l;
-  boundary = run.boundary;
-  goes_on = λ before last e f.
-      ap (read_run c before) (rest-between text at end u run.above b run.boundary)
-      ∙ simple_goes_on c before last (between text at end) (rest text end) (list_all-from_AllPass (simple c) (between text at end) run.passes)
-      (between_some text at end u l b run.boundary) f;
-}
 
 -- a piece of one character
 pub one_piece : (c : FlowContext) (black : Bool) (text : List ℕ) (at end x : ℕ) → IsUtf8 text → IsCharBoundary text at → at < end → IsCharBoundary text end

@@ -29,7 +29,7 @@ use Rattle.yaml_recognizers.specs.WholeScalars.{IsScalar}
 use Rattle.yaml_flow_scalars.specs.Folds.{IsWhiteStart, IsFold}
 use Rattle.yaml_flow_scalars.specs.Standing.{NoScalarAt, ScalarAt}
 use Rattle.yaml_flow_scalars.specs.SingleScalars.{content, unchanged, read_inside, IsInside, NoFoldIn}
-use Rattle.yaml_flow_scalars.proofs.FoldBytes.{first-rest}
+use Rattle.yaml_scan.proofs.ByteRuns.{first-rest}
 use Rattle.yaml_flow_scalars.proofs.FoldSteps.{fold_solid, run_every, run_first}
 use Rattle.yaml_flow_scalars.proofs.SingleSteps.{inside_close, inside_control, inside_fold, inside_no_fold, inside_pair, with_front-append, with_front-nil}
 
@@ -62,12 +62,6 @@ quote_at bs i u b h =
     let ascii : slice_index bs i < 128 = omega arith in
     record { within = within; byte = byte; next = IsCharBoundary-after_ascii bs i u within ascii; splits = rest-ascii bs i u within ascii ∙ ap (λ x. x ∷ rest bs (i + 1)) byte }
 
-pub quote_test : (bs : List ℕ) (i : ℕ) → IsUtf8 bs → IsCharBoundary bs i → i < length bs → quote (slice_index bs i) ≡ first quote (rest bs i)
-quote_test bs i u b l = sym (first-rest quote bs i blind-quote u b ∙ ap (first quote) (drop_more bs i 0 l))
-
-pub quote_past : (bs : List ℕ) (i : ℕ) → IsUtf8 bs → IsCharBoundary bs i → length bs ≤ i → first quote (rest bs i) ≡ false
-quote_past bs i u b l = first-rest quote bs i blind-quote u b ∙ ap (first quote) (drop_all i bs l)
-
 fold_breaks : (n : ℕ) (text : List ℕ) (at empties next : ℕ) → IsFold n text at empties next → first line_break (rest text at) ≡ true
 unfolding behind_blank
 fold_breaks n text at empties next f =
@@ -84,19 +78,10 @@ pub record Running (n : ℕ) (c : FlowContext) (text : List ℕ) (start place en
   pub run : IsRun content text place end
   pub reads : read_inside n c (rest text start) ≡ with_front (chars value) (read_inside n c (rest text place))
 
--- what the code finds in the bytes of a text
-pub running : (n : ℕ) (c : FlowContext) (text bs : List ℕ) (start place end : ℕ) (value : List ℕ) → bs ≡ text → IsUtf8 text → IsUtf8 value → IsCharBoundary text place
-    → read_inside n c (rest text start) ≡ with_front (chars value) (read_inside n c (rest text place)) → IsRun content bs place end → Running n c text start place end value
-running n c text bs start place end value same u v b reads r =
-    record { utf8 = u; value_utf8 = v; boundary = b; run = subst (λ x. IsRun content x place end) same r; reads = reads }
-
-pub quote_told : (text bs : List ℕ) (i : ℕ) (told answer : Bool) → bs ≡ text → told ≡ first quote (rest bs i) → told ≡ answer → first quote (rest text i) ≡ answer
-quote_told text bs i told answer same e h = ap (λ x. first quote (rest x i)) (sym same) ∙ (sym e ∙ h)
-
-pub behind_quote : (text bs : List ℕ) (i : ℕ) → bs ≡ text → IsUtf8 text → IsCharBoundary bs i → first quote (rest text i) ≡ true → IsCharBoundary text (i + 1) × IsCharBoundary bs (i + 1)
-behind_quote text bs i same u b q =
-    let there = quote_at text i u (subst (λ x. IsCharBoundary x i) same b) q in
-    (there.next, subst (λ x. IsCharBoundary x (i + 1)) (sym same) there.next)
+pub running : (n : ℕ) (c : FlowContext) (text : List ℕ) (start place end : ℕ) (value : List ℕ) → IsUtf8 text → IsUtf8 value → IsCharBoundary text place
+    → read_inside n c (rest text start) ≡ with_front (chars value) (read_inside n c (rest text place)) → IsRun content text place end → Running n c text start place end value
+running n c text start place end value u v b reads r =
+    record { utf8 = u; value_utf8 = v; boundary = b; run = r; reads = reads }
 
 pub begun : (n : ℕ) (c : FlowContext) (text : List ℕ) (start : ℕ) (value : List ℕ) → value ≡ []
     → read_inside n c (rest text start) ≡ with_front (chars value) (read_inside n c (rest text start))

@@ -24,17 +24,6 @@ pub record IsFold (n : ℕ) (text : List ℕ) (at empties next : ℕ) : Type 0 w
 abbrev pub NoFold : ℕ → List ℕ → ℕ → Type 0
 NoFold n text at = (escaped : Bool) (blank : List ℕ) → behind_blank escaped n blank (rest text at) ≡ None
 
--- a break stands at the place, and ends at the other
-pub record BreakAt (text : List ℕ) (at end : ℕ) : Type 0 where
-  pub above : at < end
-  pub boundary : IsCharBoundary text end
-  pub stop : Break
-  pub found : read_break (rest text at) ≡ Some (stop, rest text end)
-
--- no break stands there
-abbrev pub NoBreakAt : List ℕ → ℕ → Type 0
-NoBreakAt text at = read_break (rest text at) ≡ None
-
 -- Behind the spaces of a line, n of them at most.
 pub record IsMargin (n : ℕ) (text : List ℕ) (at end : ℕ) : Type 0 where
   pub above : at ≤ end

@@ -1,22 +1,27 @@
 -- Plain scalars at places of a text: the first character, a line's run of characters, and further lines.
 -- Here black tells whether the character before a place is neither white nor a break.
-use Rattle.std.specs.Prelude.{◌≡◌, ℕ, ◌<◌, ◌≤◌, Bool, true, false, not, ◌&&◌, nat_lt, List, [], ◌∷◌, ◌++◌, codes, flat_map, slice_index, slice_range}
-use Rattle.std.specs.Cow.{IsBorrowedStr, cow_str_bytes}
+use Rattle.std.specs.Prelude.{◌≡◌, ℕ, ◌<◌, ◌≤◌, Bool, true, false, ◌&&◌, ◌||◌, List, [], ◌∷◌, ◌++◌, flat_map, slice_index}
 use Rattle.std.specs.Str.{IsCharBoundary, chars}
-use Rattle.std.specs.declared.borrow.CowStr.{CowStr}
-use Rattle.yaml_chars.specs.Breaks.{NoBreak}
-use Rattle.yaml_chars.specs.Classes.{is_in, line_break, ns}
+use Rattle.yaml_chars.specs.Classes.{line_break, ns}
+use Rattle.yaml_chars.specs.Classes.{between as within}
 use Rattle.yaml_chars.specs.Places.{rest, between}
 use Rattle.yaml_grammar.specs.Texts.{no_marker}
-use Rattle.yaml_grammar.specs.FlowScalars.{FlowContext, Line, safe, plain_first, plain_next, line_value, char_value, folded_break}
+use Rattle.yaml_grammar.specs.FlowScalars.{FlowContext, Line, plain_first, plain_next, line_value, char_value, folded_break}
 use Rattle.yaml_events.specs.Places.{line_starts}
+use Rattle.yaml_flow_scalars.specs.declared.plain_scalar.Before.{Before}
+use Rattle.yaml_flow_scalars.specs.declared.plain_scalar.Before.TheVariants.{Content, Blank}
 use Rattle.yaml_recognizers.specs.PlainScalars.{read_run, plain_lines_at}
 
 -- ---- characters
 
--- a plain character wherever it stands in a scalar, and a byte of its own
-abbrev pub simple : FlowContext → ℕ → Bool
-simple c x = nat_lt x 128 && (safe c x && not (is_in x (codes ":#")))
+-- what stands before a place is a character that is no white space
+abbrev pub is_content : Before → Bool
+is_content Content = true
+is_content Blank = false
+
+-- each plain scalar may begin with these
+abbrev pub letter_or_digit : ℕ → Bool
+letter_or_digit x = within 48 57 x || within 65 90 x || within 97 122 x
 
 -- where bol tells whether a line starts there, the text begins with the first character of a plain scalar
 abbrev pub begins_plain : FlowContext → Bool → List ℕ → Bool
@@ -86,9 +91,3 @@ pub record PushesLines (n : ℕ) (c : FlowContext) (text : List ℕ) (at : ℕ) 
   pub boundary : IsCharBoundary text end
   pub left : (plain_lines_at n c (rest text at)).1 ≡ rest text end
   pub means : chars longer ≡ chars value ++ line ++ lines_value n c text at
-
--- ---- memory
-
--- What stands on one line is borrowed from the text.
-abbrev pub BorrowsOneLine : {A : Type 0} → List ℕ → ℕ → CowStr A → ℕ → Type 0
-BorrowsOneLine text at value end = NoBreak (slice_range text at end) → IsBorrowedStr value × (cow_str_bytes value ≡ slice_range text at end)

@@ -1,6 +1,6 @@
 // Scalars in double quotes (YAML 1.2.2, 7.3.1).
 ghost use Rattle.std.specs.Prelude.{◌≡◌, ◌≢◌, ◌↔◌, ◌+◌, ◌<◌, ◌≤◌, false, None, IsTrue, IfOk, IfErr, IfSome, IfNone, length, slice_index, codes, if◌then◌else◌};
-ghost use Rattle.std.specs.Str.{IsCharBoundary, IsUtf8, chars};
+ghost use Rattle.std.specs.Str.{IsCharBoundary, chars};
 ghost use Rattle.std.specs.String.{string_bytes};
 ghost use Rattle.std.specs.Cow.{cow_str_bytes};
 ghost use Rattle.yaml_chars.specs.Classes.{line_break, is_in};
@@ -9,16 +9,16 @@ ghost use Rattle.yaml_grammar.specs.Texts.{first};
 ghost use Rattle.yaml_grammar.specs.Events.{double_style};
 ghost use Rattle.yaml_grammar.specs.FlowScalars.{one_line, escape, double_item, hex_digit, digits_behind};
 ghost use Rattle.yaml_events.specs.Meant.{context_of};
-ghost use Rattle.yaml_events.specs.Places.{Refuses};
-ghost use Rattle.yaml_flow_scalars.specs.Standing.{ScalarAt, NoScalarAt};
+ghost use Rattle.yaml_events.specs.Places.{line_starts, Refuses};
+ghost use Rattle.yaml_flow_scalars.specs.Standing.{ScalarAt, NoScalarAt, IsUnbroken};
 ghost use Rattle.yaml_flow_scalars.specs.DoubleScan.{double_value, raw_char, Adds, ClosesAt, EscapeAt, NoEscapeAt, IsEscape, IsDigit, digits_at, IsNumberAt, JoinsAt, NoJoinAt};
 ghost use Rattle.yaml_flow_scalars.specs.DoubleBorrowed.{BorrowsVerbatim};
 
-use crate::bytes::{break_end, white_start};
-use crate::fold::{Fold, fold_at, fold_fault, push_fold, push_line_feeds, stands_on_one_line};
+use crate::fold::{Fold, fold_at, fold_fault, push_fold, stands_on_one_line, white_start};
 use std::alloc::Global;
 use std::borrow::CowStr;
 use yaml_events::{FlowContext, ScanFault, Why};
+use yaml_scan::{Class, break_end, push_line_feeds, run_end, stands_at};
 
 /// What an escape means, and the place behind it.
 #[derive(Clone, Copy)]
@@ -46,17 +46,18 @@ pub fn double<'a>(
     ensures found { IfOk result (λ r. ScalarAt double_style n (context_of context) text.now at (chars (cow_str_bytes r.0)) r.1) }
     ensures borrowed { IfOk result (λ r. BorrowsVerbatim text.now at r.0 r.1) }
     ensures none { IfErr result (λ fault. Refuses fault (NoScalarAt double_style n (context_of context) text.now at)) }
+    ensures unbroken { IfOk result (λ r. IsUnbroken text.now at r.0 r.1) }
+    ensures ends_inside_line { IfOk result (λ r. line_starts text.now r.1 ≡ false) }
 {
-    let bytes = text.as_bytes();
-    if !stands_at(bytes, at, b'"') {
+    if !stands_at(text, at, b'"') {
         return Err(ScanFault::At {
             at,
             why: Why::Quote,
         });
     }
     let start = at + 1;
-    let end = raw_end(bytes, start);
-    if stands_at(bytes, end, b'"') {
+    let end = run_end(text, start, Class::DoubleQuoted);
+    if stands_at(text, end, b'"') {
         return Ok((CowStr::Borrowed(&text[start..end]), end + 1));
     }
     let (value, end) = unescaped(alloc, text, start, end, n, context)?;
@@ -79,13 +80,12 @@ fn unescaped(
     ensures ok { IfOk result (λ r. ClosesAt n (context_of context) text.now start first (string_bytes r.0) r.1) }
     ensures err { IfErr result (λ fault. Refuses fault (double_value n (context_of context) (rest text.now start) ≡ None)) }
 {
-    let bytes = text.as_bytes();
     let mut value = String::new(alloc);
     let mut place = start;
     let mut end = first;
-    'runs: while !stands_at(bytes, end, b'"') {
+    'runs: while !stands_at(text, end, b'"') {
         place = push_run(&mut value, text, place, end, n, context)?;
-        end = raw_end(bytes, place);
+        end = run_end(text, place, Class::DoubleQuoted);
     }
     value.push_str(&text[place..end])?;
     Ok((value, end + 1))
@@ -107,22 +107,21 @@ fn push_run(
     ensures ok { IfOk result (λ next. Adds n (context_of context) text.now (string_bytes value.old) from (string_bytes value.new) next) }
     ensures err { IfErr result (λ fault. Refuses fault (double_value n (context_of context) (rest text.now from) ≡ None)) }
 {
-    let bytes = text.as_bytes();
-    if stands_at(bytes, end, b'\\') {
+    if stands_at(text, end, b'\\') {
         value.push_str(&text[from..end])?;
-        return push_escape(value, bytes, end, n, context);
+        return push_escape(value, text, end, n, context);
     }
-    if !breaks_at(bytes, end) {
-        let why = if end == bytes.len() {
+    if !breaks_at(text, end) {
+        let why = if end == text.len() {
             Why::Quote
         } else {
             Why::Character
         };
         return Err(ScanFault::At { at: end, why });
     }
-    let white = white_start(bytes, from, end);
+    let white = white_start(text, from, end);
     value.push_str(&text[from..white])?;
-    let fold = line_behind(bytes, end, n, context)?;
+    let fold = line_behind(text, end, n, context)?;
     push_fold(value, fold.empties)?;
     Ok(fold.next)
 }
@@ -130,12 +129,11 @@ fn push_run(
 /// Adds what the backslash at a place means with what stands behind it. Answers the place behind that.
 fn push_escape(
     value: &mut String,
-    text: &[u8],
+    text: &str,
     at: usize,
     n: u64,
     context: FlowContext,
 ) -> Result<usize, ScanFault>
-    requires utf8 { IsUtf8 text.now }
     requires within { at < length text.now }
     requires backslash { slice_index text.now at ≡ 92 }
     ensures further { IfOk result (λ next. at < next) }
@@ -152,9 +150,8 @@ fn push_escape(
 }
 
 /// The fold whose break stands at the place, where lines may be joined there. No other join stands right behind it.
-fn line_behind(text: &[u8], at: usize, n: u64, context: FlowContext) -> Result<Fold, ScanFault>
-    requires utf8 { IsUtf8 text.now }
-    requires at { IsCharBoundary text.now at }
+fn line_behind(text: &str, at: usize, n: u64, context: FlowContext) -> Result<Fold, ScanFault>
+    requires { IsCharBoundary text.now at }
     ensures ok { IfOk result (λ fold. JoinsAt n (context_of context) text.now at fold.empties fold.next) }
     ensures err { IfErr result (λ fault. Refuses fault (NoJoinAt n (context_of context) text.now at)) }
 {
@@ -179,59 +176,30 @@ fn line_behind(text: &[u8], at: usize, n: u64, context: FlowContext) -> Result<F
     Ok(fold)
 }
 
-/// Whether this byte stands at the place.
-fn stands_at(text: &[u8], at: usize, byte: u8) -> bool
-    ensures { IsTrue result ↔ ((at < length text.now) × (slice_index text.now at ≡ byte)) }
-{
-    at < text.len() && text[at] == byte
-}
-
 /// Whether a break stands at the place.
-fn breaks_at(text: &[u8], at: usize) -> bool
-    requires utf8 { IsUtf8 text.now }
-    requires at { IsCharBoundary text.now at }
+fn breaks_at(text: &str, at: usize) -> bool
+    requires { IsCharBoundary text.now at }
     ensures { result ≡ first line_break (rest text.now at) }
 {
     break_end(text, at).is_some()
 }
 
-/// Whether a byte stands for itself between the quotes: it is no control but TAB, no quote and no backslash.
-#[tactic(auto, unfolding(crate::specs::DoubleScan::raw_char))]
-fn is_raw(byte: u8) -> bool
-    ensures { result ≡ raw_char byte }
-{
-    (byte >= b' ' || byte == b'\t') && byte != b'"' && byte != b'\\'
-}
-
-/// Behind all characters from the place on that stand for themselves.
-fn raw_end(text: &[u8], at: usize) -> usize
-    requires utf8 { IsUtf8 text.now }
-    requires at { IsCharBoundary text.now at }
-    ensures { IsRun raw_char text.now at result }
-{
-    let mut end = at;
-    while end < text.len() && is_raw(text[end]) {
-        end += 1;
-    }
-    end
-}
-
 /// The escape whose backslash stands at the place (5.7, `c-ns-esc-char`).
-fn escape_at(text: &[u8], at: usize) -> Option<Escape>
-    requires utf8 { IsUtf8 text.now }
+fn escape_at(text: &str, at: usize) -> Option<Escape>
     requires within { at < length text.now }
     requires backslash { slice_index text.now at ≡ 92 }
     ensures found { IfSome result (λ escape. EscapeAt text.now at escape.meant escape.end) }
     ensures none { IfNone result (NoEscapeAt text.now at) }
 {
+    let bytes = text.as_bytes();
     let sign = at + 1;
-    if sign == text.len() {
+    if sign == bytes.len() {
         return None;
     }
-    let digits = digits_behind(text[sign]);
+    let digits = digits_behind(bytes[sign]);
     if digits == 0 {
         return Some(Escape {
-            meant: escaped_char(text[sign])?,
+            meant: escaped_char(bytes[sign])?,
             end: sign + 1,
         });
     }
@@ -282,20 +250,20 @@ fn escaped_char(sign: u8) -> Option<char>
 }
 
 /// The number that so many hexadecimal digits from the place on are.
-fn hex_number(text: &[u8], at: usize, count: usize) -> Option<u32>
-    requires utf8 { IsUtf8 text.now }
+fn hex_number(text: &str, at: usize, count: usize) -> Option<u32>
     requires at { IsCharBoundary text.now at }
     requires few { count ≤ 8 }
     ensures found { IfSome result (IsNumberAt text.now at count) }
     ensures none { IfNone result (digits_at text.now at count ≡ false) }
 {
+    let bytes = text.as_bytes();
     let mut number = 0;
     let mut end = at;
     while end - at < count {
-        if end == text.len() {
+        if end == bytes.len() {
             return None;
         }
-        number = number * 16 + hex_digit(text[end])?;
+        number = number * 16 + hex_digit(bytes[end])?;
         end += 1;
     }
     Some(number)

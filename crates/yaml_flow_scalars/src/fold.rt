@@ -1,14 +1,14 @@
 // Folds: what joins two lines of a flow scalar (YAML 1.2.2, 6.5 and 7.3.1).
-ghost use Rattle.std.specs.Prelude.{◌≡◌, ◌++◌, IfSome, IfNone, OnOk};
-ghost use Rattle.std.specs.Str.{IsCharBoundary, IsUtf8};
+ghost use Rattle.std.specs.Prelude.{◌≡◌, ◌≤◌, ◌++◌, IfSome, IfNone, OnOk};
+ghost use Rattle.std.specs.Str.{IsCharBoundary};
 ghost use Rattle.std.specs.String.{string_bytes};
-ghost use Rattle.yaml_grammar.specs.FlowScalars.{line_feeds, folded_break, one_line};
+ghost use Rattle.yaml_grammar.specs.FlowScalars.{folded_break, one_line};
 ghost use Rattle.yaml_events.specs.Meant.{context_of};
-ghost use Rattle.yaml_flow_scalars.specs.Folds.{IsFold, NoFold, IsFront, IsMargin};
+ghost use Rattle.yaml_flow_scalars.specs.Folds.{IsFold, NoFold, IsFront, IsMargin, IsWhiteStart};
 
-use crate::bytes::{break_end, is_marker, white_end};
 use std::alloc::AllocError;
 use yaml_events::{FlowContext, ScanFault, Why};
+use yaml_scan::{break_end, is_marker, is_white, push_line_feeds, white_end};
 
 /// A break inside a scalar, with the empty lines behind it and the white at the front of the next line.
 #[derive(Clone, Copy)]
@@ -21,9 +21,8 @@ pub(crate) struct Fold {
 
 /// The fold whose break stands at the place: behind it come empty lines, and a line that is indented by `indent` spaces or
 /// more and is no document's mark. There is none where no break stands there, or no such line.
-pub(crate) fn fold_at(text: &[u8], at: usize, indent: u64) -> Option<Fold>
-    requires utf8 { IsUtf8 text.now }
-    requires at { IsCharBoundary text.now at }
+pub(crate) fn fold_at(text: &str, at: usize, indent: u64) -> Option<Fold>
+    requires { IsCharBoundary text.now at }
     ensures found { IfSome result (λ fold. IsFold indent text.now at fold.empties fold.next) }
     ensures none { IfNone result (NoFold indent text.now at) }
 {
@@ -59,9 +58,8 @@ struct Front {
 }
 
 /// The white at the front of the line that starts at the place.
-fn line_front(text: &[u8], at: usize, indent: u64) -> Front
-    requires utf8 { IsUtf8 text.now }
-    requires at { IsCharBoundary text.now at }
+fn line_front(text: &str, at: usize, indent: u64) -> Front
+    requires { IsCharBoundary text.now at }
     ensures { IsFront indent text.now at result.end result.indented }
 {
     let margin = margin_end(text, at, indent);
@@ -78,13 +76,13 @@ fn line_front(text: &[u8], at: usize, indent: u64) -> Front
 }
 
 /// Behind the spaces from the place on, `indent` of them at most.
-fn margin_end(text: &[u8], at: usize, indent: u64) -> usize
-    requires utf8 { IsUtf8 text.now }
-    requires at { IsCharBoundary text.now at }
+fn margin_end(text: &str, at: usize, indent: u64) -> usize
+    requires { IsCharBoundary text.now at }
     ensures { IsMargin indent text.now at result }
 {
+    let bytes = text.as_bytes();
     let mut end = at;
-    while end < text.len() && ((end - at) as u64) < indent && text[end] == b' ' {
+    while end < bytes.len() && ((end - at) as u64) < indent && bytes[end] == b' ' {
         end += 1;
     }
     end
@@ -92,9 +90,8 @@ fn margin_end(text: &[u8], at: usize, indent: u64) -> usize
 
 /// Why no fold begins with the break at the place, and the line that is at fault: the first one behind it that is not empty. No
 /// contract says it, since it only helps the writer of the text.
-pub(crate) fn fold_fault(text: &[u8], at: usize) -> ScanFault
-    requires utf8 { IsUtf8 text.now }
-    requires at { IsCharBoundary text.now at }
+pub(crate) fn fold_fault(text: &str, at: usize) -> ScanFault
+    requires { IsCharBoundary text.now at }
 {
     let mut line = at;
     'lines: loop {
@@ -124,16 +121,6 @@ pub(crate) fn push_fold(value: &mut String, empties: usize) -> Result<(), AllocE
     push_line_feeds(value, empties)
 }
 
-/// Adds that many line feeds: what a fold behind a backslash means.
-pub(crate) fn push_line_feeds(value: &mut String, count: usize) -> Result<(), AllocError>
-    ensures { OnOk result (string_bytes value.new ≡ string_bytes value.old ++ line_feeds count) }
-{
-    for _ in 0..count {
-        value.push('\n')?;
-    }
-    Ok(())
-}
-
 /// Whether what stands in the context stands on one line: a key does.
 pub(crate) fn stands_on_one_line(context: FlowContext) -> bool
     ensures { result ≡ one_line (context_of context) }
@@ -142,4 +129,19 @@ pub(crate) fn stands_on_one_line(context: FlowContext) -> bool
         FlowContext::Outer | FlowContext::Inner => false,
         FlowContext::BlockKey | FlowContext::FlowKey => true,
     }
+}
+
+/// Where the white space begins that is at the end of what stands between the two places.
+pub(crate) fn white_start(text: &str, from: usize, end: usize) -> usize
+    requires order { from ≤ end }
+    requires from { IsCharBoundary text.now from }
+    requires end { IsCharBoundary text.now end }
+    ensures { IsWhiteStart text.now from result end }
+{
+    let bytes = text.as_bytes();
+    let mut start = end;
+    while start > from && is_white(bytes[start - 1]) {
+        start -= 1;
+    }
+    start
 }

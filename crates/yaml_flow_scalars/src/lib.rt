@@ -4,7 +4,6 @@
 //! place behind it. What stands there is said by the grammar's definitions; `specs/Standing.antt` says how.
 #![tactic(auto)]
 
-mod bytes;
 mod double_quoted;
 mod fold;
 mod plain_scalar;

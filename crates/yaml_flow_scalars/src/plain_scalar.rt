@@ -1,24 +1,26 @@
 // Plain scalars (YAML 1.2.2, 7.3.3).
-ghost use Rattle.std.specs.Prelude.{◌≡◌, ℕ, ◌≤◌, ◌↔◌, [], ◌∷◌, ◌++◌, IsTrue, IfOk, IfErr, IfSome, IfNone};
-ghost use Rattle.std.specs.Str.{IsCharBoundary, IsUtf8, chars};
+ghost use Rattle.std.specs.Prelude.{◌≡◌, ℕ, ◌<◌, ◌≤◌, ◌&&◌, ◌||◌, ◌==◌, nat_lt, false, ◌++◌, IfOk, IfErr, IfSome, IfNone, length, slice_index};
+ghost use Rattle.std.specs.Str.{IsCharBoundary, chars};
 ghost use Rattle.std.specs.Cow.{cow_str_bytes};
 ghost use Rattle.std.specs.String.{string_bytes};
 ghost use Rattle.yaml_chars.specs.Classes.{ns};
-ghost use Rattle.yaml_chars.specs.Places.{rest, between, IsRun};
+ghost use Rattle.yaml_chars.specs.Places.{rest, between};
 ghost use Rattle.yaml_grammar.specs.Events.{plain_style};
 ghost use Rattle.yaml_grammar.specs.Texts.{first};
-ghost use Rattle.yaml_grammar.specs.FlowScalars.{safe, plain_first, plain_next, one_line, folded_break};
+ghost use Rattle.yaml_grammar.specs.FlowScalars.{plain_first, plain_next, folded_break};
+ghost use Rattle.yaml_events.specs.Borrowed.{BorrowsOneLine};
 ghost use Rattle.yaml_events.specs.Meant.{context_of};
 ghost use Rattle.yaml_events.specs.Places.{line_starts, Refuses};
-ghost use Rattle.yaml_flow_scalars.specs.Standing.{ScalarAt, NoScalarAt};
-ghost use Rattle.yaml_flow_scalars.specs.PlainPlaces.{simple, BeginsPlain, NoPlainBegins, IsPlainPiece, NoPlainPiece, IsPlainRun, IsNextLine, NoNextLine, PushesLines, BorrowsOneLine};
+ghost use Rattle.yaml_scan.specs.Classes.{test_of, word};
+ghost use Rattle.yaml_flow_scalars.specs.Standing.{ScalarAt, NoScalarAt, IsUnbroken};
+ghost use Rattle.yaml_flow_scalars.specs.PlainPlaces.{is_content, letter_or_digit, BeginsPlain, NoPlainBegins, IsPlainPiece, NoPlainPiece, IsPlainRun, IsNextLine, NoNextLine, PushesLines};
 
-use crate::bytes::{is_marker, white_end};
-use crate::fold::{fold_at, push_fold, stands_on_one_line};
+use crate::fold::{fold_at, push_fold, stands_on_one_line, white_start};
 use std::alloc::{AllocError, Global};
 use std::borrow::CowStr;
-use yaml_chars::{flow_indicator, indicator, next_char, ns};
+use yaml_chars::{indicator, next_char, ns};
 use yaml_events::{FlowContext, ScanFault, Why};
+use yaml_scan::{Class, is_marker, is_safe, line_starts, run_end, safe_at, white_end};
 
 /// A further line of a plain scalar.
 #[derive(Clone, Copy)]
@@ -48,9 +50,11 @@ pub fn plain<'a>(
     ensures found { IfOk result (λ r. ScalarAt plain_style n (context_of context) text.now at (chars (cow_str_bytes r.0)) r.1) }
     ensures none { IfErr result (λ fault. Refuses fault (NoScalarAt plain_style n (context_of context) text.now at)) }
     ensures borrowed { IfOk result (λ r. BorrowsOneLine text.now at r.0 r.1) }
+    ensures unbroken { IfOk result (λ r. IsUnbroken text.now at r.0 r.1) }
+    ensures ends_inside_line { IfOk result (λ r. line_starts text.now r.1 ≡ false) }
 {
     let behind = first_end(text, at, context)?;
-    let end = run_end(text, behind, true, context);
+    let end = plain_run_end(text, behind, Before::Content, context);
     let Some(line) = next_line(text, end, n, context) else {
         return Ok((CowStr::Borrowed(&text[at..end]), end));
     };
@@ -65,14 +69,16 @@ fn first_end(text: &str, at: usize, context: FlowContext) -> Result<usize, ScanF
     ensures found { IfOk result (BeginsPlain (context_of context) text.now at) }
     ensures none { IfErr result (λ fault. Refuses fault (NoPlainBegins (context_of context) text.now at)) }
 {
+    if letter_or_digit_at(text, at) {
+        return Ok(at + 1);
+    }
     let Some((character, len)) = next_char(text, at) else {
         return Err(ScanFault::At {
             at,
             why: Why::Character,
         });
     };
-    let bytes = text.as_bytes();
-    if starts_line(bytes, at) && is_marker(bytes, at) {
+    if line_starts(text, at) && is_marker(text, at) {
         return Err(ScanFault::At {
             at,
             why: Why::Marker,
@@ -87,27 +93,19 @@ fn first_end(text: &str, at: usize, context: FlowContext) -> Result<usize, ScanF
     Ok(at + len)
 }
 
-/// Whether a line starts at the place: at the text's front, behind a byte order mark there, or behind a break.
-fn starts_line(text: &[u8], at: usize) -> bool
-    requires utf8 { IsUtf8 text.now }
-    requires at { IsCharBoundary text.now at }
-    ensures { result ≡ line_starts text.now at }
+/// Whether an ASCII letter or digit stands at the place: each plain scalar may begin with it.
+fn letter_or_digit_at(text: &str, at: usize) -> bool
+    requires { IsCharBoundary text.now at }
+    ensures { result ≡ first letter_or_digit (rest text.now at) }
 {
-    if at == 0 {
-        return true;
-    }
-    let before = text[at - 1];
-    if before == b'\n' || before == b'\r' {
-        return true;
-    }
-    is_byte_order_mark(&text[..at])
+    let bytes = text.as_bytes();
+    at < bytes.len() && is_letter_or_digit(bytes[at])
 }
 
-/// Whether the bytes are a byte order mark alone (5.2, U+FEFF).
-fn is_byte_order_mark(text: &[u8]) -> bool
-    ensures { IsTrue result ↔ (text.now ≡ 0xef ∷ 0xbb ∷ 0xbf ∷ []) }
+fn is_letter_or_digit(byte: u8) -> bool
+    ensures { result ≡ letter_or_digit byte }
 {
-    matches!(text, [0xef, 0xbb, 0xbf])
+    matches!(byte, b'0'..=b'9' | b'A'..=b'Z' | b'a'..=b'z')
 }
 
 /// Whether a plain scalar may begin with the character, behind which the text goes on at the place (`ns-plain-first`).
@@ -137,101 +135,101 @@ fn why_not_first(character: char) -> Why {
     }
 }
 
-/// Whether a character may stand anywhere in a plain scalar, but for `:` and `#` (`ns-plain-safe`).
-fn is_safe(character: char, context: FlowContext) -> bool
-    ensures { result ≡ safe (context_of context) character }
+/// What stands before a place of a plain scalar.
+#[derive(Clone, Copy)]
+enum Before {
+    /// A character of the scalar that is no white space.
+    Content,
+    /// White space or a break.
+    Blank,
+}
+
+/// What stands before the place `stop`, where words from `end` on go up to `words` and white space from there on.
+fn before_stop(before: Before, end: usize, words: usize, stop: usize) -> Before
+    requires { words ≤ stop }
+    ensures { is_content result ≡ ((nat_lt end words || is_content before) && (stop == words)) }
+{
+    if words < stop {
+        Before::Blank
+    } else if end < words {
+        Before::Content
+    } else {
+        before
+    }
+}
+
+/// The class of words: white space, and ASCII characters that are plain wherever they stand.
+fn words_of(context: FlowContext) -> Class
+    ensures { test_of result ≡ word (context_of context) }
 {
     match context {
-        FlowContext::Outer | FlowContext::BlockKey => ns(character),
-        FlowContext::Inner | FlowContext::FlowKey => ns(character) && !flow_indicator(character),
+        FlowContext::Outer | FlowContext::BlockKey => Class::Words,
+        FlowContext::Inner | FlowContext::FlowKey => Class::WordsInside,
     }
 }
 
-/// Whether such a character stands at the place.
-fn safe_at(text: &str, at: usize, context: FlowContext) -> bool
-    requires { IsCharBoundary text.now at }
-    ensures { result ≡ first (safe (context_of context)) (rest text.now at) }
-{
-    match next_char(text, at) {
-        Some((character, _)) => is_safe(character, context),
-        None => false,
-    }
-}
-
-/// Whether the character is plain, where the text goes on at the place behind it, and `black` tells that the character before it
-/// is neither white nor a break (`ns-plain-char`).
-fn is_plain(character: char, black: bool, text: &str, behind: usize, context: FlowContext) -> bool
-    requires { IsCharBoundary text.now behind }
-    ensures { (before : ℕ) → ns before ≡ black → result ≡ plain_next (context_of context) before character (rest text.now behind) }
-{
-    match character {
-        ':' => safe_at(text, behind, context),
-        '#' => black,
-        _ => is_safe(character, context),
-    }
-}
-
-/// Whether the byte is a plain character wherever it stands in a scalar.
-fn is_simple(byte: u8, context: FlowContext) -> bool
-    ensures { result ≡ simple (context_of context) byte }
-{
-    let is_flow = matches!(byte, b',' | b'[' | b']' | b'{' | b'}');
-    let is_key_or_outer = matches!(context, FlowContext::Outer | FlowContext::BlockKey);
-    matches!(byte, b'!'..=b'~') && byte != b':' && byte != b'#' && (is_key_or_outer || !is_flow)
-}
-
-/// Behind such bytes from the place on.
-fn simple_end(text: &[u8], at: usize, context: FlowContext) -> usize
-    requires utf8 { IsUtf8 text.now }
+/// The end of the plain character at the place, where no word goes on (`ns-plain-char`): a `:` or a `#` where it may stand, or a
+/// character that is not ASCII.
+fn special_end(text: &str, at: usize, before: Before, context: FlowContext) -> Option<usize>
     requires at { IsCharBoundary text.now at }
-    ensures { IsRun (simple (context_of context)) text.now at result }
+    requires stop { at < length text.now → word (context_of context) (slice_index text.now at) ≡ false }
+    ensures found { IfSome result (IsPlainPiece (context_of context) (is_content before) text.now at) }
+    ensures none { IfNone result (NoPlainPiece (context_of context) (is_content before) text.now at) }
 {
-    let mut end = at;
-    while end < text.len() && is_simple(text[end], context) {
-        end += 1;
+    let bytes = text.as_bytes();
+    if at == bytes.len() {
+        return None;
     }
-    end
-}
-
-/// Behind plain characters at the place, one or more, and without white. `black` tells that the character before is neither white
-/// nor a break.
-fn piece_end(text: &str, at: usize, black: bool, context: FlowContext) -> Option<usize>
-    requires { IsCharBoundary text.now at }
-    ensures found { IfSome result (IsPlainPiece (context_of context) black text.now at) }
-    ensures none { IfNone result (NoPlainPiece (context_of context) black text.now at) }
-{
-    let end = simple_end(text.as_bytes(), at, context);
-    if end > at {
-        return Some(end);
+    let byte = bytes[at];
+    if byte < 128 && byte != b':' && byte != b'#' {
+        return None;
     }
     let Some((character, len)) = next_char(text, at) else {
         return None;
     };
-    let behind = at + len;
-    if is_plain(character, black, text, behind, context) {
-        Some(behind)
+    let end = at + len;
+    if is_plain(character, before, text, end, context) {
+        Some(end)
     } else {
         None
     }
 }
 
-/// Behind white and plain characters from the place on: behind the last plain one on the line, or at the place itself. `black`
-/// tells that the character before is neither white nor a break.
-fn run_end(text: &str, from: usize, black: bool, context: FlowContext) -> usize
-    requires { IsCharBoundary text.now from }
-    ensures { IsPlainRun (context_of context) black text.now from result }
+/// Whether the character is plain, where the text goes on at the place behind it (`ns-plain-char`).
+fn is_plain(
+    character: char,
+    before: Before,
+    text: &str,
+    behind: usize,
+    context: FlowContext,
+) -> bool
+    requires { IsCharBoundary text.now behind }
+    ensures { (previous : ℕ) → ns previous ≡ is_content before → result ≡ plain_next (context_of context) previous character (rest text.now behind) }
 {
-    let bytes = text.as_bytes();
+    match character {
+        ':' => safe_at(text, behind, context),
+        '#' => matches!(before, Before::Content),
+        _ => is_safe(character, context),
+    }
+}
+
+/// Behind white space and plain characters from the place on: behind the last plain one on the line, or at the place itself.
+fn plain_run_end(text: &str, from: usize, before: Before, context: FlowContext) -> usize
+    requires { IsCharBoundary text.now from }
+    ensures { IsPlainRun (context_of context) (is_content before) text.now from result }
+{
+    let class = words_of(context);
     let mut end = from;
-    let mut black = black;
-    loop {
-        let place = white_end(bytes, end);
-        match piece_end(text, place, black && place == end, context) {
+    let mut before = before;
+    'runs: loop {
+        let stop = run_end(text, end, class);
+        let words = white_start(text, end, stop);
+        match special_end(text, stop, before_stop(before, end, words, stop), context) {
             Some(next) => {
                 end = next;
-                black = true;
+                before = Before::Content;
             }
-            None => return end,
+            None => return words,
         }
     }
 }
@@ -245,12 +243,10 @@ fn next_line(text: &str, at: usize, n: u64, context: FlowContext) -> Option<Plai
     if stands_on_one_line(context) {
         return None;
     }
-    let bytes = text.as_bytes();
-    let white = white_end(bytes, at);
-    let Some(fold) = fold_at(bytes, white, n) else {
+    let Some(fold) = fold_at(text, white_end(text, at), n) else {
         return None;
     };
-    let end = run_end(text, fold.next, false, context);
+    let end = plain_run_end(text, fold.next, Before::Blank, context);
     if end == fold.next {
         return None;
     }

@@ -6,4 +6,5 @@ pub mod BetweenBytes
 pub mod LineSteps
 pub mod Outcomes
 pub mod GapSteps
-pub mod ByteTable
+pub mod ClassTable
+pub mod LineRuns

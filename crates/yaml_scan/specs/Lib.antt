@@ -2,4 +2,4 @@ pub mod Places
 pub mod Markers
 pub mod Lines
 pub mod Gaps
-pub mod Simple
+pub mod Classes

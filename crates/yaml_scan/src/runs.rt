@@ -6,6 +6,8 @@ ghost use Rattle.yaml_chars.specs.Places.{rest, IsRun};
 ghost use Rattle.yaml_grammar.specs.Texts.{first};
 ghost use Rattle.yaml_scan.specs.Places.{AreSpaces, AreTaken, IsNb, nb_byte};
 
+use crate::classes::{Class, run_end};
+
 /// Returns whether a byte is the space or a tab (5.5, `s-white`).
 pub fn is_white(byte: u8) -> bool
     ensures { result ≡ white byte }
@@ -64,8 +66,12 @@ pub fn nb_at(text: &str, at: usize) -> Option<usize>
     if at == bytes.len() {
         return None;
     }
-    if is_nb_byte(bytes[at]) {
-        return Some(at + 1);
+    if bytes[at] < 128 {
+        return if is_nb_byte(bytes[at]) {
+            Some(at + 1)
+        } else {
+            None
+        };
     }
     let Some((character, len)) = yaml_chars::next_char(text, at) else {
         return None;
@@ -81,11 +87,13 @@ pub fn nb_end(text: &str, at: usize) -> usize
     requires { IsCharBoundary text.now at }
     ensures { AreTaken nb text.now at result }
 {
-    let mut end = at;
-    'characters: loop {
+    let bytes = text.as_bytes();
+    let mut end = run_end(text, at, Class::Line);
+    'characters: while end < bytes.len() && bytes[end] >= 128 {
         let Some(next) = nb_at(text, end) else {
             return end;
         };
-        end = next;
+        end = run_end(text, next, Class::Line);
     }
+    end
 }

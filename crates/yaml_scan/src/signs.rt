@@ -87,7 +87,8 @@ pub fn safe_at(text: &str, at: usize, context: FlowContext) -> bool
     }
 }
 
-fn is_safe(character: char, context: FlowContext) -> bool
+/// Returns whether a character is safe in a plain scalar in this context (7.3.3, `ns-plain-safe`).
+pub fn is_safe(character: char, context: FlowContext) -> bool
     ensures { result ≡ safe (context_of context) character }
 {
     match context {

@@ -170,10 +170,13 @@ fn line_feeds_are_appended(rt: HostRuntime) -> Result<(), Fail> {
 }
 
 #[test]
-fn simple_bytes_by_context(rt: HostRuntime) {
-    assert_eq!(rt; simple_end("a: b", 0, FlowContext::Outer), 1);
-    assert_eq!(rt; simple_end("a,b\u{e9}", 0, FlowContext::Outer), 3);
-    assert_eq!(rt; simple_end("a,b", 0, FlowContext::Inner), 1);
-    assert!(rt; is_simple(b'-', FlowContext::FlowKey));
-    assert!(rt; !is_simple(b' ', FlowContext::BlockKey));
+fn runs_of_classes(rt: HostRuntime) {
+    assert_eq!(rt; run_end("a b: c", 0, Class::Words), 3);
+    assert_eq!(rt; run_end("a,b\u{e9}", 0, Class::Words), 3);
+    assert_eq!(rt; run_end("a,b", 0, Class::WordsInside), 1);
+    assert_eq!(rt; run_end("a\u{e9}\"\\ b'", 0, Class::SingleQuoted), 7);
+    assert_eq!(rt; run_end("a\u{e9}' and so on\\", 0, Class::DoubleQuoted), 14);
+    assert_eq!(rt; run_end("a line\tof text\u{7f}", 0, Class::Line), 14);
+    assert!(rt; is_safe(':', FlowContext::FlowKey));
+    assert!(rt; !is_safe(',', FlowContext::Inner));
 }

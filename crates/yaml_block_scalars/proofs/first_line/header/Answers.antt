@@ -59,3 +59,8 @@ returns-clause-found c =
       says = header_there c.args.text.now c.args.at c.signs_at-digit.result.2 c.in-Some.end (get_or c.as_bytes-bytes.result.now c.args.at 0) c.signs_at-digit.result.0 (chomping_of c.signs_at-digit.result.1)
           c.utf8.text l byte sign c.signs_at-digit.ensures c.in-Some.ensures;
     }
+
+pub returns-clause-line : goal.returns-clause-line
+returns-clause-line c =
+    let end : IsHeaderEnd c.args.text.now c.signs_at-digit.result.2 c.in-Some.end = c.in-Some.ensures in
+    end.starts

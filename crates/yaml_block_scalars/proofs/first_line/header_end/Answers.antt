@@ -1,20 +1,12 @@
-use Rattle.std.proofs.Common.{subst, sym}
-use Rattle.yaml_block_scalars.proofs.FirstLines.{IsContentEnd, content_commented, content_none, header_end_is, header_end_none}
+use Rattle.std.proofs.Common.{◌<◌, arith, length}
+use Rattle.yaml_block_scalars.proofs.FirstLines.{header_end_at_end, header_end_is}
 use Rattle.yaml_block_scalars.proofs.first_line.header_end.Goals as goal
-use Rattle.yaml_block_scalars.proofs.first_line.header_end.Goals.{then-white-at, else-white-at}
 
-pub returns-in-Some : goal.returns-in-Some
-returns-in-Some c =
-    let there : IsContentEnd c.args.text.now c.args.at c.if-white-at.end = elim c.if-white-at.branch [
-      | then-white-at w ↦ subst (IsContentEnd c.args.text.now c.args.at) (sym w.end-is) (content_commented c.args.text.now c.args.at c.white_end-white.result w.comment_end-end.result c.utf8.text c.requires w.if-white-at.true c.white_end-white.ensures w.comment_end-end.ensures)
-      | else-white-at w ↦ subst (IsContentEnd c.args.text.now c.args.at) (sym w.end-is) (content_none c.args.text.now c.args.at c.white_end-white.result c.requires w.if-white-at.false c.white_end-white.ensures)
-    ] in
-    header_end_is c.args.text.now c.args.at c.if-white-at.end c.in-Some.stop.next c.in-Some.stop.has_break there c.in-Some.ensures
+pub returns-then-at-text : goal.returns-then-at-text
+returns-then-at-text c = header_end_at_end c.args.text.now c.args.at c.requires (omega arith)
 
-pub returns-in-None : goal.returns-in-None
-returns-in-None c =
-    let there : IsContentEnd c.args.text.now c.args.at c.if-white-at.end = elim c.if-white-at.branch [
-      | then-white-at w ↦ subst (IsContentEnd c.args.text.now c.args.at) (sym w.end-is) (content_commented c.args.text.now c.args.at c.white_end-white.result w.comment_end-end.result c.utf8.text c.requires w.if-white-at.true c.white_end-white.ensures w.comment_end-end.ensures)
-      | else-white-at w ↦ subst (IsContentEnd c.args.text.now c.args.at) (sym w.end-is) (content_none c.args.text.now c.args.at c.white_end-white.result c.requires w.if-white-at.false c.white_end-white.ensures)
-    ] in
-    header_end_none c.args.text.now c.args.at c.if-white-at.end there c.in-None.ensures
+pub returns : goal.returns
+returns c =
+    let within = c.requires.0 in
+    let l : c.args.at < length c.args.text.now = omega (arith, c.if-at-text.false) in
+    header_end_is c.args.text.now c.args.at c.rest_of_line_end.result c.utf8.text c.requires l c.rest_of_line_end.ensures.found c.rest_of_line_end.ensures.none

@@ -35,11 +35,11 @@ returns-in-Some-clause-found c =
     let within = c.spaces_end-end.ensures.boundary.0 in
     let l : c.spaces_end-end.result < length c.args.text.now = omega (arith, c.if-end-text.false) in
     indent_set c.args.least c.args.text.now c.args.at c.leading_lines-widest.result.0 c.leading_lines-widest.result.1 c.spaces_end-end.result c.utf8.text c.leading_lines-widest.ensures c.spaces_end-end.ensures l
-    c.if-width-least.false (sym c.is_marker.ensures ∙ c.if-is_marker.false) c.if-width-widest.false (nb_there c.args.text.now c.spaces_end-end.result c.in-Some.field-0 c.in-Some.ensures)
+    c.if-width-least.false (sym c.is_marker.ensures ∙ c.if-is_marker.false) c.if-width-widest.false (nb_there c.args.text.now c.spaces_end-end.result c.in-Some.field-0 c.in-Some.ensures.found)
 
 pub returns-in-None-clause-none : goal.returns-in-None-clause-none
 returns-in-None-clause-none c =
     let within = c.spaces_end-end.ensures.boundary.0 in
     let l : c.spaces_end-end.result < length c.args.text.now = omega (arith, c.if-end-text.false) in
     indent_no_text c.args.least c.args.text.now c.args.at c.leading_lines-widest.result.0 c.leading_lines-widest.result.1 c.spaces_end-end.result c.utf8.text c.leading_lines-widest.ensures c.spaces_end-end.ensures l
-    c.if-width-least.false (sym c.is_marker.ensures ∙ c.if-is_marker.false) c.in-None.ensures
+    c.if-width-least.false (sym c.is_marker.ensures ∙ c.if-is_marker.false) c.in-None.ensures.none

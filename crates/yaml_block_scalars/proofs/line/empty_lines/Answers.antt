@@ -10,8 +10,8 @@ returns-then-end-place c =
 
 pub returns-in_default : goal.returns-in_default
 returns-in_default c =
-    gaps_unbroken c.args.indent c.args.text.now c.args.at c.lines.count c.lines.place c.spaces_end-end.result c.utf8.text c.lines.invariant c.spaces_end-end.ensures c.in_default.ensures
+    gaps_unbroken c.args.indent c.args.text.now c.args.at c.lines.count c.lines.place c.spaces_end-end.result c.utf8.text c.lines.invariant c.spaces_end-end.ensures c.in_default.ensures.none
 
 pub lines-preserved : goal.lines-preserved
 lines-preserved c =
-    gaps_more c.args.indent c.args.text.now c.args.at c.lines.count c.lines.place c.spaces_end-end.result c.in-Some.next c.utf8.text c.lines.invariant c.spaces_end-end.ensures c.if-end-place.false c.in-Some.ensures
+    gaps_more c.args.indent c.args.text.now c.args.at c.lines.count c.lines.place c.spaces_end-end.result c.in-Some.next c.utf8.text c.lines.invariant c.spaces_end-end.ensures c.if-end-place.false c.in-Some.ensures.found

@@ -10,7 +10,7 @@ returns-then-width-indent c =
 
 pub returns-in_default : goal.returns-in_default
 returns-in_default c =
-    line_no_text c.args.indent c.args.text.now c.args.at c.spaces_end-end.result c.utf8.text c.requires.boundary c.spaces_end-end.ensures c.requires.past c.if-width-indent-2.true c.in_default.ensures
+    line_no_text c.args.indent c.args.text.now c.args.at c.spaces_end-end.result c.utf8.text c.requires.boundary c.spaces_end-end.ensures c.requires.past c.if-width-indent-2.true c.in_default.ensures.none
 
 pub returns-then-is_marker : goal.returns-then-is_marker
 returns-then-is_marker c =
@@ -20,7 +20,7 @@ pub returns : goal.returns
 returns c = elim c.if-width-indent-2.branch [
   | then-width-indent-2+in-Some+else-is_marker w ↦
       start_there c.args.indent c.args.text.now c.args.at c.spaces_end-end.result c.utf8.text c.requires.boundary c.spaces_end-end.ensures w.if-width-indent-2.true
-      (nb_there c.args.text.now c.spaces_end-end.result w.in-Some.field-0 w.in-Some.ensures) (sym w.is_marker.ensures ∙ w.if-is_marker.false)
+      (nb_there c.args.text.now c.spaces_end-end.result w.in-Some.field-0 w.in-Some.ensures.found) (sym w.is_marker.ensures ∙ w.if-is_marker.false)
   | else-width-indent-2 w ↦
       start_wide c.args.indent c.args.text.now c.args.at c.spaces_end-end.result c.utf8.text c.requires.boundary c.spaces_end-end.ensures (omega (arith, w.if-width-indent-2.false))
 ]

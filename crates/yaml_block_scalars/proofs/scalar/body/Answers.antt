@@ -6,13 +6,13 @@ use Rattle.yaml_recognizers.specs.BlockScalarFacts.{NoBody}
 use Rattle.yaml_recognizers.specs.BlockScalars.{find_indent, gaps_at, lines_at}
 use Rattle.yaml_block_scalars.specs.Meant.{chomping_of}
 use Rattle.yaml_block_scalars.proofs.Bodies.{body_there, no_body_indent, no_body_lines, piece_there}
-use Rattle.yaml_block_scalars.proofs.Faults.{fault_passed, faults_weaker}
+use Rattle.yaml_scan.proofs.Outcomes.{fault_passed, faults_so}
 use Rattle.yaml_block_scalars.proofs.scalar.body.Goals as goal
 
 pub returns-in_err-indent-clause-none : goal.returns-in_err-indent-clause-none
 returns-in_err-indent-clause-none c =
     let header = c.args.header.now in
-    fault_passed _ c.from_residual.result c.in_err-indent.field-0.0 (find_indent header.digit c.args.least (rest c.args.text.now c.args.at) ≡ None) (NoBody header.digit c.args.least (rest c.args.text.now c.args.at))
+    fault_passed c.from_residual.result c.in_err-indent.field-0.0 (find_indent header.digit c.args.least (rest c.args.text.now c.args.at) ≡ None) (NoBody header.digit c.args.least (rest c.args.text.now c.args.at))
     (no_body_indent header.digit c.args.least c.args.text.now c.args.at) c.in_err-indent.ensures.none (err_from_is_err_and c.from_residual.result c.from_residual.ensures.1)
 
 pub returns-clause-found : goal.returns-clause-found
@@ -36,6 +36,6 @@ returns-clause-borrowed c =
 pub returns-clause-none : goal.returns-clause-none
 returns-clause-none c =
     let header = c.args.header.now in
-    faults_weaker _ c.lines.result (lines_at c.in_ok-indent.indent (gaps_at c.in_ok-indent.indent (rest c.args.text.now c.args.at)).1 ≡ None) (NoBody header.digit c.args.least (rest c.args.text.now c.args.at))
+    faults_so c.lines.result (lines_at c.in_ok-indent.indent (gaps_at c.in_ok-indent.indent (rest c.args.text.now c.args.at)).1 ≡ None) (NoBody header.digit c.args.least (rest c.args.text.now c.args.at))
     (no_body_lines header.digit c.args.least c.args.folded (chomping_of header.chomping) c.in_ok-indent.indent c.args.text.now c.args.at c.in_ok-indent.ensures.found)
     c.lines.ensures.none

@@ -3,7 +3,7 @@ use Rattle.std.specs.Cow.{cow_str_bytes}
 use Rattle.std.specs.String.{string_bytes}
 use Rattle.yaml_grammar.specs.FlowScalars.{line_feeds}
 use Rattle.yaml_block_scalars.specs.Meant.{chomping_of}
-use Rattle.yaml_block_scalars.proofs.Bodies.{lines_none, lines_pushed, piece_more}
+use Rattle.yaml_block_scalars.proofs.Bodies.{lines_none, lines_piece, lines_pushed, piece_more}
 use Rattle.yaml_block_scalars.proofs.EmptyLines.{gaps_past}
 use Rattle.yaml_block_scalars.proofs.scalar.lines.Goals as goal
 
@@ -18,10 +18,15 @@ returns-in_default-clause-found c =
 pub returns-clause-found : goal.returns-clause-found
 returns-clause-found c =
     lines_pushed c.args.indent c.args.style.folded (chomping_of c.args.style.chomping) c.args.text.now c.args.at c.empty_lines-gaps.result.0 c.empty_lines-gaps.result.1 c.empty_lines-gaps.ensures
-    c.in-Some.line (rw c.in-Some.is at c.in_ok-line.ensures.found) (string_bytes c.push_feeds.new.value) (string_bytes c.push_lines.new.value) c.in_ok-end.end
-    (c.in_ok-push_feeds.ensures ∙ ap (λ x. x ++ line_feeds c.empty_lines-gaps.result.0) c.new-value.ensures.bytes) c.in_ok-end.ensures.found
+    c.in-Some.line (rw c.in-Some.is at c.in_ok-line.ensures.found) (string_bytes c.push_line_feeds.new.value) (string_bytes c.push_lines.new.value) c.in_ok-end.end
+    (c.in_ok-push_line_feeds.ensures ∙ ap (λ x. x ++ line_feeds c.empty_lines-gaps.result.0) c.in_ok-value.ensures.bytes) c.in_ok-end.ensures.found
 
 pub returns-clause-borrowed : goal.returns-clause-borrowed
 returns-clause-borrowed c =
     piece_more c.args.indent c.args.style.folded (chomping_of c.args.style.chomping) c.args.text.now c.args.at c.empty_lines-gaps.result.0 c.empty_lines-gaps.result.1 c.empty_lines-gaps.ensures
-    c.in-Some.line (rw c.in-Some.is at c.in_ok-line.ensures.found) (rw c.if-is_alone.false at c.is_alone.ensures)
+    c.in-Some.line (rw c.in-Some.is at c.in_ok-line.ensures.found) c.in_default-piece_end.ensures
+
+pub returns-in-Some-piece_end-clause-found : goal.returns-in-Some-piece_end-clause-found
+returns-in-Some-piece_end-clause-found c =
+    lines_piece c.args.indent c.args.style.folded (chomping_of c.args.style.chomping) c.args.text.now c.args.at c.empty_lines-gaps.result.0 c.empty_lines-gaps.result.1 c.empty_lines-gaps.ensures
+    c.in-Some.line (rw c.in-Some.is at c.in_ok-line.ensures.found) c.utf8.text c.range.result.now c.in-Some-piece_end.end c.in-Some-piece_end.ensures c.range.ensures.value

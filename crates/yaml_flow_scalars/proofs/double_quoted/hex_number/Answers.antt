@@ -1,14 +1,16 @@
-use Rattle.std.proofs.Common.{◌≡◌, subst, arith, ◌+◌, ◌-◌, get_or}
+use Rattle.std.proofs.Common.{◌≡◌, ◌∙◌, ap, sym, subst, arith, ◌+◌, ◌-◌, get_or}
+use Rattle.yaml_grammar.specs.FlowScalars.{hex_digit}
+use Rattle.yaml_flow_scalars.specs.DoubleScan.{IsDigit}
 use Rattle.yaml_flow_scalars.proofs.DoublePlaces.{DigitsTo, digits_none, digits_more, digits_all, digits_end, digits_broken, number_fits, digit_fits}
 use Rattle.yaml_flow_scalars.proofs.double_quoted.hex_number.Goals as goal
 
 pub loop-end-init : goal.loop-end-init
 loop-end-init c = record { few = omega arith; digits = digits_none c.args.text.now c.args.at c.requires.at }
 
-pub returns-then-end-text-clause-none : goal.returns-then-end-text-clause-none
-returns-then-end-text-clause-none c =
+pub returns-then-end-bytes-clause-none : goal.returns-then-end-bytes-clause-none
+returns-then-end-bytes-clause-none c =
     let d = c.loop-end.invariant.digits in
-    digits_end c.args.text.now c.args.at c.loop-end.end c.args.count c.loop-end.number c.requires.utf8 c.requires.at d (omega arith) (omega arith)
+    digits_end c.args.text.now c.args.at c.loop-end.end c.args.count c.loop-end.number c.utf8.text c.requires.at d (omega arith) (omega (arith, c.as_bytes-bytes.ensures.len))
 
 pub overflow_mul-number : goal.overflow_mul-number
 overflow_mul-number c =
@@ -19,8 +21,8 @@ pub returns-in_err-number-clause-none : goal.returns-in_err-number-clause-none
 returns-in_err-number-clause-none c =
     let d = c.loop-end.invariant.digits in
     let within = d.boundary.0 in
-    rw c.from_residual.ensures (digits_broken c.args.text.now c.args.at c.loop-end.end c.args.count c.loop-end.number c.requires.utf8 c.requires.at d (omega arith) (omega arith)
-    c.in_err-number.ensures.none)
+    rw c.from_residual.ensures (digits_broken c.args.text.now c.args.at c.loop-end.end c.args.count c.loop-end.number c.utf8.text c.requires.at d (omega arith) (omega (arith, c.as_bytes-bytes.ensures.len))
+    (ap (λ t. hex_digit (get_or t c.loop-end.end 0)) (sym c.as_bytes-bytes.ensures.value) ∙ c.in_err-number.ensures.none))
 
 pub overflow_add-number : goal.overflow_add-number
 overflow_add-number c =
@@ -28,7 +30,7 @@ overflow_add-number c =
     omega (
       arith,
       number_fits (c.loop-end.end - c.args.at) c.loop-end.number c.in_ok-number.field-0 (omega (arith, c.requires.few)) d.fits
-          (digit_fits (get_or c.args.text.now c.loop-end.end 0) c.in_ok-number.field-0 c.in_ok-number.ensures.found),
+          (digit_fits (get_or c.as_bytes-bytes.result.now c.loop-end.end 0) c.in_ok-number.field-0 c.in_ok-number.ensures.found),
     )
 
 pub loop-end-preserved : goal.loop-end-preserved
@@ -36,7 +38,7 @@ loop-end-preserved c =
     let d = c.loop-end.invariant.digits in
     let within = d.boundary.0 in record {
       few = omega arith;
-      digits = digits_more c.args.text.now c.args.at c.loop-end.end c.loop-end.number c.in_ok-number.field-0 c.requires.utf8 c.requires.at d (omega arith) c.in_ok-number.ensures.found;
+      digits = digits_more c.args.text.now c.args.at c.loop-end.end c.loop-end.number c.in_ok-number.field-0 c.utf8.text c.requires.at d (omega (arith, c.as_bytes-bytes.ensures.len)) (subst (λ t. IsDigit (get_or t c.loop-end.end 0) c.in_ok-number.field-0) c.as_bytes-bytes.ensures.value c.in_ok-number.ensures.found);
     }
 
 pub returns-clause-found : goal.returns-clause-found
@@ -45,4 +47,4 @@ returns-clause-found c =
     let d = i.digits in
     let above = d.above in
     let e : c.loop-end.end ≡ c.args.at + c.args.count = omega arith in
-    digits_all c.args.text.now c.args.at c.args.count c.loop-end.number c.requires.utf8 c.requires.at (subst (λ k. DigitsTo c.args.text.now c.args.at k c.loop-end.number) e d)
+    digits_all c.args.text.now c.args.at c.args.count c.loop-end.number c.utf8.text c.requires.at (subst (λ k. DigitsTo c.args.text.now c.args.at k c.loop-end.number) e d)

@@ -4,7 +4,7 @@ use Rattle.std.specs.String.{string_bytes}
 use Rattle.std.proofs.lemmas.Str.{IsUtf8-string_bytes}
 use Rattle.yaml_events.specs.Meant.{context_of}
 use Rattle.yaml_recognizers.specs.Joins.{at_break}
-use Rattle.yaml_flow_scalars.proofs.DoublePlaces.{stands, byte_read, behind_byte}
+use Rattle.yaml_flow_scalars.proofs.DoublePlaces.{stands, stands_not, byte_read, behind_byte, raw_run}
 use Rattle.yaml_flow_scalars.proofs.DoubleAdds.{adds_more, run_adds, closes}
 use Rattle.yaml_flow_scalars.proofs.double_quoted.unescaped.Goals as goal
 
@@ -13,7 +13,7 @@ returns-clause-ok c =
     let i = c.runs.invariant in
     let d = context_of c.args.context in
     let text = c.args.text.now in
-    let there = stands c.as_bytes-bytes.result.now text c.runs.end 34 c.stands_at.result c.as_bytes-bytes.ensures.value c.stands_at.ensures c.runs-test.false in
+    let there = stands text c.runs.end 34 c.stands_at.result c.utf8.text i.run.boundary (omega arith) c.stands_at.ensures c.runs-test.false in
     let value = string_bytes c.runs.value in
     let whole = string_bytes c.push_str.new.self in
     let run = run_adds c.args.n d text c.utf8.text c.runs.place c.runs.end i.value.boundary i.run value whole (IsUtf8-string_bytes c.runs.value)
@@ -27,4 +27,19 @@ returns-clause-ok c =
       ];
       boundary = behind_byte text c.runs.end 34 c.utf8.text there.0 there.1 (omega arith);
       means = closes c.args.n d text c.args.start whole c.runs.end c.utf8.text (adds_more c.args.n d text [] c.args.start value c.runs.place whole c.runs.end i.value run) there.0 there.1;
+    }
+
+pub push_run-requires-clause-goes_on : goal.push_run-requires-clause-goes_on
+push_run-requires-clause-goes_on c = stands_not c.args.text.now c.runs.end 34 c.stands_at.result c.utf8.text (omega arith) c.stands_at.ensures c.runs-test.true
+
+pub runs-preserved : goal.runs-preserved
+runs-preserved c =
+    let i = c.runs.invariant in
+    let beyond = i.beyond in
+    let further = c.in_ok-place.ensures.further in
+    let above = c.run_end-end.ensures.above in
+    record {
+      beyond = omega arith;
+      run = raw_run c.args.text.now c.in_ok-place.place c.run_end-end.result c.run_end-end.ensures;
+      value = adds_more c.args.n (context_of c.args.context) c.args.text.now [] c.args.start (string_bytes c.runs.value) c.runs.place (string_bytes c.push_run.new.value) c.in_ok-place.place i.value c.in_ok-place.ensures.ok;
     }

@@ -7,4 +7,4 @@ returns-then-margin-at c = front_short c.args.indent c.args.text.now c.args.at c
 
 pub returns : goal.returns
 returns c =
-    front_indented c.args.indent c.args.text.now c.args.at c.margin_end-margin.result c.white_end.result c.requires.utf8 c.margin_end-margin.ensures (omega arith) c.white_end.ensures
+    front_indented c.args.indent c.args.text.now c.args.at c.margin_end-margin.result c.white_end.result c.utf8.text c.margin_end-margin.ensures (omega arith) c.white_end.ensures.run

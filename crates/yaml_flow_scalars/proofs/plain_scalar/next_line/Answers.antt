@@ -8,21 +8,21 @@ use Rattle.yaml_flow_scalars.proofs.plain_scalar.next_line.Goals as goal
 
 pub returns-in_default-clause-none : goal.returns-in_default-clause-none
 returns-in_default-clause-none c =
-    let run = subst (λ t. IsRun white t c.args.at c.white_end-white.result) c.as_bytes-bytes.ensures.value c.white_end-white.ensures in
-    no_fold_no_line c.args.n (context_of c.args.context) c.args.text.now c.args.at c.white_end-white.result c.utf8.text c.requires run
-    (subst (λ t. NoFold c.args.n t c.white_end-white.result) c.as_bytes-bytes.ensures.value c.in_default.ensures.none)
+    let run = c.white_end.ensures.run in
+    no_fold_no_line c.args.n (context_of c.args.context) c.args.text.now c.args.at c.white_end.result c.utf8.text c.requires run
+    c.in_default.ensures.none
 
 pub returns-then-end-fold-clause-none : goal.returns-then-end-fold-clause-none
 returns-then-end-fold-clause-none c =
-    let run = subst (λ t. IsRun white t c.args.at c.white_end-white.result) c.as_bytes-bytes.ensures.value c.white_end-white.ensures in
-    let fold = subst (λ t. IsFold c.args.n t c.white_end-white.result c.in-Some.fold.empties c.in-Some.fold.next) c.as_bytes-bytes.ensures.value c.in-Some.ensures.found in
-    empty_no_line c.args.n (context_of c.args.context) c.args.text.now c.args.at c.white_end-white.result c.utf8.text c.requires run
-    c.in-Some.fold.empties c.in-Some.fold.next c.run_end-end.result fold c.run_end-end.ensures c.if-end-fold.true
+    let run = c.white_end.ensures.run in
+    let fold = c.in-Some.ensures.found in
+    empty_no_line c.args.n (context_of c.args.context) c.args.text.now c.args.at c.white_end.result c.utf8.text c.requires run
+    c.in-Some.fold.empties c.in-Some.fold.next c.plain_run_end-end.result fold c.plain_run_end-end.ensures c.if-end-fold.true
 
 pub returns-clause-found : goal.returns-clause-found
 returns-clause-found c =
-    let run = subst (λ t. IsRun white t c.args.at c.white_end-white.result) c.as_bytes-bytes.ensures.value c.white_end-white.ensures in
-    let fold = subst (λ t. IsFold c.args.n t c.white_end-white.result c.in-Some.fold.empties c.in-Some.fold.next) c.as_bytes-bytes.ensures.value c.in-Some.ensures.found in
-    let above = c.run_end-end.ensures.above in
-    next_line_is c.args.n (context_of c.args.context) c.args.text.now c.args.at c.white_end-white.result c.utf8.text c.requires run
-    c.in-Some.fold.empties c.in-Some.fold.next c.run_end-end.result fold c.run_end-end.ensures (sym c.stands_on_one_line.ensures ∙ c.if-stands_on_one_line.false) (omega (arith, c.if-end-fold.false))
+    let run = c.white_end.ensures.run in
+    let fold = c.in-Some.ensures.found in
+    let above = c.plain_run_end-end.ensures.above in
+    next_line_is c.args.n (context_of c.args.context) c.args.text.now c.args.at c.white_end.result c.utf8.text c.requires run
+    c.in-Some.fold.empties c.in-Some.fold.next c.plain_run_end-end.result fold c.plain_run_end-end.ensures (sym c.stands_on_one_line.ensures ∙ c.if-stands_on_one_line.false) (omega (arith, c.if-end-fold.false))

@@ -6,10 +6,11 @@ use Rattle.yaml_chars.specs.Places.{between}
 use Rattle.yaml_events.specs.Meant.{context_of}
 use Rattle.yaml_grammar.specs.Events.{plain_style}
 use Rattle.yaml_grammar.specs.FlowScalars.{folded_break}
-use Rattle.yaml_flow_scalars.proofs.Refusals.{fault_passed}
+use Rattle.yaml_scan.proofs.Outcomes.{fault_passed}
 use Rattle.yaml_flow_scalars.specs.PlainPlaces.{NoPlainBegins, lines_value}
 use Rattle.yaml_flow_scalars.specs.Standing.{NoScalarAt}
-use Rattle.yaml_flow_scalars.proofs.PlainFound.{plain_found, plain_missing, line_breaks}
+use Rattle.yaml_flow_scalars.proofs.PlainFound.{plain_found, plain_missing, line_breaks, first_line_unbroken}
+use Rattle.yaml_flow_scalars.proofs.InsideLines.{ends_inside_line}
 use Rattle.yaml_flow_scalars.proofs.PlainLines.{lines_step, lines_stop}
 use Rattle.yaml_flow_scalars.proofs.plain_scalar.plain.Goals as goal
 
@@ -23,17 +24,17 @@ pub returns-in_default-clause-found : goal.returns-in_default-clause-found
 returns-in_default-clause-found c =
     let context = context_of c.args.context in
     let text = c.args.text.now in
-    let end = c.run_end-end.result in
+    let end = c.plain_run_end-end.result in
     let none = lines_stop c.args.n context text end c.in_default.ensures.none in
-    plain_found c.args.n context text c.args.at c.in_ok-behind.behind end c.utf8.text c.requires c.in_ok-behind.ensures.found c.run_end-end.ensures
-    end (chars c.range.result.now) (omega arith) c.run_end-end.ensures.boundary none.1
+    plain_found c.args.n context text c.args.at c.in_ok-behind.behind end c.utf8.text c.requires c.in_ok-behind.ensures.found c.plain_run_end-end.ensures
+    end (chars c.range.result.now) (omega arith) c.plain_run_end-end.ensures.boundary none.1
     (ap (λ t. between text c.args.at end ++ t) none.0 ∙ (append-nil (between text c.args.at end) ∙ ap chars (sym c.range.ensures.value)))
 
 pub returns-clause-found : goal.returns-clause-found
 returns-clause-found c =
     let context = context_of c.args.context in
     let text = c.args.text.now in
-    let end = c.run_end-end.result in
+    let end = c.plain_run_end-end.result in
     let line = c.in-Some.line in
     let next = c.in-Some.ensures.found in
     let behind = next.behind in
@@ -44,7 +45,7 @@ returns-clause-found c =
     let step = lines_step c.args.n context text end line.empties line.start line.end next in
     let held = folded_break line.empties ++ between text line.start line.end in
     let first : chars (string_bytes c.in_ok-value.value) ≡ between text c.args.at end = ap chars (c.in_ok-value.ensures.ok ∙ c.range-2.ensures.value) in
-    plain_found c.args.n context text c.args.at c.in_ok-behind.behind end c.utf8.text c.requires c.in_ok-behind.ensures.found c.run_end-end.ensures
+    plain_found c.args.n context text c.args.at c.in_ok-behind.behind end c.utf8.text c.requires c.in_ok-behind.ensures.found c.plain_run_end-end.ensures
     c.in_ok-end.end (chars (string_bytes c.push_lines.new.value)) (omega arith) pushed.boundary (step.1 ∙ pushed.left)
     (ap (λ t. between text c.args.at end ++ t) step.0
     ∙ (sym (append_assoc (between text c.args.at end) held (lines_value c.args.n context text line.end))
@@ -56,6 +57,18 @@ returns-clause-borrowed c = λ unbroken.
     let pushed = c.in_ok-end.ensures in
     let begins = c.in_ok-behind.ensures.found in
     let above = begins.above in
-    let further = c.run_end-end.ensures.above in
-    absurd (line_breaks c.args.n (context_of c.args.context) c.args.text.now c.args.at c.run_end-end.result c.in-Some.line.empties c.in-Some.line.start c.in-Some.line.end
+    let further = c.plain_run_end-end.ensures.above in
+    absurd (line_breaks c.args.n (context_of c.args.context) c.args.text.now c.args.at c.plain_run_end-end.result c.in-Some.line.empties c.in-Some.line.start c.in-Some.line.end
     c.in_ok-end.end (omega arith) next pushed.above pushed.boundary.0 unbroken)
+
+pub returns-in_default-clause-unbroken : goal.returns-in_default-clause-unbroken
+returns-in_default-clause-unbroken c = λ _.
+    first_line_unbroken c.args.n (context_of c.args.context) c.args.text.now c.args.at c.in_ok-behind.behind c.plain_run_end-end.result c.utf8.text c.requires c.in_ok-behind.ensures.found c.plain_run_end-end.ensures
+
+pub returns-in_default-clause-ends_inside_line : goal.returns-in_default-clause-ends_inside_line
+returns-in_default-clause-ends_inside_line c =
+    ends_inside_line plain_style c.args.n (context_of c.args.context) c.args.text.now c.args.at (chars c.range.result.now) c.plain_run_end-end.result c.utf8.text c.requires (returns-in_default-clause-found c)
+
+pub returns-clause-ends_inside_line : goal.returns-clause-ends_inside_line
+returns-clause-ends_inside_line c =
+    ends_inside_line plain_style c.args.n (context_of c.args.context) c.args.text.now c.args.at (chars (string_bytes c.push_lines.new.value)) c.in_ok-end.end c.utf8.text c.requires (returns-clause-found c)

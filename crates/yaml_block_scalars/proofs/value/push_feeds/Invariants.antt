@@ -1,7 +1,0 @@
-use Rattle.std.proofs.Common.{◌≡◌, ◌++◌}
-use Rattle.std.specs.String.{string_bytes}
-use Rattle.yaml_grammar.specs.FlowScalars.{line_feeds}
-use Rattle.yaml_block_scalars.proofs.value.push_feeds.Given as goal
-
-abbrev pub invariant-loop : goal.invariant-loop
-invariant-loop l = string_bytes l.value ≡ string_bytes l.initial.value ++ line_feeds l.counter

@@ -1,0 +1,113 @@
+-- The table of classes holds what the classes say: 256 closed facts for each class, at once.
+use Rattle.std.proofs.Common.{◌≡◌, ℕ, ◌<◌, Bool, false, not, nat_eq, bit_and, ◌+◌, ◌≤◌, subst, inl, inr, List, refl, sym, ap, ◌∙◌, arith, get_or, length, map, true}
+use Rattle.std.specs.List.{range_with_len}
+use Rattle.std.proofs.lemmas.Bool.{cases_lt}
+use Rattle.std.proofs.lemmas.Bool.Decides.{nat_tests}
+use Rattle.std.proofs.lemmas.List.{get_or-map}
+use Rattle.std.proofs.lemmas.List.FromFn.{get_or-map-range_with_len}
+use Rattle.std.specs.Prelude.{nat_lt, slice_index}
+use Rattle.std.specs.Str.{IsCharBoundary, IsUtf8}
+use Rattle.yaml_chars.specs.Classes.{white}
+use Rattle.yaml_chars.specs.Places.{IsRun}
+use Rattle.yaml_chars.proofs.Runs.{IsBlind, run_is}
+use Rattle.yaml_grammar.specs.FlowScalars.{FlowContext, inner, outer}
+use Rattle.yaml_scan.specs.Classes.{ArePassed, bit_of, double_quoted, line_ascii, simple, single_quoted, test_of, word}
+use Rattle.yaml_scan.specs.declared.classes.TheConstants.{CLASSES}
+use Rattle.yaml_scan.specs.declared.classes.Class.{Class}
+use Rattle.yaml_scan.specs.declared.classes.Class.TheVariants.{Words, WordsInside, SingleQuoted, DoubleQuoted, Line}
+
+-- whether a sum of bits has this bit
+abbrev pub has : ℕ → ℕ → Bool
+has bit k = not (nat_eq (bit_and k bit) 0)
+
+all_classes : (class : Class) → map (has (bit_of class)) CLASSES ≡ map (test_of class) (range_with_len 0 256)
+all_classes Words = refl
+all_classes WordsInside = refl
+all_classes SingleQuoted = refl
+all_classes DoubleQuoted = refl
+all_classes Line = refl
+
+pub class_is : (class : Class) (b : ℕ) → b < 256 → has (bit_of class) (get_or CLASSES b 0) ≡ test_of class b
+class_is class b l =
+    sym (get_or-map (has (bit_of class)) CLASSES b 0 false l)
+    ∙ (ap (λ t. get_or t b false) (all_classes class) ∙ get_or-map-range_with_len (test_of class) 0 256 b b false l (omega arith))
+
+-- ---- the characters from U+0080 on
+
+no_simple : (c : FlowContext) (x : ℕ) → 128 ≤ x → simple c x ≡ false
+no_simple c x h = let e : nat_lt x 128 ≡ false = grind (arith, nat_tests) in rw e refl
+
+blind-word : (c : FlowContext) → IsBlind (word c)
+blind-word c x h l = no_word x h ∙ sym (no_word 128 (omega arith))
+  where
+    no_word : (y : ℕ) → 128 ≤ y → word c y ≡ false
+    no_word y k = let e : white y ≡ false = grind (arith, nat_tests) in rw (no_simple c y k, e) refl
+
+blind-single : IsBlind single_quoted
+blind-single c h l = grind (arith, nat_tests)
+
+blind-double : IsBlind double_quoted
+blind-double c h l = grind (arith, nat_tests)
+
+blind-line : IsBlind line_ascii
+blind-line c h l = no_line c h ∙ sym (no_line 128 (omega arith))
+  where
+    no_line : (y : ℕ) → 128 ≤ y → line_ascii y ≡ false
+    no_line y k = let e : nat_lt y 128 ≡ false = grind (arith, nat_tests) in rw e refl
+
+pub blind-test : (class : Class) → IsBlind (test_of class)
+blind-test Words = blind-word outer
+blind-test WordsInside = blind-word inner
+blind-test SingleQuoted = blind-single
+blind-test DoubleQuoted = blind-double
+blind-test Line = blind-line
+
+-- ---- bytes that pass
+
+pub passed_none : (test : ℕ → Bool) (bytes : List ℕ) (at : ℕ) → at ≤ length bytes → ArePassed test bytes at at
+passed_none test bytes at l = record { above = omega arith; within = l; passes = λ k from to. absurd (omega arith) }
+
+pub passed_joined : (test : ℕ → Bool) (bytes : List ℕ) (i j k : ℕ) → ArePassed test bytes i j → ArePassed test bytes j k → ArePassed test bytes i k
+passed_joined test bytes i j k h g =
+    let above = h.above in
+    let further = g.above in
+    record {
+      above = omega arith;
+      within = g.within;
+      passes = λ m from to. elim (cases_lt m j) [ inl l ↦ h.passes m from l | inr l ↦ g.passes m l to ];
+    }
+
+pub passed_one : (test : ℕ → Bool) (bytes : List ℕ) (at : ℕ) → at < length bytes → test (slice_index bytes at) ≡ true → ArePassed test bytes at (at + 1)
+passed_one test bytes at l h = record {
+  above = omega arith;
+  within = omega arith;
+  passes = λ k from to. (let e : at ≡ k = omega arith in subst (λ x. test (slice_index bytes x) ≡ true) e h);
+}
+
+pub passed_four : (test : ℕ → Bool) (bytes : List ℕ) (at : ℕ) → at + 4 ≤ length bytes → test (slice_index bytes at) ≡ true → test (slice_index bytes (at + 1)) ≡ true
+    → test (slice_index bytes (at + 2)) ≡ true → test (slice_index bytes (at + 3)) ≡ true → ArePassed test bytes at (at + 4)
+passed_four test bytes at l a b c d = record {
+  above = omega arith;
+  within = l;
+  passes = λ k from to. elim (cases_lt k (at + 1)) [
+    | inl before ↦ (let e : at ≡ k = omega arith in subst (λ x. test (slice_index bytes x) ≡ true) e a)
+    | inr past ↦ elim (cases_lt k (at + 2)) [
+      | inl before ↦ (let e : at + 1 ≡ k = omega arith in subst (λ x. test (slice_index bytes x) ≡ true) e b)
+      | inr past ↦ elim (cases_lt k (at + 3)) [
+        | inl before ↦ (let e : at + 2 ≡ k = omega arith in subst (λ x. test (slice_index bytes x) ≡ true) e c)
+        | inr past ↦ (let e : at + 3 ≡ k = omega arith in subst (λ x. test (slice_index bytes x) ≡ true) e d)
+      ]
+    ]
+  ];
+}
+
+-- where the next byte does not pass, the run ends
+pub run_ends : (class : Class) (text : List ℕ) (at end : ℕ) → IsUtf8 text → IsCharBoundary text at → ArePassed (test_of class) text at end
+    → (end < length text → test_of class (slice_index text end) ≡ false) → IsRun (test_of class) text at end
+run_ends class text at end u b h stop = run_is (test_of class) text at end (blind-test class) u b h.above h.within h.passes stop
+
+pub nonzero : (x : ℕ) → (x ≡ 0 → ⊥) → not (nat_eq x 0) ≡ true
+nonzero x h = grind (arith, nat_tests)
+
+pub is_zero : (x : ℕ) → x ≡ 0 → not (nat_eq x 0) ≡ false
+is_zero x e = ap (λ y. not (nat_eq y 0)) e
