@@ -1,0 +1,10 @@
+pub mod Appends
+pub mod Signs
+pub mod SameLines
+pub mod EntryEvents
+pub mod PairKeys
+pub mod FlowSteps
+pub mod NodeSteps
+pub mod ColonSteps
+pub mod ScalarSteps
+pub mod Stacks

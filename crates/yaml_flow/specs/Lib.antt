@@ -1,0 +1,4 @@
+pub mod Borrowed
+pub mod Gaps
+pub mod FlowNodes
+pub mod Frames
