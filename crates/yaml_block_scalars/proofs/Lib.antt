@@ -7,3 +7,4 @@ pub mod TextLines
 pub mod Values
 pub mod Bodies
 pub mod Faults
+pub mod LineStarts

@@ -1,9 +1,10 @@
 -- What stands at a place of a text, in terms of the recognizers: places count the text's bytes.
-use Rattle.std.specs.Prelude.{◌≡◌, ℕ, ◌<◌, ◌≤◌, Bool, true, false, ◌||◌, ◌==◌, List, ◌∷◌, Option, Some, is_some, if◌then◌else◌, slice_index}
+use Rattle.std.specs.Prelude.{◌≡◌, ℕ, ◌<◌, ◌≤◌, Bool, true, false, ◌||◌, ◌==◌, ◌⊎◌, List, [], ◌∷◌, Option, Some, is_some, if◌then◌else◌, slice_index}
 use Rattle.std.specs.Str.{IsCharBoundary}
 use Rattle.yaml_chars.specs.Classes.{line_break, nb, space, white}
 use Rattle.yaml_chars.specs.Classes.{between as within}
 use Rattle.yaml_chars.specs.Places.{rest, between}
+use Rattle.yaml_events.specs.Places.{line_starts}
 use Rattle.yaml_grammar.specs.Separation.{Break, LineEnd}
 use Rattle.yaml_grammar.specs.Texts.{first}
 use Rattle.yaml_grammar.specs.BlockScalars.{Chomping}
@@ -93,3 +94,7 @@ pub record IsHeaderEnd (text : List ℕ) (at end : ℕ) : Type 0 where
   pub boundary : IsCharBoundary text end
   pub line_end : LineEnd
   pub reads : read_header_end (rest text at) ≡ Some (line_end, rest text end)
+
+-- a line starts at the place, or the text ends there
+abbrev pub IsLineStart : List ℕ → ℕ → Type 0
+IsLineStart text at = (line_starts text at ≡ true) ⊎ (rest text at ≡ [])

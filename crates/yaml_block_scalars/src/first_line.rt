@@ -7,7 +7,7 @@ ghost use Rattle.yaml_recognizers.specs.BlockScalars.{digit_fits, read_digit, re
 ghost use Rattle.yaml_recognizers.specs.BlockScalarFacts.{NoHeader};
 ghost use Rattle.yaml_block_scalars.specs.Found.{IsHeaderAt};
 ghost use Rattle.yaml_block_scalars.specs.Meant.{chomping_of};
-ghost use Rattle.yaml_block_scalars.specs.Places.{IsDigit, IsMark, AreSigns, IsCommentEnd, IsHeaderEnd};
+ghost use Rattle.yaml_block_scalars.specs.Places.{IsDigit, IsMark, AreSigns, IsCommentEnd, IsHeaderEnd, IsLineStart};
 
 use crate::parts::{Chomping, Header};
 use crate::place::{nb_end, stop_at, white_end};
@@ -108,6 +108,7 @@ pub fn header(text: &str, at: usize) -> Result<(Header, usize), ScanFault>
     requires { IsCharBoundary text.now at }
     ensures found { IfOk result (λ found. IsHeaderAt text.now at found.0 found.1) }
     ensures digit { IfOk result (λ found. IsTrue (digit_fits found.0.digit)) }
+    ensures line { IfOk result (λ found. IsLineStart text.now found.1) }
     ensures none { IfErr result (λ fault. Refuses fault (NoHeader (rest text.now at))) }
     ensures memory { IfErr result (λ fault. fault ≢ ScanFault.OutOfMemory) }
 {

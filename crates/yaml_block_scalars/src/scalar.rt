@@ -8,6 +8,7 @@ ghost use Rattle.yaml_recognizers.specs.BlockScalars.{digit_fits, find_indent, g
 ghost use Rattle.yaml_recognizers.specs.BlockScalarFacts.{NoBody};
 ghost use Rattle.yaml_block_scalars.specs.Found.{IsBodyAt, IsPieceAt, AreLines, ArePiece};
 ghost use Rattle.yaml_block_scalars.specs.Lines.{IsPlaced, IsAlone, IsNotAlone, ArePushed};
+ghost use Rattle.yaml_block_scalars.specs.Places.{IsLineStart};
 ghost use Rattle.yaml_block_scalars.specs.Meant.{chomping_of, least_indent};
 
 use crate::indent::detected;
@@ -157,6 +158,7 @@ pub fn literal<'a>(
     requires below { negsuc 0 ≤ℤ n }
     requires digit { IsTrue (digit_fits header.now.digit) }
     ensures found { IfOk result (λ found. IsBodyAt (least_indent n) false header.now text.now at (cow_str_bytes found.0) found.1) }
+    ensures line { IsLineStart text.now at → IfOk result (λ found. IsLineStart text.now found.1) }
     ensures borrowed { IfOk result (λ found. IsPieceAt (least_indent n) header.now text.now at found.1 → IsBorrowedStr found.0) }
     ensures none { IfErr result (λ fault. Refuses fault (NoBody header.now.digit (least_indent n) (rest text.now at))) }
 {
@@ -179,6 +181,7 @@ pub fn folded<'a>(
     requires below { negsuc 0 ≤ℤ n }
     requires digit { IsTrue (digit_fits header.now.digit) }
     ensures found { IfOk result (λ found. IsBodyAt (least_indent n) true header.now text.now at (cow_str_bytes found.0) found.1) }
+    ensures line { IsLineStart text.now at → IfOk result (λ found. IsLineStart text.now found.1) }
     ensures borrowed { IfOk result (λ found. IsPieceAt (least_indent n) header.now text.now at found.1 → IsBorrowedStr found.0) }
     ensures none { IfErr result (λ fault. Refuses fault (NoBody header.now.digit (least_indent n) (rest text.now at))) }
 {

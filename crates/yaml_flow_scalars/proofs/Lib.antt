@@ -12,3 +12,5 @@ pub mod DoubleReads
 pub mod DoublePlaces
 pub mod DoubleAdds
 pub mod DoubleFound
+pub mod InsideLines
+pub mod Unbroken

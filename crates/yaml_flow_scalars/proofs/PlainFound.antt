@@ -2,15 +2,15 @@
 use Rattle.std.proofs.Common.{◌≡◌, refl, sym, ◌∙◌, ap, subst, arith, length, length-drop, ℕ, ◌+◌, ◌-◌, ◌<◌, ◌≤◌, get_or}
 use Rattle.std.specs.Prelude.{Bool, true, false, List, [], ◌∷◌, ◌++◌, drop, flat_map, slice_range, slice_index, Some, None}
 use Rattle.std.specs.Str.{IsUtf8, IsCharBoundary}
-use Rattle.std.proofs.lemmas.Bool.{and_parts, false≢true, not-true}
+use Rattle.std.proofs.lemmas.Bool.{and_from, and_parts, false≢true, not-true}
 use Rattle.std.proofs.lemmas.List.{append_cancel_right, get_or-take, get_or-drop, length-take}
 use Rattle.std.proofs.Math.Seq.{drop-append_seam}
-use Rattle.yaml_chars.specs.Breaks.{NoBreak}
+use Rattle.yaml_chars.specs.Breaks.{NoBreak, no_break}
 use Rattle.yaml_chars.specs.Classes.{line_break, ns}
 use Rattle.yaml_chars.specs.Places.{rest, between}
 use Rattle.yaml_chars.proofs.Places.{rest-between}
 use Rattle.yaml_grammar.specs.Events.{plain_style}
-use Rattle.yaml_grammar.specs.Texts.{no_marker}
+use Rattle.yaml_grammar.specs.Texts.{every, no_marker}
 use Rattle.yaml_grammar.specs.FlowScalars.{FlowContext, Line, plain, single, double, plain_first, char_value, line_value}
 use Rattle.yaml_events.specs.Places.{line_starts}
 use Rattle.yaml_recognizers.specs.FlowScalars.{Stands, scalar_ends}
@@ -24,6 +24,7 @@ use Rattle.yaml_recognizers.proofs.WholeScalars.{is_scalar, whole_stands}
 use Rattle.yaml_flow_scalars.specs.PlainPlaces.{begins_plain, BeginsPlain, NoPlainBegins, IsPlainRun, IsNextLine, lines_value}
 use Rattle.yaml_flow_scalars.specs.Standing.{ScalarAt, NoScalarAt}
 use Rattle.yaml_flow_scalars.proofs.PlainLines.{values_are}
+use Rattle.yaml_flow_scalars.proofs.Unbroken.{ns_unbroken, run_unbroken}
 
 -- ---- found
 
@@ -61,6 +62,13 @@ module _ (n : ℕ) (c : FlowContext) (text : List ℕ) (at behind end : ℕ) (u 
       append_cancel_right (begins.character ∷ between text behind end) (between text at end) (rest text end)
       (ap (λ t. begins.character ∷ t) (sym (rest-between text behind end u run.above begins.boundary run.boundary))
       ∙ (sym begins.splits ∙ rest-between text at end u (omega arith) b run.boundary))
+
+  pub first_line_unbroken : every no_break (between text at end) ≡ true
+  first_line_unbroken =
+      let x : ℕ = begins.character in
+      let black : ns x ≡ true = first_is_ns c x (rest text behind) (and_parts (no_marker (line_starts text at) (x ∷ rest text behind)) (plain_first c x (rest text behind)) begins.begins).1 in
+      ap (every no_break) (sym first_line_text)
+      ∙ and_from _ _ (ns_unbroken x black) (ap (every no_break) (sym (run.reads x black)) ∙ run_unbroken c x (rest text behind))
 
   -- its first line goes up to the place `end`, and the further ones up to another
   pub plain_found : (last : ℕ) (value : List ℕ) → end ≤ last → IsCharBoundary text last → (plain_lines_at n c (rest text end)).1 ≡ rest text last

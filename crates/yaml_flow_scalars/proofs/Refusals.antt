@@ -17,6 +17,10 @@ pub ok_so : {A E : Type 0} (r : Result A E) (P Q : A → Type 0) → ((x : A) �
 ok_so (Ok x) P Q f h = f x h
 ok_so (Err e) P Q f h = h
 
+pub ok_both : {A E : Type 0} (r : Result A E) (P Q : A → Type 0) → IfOk r P → IfOk r Q → IfOk r (λ x. P x × Q x)
+ok_both (Ok x) P Q p q = (p, q)
+ok_both (Err e) P Q p q = p
+
 pub err_so : {A E : Type 0} (r : Result A E) (P Q : E → Type 0) → ((e : E) → P e → Q e) → IfErr r P → IfErr r Q
 err_so (Ok x) P Q f h = h
 err_so (Err e) P Q f h = f e h

@@ -1,10 +1,7 @@
 -- Plain scalars at places of a text: the first character, a line's run of characters, and further lines.
 -- Here black tells whether the character before a place is neither white nor a break.
-use Rattle.std.specs.Prelude.{◌≡◌, ℕ, ◌<◌, ◌≤◌, Bool, true, false, not, ◌&&◌, nat_lt, List, [], ◌∷◌, ◌++◌, codes, flat_map, slice_index, slice_range}
-use Rattle.std.specs.Cow.{IsBorrowedStr, cow_str_bytes}
+use Rattle.std.specs.Prelude.{◌≡◌, ℕ, ◌<◌, ◌≤◌, Bool, true, false, not, ◌&&◌, nat_lt, List, [], ◌∷◌, ◌++◌, codes, flat_map, slice_index}
 use Rattle.std.specs.Str.{IsCharBoundary, chars}
-use Rattle.std.specs.declared.borrow.CowStr.{CowStr}
-use Rattle.yaml_chars.specs.Breaks.{NoBreak}
 use Rattle.yaml_chars.specs.Classes.{is_in, line_break, ns}
 use Rattle.yaml_chars.specs.Places.{rest, between}
 use Rattle.yaml_grammar.specs.Texts.{no_marker}
@@ -86,9 +83,3 @@ pub record PushesLines (n : ℕ) (c : FlowContext) (text : List ℕ) (at : ℕ) 
   pub boundary : IsCharBoundary text end
   pub left : (plain_lines_at n c (rest text at)).1 ≡ rest text end
   pub means : chars longer ≡ chars value ++ line ++ lines_value n c text at
-
--- ---- memory
-
--- What stands on one line is borrowed from the text.
-abbrev pub BorrowsOneLine : {A : Type 0} → List ℕ → ℕ → CowStr A → ℕ → Type 0
-BorrowsOneLine text at value end = NoBreak (slice_range text at end) → IsBorrowedStr value × (cow_str_bytes value ≡ slice_range text at end)

@@ -1,8 +1,12 @@
 -- A flow scalar at a place of a text, which counts bytes.
-use Rattle.std.specs.Prelude.{◌≡◌, ℕ, ◌<◌, List}
+use Rattle.std.specs.Prelude.{◌≡◌, ℕ, ◌<◌, true, List}
+use Rattle.std.specs.Cow.{IsBorrowedStr}
 use Rattle.std.specs.Str.{IsCharBoundary}
-use Rattle.yaml_chars.specs.Places.{rest}
+use Rattle.std.specs.declared.borrow.CowStr.{CowStr}
+use Rattle.yaml_chars.specs.Breaks.{no_break}
+use Rattle.yaml_chars.specs.Places.{rest, between}
 use Rattle.yaml_grammar.specs.Events.{Style}
+use Rattle.yaml_grammar.specs.Texts.{every}
 use Rattle.yaml_grammar.specs.FlowScalars.{FlowContext, Scalar, style_of}
 use Rattle.yaml_events.specs.Places.{line_starts}
 use Rattle.yaml_recognizers.specs.WholeScalars.{StandsWhole, IsScalar}
@@ -17,3 +21,7 @@ pub record ScalarAt (style : Style) (n : ℕ) (c : FlowContext) (text : List ℕ
 abbrev pub NoScalarAt : Style → ℕ → FlowContext → List ℕ → ℕ → Type 0
 NoScalarAt style n c text at =
     (s : Scalar) (behind : List ℕ) → style_of s ≡ style → StandsWhole n c (line_starts text at) (rest text at) s behind → ⊥
+
+-- a value that is borrowed has no break between its places
+abbrev pub IsUnbroken : {A : Type 0} → List ℕ → ℕ → CowStr A → ℕ → Type 0
+IsUnbroken text at value end = IsBorrowedStr value → every no_break (between text at end) ≡ true

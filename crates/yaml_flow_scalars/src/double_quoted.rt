@@ -9,8 +9,8 @@ ghost use Rattle.yaml_grammar.specs.Texts.{first};
 ghost use Rattle.yaml_grammar.specs.Events.{double_style};
 ghost use Rattle.yaml_grammar.specs.FlowScalars.{one_line, escape, double_item, hex_digit, digits_behind};
 ghost use Rattle.yaml_events.specs.Meant.{context_of};
-ghost use Rattle.yaml_events.specs.Places.{Refuses};
-ghost use Rattle.yaml_flow_scalars.specs.Standing.{ScalarAt, NoScalarAt};
+ghost use Rattle.yaml_events.specs.Places.{line_starts, Refuses};
+ghost use Rattle.yaml_flow_scalars.specs.Standing.{ScalarAt, NoScalarAt, IsUnbroken};
 ghost use Rattle.yaml_flow_scalars.specs.DoubleScan.{double_value, raw_char, Adds, ClosesAt, EscapeAt, NoEscapeAt, IsEscape, IsDigit, digits_at, IsNumberAt, JoinsAt, NoJoinAt};
 ghost use Rattle.yaml_flow_scalars.specs.DoubleBorrowed.{BorrowsVerbatim};
 
@@ -46,6 +46,8 @@ pub fn double<'a>(
     ensures found { IfOk result (λ r. ScalarAt double_style n (context_of context) text.now at (chars (cow_str_bytes r.0)) r.1) }
     ensures borrowed { IfOk result (λ r. BorrowsVerbatim text.now at r.0 r.1) }
     ensures none { IfErr result (λ fault. Refuses fault (NoScalarAt double_style n (context_of context) text.now at)) }
+    ensures unbroken { IfOk result (λ r. IsUnbroken text.now at r.0 r.1) }
+    ensures ends_inside_line { IfOk result (λ r. line_starts text.now r.1 ≡ false) }
 {
     let bytes = text.as_bytes();
     if !stands_at(bytes, at, b'"') {

@@ -1,5 +1,5 @@
 // Plain scalars (YAML 1.2.2, 7.3.3).
-ghost use Rattle.std.specs.Prelude.{◌≡◌, ℕ, ◌≤◌, ◌↔◌, [], ◌∷◌, ◌++◌, IsTrue, IfOk, IfErr, IfSome, IfNone};
+ghost use Rattle.std.specs.Prelude.{◌≡◌, ℕ, ◌≤◌, ◌↔◌, false, [], ◌∷◌, ◌++◌, IsTrue, IfOk, IfErr, IfSome, IfNone};
 ghost use Rattle.std.specs.Str.{IsCharBoundary, IsUtf8, chars};
 ghost use Rattle.std.specs.Cow.{cow_str_bytes};
 ghost use Rattle.std.specs.String.{string_bytes};
@@ -8,10 +8,11 @@ ghost use Rattle.yaml_chars.specs.Places.{rest, between, IsRun};
 ghost use Rattle.yaml_grammar.specs.Events.{plain_style};
 ghost use Rattle.yaml_grammar.specs.Texts.{first};
 ghost use Rattle.yaml_grammar.specs.FlowScalars.{safe, plain_first, plain_next, one_line, folded_break};
+ghost use Rattle.yaml_events.specs.Borrowed.{BorrowsOneLine};
 ghost use Rattle.yaml_events.specs.Meant.{context_of};
 ghost use Rattle.yaml_events.specs.Places.{line_starts, Refuses};
-ghost use Rattle.yaml_flow_scalars.specs.Standing.{ScalarAt, NoScalarAt};
-ghost use Rattle.yaml_flow_scalars.specs.PlainPlaces.{simple, BeginsPlain, NoPlainBegins, IsPlainPiece, NoPlainPiece, IsPlainRun, IsNextLine, NoNextLine, PushesLines, BorrowsOneLine};
+ghost use Rattle.yaml_flow_scalars.specs.Standing.{ScalarAt, NoScalarAt, IsUnbroken};
+ghost use Rattle.yaml_flow_scalars.specs.PlainPlaces.{simple, BeginsPlain, NoPlainBegins, IsPlainPiece, NoPlainPiece, IsPlainRun, IsNextLine, NoNextLine, PushesLines};
 
 use crate::bytes::{is_marker, white_end};
 use crate::fold::{fold_at, push_fold, stands_on_one_line};
@@ -48,6 +49,8 @@ pub fn plain<'a>(
     ensures found { IfOk result (λ r. ScalarAt plain_style n (context_of context) text.now at (chars (cow_str_bytes r.0)) r.1) }
     ensures none { IfErr result (λ fault. Refuses fault (NoScalarAt plain_style n (context_of context) text.now at)) }
     ensures borrowed { IfOk result (λ r. BorrowsOneLine text.now at r.0 r.1) }
+    ensures unbroken { IfOk result (λ r. IsUnbroken text.now at r.0 r.1) }
+    ensures ends_inside_line { IfOk result (λ r. line_starts text.now r.1 ≡ false) }
 {
     let behind = first_end(text, at, context)?;
     let end = run_end(text, behind, true, context);

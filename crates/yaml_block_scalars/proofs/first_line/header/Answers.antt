@@ -3,6 +3,7 @@ use Rattle.std.proofs.lemmas.Str.{IsCharBoundary-after_ascii}
 use Rattle.yaml_block_scalars.specs.Meant.{chomping_of}
 use Rattle.yaml_block_scalars.specs.Places.{IsHeaderEnd}
 use Rattle.yaml_block_scalars.proofs.FirstLines.{header_at_end, header_open, header_there, header_unsigned}
+use Rattle.yaml_block_scalars.proofs.LineStarts.{header_ends}
 use Rattle.yaml_block_scalars.proofs.first_line.header.Goals as goal
 use Rattle.yaml_block_scalars.proofs.first_line.header.Goals.{else-sign-ne124-via-then-sign-ne124+else-sign-ne62, else-sign-ne124-via-else-sign-ne124}
 
@@ -59,3 +60,6 @@ returns-clause-found c =
       says = header_there c.args.text.now c.args.at c.signs_at-digit.result.2 c.in-Some.end (get_or c.as_bytes-bytes.result.now c.args.at 0) c.signs_at-digit.result.0 (chomping_of c.signs_at-digit.result.1)
           c.utf8.text l byte sign c.signs_at-digit.ensures c.in-Some.ensures;
     }
+
+pub returns-clause-line : goal.returns-clause-line
+returns-clause-line c = header_ends c.args.text.now c.args.at _ c.in-Some.end c.utf8.text c.requires (returns-clause-found c)

@@ -2,11 +2,14 @@ use Rattle.std.proofs.Common.{◌≡◌, ◌∙◌, ap, subst, true, w64}
 use Rattle.std.specs.Cow.{cow_str_bytes, IsBorrowedStr}
 use Rattle.std.specs.Prelude.{IfErr, IfOk}
 use Rattle.std.proofs.lemmas.Int.{to_z-of_z}
+use Rattle.std.proofs.lemmas.Result.{IfOk-weaker}
 use Rattle.yaml_chars.specs.Places.{rest}
 use Rattle.yaml_events.specs.Places.{Refuses}
 use Rattle.yaml_recognizers.specs.BlockScalarFacts.{NoBody}
 use Rattle.yaml_block_scalars.specs.Found.{IsBodyAt, IsPieceAt}
 use Rattle.yaml_block_scalars.specs.Meant.{least_indent}
+use Rattle.yaml_block_scalars.specs.Places.{IsLineStart}
+use Rattle.yaml_block_scalars.proofs.LineStarts.{body_ends}
 use Rattle.yaml_block_scalars.proofs.scalar.folded.Goals as goal
 
 least : (c : goal.After-body) → c.least_indent.result ≡ least_indent c.args.n
@@ -23,3 +26,10 @@ returns-clause-borrowed c =
 pub returns-clause-none : goal.returns-clause-none
 returns-clause-none c =
     subst (λ m. IfErr c.body.result (λ fault. Refuses fault (NoBody c.args.header.now.digit m (rest c.args.text.now c.args.at)))) (least c) c.body.ensures.none
+
+pub returns-clause-line : goal.returns-clause-line
+returns-clause-line c = λ line.
+    IfOk-weaker c.body.result
+    (λ found. IsBodyAt (least_indent c.args.n) true c.args.header.now c.args.text.now c.args.at (cow_str_bytes found.0) found.1)
+    (λ found. IsLineStart c.args.text.now found.1)
+    (λ found h. body_ends (least_indent c.args.n) true c.args.header.now c.args.text.now c.args.at (cow_str_bytes found.0) found.1 c.utf8.text c.requires.boundary h line) (returns-clause-found c)

@@ -1,4 +1,4 @@
-use Rattle.std.proofs.Common.{◌≡◌, sym, subst, arith, ◌+◌, None}
+use Rattle.std.proofs.Common.{◌≡◌, refl, sym, subst, arith, ◌+◌, None}
 use Rattle.std.specs.String.{string_bytes}
 use Rattle.std.specs.Prelude.{slice_range}
 use Rattle.std.specs.Str.{chars}
@@ -11,6 +11,8 @@ use Rattle.yaml_flow_scalars.specs.Standing.{ScalarAt, NoScalarAt}
 use Rattle.yaml_flow_scalars.specs.DoubleScan.{double_value, raw_char}
 use Rattle.yaml_flow_scalars.proofs.DoublePlaces.{stands, stands_not, behind_byte}
 use Rattle.yaml_flow_scalars.proofs.DoubleFound.{no_quote_at, none_behind, scalar_there, run_closes, not_verbatim}
+use Rattle.yaml_flow_scalars.proofs.InsideLines.{ends_inside_line}
+use Rattle.yaml_flow_scalars.proofs.Unbroken.{opened_unbroken, raw_unbroken, run_closed_unbroken}
 use Rattle.yaml_flow_scalars.proofs.double_quoted.double.Goals as goal
 
 pub returns-then-not-stands_at-clause-none : goal.returns-then-not-stands_at-clause-none
@@ -80,3 +82,24 @@ returns-clause-borrowed c = λ verbatim.
     let start = behind_byte text a.at 34 c.utf8.text there.0 there.1 (omega arith) in
     absurd (not_verbatim a.n (context_of a.context) text c.utf8.text (a.at + 1) end (string_bytes c.in_ok-value.value) c.in_ok-value.end start (subst (λ x. IsRun raw_char x (a.at + 1) end) same c.raw_end-end.ensures)
     (stands_not c.as_bytes-bytes.result.now text end 34 c.stands_at-2.result same c.stands_at-2.ensures c.if-stands_at.false) c.in_ok-value.ensures.ok verbatim)
+
+pub returns-then-stands_at-clause-unbroken : goal.returns-then-stands_at-clause-unbroken
+returns-then-stands_at-clause-unbroken c = λ _.
+    let a = c.args in
+    let text = a.text.now in
+    let same = c.as_bytes-bytes.ensures.value in
+    let end = c.raw_end-end.result in
+    let front = stands c.as_bytes-bytes.result.now text a.at 34 c.stands_at.result same c.stands_at.ensures c.if-not-stands_at.false in
+    let back = stands c.as_bytes-bytes.result.now text end 34 c.stands_at-2.result same c.stands_at-2.ensures c.if-stands_at.true in
+    let run : IsRun raw_char text (a.at + 1) end = subst (λ x. IsRun raw_char x (a.at + 1) end) same c.raw_end-end.ensures in
+    let above = run.above in
+    opened_unbroken text a.at (end + 1) 34 c.utf8.text (omega arith) (behind_byte text end 34 c.utf8.text back.0 back.1 (omega arith)) front.1 (omega arith) refl
+    (run_closed_unbroken raw_char text (a.at + 1) end 34 c.utf8.text (behind_byte text a.at 34 c.utf8.text front.0 front.1 (omega arith)) raw_unbroken run back.0 back.1 (omega arith) refl)
+
+pub returns-then-stands_at-clause-ends_inside_line : goal.returns-then-stands_at-clause-ends_inside_line
+returns-then-stands_at-clause-ends_inside_line c =
+    ends_inside_line double_style c.args.n (context_of c.args.context) c.args.text.now c.args.at (chars c.range.result.now) (c.raw_end-end.result + 1) c.utf8.text c.requires (returns-then-stands_at-clause-found c)
+
+pub returns-clause-ends_inside_line : goal.returns-clause-ends_inside_line
+returns-clause-ends_inside_line c =
+    ends_inside_line double_style c.args.n (context_of c.args.context) c.args.text.now c.args.at (chars (string_bytes c.in_ok-value.value)) c.in_ok-value.end c.utf8.text c.requires (returns-clause-found c)

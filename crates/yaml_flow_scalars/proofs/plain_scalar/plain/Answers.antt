@@ -9,7 +9,8 @@ use Rattle.yaml_grammar.specs.FlowScalars.{folded_break}
 use Rattle.yaml_flow_scalars.proofs.Refusals.{fault_passed}
 use Rattle.yaml_flow_scalars.specs.PlainPlaces.{NoPlainBegins, lines_value}
 use Rattle.yaml_flow_scalars.specs.Standing.{NoScalarAt}
-use Rattle.yaml_flow_scalars.proofs.PlainFound.{plain_found, plain_missing, line_breaks}
+use Rattle.yaml_flow_scalars.proofs.PlainFound.{plain_found, plain_missing, line_breaks, first_line_unbroken}
+use Rattle.yaml_flow_scalars.proofs.InsideLines.{ends_inside_line}
 use Rattle.yaml_flow_scalars.proofs.PlainLines.{lines_step, lines_stop}
 use Rattle.yaml_flow_scalars.proofs.plain_scalar.plain.Goals as goal
 
@@ -59,3 +60,15 @@ returns-clause-borrowed c = λ unbroken.
     let further = c.run_end-end.ensures.above in
     absurd (line_breaks c.args.n (context_of c.args.context) c.args.text.now c.args.at c.run_end-end.result c.in-Some.line.empties c.in-Some.line.start c.in-Some.line.end
     c.in_ok-end.end (omega arith) next pushed.above pushed.boundary.0 unbroken)
+
+pub returns-in_default-clause-unbroken : goal.returns-in_default-clause-unbroken
+returns-in_default-clause-unbroken c = λ _.
+    first_line_unbroken c.args.n (context_of c.args.context) c.args.text.now c.args.at c.in_ok-behind.behind c.run_end-end.result c.utf8.text c.requires c.in_ok-behind.ensures.found c.run_end-end.ensures
+
+pub returns-in_default-clause-ends_inside_line : goal.returns-in_default-clause-ends_inside_line
+returns-in_default-clause-ends_inside_line c =
+    ends_inside_line plain_style c.args.n (context_of c.args.context) c.args.text.now c.args.at (chars c.range.result.now) c.run_end-end.result c.utf8.text c.requires (returns-in_default-clause-found c)
+
+pub returns-clause-ends_inside_line : goal.returns-clause-ends_inside_line
+returns-clause-ends_inside_line c =
+    ends_inside_line plain_style c.args.n (context_of c.args.context) c.args.text.now c.args.at (chars (string_bytes c.push_lines.new.value)) c.in_ok-end.end c.utf8.text c.requires (returns-clause-found c)

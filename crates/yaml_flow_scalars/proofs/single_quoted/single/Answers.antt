@@ -1,14 +1,16 @@
-use Rattle.std.proofs.Common.{◌+◌, ◌≡◌, true, None}
+use Rattle.std.proofs.Common.{◌+◌, ◌≡◌, arith, false, refl, true, None}
 use Rattle.std.specs.Cow.{cow_str_bytes}
 use Rattle.std.specs.Str.{chars}
 use Rattle.yaml_chars.specs.Places.{rest}
 use Rattle.yaml_events.specs.Meant.{context_of}
-use Rattle.yaml_events.specs.Places.{Refuses}
+use Rattle.yaml_events.specs.Places.{Refuses, line_starts}
 use Rattle.yaml_grammar.specs.Events.{single_style}
-use Rattle.yaml_flow_scalars.proofs.Refusals.{err_so, ok_so, refuses_so}
-use Rattle.yaml_flow_scalars.specs.Standing.{NoScalarAt, ScalarAt}
+use Rattle.yaml_flow_scalars.proofs.Refusals.{err_so, ok_both, ok_so, refuses_so}
+use Rattle.yaml_flow_scalars.specs.Standing.{IsUnbroken, NoScalarAt, ScalarAt}
 use Rattle.yaml_flow_scalars.specs.SingleScalars.{IsInside, read_inside}
 use Rattle.yaml_flow_scalars.proofs.SinglePlaces.{no_single, quote_at, quote_told, single_found}
+use Rattle.yaml_flow_scalars.proofs.InsideLines.{ends_inside_line}
+use Rattle.yaml_flow_scalars.proofs.Unbroken.{opened_unbroken}
 use Rattle.yaml_flow_scalars.proofs.single_quoted.single.Goals as goal
 
 pub unquoted-requires : goal.unquoted-requires
@@ -30,3 +32,20 @@ returns-clause-none c =
     let no_scalar = NoScalarAt single_style c.args.n (context_of c.args.context) c.args.text.now c.args.at in
     err_so c.unquoted.result (λ fault. Refuses fault nothing) (λ fault. Refuses fault no_scalar)
     (λ fault h. refuses_so fault nothing no_scalar (λ none. no_single c.args.n (context_of c.args.context) c.args.text.now c.args.at c.utf8.text c.requires q none) h) c.unquoted.ensures.none
+
+pub returns-clause-unbroken : goal.returns-clause-unbroken
+returns-clause-unbroken c =
+    let q = quote_told c.args.text.now c.as_bytes.result.now c.args.at c.is_quote.result true c.as_bytes.ensures.value c.is_quote.ensures c.if-not-is_quote.false in
+    let there = quote_at c.args.text.now c.args.at c.utf8.text c.requires q in
+    ok_so c.unquoted.result
+    (λ r. IsInside c.args.n (context_of c.args.context) c.args.text.now (c.args.at + 1) (chars (cow_str_bytes r.0)) r.1 × IsUnbroken c.args.text.now (c.args.at + 1) r.0 r.1)
+    (λ r. IsUnbroken c.args.text.now c.args.at r.0 r.1)
+    (λ r both borrowed. let inside = both.0 in let above = inside.above in
+    opened_unbroken c.args.text.now c.args.at r.1 39 c.utf8.text (omega arith) inside.boundary there.byte (omega arith) refl (both.1 borrowed))
+    (ok_both c.unquoted.result (λ r. IsInside c.args.n (context_of c.args.context) c.args.text.now (c.args.at + 1) (chars (cow_str_bytes r.0)) r.1)
+    (λ r. IsUnbroken c.args.text.now (c.args.at + 1) r.0 r.1) c.unquoted.ensures.found c.unquoted.ensures.unbroken)
+
+pub returns-clause-ends_inside_line : goal.returns-clause-ends_inside_line
+returns-clause-ends_inside_line c =
+    ok_so c.unquoted.result (λ r. ScalarAt single_style c.args.n (context_of c.args.context) c.args.text.now c.args.at (chars (cow_str_bytes r.0)) r.1) (λ r. line_starts c.args.text.now r.1 ≡ false)
+    (λ r s. ends_inside_line single_style c.args.n (context_of c.args.context) c.args.text.now c.args.at (chars (cow_str_bytes r.0)) r.1 c.utf8.text c.requires s) (returns-clause-found c)

@@ -1,4 +1,4 @@
-use Rattle.std.proofs.Common.{◌≡◌, ◌+◌, ◌-◌, ◌++◌, ◌∙◌, ap, subst, true, false, arith, slice_range}
+use Rattle.std.proofs.Common.{◌≡◌, refl, ◌+◌, ◌-◌, ◌++◌, ◌∙◌, ap, subst, true, false, arith, slice_range}
 use Rattle.std.specs.List.{AllPass}
 use Rattle.std.specs.String.{string_bytes}
 use Rattle.std.proofs.lemmas.Str.{IsUtf8-string_bytes}
@@ -7,7 +7,8 @@ use Rattle.yaml_events.specs.Meant.{context_of}
 use Rattle.yaml_flow_scalars.proofs.Refusals.{refuses}
 use Rattle.yaml_flow_scalars.specs.SingleScalars.{NoFoldIn, content, unchanged}
 use Rattle.yaml_flow_scalars.specs.Folds.{IsWhiteStart, IsFold}
-use Rattle.yaml_flow_scalars.proofs.SinglePlaces.{begun, behind_quote, changed_before, fold_changed, goes_past_fold, goes_past_pair, quote_changed, quote_told, reads_at_once, reads_none, reads_to_close, running}
+use Rattle.yaml_flow_scalars.proofs.SinglePlaces.{quote_at, begun, behind_quote, changed_before, fold_changed, goes_past_fold, goes_past_pair, quote_changed, quote_told, reads_at_once, reads_none, reads_to_close, running}
+use Rattle.yaml_flow_scalars.proofs.Unbroken.{content_unbroken, run_closed_unbroken}
 use Rattle.yaml_flow_scalars.proofs.single_quoted.unquoted.Goals as goal
 
 pub runs-init : goal.runs-init
@@ -102,3 +103,10 @@ runs-preserved c =
           (IsUtf8-string_bytes c.push_str-in-runs.new.self) f c.in-Some.ensures.lines (c.in_ok-push_str-3.ensures.bytes ∙ ap (λ x. string_bytes c.runs.value ++ x) c.range-in-runs.ensures.value) c.in_ok-push_fold.ensures;
       changed = λ _. fold_changed c.args.n c.args.text.now c.args.start c.content_end-end.result c.in-Some.fold.empties c.in-Some.fold.next c.utf8.text s.run.boundary f (omega arith);
     }
+
+pub returns-then-place-start-clause-unbroken : goal.returns-then-place-start-clause-unbroken
+returns-then-place-start-clause-unbroken c = λ _.
+    let run = subst (λ x. IsRun content x c.args.start c.content_end-end.result) c.as_bytes-bytes.ensures.value (subst (λ x. IsRun content c.as_bytes-bytes.result.now x c.content_end-end.result) c.if-place-start.true c.content_end-end.ensures) in
+    let q = quote_told c.args.text.now c.as_bytes-bytes.result.now c.content_end-end.result c.is_quote.result true c.as_bytes-bytes.ensures.value c.is_quote.ensures c.if-is_quote.true in
+    let there = quote_at c.args.text.now c.content_end-end.result c.utf8.text run.boundary q in
+    run_closed_unbroken content c.args.text.now c.args.start c.content_end-end.result 39 c.utf8.text c.requires content_unbroken run there.within there.byte (omega arith) refl

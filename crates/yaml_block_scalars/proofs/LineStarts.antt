@@ -1,0 +1,118 @@
+-- A line starts after a header, and after the body of a scalar, or the text ends there.
+use Rattle.std.proofs.Common.{◌≡◌, refl, sym, ◌∙◌, ap, append_assoc, arith, inl, inr}
+use Rattle.std.specs.Prelude.{ℕ, ◌≤◌, Bool, true, false, ◌&&◌, ◌⊎◌, ◌==◌, List, [], ◌∷◌, ◌++◌, Option, Some, None, codes, flat_map, if◌then◌else◌}
+use Rattle.std.specs.Str.{IsUtf8, IsCharBoundary}
+use Rattle.std.proofs.lemmas.Bool.{and_parts, cond_both, false≢true, not-true}
+use Rattle.std.proofs.lemmas.List.{append_cancel_right}
+use Rattle.std.proofs.lemmas.Str.{IsCharBoundary-start}
+use Rattle.yaml_chars.specs.Classes.{line_break}
+use Rattle.yaml_chars.specs.Places.{rest, between}
+use Rattle.yaml_chars.proofs.Places.{between-append, rest-between}
+use Rattle.yaml_events.specs.Places.{line_starts, without_mark}
+use Rattle.yaml_grammar.specs.BlockScalars.{Chomping, Gap, Header, TextLine, chomping_text, digit_text, gap_line_text, gaps_text, goes_on, header_text, text_line_fits, text_line_text, text_lines_fit, text_lines_text}
+use Rattle.yaml_grammar.specs.Separation.{Break, LineEnd, break_text, comment_text, cr, cr_lf, lf, line_end_text, stop_fits}
+use Rattle.yaml_grammar.specs.Texts.{is_empty, optional, spaces, starts_line}
+use Rattle.yaml_recognizers.specs.BlockScalars.{Body, body_text}
+use Rattle.yaml_recognizers.specs.BlockScalarFacts.{BodyStands, HeaderStands, IsBody}
+use Rattle.yaml_recognizers.proofs.LineStarts.{starts_joined}
+use Rattle.yaml_block_scalars.specs.declared.parts.Header.{Header as ScannedHeader}
+use Rattle.yaml_block_scalars.specs.Found.{IsBodyAt, IsHeaderAt}
+use Rattle.yaml_block_scalars.specs.Places.{IsLineStart}
+
+-- ---- texts: a line starts after xs, or nothing stands behind it
+
+abbrev pub Ends : Bool → List ℕ → List ℕ → Type 0
+Ends bol xs behind = (starts_line bol xs ≡ true) ⊎ (behind ≡ [])
+
+break_starts : (bol : Bool) (b : Break) → starts_line bol (break_text b) ≡ true
+break_starts bol lf = refl
+break_starts bol cr = refl
+break_starts bol cr_lf = refl
+
+none_left : (xs : List ℕ) → is_empty xs ≡ true → xs ≡ []
+none_left [] h = refl
+none_left (x ∷ xs) h = absurd (false≢true h)
+
+nil_behind : (xs ys : List ℕ) → xs ++ ys ≡ [] → ys ≡ []
+nil_behind [] ys h = h
+nil_behind (x ∷ xs) ys h = cc
+
+stop_ends : (bol : Bool) (xs : List ℕ) (stop : Option Break) (behind : List ℕ) → stop_fits stop behind ≡ true → Ends bol (xs ++ optional break_text stop) behind
+stop_ends bol xs None behind h = inr (none_left behind h)
+stop_ends bol xs (Some b) behind h = inl (starts_joined bol xs (break_text b) ∙ break_starts (starts_line bol xs) b)
+
+gaps_start : (gs : List Gap) → starts_line true (gaps_text gs) ≡ true
+gaps_start [] = refl
+gaps_start (g ∷ gs) =
+    starts_joined true (gap_line_text g) (gaps_text gs)
+    ∙ (ap (λ b. starts_line b (gaps_text gs)) (starts_joined true (spaces g.width) (break_text g.stop) ∙ break_starts (starts_line true (spaces g.width)) g.stop) ∙ gaps_start gs)
+
+lines_end : (q : ℕ) (ls : List TextLine) (behind : List ℕ) → text_lines_fit q ls behind ≡ true → Ends true (text_lines_text q ls) behind
+lines_end q [] behind h = inl refl
+lines_end q (l ∷ ls) behind h =
+    let p = and_parts (text_line_fits q l (text_lines_text q ls ++ behind)) (text_lines_fit q ls behind) h in
+    let stop : stop_fits l.stop (gaps_text l.gaps ++ (text_lines_text q ls ++ behind)) ≡ true = (and_parts _ _ (and_parts _ _ p.0).0).1 in
+    elim (stop_ends true (spaces q ++ l.text) l.stop (gaps_text l.gaps ++ (text_lines_text q ls ++ behind)) stop) [
+      | inl starts ↦ (let line : starts_line true (text_line_text q l) ≡ true =
+          starts_joined true (spaces q ++ l.text ++ optional break_text l.stop) (gaps_text l.gaps) ∙ (ap (λ b. starts_line b (gaps_text l.gaps)) starts ∙ gaps_start l.gaps) in
+          elim (lines_end q ls behind p.1) [
+            | inl more ↦ inl (starts_joined true (text_line_text q l) (text_lines_text q ls) ∙ (ap (λ b. starts_line b (text_lines_text q ls)) line ∙ more))
+            | inr none ↦ inr none
+          ])
+      | inr none ↦ inr (nil_behind (text_lines_text q ls) behind (nil_behind (gaps_text l.gaps) (text_lines_text q ls ++ behind) none))
+    ]
+
+-- ---- places
+
+any_start : (b : Bool) (xs : List ℕ) → starts_line b xs ≡ true → starts_line true xs ≡ true
+any_start b [] h = refl
+any_start b (x ∷ xs) h = h
+
+starts_marked : (xs ys : List ℕ) → starts_line (starts_line true (without_mark ys)) xs ≡ true → starts_line true (without_mark (ys ++ xs)) ≡ true
+starts_marked [] [] h = refl
+starts_marked (x ∷ xs) [] h = cond_both (x == 0xfeff) xs (x ∷ xs) (λ (t : List ℕ). starts_line true t ≡ true) (λ _. any_start (line_break x) xs h) (λ _. h)
+starts_marked xs (y ∷ ys) h =
+    cond_both (y == 0xfeff) (ys ++ xs) (y ∷ (ys ++ xs)) (λ (t : List ℕ). starts_line true t ≡ true)
+    (λ e. starts_joined true ys xs ∙ rw e at h)
+    (λ e. starts_joined (line_break y) ys xs ∙ rw e at h)
+
+starts_at : (text : List ℕ) (at end : ℕ) (xs : List ℕ) → IsUtf8 text → at ≤ end → IsCharBoundary text at → IsCharBoundary text end → rest text at ≡ xs ++ rest text end
+    → starts_line (line_starts text at) xs ≡ true → line_starts text end ≡ true
+starts_at text at end xs u l b d spells h =
+    let same : between text at end ≡ xs = append_cancel_right (between text at end) xs (rest text end) (sym (rest-between text at end u l b d) ∙ spells) in
+    let whole : between text 0 end ≡ between text 0 at ++ xs = between-append text 0 at end u (omega arith) l (IsCharBoundary-start text u) b d ∙ ap (λ t. between text 0 at ++ t) same in
+    ap (λ t. starts_line true (without_mark t)) whole ∙ starts_marked xs (between text 0 at) h
+
+pub header_ends : (text : List ℕ) (at : ℕ) (header : ScannedHeader) (end : ℕ) → IsUtf8 text → IsCharBoundary text at → IsHeaderAt text at header end → IsLineStart text end
+header_ends text at header end u b h =
+    let found : Header = h.says.header in
+    let stands : HeaderStands (rest text at) found (rest text end) = h.says.stands in
+    let e : LineEnd = found.line_end in
+    let signs : List ℕ =
+    (if found.folded then codes ">" else codes "|") ++ (if found.digit_last then chomping_text found.chomping ++ optional digit_text found.digit else optional digit_text found.digit ++ chomping_text found.chomping) in
+    let front : List ℕ = e.blank ++ optional comment_text e.comment in
+    let stop : stop_fits e.stop (rest text end) ≡ true = (and_parts _ _ (and_parts _ _ stands.fits).1).1 in
+    elim (stop_ends (starts_line (line_starts text at) signs) front e.stop (rest text end) stop) [
+      | inl starts ↦ inl (starts_at text at end (header_text found) u h.above b h.boundary stands.spells (starts_joined (line_starts text at) signs (line_end_text e) ∙ starts))
+      | inr none ↦ inr none
+    ]
+
+pub body_ends : (m : ℕ) (folded : Bool) (header : ScannedHeader) (text : List ℕ) (at : ℕ) (value : List ℕ) (end : ℕ) → IsUtf8 text → IsCharBoundary text at
+    → IsBodyAt m folded header text at value end → IsLineStart text at → IsLineStart text end
+body_ends m folded header text at value end u b h (inl line) =
+    let body : Body = h.means.body in
+    let stands : BodyStands header.digit m (rest text at) body (rest text end) = h.means.stands in
+    let lines : text_lines_fit body.indent body.texts (rest text end) ≡ true = (and_parts _ _ (and_parts _ _ stands.fits).0).1 in
+    elim (lines_end body.indent body.texts (rest text end) lines) [
+      | inl starts ↦ (let gaps : starts_line (line_starts text at) (gaps_text body.gaps) ≡ true = ap (λ b. starts_line b (gaps_text body.gaps)) line ∙ gaps_start body.gaps in
+          inl (starts_at text at end (body_text body) u h.above b h.boundary stands.spells
+          (starts_joined (line_starts text at) (gaps_text body.gaps) (text_lines_text body.indent body.texts) ∙ (ap (λ b. starts_line b (text_lines_text body.indent body.texts)) gaps ∙ starts))))
+      | inr none ↦ inr none
+    ]
+body_ends m folded header text at value end u b h (inr none) = inr (nil_behind (body_text h.means.body) (rest text end) (sym h.means.stands.spells ∙ none))
+
+-- ---- what stands behind the body
+
+-- the line behind a body is neither a text line of its indentation nor an empty one
+pub body_stops : (digit : Option ℕ) (m : ℕ) (text : List ℕ) (body : Body) (behind : List ℕ) → BodyStands digit m text body behind → goes_on body.indent behind ≡ false
+body_stops digit m text body behind stands = not-true (goes_on body.indent behind) (and_parts _ _ stands.fits).1

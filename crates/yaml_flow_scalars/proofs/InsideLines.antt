@@ -1,0 +1,124 @@
+-- A flow scalar ends inside a line: its last character is neither a break nor a byte order mark.
+use Rattle.std.proofs.Common.{◌≡◌, refl, sym, ◌∙◌, ap, subst, append-nil, arith}
+use Rattle.std.specs.Prelude.{ℕ, Bool, true, false, not, ◌&&◌, ◌||◌, ◌==◌, List, [], ◌∷◌, ◌++◌, codes, flat_map, if◌then◌else◌}
+use Rattle.std.specs.Str.{IsUtf8, IsCharBoundary}
+use Rattle.std.proofs.lemmas.Bool.{and_parts, cond_both, false≢true}
+use Rattle.std.proofs.lemmas.Bool.Decides.{nat_tests}
+use Rattle.std.proofs.lemmas.List.{append_cancel_right}
+use Rattle.std.proofs.lemmas.Str.{IsCharBoundary-start}
+use Rattle.yaml_chars.specs.Classes.{line_break, ns, white}
+use Rattle.yaml_chars.specs.Places.{rest, between}
+use Rattle.yaml_chars.proofs.Places.{between-append, rest-between}
+use Rattle.yaml_events.specs.Places.{line_starts, without_mark}
+use Rattle.yaml_grammar.specs.Events.{Style}
+use Rattle.yaml_grammar.specs.FlowScalars.{FlowContext, outer, inner, block_key, flow_key, Line, Scalar, plain, single, double, ends, plain_first, plain_next, plain_run, plain_line, plain_more, plain_lines, plain_kind, plain_text, single_text, item_text, line_text, lines_text, join_text, empties_text, lines_behind, scalar_text, scalar_fits}
+use Rattle.yaml_grammar.specs.Texts.{is_empty, starts_line}
+use Rattle.yaml_recognizers.proofs.PlainScalars.{plain_texts}
+use Rattle.yaml_flow_scalars.specs.Standing.{ScalarAt}
+
+-- neither a break nor a byte order mark
+abbrev inked : ℕ → Bool
+inked c = not (line_break c || (c == 0xfeff))
+
+-- ---- the last character
+
+ends_longer : (p : ℕ → Bool) (x : ℕ) (xs : List ℕ) → ends p xs ≡ true → ends p (x ∷ xs) ≡ true
+ends_longer p x [] h = absurd (false≢true h)
+ends_longer p x (y ∷ ys) h = h
+
+ends_behind : (p : ℕ → Bool) (xs ys : List ℕ) → ends p ys ≡ true → ends p (xs ++ ys) ≡ true
+ends_behind p [] ys h = h
+ends_behind p (x ∷ xs) ys h = ends_longer p x (xs ++ ys) (ends_behind p xs ys h)
+
+next_inked : (c : FlowContext) (before x : ℕ) (behind : List ℕ) → plain_next c before x behind ≡ true → inked x ≡ true
+next_inked outer before x behind h = grind (arith, nat_tests)
+next_inked inner before x behind h = grind (arith, nat_tests)
+next_inked block_key before x behind h = grind (arith, nat_tests)
+next_inked flow_key before x behind h = grind (arith, nat_tests)
+
+first_inked : (x : ℕ) → ns x ≡ true → inked x ≡ true
+first_inked x h = grind (arith, nat_tests)
+
+last_inked : (c : FlowContext) (before x : ℕ) (behind : List ℕ) → (white x || plain_next c before x behind) && not (white x) ≡ true → inked x ≡ true
+last_inked c before x behind h = by_cases (white x) (plain_next c before x behind) h (next_inked c before x behind)
+  where
+    by_cases : (w p : Bool) → (w || p) && not w ≡ true → (p ≡ true → inked x ≡ true) → inked x ≡ true
+    by_cases true p h f = absurd (false≢true h)
+    by_cases false true h f = f refl
+    by_cases false false h f = absurd (false≢true h)
+
+run_ends : (c : FlowContext) (before x : ℕ) (xs behind : List ℕ) → plain_run c before (x ∷ xs) behind ≡ true → ends inked (x ∷ xs) ≡ true
+run_ends c before x [] behind h = last_inked c before x behind h
+run_ends c before x (y ∷ ys) behind h = run_ends c x y ys behind (and_parts _ _ h).1
+
+line_ends : (c : FlowContext) (xs behind : List ℕ) → plain_line c xs behind ≡ true → ends inked xs ≡ true
+line_ends c [] behind h = absurd (false≢true h)
+line_ends c (x ∷ []) behind h = let p = and_parts _ _ h in first_inked x (and_parts _ _ p.0).0
+line_ends c (x ∷ y ∷ ys) behind h = run_ends c x y ys behind (and_parts _ _ h).1
+
+more_ends : (c : FlowContext) (xs behind : List ℕ) → plain_more c xs behind ≡ true → ends inked xs ≡ true
+more_ends c [] behind h = absurd (false≢true h)
+more_ends c (x ∷ xs) behind h = run_ends c 32 x xs behind (and_parts _ _ h).1
+
+line_text_ends : (l : Line ℕ) → ends inked l.held ≡ true → ends inked (line_text plain_text l) ≡ true
+line_text_ends l h = ends_behind inked (join_text l ++ empties_text l.empties ++ l.lead) (flat_map plain_text l.held) (rw (plain_texts l.held) h)
+
+lines_end : (n : ℕ) (c : FlowContext) (before : List ℕ) (l : Line ℕ) (ls : List (Line ℕ)) (behind : List ℕ) → plain_lines n c before (l ∷ ls) behind ≡ true
+    → ends inked (flat_map (line_text plain_text) (l ∷ ls)) ≡ true
+lines_end n c before l [] behind h =
+    let p = and_parts _ _ h in
+    let q = and_parts _ _ p.0 in
+    rw (append-nil (line_text plain_text l)) (line_text_ends l (more_ends c l.held (lines_behind plain_kind [] behind) q.1))
+lines_end n c before l (m ∷ ms) behind h =
+    ends_behind inked (line_text plain_text l) (flat_map (line_text plain_text) (m ∷ ms)) (lines_end n c l.held m ms behind (and_parts _ _ h).1)
+
+scalar_ends : (s : Scalar) (n : ℕ) (c : FlowContext) (bol : Bool) (behind : List ℕ) → scalar_fits n c bol s behind ≡ true → ends inked (scalar_text s) ≡ true
+scalar_ends (plain front []) n c bol behind h =
+    let p = and_parts _ _ h in
+    let q = and_parts _ _ p.0 in
+    let r = and_parts _ _ q.0 in
+    rw (append-nil (flat_map plain_text front), plain_texts front) (line_ends c front (lines_behind plain_kind [] behind) r.1)
+scalar_ends (plain front (l ∷ ls)) n c bol behind h =
+    let p = and_parts _ _ h in
+    let q = and_parts _ _ p.0 in
+    ends_behind inked (flat_map plain_text front) (flat_map (line_text plain_text) (l ∷ ls)) (lines_end n c front l ls behind q.1)
+scalar_ends (single front more) n c bol behind h = ends_behind inked (codes "'" ++ lines_text single_text front more) (codes "'") refl
+scalar_ends (double front more) n c bol behind h = ends_behind inked (codes "\"" ++ lines_text item_text front more) (codes "\"") refl
+
+-- ---- no line starts behind it
+
+inked_parts : (x : ℕ) → inked x ≡ true → (line_break x ≡ false) × ((x == 0xfeff) ≡ false)
+inked_parts x h = by_cases (line_break x) (x == 0xfeff) h
+  where
+    by_cases : (a b : Bool) → not (a || b) ≡ true → (a ≡ false) × (b ≡ false)
+    by_cases true b h = absurd (false≢true h)
+    by_cases false true h = absurd (false≢true h)
+    by_cases false false h = (refl, refl)
+
+no_line : (bol : Bool) (xs : List ℕ) → ends inked xs ≡ true → starts_line bol xs ≡ false
+no_line bol [] h = absurd (false≢true h)
+no_line bol (x ∷ []) h = (inked_parts x h).0
+no_line bol (x ∷ y ∷ ys) h = no_line (line_break x) (y ∷ ys) h
+
+no_line_marked : (xs : List ℕ) → ends inked xs ≡ true → starts_line true (without_mark xs) ≡ false
+no_line_marked [] h = absurd (false≢true h)
+no_line_marked (x ∷ xs) h =
+    cond_both (x == 0xfeff) xs (x ∷ xs) (λ (t : List ℕ). starts_line true t ≡ false) (λ e. past_mark x xs e h) (λ _. no_line true (x ∷ xs) h)
+  where
+    past_mark : (x : ℕ) (xs : List ℕ) → (x == 0xfeff) ≡ true → ends inked (x ∷ xs) ≡ true → starts_line true xs ≡ false
+    past_mark x [] e h = absurd (false≢true (sym (inked_parts x h).1 ∙ e))
+    past_mark x (y ∷ ys) e h = no_line true (y ∷ ys) h
+
+pub ends_inside_line : (style : Style) (n : ℕ) (c : FlowContext) (text : List ℕ) (at : ℕ) (value : List ℕ) (end : ℕ) → IsUtf8 text → IsCharBoundary text at
+    → ScalarAt style n c text at value end → line_starts text end ≡ false
+ends_inside_line style n c text at value end u b s =
+    let above = s.above in
+    let stands = s.scalar.stands in
+    let there : Scalar = s.scalar.scalar in
+    let spelled : between text at end ≡ scalar_text there =
+    append_cancel_right (between text at end) (scalar_text there) (rest text end) (sym (rest-between text at end u (omega arith) b s.boundary) ∙ stands.spells) in
+    let whole : between text 0 end ≡ between text 0 at ++ scalar_text there =
+    between-append text 0 at end u (omega arith) (omega arith) (IsCharBoundary-start text u) b s.boundary ∙ ap (λ t. between text 0 at ++ t) spelled in
+    ap (λ t. starts_line true (without_mark t)) whole
+    ∙ no_line_marked (between text 0 at ++ scalar_text there)
+    (ends_behind inked (between text 0 at) (scalar_text there) (scalar_ends there n c (line_starts text at) (rest text end) stands.fits))
