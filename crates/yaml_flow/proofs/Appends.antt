@@ -8,7 +8,7 @@ use Rattle.yaml_grammar.specs.Events.{Event, map_start}
 use Rattle.yaml_events.specs.declared.event.Event.{Event as ListedEvent}
 use Rattle.yaml_events.specs.declared.event.Event.TheVariants.{MapStart}
 use Rattle.yaml_events.specs.Meant.{event_of, events_of}
-use Rattle.yaml_flow.specs.Borrowed.{BorrowsPlain}
+use Rattle.yaml_events.specs.Borrowed.{BorrowsPlain}
 use Rattle.yaml_flow.specs.FlowNodes.{Appended}
 use Rattle.yaml_flow.specs.Frames.{EventList}
 

@@ -34,7 +34,8 @@ use Rattle.yaml_flow.specs.declared.collection.Part.{Part}
 use Rattle.yaml_flow.specs.declared.collection.Part.TheVariants.{First, Asked, Value as ValuePart}
 use Rattle.yaml_flow.specs.FlowNodes.{Appended}
 use Rattle.yaml_flow.specs.Frames.{AtColon, AtNode, BeganPair, Collection, EntryRead, EventList, IsSign, Keeps, NoPair, NodeRead, PartFits, Passes, SameLine, absent_events, bracket_front, ends_plain, entry_start, fits_single, frame_front, is_first, is_single, node_start, pair_end, pair_start, part_front, part_of, part_start}
-use Rattle.yaml_flow.specs.Gaps.{NoGap, unbroken_between}
+use Rattle.yaml_scan.specs.Gaps.{NoGap}
+use Rattle.yaml_scan.specs.Places.{unbroken_between}
 use Rattle.yaml_flow.proofs.Appends.{appended_as, appended_between, appended_then, appended_to}
 use Rattle.yaml_flow.proofs.EntryEvents.{alone_events, empty_length, entry_length, given_length, pair_events, with_colon}
 use Rattle.yaml_flow.proofs.FlowSteps.{Dead, absent_fits, ask_of, bol_of, dead, is_value, key_entry, keyed, keyed_fits, keyed_refused, made_dead, no_node_at_end, plug_key, value_entry, waits_value}

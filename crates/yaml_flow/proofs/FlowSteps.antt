@@ -29,7 +29,7 @@ use Rattle.yaml_flow.specs.declared.collection.Part.{Part}
 use Rattle.yaml_flow.specs.declared.collection.Part.TheVariants.{First, Asked, Value as ValuePart}
 use Rattle.yaml_flow.specs.FlowNodes.{Appended}
 use Rattle.yaml_flow.specs.Frames.{AfterQuestion, AtColon, AtEntry, AtNode, BeforeGap, Collection, EntryRead, EventList, IsBracket, IsSign, Keeps, NodeRead, PartFits, Passes, WholeRead, absent_events, bracket_end, bracket_front, bracket_start, ends_plain, entries_start, entry_start, fits_single, frame_front, is_first, is_single, node_start, opener, pair_end, pair_start, part_front, part_of, part_start}
-use Rattle.yaml_flow.specs.Gaps.{NoGap, stuck, used_up}
+use Rattle.yaml_scan.specs.Gaps.{NoGap, stuck, used_up}
 use Rattle.yaml_flow.proofs.Appends.{appended_as, appended_between, appended_then, appended_to}
 use Rattle.yaml_flow.proofs.EntryEvents.{alone_events, collection_events, done_end_more, done_more, empty_length, entry_length, given_length, pair_events, with_colon}
 use Rattle.yaml_flow.proofs.PairKeys.{fits_line, key_fits, left_out, no_value, value_given, value_left_out}

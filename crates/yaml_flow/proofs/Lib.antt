@@ -1,7 +1,9 @@
+pub mod Results
 pub mod Appends
 pub mod Signs
 pub mod SameLines
 pub mod EntryEvents
+pub mod GapPlaces
 pub mod PairKeys
 pub mod FlowSteps
 pub mod NodeSteps

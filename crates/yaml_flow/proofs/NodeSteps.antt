@@ -33,8 +33,9 @@ use Rattle.yaml_flow.specs.declared.collection.Open.{Open}
 use Rattle.yaml_flow.specs.declared.collection.Part.{Part}
 use Rattle.yaml_flow.specs.declared.collection.Part.TheVariants.{First, Asked, Value as ValuePart}
 use Rattle.yaml_flow.specs.FlowNodes.{Appended}
-use Rattle.yaml_flow.specs.Frames.{AtColon, AtNode, BeganPair, Collection, EntryRead, EventList, IsSign, Keeps, NoPair, NodeRead, PartFits, Passes, SameLine, absent_events, bracket_front, ends_plain, entry_start, fits_single, frame_front, is_first, is_single, node_start, pair_end, pair_start, part_front, part_of, part_start}
-use Rattle.yaml_flow.specs.Gaps.{NoGap, unbroken_between}
+use Rattle.yaml_flow.specs.Frames.{AtColon, AtNode, BeganPair, Collection, EntryRead, EventList, IsSign, Keeps, NoPair, NodeRead, PartFits, Passes, SameLine, absent_events, bracket_front, ends_plain, entry_start, fits_single, frame_front, is_first, is_single, is_value as is_value_part, node_start, pair_end, pair_start, part_front, part_of, part_start}
+use Rattle.yaml_scan.specs.Gaps.{NoGap}
+use Rattle.yaml_scan.specs.Places.{unbroken_between}
 use Rattle.yaml_flow.proofs.Appends.{appended_as, appended_between, appended_then, appended_to}
 use Rattle.yaml_flow.proofs.EntryEvents.{alone_events, empty_length, entry_length, given_length, pair_events, with_colon}
 use Rattle.yaml_flow.proofs.FlowSteps.{Dead, absent_fits, ask_of, bol_of, dead, is_value, key_entry, keyed, keyed_fits, keyed_refused, made_dead, no_node_at_end, plug_key, value_entry, waits_value}
@@ -47,6 +48,14 @@ pub value_part : (part : FlowPart) (p : Part) → part_of part ≡ p → p ≡ V
 value_part (first_node bol) p e h = cc
 value_part (asked_key sep) p e h = cc
 value_part (pair_value ask bol key before after) p e h = refl
+
+pub the_value : (p : Part) → is_value_part p ≡ true → p ≡ ValuePart
+the_value First h = absurd (false≢true h)
+the_value Asked h = absurd (false≢true h)
+the_value ValuePart h = refl
+
+pub not_value : (p : Part) → is_value_part p ≡ false → p ≡ ValuePart → ⊥
+not_value p h e = false≢true (sym h ∙ ap is_value_part e)
 
 pub no_value_part : (part : FlowPart) → (part_of part ≡ ValuePart → ⊥) → is_value part ≡ false
 no_value_part (first_node bol) h = refl

@@ -9,8 +9,9 @@ use Rattle.yaml_chars.specs.Places.{between}
 use Rattle.yaml_chars.proofs.Places.{between-append, between-nil}
 use Rattle.yaml_grammar.specs.Texts.{every}
 use Rattle.yaml_recognizers.proofs.OneLineText.{unbroken_joined}
-use Rattle.yaml_flow.specs.Frames.{IsSign, LineMoves, SameLine}
-use Rattle.yaml_flow.specs.Gaps.{unbroken_between}
+use Rattle.yaml_recognizers.specs.FlowFrames.{closer}
+use Rattle.yaml_flow.specs.Frames.{IsBracket, IsSign, LineMoves, SameLine}
+use Rattle.yaml_scan.specs.Places.{unbroken_between}
 use Rattle.yaml_flow.proofs.Signs.{one_sign}
 
 pub unbroken_parts : (bs : List ℕ) (i j k : ℕ) → IsUtf8 bs → i ≤ j → j ≤ k → IsCharBoundary bs i → IsCharBoundary bs j → IsCharBoundary bs k
@@ -67,3 +68,11 @@ sign_line bs line at x u b s h =
 
 pub sign_then : (bs : List ℕ) (old at x new to : ℕ) → IsUtf8 bs → IsCharBoundary bs at → IsSign bs at x → line_break x ≡ false → LineMoves bs old (at + 1) new to → LineMoves bs old at new to
 sign_then bs old at x new to u b s h m = line_then bs old at old (at + 1) new to (omega arith) b (sign_line bs old at x u b s h) m
+
+pub closer_line : (bs : List ℕ) (line at : ℕ) (in_seq : Bool) → IsUtf8 bs → IsCharBoundary bs at → IsSign bs at (closer in_seq) → LineMoves bs line at line (at + 1)
+closer_line bs line at true u b s = sign_line bs line at 93 u b s refl
+closer_line bs line at false u b s = sign_line bs line at 125 u b s refl
+
+pub opener_then : (bs : List ℕ) (old at : ℕ) (in_seq : Bool) (new to : ℕ) → IsUtf8 bs → IsCharBoundary bs at → IsBracket bs at in_seq → LineMoves bs old (at + 1) new to → LineMoves bs old at new to
+opener_then bs old at true new to u b s m = sign_then bs old at 91 new to u b s refl m
+opener_then bs old at false new to u b s m = sign_then bs old at 123 new to u b s refl m

@@ -14,8 +14,8 @@ use Rattle.yaml_events.specs.Places.{line_starts}
 use Rattle.yaml_recognizers.specs.FlowScalars.{read_scalar}
 use Rattle.yaml_recognizers.specs.Recognizers.{flow_node_at}
 use Rattle.yaml_recognizers.specs.StandingNodes.{IsFlowNode}
-use Rattle.yaml_flow.specs.Borrowed.{BorrowsPlain}
-use Rattle.yaml_flow.specs.Gaps.{unbroken_between}
+use Rattle.yaml_events.specs.Borrowed.{BorrowsPlain}
+use Rattle.yaml_scan.specs.Places.{unbroken_between}
 use Rattle.yaml_flow.specs.declared.scalar.FlowScalar.{FlowScalar}
 
 -- The new list is the old one and then events with this meaning, of which each plain scalar on one line borrows its value.

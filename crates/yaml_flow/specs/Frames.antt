@@ -24,7 +24,7 @@ use Rattle.yaml_grammar.specs.Events.{omitted_at}
 use Rattle.yaml_grammar.specs.Texts.{first}
 use Rattle.yaml_recognizers.specs.FlowNodes.{is_asked}
 use Rattle.yaml_flow.specs.FlowNodes.{Appended}
-use Rattle.yaml_flow.specs.Gaps.{unbroken_between}
+use Rattle.yaml_scan.specs.Places.{unbroken_between}
 use Rattle.yaml_flow.specs.declared.collection.NodeEnd.{NodeEnd}
 use Rattle.yaml_flow.specs.declared.collection.NodeEnd.TheVariants.{Plain, Delimited}
 use Rattle.yaml_flow.specs.declared.collection.Part.{Part}
@@ -64,6 +64,11 @@ abbrev pub is_first : Part → Bool
 is_first First = true
 is_first Asked = false
 is_first Value = false
+
+abbrev pub is_value : Part → Bool
+is_value First = false
+is_value Asked = false
+is_value Value = true
 
 abbrev pub place_of : Next → ℕ
 place_of (Entry at) = at

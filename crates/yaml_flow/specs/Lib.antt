@@ -1,4 +1,2 @@
-pub mod Borrowed
-pub mod Gaps
 pub mod FlowNodes
 pub mod Frames

@@ -9,19 +9,19 @@ ghost use Rattle.yaml_events.specs.Meant.{context_of, event_of, style_of};
 ghost use Rattle.yaml_events.specs.Places.{line_starts, Refuses};
 ghost use Rattle.yaml_recognizers.specs.FlowFrames.{closer};
 ghost use Rattle.yaml_flow.specs.FlowNodes.{Appended, FlowNodeRead, NoFlowNodeFound};
-ghost use Rattle.yaml_flow.specs.Frames.{Collection, Stack, Stands, Waits, AfterQuestion, AtEntry, EventList, Kept, Pushes, ends_plain, is_plain_style, AtNode, EntryRead, BeforeGap, IsBracket, LineMoves, Onward, Passes, bracket_start, bracket_end, left, opener, place_of};
-ghost use Rattle.yaml_flow.specs.Borrowed.{BorrowsPlain};
-ghost use Rattle.yaml_flow.specs.Gaps.{NoGap};
+ghost use Rattle.yaml_flow.specs.Frames.{Collection, Stack, Stands, Waits, AfterQuestion, AtEntry, EventList, Kept, Pushes, ends_plain, is_plain_style, AtNode, EntryRead, BeforeGap, IsBracket, LineMoves, Onward, Passes, bracket_start, bracket_end, left, opener, pair_start, place_of};
+ghost use Rattle.yaml_events.specs.Borrowed.{BorrowsPlain};
+ghost use Rattle.yaml_scan.specs.Gaps.{NoGap};
 
 use crate::pair::plug;
-use crate::place::{gap_end, safe_at, stands_at};
+use yaml_scan::{gap_end, safe_at, stands_at};
 use crate::push::push;
 use crate::scalar::scalar_at;
 use std::alloc::Global;
 use yaml_events::{Event, Events, FlowContext, ScanFault, Style, Why};
 
 /// Which part of an entry is being read.
-#[derive(Clone, Copy, PartialEq, Eq)]
+#[derive(Clone, Copy)]
 pub(crate) enum Part {
     /// Its node, without `?`: its key, or in a sequence perhaps all of it.
     First,
@@ -50,7 +50,7 @@ pub(crate) struct Setting {
 }
 
 /// How a node ends. It decides which `:` after it is that of a pair.
-#[derive(Clone, Copy, PartialEq, Eq)]
+#[derive(Clone, Copy)]
 pub(crate) enum NodeEnd {
     /// As a plain scalar does: a `:` before a safe character would belong to it.
     Plain,
@@ -134,7 +134,7 @@ fn entry(
     top: &mut Open,
     line: &mut usize,
 ) -> Result<Next, ScanFault>
-    requires at { IsCharBoundary text.now at }
+    requires { IsCharBoundary text.now at }
     ensures onward { IfOk result (Onward text.now at) }
     ensures less { IfOk result (λ next. left text.now next < 2 * (length text.now - at) + 1) }
     ensures line { IfOk result (λ next. LineMoves text.now line.old at line.new (place_of next)) }
@@ -179,11 +179,21 @@ fn asked(
     if key == at {
         return Err(fault(at, Why::OmittedKey));
     }
-    if top.in_seq {
-        push(events, Event::MapStart)?;
-    }
+    start_pair(events, top.in_seq)?;
     top.part = Part::Asked;
     Ok(Next::Node { at: key })
+}
+
+/// Starts the mapping that a pair of a sequence is.
+fn start_pair(events: &mut Events<'_>, in_seq: bool) -> Result<(), ScanFault>
+    ensures written { OnOk result ((text : List ℕ) → Appended text events.old events.new (pair_start in_seq)) }
+    ensures none { IfErr result (λ fault. Refuses fault ⊥) }
+    ensures kept { (k : ℕ) → Kept k events.old events.new }
+{
+    if in_seq {
+        push(events, Event::MapStart)?;
+    }
+    Ok(())
 }
 
 /// Reads the comma or the closing bracket after an entry and its gap.
@@ -195,7 +205,7 @@ fn after_entry(
     top: Open,
     line: &mut usize,
 ) -> Result<Next, ScanFault>
-    requires at { IsCharBoundary text.now at }
+    requires { IsCharBoundary text.now at }
     ensures onward { IfOk result (Onward text.now at) }
     ensures less { IfOk result (λ next. left text.now next < 2 * (length text.now - at)) }
     ensures line { IfOk result (λ next. LineMoves text.now line.old at line.new (place_of next)) }
@@ -318,6 +328,7 @@ fn scalar<'a>(
     requires count { top.old.before ≡ length events.old }
     requires no_seq { first (λ x. x == 91) (rest text.now top.old.start) ≡ false }
     requires no_map { first (λ x. x == 123) (rest text.now top.old.start) ≡ false }
+    requires inside { inside (context_of setting.context) ≡ context_of setting.context }
     ensures onward { IfOk result (Onward text.now top.old.start) }
     ensures less { IfOk result (λ next. left text.now next < 2 * (length text.now - top.old.start)) }
     ensures line { IfOk result (λ next. LineMoves text.now line.old top.old.start line.new (place_of next)) }

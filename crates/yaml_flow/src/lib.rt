@@ -7,7 +7,6 @@
 mod collection;
 mod node;
 mod pair;
-mod place;
 mod push;
 mod scalar;
 

@@ -10,11 +10,11 @@ ghost use Rattle.yaml_events.specs.Places.{line_starts, Refuses};
 ghost use Rattle.yaml_recognizers.specs.Ends.{is_colon};
 ghost use Rattle.yaml_recognizers.specs.FlowNodes.{ends_entry};
 ghost use Rattle.yaml_flow.specs.FlowNodes.{Appended};
-ghost use Rattle.yaml_flow.specs.Frames.{Collection, Stands, NodeRead, AtColon, BeganPair, Kept, NoPair, absent_events, is_single, LineMoves, Onward, SameLine, ends_plain, left, pair_end, place_of};
+ghost use Rattle.yaml_flow.specs.Frames.{Collection, Stands, NodeRead, AtColon, BeganPair, Kept, NoPair, absent_events, is_single, is_value, is_value, LineMoves, Onward, SameLine, ends_plain, left, pair_end, place_of};
 ghost use Rattle.yaml_flow.specs.declared.collection.Next.TheVariants.{AfterEntry};
 
 use crate::collection::{Next, NodeEnd, Open, Part, Setting, fault, pass_gap};
-use crate::place::{at_most_chars, safe_at, stands_at};
+use yaml_scan::{at_most_chars, safe_at, stands_at};
 use crate::push::{insert, omitted, push};
 use yaml_events::{Event, Events, FlowContext, ScanFault, Why};
 
@@ -53,7 +53,7 @@ pub(crate) fn plug(
     ensures kept { (k : ℕ) → k ≤ top.old.before → Kept k events.old events.new }
 {
     let behind = pass_gap(text, end, setting, line)?;
-    if top.part == Part::Value {
+    if is_value(top.part) {
         return close_pair(events, *top, behind);
     }
     if !colon_at(text, behind, node_end, setting.context) {
@@ -61,6 +61,15 @@ pub(crate) fn plug(
     }
     begin_pair(events, text, behind, *top, *line)?;
     value(events, text, behind, node_end, setting, top, line)
+}
+
+fn is_value(part: Part) -> bool
+    ensures { result ≡ is_value part }
+{
+    match part {
+        Part::First | Part::Asked => false,
+        Part::Value => true,
+    }
 }
 
 /// Returns whether the `:` of a pair stands at a place after its key.
@@ -90,6 +99,16 @@ fn close_pair(events: &mut Events<'_>, top: Open, behind: usize) -> Result<Next,
     Ok(Next::AfterEntry { at: behind })
 }
 
+/// Returns whether the node is an entry of a sequence without `?`: it is a pair only where a `:` follows.
+fn is_single(top: Open) -> bool
+    ensures { result ≡ is_single top }
+{
+    match top.part {
+        Part::First => top.in_seq,
+        Part::Asked | Part::Value => false,
+    }
+}
+
 /// Ends an entry whose node, or key, ends at a place with no `:` after it.
 fn without_value(events: &mut Events<'_>, end: usize, behind: usize, top: Open) -> Result<Next, ScanFault>
     ensures next { IfOk result (λ next. next ≡ AfterEntry behind) }
@@ -97,7 +116,7 @@ fn without_value(events: &mut Events<'_>, end: usize, behind: usize, top: Open) 
     ensures none { IfErr result (λ fault. Refuses fault ⊥) }
     ensures kept { (k : ℕ) → Kept k events.old events.new }
 {
-    if top.in_seq && top.part == Part::First {
+    if is_single(top) {
         return Ok(Next::AfterEntry { at: behind });
     }
     push(events, omitted(end))?;
@@ -114,7 +133,7 @@ fn begin_pair(events: &mut Events<'_>, text: &str, colon: usize, top: Open, line
     ensures none { IfErr result (λ fault. Refuses fault (NoPair text.now top line colon)) }
     ensures kept { (k : ℕ) → k ≤ top.before → Kept k events.old events.new }
 {
-    if !top.in_seq || top.part != Part::First {
+    if !is_single(top) {
         return Ok(());
     }
     if line > top.start || !at_most_chars(text, top.start, colon, KEY_LIMIT) {
@@ -173,5 +192,14 @@ fn entry_ends(text: &str, at: usize) -> bool
     requires { IsCharBoundary text.now at }
     ensures { result ≡ ends_entry (rest text.now at) }
 {
-    at == text.len() || stands_at(text, at, b',') || stands_at(text, at, b']') || stands_at(text, at, b'}')
+    if at == text.len() {
+        return true;
+    }
+    if stands_at(text, at, b',') {
+        return true;
+    }
+    if stands_at(text, at, b']') {
+        return true;
+    }
+    stands_at(text, at, b'}')
 }

@@ -4,7 +4,7 @@ ghost use Rattle.yaml_grammar.specs.Events.{scalar_event, omitted_style};
 ghost use Rattle.yaml_events.specs.Meant.{event_of};
 ghost use Rattle.yaml_events.specs.Places.{Refuses};
 ghost use Rattle.yaml_flow.specs.Frames.{Kept};
-ghost use Rattle.yaml_flow.specs.Borrowed.{BorrowsPlain};
+ghost use Rattle.yaml_events.specs.Borrowed.{BorrowsPlain};
 
 use std::borrow::CowStr;
 use yaml_events::{Event, Events, ScanFault, Span, Style};

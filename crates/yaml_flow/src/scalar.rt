@@ -5,9 +5,9 @@ ghost use Rattle.std.specs.Str.{IsCharBoundary};
 ghost use Rattle.yaml_events.specs.Meant.{context_of};
 ghost use Rattle.yaml_events.specs.Places.{Refuses};
 ghost use Rattle.yaml_flow.specs.FlowNodes.{FlowScalarRead, NoFlowScalar, scalar_event_at};
-ghost use Rattle.yaml_flow.specs.Gaps.{unbroken_between};
+ghost use Rattle.yaml_scan.specs.Places.{unbroken_between};
 
-use crate::place::has_break;
+use yaml_scan::has_break;
 use std::alloc::Global;
 use std::borrow::CowStr;
 use yaml_events::{Event, FlowContext, ScanFault, Span, Style};
