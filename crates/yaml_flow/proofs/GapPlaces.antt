@@ -16,11 +16,11 @@ use Rattle.yaml_flow.specs.Frames.{LineMoves, Passes}
 use Rattle.yaml_flow.proofs.SameLines.{line_follows, line_stays, unbroken_here}
 use Rattle.yaml_flow.proofs.Signs.{place_after}
 
-unbroken_by : (over whole : Bool) → over ≡ not whole → over ≡ false → whole ≡ true
+pub unbroken_by : (over whole : Bool) → over ≡ not whole → over ≡ false → whole ≡ true
 unbroken_by over true e h = refl
 unbroken_by over false e h = absurd (false≢true (sym h ∙ e))
 
-broken_by : (over whole : Bool) → over ≡ not whole → over ≡ true → whole ≡ false
+pub broken_by : (over whole : Bool) → over ≡ not whole → over ≡ true → whole ≡ false
 broken_by over true e h = absurd (false≢true (sym e ∙ h))
 broken_by over false e h = refl
 

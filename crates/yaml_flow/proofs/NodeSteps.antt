@@ -90,6 +90,18 @@ module _ (n : ℕ) (d : FlowContext) (text : List ℕ) where
       → AtNode n d text w top at events → w.reads ≡ None
   node_missing w top at events e here = here.reads ∙ ap (λ r. on r (λ f x. plug n d here.frame f x)) e
 
+  -- the frame takes the node's place
+  pub at_start : (w : Collection) (top : Open) (at before : ℕ) (events : EventList) → AtNode n d text w top at events
+      → AtNode n d text w (record top { start = at; before = before }) at events
+  at_start w top at before events here = record {
+    frame = here.frame;
+    keeps = record { kind = here.keeps.kind; part = here.keeps.part };
+    fits = here.fits;
+    place = here.place;
+    written = here.written;
+    reads = here.reads;
+  }
+
   pub node_at_end : (w : Collection) (top : Open) (at : ℕ) (events : EventList) → length text ≤ at → AtNode n d text w top at events → w.reads ≡ None
   node_at_end w top at events l here =
       node_missing w top at events (ap (flow_node_at n d (line_starts text at)) (rest-end text at l) ∙ no_node_at_end n d (line_starts text at)) here

@@ -7,7 +7,8 @@ ghost use Rattle.yaml_events.specs.Places.{Refuses};
 ghost use Rattle.yaml_flow.specs.FlowNodes.{FlowScalarRead, NoFlowScalar, scalar_event_at};
 ghost use Rattle.yaml_scan.specs.Places.{unbroken_between};
 
-use yaml_scan::has_break;
+use yaml_flow_scalars::{double, plain, single};
+use yaml_scan::{has_break, stands_at};
 use std::alloc::Global;
 use std::borrow::CowStr;
 use yaml_events::{Event, FlowContext, ScanFault, Span, Style};
@@ -54,10 +55,41 @@ impl<'a> FlowScalar<'a> {
     }
 }
 
-pub fn scalar_at<'a>(alloc: Global, text: &'a str, at: usize, n: u64, c: FlowContext) -> Result<FlowScalar<'a>, ScanFault>
+/// Reads the flow scalar at a place (YAML 1.2.2, 7.3), by its first character: after `"` and `'` a quoted one, else a plain one.
+///
+/// Further lines are indented by `n` spaces or more; in a key there are none. It fails with [`ScanFault::At`] exactly where no
+/// flow scalar stands there, and with [`ScanFault::OutOfMemory`] where there is no memory for the value.
+pub fn scalar_at<'a>(
+    alloc: Global,
+    text: &'a str,
+    at: usize,
+    n: u64,
+    c: FlowContext,
+) -> Result<FlowScalar<'a>, ScanFault>
     requires { IsCharBoundary text.now at }
     ensures found { IfOk result (FlowScalarRead n (context_of c) text.now at) }
     ensures none { IfErr result (λ fault. Refuses fault (NoFlowScalar n (context_of c) text.now at)) }
 {
-    Err(ScanFault::OutOfMemory)
+    if stands_at(text, at, b'"') {
+        let (value, end) = double(alloc, text, at, n, c)?;
+        return Ok(FlowScalar {
+            style: Style::Double,
+            value,
+            end,
+        });
+    }
+    if stands_at(text, at, b'\'') {
+        let (value, end) = single(alloc, text, at, n, c)?;
+        return Ok(FlowScalar {
+            style: Style::Single,
+            value,
+            end,
+        });
+    }
+    let (value, end) = plain(alloc, text, at, n, c)?;
+    Ok(FlowScalar {
+        style: Style::Plain,
+        value,
+        end,
+    })
 }

@@ -9,6 +9,7 @@ use Rattle.yaml_flow.proofs.NodeSteps
 use Rattle.yaml_flow.proofs.ColonSteps
 use Rattle.yaml_flow.proofs.ScalarSteps
 use Rattle.yaml_flow.proofs.Stacks
+use Rattle.yaml_flow.proofs.ScalarKinds
 use Rattle.yaml_flow.proofs.pair.key_limit.Goals as goal
 
 pub returns : goal.returns
