@@ -4,7 +4,7 @@ use Rattle.std.specs.Prelude.{Bool, true, false, List, [], ◌∷◌, ◌++◌, 
 use Rattle.std.specs.List.{All}
 use Rattle.std.specs.Str.{IsCharBoundary}
 use Rattle.std.proofs.Math.Seq.{take-append_seam}
-use Rattle.std.proofs.lemmas.List.{append-nil, length-append}
+use Rattle.std.proofs.lemmas.List.{append-nil, length-append, take-append-le}
 use Rattle.std.proofs.lemmas.List.Elements.{All-push, All-same, All-weaker, All-pop}
 use Rattle.std.proofs.Common.{inl, inr}
 use Rattle.yaml_chars.specs.Places.{rest}
@@ -51,12 +51,6 @@ extends_then a b c h k = (h.0 ++ k.0, k.1 ∙ (ap (λ es. es ++ k.0) h.1 ∙ app
 pub kept_then : (k : ℕ) (a b c : EventList) → Kept k a b → Kept k b c → Kept k a c
 kept_then k a b c h g l = let p = h l in let q = g p.0 in (q.0, q.1 ∙ p.1)
 
-pub kept_whole : (old mid new : EventList) → take (length old) mid ≡ old → length old ≤ length mid → Kept (length old) mid new → Kept (length old) old new
-kept_whole old mid new e l h k = let p = h l in (p.0, p.1 ∙ (e ∙ sym (take_all old)))
-  where
-  take_all : (xs : EventList) → take (length xs) xs ≡ xs
-  take_all xs = ap (take (length xs)) (sym (append-nil xs)) ∙ take-append_seam xs []
-
 module _ (n : ℕ) (d : FlowContext) (text : List ℕ) where
   stands_on : (w : Collection) (top : Open) (next : Next) (events : EventList) → Stands n d text w top next events → Extends w.kept events
   stands_on w top (Entry at) events h = (h.written.more, h.written.is)
@@ -74,17 +68,17 @@ module _ (n : ℕ) (d : FlowContext) (text : List ℕ) where
       extends_then whole.kept w.inner.kept events (stack_on whole w.around opens w.inner w.stack) (stands_on w.inner top next events w.stands)
 
   -- the events before the whole collection stay
-  pub front_kept : (whole : Collection) (opens : List Open) (top : Open) (next : Next) (events : EventList) → Waits n d text whole opens top next events
-      → (take (length whole.kept) events ≡ whole.kept) × (length whole.kept ≤ length events)
-  front_kept whole opens top next events w =
+  pub front_stays : (whole : Collection) (opens : List Open) (top : Open) (next : Next) (events new : EventList) (k : ℕ) → Waits n d text whole opens top next events
+      → Kept k events new → Kept k whole.kept new
+  front_stays whole opens top next events new k w h =
       let e = waits_on whole opens top next events w in
       let l = length-append whole.kept e.0 in
-      let k = ap length e.1 in
-      (ap (take (length whole.kept)) e.1 ∙ take-append_seam whole.kept e.0, omega (arith, l, k))
+      let s = ap length e.1 in
+      kept_then k whole.kept events new (λ m. (omega (arith, l, s), ap (take k) e.1 ∙ take-append-le k whole.kept e.0 m)) h
 
   -- ---- a refusal
 
-  stack_none : (whole : Collection) (around : List Collection) (opens : List Open) (w : Collection) → Stack n d text whole around opens w → w.reads ≡ None → whole.reads ≡ None
+  pub stack_none : (whole : Collection) (around : List Collection) (opens : List Open) (w : Collection) → Stack n d text whole around opens w → w.reads ≡ None → whole.reads ≡ None
   stack_none whole [] opens w s e = ap (λ (x : Collection). x.reads) (sym s.1) ∙ e
   stack_none whole (c ∷ cs) opens w s e =
       stack_none whole cs s.0 c s.4
@@ -181,3 +175,37 @@ starts_push text line at opens more b l (inr p) a =
 pub starts_pop : (text : List ℕ) (line at : ℕ) (opens front : List Open) (frame : Open) → opens ≡ front ++ frame ∷ [] → All (Started text line at) opens
     → All (Started text line at) front × Started text line at frame
 starts_pop text line at opens front frame e a = All-pop (Started text line at) opens front (Some frame) e a
+
+-- ---- one turn of the loop
+
+-- what the loop keeps
+pub record Reading (n : ℕ) (d : FlowContext) (text : List ℕ) (from : ℕ) (whole : Collection) (opens : List Open) (top : Open) (next : Next) (events : EventList) (line : ℕ) : Type 0 where
+  pub waits : Waits n d text whole opens top next events
+  pub onward : Onward text (from + 1) next
+  pub within : line ≤ place_of next
+  pub starts : All (Started text line (place_of next)) opens
+
+module _ (n : ℕ) (d : FlowContext) (text : List ℕ) (from : ℕ) (whole : Collection) where
+  pub turn : (opens more : List Open) (top top' : Open) (here next : Next) (events new : EventList) (line line' : ℕ)
+      → (Waits n d text whole opens top here events → Waits n d text whole more top' next new) → (All (Started text line (place_of here)) opens → All (Started text line (place_of here)) more)
+      → Onward text (place_of here) next → LineMoves text line (place_of here) line' (place_of next)
+      → Reading n d text from whole opens top here events line → Reading n d text from whole more top' next new line'
+  turn opens more top top' here next events new line line' w s o m r = record {
+    waits = w r.waits;
+    onward = onward_from text (from + 1) (place_of here) next r.onward.above o;
+    within = m.within r.within;
+    starts = starts_move text line (place_of here) line' (place_of next) more o.above m (s r.starts);
+  }
+
+  -- a step of the innermost bracket
+  pub step : (opens : List Open) (top top' : Open) (here next : Next) (events new : EventList) → ((w : Collection) → Stands n d text w top here events → Stands n d text w top' next new)
+      → Waits n d text whole opens top here events → Waits n d text whole opens top' next new
+  step opens top top' here next events new h w = record { inner = w.inner; around = w.around; stack = w.stack; stands = h w.inner w.stands }
+
+  pub at_next : (opens : List Open) (top : Open) (next here : Next) (events : EventList) (line : ℕ) → next ≡ here → Reading n d text from whole opens top next events line
+      → Reading n d text from whole opens top here events line
+  at_next opens top next here events line e r = subst (λ x. Reading n d text from whole opens top x events line) e r
+
+  pub refused : (opens : List Open) (top : Open) (here : Next) (events : EventList) (line : ℕ) → ((w : Collection) → Stands n d text w top here events → w.reads ≡ None)
+      → Reading n d text from whole opens top here events line → whole.reads ≡ None
+  refused opens top here events line h r = refused_whole n d text whole opens top here events r.waits (h r.waits.inner r.waits.stands)
