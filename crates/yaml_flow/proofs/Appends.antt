@@ -1,6 +1,6 @@
 -- Lists of events that grow.
 use Rattle.std.proofs.Common.{◌≡◌, ap, append_assoc, refl, sym, ◌∙◌, ℕ, ◌≤◌, length, subst}
-use Rattle.std.specs.Prelude.{List, [], ◌∷◌, ◌++◌, drop, insert}
+use Rattle.std.specs.Prelude.{List, [], ◌∷◌, ◌++◌, drop, insert, take}
 use Rattle.std.proofs.Math.Seq.{take-append_seam, drop-append_seam}
 use Rattle.std.proofs.lemmas.List.{append-nil, map-append}
 use Rattle.std.proofs.lemmas.List.Elements.{All-append, All-cons, All-nil}
@@ -54,3 +54,9 @@ module _ (text : List ℕ) where
     where
     inserted : (xs ys : EventList) → insert (xs ++ ys) (length xs) MapStart ≡ xs ++ (MapStart ∷ ys)
     inserted xs ys = ap (λ zs. zs ++ (MapStart ∷ (drop (length xs) (xs ++ ys)))) (take-append_seam xs ys) ∙ ap (λ zs. xs ++ (MapStart ∷ zs)) (drop-append_seam xs ys)
+
+pub appended_means : (text : List ℕ) (old new : EventList) (meant : List Event) → Appended text old new meant → events_of new ≡ events_of old ++ meant
+appended_means text old new meant h = ap events_of h.is ∙ (map-append event_of old h.more ∙ ap (λ es. events_of old ++ es) h.means)
+
+pub take_all : (xs : EventList) → take (length xs) xs ≡ xs
+take_all xs = ap (take (length xs)) (sym (append-nil xs)) ∙ take-append_seam xs []
