@@ -1,0 +1,273 @@
+-- One step of the scanner of flow collections at the `:` after a key, and after it.
+use Rattle.std.proofs.Common.{◌≡◌, ap, append_assoc, arith, inl, inr, length, refl, subst, sym, ◌∙◌, ℕ, ◌+◌, ◌<◌, ◌≤◌}
+use Rattle.std.specs.Prelude.{Bool, true, false, not, ◌&&◌, ◌||◌, ◌==◌, nat_le, nat_lt, insert, is_some, List, [], ◌∷◌, ◌++◌, Option, Some, None}
+use Rattle.std.specs.Str.{IsUtf8, IsCharBoundary}
+use Rattle.std.proofs.lemmas.Bool.{and_parts, cases_Bool, false≢true}
+use Rattle.std.proofs.lemmas.Bool.Decides.{nat_tests}
+use Rattle.std.proofs.lemmas.List.{append-nil}
+use Rattle.yaml_chars.specs.Places.{rest, between}
+use Rattle.yaml_chars.proofs.Places.{rest-end}
+use Rattle.yaml_grammar.specs.Events.{Event, map_start, omitted_at}
+use Rattle.yaml_grammar.specs.FlowNodes.{Flow, Entries, Entry, entry, Value, absent, empty, given, is_plain, scalar, asked_text, entry_text, entry_events, flow_events, flow_text, value_events, value_text, is_pair}
+use Rattle.yaml_grammar.specs.FlowScalars.{FlowContext, Scalar, flow_key, inside, one_line}
+use Rattle.yaml_grammar.specs.FlowScalars as flow
+use Rattle.yaml_grammar.specs.Separation.{Sep, gap_text}
+use Rattle.yaml_grammar.specs.Texts.{byte_len, first, starts_line}
+use Rattle.yaml_events.specs.declared.event.Event.TheVariants.{MapStart}
+use Rattle.yaml_events.specs.Places.{line_starts}
+use Rattle.yaml_recognizers.specs.Ends.{is_colon}
+use Rattle.yaml_recognizers.specs.FlowFrames.{FlowPart, first_node, asked_key, pair_value, Bracket, OpenFlow, close_with, entries_of, entry_of, plug}
+use Rattle.yaml_recognizers.specs.FlowNodes.{ends_entry, key_is_short, made}
+use Rattle.yaml_recognizers.specs.FlowScalars.{read_scalar}
+use Rattle.yaml_recognizers.specs.Fronts.{past}
+use Rattle.yaml_recognizers.specs.Gaps.{GapRead, read_gap}
+use Rattle.yaml_recognizers.specs.OneLine.{widens}
+use Rattle.yaml_recognizers.specs.Reading.{Read, if_fits, on}
+use Rattle.yaml_recognizers.specs.Recognizers.{StandsFlow, flow_node_at, flow_value_at}
+use Rattle.yaml_recognizers.proofs.FlowFrames.{is_scalar}
+use Rattle.yaml_recognizers.proofs.FlowNodesFound.{stands}
+use Rattle.yaml_recognizers.proofs.GapsSound.{gap_sound}
+use Rattle.yaml_recognizers.proofs.LineStarts.{byte_len_joined}
+use Rattle.yaml_flow.specs.declared.collection.NodeEnd.{NodeEnd}
+use Rattle.yaml_flow.specs.declared.collection.Open.{Open}
+use Rattle.yaml_flow.specs.declared.collection.Part.{Part}
+use Rattle.yaml_flow.specs.declared.collection.Part.TheVariants.{First, Asked, Value as ValuePart}
+use Rattle.yaml_flow.specs.FlowNodes.{Appended}
+use Rattle.yaml_flow.specs.Frames.{AtColon, AtNode, BeganPair, Collection, EntryRead, EventList, IsSign, Keeps, NoPair, NodeRead, PartFits, Passes, SameLine, absent_events, bracket_front, ends_plain, entry_start, fits_single, frame_front, is_first, is_single, node_start, pair_end, pair_start, part_front, part_of, part_start}
+use Rattle.yaml_scan.specs.Gaps.{NoGap}
+use Rattle.yaml_scan.specs.Places.{unbroken_between}
+use Rattle.yaml_flow.proofs.Appends.{appended_as, appended_between, appended_then, appended_to}
+use Rattle.yaml_flow.proofs.EntryEvents.{alone_events, empty_length, entry_length, given_length, pair_events, with_colon}
+use Rattle.yaml_flow.proofs.FlowSteps.{Dead, absent_fits, ask_of, bol_of, dead, is_value, key_entry, keyed, keyed_fits, keyed_refused, made_dead, no_node_at_end, plug_key, value_entry, waits_value}
+use Rattle.yaml_flow.proofs.PairKeys.{fits_line, key_fits, left_out, no_value, value_given, value_left_out}
+use Rattle.yaml_flow.proofs.NodeSteps.{key_start, no_value_part, node_length, plugged, regroup5, single_is}
+use Rattle.yaml_flow.proofs.Signs.{between_after, place_after}
+
+-- ---- the parts of a frame
+
+-- the events before the key, once a single pair is begun
+pair_written : (in_seq : Bool) (part : FlowPart) (at : ℕ) → is_value part ≡ false → (in_seq && is_first (part_of part)) ≡ false → part_front in_seq part at ≡ pair_start in_seq
+pair_written true (first_node bol) at v h = absurd (false≢true (sym h))
+pair_written false (first_node bol) at v h = refl
+pair_written in_seq (asked_key sep) at v h = refl
+pair_written in_seq (pair_value ask bol key before after) at v h = absurd (false≢true (sym v))
+
+single_written : (in_seq : Bool) (part : FlowPart) (front key : List Event) (at : ℕ) → (in_seq && is_first (part_of part)) ≡ true
+    → (front ++ part_front in_seq part at) ++ (map_start ∷ key) ≡ front ++ (pair_start in_seq ++ key)
+single_written true (first_node bol) front key at h = ap (λ es. es ++ (map_start ∷ key)) (append-nil front)
+single_written true (asked_key sep) front key at h = absurd (false≢true h)
+single_written true (pair_value ask bol k before after) front key at h = absurd (false≢true h)
+single_written false part front key at h = absurd (false≢true h)
+
+module _ (n : ℕ) (d : FlowContext) (text : List ℕ) where
+  abbrev gap_from : ℕ → GapRead
+  gap_from at = read_gap n (one_line d) (rest text at)
+
+  abbrev found_at : ℕ → Flow → ℕ → Type 0
+  found_at at f end = flow_node_at n d (line_starts text at) (rest text at) ≡ Some (f, rest text end)
+
+  -- ---- nothing stands after the node
+
+  plug_dead : (b : Bracket) (part : FlowPart) (f : Flow) (x : List ℕ) → Dead n d (read_gap n (one_line d) x).1
+      → close_with b (on (entry_of n d b.in_seq part f x) (λ e t. entries_of n d b.in_seq e t)) ≡ None
+  plug_dead b (first_node bol) f x h =
+      ap (keyed n d b bol None f) (no_value n d (is_plain f) x (h.colon (is_plain f))) ∙ made_dead n d b bol None f absent x h
+  plug_dead b (asked_key sep) f x h =
+      ap (keyed n d b false (Some sep) f) (no_value n d (is_plain f) x (h.colon (is_plain f))) ∙ made_dead n d b false (Some sep) f absent x h
+  plug_dead b (pair_value ask bol key before after) f x h =
+      ap (λ r. close_with b (on r (λ e t. entries_of n d b.in_seq e t))) (value_entry n d b.in_seq bol ask key before after f x)
+      ∙ made_dead n d b bol ask key (given before after f) x h
+
+  pub node_dead : (w : Collection) (top : Open) (node_end : NodeEnd) (end : ℕ) (events : EventList) → NoGap n d (rest text end)
+      → NodeRead n d text w top node_end end events → w.reads ≡ None
+  node_dead w top node_end end events stop here =
+      plugged n d text w top node_end end events here
+      ∙ plug_dead here.waits.frame.bracket here.waits.frame.part here.node (rest text end) (dead n d (rest text end) stop)
+
+  -- ---- the `:` after a key
+
+  -- the test of a single pair is of the text of the key and the gap
+  test_is : (line start end colon : ℕ) (key : Flow) → IsUtf8 text → start ≤ colon → IsCharBoundary text start → IsCharBoundary text colon → SameLine text line start colon
+      → found_at start key end → (gap : Option Sep) → gap_from end ≡ (gap, rest text colon) → fits_single text line start colon ≡ fits_line (flow_text key ++ gap_text (gap_from end).0)
+  test_is line start end colon key u l b c same found gap e =
+      let s : StandsFlow n d (line_starts text start) (rest text start) key (rest text end) = stands n d (line_starts text start) (rest text start) key (rest text end) found in
+      let g = gap_sound n (one_line d) (rest text end) in
+      let spells : rest text start ≡ (flow_text key ++ gap_text (gap_from end).0) ++ rest text colon =
+      s.spells ∙ (ap (λ t. flow_text key ++ t) (g.0 ∙ ap (λ t. gap_text (gap_from end).0 ++ t) (ap (λ (r : GapRead). r.1) e))
+      ∙ sym (append_assoc (flow_text key) (gap_text (gap_from end).0) (rest text colon))) in
+      let is : between text start colon ≡ flow_text key ++ gap_text (gap_from end).0 =
+      between_after text start colon (flow_text key ++ gap_text (gap_from end).0) u l b c spells in
+      ap (λ x. x && nat_le (length (between text start colon)) 1024) same ∙ ap fits_line is
+
+  colon_fits : (in_seq : Bool) (part : FlowPart) (key : Flow) (start end : ℕ) → is_value part ≡ false → PartFits n d text in_seq part start → widens flow_key d ≡ true
+      → found_at start key end → is_colon d (is_plain key) (gap_from end).1 ≡ true
+      → ((in_seq && is_first (part_of part)) ≡ true → fits_line (flow_text key ++ gap_text (gap_from end).0) ≡ true)
+      → (v : Value) (r : List ℕ) → flow_value_at n d (is_plain key) (rest text end) ≡ Some (v, r) → key_is_short n d in_seq (bol_of part) (ask_of part) key v r ≡ true
+  colon_fits true (first_node bol) key start end x p w found i h v r e =
+      key_fits n d bol (rest text start) key (rest text end) v r w (ap (λ k. flow_node_at n d k (rest text start)) p ∙ found) i e ∙ h refl
+  colon_fits false (first_node bol) key start end x p w found i h v r e = refl
+  colon_fits in_seq (asked_key sep) key start end x p w found i h v r e = refl
+  colon_fits in_seq (pair_value ask bol k before after) key start end x p w found i h v r e = absurd (false≢true (sym x))
+
+  pub colon_read : (w : Collection) (top : Open) (node_end : NodeEnd) (line end colon : ℕ) (events new : EventList) → IsUtf8 text → IsCharBoundary text top.start → IsCharBoundary text end
+      → top.start ≤ end → widens flow_key d ≡ true → (top.part ≡ ValuePart → ⊥) → Passes n d text end colon → is_colon d (ends_plain node_end) (rest text colon) ≡ true
+      → SameLine text line top.start colon → BeganPair text top line colon events new → NodeRead n d text w top node_end end events
+      → AtColon n d text w top.in_seq node_end colon new
+  colon_read w top node_end line end colon events new u b c l wide p gap i same begun here =
+      let o : OpenFlow = here.waits.frame in
+      let k : Bracket = o.bracket in
+      let key : Flow = here.node in
+      let v : is_value o.part ≡ false = no_value_part o.part (λ h. p (sym here.waits.keeps.part ∙ h)) in
+      let single : is_single top ≡ k.in_seq && is_first (part_of o.part) = single_is n d text top k.in_seq o.part here.waits.keeps.kind here.waits.keeps.part in
+      let start : top.start ≡ entry_start k w.start + byte_len (asked_text (ask_of o.part)) = sym here.waits.place ∙ key_start n d text o.part (entry_start k w.start) v in
+      let long : top.start + byte_len (flow_text key) ≡ end = node_length n d text top.start end key u b c here.found in
+      let sized = gap.length in
+      let reach = gap.above in
+      let sign : is_colon d (is_plain key) (gap_from end).1 ≡ true =
+      ap (λ x. is_colon d x (gap_from end).1) here.plain ∙ (ap (λ (r : GapRead). is_colon d (ends_plain node_end) r.1) gap.reads ∙ i) in
+      let test : fits_single text line top.start colon ≡ fits_line (flow_text key ++ gap_text (gap_from end).0) =
+      test_is line top.start end colon key u (omega arith) b gap.boundary same here.found gap.gap gap.reads in
+      record {
+        bracket = k;
+        kind = here.waits.keeps.kind;
+        ask = ask_of o.part;
+        bol = bol_of o.part;
+        key = key;
+        plain = here.plain;
+        behind = rest text end;
+        gap = gap.gap;
+        passes = gap.reads;
+        sign = i;
+        place = omega (arith, start, long, sized);
+        fits = colon_fits k.in_seq o.part key top.start end v here.waits.fits wide here.found sign (λ h. sym test ∙ (begun.single (single ∙ h)).0);
+        written = appended_as text w.kept new _ _ (ap (λ x. bracket_front k w.start ++ (pair_start k.in_seq ++ flow_events key x)) start)
+            (elim (cases_Bool (k.in_seq && is_first (part_of o.part))) [
+              | inl h ↦ appended_as text w.kept new _ _ (single_written k.in_seq o.part (bracket_front k w.start) (flow_events key top.start) (entry_start k w.start) h)
+                (appended_between text w.kept here.before events new (frame_front o w.start) (flow_events key top.start) here.waits.written here.written
+                ((begun.single (single ∙ h)).1 ∙ ap (λ x. insert events x MapStart) (sym here.count)))
+              | inr h ↦ appended_to text w.kept events new _ (begun.other (single ∙ h))
+                (appended_as text w.kept events _ _
+                (append_assoc (bracket_front k w.start) (part_front k.in_seq o.part (entry_start k w.start)) (flow_events key top.start)
+                ∙ ap (λ es. bracket_front k w.start ++ (es ++ flow_events key top.start)) (pair_written k.in_seq o.part (entry_start k w.start) v h))
+                (appended_then text w.kept here.before events (frame_front o w.start) (flow_events key top.start) here.waits.written here.written))
+            ]);
+        reads = plugged n d text w top node_end end events here ∙ plug_key n d o key (rest text end) v;
+      }
+
+  -- a key over lines, or a long one
+  key_refused : (b : Bracket) (part : FlowPart) (key : Flow) (start end : ℕ) → (b.in_seq && is_first (part_of part)) ≡ true → PartFits n d text b.in_seq part start
+      → widens flow_key d ≡ true → found_at start key end → is_colon d (is_plain key) (gap_from end).1 ≡ true
+      → fits_line (flow_text key ++ gap_text (gap_from end).0) ≡ false → close_with b (on (entry_of n d b.in_seq part key (rest text end)) (λ e t. entries_of n d b.in_seq e t)) ≡ None
+  key_refused b (first_node bol) key start end h p w found i f =
+      let kind : b.in_seq ≡ true = (and_parts _ _ h).0 in
+      keyed_refused n d b bol None key (flow_value_at n d (is_plain key) (rest text end))
+      (λ v r e. ap (λ x. key_is_short n d x bol None key v r) kind
+      ∙ (key_fits n d bol (rest text start) key (rest text end) v r w (ap (λ k. flow_node_at n d k (rest text start)) p ∙ found) i e ∙ f))
+  key_refused b (asked_key sep) key start end h p w found i f = absurd (false≢true (and_parts _ _ h).1)
+  key_refused b (pair_value ask bol k before after) key start end h p w found i f = absurd (false≢true (and_parts _ _ h).1)
+
+  pub colon_refused : (w : Collection) (top : Open) (node_end : NodeEnd) (line end colon : ℕ) (events : EventList) → IsUtf8 text → IsCharBoundary text top.start
+      → top.start ≤ end → widens flow_key d ≡ true → Passes n d text end colon → is_colon d (ends_plain node_end) (rest text colon) ≡ true
+      → SameLine text line top.start colon → NoPair text top line colon → NodeRead n d text w top node_end end events → w.reads ≡ None
+  colon_refused w top node_end line end colon events u b l wide gap i same pair here =
+      let o : OpenFlow = here.waits.frame in
+      let k : Bracket = o.bracket in
+      let key : Flow = here.node in
+      let reach = gap.above in
+      let single : is_single top ≡ k.in_seq && is_first (part_of o.part) = single_is n d text top k.in_seq o.part here.waits.keeps.kind here.waits.keeps.part in
+      let sign : is_colon d (is_plain key) (gap_from end).1 ≡ true =
+      ap (λ x. is_colon d x (gap_from end).1) here.plain ∙ (ap (λ (r : GapRead). is_colon d (ends_plain node_end) r.1) gap.reads ∙ i) in
+      let test : fits_single text line top.start colon ≡ fits_line (flow_text key ++ gap_text (gap_from end).0) =
+      test_is line top.start end colon key u (omega arith) b gap.boundary same here.found gap.gap gap.reads in
+      plugged n d text w top node_end end events here
+      ∙ key_refused k o.part key top.start end (sym single ∙ pair.0) here.waits.fits wide here.found sign (sym test ∙ pair.1)
+
+  -- ---- after the `:`
+
+  past_colon : (colon : ℕ) → IsSign text colon 58 → past (rest text colon) ≡ rest text (colon + 1)
+  past_colon colon sign = ap past sign.splits
+
+  module _ (w : Collection) (in_seq : Bool) (key_end : NodeEnd) (colon : ℕ) (events : EventList) (here : AtColon n d text w in_seq key_end colon events) where
+    sign_there : is_colon d (is_plain here.key) (read_gap n (one_line d) here.behind).1 ≡ true
+    sign_there = ap (λ x. is_colon d x (read_gap n (one_line d) here.behind).1) here.plain ∙ (ap (λ (r : GapRead). is_colon d (ends_plain key_end) r.1) here.passes ∙ here.sign)
+
+    after_gap : IsSign text colon 58 → read_gap n (one_line d) (past (read_gap n (one_line d) here.behind).1) ≡ gap_from (colon + 1)
+    after_gap sign = ap (λ (r : GapRead). read_gap n (one_line d) (past r.1)) here.passes ∙ ap (read_gap n (one_line d)) (past_colon colon sign)
+
+    value_empty : IsSign text colon 58 → left_out (ends_plain key_end) (gap_from (colon + 1)) ≡ true
+        → flow_value_at n d (is_plain here.key) here.behind ≡ Some (empty here.gap, rest text (colon + 1))
+    value_empty sign h =
+        value_left_out n d (is_plain here.key) here.behind sign_there (ap (left_out (is_plain here.key)) (after_gap sign) ∙ (ap (λ x. left_out x (gap_from (colon + 1))) here.plain ∙ h))
+        ∙ (ap (λ (r : GapRead). Some (empty r.0, past r.1)) here.passes ∙ ap (λ (t : List ℕ). Some (empty here.gap, t)) (past_colon colon sign))
+
+    value_node : IsSign text colon 58 → left_out (ends_plain key_end) (gap_from (colon + 1)) ≡ false
+        → flow_value_at n d (is_plain here.key) here.behind
+        ≡ on (flow_node_at n d (starts_line false (gap_text (gap_from (colon + 1)).0)) (gap_from (colon + 1)).1) (λ f r. Some (given here.gap (gap_from (colon + 1)).0 f, r))
+    value_node sign h =
+        value_given n d (is_plain here.key) here.behind sign_there (ap (left_out (is_plain here.key)) (after_gap sign) ∙ (ap (λ x. left_out x (gap_from (colon + 1))) here.plain ∙ h))
+        ∙ (ap (λ (g : GapRead). on (flow_node_at n d (starts_line false (gap_text g.0)) g.1) (λ f r. Some (given (read_gap n (one_line d) here.behind).0 g.0 f, r))) (after_gap sign)
+        ∙ ap (λ (x : Option Sep). on (flow_node_at n d (starts_line false (gap_text (gap_from (colon + 1)).0)) (gap_from (colon + 1)).1) (λ f r. Some (given x (gap_from (colon + 1)).0 f, r)))
+        (ap (λ (r : GapRead). r.0) here.passes))
+
+    pub pair_without_value : (at : ℕ) (new : EventList) → IsSign text colon 58 → Passes n d text (colon + 1) at
+        → left_out (ends_plain key_end) (gap_from (colon + 1)) ≡ true → Appended text events new (omitted_at (colon + 1) ++ pair_end in_seq) → EntryRead n d text w in_seq at new
+    pair_without_value at new sign gap h a =
+        let k : Bracket = here.bracket in
+        let placed = here.place in
+        let wide = gap.length in
+        let sized = entry_length here.ask here.key (empty here.gap) in
+        let more = empty_length here.gap in
+        let key_at : ℕ = entry_start k w.start + byte_len (asked_text here.ask) in
+        let place : key_at + byte_len (flow_text here.key) + byte_len (gap_text here.gap) + 1 ≡ colon + 1 = ap (λ x. x + 1) here.place in
+        record {
+          bracket = k;
+          kind = here.kind;
+          entry = entry here.ask here.key (empty here.gap);
+          behind = rest text (colon + 1);
+          gap = gap.gap;
+          passes = gap.reads;
+          place = omega (arith, placed, wide, sized, more);
+          written = appended_as text w.kept new _ _
+              (append_assoc (bracket_front k w.start) (pair_start k.in_seq ++ flow_events here.key key_at) (omitted_at (colon + 1) ++ pair_end k.in_seq)
+              ∙ (ap (λ x. bracket_front k w.start ++ ((pair_start k.in_seq ++ flow_events here.key key_at) ++ (omitted_at x ++ pair_end k.in_seq))) (sym place)
+              ∙ ap (λ es. bracket_front k w.start ++ es)
+              (sym (pair_events k.in_seq here.ask here.key (empty here.gap) (entry_start k w.start) (λ q. with_colon here.ask (empty here.gap) refl)))))
+              (appended_then text w.kept events new (bracket_front k w.start ++ (pair_start k.in_seq ++ flow_events here.key key_at)) (omitted_at (colon + 1) ++ pair_end k.in_seq) here.written
+              (subst (λ (x : Bool). Appended text events new (omitted_at (colon + 1) ++ pair_end x)) (sym here.kind) a));
+          reads = here.reads
+              ∙ (ap (keyed n d k here.bol here.ask here.key) (value_empty sign h)
+              ∙ keyed_fits n d k here.bol here.ask here.key (empty here.gap) (rest text (colon + 1)) (here.fits (empty here.gap) (rest text (colon + 1)) (value_empty sign h)));
+        }
+
+    pub value_waits : (top : Open) (at : ℕ) → top.in_seq ≡ in_seq → top.part ≡ ValuePart → line_starts text (colon + 1) ≡ false → IsSign text colon 58 → Passes n d text (colon + 1) at
+        → left_out (ends_plain key_end) (gap_from (colon + 1)) ≡ false → AtNode n d text w top at events
+    value_waits top at kind p starts sign gap h =
+        let k : Bracket = here.bracket in
+        let placed = here.place in
+        let wide = gap.length in
+        let node : flow_value_at n d (is_plain here.key) here.behind ≡ on (flow_node_at n d (line_starts text at) (rest text at)) (λ f r. Some (given here.gap gap.gap f, r)) =
+        value_node sign h
+        ∙ (ap (λ (g : GapRead). on (flow_node_at n d (starts_line false (gap_text g.0)) g.1) (λ f r. Some (given here.gap g.0 f, r))) gap.reads
+        ∙ ap (λ (x : Bool). on (flow_node_at n d x (rest text at)) (λ f r. Some (given here.gap gap.gap f, r))) (gap.starts starts)) in
+        record {
+          frame = record { bracket = k; part = pair_value here.ask here.bol here.key here.gap gap.gap };
+          keeps = record { kind = here.kind ∙ sym kind; part = sym p };
+          fits = λ f r e. here.fits (given here.gap gap.gap f) r (node ∙ ap (λ x. on x (λ f' r'. Some (given here.gap gap.gap f', r'))) e);
+          place = omega (arith, placed, wide);
+          written = here.written;
+          reads = here.reads
+              ∙ (ap (keyed n d k here.bol here.ask here.key) node
+              ∙ waits_value n d k here.bol here.ask here.key here.gap gap.gap (flow_node_at n d (line_starts text at) (rest text at)));
+        }
+
+    pub value_dead : IsSign text colon 58 → NoGap n d (rest text (colon + 1)) → w.reads ≡ None
+    value_dead sign stop =
+        let k : Bracket = here.bracket in
+        let h : Dead n d (gap_from (colon + 1)).1 = dead n d (rest text (colon + 1)) stop in
+        elim (cases_Bool (left_out (ends_plain key_end) (gap_from (colon + 1)))) [
+          | inl e ↦ here.reads
+            ∙ (ap (keyed n d k here.bol here.ask here.key) (value_empty sign e) ∙ made_dead n d k here.bol here.ask here.key (empty here.gap) (rest text (colon + 1)) h)
+          | inr e ↦ here.reads
+            ∙ ap (keyed n d k here.bol here.ask here.key) (value_node sign e
+            ∙ ap (λ x. on x (λ f r. Some (given here.gap (gap_from (colon + 1)).0 f, r))) (h.node (starts_line false (gap_text (gap_from (colon + 1)).0))))
+        ]

@@ -1,0 +1,13 @@
+pub mod Results
+pub mod Appends
+pub mod Signs
+pub mod SameLines
+pub mod EntryEvents
+pub mod GapPlaces
+pub mod PairKeys
+pub mod FlowSteps
+pub mod NodeSteps
+pub mod ColonSteps
+pub mod ScalarKinds
+pub mod ScalarSteps
+pub mod Stacks

@@ -1,0 +1,237 @@
+-- One step of the scanner of flow collections after a node: its entry ends, or a `:` makes it a key.
+use Rattle.std.proofs.Common.{◌≡◌, ap, append_assoc, arith, inl, inr, length, refl, subst, sym, ◌∙◌, ℕ, ◌+◌, ◌<◌, ◌≤◌}
+use Rattle.std.specs.Prelude.{Bool, true, false, not, ◌&&◌, ◌||◌, ◌==◌, nat_le, nat_lt, insert, is_some, List, [], ◌∷◌, ◌++◌, Option, Some, None}
+use Rattle.std.specs.Str.{IsUtf8, IsCharBoundary}
+use Rattle.std.proofs.lemmas.Bool.{and_parts, cases_Bool, false≢true}
+use Rattle.std.proofs.lemmas.Bool.Decides.{nat_tests}
+use Rattle.std.proofs.lemmas.List.{append-nil}
+use Rattle.yaml_chars.specs.Places.{rest, between}
+use Rattle.yaml_chars.proofs.Places.{rest-end}
+use Rattle.yaml_grammar.specs.Events.{Event, map_start, omitted_at}
+use Rattle.yaml_grammar.specs.FlowNodes.{Flow, Entries, Entry, entry, Value, absent, empty, given, is_plain, scalar, asked_text, entry_text, entry_events, flow_events, flow_text, value_events, value_text, is_pair}
+use Rattle.yaml_grammar.specs.FlowScalars.{FlowContext, Scalar, flow_key, inside, one_line}
+use Rattle.yaml_grammar.specs.FlowScalars as flow
+use Rattle.yaml_grammar.specs.Separation.{Sep, gap_text}
+use Rattle.yaml_grammar.specs.Texts.{byte_len, first, starts_line}
+use Rattle.yaml_events.specs.declared.event.Event.TheVariants.{MapStart}
+use Rattle.yaml_events.specs.Places.{line_starts}
+use Rattle.yaml_recognizers.specs.Ends.{is_colon}
+use Rattle.yaml_recognizers.specs.FlowFrames.{FlowPart, first_node, asked_key, pair_value, Bracket, OpenFlow, close_with, entries_of, entry_of, plug}
+use Rattle.yaml_recognizers.specs.FlowNodes.{ends_entry, key_is_short, made}
+use Rattle.yaml_recognizers.specs.FlowScalars.{read_scalar}
+use Rattle.yaml_recognizers.specs.Fronts.{past}
+use Rattle.yaml_recognizers.specs.Gaps.{GapRead, read_gap}
+use Rattle.yaml_recognizers.specs.OneLine.{widens}
+use Rattle.yaml_recognizers.specs.Reading.{Read, if_fits, on}
+use Rattle.yaml_recognizers.specs.Recognizers.{StandsFlow, flow_node_at, flow_value_at}
+use Rattle.yaml_recognizers.proofs.FlowFrames.{is_scalar}
+use Rattle.yaml_recognizers.proofs.FlowNodesFound.{stands}
+use Rattle.yaml_recognizers.proofs.GapsSound.{gap_sound}
+use Rattle.yaml_recognizers.proofs.LineStarts.{byte_len_joined}
+use Rattle.yaml_flow.specs.declared.collection.NodeEnd.{NodeEnd}
+use Rattle.yaml_flow.specs.declared.collection.Open.{Open}
+use Rattle.yaml_flow.specs.declared.collection.Part.{Part}
+use Rattle.yaml_flow.specs.declared.collection.Part.TheVariants.{First, Asked, Value as ValuePart}
+use Rattle.yaml_flow.specs.FlowNodes.{Appended}
+use Rattle.yaml_flow.specs.Frames.{AtColon, AtNode, BeganPair, Collection, EntryRead, EventList, IsSign, Keeps, NoPair, NodeRead, PartFits, Passes, SameLine, absent_events, bracket_front, ends_plain, entry_start, fits_single, frame_front, is_first, is_single, is_value as is_value_part, node_start, pair_end, pair_start, part_front, part_of, part_start}
+use Rattle.yaml_scan.specs.Gaps.{NoGap}
+use Rattle.yaml_scan.specs.Places.{unbroken_between}
+use Rattle.yaml_flow.proofs.Appends.{appended_as, appended_between, appended_then, appended_to}
+use Rattle.yaml_flow.proofs.EntryEvents.{alone_events, empty_length, entry_length, given_length, pair_events, with_colon}
+use Rattle.yaml_flow.proofs.FlowSteps.{Dead, absent_fits, ask_of, bol_of, dead, is_value, key_entry, keyed, keyed_fits, keyed_refused, made_dead, no_node_at_end, plug_key, value_entry, waits_value}
+use Rattle.yaml_flow.proofs.PairKeys.{fits_line, key_fits, left_out, no_value, value_given, value_left_out}
+use Rattle.yaml_flow.proofs.Signs.{between_after, place_after}
+
+-- ---- parts
+
+pub value_part : (part : FlowPart) (p : Part) → part_of part ≡ p → p ≡ ValuePart → is_value part ≡ true
+value_part (first_node bol) p e h = cc
+value_part (asked_key sep) p e h = cc
+value_part (pair_value ask bol key before after) p e h = refl
+
+pub the_value : (p : Part) → is_value_part p ≡ true → p ≡ ValuePart
+the_value First h = absurd (false≢true h)
+the_value Asked h = absurd (false≢true h)
+the_value ValuePart h = refl
+
+pub not_value : (p : Part) → is_value_part p ≡ false → p ≡ ValuePart → ⊥
+not_value p h e = false≢true (sym h ∙ ap is_value_part e)
+
+pub no_value_part : (part : FlowPart) → (part_of part ≡ ValuePart → ⊥) → is_value part ≡ false
+no_value_part (first_node bol) h = refl
+no_value_part (asked_key sep) h = refl
+no_value_part (pair_value ask bol key before after) h = absurd (h refl)
+
+-- ---- the events of an entry
+
+regroup4 : (a b c d : List Event) → ((a ++ b) ++ c) ++ d ≡ a ++ ((b ++ c) ++ d)
+regroup4 a b c d = simp append_assoc
+
+pub regroup5 : (a b c d e : List Event) → (a ++ (b ++ c)) ++ (d ++ e) ≡ a ++ ((b ++ c) ++ (d ++ e))
+regroup5 a b c d e = simp append_assoc
+
+-- the entry whose value is the node
+abbrev entry_with : FlowPart → Flow → Entry
+entry_with (first_node bol) f = entry None f absent
+entry_with (asked_key sep) f = entry (Some sep) f absent
+entry_with (pair_value ask bol key before after) f = entry ask key (given before after f)
+
+module _ (n : ℕ) (d : FlowContext) (text : List ℕ) where
+  abbrev gap_from : ℕ → GapRead
+  gap_from at = read_gap n (one_line d) (rest text at)
+
+  abbrev found_at : ℕ → Flow → ℕ → Type 0
+  found_at at f end = flow_node_at n d (line_starts text at) (rest text at) ≡ Some (f, rest text end)
+
+  -- ---- the node
+
+  -- where no node stands the collection is none
+  pub node_missing : (w : Collection) (top : Open) (at : ℕ) (events : EventList) → flow_node_at n d (line_starts text at) (rest text at) ≡ None
+      → AtNode n d text w top at events → w.reads ≡ None
+  node_missing w top at events e here = here.reads ∙ ap (λ r. on r (λ f x. plug n d here.frame f x)) e
+
+  -- the frame takes the node's place
+  pub at_start : (w : Collection) (top : Open) (at before : ℕ) (events : EventList) → AtNode n d text w top at events
+      → AtNode n d text w (record top { start = at; before = before }) at events
+  at_start w top at before events here = record {
+    frame = here.frame;
+    keeps = record { kind = here.keeps.kind; part = here.keeps.part };
+    fits = here.fits;
+    place = here.place;
+    written = here.written;
+    reads = here.reads;
+  }
+
+  pub node_at_end : (w : Collection) (top : Open) (at : ℕ) (events : EventList) → length text ≤ at → AtNode n d text w top at events → w.reads ≡ None
+  node_at_end w top at events l here =
+      node_missing w top at events (ap (flow_node_at n d (line_starts text at)) (rest-end text at l) ∙ no_node_at_end n d (line_starts text at)) here
+
+  pub node_length : (at end : ℕ) (f : Flow) → IsUtf8 text → IsCharBoundary text at → IsCharBoundary text end → found_at at f end → at + byte_len (flow_text f) ≡ end
+  node_length at end f u b c e =
+      let s : StandsFlow n d (line_starts text at) (rest text at) f (rest text end) = stands n d (line_starts text at) (rest text at) f (rest text end) e in
+      place_after text at end (flow_text f) u b c s.spells
+
+  pub plugged : (w : Collection) (top : Open) (node_end : NodeEnd) (end : ℕ) (events : EventList) (here : NodeRead n d text w top node_end end events)
+      → w.reads ≡ plug n d here.waits.frame here.node (rest text end)
+  plugged w top node_end end events here = here.waits.reads ∙ ap (λ r. on r (λ f x. plug n d here.waits.frame f x)) here.found
+
+  -- ---- a value that is read
+
+  value_whole : (in_seq : Bool) (part : FlowPart) (f : Flow) (at end : ℕ) → is_value part ≡ true → PartFits n d text in_seq part at → found_at at f end
+      → entry_of n d in_seq part f (rest text end) ≡ Some (entry_with part f, rest text end)
+  value_whole in_seq (first_node bol) f at end v p e = absurd (false≢true v)
+  value_whole in_seq (asked_key sep) f at end v p e = absurd (false≢true v)
+  value_whole in_seq (pair_value ask bol key before after) f at end v p e =
+      value_entry n d in_seq bol ask key before after f (rest text end)
+      ∙ ap (λ t. if_fits t (Some (entry ask key (given before after f), rest text end))) (p f (rest text end) e)
+
+  value_written : (in_seq : Bool) (part : FlowPart) (f : Flow) (at start : ℕ) → is_value part ≡ true → part_start part at ≡ start
+      → (part_front in_seq part at ++ flow_events f start) ++ pair_end in_seq ≡ entry_events (entry_with part f) in_seq at
+  value_written in_seq (first_node bol) f at start v e = absurd (false≢true v)
+  value_written in_seq (asked_key sep) f at start v e = absurd (false≢true v)
+  value_written in_seq (pair_value ask bol key before after) f at start v e =
+      let front : List Event = pair_start in_seq ++ flow_events key (at + byte_len (asked_text ask)) in
+      append_assoc front (flow_events f start) (pair_end in_seq)
+      ∙ (ap (λ k. front ++ (flow_events f k ++ pair_end in_seq)) (sym e)
+      ∙ sym (pair_events in_seq ask key (given before after f) at (λ h. with_colon ask (given before after f) refl)))
+
+  value_length : (part : FlowPart) (f : Flow) (at : ℕ) → is_value part ≡ true → at + byte_len (entry_text (entry_with part f)) ≡ part_start part at + byte_len (flow_text f)
+  value_length (first_node bol) f at v = absurd (false≢true v)
+  value_length (asked_key sep) f at v = absurd (false≢true v)
+  value_length (pair_value ask bol key before after) f at v =
+      let e = entry_length ask key (given before after f) in
+      let g = given_length before after f in
+      omega (arith, e, g)
+
+  pub value_read : (w : Collection) (top : Open) (node_end : NodeEnd) (end behind : ℕ) (events new : EventList) → IsUtf8 text → IsCharBoundary text top.start → IsCharBoundary text end
+      → top.part ≡ ValuePart → Passes n d text end behind → Appended text events new (pair_end top.in_seq) → NodeRead n d text w top node_end end events
+      → EntryRead n d text w top.in_seq behind new
+  value_read w top node_end end behind events new u b c p gap a here =
+      let o : OpenFlow = here.waits.frame in
+      let k : Bracket = o.bracket in
+      let v : is_value o.part ≡ true = value_part o.part top.part here.waits.keeps.part p in
+      let long : top.start + byte_len (flow_text here.node) ≡ end = node_length top.start end here.node u b c here.found in
+      let sized : entry_start k w.start + byte_len (entry_text (entry_with o.part here.node)) ≡ node_start o w.start + byte_len (flow_text here.node) =
+      value_length o.part here.node (entry_start k w.start) v in
+      let placed = here.waits.place in
+      let wide = gap.length in
+      record {
+        bracket = k;
+        kind = here.waits.keeps.kind;
+        entry = entry_with o.part here.node;
+        behind = rest text end;
+        gap = gap.gap;
+        passes = gap.reads;
+        place = omega (arith, long, sized, placed, wide);
+        written = appended_as text w.kept new _ _
+            (regroup4 (bracket_front k w.start) (part_front k.in_seq o.part (entry_start k w.start)) (flow_events here.node top.start) (pair_end k.in_seq)
+            ∙ ap (λ es. bracket_front k w.start ++ es) (value_written k.in_seq o.part here.node (entry_start k w.start) top.start v here.waits.place))
+            (appended_then text w.kept events new (frame_front o w.start ++ flow_events here.node top.start) (pair_end k.in_seq)
+            (appended_then text w.kept here.before events (frame_front o w.start) (flow_events here.node top.start) here.waits.written here.written)
+            (subst (λ (x : Bool). Appended text events new (pair_end x)) (sym here.waits.keeps.kind) a));
+        reads = plugged w top node_end end events here
+            ∙ ap (λ r. close_with k (on r (λ e x. entries_of n d k.in_seq e x))) (value_whole k.in_seq o.part here.node top.start end v here.waits.fits here.found);
+      }
+
+  -- ---- a node with no `:` after it
+
+  pub key_start : (part : FlowPart) (at : ℕ) → is_value part ≡ false → part_start part at ≡ at + byte_len (asked_text (ask_of part))
+  key_start (first_node bol) at v = omega arith
+  key_start (asked_key sep) at v = refl
+  key_start (pair_value ask bol key before after) at v = absurd (false≢true (sym v))
+
+  absent_written : (in_seq : Bool) (part : FlowPart) (key : Flow) (at start end : ℕ) → is_value part ≡ false → start ≡ at + byte_len (asked_text (ask_of part))
+      → end ≡ start + byte_len (flow_text key)
+      → (part_front in_seq part at ++ flow_events key start) ++ absent_events (in_seq && is_first (part_of part)) in_seq end ≡ entry_events (entry (ask_of part) key absent) in_seq at
+  absent_written true (first_node bol) key at start end v s e = append-nil (flow_events key start) ∙ ap (flow_events key) s
+  absent_written false (first_node bol) key at start end v s e =
+      ap (λ k. flow_events key start ++ (omitted_at k ++ [])) e
+      ∙ (ap (λ k. flow_events key k ++ (omitted_at (k + byte_len (flow_text key)) ++ [])) s
+      ∙ sym (pair_events false None key absent at (λ h. absurd (false≢true h))))
+  absent_written true (asked_key sep) key at start end v s e =
+      ap (λ k. (pair_start true ++ flow_events key start) ++ (omitted_at k ++ pair_end true)) e
+      ∙ (ap (λ k. (pair_start true ++ flow_events key k) ++ (omitted_at (k + byte_len (flow_text key)) ++ pair_end true)) s
+      ∙ sym (pair_events true (Some sep) key absent at (λ h. refl)))
+  absent_written false (asked_key sep) key at start end v s e =
+      ap (λ k. (pair_start false ++ flow_events key start) ++ (omitted_at k ++ pair_end false)) e
+      ∙ (ap (λ k. (pair_start false ++ flow_events key k) ++ (omitted_at (k + byte_len (flow_text key)) ++ pair_end false)) s
+      ∙ sym (pair_events false (Some sep) key absent at (λ h. absurd (false≢true h))))
+  absent_written in_seq (pair_value ask bol key before after) key' at start end v s e = absurd (false≢true (sym v))
+
+  pub single_is : (top : Open) (in_seq : Bool) (part : FlowPart) → in_seq ≡ top.in_seq → part_of part ≡ top.part → is_single top ≡ in_seq && is_first (part_of part)
+  single_is top in_seq part k p = ap (λ x. x && is_first top.part) (sym k) ∙ ap (λ x. in_seq && is_first x) (sym p)
+
+  pub entry_alone : (w : Collection) (top : Open) (node_end : NodeEnd) (end behind : ℕ) (events new : EventList) → IsUtf8 text → IsCharBoundary text top.start → IsCharBoundary text end
+      → (top.part ≡ ValuePart → ⊥) → Passes n d text end behind → is_colon d (ends_plain node_end) (rest text behind) ≡ false
+      → Appended text events new (absent_events (is_single top) top.in_seq end) → NodeRead n d text w top node_end end events → EntryRead n d text w top.in_seq behind new
+  entry_alone w top node_end end behind events new u b c p gap i a here =
+      let o : OpenFlow = here.waits.frame in
+      let k : Bracket = o.bracket in
+      let key : Flow = here.node in
+      let v : is_value o.part ≡ false = no_value_part o.part (λ h. p (sym here.waits.keeps.part ∙ h)) in
+      let start : top.start ≡ entry_start k w.start + byte_len (asked_text (ask_of o.part)) = sym here.waits.place ∙ key_start o.part (entry_start k w.start) v in
+      let long : top.start + byte_len (flow_text key) ≡ end = node_length top.start end key u b c here.found in
+      let wide = gap.length in
+      let sized = entry_length (ask_of o.part) key absent in
+      let e : flow_value_at n d (is_plain key) (rest text end) ≡ Some (absent, rest text end) =
+      no_value n d (is_plain key) (rest text end) (ap (λ x. is_colon d x (gap_from end).1) here.plain ∙ (ap (λ (r : GapRead). is_colon d (ends_plain node_end) r.1) gap.reads ∙ i)) in
+      record {
+        bracket = k;
+        kind = here.waits.keeps.kind;
+        entry = entry (ask_of o.part) key absent;
+        behind = rest text end;
+        gap = gap.gap;
+        passes = gap.reads;
+        place = omega (arith, start, long, wide, sized);
+        written = appended_as text w.kept new _ _
+            (regroup4 (bracket_front k w.start) (part_front k.in_seq o.part (entry_start k w.start)) (flow_events key top.start) (absent_events (k.in_seq && is_first (part_of o.part)) k.in_seq end)
+            ∙ ap (λ es. bracket_front k w.start ++ es) (absent_written k.in_seq o.part key (entry_start k w.start) top.start end v start (sym long)))
+            (appended_then text w.kept events new (frame_front o w.start ++ flow_events key top.start) (absent_events (k.in_seq && is_first (part_of o.part)) k.in_seq end)
+            (appended_then text w.kept here.before events (frame_front o w.start) (flow_events key top.start) here.waits.written here.written)
+            (appended_as text events new _ _ (ap (λ x. absent_events x top.in_seq end) (single_is top k.in_seq o.part here.waits.keeps.kind here.waits.keeps.part)
+            ∙ ap (λ x. absent_events (k.in_seq && is_first (part_of o.part)) x end) (sym here.waits.keeps.kind)) a));
+        reads = plugged w top node_end end events here
+            ∙ (plug_key n d o key (rest text end) v
+            ∙ (ap (λ r. keyed n d k (bol_of o.part) (ask_of o.part) key r) e
+            ∙ keyed_fits n d k (bol_of o.part) (ask_of o.part) key absent (rest text end) (absent_fits n d k.in_seq (bol_of o.part) (ask_of o.part) key (rest text end))));
+      }

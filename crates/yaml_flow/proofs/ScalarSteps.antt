@@ -1,0 +1,65 @@
+-- A scalar as a node.
+use Rattle.std.proofs.Common.{◌≡◌, ap, refl, sym, ◌∙◌, ℕ, ◌+◌, ◌<◌, length, subst}
+use Rattle.std.specs.Prelude.{Bool, true, false, ◌==◌, List, [], ◌∷◌, ◌++◌, None, Some}
+use Rattle.std.specs.Cow.{cow_str_bytes}
+use Rattle.std.specs.Str.{IsUtf8, IsCharBoundary, chars}
+use Rattle.yaml_chars.specs.Places.{rest}
+use Rattle.yaml_grammar.specs.Events as grammar
+use Rattle.yaml_grammar.specs.FlowNodes.{flow_events, is_plain, scalar}
+use Rattle.yaml_grammar.specs.FlowScalars as flow
+use Rattle.yaml_grammar.specs.Texts.{byte_len, first}
+use Rattle.yaml_events.specs.Meant.{event_of, style_of}
+use Rattle.yaml_events.specs.Places.{line_starts}
+use Rattle.yaml_recognizers.specs.Reading.{on}
+use Rattle.yaml_recognizers.specs.FlowScalars.{read_scalar}
+use Rattle.yaml_recognizers.specs.Recognizers.{flow_node_at}
+use Rattle.yaml_recognizers.proofs.FlowFrames.{is_scalar}
+use Rattle.yaml_flow.specs.declared.collection.NodeEnd.{NodeEnd}
+use Rattle.yaml_flow.specs.declared.collection.Open.{Open}
+use Rattle.yaml_flow.specs.declared.scalar.FlowScalar.{FlowScalar}
+use Rattle.yaml_flow.specs.FlowNodes.{Appended, FlowScalarRead, scalar_event_at}
+use Rattle.yaml_flow.specs.Frames.{AtNode, Collection, EventList, NodeRead, ends_plain, is_plain_style}
+use Rattle.yaml_flow.proofs.Appends.{appended_one}
+use Rattle.yaml_flow.proofs.NodeSteps.{node_length}
+
+plain_by_style : (s : flow.Scalar) → is_plain (scalar s) ≡ is_plain_style (flow.style_of s)
+plain_by_style (flow.plain front more) = refl
+plain_by_style (flow.single front more) = refl
+plain_by_style (flow.double front more) = refl
+
+module _ (n : ℕ) (d : flow.FlowContext) (text : List ℕ) where
+  pub scalar_found : (at end : ℕ) (s : flow.Scalar) → first (λ x. x == 91) (rest text at) ≡ false → first (λ x. x == 123) (rest text at) ≡ false
+      → read_scalar n d (line_starts text at) (rest text at) ≡ Some (s, rest text end)
+      → flow_node_at n d (line_starts text at) (rest text at) ≡ Some (scalar s, rest text end)
+  scalar_found at end s h k e =
+      is_scalar n d (line_starts text at) (rest text at) h k ∙ ap (λ r. on r (λ x t. Some (scalar x, t))) e
+
+  pub scalar_missing : (at : ℕ) → first (λ x. x == 91) (rest text at) ≡ false → first (λ x. x == 123) (rest text at) ≡ false
+      → read_scalar n d (line_starts text at) (rest text at) ≡ None → flow_node_at n d (line_starts text at) (rest text at) ≡ None
+  scalar_missing at h k e = is_scalar n d (line_starts text at) (rest text at) h k ∙ ap (λ r. on r (λ x t. Some (scalar x, t))) e
+
+  pub scalar_appended : (at : ℕ) (found : FlowScalar) (old new : EventList) → IsUtf8 text → IsCharBoundary text at → first (λ x. x == 91) (rest text at) ≡ false
+      → first (λ x. x == 123) (rest text at) ≡ false → (read : FlowScalarRead n d text at found) → new ≡ old ++ scalar_event_at at found ∷ []
+      → Appended text old new (flow_events (scalar read.scalar) at)
+  scalar_appended at found old new u b h k read e =
+      let long : at + byte_len (flow.scalar_text read.scalar) ≡ found.end =
+      node_length n d text at found.end (scalar read.scalar) u b read.boundary (scalar_found at found.end read.scalar h k read.reads) in
+      appended_one text old new (scalar_event_at at found) (grammar.scalar_event (flow.style_of read.scalar) at (at + byte_len (flow.scalar_text read.scalar)) (flow.scalar_value read.scalar)) e
+      (ap (λ x. grammar.scalar_event x at found.end (chars (cow_str_bytes found.value))) read.styled
+      ∙ (ap (λ x. grammar.scalar_event (flow.style_of read.scalar) at x (chars (cow_str_bytes found.value))) (sym long)
+      ∙ ap (λ x. grammar.scalar_event (flow.style_of read.scalar) at (at + byte_len (flow.scalar_text read.scalar)) x) read.means))
+      read.borrows
+
+  pub scalar_node : (w : Collection) (top : Open) (node_end : NodeEnd) (found : FlowScalar) (events new : EventList) → IsUtf8 text → IsCharBoundary text top.start
+      → first (λ x. x == 91) (rest text top.start) ≡ false → first (λ x. x == 123) (rest text top.start) ≡ false → top.before ≡ length events
+      → FlowScalarRead n d text top.start found → ends_plain node_end ≡ is_plain_style (style_of found.style) → new ≡ events ++ scalar_event_at top.start found ∷ []
+      → AtNode n d text w top top.start events → NodeRead n d text w top node_end found.end new
+  scalar_node w top node_end found events new u b h k count read p e here = record {
+    before = events;
+    waits = here;
+    count = sym count;
+    node = scalar read.scalar;
+    plain = plain_by_style read.scalar ∙ (ap is_plain_style (sym read.styled) ∙ sym p);
+    found = scalar_found top.start found.end read.scalar h k read.reads;
+    written = scalar_appended top.start found events new u b h k read e;
+  }

@@ -1,0 +1,211 @@
+-- The loop over open brackets: what is popped, what is left at the end, and what stays.
+use Rattle.std.proofs.Common.{◌≡◌, refl, sym, ◌∙◌, ap, subst, arith, ℕ, ◌+◌, ◌≤◌, ◌<◌, length, append_assoc}
+use Rattle.std.specs.Prelude.{Bool, true, false, List, [], ◌∷◌, ◌++◌, take, Option, Some, None}
+use Rattle.std.specs.List.{All}
+use Rattle.std.specs.Str.{IsCharBoundary}
+use Rattle.std.proofs.Math.Seq.{take-append_seam}
+use Rattle.std.proofs.lemmas.List.{append-nil, length-append, take-append-le}
+use Rattle.std.proofs.lemmas.List.Elements.{All-push, All-same, All-weaker, All-pop}
+use Rattle.std.proofs.Common.{inl, inr}
+use Rattle.yaml_chars.specs.Places.{rest}
+use Rattle.yaml_grammar.specs.FlowNodes.{Flow, flow_events, is_plain}
+use Rattle.yaml_grammar.specs.FlowScalars.{FlowContext, outer, inner, block_key, flow_key, inside}
+use Rattle.yaml_events.specs.Places.{line_starts}
+use Rattle.yaml_recognizers.specs.OneLine.{widens}
+use Rattle.yaml_recognizers.specs.Reading.{Read, on}
+use Rattle.yaml_recognizers.specs.Recognizers.{flow_node_at}
+use Rattle.yaml_recognizers.specs.FlowFrames.{plug}
+use Rattle.yaml_flow.specs.declared.collection.NodeEnd.TheVariants.{Delimited}
+use Rattle.yaml_flow.specs.declared.collection.Open.{Open}
+use Rattle.yaml_flow.specs.declared.collection.Next.{Next}
+use Rattle.yaml_flow.specs.declared.collection.Next.TheVariants.{Entry, Node, AfterEntry, Closed}
+use Rattle.yaml_flow.specs.FlowNodes.{Appended}
+use Rattle.yaml_flow.specs.Frames.{Around, AtNode, Collection, EventList, Keeps, Kept, LineMoves, NodeRead, Onward, Pushes, SameLine, Stack, Stands, Started, Waits, WholeRead, place_of}
+use Rattle.yaml_flow.proofs.SameLines.{same_line_here}
+
+snoc_same : {A : Type 0} (xs ys : List A) (x y : A) → xs ++ x ∷ [] ≡ ys ++ y ∷ [] → (xs ≡ ys) × (x ≡ y)
+snoc_same [] [] x y e = (refl, cc)
+snoc_same [] (b ∷ bs) x y e = absurd (omega (arith, ap length e, length-append bs (y ∷ [])))
+snoc_same (a ∷ us) [] x y e = absurd (omega (arith, ap length e, length-append us (x ∷ [])))
+snoc_same (a ∷ us) (b ∷ vs) x y e =
+    let t : us ++ x ∷ [] ≡ vs ++ y ∷ [] = cc in
+    let h : a ≡ b = cc in
+    let r = snoc_same us vs x y t in
+    (ap (λ z. z ∷ us) h ∙ ap (λ zs. b ∷ zs) r.0, r.1)
+
+pub inside_widens : (d : FlowContext) → inside d ≡ d → widens flow_key d ≡ true
+inside_widens outer e = absurd (let h : inner ≡ outer = e in cc)
+inside_widens inner e = refl
+inside_widens block_key e = absurd (let h : flow_key ≡ block_key = e in cc)
+inside_widens flow_key e = refl
+
+-- ---- the events at the front
+
+-- the list is the other and more
+abbrev Extends : EventList → EventList → Type 0
+Extends old new = (more : EventList) × (new ≡ old ++ more)
+
+extends_then : (a b c : EventList) → Extends a b → Extends b c → Extends a c
+extends_then a b c h k = (h.0 ++ k.0, k.1 ∙ (ap (λ es. es ++ k.0) h.1 ∙ append_assoc a h.0 k.0))
+
+pub kept_then : (k : ℕ) (a b c : EventList) → Kept k a b → Kept k b c → Kept k a c
+kept_then k a b c h g l = let p = h l in let q = g p.0 in (q.0, q.1 ∙ p.1)
+
+module _ (n : ℕ) (d : FlowContext) (text : List ℕ) where
+  stands_on : (w : Collection) (top : Open) (next : Next) (events : EventList) → Stands n d text w top next events → Extends w.kept events
+  stands_on w top (Entry at) events h = (h.written.more, h.written.is)
+  stands_on w top (Node at) events h = (h.written.more, h.written.is)
+  stands_on w top (AfterEntry at) events h = (h.written.more, h.written.is)
+  stands_on w top (Closed end) events h = (h.written.more, h.written.is)
+
+  stack_on : (whole : Collection) (around : List Collection) (opens : List Open) (w : Collection) → Stack n d text whole around opens w → Extends whole.kept w.kept
+  stack_on whole [] opens w s = ([], ap (λ (x : Collection). x.kept) s.1 ∙ sym (append-nil whole.kept))
+  stack_on whole (c ∷ cs) opens w s =
+      extends_then whole.kept c.kept w.kept (stack_on whole cs s.0 c s.4) (s.3.waits.written.more, s.3.waits.written.is)
+
+  waits_on : (whole : Collection) (opens : List Open) (top : Open) (next : Next) (events : EventList) → Waits n d text whole opens top next events → Extends whole.kept events
+  waits_on whole opens top next events w =
+      extends_then whole.kept w.inner.kept events (stack_on whole w.around opens w.inner w.stack) (stands_on w.inner top next events w.stands)
+
+  -- the events before the whole collection stay
+  pub front_stays : (whole : Collection) (opens : List Open) (top : Open) (next : Next) (events new : EventList) (k : ℕ) → Waits n d text whole opens top next events
+      → Kept k events new → Kept k whole.kept new
+  front_stays whole opens top next events new k w h =
+      let e = waits_on whole opens top next events w in
+      let l = length-append whole.kept e.0 in
+      let s = ap length e.1 in
+      kept_then k whole.kept events new (λ m. (omega (arith, l, s), ap (take k) e.1 ∙ take-append-le k whole.kept e.0 m)) h
+
+  -- ---- a refusal
+
+  pub stack_none : (whole : Collection) (around : List Collection) (opens : List Open) (w : Collection) → Stack n d text whole around opens w → w.reads ≡ None → whole.reads ≡ None
+  stack_none whole [] opens w s e = ap (λ (x : Collection). x.reads) (sym s.1) ∙ e
+  stack_none whole (c ∷ cs) opens w s e =
+      stack_none whole cs s.0 c s.4
+      (s.3.waits.reads ∙ ap (λ r. on r (λ f t. plug n d s.3.waits.frame f t)) (sym s.3.node ∙ e))
+
+  -- the whole is none where the inner collection is
+  pub refused_whole : (whole : Collection) (opens : List Open) (top : Open) (next : Next) (events : EventList) (w : Waits n d text whole opens top next events)
+      → w.inner.reads ≡ None → whole.reads ≡ None
+  refused_whole whole opens top next events w e = stack_none whole w.around opens w.inner w.stack e
+
+  -- ---- a bracket that is closed
+
+  -- what a closed bracket is read for, once its frame is popped
+  pub record Popped (whole : Collection) (front : List Open) (frame : Open) (end : ℕ) (events : EventList) : Type 0 where
+    pub around : List Collection
+    pub outer : Collection
+    pub stack : Stack n d text whole around front outer
+    pub node : NodeRead n d text outer frame Delimited end events
+    pub inside_line : line_starts text end ≡ false
+    pub count : frame.before ≤ length events
+    pub kept : length whole.kept ≤ frame.before
+
+  popped_from : (whole : Collection) (around : List Collection) (w : Collection) (opens front : List Open) (frame : Open) (end : ℕ) (events : EventList)
+      → Stack n d text whole around opens w → WholeRead n d text w end events → opens ≡ front ++ frame ∷ [] → Popped whole front frame end events
+  popped_from whole [] w opens front frame end events s r e = absurd (omega (arith, ap length (sym s.0 ∙ e), length-append front (frame ∷ [])))
+  popped_from whole (c ∷ cs) w opens front frame end events s r e =
+      let both = snoc_same s.0 front s.1 frame (sym s.2 ∙ e) in
+      let a : Around n d text w frame c = subst (λ (x : Open). Around n d text w x c) both.1 s.3 in
+      let on_kept = stack_on whole (c ∷ cs) opens w s in
+      let count = a.count in
+      let sized = ap length r.written.is in
+      let more = length-append w.kept r.written.more in
+      let sized2 = ap length on_kept.1 in
+      let more2 = length-append whole.kept on_kept.0 in
+      record {
+        around = cs;
+        outer = c;
+        stack = subst (λ (x : List Open). Stack n d text whole cs x c) both.0 s.4;
+        node = record {
+          before = w.kept;
+          waits = subst (λ k. AtNode n d text c frame k w.kept) (sym a.start) a.waits;
+          count = a.count;
+          node = r.node;
+          plain = r.plain;
+          found = ap (λ k. flow_node_at n d (line_starts text k) (rest text k)) a.start ∙ (sym a.node ∙ r.reads);
+          written = subst (λ k. Appended text w.kept events (flow_events r.node k)) (sym a.start) r.written;
+        };
+        inside_line = r.inside_line;
+        count = omega (arith, count, sized, more);
+        kept = omega (arith, count, sized2, more2);
+      }
+
+  pub popped : (whole : Collection) (opens front : List Open) (top frame : Open) (next : Next) (end : ℕ) (events : EventList) → Waits n d text whole opens top next events
+      → next ≡ Closed end → opens ≡ front ++ frame ∷ [] → Popped whole front frame end events
+  popped whole opens front top frame next end events w e p =
+      let v : Waits n d text whole opens top (Closed end) events = subst (λ x. Waits n d text whole opens top x events) e w in
+      popped_from whole v.around v.inner opens front frame end events v.stack v.stands p
+
+  whole_from : (whole : Collection) (around : List Collection) (w : Collection) (opens : List Open) (end : ℕ) (events : EventList) → Stack n d text whole around opens w
+      → WholeRead n d text w end events → length opens ≡ 0 → WholeRead n d text whole end events
+  whole_from whole [] w opens end events s r l = subst (λ (x : Collection). WholeRead n d text x end events) s.1 r
+  whole_from whole (c ∷ cs) w opens end events s r l = absurd (omega (arith, ap length s.2, length-append s.0 (s.1 ∷ []), l))
+
+  pub whole_read : (whole : Collection) (opens : List Open) (top : Open) (next : Next) (end : ℕ) (events : EventList) → Waits n d text whole opens top next events
+      → next ≡ Closed end → length opens ≡ 0 → WholeRead n d text whole end events
+  whole_read whole opens top next end events w e l =
+      let v : Waits n d text whole opens top (Closed end) events = subst (λ x. Waits n d text whole opens top x events) e w in
+      whole_from whole v.around v.inner opens end events v.stack v.stands l
+
+-- ---- places
+
+pub onward_from : (text : List ℕ) (at further : ℕ) (next : Next) → at ≤ further → Onward text further next → Onward text at next
+onward_from text at further next l o = let m = o.above in record { boundary = o.boundary; above = omega arith; within = o.within }
+
+-- the frames' places, once the reader has moved
+pub starts_move : (text : List ℕ) (old at new to : ℕ) (opens : List Open) → at ≤ to → LineMoves text old at new to → All (Started text old at) opens → All (Started text new to) opens
+starts_move text old at new to opens l m a =
+    All-weaker (Started text old at) (Started text new to)
+    (λ top s. let k = s.above in record { boundary = s.boundary; above = omega arith; same_line = m.tells top.start s.boundary s.above s.same_line }) opens a
+
+-- and one more frame, or none
+pub starts_push : (text : List ℕ) (line at : ℕ) (opens more : List Open) → IsCharBoundary text at → line ≤ at → Pushes opens at more → All (Started text line at) opens
+    → All (Started text line at) more
+starts_push text line at opens more b l (inl e) a = All-same (Started text line at) more opens e a
+starts_push text line at opens more b l (inr p) a =
+    let start : p.0.start ≡ at = p.2 in
+    All-same (Started text line at) more (opens ++ p.0 ∷ []) p.1
+    (All-push (Started text line at) opens p.0 a (record {
+      boundary = subst (λ k. IsCharBoundary text k) (sym start) b;
+      above = omega arith;
+      same_line = subst (λ k. SameLine text line k at) (sym start) (same_line_here text line at l);
+    }))
+
+pub starts_pop : (text : List ℕ) (line at : ℕ) (opens front : List Open) (frame : Open) → opens ≡ front ++ frame ∷ [] → All (Started text line at) opens
+    → All (Started text line at) front × Started text line at frame
+starts_pop text line at opens front frame e a = All-pop (Started text line at) opens front (Some frame) e a
+
+-- ---- one turn of the loop
+
+-- what the loop keeps
+pub record Reading (n : ℕ) (d : FlowContext) (text : List ℕ) (from : ℕ) (whole : Collection) (opens : List Open) (top : Open) (next : Next) (events : EventList) (line : ℕ) : Type 0 where
+  pub waits : Waits n d text whole opens top next events
+  pub onward : Onward text (from + 1) next
+  pub within : line ≤ place_of next
+  pub starts : All (Started text line (place_of next)) opens
+
+module _ (n : ℕ) (d : FlowContext) (text : List ℕ) (from : ℕ) (whole : Collection) where
+  pub turn : (opens more : List Open) (top top' : Open) (here next : Next) (events new : EventList) (line line' : ℕ)
+      → (Waits n d text whole opens top here events → Waits n d text whole more top' next new) → (All (Started text line (place_of here)) opens → All (Started text line (place_of here)) more)
+      → Onward text (place_of here) next → LineMoves text line (place_of here) line' (place_of next)
+      → Reading n d text from whole opens top here events line → Reading n d text from whole more top' next new line'
+  turn opens more top top' here next events new line line' w s o m r = record {
+    waits = w r.waits;
+    onward = onward_from text (from + 1) (place_of here) next r.onward.above o;
+    within = m.within r.within;
+    starts = starts_move text line (place_of here) line' (place_of next) more o.above m (s r.starts);
+  }
+
+  -- a step of the innermost bracket
+  pub step : (opens : List Open) (top top' : Open) (here next : Next) (events new : EventList) → ((w : Collection) → Stands n d text w top here events → Stands n d text w top' next new)
+      → Waits n d text whole opens top here events → Waits n d text whole opens top' next new
+  step opens top top' here next events new h w = record { inner = w.inner; around = w.around; stack = w.stack; stands = h w.inner w.stands }
+
+  pub at_next : (opens : List Open) (top : Open) (next here : Next) (events : EventList) (line : ℕ) → next ≡ here → Reading n d text from whole opens top next events line
+      → Reading n d text from whole opens top here events line
+  at_next opens top next here events line e r = subst (λ x. Reading n d text from whole opens top x events line) e r
+
+  pub refused : (opens : List Open) (top : Open) (here : Next) (events : EventList) (line : ℕ) → ((w : Collection) → Stands n d text w top here events → w.reads ≡ None)
+      → Reading n d text from whole opens top here events line → whole.reads ≡ None
+  refused opens top here events line h r = refused_whole n d text whole opens top here events r.waits (h r.waits.inner r.waits.stands)

@@ -1,0 +1,75 @@
+use Rattle.std.proofs.Common.{◌≡◌, true, false, sym, subst, ap, ◌∙◌, arith, ℕ, ◌+◌, ◌<◌, ◌≤◌, refl, length}
+use Rattle.std.specs.Prelude.{None, ◌∷◌}
+use Rattle.yaml_chars.specs.Places.{rest}
+use Rattle.yaml_events.specs.Meant.{context_of}
+use Rattle.yaml_events.specs.Places.{line_starts}
+use Rattle.yaml_recognizers.specs.Recognizers.{flow_node_at}
+use Rattle.yaml_scan.proofs.Outcomes.{faults_so, ok_so, refuses}
+use Rattle.yaml_flow.specs.Frames.{BeforeGap, Collection, place_of}
+use Rattle.yaml_flow.proofs.FlowSteps.{opened}
+use Rattle.yaml_flow.proofs.NodeSteps.{at_start, node_at_end, node_missing}
+use Rattle.yaml_flow.proofs.SameLines.{opener_then}
+use Rattle.yaml_flow.proofs.Signs.{opener_starts}
+use Rattle.yaml_flow.proofs.collection.node.Goals as goal
+
+pub returns-then-at-text-clause-none : goal.returns-then-at-text-clause-none
+returns-then-at-text-clause-none c =
+    let n = c.args.setting.n in
+    let d = context_of c.args.setting.context in
+    let text = c.args.text.now in
+    refuses c.fault.result _ (λ w here. node_at_end n d text w c.args.top.now c.args.at c.args.events.now (omega (arith, c.if-at-text.true)) here)
+
+pub returns-in_default-clause-none : goal.returns-in_default-clause-none
+returns-in_default-clause-none c =
+    let n = c.args.setting.n in
+    let d = context_of c.args.setting.context in
+    let text = c.args.text.now in
+    faults_so c.scalar.result _ _
+    (λ h. λ w here. h w (at_start n d text w c.args.top.now c.args.at (length c.as_slice.result.now) c.args.events.now here)) c.scalar.ensures.none
+
+pub pass-requires-clause-inside_line : goal.pass-requires-clause-inside_line
+pass-requires-clause-inside_line c = opener_starts c.args.text.now c.args.at c.in-Some.in_seq c.utf8.text c.requires.at c.in-Some.ensures.found
+
+pub returns-clause-line : goal.returns-clause-line
+returns-clause-line c =
+    let text = c.args.text.now in
+    ok_so c.pass.result _ _
+    (λ next h. opener_then text c.args.line.now c.args.at c.in-Some.in_seq c.pass.new.line (place_of next) c.utf8.text c.requires.at c.in-Some.ensures.found h) c.pass.ensures.line
+
+pub returns-clause-stands : goal.returns-clause-stands
+returns-clause-stands c =
+    let n = c.args.setting.n in
+    let d = context_of c.args.setting.context in
+    let text = c.args.text.now in
+    let at = c.args.at in
+    let events = c.args.events.now in
+    let top = c.args.top.now in
+    let opens : Collection = record { reads = flow_node_at n d (line_starts text at) (rest text at); start = at; kept = events } in
+    ok_so c.pass.result _ _
+    (λ next h. λ whole inner around stack here. record {
+      inner = opens;
+      around = inner ∷ around;
+      stack = (
+        c.args.outer.now.items,
+        record top { start = at; before = length c.as_slice.result.now },
+        c.in_ok-push_open.ensures.ok,
+        record { waits = at_start n d text inner top at (length c.as_slice.result.now) events here; start = refl; count = ap length (sym c.as_slice.ensures); node = refl },
+        stack,
+      );
+      stands = h opens c.in_ok-top.field-0 c.begin.new.events
+          (subst (λ s. BeforeGap n d text opens s (at + 1) c.begin.new.events) (sym c.in_ok-top.ensures.kind)
+          (opened n d d text at c.in-Some.in_seq events c.begin.new.events (sym c.requires.inside) c.in-Some.ensures.found (c.in_ok-top.ensures.written text)));
+    }) c.pass.ensures.stands
+
+pub returns-clause-none : goal.returns-clause-none
+returns-clause-none c =
+    let n = c.args.setting.n in
+    let d = context_of c.args.setting.context in
+    let text = c.args.text.now in
+    let at = c.args.at in
+    let events = c.args.events.now in
+    let opens : Collection = record { reads = flow_node_at n d (line_starts text at) (rest text at); start = at; kept = events } in
+    faults_so c.pass.result _ _
+    (λ h. λ w here. node_missing n d text w c.args.top.now at events
+    (h opens c.in-Some.in_seq c.begin.new.events
+    (opened n d d text at c.in-Some.in_seq events c.begin.new.events (sym c.requires.inside) c.in-Some.ensures.found (c.in_ok-top.ensures.written text))) here) c.pass.ensures.none

@@ -1,0 +1,18 @@
+use Rattle.std.proofs.Common.{◌≡◌, true, false, sym, ap, ◌∙◌, arith, refl}
+use Rattle.std.specs.Prelude.{not}
+use Rattle.yaml_chars.specs.Places.{rest}
+use Rattle.yaml_events.specs.Meant.{context_of}
+use Rattle.yaml_recognizers.specs.Ends.{is_colon}
+use Rattle.yaml_flow.specs.Frames.{ends_plain}
+use Rattle.yaml_flow.proofs.Signs.{sign_there}
+use Rattle.yaml_flow.proofs.pair.colon_at.Goals as goal
+
+pub safe_at-requires : goal.safe_at-requires
+safe_at-requires c = (sign_there c.args.text.now c.args.at 58 c.utf8.text c.requires (omega arith) (sym c.stands_at.ensures ∙ c.if-not-stands_at.false)).boundary
+
+pub returns-in-Plain : goal.returns-in-Plain
+returns-in-Plain c =
+    let text = c.args.text.now in
+    let d = context_of c.args.context in
+    let s = sign_there text c.args.at 58 c.utf8.text c.requires (omega arith) (sym c.stands_at.ensures ∙ c.if-not-stands_at.false) in
+    ap not c.safe_at.ensures ∙ (sym (ap (is_colon d true) s.splits) ∙ ap (λ e. is_colon d (ends_plain e) (rest text c.args.at)) (sym c.in-Plain.is))

@@ -1,0 +1,19 @@
+use Rattle.std.proofs.Common.{◌≡◌, ap, false, sym, ◌∙◌, ℕ}
+use Rattle.std.specs.Prelude.{List, [], ◌++◌}
+use Rattle.yaml_grammar.specs.Events.{omitted_at, omitted_style, scalar_event}
+use Rattle.yaml_scan.proofs.Outcomes.{ok_so}
+use Rattle.yaml_flow.specs.FlowNodes.{Appended}
+use Rattle.yaml_flow.specs.Frames.{absent_events, pair_end}
+use Rattle.yaml_flow.proofs.Appends.{appended_as, appended_one, appended_then}
+use Rattle.yaml_flow.proofs.pair.without_value.Goals as goal
+
+pub returns-clause-written : goal.returns-clause-written
+returns-clause-written c =
+    let in_seq = c.args.top.in_seq in
+    let end = c.args.end in
+    ok_so c.close_pair.result _ _
+    (λ next h. λ text. appended_as text c.args.events.now c.close_pair.new.events (omitted_at end ++ pair_end in_seq) _
+    (ap (λ x. absent_events x in_seq end) (sym (sym c.is_single.ensures ∙ c.if-is_single.false)))
+    (appended_then text c.args.events.now c.push.new.events c.close_pair.new.events (omitted_at end) (pair_end in_seq)
+    (appended_one text c.args.events.now c.push.new.events c.omitted.result (scalar_event omitted_style end end []) c.in_ok-push.ensures.ok c.omitted.ensures.event (c.omitted.ensures.borrowed text))
+    (h text))) c.close_pair.ensures.written

@@ -1,0 +1,67 @@
+-- What the scanners of flow nodes find at a place of a text, which counts bytes from 0, and the events that they append.
+use Rattle.std.specs.Prelude.{◌≡◌, ℕ, ◌<◌, ◌≤◌, false, true, List, ◌++◌, length, Some, None}
+use Rattle.std.specs.Cow.{cow_str_bytes, IsBorrowedStr}
+use Rattle.std.specs.List.{All}
+use Rattle.std.specs.Str.{IsCharBoundary, chars}
+use Rattle.yaml_chars.specs.Places.{rest}
+use Rattle.yaml_grammar.specs.Events as grammar
+use Rattle.yaml_grammar.specs.FlowNodes.{Flow, flow_events}
+use Rattle.yaml_grammar.specs.FlowScalars as flow
+use Rattle.yaml_events.specs.declared.event.Event.{Event}
+use Rattle.yaml_events.specs.declared.event.Event.TheVariants.{Scalar}
+use Rattle.yaml_events.specs.Meant.{events_of, style_of}
+use Rattle.yaml_events.specs.Places.{line_starts}
+use Rattle.yaml_recognizers.specs.FlowScalars.{read_scalar}
+use Rattle.yaml_recognizers.specs.Recognizers.{flow_node_at}
+use Rattle.yaml_recognizers.specs.StandingNodes.{IsFlowNode}
+use Rattle.yaml_events.specs.Borrowed.{BorrowsPlain}
+use Rattle.yaml_scan.specs.Places.{unbroken_between}
+use Rattle.yaml_flow.specs.declared.scalar.FlowScalar.{FlowScalar}
+
+-- The new list is the old one and then events with this meaning, of which each plain scalar on one line borrows its value.
+pub record Appended (text : List ℕ) (old new : List Event) (meant : List grammar.Event) : Type 0 where
+  pub more : List Event
+  pub is : new ≡ old ++ more
+  pub means : events_of more ≡ meant
+  pub borrows : All (BorrowsPlain text) more
+
+-- The recognizer finds a flow node between the two places, and its events are appended.
+pub record FlowNodeRead (n : ℕ) (c : flow.FlowContext) (text : List ℕ) (at end : ℕ) (old new : List Event) : Type 0 where
+  pub above : at < end
+  pub boundary : IsCharBoundary text end
+  pub within : end ≤ length text
+  pub inside_line : line_starts text end ≡ false
+  pub node : Flow
+  pub found : flow_node_at n c (line_starts text at) (rest text at) ≡ Some (node, rest text end)
+  pub appended : Appended text old new (flow_events node at)
+
+-- A flow node stands between the two places, each that stands at the first is the same but for its form, and its events are appended.
+pub record FlowNodeIs (n : ℕ) (c : flow.FlowContext) (text : List ℕ) (at end : ℕ) (old new : List Event) : Type 0 where
+  pub node : Flow
+  pub is : IsFlowNode n c (line_starts text at) (rest text at) node (rest text end)
+  pub means : events_of new ≡ events_of old ++ flow_events node at
+
+-- the recognizer finds no flow node at the place
+abbrev pub NoFlowNodeFound : ℕ → flow.FlowContext → List ℕ → ℕ → Type 0
+NoFlowNodeFound n c text at = flow_node_at n c (line_starts text at) (rest text at) ≡ None
+
+-- the event of a flow scalar that starts at the place
+abbrev pub scalar_event_at : ℕ → FlowScalar → Event
+scalar_event_at at found = Scalar found.style (record { start = at; end = found.end }) found.value
+
+-- The recognizer finds this flow scalar at the place.
+pub record FlowScalarRead (n : ℕ) (c : flow.FlowContext) (text : List ℕ) (at : ℕ) (found : FlowScalar) : Type 0 where
+  pub above : at < found.end
+  pub boundary : IsCharBoundary text found.end
+  pub within : found.end ≤ length text
+  pub inside_line : line_starts text found.end ≡ false
+  pub scalar : flow.Scalar
+  pub reads : read_scalar n c (line_starts text at) (rest text at) ≡ Some (scalar, rest text found.end)
+  pub styled : style_of found.style ≡ flow.style_of scalar
+  pub means : chars (cow_str_bytes found.value) ≡ flow.scalar_value scalar
+  pub borrows : BorrowsPlain text (scalar_event_at at found)
+  pub unbroken : IsBorrowedStr found.value → unbroken_between text at found.end ≡ true
+
+-- the recognizer finds no flow scalar at the place
+abbrev pub NoFlowScalar : ℕ → flow.FlowContext → List ℕ → ℕ → Type 0
+NoFlowScalar n c text at = read_scalar n c (line_starts text at) (rest text at) ≡ None

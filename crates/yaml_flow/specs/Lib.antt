@@ -1,0 +1,2 @@
+pub mod FlowNodes
+pub mod Frames

@@ -1,0 +1,401 @@
+// Flow collections, by an explicit stack of open brackets (YAML 1.2.2, 7.4).
+ghost use Rattle.std.specs.Prelude.{◌≡◌, ℕ, Bool, ◌+◌, ◌-◌, ◌*◌, ◌==◌, true, ◌<◌, ◌≤◌, false, List, ◌++◌, [], ◌∷◌, Some, None, length, IfOk, IfErr, OnOk, IfSome, IfNone};
+ghost use Rattle.std.specs.Str.{IsCharBoundary};
+ghost use Rattle.yaml_chars.specs.Places.{rest};
+ghost use Rattle.yaml_grammar.specs.Texts.{first};
+ghost use Rattle.yaml_grammar.specs.FlowScalars.{inside};
+ghost use Rattle.yaml_grammar.specs.FlowNodes.{flow_events};
+ghost use Rattle.yaml_events.specs.Meant.{context_of, event_of, style_of};
+ghost use Rattle.yaml_events.specs.Places.{line_starts, Refuses};
+ghost use Rattle.yaml_recognizers.specs.FlowFrames.{closer};
+ghost use Rattle.yaml_flow.specs.FlowNodes.{Appended, FlowNodeRead, NoFlowNodeFound};
+ghost use Rattle.yaml_flow.specs.Frames.{Collection, Stack, Stands, Waits, AfterQuestion, AtEntry, EventList, Kept, Pushes, ends_plain, is_plain_style, AtNode, EntryRead, BeforeGap, IsBracket, LineMoves, Onward, Passes, bracket_start, bracket_end, left, opener, pair_start, place_of};
+ghost use Rattle.yaml_events.specs.Borrowed.{BorrowsPlain};
+ghost use Rattle.yaml_scan.specs.Gaps.{NoGap};
+
+use crate::pair::plug;
+use yaml_scan::{gap_end, safe_at, stands_at};
+use crate::push::push;
+use crate::scalar::scalar_at;
+use std::alloc::Global;
+use yaml_events::{Event, Events, FlowContext, ScanFault, Style, Why};
+
+/// Which part of an entry is being read.
+#[derive(Clone, Copy)]
+pub(crate) enum Part {
+    /// Its node, without `?`: its key, or in a sequence perhaps all of it.
+    First,
+    /// Its key after `?`.
+    Asked,
+    /// Its value.
+    Value,
+}
+
+/// An open bracket, with what waits in it for the node that is being read.
+#[derive(Clone, Copy)]
+pub(crate) struct Open {
+    /// Whether it is a sequence's.
+    pub(crate) in_seq: bool,
+    pub(crate) part: Part,
+    /// Where that node starts, and how many events stand before it.
+    pub(crate) start: usize,
+    pub(crate) before: usize,
+}
+
+/// What goes for all brackets of one call: the indentation, and the context between them.
+#[derive(Clone, Copy)]
+pub(crate) struct Setting {
+    pub(crate) n: u64,
+    pub(crate) context: FlowContext,
+}
+
+/// How a node ends. It decides which `:` after it is that of a pair.
+#[derive(Clone, Copy)]
+pub(crate) enum NodeEnd {
+    /// As a plain scalar does: a `:` before a safe character would belong to it.
+    Plain,
+    /// By a quote or a bracket.
+    Delimited,
+}
+
+/// Where the reader stands.
+#[derive(Clone, Copy)]
+pub(crate) enum Next {
+    /// The closing bracket, or an entry, may start here.
+    Entry { at: usize },
+    /// The node starts here that the innermost bracket waits for.
+    Node { at: usize },
+    /// An entry is read, and the gap after it.
+    AfterEntry { at: usize },
+    /// The innermost bracket is closed.
+    Closed { end: usize },
+}
+
+pub(crate) fn fault(at: usize, why: Why) -> ScanFault {
+    ScanFault::At { at, why }
+}
+
+fn closing(in_seq: bool) -> u8
+    ensures { result ≡ closer in_seq }
+{
+    if in_seq { b']' } else { b'}' }
+}
+
+fn start_event<'a>(in_seq: bool) -> Event<'a>
+    ensures meant { event_of result ≡ bracket_start in_seq }
+    ensures borrowed { (text : List ℕ) → BorrowsPlain text result }
+{
+    if in_seq { Event::SeqStart } else { Event::MapStart }
+}
+
+fn end_event<'a>(in_seq: bool) -> Event<'a>
+    ensures meant { event_of result ≡ bracket_end in_seq }
+    ensures borrowed { (text : List ℕ) → BorrowsPlain text result }
+{
+    if in_seq { Event::SeqEnd } else { Event::MapEnd }
+}
+
+/// Passes the gap at a place, which may be empty: returns the place after it. Where it goes over lines, `line` is moved after it.
+pub(crate) fn pass_gap(text: &str, at: usize, setting: Setting, line: &mut usize) -> Result<usize, ScanFault>
+    requires { IsCharBoundary text.now at }
+    ensures found { IfOk result (Passes setting.n (context_of setting.context) text.now at) }
+    ensures line { IfOk result (LineMoves text.now line.old at line.new) }
+    ensures none { IfErr result (λ fault. Refuses fault (NoGap setting.n (context_of setting.context) (rest text.now at))) }
+{
+    let gap = gap_end(text, at, setting.n, setting.context)?;
+    if gap.is_over_lines {
+        *line = gap.end;
+    }
+    Ok(gap.end)
+}
+
+/// Passes the gap after an opening bracket or a comma.
+fn pass(text: &str, at: usize, setting: Setting, line: &mut usize) -> Result<Next, ScanFault>
+    requires at { IsCharBoundary text.now at }
+    requires inside_line { line_starts text.now at ≡ false }
+    ensures onward { IfOk result (Onward text.now at) }
+    ensures less { IfOk result (λ next. left text.now next ≤ 2 * (length text.now - at) + 1) }
+    ensures line { IfOk result (λ next. LineMoves text.now line.old at line.new (place_of next)) }
+    ensures stands { IfOk result (λ next. (w : Collection) (top : Open) (events : EventList) → BeforeGap setting.n (context_of setting.context) text.now w top.in_seq at events
+        → Stands setting.n (context_of setting.context) text.now w top next events) }
+    ensures none { IfErr result (λ fault. Refuses fault ((w : Collection) (in_seq : Bool) (events : EventList)
+        → BeforeGap setting.n (context_of setting.context) text.now w in_seq at events → w.reads ≡ None)) }
+{
+    let end = pass_gap(text, at, setting, line)?;
+    Ok(Next::Entry { at: end })
+}
+
+/// Reads the closing bracket, or the front of an entry.
+fn entry(
+    events: &mut Events<'_>,
+    text: &str,
+    at: usize,
+    setting: Setting,
+    top: &mut Open,
+    line: &mut usize,
+) -> Result<Next, ScanFault>
+    requires { IsCharBoundary text.now at }
+    ensures onward { IfOk result (Onward text.now at) }
+    ensures less { IfOk result (λ next. left text.now next < 2 * (length text.now - at) + 1) }
+    ensures line { IfOk result (λ next. LineMoves text.now line.old at line.new (place_of next)) }
+    ensures stands { IfOk result (λ next. (w : Collection) → AtEntry setting.n (context_of setting.context) text.now w top.old.in_seq at events.old
+        → Stands setting.n (context_of setting.context) text.now w top.new next events.new) }
+    ensures none { IfErr result (λ fault. Refuses fault ((w : Collection)
+        → AtEntry setting.n (context_of setting.context) text.now w top.old.in_seq at events.old → w.reads ≡ None)) }
+    ensures kept { (k : ℕ) → Kept k events.old events.new }
+{
+    if stands_at(text, at, closing(top.in_seq)) {
+        push(events, end_event(top.in_seq))?;
+        return Ok(Next::Closed { end: at + 1 });
+    }
+    if !stands_at(text, at, b'?') || safe_at(text, at + 1, setting.context) {
+        top.part = Part::First;
+        return Ok(Next::Node { at });
+    }
+    asked(events, text, at + 1, setting, top, line)
+}
+
+/// Reads what stands between the `?` of an entry and its key.
+fn asked(
+    events: &mut Events<'_>,
+    text: &str,
+    at: usize,
+    setting: Setting,
+    top: &mut Open,
+    line: &mut usize,
+) -> Result<Next, ScanFault>
+    requires at { IsCharBoundary text.now at }
+    requires inside_line { line_starts text.now at ≡ false }
+    ensures onward { IfOk result (Onward text.now at) }
+    ensures less { IfOk result (λ next. left text.now next ≤ 2 * (length text.now - at)) }
+    ensures line { IfOk result (λ next. LineMoves text.now line.old at line.new (place_of next)) }
+    ensures stands { IfOk result (λ next. (w : Collection) → AfterQuestion setting.n (context_of setting.context) text.now w top.old.in_seq at events.old
+        → Stands setting.n (context_of setting.context) text.now w top.new next events.new) }
+    ensures none { IfErr result (λ fault. Refuses fault ((w : Collection)
+        → AfterQuestion setting.n (context_of setting.context) text.now w top.old.in_seq at events.old → w.reads ≡ None)) }
+    ensures kept { (k : ℕ) → Kept k events.old events.new }
+{
+    let key = pass_gap(text, at, setting, line)?;
+    if key == at {
+        return Err(fault(at, Why::OmittedKey));
+    }
+    start_pair(events, top.in_seq)?;
+    top.part = Part::Asked;
+    Ok(Next::Node { at: key })
+}
+
+/// Starts the mapping that a pair of a sequence is.
+fn start_pair(events: &mut Events<'_>, in_seq: bool) -> Result<(), ScanFault>
+    ensures written { OnOk result ((text : List ℕ) → Appended text events.old events.new (pair_start in_seq)) }
+    ensures none { IfErr result (λ fault. Refuses fault ⊥) }
+    ensures kept { (k : ℕ) → Kept k events.old events.new }
+{
+    if in_seq {
+        push(events, Event::MapStart)?;
+    }
+    Ok(())
+}
+
+/// Reads the comma or the closing bracket after an entry and its gap.
+fn after_entry(
+    events: &mut Events<'_>,
+    text: &str,
+    at: usize,
+    setting: Setting,
+    top: Open,
+    line: &mut usize,
+) -> Result<Next, ScanFault>
+    requires { IsCharBoundary text.now at }
+    ensures onward { IfOk result (Onward text.now at) }
+    ensures less { IfOk result (λ next. left text.now next < 2 * (length text.now - at)) }
+    ensures line { IfOk result (λ next. LineMoves text.now line.old at line.new (place_of next)) }
+    ensures stands { IfOk result (λ next. (w : Collection) → EntryRead setting.n (context_of setting.context) text.now w top.in_seq at events.old
+        → Stands setting.n (context_of setting.context) text.now w top next events.new) }
+    ensures none { IfErr result (λ fault. Refuses fault ((w : Collection)
+        → EntryRead setting.n (context_of setting.context) text.now w top.in_seq at events.old → w.reads ≡ None)) }
+    ensures kept { (k : ℕ) → Kept k events.old events.new }
+{
+    if stands_at(text, at, b',') {
+        return pass(text, at + 1, setting, line);
+    }
+    if stands_at(text, at, closing(top.in_seq)) {
+        push(events, end_event(top.in_seq))?;
+        return Ok(Next::Closed { end: at + 1 });
+    }
+    Err(fault(at, Why::Flow))
+}
+
+fn inside(c: FlowContext) -> FlowContext
+    ensures { context_of result ≡ inside (context_of c) }
+{
+    match c {
+        FlowContext::Outer | FlowContext::Inner => FlowContext::Inner,
+        FlowContext::BlockKey | FlowContext::FlowKey => FlowContext::FlowKey,
+    }
+}
+
+/// Returns whether a bracket opens here, and then whether a sequence's.
+pub(crate) fn bracket_at(text: &str, at: usize) -> Option<bool>
+    requires { IsCharBoundary text.now at }
+    ensures found { IfSome result (IsBracket text.now at) }
+    ensures none { IfNone result ((first (λ x. x == 91) (rest text.now at) ≡ false) × (first (λ x. x == 123) (rest text.now at) ≡ false)) }
+{
+    if stands_at(text, at, b'[') {
+        return Some(true);
+    }
+    if stands_at(text, at, b'{') {
+        return Some(false);
+    }
+    None
+}
+
+/// Opens the bracket at a place.
+fn begin(events: &mut Events<'_>, at: usize, in_seq: bool) -> Result<Open, ScanFault>
+    ensures kind { IfOk result (λ top. top.in_seq ≡ in_seq) }
+    ensures written { OnOk result ((text : List ℕ) → Appended text events.old events.new (bracket_start in_seq ∷ [])) }
+    ensures none { IfErr result (λ fault. Refuses fault ⊥) }
+    ensures kept { (k : ℕ) → Kept k events.old events.new }
+{
+    let before = events.as_slice().len();
+    push(events, start_event(in_seq))?;
+    Ok(Open {
+        in_seq,
+        part: Part::First,
+        start: at,
+        before,
+    })
+}
+
+fn push_open(outer: &mut Vec<Open>, top: Open) -> Result<(), ScanFault>
+    ensures ok { OnOk result (outer.new.items ≡ outer.old.items ++ top ∷ []) }
+    ensures none { IfErr result (λ fault. Refuses fault ⊥) }
+{
+    match outer.push(top) {
+        Ok(()) => Ok(()),
+        Err(_) => Err(ScanFault::OutOfMemory),
+    }
+}
+
+/// Reads the node that the innermost bracket waits for, or the bracket that opens it.
+fn node<'a>(
+    alloc: Global,
+    events: &mut Events<'a>,
+    text: &'a str,
+    at: usize,
+    setting: Setting,
+    top: &mut Open,
+    outer: &mut Vec<Open>,
+    line: &mut usize,
+) -> Result<Next, ScanFault>
+    requires at { IsCharBoundary text.now at }
+    requires line { line.old ≤ at }
+    requires inside { inside (context_of setting.context) ≡ context_of setting.context }
+    ensures onward { IfOk result (Onward text.now at) }
+    ensures less { IfOk result (λ next. left text.now next < 2 * (length text.now - at)) }
+    ensures line { IfOk result (λ next. LineMoves text.now line.old at line.new (place_of next)) }
+    ensures opened { OnOk result (Pushes outer.old.items at outer.new.items) }
+    ensures stands { IfOk result (λ next. (whole inner : Collection) (around : List Collection) → Stack setting.n (context_of setting.context) text.now whole around outer.old.items inner
+        → AtNode setting.n (context_of setting.context) text.now inner top.old at events.old
+        → Waits setting.n (context_of setting.context) text.now whole outer.new.items top.new next events.new) }
+    ensures none { IfErr result (λ fault. Refuses fault ((w : Collection)
+        → AtNode setting.n (context_of setting.context) text.now w top.old at events.old → w.reads ≡ None)) }
+    ensures kept { (k : ℕ) → Kept k events.old events.new }
+{
+    if at == text.len() {
+        return Err(fault(at, Why::Flow));
+    }
+    top.start = at;
+    top.before = events.as_slice().len();
+    let Some(in_seq) = bracket_at(text, at) else {
+        return scalar(alloc, events, text, setting, top, line);
+    };
+    push_open(outer, *top)?;
+    *top = begin(events, at, in_seq)?;
+    pass(text, at + 1, setting, line)
+}
+
+/// Reads the scalar at the start of the node that the innermost bracket waits for.
+fn scalar<'a>(
+    alloc: Global,
+    events: &mut Events<'a>,
+    text: &'a str,
+    setting: Setting,
+    top: &mut Open,
+    line: &mut usize,
+) -> Result<Next, ScanFault>
+    requires at { IsCharBoundary text.now top.old.start }
+    requires line { line.old ≤ top.old.start }
+    requires count { top.old.before ≡ length events.old }
+    requires no_seq { first (λ x. x == 91) (rest text.now top.old.start) ≡ false }
+    requires no_map { first (λ x. x == 123) (rest text.now top.old.start) ≡ false }
+    requires inside { inside (context_of setting.context) ≡ context_of setting.context }
+    ensures onward { IfOk result (Onward text.now top.old.start) }
+    ensures less { IfOk result (λ next. left text.now next < 2 * (length text.now - top.old.start)) }
+    ensures line { IfOk result (λ next. LineMoves text.now line.old top.old.start line.new (place_of next)) }
+    ensures stands { IfOk result (λ next. (w : Collection) → AtNode setting.n (context_of setting.context) text.now w top.old top.old.start events.old
+        → Stands setting.n (context_of setting.context) text.now w top.new next events.new) }
+    ensures none { IfErr result (λ fault. Refuses fault ((w : Collection)
+        → AtNode setting.n (context_of setting.context) text.now w top.old top.old.start events.old → w.reads ≡ None)) }
+    ensures kept { (k : ℕ) → Kept k events.old events.new }
+{
+    let start = top.start;
+    let found = scalar_at(alloc, text, start, setting.n, setting.context)?;
+    let end = found.end;
+    let node_end = node_end(found.style);
+    if found.is_over_lines(text, start) {
+        *line = end;
+    }
+    push(events, found.into_event(start))?;
+    plug(events, text, end, node_end, setting, top, line)
+}
+
+fn node_end(style: Style) -> NodeEnd
+    ensures { ends_plain result ≡ is_plain_style (style_of style) }
+{
+    match style {
+        Style::Plain => NodeEnd::Plain,
+        _ => NodeEnd::Delimited,
+    }
+}
+
+/// Reads the collection whose bracket opens at a place: appends its events, and returns the place after it.
+pub(crate) fn collection<'a>(
+    alloc: Global,
+    events: &mut Events<'a>,
+    text: &'a str,
+    at: usize,
+    in_seq: bool,
+    n: u64,
+    c: FlowContext,
+) -> Result<usize, ScanFault>
+    requires at { IsCharBoundary text.now at }
+    requires bracket { IsBracket text.now at in_seq }
+    ensures found { IfOk result (λ end. FlowNodeRead n (context_of c) text.now at end events.old events.new) }
+    ensures none { IfErr result (λ fault. Refuses fault (NoFlowNodeFound n (context_of c) text.now at)) }
+    ensures kept { (k : ℕ) → Kept k events.old events.new }
+{
+    let setting = Setting {
+        n,
+        context: inside(c),
+    };
+    // The brackets around the innermost one, the outermost first.
+    let mut outer: Vec<Open> = Vec::new(alloc);
+    // No break stands between this place and the reader, and in each node that started before it there is one.
+    let mut line = at;
+    let mut top = begin(events, at, in_seq)?;
+    let mut next = pass(text, at + 1, setting, &mut line)?;
+    'nodes: loop {
+        next = match next {
+            Next::Entry { at } => entry(events, text, at, setting, &mut top, &mut line)?,
+            Next::Node { at } => node(alloc, events, text, at, setting, &mut top, &mut outer, &mut line)?,
+            Next::AfterEntry { at } => after_entry(events, text, at, setting, top, &mut line)?,
+            Next::Closed { end } => match outer.pop() {
+                None => return Ok(end),
+                Some(frame) => {
+                    top = frame;
+                    plug(events, text, end, NodeEnd::Delimited, setting, &mut top, &mut line)?
+                }
+            },
+        };
+    }
+}

@@ -1,0 +1,70 @@
+// Flow nodes.
+ghost use Rattle.std.specs.Prelude.{◌≡◌, ℕ, IfOk, IfErr};
+ghost use Rattle.std.specs.Str.{IsCharBoundary};
+ghost use Rattle.yaml_chars.specs.Places.{rest};
+ghost use Rattle.yaml_events.specs.Meant.{context_of};
+ghost use Rattle.yaml_events.specs.Places.{line_starts, Refuses};
+ghost use Rattle.yaml_recognizers.specs.StandingNodes.{NoFlowNode};
+ghost use Rattle.yaml_flow.specs.FlowNodes.{FlowNodeRead, FlowNodeIs, NoFlowNodeFound};
+ghost use Rattle.yaml_flow.specs.Frames.{Kept};
+
+use crate::collection::{bracket_at, collection};
+use crate::push::push;
+use crate::scalar::scalar_at;
+use std::alloc::Global;
+use yaml_events::{Events, FlowContext, ScanFault};
+use yaml_recognizers::flow_nodes::flow_node_stands;
+
+/// Reads the flow node at a place of a text (YAML 1.2.2, 7.4 and 7.5): appends its events, and returns the place after it.
+///
+/// Places count bytes from 0. Further lines of the node are indented by `n` spaces or more; in a key there are none. It fails with
+/// [`ScanFault::At`] exactly where no flow node stands there, and with [`ScanFault::OutOfMemory`] where there is no memory for the
+/// events, a value or the open brackets; the events are then as they were.
+pub fn flow_node<'a>(
+    alloc: Global,
+    events: &mut Events<'a>,
+    text: &'a str,
+    at: usize,
+    n: u64,
+    c: FlowContext,
+) -> Result<usize, ScanFault>
+    requires { IsCharBoundary text.now at }
+    ensures reads { IfOk result (λ end. FlowNodeRead n (context_of c) text.now at end events.old events.new) }
+    ensures only { IfOk result (λ end. FlowNodeIs n (context_of c) text.now at end events.old events.new) }
+    ensures missing { IfErr result (λ fault. Refuses fault (NoFlowNodeFound n (context_of c) text.now at)) }
+    ensures none { IfErr result (λ fault. Refuses fault (NoFlowNode n (context_of c) (line_starts text.now at) (rest text.now at))) }
+    ensures unchanged { IfErr result (λ _. events.new ≡ events.old) }
+{
+    flow_node_stands();
+    let kept = events.as_slice().len();
+    match read_node(alloc, events, text, at, n, c) {
+        Ok(end) => Ok(end),
+        Err(fault) => {
+            events.truncate(kept);
+            Err(fault)
+        }
+    }
+}
+
+/// Reads the flow node at a place; where it fails, events may have been appended.
+fn read_node<'a>(
+    alloc: Global,
+    events: &mut Events<'a>,
+    text: &'a str,
+    at: usize,
+    n: u64,
+    c: FlowContext,
+) -> Result<usize, ScanFault>
+    requires { IsCharBoundary text.now at }
+    ensures reads { IfOk result (λ end. FlowNodeRead n (context_of c) text.now at end events.old events.new) }
+    ensures missing { IfErr result (λ fault. Refuses fault (NoFlowNodeFound n (context_of c) text.now at)) }
+    ensures kept { (k : ℕ) → Kept k events.old events.new }
+{
+    if let Some(in_seq) = bracket_at(text, at) {
+        return collection(alloc, events, text, at, in_seq, n, c);
+    }
+    let found = scalar_at(alloc, text, at, n, c)?;
+    let end = found.end;
+    push(events, found.into_event(at))?;
+    Ok(end)
+}

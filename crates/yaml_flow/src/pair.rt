@@ -1,0 +1,205 @@
+// What follows a node of a flow collection: its entry ends, or a `:` makes it a key (YAML 1.2.2, 7.4.2).
+ghost use Rattle.std.specs.Prelude.{◌≡◌, ℕ, ◌+◌, ◌-◌, ◌*◌, ◌==◌, true, false, not, ◌&&◌, ◌||◌, ◌<◌, ◌≤◌, nat_lt, nat_le, List, ◌++◌, length, None, IfOk, IfErr, OnOk};
+ghost use Rattle.std.specs.Str.{IsCharBoundary};
+ghost use Rattle.yaml_chars.specs.Places.{rest};
+ghost use Rattle.yaml_grammar.specs.Texts.{first};
+ghost use Rattle.yaml_grammar.specs.FlowScalars.{inside};
+ghost use Rattle.yaml_grammar.specs.FlowNodes.{Flow, flow_text, short_key};
+ghost use Rattle.yaml_events.specs.Meant.{context_of};
+ghost use Rattle.yaml_events.specs.Places.{line_starts, Refuses};
+ghost use Rattle.yaml_recognizers.specs.Ends.{is_colon};
+ghost use Rattle.yaml_recognizers.specs.FlowNodes.{ends_entry};
+ghost use Rattle.yaml_flow.specs.FlowNodes.{Appended};
+ghost use Rattle.yaml_flow.specs.Frames.{Collection, Stands, NodeRead, AtColon, BeganPair, Kept, NoPair, absent_events, is_single, is_value, is_value, LineMoves, Onward, SameLine, ends_plain, left, pair_end, place_of};
+ghost use Rattle.yaml_flow.specs.declared.collection.Next.TheVariants.{AfterEntry};
+
+use crate::collection::{Next, NodeEnd, Open, Part, Setting, fault, pass_gap};
+use yaml_scan::{at_most_chars, safe_at, stands_at};
+use crate::push::{insert, omitted, push};
+use yaml_events::{Event, Events, FlowContext, ScanFault, Why};
+
+/// How many characters may stand between the start of a key on one line and its `:` (YAML 1.2.2, 7.4.2 and 8.2.2).
+pub const KEY_LIMIT: usize = 1024;
+
+/// A key is short where with the white space before its `:` it has at most [`KEY_LIMIT`] characters.
+pub fn key_limit()
+    ensures { (key : Flow) (gap : List ℕ) → short_key key gap ≡ nat_le (length (flow_text key ++ gap)) KEY_LIMIT }
+{}
+
+/// Goes on after the node that the innermost bracket waited for, which ends here.
+pub(crate) fn plug(
+    events: &mut Events<'_>,
+    text: &str,
+    end: usize,
+    node_end: NodeEnd,
+    setting: Setting,
+    top: &mut Open,
+    line: &mut usize,
+) -> Result<Next, ScanFault>
+    requires start { IsCharBoundary text.now top.old.start }
+    requires end { IsCharBoundary text.now end }
+    requires order { top.old.start ≤ end }
+    requires count { top.old.before ≤ length events.old }
+    requires inside_line { line_starts text.now end ≡ false }
+    requires line { SameLine text.now line.old top.old.start end }
+    requires inside { inside (context_of setting.context) ≡ context_of setting.context }
+    ensures onward { IfOk result (Onward text.now end) }
+    ensures less { IfOk result (λ next. left text.now next ≤ 2 * (length text.now - end)) }
+    ensures line { IfOk result (λ next. LineMoves text.now line.old end line.new (place_of next)) }
+    ensures stands { IfOk result (λ next. (w : Collection) → NodeRead setting.n (context_of setting.context) text.now w top.old node_end end events.old
+        → Stands setting.n (context_of setting.context) text.now w top.new next events.new) }
+    ensures none { IfErr result (λ fault. Refuses fault ((w : Collection)
+        → NodeRead setting.n (context_of setting.context) text.now w top.old node_end end events.old → w.reads ≡ None)) }
+    ensures kept { (k : ℕ) → k ≤ top.old.before → Kept k events.old events.new }
+{
+    let behind = pass_gap(text, end, setting, line)?;
+    if is_value(top.part) {
+        return close_pair(events, *top, behind);
+    }
+    if !colon_at(text, behind, node_end, setting.context) {
+        return without_value(events, end, behind, *top);
+    }
+    begin_pair(events, text, behind, *top, *line)?;
+    value(events, text, behind, node_end, setting, top, line)
+}
+
+fn is_value(part: Part) -> bool
+    ensures { result ≡ is_value part }
+{
+    match part {
+        Part::First | Part::Asked => false,
+        Part::Value => true,
+    }
+}
+
+/// Returns whether the `:` of a pair stands at a place after its key.
+fn colon_at(text: &str, at: usize, key_end: NodeEnd, context: FlowContext) -> bool
+    requires { IsCharBoundary text.now at }
+    ensures { result ≡ is_colon (context_of context) (ends_plain key_end) (rest text.now at) }
+{
+    if !stands_at(text, at, b':') {
+        return false;
+    }
+    match key_end {
+        NodeEnd::Plain => !safe_at(text, at + 1, context),
+        NodeEnd::Delimited => true,
+    }
+}
+
+/// Ends a pair that is read, with the gap after it.
+fn close_pair(events: &mut Events<'_>, top: Open, behind: usize) -> Result<Next, ScanFault>
+    ensures next { IfOk result (λ next. next ≡ AfterEntry behind) }
+    ensures written { OnOk result ((text : List ℕ) → Appended text events.old events.new (pair_end top.in_seq)) }
+    ensures none { IfErr result (λ fault. Refuses fault ⊥) }
+    ensures kept { (k : ℕ) → Kept k events.old events.new }
+{
+    if top.in_seq {
+        push(events, Event::MapEnd)?;
+    }
+    Ok(Next::AfterEntry { at: behind })
+}
+
+/// Returns whether the node is an entry of a sequence without `?`: it is a pair only where a `:` follows.
+fn is_single(top: Open) -> bool
+    ensures { result ≡ is_single top }
+{
+    match top.part {
+        Part::First => top.in_seq,
+        Part::Asked | Part::Value => false,
+    }
+}
+
+/// Ends an entry whose node, or key, ends at a place with no `:` after it.
+fn without_value(events: &mut Events<'_>, end: usize, behind: usize, top: Open) -> Result<Next, ScanFault>
+    ensures next { IfOk result (λ next. next ≡ AfterEntry behind) }
+    ensures written { OnOk result ((text : List ℕ) → Appended text events.old events.new (absent_events (is_single top) top.in_seq end)) }
+    ensures none { IfErr result (λ fault. Refuses fault ⊥) }
+    ensures kept { (k : ℕ) → Kept k events.old events.new }
+{
+    if is_single(top) {
+        return Ok(Next::AfterEntry { at: behind });
+    }
+    push(events, omitted(end))?;
+    close_pair(events, top, behind)
+}
+
+/// Begins the mapping of a pair in a sequence, once its `:` is seen: the key stands on one line with it, and is short.
+fn begin_pair(events: &mut Events<'_>, text: &str, colon: usize, top: Open, line: usize) -> Result<(), ScanFault>
+    requires start { IsCharBoundary text.now top.start }
+    requires colon { IsCharBoundary text.now colon }
+    requires order { top.start ≤ colon }
+    requires count { top.before ≤ length events.old }
+    ensures begun { OnOk result (BeganPair text.now top line colon events.old events.new) }
+    ensures none { IfErr result (λ fault. Refuses fault (NoPair text.now top line colon)) }
+    ensures kept { (k : ℕ) → k ≤ top.before → Kept k events.old events.new }
+{
+    if !is_single(top) {
+        return Ok(());
+    }
+    if line > top.start || !at_most_chars(text, top.start, colon, KEY_LIMIT) {
+        return Err(fault(top.start, Why::Key));
+    }
+    insert(events, top.before, Event::MapStart)
+}
+
+/// Reads what stands after the `:` of a pair.
+fn value(
+    events: &mut Events<'_>,
+    text: &str,
+    colon: usize,
+    key_end: NodeEnd,
+    setting: Setting,
+    top: &mut Open,
+    line: &mut usize,
+) -> Result<Next, ScanFault>
+    requires at { IsCharBoundary text.now colon }
+    requires stands { first (λ x. x == 58) (rest text.now colon) ≡ true }
+    ensures onward { IfOk result (Onward text.now colon) }
+    ensures less { IfOk result (λ next. left text.now next < 2 * (length text.now - colon)) }
+    ensures line { IfOk result (λ next. LineMoves text.now line.old colon line.new (place_of next)) }
+    ensures stands { IfOk result (λ next. (w : Collection) → AtColon setting.n (context_of setting.context) text.now w top.old.in_seq key_end colon events.old
+        → Stands setting.n (context_of setting.context) text.now w top.new next events.new) }
+    ensures none { IfErr result (λ fault. Refuses fault ((w : Collection)
+        → AtColon setting.n (context_of setting.context) text.now w top.old.in_seq key_end colon events.old → w.reads ≡ None)) }
+    ensures kept { (k : ℕ) → Kept k events.old events.new }
+{
+    let at = pass_gap(text, colon + 1, setting, line)?;
+    if is_left_out(text, colon + 1, at, key_end) {
+        push(events, omitted(colon + 1))?;
+        return close_pair(events, *top, at);
+    }
+    top.part = Part::Value;
+    Ok(Next::Node { at })
+}
+
+/// Returns whether the value is left out after a `:` and the gap from `start` to `at`: the entry ends there, or no gap stands after
+/// a plain key's `:`.
+fn is_left_out(text: &str, start: usize, at: usize, key_end: NodeEnd) -> bool
+    requires { IsCharBoundary text.now at }
+    ensures { result ≡ (ends_entry (rest text.now at) || (ends_plain key_end && not (nat_lt start at))) }
+{
+    if entry_ends(text, at) {
+        return true;
+    }
+    match key_end {
+        NodeEnd::Plain => start >= at,
+        NodeEnd::Delimited => false,
+    }
+}
+
+/// Returns whether an entry ends at a place: at a comma, a closing bracket or the end of the text.
+fn entry_ends(text: &str, at: usize) -> bool
+    requires { IsCharBoundary text.now at }
+    ensures { result ≡ ends_entry (rest text.now at) }
+{
+    if at == text.len() {
+        return true;
+    }
+    if stands_at(text, at, b',') {
+        return true;
+    }
+    if stands_at(text, at, b']') {
+        return true;
+    }
+    stands_at(text, at, b'}')
+}

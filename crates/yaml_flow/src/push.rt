@@ -1,0 +1,47 @@
+// Events that are put into a list of events.
+ghost use Rattle.std.specs.Prelude.{◌≡◌, ℕ, ◌≤◌, List, [], ◌∷◌, ◌++◌, length, insert, OnOk, IfErr};
+ghost use Rattle.yaml_grammar.specs.Events.{scalar_event, omitted_style};
+ghost use Rattle.yaml_events.specs.Meant.{event_of};
+ghost use Rattle.yaml_events.specs.Places.{Refuses};
+ghost use Rattle.yaml_flow.specs.Frames.{Kept};
+ghost use Rattle.yaml_events.specs.Borrowed.{BorrowsPlain};
+
+use std::borrow::CowStr;
+use yaml_events::{Event, Events, ScanFault, Span, Style};
+
+/// Puts an event after all others.
+pub(crate) fn push<'a>(events: &mut Events<'a>, event: Event<'a>) -> Result<(), ScanFault>
+    ensures ok { OnOk result (events.new ≡ events.old ++ event.entry ∷ []) }
+    ensures none { IfErr result (λ fault. Refuses fault ⊥) }
+    ensures kept { (k : ℕ) → Kept k events.old events.new }
+{
+    match events.push(event) {
+        Ok(()) => Ok(()),
+        Err(_) => Err(ScanFault::OutOfMemory),
+    }
+}
+
+/// Puts an event before the one at `at`, counted from 0.
+pub(crate) fn insert<'a>(events: &mut Events<'a>, at: usize, event: Event<'a>) -> Result<(), ScanFault>
+    requires { at ≤ length events.old }
+    ensures ok { OnOk result (events.new ≡ insert events.old at event.entry) }
+    ensures none { IfErr result (λ fault. Refuses fault ⊥) }
+    ensures kept { (k : ℕ) → k ≤ at → Kept k events.old events.new }
+{
+    match events.insert(at, event) {
+        Ok(()) => Ok(()),
+        Err(_) => Err(ScanFault::OutOfMemory),
+    }
+}
+
+/// Returns the event of a node that is left out at a place, which counts bytes from 0: the empty text, in no bytes (YAML 1.2.2, 7.2).
+pub fn omitted<'a>(at: usize) -> Event<'a>
+    ensures event { event_of result ≡ scalar_event omitted_style at at [] }
+    ensures borrowed { (text : List ℕ) → BorrowsPlain text result }
+{
+    Event::Scalar {
+        style: Style::Omitted,
+        span: Span { start: at, end: at },
+        value: CowStr::Borrowed(""),
+    }
+}
