@@ -1,1 +1,3 @@
 pub mod NextClosing
+pub mod Pieces
+pub mod Reading
