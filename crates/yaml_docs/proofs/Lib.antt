@@ -1,1 +1,2 @@
 pub mod ClosingLines
+pub mod PieceSteps

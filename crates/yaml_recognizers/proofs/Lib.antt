@@ -76,6 +76,7 @@ pub mod StreamsDepth
 pub mod Steps
 pub mod BlockFrames
 pub mod EventFronts
+pub mod Ranges
 pub mod StreamExamples
 pub mod StreamEdgeExamples
 -- canonical forms, and the meaning of a text
