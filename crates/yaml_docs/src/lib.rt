@@ -4,7 +4,10 @@
 #![tactic(auto)]
 
 mod closing;
+mod directive;
+mod documents;
 mod fault;
+mod nodes;
 mod read;
 
 pub use closing::next_close;

@@ -1,13 +1,12 @@
 // Reading bytes as a stream of documents.
-ghost use Rattle.std.specs.Prelude.{◌≡◌, ◌<◌, ◌≤◌, ◌↔◌, Err, Some, None, IfOk, IfErr, length};
-ghost use Rattle.std.specs.Str.{chars};
+ghost use Rattle.std.specs.Prelude.{All, ◌≡◌, ◌<◌, ◌≤◌, ◌↔◌, Err, IfOk, IfErr, length};
+ghost use Rattle.yaml_events.specs.Borrowed.{BorrowsPlain};
 ghost use Rattle.yaml_events.specs.Meant.{events_of};
-ghost use Rattle.yaml_events.specs.Places.{Refuses};
 ghost use Rattle.yaml_recognizers.specs.Ranges.{RangesInOrder};
-ghost use Rattle.yaml_docs.specs.Pieces.{stream_meaning};
 ghost use Rattle.yaml_docs.specs.Reading.{ReadsAs, RefusesBytes, IsSyntax};
 
 use crate::ReadFault;
+use crate::documents::stream;
 use std::alloc::Global;
 use yaml_chars::{CharFault, checked, next_break};
 use yaml_events::{Events, ScanFault, Why};
@@ -27,6 +26,7 @@ pub fn events<'a>(alloc: Global, bytes: &'a [u8], max: u64) -> Result<Events<'a>
     ensures reads { IfOk result (λ events. ReadsAs bytes.now max events) }
     ensures too_long { (result ≡ Err ReadFault.TooLong) ↔ (max < length bytes.now) }
     ensures refused { IfErr result (RefusesBytes bytes.now max) }
+    ensures borrowed { IfOk result (λ events. All (BorrowsPlain bytes.now) events) }
     ensures in_order { IfOk result (λ events. RangesInOrder 0 (events_of events) (length bytes.now)) }
 {
     if bytes.len() as u64 > max {
@@ -41,14 +41,6 @@ pub fn events<'a>(alloc: Global, bytes: &'a [u8], max: u64) -> Result<Events<'a>
         Err(ScanFault::At { at, why }) => Err(syntax(text, at, why)),
         Err(ScanFault::OutOfMemory) => Err(ReadFault::OutOfMemory),
     }
-}
-
-/// The events of all documents of `text`.
-fn stream<'a>(alloc: Global, text: &'a str) -> Result<Events<'a>, ScanFault>
-    ensures found { IfOk result (λ events. stream_meaning (chars text.now) ≡ Some (events_of events)) }
-    ensures none { IfErr result (λ fault. Refuses fault (stream_meaning (chars text.now) ≡ None)) }
-{
-    Err(ScanFault::OutOfMemory)
 }
 
 /// The fault at byte `at`, with its line and column.

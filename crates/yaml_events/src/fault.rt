@@ -1,7 +1,7 @@
 // Why a scanner stops.
 ghost use Rattle.std.specs.Prelude.{◌≡◌};
 
-use std::alloc::AllocError;
+use std::alloc::{AllocError, AllocFailed};
 use thiserror::Error;
 
 /// Why no node stands where one is looked for. Which of them a text gets is no promise: it is there to help its writer.
@@ -73,6 +73,17 @@ impl From<AllocError> for ScanFault {
     ghost from_gives = { λ _ fault. fault ≡ OutOfMemory };
 
     fn from(_error: AllocError) -> ScanFault {
+        ScanFault::OutOfMemory
+    }
+}
+
+/// A value that was handed back because there was no memory for it is dropped, so `events.push(event)?` works.
+impl<T: Drop> From<AllocFailed<T>> for ScanFault {
+    ghost use Rattle.yaml_events.specs.declared.fault.ScanFault.TheVariants.{OutOfMemory};
+
+    ghost from_gives = { λ _ fault. fault ≡ OutOfMemory };
+
+    fn from(_failed: AllocFailed<T>) -> ScanFault {
         ScanFault::OutOfMemory
     }
 }

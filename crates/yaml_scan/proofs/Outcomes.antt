@@ -1,0 +1,40 @@
+-- What holds of each outcome of a call, and how a fault that a callee returns is passed on.
+use Rattle.std.proofs.Common.{◌≡◌, Some, None, sym, subst, Ok, Err}
+use Rattle.std.specs.Prelude.{Option, Result, IfOk, IfErr, IfSome, IfNone}
+use Rattle.yaml_events.specs.Places.{Refuses}
+use Rattle.yaml_events.specs.declared.fault.ScanFault.{ScanFault}
+use Rattle.yaml_events.specs.declared.fault.ScanFault.TheVariants.{At, OutOfMemory}
+
+pub refuses : (fault : ScanFault) (P : Type 0) → P → Refuses fault P
+refuses (At at why) P p = p
+refuses OutOfMemory P p = tt
+
+pub refuses_so : (fault : ScanFault) (P Q : Type 0) → (P → Q) → Refuses fault P → Refuses fault Q
+refuses_so (At at why) P Q f h = f h
+refuses_so OutOfMemory P Q f h = h
+
+pub ok_so : {A E : Type 0} (r : Result A E) (P Q : A → Type 0) → ((x : A) → P x → Q x) → IfOk r P → IfOk r Q
+ok_so (Ok x) P Q f h = f x h
+ok_so (Err e) P Q f h = h
+
+pub err_so : {A E : Type 0} (r : Result A E) (P Q : E → Type 0) → ((e : E) → P e → Q e) → IfErr r P → IfErr r Q
+err_so (Ok x) P Q f h = h
+err_so (Err e) P Q f h = f e h
+
+pub fault_passed : {T : Type 0} (r : Result T ScanFault) (fault : ScanFault) (P Q : Type 0) → (P → Q) → Refuses fault P → (y : ScanFault) × (r ≡ Err y) × (y ≡ fault)
+    → IfErr r (λ f. Refuses f Q)
+fault_passed {T} r fault P Q f h w =
+    let M : Result T ScanFault → Type 0 = λ x. IfErr x (λ y. Refuses y Q) in
+    subst M (sym w.1) (subst (λ y. Refuses y Q) (sym w.2) (refuses_so fault P Q f h))
+
+-- a callee's result that is returned as it is
+pub faults_so : {T : Type 0} (r : Result T ScanFault) (P Q : Type 0) → (P → Q) → IfErr r (λ fault. Refuses fault P) → IfErr r (λ fault. Refuses fault Q)
+faults_so r P Q f h = err_so r (λ fault. Refuses fault P) (λ fault. Refuses fault Q) (λ fault. refuses_so fault P Q f) h
+
+pub some_so : {A : Type 0} (r : Option A) (P Q : A → Type 0) → ((x : A) → P x → Q x) → IfSome r P → IfSome r Q
+some_so (Some x) P Q f h = f x h
+some_so None P Q f h = h
+
+pub none_so : {A : Type 0} (r : Option A) (P Q : Type 0) → (P → Q) → IfNone r P → IfNone r Q
+none_so (Some x) P Q f h = h
+none_so None P Q f h = f h

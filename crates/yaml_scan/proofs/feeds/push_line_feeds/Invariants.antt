@@ -1,0 +1,7 @@
+use Rattle.std.proofs.Common.{◌≡◌, ◌++◌}
+use Rattle.std.specs.String.{string_bytes}
+use Rattle.yaml_grammar.specs.FlowScalars.{line_feeds}
+use Rattle.yaml_scan.proofs.feeds.push_line_feeds.Given as goal
+
+abbrev pub invariant-loop : goal.invariant-loop
+invariant-loop l = string_bytes l.value ≡ string_bytes l.initial.value ++ line_feeds l.counter

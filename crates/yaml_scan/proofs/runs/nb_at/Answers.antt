@@ -1,0 +1,14 @@
+use Rattle.std.proofs.Common.{◌<◌, arith, ap, sym, ◌∙◌, get_or, length}
+use Rattle.yaml_chars.specs.Classes.{nb}
+use Rattle.yaml_scan.specs.Places.{nb_byte}
+use Rattle.yaml_scan.proofs.ByteRuns.{first_at_end, nb_by_byte}
+use Rattle.yaml_scan.proofs.runs.nb_at.Goals as goal
+
+pub returns-then-at-bytes-clause-none : goal.returns-then-at-bytes-clause-none
+returns-then-at-bytes-clause-none c = first_at_end nb c.args.text.now c.args.at (omega (arith, c.as_bytes-bytes.ensures.len))
+
+pub returns-then-is_nb_byte-clause-found : goal.returns-then-is_nb_byte-clause-found
+returns-then-is_nb_byte-clause-found c =
+    let within = c.requires.0 in
+    let l : c.args.at < length c.args.text.now = omega (arith, c.as_bytes-bytes.ensures.len, c.if-at-bytes.false) in
+    nb_by_byte c.args.text.now c.args.at c.utf8.text l (ap (λ x. nb_byte (get_or x c.args.at 0)) (sym c.as_bytes-bytes.ensures.value) ∙ sym c.is_nb_byte.ensures ∙ c.if-is_nb_byte.true)

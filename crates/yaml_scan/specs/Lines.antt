@@ -1,0 +1,51 @@
+-- The end of a line, and the next line that is not white space or a comment (YAML 1.2.2, 6.6 and 6.7).
+use Rattle.std.specs.Prelude.{◌≡◌, ℕ, ◌<◌, ◌≤◌, Bool, true, false, if◌then◌else◌, List, [], ◌++◌, Option, Some}
+use Rattle.std.proofs.Math.Logic.{◌⊎◌}
+use Rattle.std.specs.Str.{IsCharBoundary}
+use Rattle.yaml_chars.specs.Classes.{nb}
+use Rattle.yaml_chars.specs.Places.{rest, between}
+use Rattle.yaml_grammar.specs.Separation.{LineEnd, comment_text}
+use Rattle.yaml_grammar.specs.Texts.{first, optional}
+use Rattle.yaml_events.specs.Places.{line_starts}
+use Rattle.yaml_recognizers.specs.CanonicalComments.{hash, is_line_end}
+use Rattle.yaml_recognizers.specs.Comments.{read_stop, stopped, read_line_end, all_comments}
+use Rattle.yaml_recognizers.specs.Fronts.{dropped, past}
+use Rattle.yaml_scan.specs.Places.{AreSpaces}
+use Rattle.yaml_scan.specs.declared.lines.Line.{Line}
+
+-- a line starts at the place, or the text ends there
+abbrev pub IsLineStart : List ℕ → ℕ → Type 0
+IsLineStart text at = (line_starts text at ≡ true) ⊎ (rest text at ≡ [])
+
+-- what is left after a comment, which may be missing
+abbrev pub past_comment : List ℕ → List ℕ
+past_comment text = if first hash text then dropped nb (past text) else text
+
+pub record IsCommentEnd (text : List ℕ) (at end : ℕ) : Type 0 where
+  pub above : at ≤ end
+  pub boundary : IsCharBoundary text end
+  pub leaves : past_comment (rest text at) ≡ rest text end
+
+-- White space and perhaps a comment stand between the two places, so that the line ends where a break or the text's end follows.
+pub record IsContentEnd (bol : Bool) (text : List ℕ) (at end : ℕ) : Type 0 where
+  pub blank : List ℕ
+  pub comment : Option (List ℕ)
+  pub reads : read_line_end bol (rest text at) ≡ stopped blank comment (read_stop (rest text end))
+  pub spells : between text at end ≡ blank ++ optional comment_text comment
+
+-- The end of a line: white space, perhaps a comment, and a break or the end of the text, not all empty. Here bol tells whether a
+-- comment may stand at the place itself.
+pub record IsLineEnd (bol : Bool) (text : List ℕ) (at end : ℕ) : Type 0 where
+  pub above : at < end
+  pub boundary : IsCharBoundary text end
+  pub line_end : LineEnd
+  pub reads : read_line_end bol (rest text at) ≡ Some (line_end, rest text end)
+  pub starts : IsLineStart text end
+
+-- The line after all comments from a place on, and where its spaces end.
+pub record IsSolidLine (bol : Bool) (text : List ℕ) (at : ℕ) (line : Line) : Type 0 where
+  pub above : at ≤ line.start
+  pub boundary : IsCharBoundary text line.start
+  pub leaves : (all_comments bol (rest text at)).1 ≡ rest text line.start
+  pub solid : is_line_end (rest text line.start) ≡ false
+  pub spaces : AreSpaces text line.start line.first

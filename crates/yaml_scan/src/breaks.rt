@@ -1,0 +1,132 @@
+// Breaks, the starts of lines, and what stands between two places.
+ghost use Rattle.std.specs.Prelude.{◌≡◌, ◌≤◌, ◌↔◌, not, nat_le, None, IsTrue, IfSome, IfNone, length};
+ghost use Rattle.std.specs.Str.{IsCharBoundary, chars};
+ghost use Rattle.yaml_chars.specs.Classes.{line_break};
+ghost use Rattle.yaml_chars.specs.Places.{rest, between};
+ghost use Rattle.yaml_events.specs.Places.{line_starts};
+ghost use Rattle.yaml_recognizers.specs.Comments.{read_break, read_stop};
+ghost use Rattle.yaml_scan.specs.Places.{IsBreak, IsStop, byte_order_mark, unbroken_between};
+
+/// Returns the end of the break at `at`: a line feed, a carriage return, or both in this order (5.4, `b-break`). Returns None
+/// where no break stands.
+pub fn break_end(text: &str, at: usize) -> Option<usize>
+    requires { IsCharBoundary text.now at }
+    ensures found { IfSome result (IsBreak text.now at) }
+    ensures none { IfNone result (read_break (rest text.now at) ≡ None) }
+{
+    let bytes = text.as_bytes();
+    if at == bytes.len() {
+        return None;
+    }
+    if bytes[at] == b'\n' {
+        return Some(at + 1);
+    }
+    if bytes[at] != b'\r' {
+        return None;
+    }
+    let next = at + 1;
+    if next == bytes.len() {
+        return Some(next);
+    }
+    if bytes[next] != b'\n' {
+        return Some(next);
+    }
+    Some(next + 1)
+}
+
+/// How a line ends.
+#[derive(Clone, Copy, Debug, PartialEq, Eq)]
+pub struct Stop {
+    /// Whether a break ends it, and not the end of the text.
+    pub has_break: bool,
+    /// The place after it.
+    pub next: usize,
+}
+
+/// Returns how a line ends at `at`: by a break or by the end of the text. Returns None where neither is.
+pub fn stop_at(text: &str, at: usize) -> Option<Stop>
+    requires { IsCharBoundary text.now at }
+    ensures found { IfSome result (λ stop. IsStop text.now at stop.has_break stop.next) }
+    ensures none { IfNone result (read_stop (rest text.now at) ≡ None) }
+{
+    if let Some(next) = break_end(text, at) {
+        return Some(Stop {
+            has_break: true,
+            next,
+        });
+    }
+    if at < text.len() {
+        return None;
+    }
+    Some(Stop {
+        has_break: false,
+        next: at,
+    })
+}
+
+fn is_break(byte: u8) -> bool
+    ensures { result ≡ line_break byte }
+{
+    matches!(byte, b'\n' | b'\r')
+}
+
+/// Returns whether a line starts at `at`: at the front of the text, after a byte order mark there, or after a break.
+pub fn line_starts(text: &str, at: usize) -> bool
+    requires { IsCharBoundary text.now at }
+    ensures { result ≡ line_starts text.now at }
+{
+    if at == 0 {
+        return true;
+    }
+    let bytes = text.as_bytes();
+    if is_break(bytes[at - 1]) {
+        return true;
+    }
+    is_byte_order_mark(&text[..at])
+}
+
+fn is_byte_order_mark(text: &str) -> bool
+    ensures { IsTrue result ↔ (text.now ≡ byte_order_mark) }
+{
+    text == "\u{feff}"
+}
+
+/// Returns whether a break stands between two places. Each byte between them is looked at once, up to the first break.
+pub fn has_break(text: &str, from: usize, to: usize) -> bool
+    requires order { from ≤ to }
+    requires from { IsCharBoundary text.now from }
+    requires to { IsCharBoundary text.now to }
+    ensures { result ≡ not (unbroken_between text.now from to) }
+{
+    let bytes = text.as_bytes();
+    for at in from..to {
+        if is_break(bytes[at]) {
+            return true;
+        }
+    }
+    false
+}
+
+/// Returns whether at most `limit` characters stand between two places. They are counted only where the number of bytes does
+/// not decide.
+pub fn at_most_chars(text: &str, from: usize, to: usize, limit: usize) -> bool
+    requires order { from ≤ to }
+    requires from { IsCharBoundary text.now from }
+    requires to { IsCharBoundary text.now to }
+    ensures { result ≡ nat_le (length (between text.now from to)) limit }
+{
+    let len = to - from;
+    if len <= limit {
+        return true;
+    }
+    if len / 4 > limit {
+        return false;
+    }
+    count_chars(&text[from..to]) <= limit
+}
+
+fn count_chars(text: &str) -> usize
+    ensures { result ≡ length (chars text.now) }
+{
+    text.chars().count()
+}

@@ -1,0 +1,16 @@
+// Line feeds in the value of a scalar.
+ghost use Rattle.std.specs.Prelude.{◌≡◌, ◌++◌, OnOk};
+ghost use Rattle.std.specs.String.{string_bytes};
+ghost use Rattle.yaml_grammar.specs.FlowScalars.{line_feeds};
+
+use std::alloc::AllocError;
+
+/// Appends so many line feeds to a value. If it runs out of memory, the value may have some of them.
+pub fn push_line_feeds(value: &mut String, count: usize) -> Result<(), AllocError>
+    ensures { OnOk result (string_bytes value.new ≡ string_bytes value.old ++ line_feeds count) }
+{
+    for _ in 0..count {
+        value.push('\n')?;
+    }
+    Ok(())
+}

@@ -1,0 +1,20 @@
+//! What a scanner of YAML 1.2.2 asks about a place of a text: white space, breaks, signs, markers, comments and gaps.
+//!
+//! A place counts the bytes of a text from 0, and is on a boundary of a character; the end of the text is such a place. The
+//! contracts speak of the characters from a place on, in the words of the recognizers of `yaml_recognizers`. Lemmas that lead from
+//! bytes to those words are in `proofs/`. No call but [`push_line_feeds`] allocates.
+#![tactic(auto)]
+
+mod breaks;
+mod feeds;
+mod lines;
+mod runs;
+mod signs;
+
+pub use breaks::{Stop, at_most_chars, break_end, has_break, line_starts, stop_at};
+pub use feeds::push_line_feeds;
+pub use lines::{Line, comment_line_end, line_after, rest_of_line_end, solid_line};
+pub use runs::{is_white, nb_at, nb_end, spaces_end, white_end};
+pub use signs::{
+    Marker, is_marker, is_marker_of, ns_at, safe_at, sign_at, solid_at, stands_at, white_at,
+};

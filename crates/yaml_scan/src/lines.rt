@@ -1,0 +1,118 @@
+// The ends of lines, and lines of comments.
+ghost use Rattle.std.specs.Prelude.{◌≡◌, ◌≤◌, Bool, true, false, [], None, IfSome, IfNone};
+ghost use Rattle.std.specs.Str.{IsCharBoundary};
+ghost use Rattle.yaml_chars.specs.Places.{rest};
+ghost use Rattle.yaml_recognizers.specs.Comments.{read_line_end, all_comments, closes_line};
+ghost use Rattle.yaml_scan.specs.Lines.{IsLineStart, IsCommentEnd, IsLineEnd, IsContentEnd, IsSolidLine};
+
+use crate::breaks::stop_at;
+use crate::runs::{nb_end, spaces_end, white_end};
+use crate::signs::{solid_at, stands_at};
+
+/// A line that holds more than white space and a comment, or the end of the text.
+#[derive(Clone, Copy, Debug, PartialEq, Eq)]
+pub struct Line {
+    /// Where it starts.
+    pub start: usize,
+    /// Where its spaces end.
+    pub first: usize,
+}
+
+/// Returns the end of the comment at `at`, its break not included, or `at` where no `#` stands.
+fn comment_end(text: &str, at: usize) -> usize
+    requires { IsCharBoundary text.now at }
+    ensures { IsCommentEnd text.now at result }
+{
+    if !stands_at(text, at, b'#') {
+        return at;
+    }
+    nb_end(text, at + 1)
+}
+
+/// Returns the end of the line that starts at `at` if it holds nothing but white space and a comment (6.6, `l-comment`): the place
+/// after its break, or the end of the text. Returns None where it holds more, and at the end of the text.
+pub fn comment_line_end(text: &str, at: usize) -> Option<usize>
+    requires { IsCharBoundary text.now at }
+    ensures found { IfSome result (IsLineEnd true text.now at) }
+    ensures none { IfNone result (read_line_end true (rest text.now at) ≡ None) }
+{
+    let content = comment_end(text, white_end(text, at));
+    after_content(text, at, content)
+}
+
+/// Returns the end of the line of a part that ends at `at`, if nothing but white space and, after white space, a comment follows it
+/// there (6.6, `s-b-comment`): the place after its break, or the end of the text. Returns None where more follows, and at the end
+/// of the text.
+pub fn rest_of_line_end(text: &str, at: usize) -> Option<usize>
+    requires { IsCharBoundary text.now at }
+    ensures found { IfSome result (IsLineEnd false text.now at) }
+    ensures none { IfNone result (read_line_end false (rest text.now at) ≡ None) }
+{
+    let white = white_end(text, at);
+    let content = if white > at {
+        comment_end(text, white)
+    } else {
+        white
+    };
+    after_content(text, at, content)
+}
+
+/// Returns the place after the break at `content`, or the end of the text, unless this is `at`. Returns None where neither
+/// stands there.
+fn after_content(text: &str, at: usize, content: usize) -> Option<usize>
+    requires at { IsCharBoundary text.now at }
+    requires content { IsCharBoundary text.now content }
+    requires order { at ≤ content }
+    ensures found { IfSome result (λ end. (bol : Bool) → IsContentEnd bol text.now at content → IsLineEnd bol text.now at end) }
+    ensures none { IfNone result ((bol : Bool) → IsContentEnd bol text.now at content → read_line_end bol (rest text.now at) ≡ None) }
+{
+    let Some(stop) = stop_at(text, content) else {
+        return None;
+    };
+    if stop.next == at {
+        return None;
+    }
+    Some(stop.next)
+}
+
+/// Returns the first line from the line at `at` on that holds more than white space and a comment, or the end of the text (6.7,
+/// `s-l-comments`). A line starts at `at`, or the text ends there. Each line before it is read once.
+pub fn solid_line(text: &str, at: usize) -> Line
+    requires { IsCharBoundary text.now at }
+    ensures found { IsSolidLine true text.now at result }
+    ensures starts { IsLineStart text.now at → IsLineStart text.now result.start }
+{
+    let mut start = at;
+    'lines: loop {
+        let first = spaces_end(text, start);
+        if solid_at(text, first) {
+            return Line { start, first };
+        }
+        let Some(next) = comment_line_end(text, start) else {
+            return Line { start, first };
+        };
+        start = next;
+    }
+}
+
+/// Returns the first line after a part that ends at `at` that holds more than white space and a comment, or the end of the text
+/// (6.7, `s-l-comments`). Returns None where anything but white space and a comment follows the part on its line.
+pub fn line_after(text: &str, at: usize) -> Option<Line>
+    requires { IsCharBoundary text.now at }
+    ensures found { IfSome result (IsSolidLine false text.now at) }
+    ensures starts { IfSome result (λ line. IsLineStart text.now line.start) }
+    ensures closes { IfSome result (λ line. closes_line (all_comments false (rest text.now at)) ≡ true) }
+    ensures none { IfNone result (closes_line (all_comments false (rest text.now at)) ≡ false) }
+    ensures no_comments { IfNone result (all_comments false (rest text.now at) ≡ ([], rest text.now at)) }
+{
+    if let Some(next) = rest_of_line_end(text, at) {
+        return Some(solid_line(text, next));
+    }
+    if at < text.len() {
+        return None;
+    }
+    Some(Line {
+        start: at,
+        first: at,
+    })
+}

@@ -1,0 +1,90 @@
+// Runs of characters from a place on.
+ghost use Rattle.std.specs.Prelude.{◌≡◌, false, IfSome, IfNone};
+ghost use Rattle.std.specs.Str.{IsCharBoundary};
+ghost use Rattle.yaml_chars.specs.Classes.{nb, space, white};
+ghost use Rattle.yaml_chars.specs.Places.{rest, IsRun};
+ghost use Rattle.yaml_grammar.specs.Texts.{first};
+ghost use Rattle.yaml_scan.specs.Places.{AreSpaces, AreTaken, IsNb, nb_byte};
+
+/// Returns whether a byte is the space or a tab (5.5, `s-white`).
+pub fn is_white(byte: u8) -> bool
+    ensures { result ≡ white byte }
+{
+    matches!(byte, b' ' | b'\t')
+}
+
+/// Returns the end of the white space at `at`, spaces and tabs (5.5, `s-white`).
+pub fn white_end(text: &str, at: usize) -> usize
+    requires { IsCharBoundary text.now at }
+    ensures run { IsRun white text.now at result }
+    ensures taken { AreTaken white text.now at result }
+{
+    let bytes = text.as_bytes();
+    let mut end = at;
+    while end < bytes.len() && is_white(bytes[end]) {
+        end += 1;
+    }
+    end
+}
+
+fn is_space(byte: u8) -> bool
+    ensures { result ≡ space byte }
+{
+    matches!(byte, b' ')
+}
+
+/// Returns the end of the spaces at `at` (6.1, `s-indent`).
+pub fn spaces_end(text: &str, at: usize) -> usize
+    requires { IsCharBoundary text.now at }
+    ensures { AreSpaces text.now at result }
+{
+    let bytes = text.as_bytes();
+    let mut end = at;
+    while end < bytes.len() && is_space(bytes[end]) {
+        end += 1;
+    }
+    end
+}
+
+/// Returns whether a byte is by itself a character that a line may hold.
+fn is_nb_byte(byte: u8) -> bool
+    ensures { result ≡ nb_byte byte }
+{
+    matches!(byte, b' '..=b'~' | b'\t')
+}
+
+/// Returns the end of the character at `at` if a line may hold it (5.4, `nb-char`), and None otherwise.
+pub fn nb_at(text: &str, at: usize) -> Option<usize>
+    requires { IsCharBoundary text.now at }
+    ensures found { IfSome result (IsNb text.now at) }
+    ensures none { IfNone result (first nb (rest text.now at) ≡ false) }
+{
+    let bytes = text.as_bytes();
+    if at == bytes.len() {
+        return None;
+    }
+    if is_nb_byte(bytes[at]) {
+        return Some(at + 1);
+    }
+    let Some((character, len)) = yaml_chars::next_char(text, at) else {
+        return None;
+    };
+    if !yaml_chars::nb(character) {
+        return None;
+    }
+    Some(at + len)
+}
+
+/// Returns the end of the characters at `at` that a line may hold (5.4, `nb-char`).
+pub fn nb_end(text: &str, at: usize) -> usize
+    requires { IsCharBoundary text.now at }
+    ensures { AreTaken nb text.now at result }
+{
+    let mut end = at;
+    'characters: loop {
+        let Some(next) = nb_at(text, end) else {
+            return end;
+        };
+        end = next;
+    }
+}

@@ -1,0 +1,156 @@
+// Single signs and markers at a place.
+ghost use Rattle.std.specs.Prelude.{◌≡◌, ◌<◌};
+ghost use Rattle.std.specs.Str.{IsCharBoundary};
+ghost use Rattle.yaml_chars.specs.Classes.{ns, white};
+ghost use Rattle.yaml_chars.specs.Places.{rest};
+ghost use Rattle.yaml_events.specs.Meant.{context_of};
+ghost use Rattle.yaml_grammar.specs.FlowScalars.{safe};
+ghost use Rattle.yaml_grammar.specs.Texts.{first, marker};
+ghost use Rattle.yaml_recognizers.specs.Ends.{solid};
+ghost use Rattle.yaml_recognizers.specs.Fronts.{sign};
+ghost use Rattle.yaml_recognizers.specs.Streams.{mark_at};
+ghost use Rattle.yaml_scan.specs.Markers.{sign_of};
+ghost use Rattle.yaml_scan.specs.Places.{is_sign, ends_word_byte};
+
+use crate::runs::is_white;
+use yaml_chars::{flow_indicator, next_char};
+use yaml_events::FlowContext;
+
+/// Returns whether this ASCII character stands at `at`.
+pub fn stands_at(text: &str, at: usize, character: u8) -> bool
+    requires at { IsCharBoundary text.now at }
+    requires ascii { character < 128 }
+    ensures { result ≡ first (is_sign character) (rest text.now at) }
+{
+    let bytes = text.as_bytes();
+    at < bytes.len() && bytes[at] == character
+}
+
+/// Returns whether white space stands at `at` (5.5, `s-white`).
+pub fn white_at(text: &str, at: usize) -> bool
+    requires { IsCharBoundary text.now at }
+    ensures { result ≡ first white (rest text.now at) }
+{
+    let bytes = text.as_bytes();
+    at < bytes.len() && is_white(bytes[at])
+}
+
+fn is_solid(byte: u8) -> bool
+    ensures { result ≡ solid byte }
+{
+    !matches!(byte, b' ' | b'\t' | b'\n' | b'\r' | b'#')
+}
+
+/// Returns whether a character stands at `at` that is neither white space, a break nor `#`.
+pub fn solid_at(text: &str, at: usize) -> bool
+    requires { IsCharBoundary text.now at }
+    ensures { result ≡ first solid (rest text.now at) }
+{
+    let bytes = text.as_bytes();
+    at < bytes.len() && is_solid(bytes[at])
+}
+
+/// Returns whether a character stands at `at` that is printable, no white space and no break (5.5, `ns-char`).
+pub fn ns_at(text: &str, at: usize) -> bool
+    requires { IsCharBoundary text.now at }
+    ensures { result ≡ first ns (rest text.now at) }
+{
+    match next_char(text, at) {
+        Some((character, _)) => yaml_chars::ns(character),
+        None => false,
+    }
+}
+
+/// Returns whether this sign stands at `at`, and no `ns-char` after it: `-`, `?` and `:` of a block collection (8.2).
+pub fn sign_at(text: &str, at: usize, character: u8) -> bool
+    requires at { IsCharBoundary text.now at }
+    requires ascii { character < 128 }
+    ensures { result ≡ sign character (rest text.now at) }
+{
+    if !stands_at(text, at, character) {
+        return false;
+    }
+    !ns_at(text, at + 1)
+}
+
+/// Returns whether a character stands at `at` that is safe in a plain scalar in this context (7.3.3, `ns-plain-safe`).
+pub fn safe_at(text: &str, at: usize, context: FlowContext) -> bool
+    requires { IsCharBoundary text.now at }
+    ensures { result ≡ first (safe (context_of context)) (rest text.now at) }
+{
+    match next_char(text, at) {
+        Some((character, _)) => is_safe(character, context),
+        None => false,
+    }
+}
+
+fn is_safe(character: char, context: FlowContext) -> bool
+    ensures { result ≡ safe (context_of context) character }
+{
+    match context {
+        FlowContext::Outer | FlowContext::BlockKey => yaml_chars::ns(character),
+        FlowContext::Inner | FlowContext::FlowKey => {
+            yaml_chars::ns(character) && !flow_indicator(character)
+        }
+    }
+}
+
+/// Returns whether a marker begins at `at`: `---` or `...` before white space, a break or the end of the text (9.1.2,
+/// `c-forbidden`). It is a marker only where a line starts, which this does not ask.
+pub fn is_marker(text: &str, at: usize) -> bool
+    requires { IsCharBoundary text.now at }
+    ensures { result ≡ marker (rest text.now at) }
+{
+    is_marker_of(text, at, Marker::DirectivesEnd) || is_marker_of(text, at, Marker::DocumentEnd)
+}
+
+/// A marker of a document (9.1.1, 9.1.2).
+#[derive(Clone, Copy, Debug, PartialEq, Eq)]
+pub enum Marker {
+    /// `---`, after the directives (`c-directives-end`).
+    DirectivesEnd,
+    /// `...`, after a document (`c-document-end`).
+    DocumentEnd,
+}
+
+/// Returns whether this marker begins at `at`: its three signs before white space, a break or the end of the text. It is a
+/// marker only where a line starts, which this does not ask.
+pub fn is_marker_of(text: &str, at: usize, marker: Marker) -> bool
+    requires { IsCharBoundary text.now at }
+    ensures { result ≡ mark_at (sign_of marker) (rest text.now at) }
+{
+    let sign = marker_sign(marker);
+    let bytes = text.as_bytes();
+    if bytes.len() - at < 3 {
+        return false;
+    }
+    if bytes[at] != sign {
+        return false;
+    }
+    if bytes[at + 1] != sign {
+        return false;
+    }
+    if bytes[at + 2] != sign {
+        return false;
+    }
+    let end = at + 3;
+    if end == bytes.len() {
+        return true;
+    }
+    ends_word(bytes[end])
+}
+
+fn marker_sign(marker: Marker) -> u8
+    ensures { result ≡ sign_of marker }
+{
+    match marker {
+        Marker::DirectivesEnd => b'-',
+        Marker::DocumentEnd => b'.',
+    }
+}
+
+fn ends_word(byte: u8) -> bool
+    ensures { result ≡ ends_word_byte byte }
+{
+    matches!(byte, b' ' | b'\t' | b'\n' | b'\r')
+}
