@@ -1,6 +1,6 @@
 -- The `%YAML` directive at a place of a text, from its parts.
 use Rattle.std.proofs.Common.{ap, append_assoc, arith, inl, inr, length, refl, subst, sym, ◌∙◌, ◌≡◌}
-use Rattle.std.specs.Prelude.{Bool, List, None, Some, [], codes, drop, false, if◌then◌else◌, not, true, ℕ, ◌++◌, ◌+◌, ◌∷◌}
+use Rattle.std.specs.Prelude.{Bool, IfSome, List, None, Option, Some, [], codes, drop, false, if◌then◌else◌, not, true, ℕ, ◌++◌, ◌+◌, ◌∷◌}
 use Rattle.std.specs.Str.{IsCharBoundary, IsUtf8}
 use Rattle.std.proofs.lemmas.Bool.{false≢true}
 use Rattle.std.proofs.lemmas.Str.{len_utf8_bounds}
@@ -115,6 +115,10 @@ module _ (bs : List ℕ) (at : ℕ) (u : IsUtf8 bs) (b : IsCharBoundary bs at) (
         version_there false (codes "1.2") (version + 3) refl (place_after bs version (codes "1.2") (drop 3 (rest bs version)) u white_is.boundary e) e n (second_read (rest bs version) w v)
 
 -- ---- the comments after a version
+
+pub some_by_three : {A : Type 0} (r : Option A) (P Q R S : A → Type 0) → ((x : A) → P x → Q x → R x → S x) → IfSome r P → IfSome r Q → IfSome r R → IfSome r S
+some_by_three (Some x) P Q R S f p q t = f x p q t
+some_by_three None P Q R S f p q t = p
 
 pub none_open : (bs : List ℕ) (at end : ℕ) → IsVersion bs at end → closes_line (all_comments false (rest bs end)) ≡ false → NoDirective (rest bs at)
 none_open bs at end v h = λ node_at. v.reads node_at ∙ rw h refl

@@ -219,7 +219,13 @@ directed_piece bs at old new end r =
       appends = r.appends;
     }
 
--- ---- behind a directive
+pub explicit_none : (text : List ℕ) → read_explicit document_node_at text ≡ None → read_as ExplicitPiece text ≡ None
+explicit_none text h = rw h refl
+
+pub directed_none : (text : List ℕ) → read_directed document_node_at text ≡ None → read_as Directed text ≡ None
+directed_none text h = ap (λ (x : Read Document). on x (λ d behind. Some (document d, behind))) h
+
+-- ---- after a directive
 
 pub document_found : (bs : List ℕ) (at : ℕ) (line : Line) (old new : List Event) (end : ℕ) → IsDirective bs at line → ExplicitRead bs line.start old new end → DocumentRead bs at old new end
 document_found bs at line old new end d r =

@@ -4,3 +4,7 @@ pub mod PieceCases
 pub mod TextPlaces
 pub mod DocumentSteps
 pub mod DirectiveSteps
+pub mod MarkEnds
+pub mod Words
+pub mod StreamSteps
+pub mod Readings

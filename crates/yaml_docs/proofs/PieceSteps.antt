@@ -22,7 +22,7 @@ use Rattle.yaml_recognizers.proofs.LineStarts.{byte_len_joined, line_not_end, li
 use Rattle.yaml_recognizers.proofs.Reading.{Sound, sound_is}
 use Rattle.yaml_recognizers.proofs.ScalarsInNodes.{reads_scalars}
 use Rattle.yaml_recognizers.proofs.Steps.{pieces_steps}
-use Rattle.yaml_recognizers.proofs.StreamsComplete.{piece_some}
+use Rattle.yaml_recognizers.proofs.StreamsComplete.{piece_long, piece_some}
 use Rattle.yaml_recognizers.proofs.StreamsSound.{PieceOf, piece_sound}
 use Rattle.yaml_docs.specs.Pieces.{and_then, pieces_meaning}
 
@@ -36,6 +36,9 @@ piece_is opened text rest p h = sound_is (PieceOf opened true text) (piece_at op
 
 pub piece_spells : (opened : Bool) (text rest : List ℕ) (p : Piece) → piece_at opened true text ≡ Some (p, rest) → text ≡ piece_text p ++ rest
 piece_spells opened text rest p h = (piece_is opened text rest p h).0
+
+pub piece_filled : (opened : Bool) (text rest : List ℕ) (p : Piece) → piece_at opened true text ≡ Some (p, rest) → 1 ≤ length (piece_text p)
+piece_filled opened text rest p h = piece_long p opened true rest (piece_is opened text rest p h).1
 
 -- ---- further pieces
 

@@ -51,6 +51,13 @@ read_as Explicit text = on (read_explicit document_node_at text) (λ x behind. S
 read_as Directed text = on (read_directed document_node_at text) (λ d behind. Some (flat.document d, behind))
 read_as Bare text = on (document_node_at true text) (λ n behind. Some (flat.document (bare n), behind))
 
+-- a bare document or a directive may follow such a piece
+abbrev pub ends_document : Piece → Bool
+ends_document Suffix = true
+ends_document Explicit = false
+ends_document Directed = false
+ends_document Bare = false
+
 -- a piece with a marker begins with it
 abbrev pub Begins : Piece → List ℕ → Type 0
 Begins Suffix text = mark_at dot text ≡ true

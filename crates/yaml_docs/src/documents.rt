@@ -13,7 +13,7 @@ ghost use Rattle.yaml_recognizers.specs.Recognizers.{document_node_at, piece_at}
 ghost use Rattle.yaml_recognizers.specs.Signs.{dash, dot};
 ghost use Rattle.yaml_recognizers.specs.Streams.{mark_at, read_explicit, read_directed, explicit_with, suffix_with};
 ghost use Rattle.yaml_docs.specs.Documents.{IsMarkEnd, IsOmitted, ExplicitRead, ExplicitNodeRead, DocumentRead, SuffixRead};
-ghost use Rattle.yaml_docs.specs.Pieces.{Begins, BeginsPiece, PieceRead, read_as, stream_meaning};
+ghost use Rattle.yaml_docs.specs.Pieces.{Begins, BeginsPiece, PieceRead, ends_document, read_as, stream_meaning};
 
 use crate::directive::directive_end;
 use crate::nodes::{block_node, omitted};
@@ -52,8 +52,15 @@ pub(crate) fn stream<'a>(alloc: Global, text: &'a str) -> Result<Events<'a>, Sca
         }
         let piece = piece_at(text, line, opened)?;
         at = piece_end(alloc, &mut events, text, line.start, piece)?;
-        opened = matches!(piece, Piece::Suffix);
+        opened = ends_document(piece);
     }
+}
+
+/// Returns whether a piece ends the document before it, so that a bare document or a directive may follow.
+fn ends_document(piece: Piece) -> bool
+    ensures { result ≡ ends_document piece }
+{
+    matches!(piece, Piece::Suffix)
 }
 
 /// Returns the end of the byte order mark that `text` begins with (5.2), or 0.

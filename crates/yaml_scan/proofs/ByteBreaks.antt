@@ -89,4 +89,3 @@ pub stop_none : (bs : List ℕ) (i : ℕ) → IsUtf8 bs → IsCharBoundary bs i 
 stop_none bs i u b l e =
     let there = char_at bs i u b l in
     no_stop (rest bs i) (λ z. let none : [] ≡ there.0 ∷ rest bs (i + len_utf8 there.0) = sym z ∙ there.1.splits in cc) e
-

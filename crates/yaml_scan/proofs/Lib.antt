@@ -5,3 +5,5 @@ pub mod LineStarts
 pub mod BetweenBytes
 pub mod LineSteps
 pub mod Outcomes
+pub mod GapSteps
+pub mod ByteTable

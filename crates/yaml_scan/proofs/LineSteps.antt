@@ -150,8 +150,10 @@ starts_after_end bs i k e u l b d spelled bol fits = go e.stop refl
   where
     text : between bs i k ≡ line_end_text e
     text = append_cancel_right (between bs i k) (line_end_text e) (rest bs k) (sym (rest-between bs i k u l b d) ∙ spelled)
+
     front : List ℕ
     front = e.blank ++ optional comment_text e.comment
+
     go : (stop : Option Break) → e.stop ≡ stop → IsLineStart bs k
     go None is = inr (empty_is (rest bs k) (subst (λ s. stop_fits s (rest bs k) ≡ true) is (line_parts bol e (rest bs k) fits).stop_fit))
     go (Some br) is =

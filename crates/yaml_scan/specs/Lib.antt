@@ -1,3 +1,5 @@
 pub mod Places
 pub mod Markers
 pub mod Lines
+pub mod Gaps
+pub mod Simple

@@ -7,14 +7,21 @@
 
 mod breaks;
 mod feeds;
+mod gap;
 mod lines;
 mod runs;
 mod signs;
+mod simple;
 
 pub use breaks::{Stop, at_most_chars, break_end, has_break, line_starts, stop_at};
 pub use feeds::push_line_feeds;
+pub use gap::{Gap, gap_end};
 pub use lines::{Line, comment_line_end, line_after, rest_of_line_end, solid_line};
 pub use runs::{is_white, nb_at, nb_end, spaces_end, white_end};
 pub use signs::{
     Marker, is_marker, is_marker_of, ns_at, safe_at, sign_at, solid_at, stands_at, white_at,
 };
+pub use simple::{is_simple, simple_end};
+
+#[cfg(test)]
+mod tests;

@@ -1,0 +1,258 @@
+-- Gaps at places, by what stands there.
+use Rattle.std.proofs.Common.{◌≡◌, ℕ, zero, suc, ◌+◌, ◌-◌, ◌<◌, ◌≤◌, ◌⊎◌, Bool, true, false, List, [], ◌∷◌, ◌++◌, Option, Some, None, refl, ap, sym, ◌∙◌, subst, arith, length, inl, inr}
+use Rattle.std.specs.Prelude.{not, ◌&&◌, ◌||◌, ◌==◌, nat_le, nat_lt, is_some, cond}
+use Rattle.std.specs.Str.{IsUtf8, IsCharBoundary}
+use Rattle.std.specs.Char.{len_utf8}
+use Rattle.std.proofs.lemmas.Bool.{and_from, and_parts, cases_Bool, cases_lt, eqb-true, false≢true, le-leb, lt-leb, lt-ltb, not-true, or_left}
+use Rattle.std.proofs.lemmas.Bool.Decides.{nat_tests}
+use Rattle.std.proofs.lemmas.List.{append_cancel_right}
+use Rattle.yaml_chars.specs.Breaks.{no_break}
+use Rattle.yaml_chars.specs.Classes.{line_break, nb, white}
+use Rattle.yaml_chars.specs.Places.{rest, between}
+use Rattle.yaml_chars.proofs.Places.{between-nil, char_at, rest-between, rest-end, same_place}
+use Rattle.yaml_events.specs.Places.{line_starts}
+use Rattle.yaml_grammar.specs.BlockScalars.{spaces_before}
+use Rattle.yaml_grammar.specs.FlowScalars.{FlowContext, one_line}
+use Rattle.yaml_grammar.specs.Separation.{Break, LineEnd, Sep, break_text, comment_fits, comment_line_fits, comment_text, cr, cr_lf, gap_text, indents, inline, lf, line_end_text, lines}
+use Rattle.yaml_grammar.specs.Texts.{begins, every, first, is_empty, optional, spaces, starts_line}
+use Rattle.yaml_recognizers.specs.CanonicalComments.{hash, is_line_end, stops}
+use Rattle.yaml_recognizers.specs.Comments.{all_comments, read_line_end}
+use Rattle.yaml_recognizers.specs.Ends.{solid}
+use Rattle.yaml_recognizers.specs.Fronts.{dropped, past, taken}
+use Rattle.yaml_recognizers.specs.Gaps.{GapRead, gap_behind, inline_gap, lines_gap, read_gap}
+use Rattle.yaml_recognizers.specs.OneLine.{gap_on_one_line}
+use Rattle.yaml_recognizers.proofs.CommentsComplete.{solid_no_line}
+use Rattle.yaml_recognizers.proofs.CommentsDepth.{gap_step, inline_step}
+use Rattle.yaml_recognizers.proofs.CommentsSound.{LineOf, line_sound}
+use Rattle.yaml_recognizers.proofs.Fronts.{dropped_all, every_space, taken_every, taken_split}
+use Rattle.yaml_recognizers.proofs.GapsSound.{GapOf, gap_sound}
+use Rattle.yaml_recognizers.proofs.LineEnds.{line_parts, line_regrouped}
+use Rattle.yaml_recognizers.proofs.OneLineText.{gap_one_line}
+use Rattle.yaml_recognizers.proofs.Reading.{Sound, sound_is}
+use Rattle.yaml_scan.specs.Gaps.{IsGap, IsLinesGap, NoGap, NoLinesGap, after_comments, stuck, used_up}
+use Rattle.yaml_scan.specs.Lines.{IsLineEnd, IsSolidLine}
+use Rattle.yaml_scan.specs.Places.{AreSpaces, AreTaken, unbroken_between}
+use Rattle.yaml_scan.specs.declared.gap.Gap.{Gap}
+use Rattle.yaml_scan.specs.declared.lines.Line.{Line}
+use Rattle.yaml_scan.proofs.LineSteps.{spaces_split_at}
+use Rattle.yaml_scan.proofs.LineStarts.{starts_on}
+
+-- ---- white space on one line
+
+white_unbroken : (xs : List ℕ) → every white xs ≡ true → every no_break xs ≡ true
+white_unbroken [] h = refl
+white_unbroken (x ∷ xs) h =
+    let p = and_parts (white x) (every white xs) h in and_from (no_break x) (every no_break xs) (one x p.0) (white_unbroken xs p.1)
+  where
+    one : (x : ℕ) → white x ≡ true → no_break x ≡ true
+    one x h = grind (arith, nat_tests)
+
+pub taken_white : (bs : List ℕ) (i j : ℕ) → AreTaken white bs i j → every white (between bs i j) ≡ true
+taken_white bs i j w = subst (λ t. every white t ≡ true) w.takes (taken_every white (rest bs i))
+
+record IsInline (bs : List ℕ) (i j : ℕ) (blank : List ℕ) : Type 0 where
+  gap : Option Sep
+  reads : inline_gap blank (rest bs j) ≡ (gap, rest bs j)
+  some : is_some gap ≡ nat_lt i j
+  spells : gap_text gap ≡ blank
+  one_line : gap_on_one_line gap ≡ true
+
+inline_is : (bs : List ℕ) (i j : ℕ) (blank : List ℕ) → IsUtf8 bs → i ≤ j → IsCharBoundary bs i → IsCharBoundary bs j → rest bs i ≡ blank ++ rest bs j → (i ≡ j → blank ≡ []) → IsInline bs i j blank
+inline_is bs i j [] u l b d e n =
+    let same : i ≡ j = same_place bs i j u b d e in
+    record { gap = None; reads = refl; some = none i j same; spells = refl; one_line = refl }
+  where
+    none : (i j : ℕ) → i ≡ j → false ≡ nat_lt i j
+    none i j e = grind (arith, nat_tests)
+inline_is bs i j (c ∷ cs) u l b d e n = record {
+  gap = Some (inline (c ∷ cs));
+  reads = refl;
+  some = sym (lt-ltb i j (elim (cases_lt i j) [
+    | inl m ↦ m
+    | inr m ↦ (let same : i ≡ j = omega arith in let none : c ∷ cs ≡ [] = n same in cc)
+  ]));
+  spells = refl;
+  one_line = refl;
+}
+
+pub inline_gap_is : (n : ℕ) (d : FlowContext) (bs : List ℕ) (i j : ℕ) → IsUtf8 bs → IsCharBoundary bs i → AreTaken white bs i j
+    → read_gap n (one_line d) (rest bs i) ≡ inline_gap (taken white (rest bs i)) (dropped white (rest bs i)) → IsGap n d bs i (record { end = j; is_over_lines = false })
+inline_gap_is n d bs i j u b w reads =
+    let found : IsInline bs i j (between bs i j) =
+    inline_is bs i j (between bs i j) u w.above b w.boundary (rest-between bs i j u w.above b w.boundary) (λ e. ap (between bs i) (sym e) ∙ between-nil bs i) in
+    record {
+      above = w.above;
+      boundary = w.boundary;
+      gap = found.gap;
+      reads = reads ∙ (ap (λ t. inline_gap t (dropped white (rest bs i))) w.takes ∙ (ap (inline_gap (between bs i j)) w.leaves ∙ found.reads));
+      some = found.some;
+      starts = λ h. ap (starts_line false) found.spells ∙ starts_on bs i j u w.above b w.boundary h;
+      over_lines = sym (ap not found.one_line);
+      breaks = sym (ap not (white_unbroken (between bs i j) (taken_white bs i j w)));
+    }
+
+pub reads_in_key : (n : ℕ) (d : FlowContext) (text : List ℕ) → one_line d ≡ true → read_gap n (one_line d) text ≡ inline_gap (taken white text) (dropped white text)
+reads_in_key n d text h = ap (λ k. read_gap n k text) h
+
+pub reads_on_line : (n : ℕ) (d : FlowContext) (text : List ℕ) → one_line d ≡ false → read_line_end false text ≡ None
+    → read_gap n (one_line d) text ≡ inline_gap (taken white text) (dropped white text)
+reads_on_line n d text h e = ap (λ k. read_gap n k text) h ∙ inline_step n text e
+
+-- something solid follows the white space
+pub reads_before_solid : (n : ℕ) (d : FlowContext) (bs : List ℕ) (i j : ℕ) → IsUtf8 bs → IsCharBoundary bs i → AreTaken white bs i j → first solid (rest bs j) ≡ true → one_line d ≡ false
+    → read_gap n (one_line d) (rest bs i) ≡ inline_gap (taken white (rest bs i)) (dropped white (rest bs i))
+reads_before_solid n d bs i j u b w s h =
+    reads_on_line n d (rest bs i) h
+    (ap (read_line_end false) (rest-between bs i j u w.above b w.boundary) ∙ solid_no_line false (between bs i j) (rest bs j) (taken_white bs i j w) s)
+
+-- ---- the last line of a gap
+
+-- a line of white space alone is a line's end
+white_line : (text : List ℕ) → is_line_end text ≡ false → dropped white text ≡ [] → text ≡ []
+white_line [] n e = refl
+white_line (c ∷ cs) n e =
+    absurd (false≢true (sym n ∙ ap (λ t. stops t || (first hash t && stops (dropped nb (past t)))) e))
+
+-- n spaces at least
+one_less : (n k : ℕ) → nat_le n k ≡ nat_le (suc n) (suc k)
+one_less n k = grind (arith, nat_tests)
+
+too_few : (n : ℕ) → false ≡ nat_le (suc n) zero
+too_few n = sym (lt-leb (suc n) zero (omega arith))
+
+indented : (n : ℕ) (text : List ℕ) → begins (spaces n) (taken white text) ≡ nat_le n (spaces_before text)
+indented zero text = sym (le-leb zero (spaces_before text) (omega arith))
+indented (suc n) [] = too_few n
+indented (suc n) (c ∷ cs) = elim (cases_Bool (c == 32)) [
+  | inl e ↦ rw e (rw e (indented n cs ∙ one_less n (spaces_before cs)))
+  | inr e ↦ rw e (other (c == 9) e)
+]
+  where
+    other : (w : Bool) → (c == 32) ≡ false → begins (spaces (suc n)) (cond w (c ∷ taken white cs) []) ≡ nat_le (suc n) zero
+    other true e = rw e (too_few n)
+    other false e = too_few n
+
+pub indents_by_spaces : (n : ℕ) (text : List ℕ) → indents n (taken white text) ≡ nat_le n (spaces_before text)
+indents_by_spaces n text = ap (λ b. b && begins (spaces n) (taken white text)) (taken_every white text) ∙ indented n text
+
+spaces_left : (bs : List ℕ) (i j : ℕ) → IsUtf8 bs → AreSpaces bs i j → (behind : List ℕ) → rest bs j ≡ behind → dropped white (rest bs i) ≡ dropped white behind
+spaces_left bs i j u h behind e = ap (dropped white) (spaces_split_at bs i j h ∙ ap (λ t. spaces (j - i) ++ t) e) ∙ past (j - i) behind
+  where
+    past : (k : ℕ) (t : List ℕ) → dropped white (spaces k ++ t) ≡ dropped white t
+    past zero t = refl
+    past (suc k) t = past k t
+
+pub text_used_up : (n : ℕ) (bs : List ℕ) (at : ℕ) (line : Line) → IsUtf8 bs → IsSolidLine true bs at line → length bs ≤ line.first → NoLinesGap n bs at
+text_used_up n bs at line u h l =
+    let none : dropped white (rest bs line.start) ≡ [] = spaces_left bs line.start line.first u h.spaces [] (rest-end bs line.first l) in
+    inr (h.leaves ∙ white_line (rest bs line.start) h.solid none)
+
+pub few_spaces : (n : ℕ) (bs : List ℕ) (at : ℕ) (line : Line) → IsSolidLine true bs at line → line.first - line.start < n → NoLinesGap n bs at
+few_spaces n bs at line h l =
+    let s = h.spaces in
+    inl (ap (λ t. indents n (taken white t)) h.leaves ∙ (indents_by_spaces n (rest bs line.start) ∙ (ap (nat_le n) s.counts ∙ lt-leb n (line.first - line.start) l)))
+
+pub lines_gap_is : (n : ℕ) (bs : List ℕ) (at : ℕ) (line : Line) (end : ℕ) → IsUtf8 bs → IsSolidLine true bs at line → line.first < length bs → n ≤ line.first - line.start
+    → AreTaken white bs line.first end → IsLinesGap n bs at (record { end = end; is_over_lines = true })
+lines_gap_is n bs at line end u h l m w =
+    let s = h.spaces in
+    let a = h.above in
+    let b = s.above in
+    let c = w.above in
+    let leaves : dropped white (rest bs line.start) ≡ rest bs end = spaces_left bs line.start line.first u s (rest bs line.first) refl ∙ w.leaves in
+    record {
+      above = omega arith;
+      boundary = w.boundary;
+      indent = ap (λ t. indents n (taken white t)) h.leaves ∙ (indents_by_spaces n (rest bs line.start) ∙ (ap (nat_le n) s.counts ∙ le-leb n (line.first - line.start) m));
+      leaves = ap (dropped white) h.leaves ∙ leaves;
+      filled = more (rest bs end) leaves;
+      over_lines = refl;
+    }
+  where
+    more : (t : List ℕ) → dropped white (rest bs line.start) ≡ t → is_empty t ≡ false
+    more [] e =
+        (let none : rest bs line.start ≡ [] = white_line (rest bs line.start) h.solid e in
+        let there = char_at bs line.start u h.boundary (let b = h.spaces.above in omega arith) in
+        let some : [] ≡ there.0 ∷ rest bs (line.start + len_utf8 there.0) = sym none ∙ there.1.splits in cc)
+    more (x ∷ xs) e = refl
+
+-- ---- a gap over lines
+
+lines_read : (n : ℕ) (d : FlowContext) (text : List ℕ) (e : LineEnd) (behind : List ℕ) → one_line d ≡ false → read_line_end false text ≡ Some (e, behind)
+    → read_gap n (one_line d) text ≡ lines_gap n text (e ∷ (all_comments true behind).0) (taken white (all_comments true behind).1) (dropped white (all_comments true behind).1)
+lines_read n d text e behind h r = ap (λ k. read_gap n k text) h ∙ gap_step n text e behind r
+
+lines_found : (n : ℕ) (text : List ℕ) (es : List LineEnd) (lead behind : List ℕ) → indents n lead ≡ true → lines_gap n text es lead behind ≡ (Some (lines es lead), behind)
+lines_found n text es lead behind h = rw h refl
+
+lines_none : (n : ℕ) (text : List ℕ) (es : List LineEnd) (lead behind : List ℕ) → indents n lead ≡ false → lines_gap n text es lead behind ≡ (None, text)
+lines_none n text es lead behind h = rw h refl
+
+pub gap_over_lines_is : (n : ℕ) (d : FlowContext) (bs : List ℕ) (i j : ℕ) (gap : Gap) → IsUtf8 bs → IsCharBoundary bs i → one_line d ≡ false → IsLineEnd false bs i j → IsLinesGap n bs j gap
+    → IsGap n d bs i gap
+gap_over_lines_is n d bs i j gap u b k e h =
+    let first_end = e.above in
+    let above = h.above in
+    let more : List LineEnd = (all_comments true (rest bs j)).0 in
+    let lead : List ℕ = taken white (after_comments bs j) in
+    let sep : Option Sep = Some (lines (e.line_end ∷ more) lead) in
+    let reads : read_gap n (one_line d) (rest bs i) ≡ (sep, rest bs gap.end) =
+    lines_read n d (rest bs i) e.line_end (rest bs j) k e.reads
+    ∙ (lines_found n (rest bs i) (e.line_end ∷ more) lead (dropped white (after_comments bs j)) h.indent ∙ ap (λ t. (sep, t)) h.leaves) in
+    let sound : GapOf n (one_line d) (rest bs i) (sep, rest bs gap.end) = subst (GapOf n (one_line d) (rest bs i)) reads (gap_sound n (one_line d) (rest bs i)) in
+    let spelled : gap_text sep ≡ between bs i gap.end =
+    append_cancel_right (gap_text sep) (between bs i gap.end) (rest bs gap.end) (sym sound.0 ∙ rest-between bs i gap.end u (omega arith) b h.boundary) in
+    record {
+      above = omega arith;
+      boundary = h.boundary;
+      gap = sep;
+      reads = reads;
+      some = sym (lt-ltb i gap.end (omega arith));
+      starts = λ s. ap (starts_line false) spelled ∙ starts_on bs i gap.end u (omega arith) b h.boundary s;
+      over_lines = h.over_lines;
+      breaks = h.over_lines ∙ ap not (gap_one_line n (one_line d) sep (rest bs gap.end) sound.1 h.filled ∙ ap (every no_break) spelled);
+    }
+
+-- what a gap over lines begins with
+blank_char : ℕ → Bool
+blank_char x = white x || line_break x
+
+line_front : (blank : List ℕ) (comment : Option (List ℕ)) (stop : Option Break) (behind : List ℕ) → every white blank ≡ true → comment_fits (not (is_empty blank)) comment ≡ true
+    → not (is_empty ((blank ++ optional comment_text comment) ++ optional break_text stop)) ≡ true
+    → first blank_char (blank ++ (optional comment_text comment ++ (optional break_text stop ++ behind))) ≡ true
+unfolding blank_char
+line_front (c ∷ cs) comment stop behind w f s = or_left (white c) (line_break c) (and_parts (white c) (every white cs) w).0
+line_front [] (Some text) stop behind w f s = absurd (false≢true f)
+line_front [] None None behind w f s = absurd (false≢true s)
+line_front [] None (Some lf) behind w f s = refl
+line_front [] None (Some cr) behind w f s = refl
+line_front [] None (Some cr_lf) behind w f s = refl
+
+front_of : (text : List ℕ) → first blank_char text ≡ true → (x : ℕ) × (xs : List ℕ) × (text ≡ x ∷ xs) × (white x || line_break x ≡ true)
+unfolding blank_char
+front_of [] h = absurd (false≢true h)
+front_of (x ∷ xs) h = (x, xs, refl, h)
+
+blank_front : (text : List ℕ) (e : LineEnd) (behind : List ℕ) → read_line_end false text ≡ Some (e, behind) → (x : ℕ) × (xs : List ℕ) × (text ≡ x ∷ xs) × (white x || line_break x ≡ true)
+blank_front text e behind r =
+    let sound : LineOf false text e behind = sound_is (LineOf false text) (read_line_end false text) (e, behind) (line_sound false text) r in
+    let p = line_parts false e behind sound.1 in
+    front_of text (ap (first blank_char) (sound.0 ∙ line_regrouped e behind) ∙ line_front e.blank e.comment e.stop behind p.blank_white p.comment_fit p.some)
+
+few_gap : (n : ℕ) (d : FlowContext) (bs : List ℕ) (i j : ℕ) → one_line d ≡ false → IsLineEnd false bs i j → indents n (taken white (after_comments bs j)) ≡ false → NoGap n d (rest bs i)
+few_gap n d bs i j k e few =
+    let front = blank_front (rest bs i) e.line_end (rest bs j) e.reads in
+    stuck front.0 front.1 front.2 front.3
+    (lines_read n d (rest bs i) e.line_end (rest bs j) k e.reads
+    ∙ lines_none n (rest bs i) (e.line_end ∷ (all_comments true (rest bs j)).0) (taken white (after_comments bs j)) (dropped white (after_comments bs j)) few)
+
+pub no_gap : (n : ℕ) (d : FlowContext) (bs : List ℕ) (i j : ℕ) → one_line d ≡ false → IsLineEnd false bs i j → NoLinesGap n bs j → NoGap n d (rest bs i)
+no_gap n d bs i j k e (inl few) = few_gap n d bs i j k e few
+no_gap n d bs i j k e (inr ended) = elim (cases_Bool (indents n (taken white (after_comments bs j)))) [
+  | inr few ↦ few_gap n d bs i j k e few
+  | inl many ↦ (let sep : Option Sep = Some (lines (e.line_end ∷ (all_comments true (rest bs j)).0) (taken white (after_comments bs j))) in
+      used_up sep
+      (lines_read n d (rest bs i) e.line_end (rest bs j) k e.reads
+      ∙ (lines_found n (rest bs i) (e.line_end ∷ (all_comments true (rest bs j)).0) (taken white (after_comments bs j)) (dropped white (after_comments bs j)) many
+      ∙ ap (λ t. (sep, dropped white t)) ended)))
+]

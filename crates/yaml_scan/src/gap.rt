@@ -1,0 +1,80 @@
+// Gaps between the parts of a flow node.
+ghost use Rattle.std.specs.Prelude.{◌≡◌, ◌≢◌, IfOk, IfErr};
+ghost use Rattle.std.specs.Str.{IsCharBoundary};
+ghost use Rattle.yaml_chars.specs.Places.{rest};
+ghost use Rattle.yaml_events.specs.Meant.{context_of};
+ghost use Rattle.yaml_events.specs.Places.{Refuses};
+ghost use Rattle.yaml_grammar.specs.FlowScalars.{one_line};
+ghost use Rattle.yaml_scan.specs.Gaps.{IsGap, NoGap, IsLinesGap, NoLinesGap};
+
+use crate::lines::{rest_of_line_end, solid_line};
+use crate::runs::white_end;
+use crate::signs::solid_at;
+use yaml_events::{FlowContext, ScanFault, Why};
+
+/// A gap between two parts of a flow node, which may be empty.
+#[derive(Clone, Copy, Debug, PartialEq, Eq)]
+pub struct Gap {
+    /// Where it ends.
+    pub end: usize,
+    /// Whether it goes over lines.
+    pub is_over_lines: bool,
+}
+
+fn is_on_one_line(context: FlowContext) -> bool
+    ensures { result ≡ one_line (context_of context) }
+{
+    match context {
+        FlowContext::Outer | FlowContext::Inner => false,
+        FlowContext::BlockKey | FlowContext::FlowKey => true,
+    }
+}
+
+/// Returns the gap at `at` between two parts of a flow node whose lines have at least `n` spaces (6.7, `s-separate`): white space,
+/// and outside of keys also comments and breaks. It may be empty.
+///
+/// Where nothing of the node can follow, it fails with [`ScanFault::At`]: [`Why::Flow`] where the text ends after the lines of
+/// the gap, and [`Why::Indent`] where its last line has fewer than `n` spaces. It never fails with [`ScanFault::OutOfMemory`].
+pub fn gap_end(text: &str, at: usize, n: u64, context: FlowContext) -> Result<Gap, ScanFault>
+    requires { IsCharBoundary text.now at }
+    ensures found { IfOk result (IsGap n (context_of context) text.now at) }
+    ensures none { IfErr result (λ fault. Refuses fault (NoGap n (context_of context) (rest text.now at))) }
+    ensures memory { IfErr result (λ fault. fault ≢ ScanFault.OutOfMemory) }
+{
+    let white = white_end(text, at);
+    let inline = Gap {
+        end: white,
+        is_over_lines: false,
+    };
+    if is_on_one_line(context) || solid_at(text, white) {
+        return Ok(inline);
+    }
+    match rest_of_line_end(text, at) {
+        Some(next) => gap_over_lines(text, next, n),
+        None => Ok(inline),
+    }
+}
+
+/// Returns the gap that goes over lines, of which the first ends at `next`.
+fn gap_over_lines(text: &str, next: usize, n: u64) -> Result<Gap, ScanFault>
+    requires { IsCharBoundary text.now next }
+    ensures found { IfOk result (IsLinesGap n text.now next) }
+    ensures none { IfErr result (λ fault. Refuses fault (NoLinesGap n text.now next)) }
+    ensures memory { IfErr result (λ fault. fault ≢ ScanFault.OutOfMemory) }
+{
+    let line = solid_line(text, next);
+    let at = line.first;
+    if at == text.len() {
+        return Err(ScanFault::At { at, why: Why::Flow });
+    }
+    if ((at - line.start) as u64) < n {
+        return Err(ScanFault::At {
+            at,
+            why: Why::Indent,
+        });
+    }
+    Ok(Gap {
+        end: white_end(text, at),
+        is_over_lines: true,
+    })
+}
