@@ -93,4 +93,5 @@ pub mod StreamsForm
 pub mod FormExamples
 pub mod StandingNodes
 pub mod DocumentEnds
+pub mod NodePlaces
 pub mod Meaning
