@@ -94,4 +94,5 @@ pub mod FormExamples
 pub mod StandingNodes
 pub mod DocumentEnds
 pub mod NodePlaces
+pub mod NodesSpelled
 pub mod Meaning

@@ -63,19 +63,19 @@ Within at es text = RangesInOrder at es (at + byte_len text)
 within : (low at : ℕ) (es : List Event) (text : List ℕ) (high : ℕ) → low ≤ at → at + byte_len text ≤ high → Within at es text → RangesInOrder low es high
 within low at es text high l u h = wider low at es (at + byte_len text) high l u h
 
-byte_len-spaces : (n : ℕ) → byte_len (spaces n) ≡ n
+pub byte_len-spaces : (n : ℕ) → byte_len (spaces n) ≡ n
 byte_len-spaces zero = refl
 byte_len-spaces (suc n) = let h : byte_len (spaces n) ≡ n = byte_len-spaces n in omega arith
 
 -- ---- flow nodes
 
-len3 : (a b c : List ℕ) → byte_len (a ++ b ++ c) ≡ byte_len a + byte_len b + byte_len c
+pub len3 : (a b c : List ℕ) → byte_len (a ++ b ++ c) ≡ byte_len a + byte_len b + byte_len c
 len3 a b c = let h = byte_len_joined (a ++ b) c in let k = byte_len_joined a b in omega (arith, h, k)
 
-len4 : (a b c d : List ℕ) → byte_len (a ++ b ++ c ++ d) ≡ byte_len a + byte_len b + byte_len c + byte_len d
+pub len4 : (a b c d : List ℕ) → byte_len (a ++ b ++ c ++ d) ≡ byte_len a + byte_len b + byte_len c + byte_len d
 len4 a b c d = let h = byte_len_joined (a ++ b ++ c) d in let k = len3 a b c in omega (arith, h, k)
 
-len5 : (a b c d e : List ℕ) → byte_len (a ++ b ++ c ++ d ++ e) ≡ byte_len a + byte_len b + byte_len c + byte_len d + byte_len e
+pub len5 : (a b c d e : List ℕ) → byte_len (a ++ b ++ c ++ d ++ e) ≡ byte_len a + byte_len b + byte_len c + byte_len d + byte_len e
 len5 a b c d e = let h = byte_len_joined (a ++ b ++ c ++ d) e in let k = len4 a b c d in omega (arith, h, k)
 
 -- an entry between brackets: a key and a value, the same as a mapping, or a node alone
@@ -330,7 +330,7 @@ parts_ranges (p ∷ ps) at =
     ranges_joined at (part_events p at) behind (parts_events ps behind) high (part_ranges p at)
     (within behind behind (parts_events ps behind) (parts_text ps) high (omega arith) (omega (arith, l)) (parts_ranges ps behind))
 
-mark_len : (mark : Bool) → byte_len (mark_text mark) ≡ (if mark then 3 else 0)
+pub mark_len : (mark : Bool) → byte_len (mark_text mark) ≡ (if mark then 3 else 0)
 mark_len true = refl
 mark_len false = refl
 
