@@ -1,1 +1,10 @@
 pub mod ClosingLines
+pub mod PieceSteps
+pub mod PieceCases
+pub mod TextPlaces
+pub mod DocumentSteps
+pub mod DirectiveSteps
+pub mod MarkEnds
+pub mod Words
+pub mod StreamSteps
+pub mod Readings

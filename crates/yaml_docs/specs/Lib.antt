@@ -1,1 +1,6 @@
 pub mod NextClosing
+pub mod Reading
+pub mod Pieces
+pub mod Documents
+pub mod Directives
+pub mod Found

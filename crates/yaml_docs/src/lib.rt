@@ -1,9 +1,18 @@
-//! Streams of texts (YAML 1.2.2, chapter 9), and where texts in a row are closed.
+//! Streams of documents (YAML 1.2.2, chapter 9), and where texts in a row are closed.
+//!
+//! [`events`] reads bytes as a stream, and returns its events or the reason why they are refused. [`next_close`] finds closing lines.
 #![tactic(auto)]
 
 mod closing;
+mod directive;
+mod documents;
+mod fault;
+mod nodes;
+mod read;
 
 pub use closing::next_close;
+pub use fault::ReadFault;
+pub use read::events;
 
 #[cfg(test)]
 mod tests;

@@ -262,7 +262,7 @@ mutual
       rw (items_before is k ls behind, indented_form_same i k)
       (and_from _ _ (and_from _ _ q.0 (indented_form_fits i k false [] rest q.1 refl (takes_none (indented_open i) rest s))) c)
 
-  pairs_form_fit : (ps : Pairs) (k : ℕ) (bol : Bool) (ls : List LineEnd) (behind : List ℕ) → pairs_fit ps k bol (comments_text ls ++ behind) ≡ true
+  pub pairs_form_fit : (ps : Pairs) (k : ℕ) (bol : Bool) (ls : List LineEnd) (behind : List ℕ) → pairs_fit ps k bol (comments_text ls ++ behind) ≡ true
       → comments_fit true ls behind ≡ true → takes (pairs_open ps) ls behind ≡ true → canonical_pairs (pairs_form ps ls) k bol behind ≡ true
   pairs_form_fit (pair p) k bol ls behind h l t = pair_form_fits p k bol ls behind h l t
   pairs_form_fit (pair_and p ps) k bol ls behind h l t =

@@ -35,7 +35,7 @@ line_before bol e rest h r =
       ends = r.ends;
     }
 
-parts_end : (ps : List Part) (bol : Bool) → parts_fit ps bol [] ≡ true → EndsNode 0 false (parts_text ps)
+pub parts_end : (ps : List Part) (bol : Bool) → parts_fit ps bol [] ≡ true → EndsNode 0 false (parts_text ps)
 parts_end [] bol h = record { lines = []; behind = []; is = refl; fit = refl; whole = refl; ends = refl }
 parts_end (suffixes one more front d ∷ ps) bol h =
     let rest : List ℕ = optional document_text d ++ (parts_text ps ++ []) in

@@ -40,7 +40,7 @@ unfoldable mutual
 
 -- ---- closing characters
 
-inside_flow : (c : FlowContext) → in_flow (inside c) ≡ true
+pub inside_flow : (c : FlowContext) → in_flow (inside c) ≡ true
 inside_flow outer = refl
 inside_flow inner = refl
 inside_flow block_key = refl
@@ -56,7 +56,7 @@ closing_is P x h a b c = elim (or_cases (x == 44) _ h) [
   ]
 ]
 
-closing_solid : (rest : List ℕ) → first closing rest ≡ true → first solid rest ≡ true
+pub closing_solid : (rest : List ℕ) → first closing rest ≡ true → first solid rest ≡ true
 closing_solid [] k = absurd (false≢true k)
 closing_solid (c ∷ cs) k = closing_is (λ x. solid x ≡ true) c k refl refl refl
 
@@ -98,7 +98,7 @@ gap_either n true b gap behind h = h
 gap_either n false true gap behind h = gap_wider n n true false gap behind refl h
 gap_either n false false gap behind h = h
 
-value_either : (v : Value) (n : ℕ) (d : FlowContext) (a b after_plain : Bool) (behind : List ℕ) → canonical_value v n d (a || b) after_plain behind ≡ true → canonical_value v n d a after_plain behind ≡ true
+pub value_either : (v : Value) (n : ℕ) (d : FlowContext) (a b after_plain : Bool) (behind : List ℕ) → canonical_value v n d (a || b) after_plain behind ≡ true → canonical_value v n d a after_plain behind ≡ true
 value_either absent n d a b after_plain behind h = refl
 value_either (empty gap) n d a b after_plain behind h = let p = and_parts _ _ h in and_from _ _ (gap_either n a b gap _ p.0) p.1
 value_either (given before after f) n d a b after_plain behind h =
@@ -120,12 +120,12 @@ colon_given n d true None behind s g = absurd (false≢true s)
 colon_given n d false None behind s g = refl
 colon_given n d after_plain (Some sep) behind s g = not_and after_plain _ (sep_unsafe n (one_line d) d sep behind g)
 
-closing_stop : (n : ℕ) (d : FlowContext) (after_plain : Bool) (gap : Option Sep) (rest : List ℕ) → in_flow d ≡ true → first closing rest ≡ true
+pub closing_stop : (n : ℕ) (d : FlowContext) (after_plain : Bool) (gap : Option Sep) (rest : List ℕ) → in_flow d ≡ true → first closing rest ≡ true
     → canonical_gap n (one_line d) gap rest ≡ true → BetweenBrackets d after_plain (gap_text gap ++ rest)
 closing_stop n d after_plain gap rest i k g = record { within = i; gap = gap; rest = rest; is = refl; fits = (n, gap_either n false (one_line d) gap rest g); stop = or_left _ _ k }
 
 -- a value, or the gap behind the entry, stops its key
-value_stop : (v : Value) (n : ℕ) (d : FlowContext) (after_plain : Bool) (gap : Option Sep) (rest : List ℕ) → in_flow d ≡ true → first closing rest ≡ true
+pub value_stop : (v : Value) (n : ℕ) (d : FlowContext) (after_plain : Bool) (gap : Option Sep) (rest : List ℕ) → in_flow d ≡ true → first closing rest ≡ true
     → canonical_gap n (one_line d) gap rest ≡ true → canonical_value v n d (one_line d) after_plain (gap_text gap ++ rest) ≡ true
     → BetweenBrackets d after_plain (value_text v ++ (gap_text gap ++ rest))
 value_stop absent n d after_plain gap rest i k g h = closing_stop n d after_plain gap rest i k g

@@ -76,6 +76,7 @@ pub mod StreamsDepth
 pub mod Steps
 pub mod BlockFrames
 pub mod EventFronts
+pub mod Ranges
 pub mod StreamExamples
 pub mod StreamEdgeExamples
 -- canonical forms, and the meaning of a text
@@ -92,4 +93,6 @@ pub mod StreamsForm
 pub mod FormExamples
 pub mod StandingNodes
 pub mod DocumentEnds
+pub mod NodePlaces
+pub mod NodesSpelled
 pub mod Meaning

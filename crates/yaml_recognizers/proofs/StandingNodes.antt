@@ -15,12 +15,12 @@ use Rattle.yaml_recognizers.specs.Comments.{all_comments}
 use Rattle.yaml_recognizers.specs.Ends.{ended}
 use Rattle.yaml_recognizers.specs.FlowScalars.{read_scalar}
 use Rattle.yaml_recognizers.specs.Recognizers.{StandsFlow, block_node_at, flow_node_at, flow_node_stops}
-use Rattle.yaml_recognizers.specs.StandingNodes.{BlockNodeStands, EndsNode, FlowNodeStands, IsFlowNode, NoBlockNode, NoFlowNode, SameBlockNode, SameFlowNode}
+use Rattle.yaml_recognizers.specs.StandingNodes.{BlockNodeStands, EndsNode, FlowNodeStands, IsBlockNode, IsFlowNode, NoBlockNode, NoFlowNode, SameBlockNode, SameFlowNode}
 use Rattle.yaml_recognizers.proofs.BlockNodesForm.{node_before, node_form, node_form_end, node_form_events, node_form_fits, node_open}
-use Rattle.yaml_recognizers.proofs.BlockNodesWhole.{whole_node_read}
+use Rattle.yaml_recognizers.proofs.BlockNodesWhole.{whole_node_is, whole_node_read}
 use Rattle.yaml_recognizers.proofs.BlockScalarFacts.{blocks_read}
 use Rattle.yaml_recognizers.proofs.BlockScalarsForm.{takes, takes_not}
-use Rattle.yaml_recognizers.proofs.CanonicalFits.{flow_fits_too}
+use Rattle.yaml_recognizers.proofs.CanonicalFits.{flow_fits_too, node_fits_too}
 use Rattle.yaml_recognizers.proofs.CommentsComplete.{comments_all}
 use Rattle.yaml_recognizers.proofs.CommentsSound.{line_is_end}
 use Rattle.yaml_recognizers.proofs.FlowNodesForm.{flow_form, flow_form_events, flow_form_fits, flow_form_text}
@@ -127,6 +127,24 @@ block_found m shallow bol text node rest h =
 
 pub block_missing : (m : ℕ) (shallow bol : Bool) (text : List ℕ) → block_node_at m shallow bol text ≡ None → NoBlockNode m shallow bol text
 block_missing m shallow bol text e = λ node rest h. let f = node_found m shallow bol text node rest h in none_some (node_form node f.lines, f.left) (sym e ∙ f.is)
+
+pub block_only : (m : ℕ) (shallow bol : Bool) (text : List ℕ) (node : Node) (rest : List ℕ) → block_node_at m shallow bol text ≡ Some (node, rest) → IsBlockNode m shallow bol text node rest
+block_only m shallow bol text node rest e =
+    let is : (text ≡ node_text node ++ rest) × (canonical_node node m shallow bol rest ≡ true) = whole_node_is read_scalar reads_scalars read_block blocks_read m shallow bol text node rest e in
+    record {
+      spells = is.0;
+      fits = node_fits_too node m shallow bol rest is.1;
+      only = λ other behind h.
+          let f = node_found m shallow bol text other behind h in
+          let p : (node_form other f.lines ≡ node) × (f.left ≡ rest) = some_parts (node_form other f.lines) node f.left rest (sym f.is ∙ e) in
+          let same : SameBlockNode (node_form other f.lines) other = form_means other f.lines in (
+            record {
+              means = λ at. sym (same.means at) ∙ ap (λ (n : Node). node_events n at) p.0;
+              ends = λ at. sym (same.ends at) ∙ ap (λ (n : Node). node_end n at) p.0;
+            },
+            subst (λ (t : List ℕ). (t ≡ h.behind.behind) ⊎ (t ≡ behind)) p.1 f.leaves,
+          );
+    }
 
 -- behind all lines of comments stands the same, whether they are left or not
 past_lines : (m : ℕ) (shallow : Bool) (rest left : List ℕ) (e : EndsNode m shallow rest) → (left ≡ e.behind) ⊎ (left ≡ rest) → (all_comments true left).1 ≡ e.behind

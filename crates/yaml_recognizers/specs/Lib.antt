@@ -31,5 +31,7 @@ pub mod OneLine
 pub mod FlowFrames
 pub mod BlockFrames
 pub mod StandingNodes
+pub mod NodePlaces
+pub mod Ranges
 pub mod NestedStreams
 pub mod CanonicalForms

@@ -1,6 +1,7 @@
 -- Nodes that stand in a text, in whatever form they are presented: what the grammar asks of them, and what ends them. What laws say
 -- of the nodes that are found there.
 use Rattle.std.specs.Prelude.{◌≡◌, ℕ, Bool, true, false, List, ◌++◌}
+use Rattle.std.proofs.Math.Logic.{◌⊎◌}
 use Rattle.yaml_grammar.specs.Separation.{LineEnd, comments_text, comments_fit}
 use Rattle.yaml_grammar.specs.FlowScalars.{FlowContext}
 use Rattle.yaml_grammar.specs.FlowNodes.{Flow, flow_text, flow_fits, flow_events}
@@ -53,6 +54,14 @@ pub record BlockNodeStands (m : ℕ) (shallow bol : Bool) (text : List ℕ) (nod
 pub record SameBlockNode (one other : Node) : Type 0 where
   pub means : (at : ℕ) → node_events one at ≡ node_events other at
   pub ends : (at : ℕ) → node_end one at ≡ node_end other at
+
+-- It fits there, and each node that stands there has its events and its end. What is left is the rest after that node, with or without
+-- the lines of comments there.
+pub record IsBlockNode (m : ℕ) (shallow bol : Bool) (text : List ℕ) (node : Node) (rest : List ℕ) : Type 0 where
+  pub spells : text ≡ node_text node ++ rest
+  pub fits : node_fits node m shallow bol rest ≡ true
+  pub only : (other : Node) (behind : List ℕ) (stands : BlockNodeStands m shallow bol text other behind)
+      → SameBlockNode other node × ((rest ≡ stands.behind.behind) ⊎ (rest ≡ behind))
 
 -- none does
 abbrev pub NoBlockNode : ℕ → Bool → Bool → List ℕ → Type 0

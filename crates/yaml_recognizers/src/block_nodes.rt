@@ -6,7 +6,7 @@ ghost use Rattle.yaml_grammar.specs.BlockScalars.{spaces_before, past_spaces};
 ghost use Rattle.yaml_grammar.specs.BlockNodes.{Node, compact_items, compact_pairs, node_text};
 ghost use Rattle.yaml_recognizers.specs.CanonicalBlockNodes.{canonical_node};
 ghost use Rattle.yaml_recognizers.specs.Ends.{ended};
-ghost use Rattle.yaml_recognizers.specs.StandingNodes.{BlockNodeStands, SameBlockNode, NoBlockNode};
+ghost use Rattle.yaml_recognizers.specs.StandingNodes.{BlockNodeStands, SameBlockNode, IsBlockNode, NoBlockNode};
 ghost use Rattle.yaml_recognizers.specs.Comments.{all_comments};
 ghost use Rattle.yaml_recognizers.specs.BlockScalars.{read_block};
 ghost use Rattle.yaml_recognizers.specs.Signs.{dash, question};
@@ -36,13 +36,16 @@ pub fn block_node_once()
 
 /// For each block node that stands at the front of a text, in whatever form, one that means the same is found. What is left is what
 /// stands behind the lines of comments behind the node, or these lines too: those behind a block scalar that can't have them.
-/// All that stand there mean the same, and have the same behind the lines of comments behind them. Where none is found none stands.
+/// All that stand there mean the same, and have the same behind the lines of comments behind them. What is found fits as the grammar
+/// says, and is the only one but for its form. Where none is found none stands.
 pub fn block_node_stands()
     ensures found { (m : ℕ) (shallow bol : Bool) (text : List ℕ) (node : Node) (rest : List ℕ) (stands : BlockNodeStands m shallow bol text node rest)
         → (found : Node) × (left : List ℕ) × (block_node_at m shallow bol text ≡ Some (found, left)) × SameBlockNode found node
         × ((left ≡ stands.behind.behind) ⊎ (left ≡ rest)) }
     ensures once { (m : ℕ) (shallow bol : Bool) (text : List ℕ) (one other : Node) (rest behind : List ℕ) (stands : BlockNodeStands m shallow bol text one rest)
         (too : BlockNodeStands m shallow bol text other behind) → SameBlockNode one other × (stands.behind.behind ≡ too.behind.behind) }
+    ensures only { (m : ℕ) (shallow bol : Bool) (text : List ℕ) (node : Node) (rest : List ℕ) → block_node_at m shallow bol text ≡ Some (node, rest)
+        → IsBlockNode m shallow bol text node rest }
     ensures missing { (m : ℕ) (shallow bol : Bool) (text : List ℕ) → block_node_at m shallow bol text ≡ None → NoBlockNode m shallow bol text }
 {}
 

@@ -1,17 +1,31 @@
 //! What texts mean: the laws that join the recognizers to the presentations of the grammar.
 
-ghost use Rattle.std.specs.Prelude.{◌≡◌, ℕ, List, Some, None};
-ghost use Rattle.yaml_grammar.specs.Texts.{IsText};
+ghost use Rattle.std.specs.Prelude.{All, ◌≡◌, ℕ, true, List, Some, None};
+ghost use Rattle.yaml_grammar.specs.Texts.{IsText, byte_len};
 ghost use Rattle.yaml_grammar.specs.Events.{Event};
-ghost use Rattle.yaml_grammar.specs.Streams.{Stream, meant};
+ghost use Rattle.yaml_grammar.specs.Streams.{Stream, spelled, fits, meant};
 ghost use Rattle.yaml_grammar.specs.Reads.{Presents, CanRead, Reads};
 ghost use Rattle.yaml_recognizers.specs.CanonicalStreams.{FlatStream, flat_meant};
 ghost use Rattle.yaml_recognizers.specs.CanonicalForms.{HaveCanonicalForms};
+ghost use Rattle.yaml_recognizers.specs.NodePlaces.{NodeSpelled, NodeStands, stream_places};
+ghost use Rattle.yaml_recognizers.specs.Ranges.{RangesInOrder};
 ghost use Rattle.yaml_recognizers.specs.Recognizers.{stream_at};
 
 /// Each presentation has a canonical form: a flat stream with the same text and the same meaning.
 pub fn canonical_forms()
     ensures { HaveCanonicalForms }
+{}
+
+/// In what a presentation means the ranges of scalars are in order, and within its text.
+pub fn ranges_in_order()
+    ensures { (presentation : Stream) → RangesInOrder 0 (meant presentation) (byte_len (spelled presentation)) }
+{}
+
+/// The nodes of a presentation, each with its place in the text, are spelled there. If the presentation fits, each of them fits at its
+/// place, and what comes after it ends it; so the laws of what is found where a node stands speak of each node of a whole text.
+pub fn nodes_stand()
+    ensures spelled { (presentation : Stream) → All (NodeSpelled (spelled presentation)) (stream_places presentation) }
+    ensures stand { (presentation : Stream) → fits presentation ≡ true → All NodeStands (stream_places presentation) }
 {}
 
 /// All presentations of a text, whatever form they have, mean the same.

@@ -1,0 +1,149 @@
+-- The `%YAML` directive at a place of a text, from its parts.
+use Rattle.std.proofs.Common.{ap, append_assoc, arith, inl, inr, length, refl, subst, sym, ◌∙◌, ◌≡◌}
+use Rattle.std.specs.Prelude.{Bool, IfSome, List, None, Option, Some, [], codes, drop, false, if◌then◌else◌, not, true, ℕ, ◌++◌, ◌+◌, ◌∷◌}
+use Rattle.std.specs.Str.{IsCharBoundary, IsUtf8}
+use Rattle.std.proofs.lemmas.Bool.{false≢true}
+use Rattle.std.proofs.lemmas.Str.{len_utf8_bounds}
+use Rattle.yaml_chars.specs.Classes.{white}
+use Rattle.yaml_chars.specs.Places.{between, rest}
+use Rattle.yaml_grammar.specs.BlockNodes.{Node}
+use Rattle.yaml_grammar.specs.Separation.{LineEnd, comments_text}
+use Rattle.yaml_grammar.specs.Streams.{directed, directive_text, explicit_text}
+use Rattle.yaml_grammar.specs.Texts.{begins, byte_len, is_empty}
+use Rattle.yaml_recognizers.specs.Comments.{all_comments, closes_line}
+use Rattle.yaml_recognizers.specs.Fronts.{dropped, taken}
+use Rattle.yaml_recognizers.specs.Reading.{Read, on}
+use Rattle.yaml_recognizers.specs.Streams.{directed_with, read_directed, read_explicit, read_version, version_with}
+use Rattle.yaml_recognizers.proofs.CommentsSound.{all_sound}
+use Rattle.yaml_recognizers.proofs.Fronts.{taken_split}
+use Rattle.yaml_recognizers.proofs.StreamsComplete.{begins_split}
+use Rattle.yaml_scan.specs.Lines.{IsLineStart, IsSolidLine}
+use Rattle.yaml_scan.specs.Places.{AreTaken}
+use Rattle.yaml_scan.specs.declared.lines.Line.{Line}
+use Rattle.yaml_docs.specs.Directives.{IsDirective, IsVersion, NoDirective}
+use Rattle.yaml_docs.proofs.TextPlaces.{StandsUpTo, between_is, place_after, spelled_end}
+
+-- ---- the recognizer of directives by its parts
+
+pub no_percent : (text : List ℕ) → begins (codes "%YAML") text ≡ false → NoDirective text
+no_percent text h = λ node_at. rw h refl
+
+no_blank : (text : List ℕ) → begins (codes "%YAML") text ≡ true → is_empty (taken white (drop 5 text)) ≡ true → NoDirective text
+no_blank text h e = λ node_at. rw (h, e) refl
+
+no_version : (text : List ℕ) → begins (codes "%YAML") text ≡ true → begins (codes "1.1") (dropped white (drop 5 text)) ≡ false → begins (codes "1.2") (dropped white (drop 5 text)) ≡ false
+    → NoDirective text
+no_version text h v w = λ node_at. by_blank node_at (is_empty (taken white (drop 5 text))) refl
+  where
+    by_blank : (node_at : Bool → List ℕ → Read Node) (b : Bool) → is_empty (taken white (drop 5 text)) ≡ b → read_directed node_at text ≡ None
+    by_blank node_at true e = rw (h, e) refl
+    by_blank node_at false e = rw (h, e, v, w) refl
+
+version_read : (text : List ℕ) (node_at : Bool → List ℕ → Read Node) → begins (codes "%YAML") text ≡ true → is_empty (taken white (drop 5 text)) ≡ false
+    → (first_version : Bool) (behind : List ℕ) → read_version (dropped white (drop 5 text)) ≡ Some (first_version, behind)
+    → read_directed node_at text ≡ directed_with node_at (taken white (drop 5 text)) first_version (all_comments false behind)
+version_read text node_at h e first_version behind v = rw (h, e, v) refl
+
+first_read : (text : List ℕ) → begins (codes "1.1") text ≡ true → read_version text ≡ Some (true, drop 3 text)
+first_read text h = rw h refl
+
+second_read : (text : List ℕ) → begins (codes "1.1") text ≡ false → begins (codes "1.2") text ≡ true → read_version text ≡ Some (false, drop 3 text)
+second_read text h k = rw (h, k) refl
+
+some_byte : (x : ℕ) (xs : List ℕ) → byte_len (x ∷ xs) ≡ 0 → ⊥
+some_byte x xs z = omega (arith, (len_utf8_bounds x).0, z)
+
+-- ---- at places
+
+module _ (bs : List ℕ) (at : ℕ) (u : IsUtf8 bs) (b : IsCharBoundary bs at) (h : begins (codes "%YAML") (rest bs at) ≡ true) where
+  pub name_there : StandsUpTo bs at (codes "%YAML") (drop 5 (rest bs at)) (at + 5)
+  name_there = place_after bs at (codes "%YAML") (drop 5 (rest bs at)) u b (begins_split (codes "%YAML") (rest bs at) h)
+
+  module _ (version : ℕ) (white_is : AreTaken white bs (at + 5) version) where
+    taken_is : taken white (drop 5 (rest bs at)) ≡ between bs (at + 5) version
+    taken_is = ap (taken white) (sym name_there.leaves) ∙ white_is.takes
+
+    dropped_is : dropped white (drop 5 (rest bs at)) ≡ rest bs version
+    dropped_is = ap (dropped white) (sym name_there.leaves) ∙ white_is.leaves
+
+    -- the white space is empty exactly where its two ends are one place
+    split_is : rest bs (at + 5) ≡ taken white (drop 5 (rest bs at)) ++ rest bs version
+    split_is =
+        taken_split white (rest bs (at + 5))
+        ∙ (ap (λ t. t ++ dropped white (rest bs (at + 5))) (ap (taken white) name_there.leaves) ∙ ap (λ t. taken white (drop 5 (rest bs at)) ++ t) white_is.leaves)
+
+    apart : version ≡ at + 5 + byte_len (taken white (drop 5 (rest bs at)))
+    apart = spelled_end bs (at + 5) version (taken white (drop 5 (rest bs at))) u name_there.boundary white_is.boundary split_is
+
+    pub none_without_blank : version ≡ at + 5 → NoDirective (rest bs at)
+    none_without_blank e = no_blank (rest bs at) h (of_list (taken white (drop 5 (rest bs at))) (let z : byte_len (taken white (drop 5 (rest bs at))) ≡ 0 = omega (arith, apart, e) in z))
+      where
+        of_list : (xs : List ℕ) → byte_len xs ≡ 0 → is_empty xs ≡ true
+        of_list [] z = refl
+        of_list (x ∷ xs) z = absurd (some_byte x xs z)
+
+    pub none_without_version : begins (codes "1.1") (rest bs version) ≡ false → begins (codes "1.2") (rest bs version) ≡ false → NoDirective (rest bs at)
+    none_without_version v w = no_version (rest bs at) h (ap (begins (codes "1.1")) dropped_is ∙ v) (ap (begins (codes "1.2")) dropped_is ∙ w)
+
+    filled : (version ≡ at + 5 → ⊥) → is_empty (taken white (drop 5 (rest bs at))) ≡ false
+    filled n = of_list (taken white (drop 5 (rest bs at))) refl
+      where
+        of_list : (xs : List ℕ) → taken white (drop 5 (rest bs at)) ≡ xs → is_empty xs ≡ false
+        of_list [] e = absurd (n (let z : byte_len (taken white (drop 5 (rest bs at))) ≡ 0 = ap byte_len e in omega (arith, apart, z)))
+        of_list (x ∷ xs) e = refl
+
+    version_there : (first_version : Bool) (word : List ℕ) (end : ℕ) → word ≡ (if first_version then codes "1.1" else codes "1.2") → StandsUpTo bs version word (drop 3 (rest bs version)) end
+        → rest bs version ≡ word ++ drop 3 (rest bs version) → (version ≡ at + 5 → ⊥) → read_version (rest bs version) ≡ Some (first_version, drop 3 (rest bs version)) → IsVersion bs at end
+    version_there first_version word end w s e n r =
+        record {
+          boundary = s.boundary;
+          blank = taken white (drop 5 (rest bs at));
+          first_version = first_version;
+          spells = begins_split (codes "%YAML") (rest bs at) h ∙ ap (λ t. codes "%YAML" ++ t) (sym name_there.leaves ∙ split_is
+              ∙ ap (λ t. taken white (drop 5 (rest bs at)) ++ t) (e ∙ ap (λ x. x ++ drop 3 (rest bs version)) w ∙ ap (λ t. (if first_version then codes "1.1" else codes "1.2") ++ t) (sym s.leaves)));
+          reads = λ node_at. version_read (rest bs at) node_at h (filled n) first_version (rest bs end) (ap read_version dropped_is ∙ r ∙ ap (λ t. Some (first_version, t)) (sym s.leaves));
+        }
+
+    pub first_there : (version ≡ at + 5 → ⊥) → begins (codes "1.1") (rest bs version) ≡ true → IsVersion bs at (version + 3)
+    first_there n v =
+        let e : rest bs version ≡ codes "1.1" ++ drop 3 (rest bs version) = begins_split (codes "1.1") (rest bs version) v in
+        version_there true (codes "1.1") (version + 3) refl (place_after bs version (codes "1.1") (drop 3 (rest bs version)) u white_is.boundary e) e n (first_read (rest bs version) v)
+
+    pub second_there : (version ≡ at + 5 → ⊥) → begins (codes "1.1") (rest bs version) ≡ false → begins (codes "1.2") (rest bs version) ≡ true → IsVersion bs at (version + 3)
+    second_there n w v =
+        let e : rest bs version ≡ codes "1.2" ++ drop 3 (rest bs version) = begins_split (codes "1.2") (rest bs version) v in
+        version_there false (codes "1.2") (version + 3) refl (place_after bs version (codes "1.2") (drop 3 (rest bs version)) u white_is.boundary e) e n (second_read (rest bs version) w v)
+
+-- ---- the comments after a version
+
+pub some_by_three : {A : Type 0} (r : Option A) (P Q R S : A → Type 0) → ((x : A) → P x → Q x → R x → S x) → IfSome r P → IfSome r Q → IfSome r R → IfSome r S
+some_by_three (Some x) P Q R S f p q t = f x p q t
+some_by_three None P Q R S f p q t = p
+
+pub none_open : (bs : List ℕ) (at end : ℕ) → IsVersion bs at end → closes_line (all_comments false (rest bs end)) ≡ false → NoDirective (rest bs at)
+none_open bs at end v h = λ node_at. v.reads node_at ∙ rw h refl
+
+with_comments : (node_at : Bool → List ℕ → Read Node) (blank : List ℕ) (first_version : Bool) (c : List LineEnd × List ℕ) (behind : List ℕ) → closes_line c ≡ true → c.1 ≡ behind
+    → directed_with node_at blank first_version c ≡ on (read_explicit node_at behind) (λ x rest'. Some (directed blank first_version c.0 x, rest'))
+with_comments node_at blank first_version c behind h e =
+    rw h (ap (λ t. on (read_explicit node_at t) (λ x rest'. Some (directed blank first_version c.0 x, rest'))) e)
+
+pub directive_there : (bs : List ℕ) (at end : ℕ) (line : Line) → IsUtf8 bs → IsCharBoundary bs at → IsVersion bs at end → IsSolidLine false bs end line → IsLineStart bs line.start
+    → closes_line (all_comments false (rest bs end)) ≡ true → IsDirective bs at line
+directive_there bs at end line u b v s starts h =
+    let c : List LineEnd × List ℕ = all_comments false (rest bs end) in
+    let comments : rest bs end ≡ comments_text c.0 ++ rest bs line.start = (all_sound false (rest bs end)).0 ∙ ap (λ t. comments_text c.0 ++ t) s.leaves in
+    let regrouped : directive_text v.blank v.first_version c.0 ++ rest bs line.start
+    ≡ codes "%YAML" ++ (v.blank ++ ((if v.first_version then codes "1.1" else codes "1.2") ++ (comments_text c.0 ++ rest bs line.start))) = simp append_assoc in
+    let whole : rest bs at ≡ directive_text v.blank v.first_version c.0 ++ rest bs line.start =
+    v.spells ∙ (ap (λ t. codes "%YAML" ++ (v.blank ++ ((if v.first_version then codes "1.1" else codes "1.2") ++ t))) comments ∙ sym regrouped) in
+    record {
+      boundary = s.boundary;
+      starts = starts;
+      first = s.spaces.boundary;
+      blank = v.blank;
+      first_version = v.first_version;
+      comments = c.0;
+      place = spelled_end bs at line.start (directive_text v.blank v.first_version c.0) u b s.boundary whole;
+      reads = λ node_at. v.reads node_at ∙ with_comments node_at v.blank v.first_version c (rest bs line.start) h s.leaves;
+    }

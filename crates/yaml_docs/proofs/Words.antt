@@ -1,0 +1,40 @@
+-- Words of ASCII characters at a place of a text.
+use Rattle.std.proofs.Common.{ap, arith, inl, inr, length, refl, subst, sym, ◌<◌, ◌∙◌, ◌≡◌}
+use Rattle.std.specs.Prelude.{Bool, List, [], drop, false, nat_lt, suc, true, zero, ℕ, ◌++◌, ◌==◌, ◌∷◌}
+use lib.Utf8.{encodes}
+use Rattle.std.specs.Str.{IsAscii, IsCharBoundary, IsUtf8, chars}
+use Rattle.std.proofs.lemmas.Bool.{and_from, and_parts, cases_Bool, false≢true, ltb-true}
+use Rattle.std.proofs.lemmas.Str.{IsUtf8-from_ascii, chars-IsAscii, chars-append, encodes-IsAscii, encodes-append, encodes-chars}
+use Rattle.yaml_grammar.specs.Texts.{begins, every}
+use Rattle.yaml_recognizers.proofs.StreamsComplete.{begins_split}
+
+pub is_ascii : (word : List ℕ) → every (λ c. nat_lt c 128) word ≡ true → IsAscii word
+is_ascii [] h i = omega arith
+is_ascii (w ∷ ws) h zero = ltb-true w 128 (and_parts _ _ h).0
+is_ascii (w ∷ ws) h (suc i) = is_ascii ws (and_parts _ _ h).1 i
+
+same_char : (c : ℕ) → (c == c) ≡ true
+same_char c = grind arith
+
+begins_itself : (word behind : List ℕ) → begins word (word ++ behind) ≡ true
+begins_itself [] behind = refl
+begins_itself (w ∷ ws) behind = and_from _ _ (same_char w) (begins_itself ws behind)
+
+-- The bytes begin with the word exactly where the characters do.
+pub word_begins : (bs word : List ℕ) (r : Bool) → IsUtf8 bs → every (λ c. nat_lt c 128) word ≡ true → (r ≡ true → bs ≡ word ++ drop (length word) bs)
+    → ((behind : List ℕ) → bs ≡ word ++ behind → r ≡ true) → r ≡ begins word (chars bs)
+word_begins bs word r u a there back = elim (cases_Bool r) [
+  | inl t ↦ (let e : chars bs ≡ word ++ chars (drop (length word) bs) =
+      ap chars (there t) ∙ (chars-append word (drop (length word) bs) (IsUtf8-from_ascii word ascii) ∙ ap (λ x. x ++ chars (drop (length word) bs)) (chars-IsAscii word ascii)) in
+      t ∙ sym (ap (begins word) e ∙ begins_itself word (chars (drop (length word) bs))))
+  | inr f ↦ elim (cases_Bool (begins word (chars bs))) [
+    | inl b ↦ (let e : chars bs ≡ word ++ drop (length word) (chars bs) = begins_split word (chars bs) b in
+        let bytes : bs ≡ word ++ encodes (drop (length word) (chars bs)) =
+        sym (encodes-chars bs u) ∙ (ap encodes e ∙ (encodes-append word (drop (length word) (chars bs)) ∙ ap (λ x. x ++ encodes (drop (length word) (chars bs))) (encodes-IsAscii word ascii))) in
+        absurd (false≢true (sym f ∙ back (encodes (drop (length word) (chars bs))) bytes)))
+    | inr b ↦ f ∙ sym b
+  ]
+]
+  where
+    ascii : IsAscii word
+    ascii = is_ascii word a

@@ -1,0 +1,34 @@
+use Rattle.std.specs.Prelude.{None, false, true, ◌≡◌}
+use Rattle.yaml_chars.specs.Places.{rest}
+use Rattle.yaml_events.specs.Places.{line_starts}
+use Rattle.yaml_recognizers.specs.Comments.{all_comments}
+use Rattle.yaml_recognizers.specs.Recognizers.{document_node_at}
+use Rattle.yaml_recognizers.specs.Streams.{explicit_with}
+use Rattle.yaml_scan.proofs.Outcomes.{faults_so, ok_so}
+use Rattle.yaml_docs.specs.Documents.{ExplicitNodeRead}
+use Rattle.yaml_docs.specs.Found.{BlockNodeRead}
+use Rattle.yaml_docs.proofs.DocumentSteps.{borrows_more, content_missing, content_read, nothing_read}
+use Rattle.yaml_docs.proofs.documents.explicit_node_end.Goals as goal
+
+pub returns-in_default-clause-reads : goal.returns-in_default-clause-reads
+returns-in_default-clause-reads c =
+    let text = c.args.text.now in
+    let old = c.args.events.now in
+    let new = c.block_node.new.events in
+    ok_so c.block_node.result (BlockNodeRead 0 false text c.args.at old new) (ExplicitNodeRead text c.args.at old new)
+    (λ end r. content_read text c.args.at old new end c.requires.inside_line c.in_default.ensures.none r) c.block_node.ensures.reads
+
+pub returns-in_default-clause-none : goal.returns-in_default-clause-none
+returns-in_default-clause-none c =
+    let text = c.args.text.now in
+    let at = c.args.at in
+    faults_so c.block_node.result (document_node_at (line_starts text at) (rest text at) ≡ None) (explicit_with document_node_at (rest text at) (all_comments false (rest text at)) ≡ None)
+    (content_missing text at c.requires.inside_line c.in_default.ensures.none) c.block_node.ensures.missing
+
+pub returns-clause-reads : goal.returns-clause-reads
+returns-clause-reads c =
+    nothing_read c.args.text.now c.args.at c.args.events.now c.push.new.self c.in-Some.end c.omitted.result c.in-Some.ensures.found c.in_ok-push.ensures.ok c.omitted.ensures.event
+
+pub returns-clause-borrowed : goal.returns-clause-borrowed
+returns-clause-borrowed c =
+    borrows_more c.args.text.now c.args.events.now c.push.new.self c.omitted.result c.in_ok-push.ensures.ok (c.omitted.ensures.borrowed c.args.text.now)

@@ -1,0 +1,69 @@
+-- Documents of a stream at places of a text.
+use Rattle.std.specs.Prelude.{◌≡◌, ℕ, ◌-◌, ◌<◌, ◌≤◌, Bool, true, false, List, Some, drop}
+use Rattle.std.proofs.Math.Logic.{◌⊎◌}
+use Rattle.std.specs.Str.{IsCharBoundary, chars}
+use Rattle.yaml_chars.specs.Places.{rest}
+use Rattle.yaml_grammar.specs.BlockNodes.{node_events}
+use Rattle.yaml_grammar.specs.Events as grammar
+use Rattle.yaml_grammar.specs.Events.{omitted_at}
+use Rattle.yaml_grammar.specs.Streams.{Document, Explicit, content, nothing, document_events, explicit_events}
+use Rattle.yaml_grammar.specs.Texts.{first}
+use Rattle.yaml_grammar.specs.Separation.{LineEnd}
+use Rattle.yaml_events.specs.declared.event.Event.{Event}
+use Rattle.yaml_recognizers.specs.BlockNodes.{omits}
+use Rattle.yaml_recognizers.specs.CanonicalStreams.{suffix}
+use Rattle.yaml_recognizers.specs.Comments.{all_comments}
+use Rattle.yaml_recognizers.specs.Recognizers.{document_node_at}
+use Rattle.yaml_recognizers.specs.Streams.{explicit_with, order_mark, suffix_with, read_directed, read_explicit}
+use Rattle.yaml_scan.specs.Lines.{IsLineStart}
+use Rattle.yaml_docs.specs.Pieces.{Appends, meaning_from, stream_meaning}
+
+-- the place after a byte order mark at the start of a text, or its start
+pub record IsMarkEnd (text : List ℕ) (end : ℕ) : Type 0 where
+  pub boundary : IsCharBoundary text end
+  pub starts : IsLineStart text end
+  pub unmarked : (0 < end) ⊎ (first order_mark (rest text end) ≡ false)
+  pub reads : stream_meaning (chars text) ≡ meaning_from true text end
+
+-- the `...` at the place and its line are read
+pub record SuffixRead (text : List ℕ) (at end : ℕ) : Type 0 where
+  pub boundary : IsCharBoundary text end
+  pub starts : IsLineStart text end
+  pub comments : List LineEnd
+  pub reads : suffix_with (all_comments false (drop 3 (rest text at))) ≡ Some (suffix comments, rest text end)
+
+-- comments, and after them the end of the document: its node is left out
+pub record IsOmitted (text : List ℕ) (at end : ℕ) : Type 0 where
+  pub boundary : IsCharBoundary text end
+  pub starts : IsLineStart text end
+  pub omitted : omits 0 false (all_comments false (rest text at)) ≡ true
+  pub leaves : (all_comments false (rest text at)).1 ≡ rest text end
+
+-- what the node after a `---` means, or an omitted one
+abbrev pub after_dashes : Explicit → ℕ → List grammar.Event
+after_dashes (content n) at = node_events n at
+after_dashes (nothing comments) at = omitted_at at
+
+-- the node after a `---` that ends at the place, or an omitted one, is read
+pub record ExplicitNodeRead (text : List ℕ) (at : ℕ) (old new : List Event) (end : ℕ) : Type 0 where
+  pub boundary : IsCharBoundary text end
+  pub starts : IsLineStart text end
+  pub document : Explicit
+  pub reads : explicit_with document_node_at (rest text at) (all_comments false (rest text at)) ≡ Some (document, rest text end)
+  pub appends : Appends old new (after_dashes document at)
+
+-- the document whose `---` stands at the place is read
+pub record ExplicitRead (text : List ℕ) (at : ℕ) (old new : List Event) (end : ℕ) : Type 0 where
+  pub boundary : IsCharBoundary text end
+  pub starts : IsLineStart text end
+  pub document : Explicit
+  pub reads : read_explicit document_node_at (rest text at) ≡ Some (document, rest text end)
+  pub appends : Appends old new (explicit_events document at)
+
+-- the document whose directive stands at the place is read
+pub record DocumentRead (text : List ℕ) (at : ℕ) (old new : List Event) (end : ℕ) : Type 0 where
+  pub boundary : IsCharBoundary text end
+  pub starts : IsLineStart text end
+  pub document : Document
+  pub reads : read_directed document_node_at (rest text at) ≡ Some (document, rest text end)
+  pub appends : Appends old new (document_events document at)

@@ -1,0 +1,93 @@
+-- What the pieces of a stream mean: those of a whole text, and those from a place on.
+use Rattle.std.specs.Prelude.{◌≡◌, ℕ, ◌<◌, Bool, true, false, List, ◌++◌, Option, Some, None, drop, All}
+use Rattle.std.proofs.Math.Logic.{◌⊎◌}
+use Rattle.std.specs.Str.{IsCharBoundary, chars}
+use Rattle.yaml_chars.specs.Places.{rest}
+use Rattle.yaml_grammar.specs.Events as grammar
+use Rattle.yaml_grammar.specs.Streams.{bare, explicit}
+use Rattle.yaml_grammar.specs.Texts.{first}
+use Rattle.yaml_events.specs.Borrowed.{BorrowsPlain}
+use Rattle.yaml_events.specs.Meant.{events_of}
+use Rattle.yaml_events.specs.declared.event.Event.{Event}
+use Rattle.yaml_recognizers.specs.CanonicalStreams as flat
+use Rattle.yaml_recognizers.specs.CanonicalStreams.{FlatStream, piece_events, pieces_events, flat_meant}
+use Rattle.yaml_recognizers.specs.Comments.{all_comments}
+use Rattle.yaml_recognizers.specs.Reading.{Read, on}
+use Rattle.yaml_recognizers.specs.Recognizers.{document_node_at, piece_at, pieces_at, stream_at}
+use Rattle.yaml_recognizers.specs.Signs.{dash, dot}
+use Rattle.yaml_recognizers.specs.Streams.{mark_at, order_mark, read_directed, read_explicit, suffix_with}
+use Rattle.yaml_scan.specs.Lines.{IsLineStart}
+use Rattle.yaml_docs.specs.declared.documents.Piece.{Piece}
+use Rattle.yaml_docs.specs.declared.documents.Piece.TheVariants.{Suffix, Explicit, Directed, Bare}
+
+-- what pieces mean that stand from a place on, if there are any
+abbrev pub pieces_meaning : ℕ → Option (List flat.Piece) → Option (List grammar.Event)
+pieces_meaning at None = None
+pieces_meaning at (Some pieces) = Some (pieces_events pieces at)
+
+-- the events of the pieces from a place on, where a line starts; opened: a bare document or a directive may stand there
+abbrev pub meaning_from : Bool → List ℕ → ℕ → Option (List grammar.Event)
+meaning_from opened text at = pieces_meaning at (pieces_at opened true (rest text at))
+
+abbrev pub flat_meaning : Option FlatStream → Option (List grammar.Event)
+flat_meaning None = None
+flat_meaning (Some stream) = Some (flat_meant stream)
+
+-- the events of a text, if it is a stream
+abbrev pub stream_meaning : List ℕ → Option (List grammar.Event)
+stream_meaning text = flat_meaning (stream_at text)
+
+-- events, and then those that follow, if what follows is a stream
+abbrev pub and_then : List grammar.Event → Option (List grammar.Event) → Option (List grammar.Event)
+and_then events None = None
+and_then events (Some more) = Some (events ++ more)
+
+-- ---- pieces at places of a text
+
+-- what the recognizer reads where such a piece begins
+abbrev pub read_as : Piece → List ℕ → Read flat.Piece
+read_as Suffix text = suffix_with (all_comments false (drop 3 text))
+read_as Explicit text = on (read_explicit document_node_at text) (λ x behind. Some (flat.document (explicit x), behind))
+read_as Directed text = on (read_directed document_node_at text) (λ d behind. Some (flat.document d, behind))
+read_as Bare text = on (document_node_at true text) (λ n behind. Some (flat.document (bare n), behind))
+
+-- a bare document or a directive may follow such a piece
+abbrev pub ends_document : Piece → Bool
+ends_document Suffix = true
+ends_document Explicit = false
+ends_document Directed = false
+ends_document Bare = false
+
+-- a piece with a marker begins with it
+abbrev pub Begins : Piece → List ℕ → Type 0
+Begins Suffix text = mark_at dot text ≡ true
+Begins Explicit text = mark_at dash text ≡ true
+Begins Directed text = Unit {0}
+Begins Bare text = Unit {0}
+
+-- the text begins with such a piece, if with any
+pub record BeginsPiece (opened : Bool) (text : List ℕ) (piece : Piece) : Type 0 where
+  pub begins : Begins piece text
+  pub reads : piece_at opened true text ≡ read_as piece text
+
+-- The events of the second list are those of the first, and after them some with this meaning.
+pub record Appends (old new : List Event) (meaning : List grammar.Event) : Type 0 where
+  pub added : List Event
+  pub is : new ≡ old ++ added
+  pub means : events_of added ≡ meaning
+
+-- the piece from one place to another is read, and its events are appended
+pub record PieceRead (text : List ℕ) (at : ℕ) (piece : Piece) (old new : List Event) (end : ℕ) : Type 0 where
+  pub boundary : IsCharBoundary text end
+  pub starts : IsLineStart text end
+  pub found : flat.Piece
+  pub reads : read_as piece (rest text at) ≡ Some (found, rest text end)
+  pub appends : Appends old new (piece_events found at)
+
+-- The events of the whole text are these, and then those of the pieces from the place on.
+pub record ReadUpTo (text : List ℕ) (opened : Bool) (at : ℕ) (events : List Event) : Type 0 where
+  pub boundary : IsCharBoundary text at
+  pub starts : IsLineStart text at
+  pub unmarked : (0 < at) ⊎ (first order_mark (rest text at) ≡ false)
+  pub reads : stream_meaning (chars text) ≡ and_then (events_of events) (meaning_from opened text at)
+  pub borrows : All (BorrowsPlain text) events

@@ -1,0 +1,238 @@
+// The documents of a stream (YAML 1.2.2, 6.8 and chapter 9).
+ghost use Rattle.std.specs.Prelude.{All, ◌≡◌, true, false, drop, Some, None, IfOk, IfErr, IfSome, IfNone};
+
+ghost use Rattle.std.specs.Str.{IsCharBoundary, chars};
+ghost use Rattle.yaml_chars.specs.Places.{rest};
+ghost use Rattle.yaml_events.specs.Borrowed.{BorrowsPlain};
+ghost use Rattle.yaml_events.specs.Meant.{events_of};
+ghost use Rattle.yaml_events.specs.Places.{line_starts, Refuses};
+ghost use Rattle.yaml_recognizers.specs.BlockNodes.{omits};
+ghost use Rattle.yaml_recognizers.specs.CanonicalComments.{is_line_end};
+ghost use Rattle.yaml_recognizers.specs.Comments.{all_comments};
+ghost use Rattle.yaml_recognizers.specs.Recognizers.{document_node_at, piece_at};
+ghost use Rattle.yaml_recognizers.specs.Signs.{dash, dot};
+ghost use Rattle.yaml_recognizers.specs.Streams.{mark_at, read_explicit, read_directed, explicit_with, suffix_with};
+ghost use Rattle.yaml_docs.specs.Documents.{IsMarkEnd, IsOmitted, ExplicitRead, ExplicitNodeRead, DocumentRead, SuffixRead};
+ghost use Rattle.yaml_docs.specs.Pieces.{Begins, BeginsPiece, PieceRead, ends_document, read_as, stream_meaning};
+
+use crate::directive::directive_end;
+use crate::nodes::{block_node, omitted};
+use std::alloc::Global;
+use yaml_chars::next_char;
+use yaml_events::{BlockContext, Event, Events, ScanFault, Why};
+use yaml_scan::{Line, Marker, is_marker, is_marker_of, line_after, solid_line, stands_at};
+
+/// What begins at a line of a stream that holds more than white space and a comment.
+#[derive(Clone, Copy, Debug, PartialEq, Eq)]
+pub(crate) enum Piece {
+    /// `...`, which ends a document (9.1.2).
+    Suffix,
+    /// `---` and a document (9.1.4).
+    Explicit,
+    /// `%YAML`, and after it `---` and a document (9.1.5).
+    Directed,
+    /// A document without a marker (9.1.3).
+    Bare,
+}
+
+/// Returns the events of all documents of `text`, in order (9.2).
+pub(crate) fn stream<'a>(alloc: Global, text: &'a str) -> Result<Events<'a>, ScanFault>
+    ensures found { IfOk result (λ events. stream_meaning (chars text.now) ≡ Some (events_of events)) }
+    ensures none { IfErr result (λ fault. Refuses fault (stream_meaning (chars text.now) ≡ None)) }
+    ensures borrowed { IfOk result (λ events. All (BorrowsPlain text.now) events) }
+{
+    let mut events = Events::new(alloc);
+    // Whether a bare document or a directive may stand at `at`.
+    let mut opened = true;
+    let mut at = mark_end(text);
+    'pieces: loop {
+        let line = solid_line(text, at);
+        if line.start == text.len() {
+            return Ok(events);
+        }
+        let piece = piece_at(text, line, opened)?;
+        at = piece_end(alloc, &mut events, text, line.start, piece)?;
+        opened = ends_document(piece);
+    }
+}
+
+/// Returns whether a piece ends the document before it, so that a bare document or a directive may follow.
+fn ends_document(piece: Piece) -> bool
+    ensures { result ≡ ends_document piece }
+{
+    matches!(piece, Piece::Suffix)
+}
+
+/// Returns the end of the byte order mark that `text` begins with (5.2), or 0.
+fn mark_end(text: &str) -> usize
+    ensures { IsMarkEnd text.now result }
+{
+    let Some((character, len)) = next_char(text, 0) else {
+        return 0;
+    };
+    if character == '\u{feff}' { len } else { 0 }
+}
+
+/// Returns what begins at a solid line. A bare document or a directive may stand there only if `opened` says so.
+fn piece_at(text: &str, line: Line, opened: bool) -> Result<Piece, ScanFault>
+    requires at { IsCharBoundary text.now line.start }
+    requires first { IsCharBoundary text.now line.first }
+    requires solid { is_line_end (rest text.now line.start) ≡ false }
+    ensures found { IfOk result (BeginsPiece opened (rest text.now line.start)) }
+    ensures none { IfErr result (λ fault. Refuses fault (piece_at opened true (rest text.now line.start) ≡ None)) }
+{
+    if is_marker_of(text, line.start, Marker::DocumentEnd) {
+        return Ok(Piece::Suffix);
+    }
+    if is_marker_of(text, line.start, Marker::DirectivesEnd) {
+        return Ok(Piece::Explicit);
+    }
+    if !opened {
+        return Err(ScanFault::At {
+            at: line.first,
+            why: why_not_opened(text, line),
+        });
+    }
+    if stands_at(text, line.start, b'%') {
+        return Ok(Piece::Directed);
+    }
+    Ok(Piece::Bare)
+}
+
+/// Why neither a bare document nor a directive may stand at a line after a document.
+fn why_not_opened(text: &str, line: Line) -> Why
+    requires { IsCharBoundary text.now line.first }
+{
+    if stands_at(text, line.first, b'%') {
+        Why::Directive
+    } else {
+        Why::Indent
+    }
+}
+
+/// Appends the events of the piece that begins at `at`, and returns its end.
+fn piece_end<'a>(
+    alloc: Global,
+    events: &mut Events<'a>,
+    text: &'a str,
+    at: usize,
+    piece: Piece,
+) -> Result<usize, ScanFault>
+    requires at { IsCharBoundary text.now at }
+    requires line { line_starts text.now at ≡ true }
+    requires begins { Begins piece (rest text.now at) }
+    ensures reads { IfOk result (PieceRead text.now at piece events.old events.new) }
+    ensures none { IfErr result (λ fault. Refuses fault (read_as piece (rest text.now at) ≡ None)) }
+    ensures borrowed { IfOk result (λ _. All (BorrowsPlain text.now) events.old → All (BorrowsPlain text.now) events.new) }
+{
+    match piece {
+        Piece::Suffix => suffix_end(text, at),
+        Piece::Explicit => explicit_end(alloc, events, text, at),
+        Piece::Directed => directed_end(alloc, events, text, at),
+        Piece::Bare => bare_end(alloc, events, text, at),
+    }
+}
+
+/// Returns the end of the `...` at `at` and of its line (9.1.2, `l-document-suffix`).
+fn suffix_end(text: &str, at: usize) -> Result<usize, ScanFault>
+    requires at { IsCharBoundary text.now at }
+    requires mark { mark_at dot (rest text.now at) ≡ true }
+    ensures reads { IfOk result (SuffixRead text.now at) }
+    ensures none { IfErr result (λ fault. Refuses fault (suffix_with (all_comments false (drop 3 (rest text.now at))) ≡ None)) }
+{
+    let Some(line) = line_after(text, at + 3) else {
+        return Err(ScanFault::At {
+            at: at + 3,
+            why: Why::Marker,
+        });
+    };
+    Ok(line.start)
+}
+
+/// Appends the events of the document without a marker at `at`, and returns its end (9.1.3, `l-bare-document`).
+fn bare_end<'a>(alloc: Global, events: &mut Events<'a>, text: &'a str, at: usize) -> Result<usize, ScanFault>
+    requires at { IsCharBoundary text.now at }
+    requires line { line_starts text.now at ≡ true }
+    ensures reads { IfOk result (PieceRead text.now at Piece.Bare events.old events.new) }
+    ensures none { IfErr result (λ fault. Refuses fault (read_as Piece.Bare (rest text.now at) ≡ None)) }
+    ensures borrowed { IfOk result (λ _. All (BorrowsPlain text.now) events.old → All (BorrowsPlain text.now) events.new) }
+{
+    events.push(Event::DocStart)?;
+    let end = block_node(alloc, events, text, at, -1, BlockContext::Bin)?;
+    events.push(Event::DocEnd)?;
+    Ok(end)
+}
+
+/// Appends the events of the document whose `---` stands at `at`, and returns its end (9.1.4, `l-explicit-document`).
+fn explicit_end<'a>(alloc: Global, events: &mut Events<'a>, text: &'a str, at: usize) -> Result<usize, ScanFault>
+    requires at { IsCharBoundary text.now at }
+    requires mark { mark_at dash (rest text.now at) ≡ true }
+    ensures reads { IfOk result (ExplicitRead text.now at events.old events.new) }
+    ensures none { IfErr result (λ fault. Refuses fault (read_explicit document_node_at (rest text.now at) ≡ None)) }
+    ensures borrowed { IfOk result (λ _. All (BorrowsPlain text.now) events.old → All (BorrowsPlain text.now) events.new) }
+{
+    events.push(Event::DocStart)?;
+    let end = explicit_node_end(alloc, events, text, at + 3)?;
+    events.push(Event::DocEnd)?;
+    Ok(end)
+}
+
+/// Appends the events of the node after a `---` that ends at `at`, and returns its end. A node that is left out is the empty text.
+fn explicit_node_end<'a>(
+    alloc: Global,
+    events: &mut Events<'a>,
+    text: &'a str,
+    at: usize,
+) -> Result<usize, ScanFault>
+    requires at { IsCharBoundary text.now at }
+    requires inside_line { line_starts text.now at ≡ false }
+    ensures reads { IfOk result (ExplicitNodeRead text.now at events.old events.new) }
+    ensures none { IfErr result (λ fault. Refuses fault (explicit_with document_node_at (rest text.now at) (all_comments false (rest text.now at)) ≡ None)) }
+    ensures borrowed { IfOk result (λ _. All (BorrowsPlain text.now) events.old → All (BorrowsPlain text.now) events.new) }
+{
+    let Some(end) = omitted_end(text, at) else {
+        return block_node(alloc, events, text, at, -1, BlockContext::Bin);
+    };
+    events.push(omitted(at))?;
+    Ok(end)
+}
+
+/// Returns the end of the document if nothing but comments follows its `---`, which ends at `at`.
+fn omitted_end(text: &str, at: usize) -> Option<usize>
+    requires { IsCharBoundary text.now at }
+    ensures found { IfSome result (IsOmitted text.now at) }
+    ensures none { IfNone result (omits 0 false (all_comments false (rest text.now at)) ≡ false) }
+{
+    let Some(line) = line_after(text, at) else {
+        return None;
+    };
+    if line.start == text.len() {
+        return Some(line.start);
+    }
+    if !is_marker(text, line.start) {
+        return None;
+    }
+    Some(line.start)
+}
+
+/// Appends the events of the document whose directive stands at `at`, and returns its end (9.1.5, `l-directive-document`).
+fn directed_end<'a>(alloc: Global, events: &mut Events<'a>, text: &'a str, at: usize) -> Result<usize, ScanFault>
+    requires { IsCharBoundary text.now at }
+    ensures reads { IfOk result (DocumentRead text.now at events.old events.new) }
+    ensures none { IfErr result (λ fault. Refuses fault (read_directed document_node_at (rest text.now at) ≡ None)) }
+    ensures borrowed { IfOk result (λ _. All (BorrowsPlain text.now) events.old → All (BorrowsPlain text.now) events.new) }
+{
+    let Some(line) = directive_end(text, at) else {
+        return Err(ScanFault::At {
+            at,
+            why: Why::Directive,
+        });
+    };
+    if !is_marker_of(text, line.start, Marker::DirectivesEnd) {
+        return Err(ScanFault::At {
+            at: line.first,
+            why: Why::Directive,
+        });
+    }
+    explicit_end(alloc, events, text, line.start)
+}

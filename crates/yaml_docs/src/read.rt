@@ -1,0 +1,69 @@
+// Reading bytes as a stream of documents.
+ghost use Rattle.std.specs.Prelude.{All, ◌≡◌, ◌<◌, ◌≤◌, ◌↔◌, Err, IfOk, IfErr, length};
+ghost use Rattle.yaml_events.specs.Borrowed.{BorrowsPlain};
+ghost use Rattle.yaml_events.specs.Meant.{events_of};
+ghost use Rattle.yaml_recognizers.specs.Ranges.{RangesInOrder};
+ghost use Rattle.yaml_docs.specs.Reading.{ReadsAs, RefusesBytes, IsSyntax};
+
+use crate::ReadFault;
+use crate::documents::stream;
+use std::alloc::Global;
+use yaml_chars::{CharFault, checked, next_break};
+use yaml_events::{Events, ScanFault, Why};
+
+/// The events of all documents of a text, in order.
+///
+/// `bytes` are UTF-8 (YAML 1.2.2, 5.2), with at most `max` bytes; a byte order mark at their start is skipped. A stream holds
+/// any number of documents (9.2). The ranges of scalars count bytes from 0, and a plain scalar on one line borrows its value.
+///
+/// # Errors
+///
+/// - [`ReadFault::TooLong`] if there are more than `max` bytes.
+/// - [`ReadFault::NotUtf8`] if they are not UTF-8.
+/// - [`ReadFault::Syntax`] if they are no stream of documents without aliases, anchors and tags.
+/// - [`ReadFault::OutOfMemory`] if there is no memory for the events.
+pub fn events<'a>(alloc: Global, bytes: &'a [u8], max: u64) -> Result<Events<'a>, ReadFault>
+    ensures reads { IfOk result (λ events. ReadsAs bytes.now max events) }
+    ensures too_long { (result ≡ Err ReadFault.TooLong) ↔ (max < length bytes.now) }
+    ensures refused { IfErr result (RefusesBytes bytes.now max) }
+    ensures borrowed { IfOk result (λ events. All (BorrowsPlain bytes.now) events) }
+    ensures in_order { IfOk result (λ events. RangesInOrder 0 (events_of events) (length bytes.now)) }
+{
+    if bytes.len() as u64 > max {
+        return Err(ReadFault::TooLong);
+    }
+    let text = match checked(bytes) {
+        Ok(text) => text,
+        Err(CharFault::NotUtf8 { at }) => return Err(ReadFault::NotUtf8 { at }),
+    };
+    match stream(alloc, text) {
+        Ok(events) => Ok(events),
+        Err(ScanFault::At { at, why }) => Err(syntax(text, at, why)),
+        Err(ScanFault::OutOfMemory) => Err(ReadFault::OutOfMemory),
+    }
+}
+
+/// The fault at byte `at`, with its line and column.
+fn syntax(text: &str, at: usize, why: Why) -> ReadFault
+    ensures { IsSyntax result }
+{
+    let bytes = text.as_bytes();
+    let mut line = 1;
+    let mut start = 0;
+    while let Some((place, len)) = next_break(text, start) {
+        if place + len > at {
+            break;
+        }
+        line += 1;
+        start = place + len;
+    }
+    let column = 1 + code_points(&bytes[start..at.clamp(start, bytes.len())]);
+    ReadFault::Syntax { line, column, why }
+}
+
+/// How many characters begin in these bytes of a text.
+fn code_points(bytes: &[u8]) -> u64
+    ensures { result ≤ length bytes.now }
+{
+    bytes.iter().filter(|byte| **byte & 0xc0 != 0x80).count() as u64
+}

@@ -1,0 +1,9 @@
+use Rattle.yaml_recognizers.proofs.NodePlaces.{stream_stand}
+use Rattle.yaml_recognizers.proofs.NodesSpelled.{stream_spelled}
+use Rattle.yaml_recognizers.proofs.texts.nodes_stand.Goals as goal
+
+pub returns-clause-spelled : goal.returns-clause-spelled
+returns-clause-spelled c = stream_spelled
+
+pub returns-clause-stand : goal.returns-clause-stand
+returns-clause-stand c = stream_stand

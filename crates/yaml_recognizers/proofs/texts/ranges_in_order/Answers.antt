@@ -1,0 +1,5 @@
+use Rattle.yaml_recognizers.proofs.Ranges.{stream_ranges}
+use Rattle.yaml_recognizers.proofs.texts.ranges_in_order.Goals as goal
+
+pub returns : goal.returns
+returns c = stream_ranges
