@@ -1,1 +1,2 @@
 pub mod NextClosing
+pub mod Reading

@@ -2,8 +2,12 @@
 #![tactic(auto)]
 
 mod closing;
+mod fault;
+mod read;
 
 pub use closing::next_close;
+pub use fault::ReadFault;
+pub use read::events;
 
 #[cfg(test)]
 mod tests;

@@ -9,8 +9,6 @@ pub mod StyleLemmas
 pub mod TextLemmas
 pub mod TextsLemmas
 pub mod WalkLemmas
-pub mod KnownWords
-pub mod KnownPresented
-pub mod KnownSlices
-pub mod KnownReadSoFar
-pub mod KnownReads
+pub mod FrameLemmas
+pub mod PartLemmas
+pub mod EventLemmas

@@ -4,11 +4,13 @@
 //! tree's text in the one style to a [`Sink`], which may be a buffer or a count; [`style_len`] is the text's length.
 #![tactic(auto)]
 
+mod build;
 mod config;
 mod count;
-mod fault;
+mod deep;
+mod documents;
 mod keys;
-mod known;
+mod limits;
 mod literal;
 mod quoted;
 mod read;
@@ -19,12 +21,13 @@ mod tree;
 
 pub use config::Config;
 pub use count::style_len;
-pub use fault::{Limits, ReadFault};
+pub use limits::Limits;
 pub use read::read_one;
 pub use scalar::{ScalarStyle, scalar_style};
 pub use sink::Sink;
 pub use style::{write_key, write_style, write_value};
 pub use tree::Tree;
+pub use yaml_docs::ReadFault;
 
 #[cfg(test)]
 mod tests;

@@ -1,22 +1,11 @@
-// What a text or a tree is refused for, and the limits of what is accepted.
+// Why a text or a tree is refused.
 ghost use Rattle.std.specs.Prelude.{◌≡◌};
 
 use std::alloc::{AllocError, AllocFailed};
 use thiserror::Error;
 use yaml_events::Why;
 
-/// How large a text, and the tree in it, may be.
-#[derive(Clone, Copy, Debug, PartialEq, Eq)]
-pub struct Limits {
-    /// The most bytes of the text.
-    pub bytes: u64,
-    /// The greatest depth of the tree.
-    pub depth: u64,
-    /// The most bytes of the tree in the one style.
-    pub style: u64,
-}
-
-/// Why a text or a tree is refused. A later one is answered only where no earlier one holds; want of memory may come at
+/// Why a text or a tree is refused. A later one is returned only where no earlier one holds; out of memory may come at
 /// any point.
 #[derive(Clone, Copy, Debug, PartialEq, Eq, Error)]
 pub enum ReadFault {
@@ -44,13 +33,13 @@ pub enum ReadFault {
     /// The tree has more bytes in the one style than the limit.
     #[error("LargeInStyle")]
     LargeInStyle,
-    /// There was no memory.
+    /// Out of memory.
     #[error("OutOfMemory")]
     OutOfMemory,
 }
 
 impl From<AllocError> for ReadFault {
-    ghost use Rattle.yaml_tree.specs.declared.fault.ReadFault.TheVariants.{OutOfMemory};
+    ghost use Rattle.yaml_docs.specs.declared.fault.ReadFault.TheVariants.{OutOfMemory};
 
     ghost from_gives = { λ _ fault. fault ≡ OutOfMemory };
 
@@ -60,7 +49,7 @@ impl From<AllocError> for ReadFault {
 }
 
 impl<T: Drop> From<AllocFailed<T>> for ReadFault {
-    ghost use Rattle.yaml_tree.specs.declared.fault.ReadFault.TheVariants.{OutOfMemory};
+    ghost use Rattle.yaml_docs.specs.declared.fault.ReadFault.TheVariants.{OutOfMemory};
 
     ghost from_gives = { λ _ fault. fault ≡ OutOfMemory };
 

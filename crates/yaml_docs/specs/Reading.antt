@@ -1,0 +1,32 @@
+-- What bytes read as, and what they are refused for.
+use Rattle.std.specs.Prelude.{◌≡◌, ℕ, ◌<◌, ◌≤◌, List, length}
+use Rattle.std.specs.Str.{chars, IsUtf8}
+use Rattle.std.specs.Str.Lossy.{utf8_valid_len}
+use Rattle.yaml_grammar.specs.Events as grammar
+use Rattle.yaml_grammar.specs.Reads.{Reads}
+use Rattle.yaml_events.specs.Meant.{events_of}
+use Rattle.yaml_events.specs.declared.event.Event.{Event}
+use Rattle.yaml_docs.specs.declared.fault.ReadFault.{ReadFault}
+use Rattle.yaml_docs.specs.declared.fault.ReadFault.TheVariants.{TooLong, NotUtf8, Syntax, Documents, KeyNotText, KeyTwice, TooDeep, LargeInStyle, OutOfMemory}
+
+-- the bytes are a text, and at most so many
+pub record IsShortText (bytes : List ℕ) (max : ℕ) : Type 0 where
+  pub short : length bytes ≤ max
+  pub utf8 : IsUtf8 bytes
+
+-- the bytes are a text of at most so many bytes, which reads as the events and as no others
+pub record ReadsAs (bytes : List ℕ) (max : ℕ) (events : List Event) : Type 0 where
+  pub text : IsShortText bytes max
+  pub reads : Reads (chars bytes) (events_of events)
+
+-- What bytes are refused for as a stream, where no earlier fault holds. Faults of trees are none of a stream.
+abbrev pub RefusesBytes : List ℕ → ℕ → ReadFault → Type 0
+RefusesBytes bytes max TooLong = max < length bytes
+RefusesBytes bytes max (NotUtf8 at) = (length bytes ≤ max) × (IsUtf8 bytes → ⊥) × (at ≡ utf8_valid_len bytes)
+RefusesBytes bytes max (Syntax line column why) = IsShortText bytes max × ((events : List grammar.Event) → Reads (chars bytes) events → ⊥)
+RefusesBytes bytes max (Documents count) = ⊥
+RefusesBytes bytes max KeyNotText = ⊥
+RefusesBytes bytes max KeyTwice = ⊥
+RefusesBytes bytes max TooDeep = ⊥
+RefusesBytes bytes max LargeInStyle = ⊥
+RefusesBytes bytes max OutOfMemory = Unit {0}
