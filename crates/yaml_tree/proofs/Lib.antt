@@ -12,3 +12,4 @@ pub mod WalkLemmas
 pub mod FrameLemmas
 pub mod PartLemmas
 pub mod EventLemmas
+pub mod DepthLemmas
