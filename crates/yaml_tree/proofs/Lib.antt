@@ -13,3 +13,6 @@ pub mod FrameLemmas
 pub mod PartLemmas
 pub mod EventLemmas
 pub mod DepthLemmas
+pub mod EmptiedLemmas
+pub mod CheckLemmas
+pub mod ReadLemmas

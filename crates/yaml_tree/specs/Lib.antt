@@ -1,6 +1,7 @@
 pub mod Budget
 pub mod BudgetLaws
 pub mod Building
+pub mod Emptied
 pub mod Frames
 pub mod Keys
 pub mod Kept

@@ -41,3 +41,7 @@ Refuses bytes limits KeyTwice = RefusesTree bytes limits KeyTwice
 Refuses bytes limits TooDeep = RefusesTree bytes limits TooDeep
 Refuses bytes limits LargeInStyle = RefusesTree bytes limits LargeInStyle
 Refuses bytes limits OutOfMemory = Unit {0}
+
+-- the bytes give no tree
+abbrev pub GivesNone : List ℕ → Limits → Type 0
+GivesNone bytes limits = (t : Tree) → IsRead bytes limits t → ⊥

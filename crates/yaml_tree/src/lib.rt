@@ -10,6 +10,7 @@ mod count;
 mod deep;
 mod documents;
 mod keys;
+mod laws;
 mod limits;
 mod literal;
 mod quoted;
@@ -21,6 +22,7 @@ mod tree;
 
 pub use config::Config;
 pub use count::style_len;
+pub use laws::{bytes_give_one, refused_bytes_give_none};
 pub use limits::Limits;
 pub use read::read_one;
 pub use scalar::{ScalarStyle, scalar_style};

@@ -1,7 +1,6 @@
 // Reading a text as one tree.
 ghost use Rattle.std.specs.Prelude.{◌≡◌, ◌≤◌, ◌<◌, ◌↔◌, Err, IfOk, IfErr, length};
 ghost use Rattle.yaml_events.specs.Meant.{events_of};
-ghost use Rattle.yaml_grammar.specs.Trees.{Tree, IsTreeOf};
 ghost use Rattle.yaml_tree.specs.Building.{RefusesDeep};
 ghost use Rattle.yaml_tree.specs.Kept.{limits_of};
 ghost use Rattle.yaml_tree.specs.Reading.{IsRead, Refuses};
