@@ -16,3 +16,4 @@ pub mod DepthLemmas
 pub mod EmptiedLemmas
 pub mod CheckLemmas
 pub mod ReadLemmas
+pub mod GivenLemmas
