@@ -48,7 +48,7 @@ tree_run es t is = ap (run (Some [])) is ∙ document_run t
 pub run_tree : (es : List grammar.Event) (fs : List Frame) (t : Tree) → run (Some []) (shapes es) ≡ Some fs → finished fs ≡ Some t → IsTreeOf es t
 run_tree es fs t e done = run_written (shapes es) (whole t ∷ []) (e ∙ ap Some (finished_whole fs t done))
 
-none_stopped : (es : List grammar.Event) → run (Some []) (shapes es) ≡ None → (t : Tree) → IsTreeOf es t → ⊥
+pub none_stopped : (es : List grammar.Event) → run (Some []) (shapes es) ≡ None → (t : Tree) → IsTreeOf es t → ⊥
 none_stopped es e t is = let found = tree_run es t is in cc
 
 none_unfinished : (es : List grammar.Event) (fs : List Frame) → run (Some []) (shapes es) ≡ Some fs → finished fs ≡ None → (t : Tree) → IsTreeOf es t → ⊥

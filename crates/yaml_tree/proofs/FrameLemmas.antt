@@ -24,11 +24,11 @@ run-None (s ∷ ss) = run-None ss
 
 -- ---- more at the end
 
-abbrev elements_join : Elements → Elements → Elements
+abbrev pub elements_join : Elements → Elements → Elements
 elements_join ts no_element = ts
 elements_join ts (element u us) = elements_join (elements_and ts u) us
 
-abbrev members_join : Members → Members → Members
+abbrev pub members_join : Members → Members → Members
 members_join ms no_member = ms
 members_join ms (member key u ns) = members_join (members_and ms key u) ns
 
@@ -40,11 +40,11 @@ members_join-member : (key : List ℕ) (t : Tree) (ms ns : Members) → members_
 members_join-member key t ms no_member = refl
 members_join-member key t ms (member k u ns) = members_join-member key t (members_and ms k u) ns
 
-elements_join-none : (us : Elements) → elements_join no_element us ≡ us
+pub elements_join-none : (us : Elements) → elements_join no_element us ≡ us
 elements_join-none no_element = refl
 elements_join-none (element u us) = elements_join-element u no_element us ∙ ap (element u) (elements_join-none us)
 
-members_join-none : (ns : Members) → members_join no_member ns ≡ ns
+pub members_join-none : (ns : Members) → members_join no_member ns ≡ ns
 members_join-none no_member = refl
 members_join-none (member key u ns) = members_join-member key u no_member ns ∙ ap (member key u) (members_join-none ns)
 

@@ -12,47 +12,8 @@ use Rattle.yaml_grammar.specs.Texts.{byte_len}
 use Rattle.yaml_tree.specs.Reading.{IsRead, RefusesTree, Refuses, document_count}
 use Rattle.yaml_tree.proofs.ByteLemmas.{byte_len-chars}
 use Rattle.yaml_tree.proofs.EventLemmas.{tree_is_one}
-
--- ---- the events of a tree are those of one document
-
-abbrev starts : List Shape → ℕ
-starts [] = 0
-starts (document_from ∷ ss) = suc (starts ss)
-starts (document_to ∷ ss) = starts ss
-starts (seq_from ∷ ss) = starts ss
-starts (seq_to ∷ ss) = starts ss
-starts (map_from ∷ ss) = starts ss
-starts (map_to ∷ ss) = starts ss
-starts (scalar_of value ∷ ss) = starts ss
-
-starts_counted : (es : List Event) → document_count es ≡ starts (shapes es)
-starts_counted [] = refl
-starts_counted (document_start ∷ es) = ap suc (starts_counted es)
-starts_counted (document_end ∷ es) = starts_counted es
-starts_counted (seq_start ∷ es) = starts_counted es
-starts_counted (seq_end ∷ es) = starts_counted es
-starts_counted (map_start ∷ es) = starts_counted es
-starts_counted (map_end ∷ es) = starts_counted es
-starts_counted (scalar_event style from to value ∷ es) = starts_counted es
-
-mutual
-  tree_starts : (t : Tree) (ss : List Shape) → starts (tree_shapes t ++ ss) ≡ starts ss
-  tree_starts (text value) ss = refl
-  tree_starts (sequence ts) ss = ap starts (append_assoc (elements_shapes ts) (seq_to ∷ []) ss) ∙ elements_starts ts (seq_to ∷ ss)
-  tree_starts (mapping ms) ss = ap starts (append_assoc (members_shapes ms) (map_to ∷ []) ss) ∙ members_starts ms (map_to ∷ ss)
-
-  elements_starts : (ts : Elements) (ss : List Shape) → starts (elements_shapes ts ++ ss) ≡ starts ss
-  elements_starts no_element ss = refl
-  elements_starts (element t ts) ss =
-      ap starts (append_assoc (tree_shapes t) (elements_shapes ts) ss) ∙ tree_starts t (elements_shapes ts ++ ss) ∙ elements_starts ts ss
-
-  members_starts : (ms : Members) (ss : List Shape) → starts (members_shapes ms ++ ss) ≡ starts ss
-  members_starts no_member ss = refl
-  members_starts (member key t ms) ss =
-      ap starts (append_assoc (tree_shapes t) (members_shapes ms) ss) ∙ tree_starts t (members_shapes ms ++ ss) ∙ members_starts ms ss
-
-tree_counted : (es : List Event) (t : Tree) → IsTreeOf es t → document_count es ≡ 1
-tree_counted es t is = starts_counted es ∙ ap starts is ∙ ap suc (tree_starts t (document_to ∷ []))
+use Rattle.yaml_tree.proofs.NestedLemmas.{collection_key_none}
+use Rattle.yaml_tree.proofs.StartLemmas.{tree_counted}
 
 -- ---- what bytes give
 
@@ -88,7 +49,7 @@ refused_none bytes limits (Syntax line column why) memory h t read =
     let given = read.gives in
     h.1 given.events given.reads
 refused_none bytes limits (Documents count) memory h t read = h.4 (h.3 ∙ tree_counted h.1 t (given_by bytes limits h.1 t h.2 read))
-refused_none bytes limits KeyNotText memory h t read = h.4 t (given_by bytes limits h.1 t h.2 read)
+refused_none bytes limits KeyNotText memory h t read = collection_key_none h.1 h.4 t (given_by bytes limits h.1 t h.2 read)
 refused_none bytes limits KeyTwice memory h t read =
     let given = read.gives in
     let good = given.good in

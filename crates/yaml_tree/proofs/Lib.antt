@@ -17,3 +17,6 @@ pub mod EmptiedLemmas
 pub mod CheckLemmas
 pub mod ReadLemmas
 pub mod GivenLemmas
+pub mod NestedLemmas
+pub mod PresentedLemmas
+pub mod StartLemmas

@@ -9,4 +9,5 @@ pub mod Lines
 pub mod Runs
 pub mod ScalarStyles
 pub mod Seen
+pub mod Nested
 pub mod Reading

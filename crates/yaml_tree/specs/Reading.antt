@@ -9,6 +9,7 @@ use Rattle.yaml_docs.specs.Reading.{IsShortText}
 use Rattle.yaml_docs.specs.declared.fault.ReadFault.{ReadFault}
 use Rattle.yaml_docs.specs.declared.fault.ReadFault.TheVariants.{TooLong, NotUtf8, Syntax, Documents, KeyNotText, KeyTwice, TooDeep, LargeInStyle, OutOfMemory}
 use Rattle.yaml_tree.specs.Kept.{IsFirstFault}
+use Rattle.yaml_tree.specs.Nested.{HasCollectionKey}
 
 -- the bytes are a text that gives the tree within the limits
 pub record IsRead (bytes : List ℕ) (limits : Limits) (t : Tree) : Type 0 where
@@ -29,14 +30,14 @@ pub record RefusesTree (bytes : List ℕ) (limits : Limits) (fault : ReadFault) 
   pub is_tree : IsTreeOf events tree
   pub first : IsFirstFault limits tree fault
 
--- What bytes are refused for, where no earlier fault holds. The events of one document in which some key is a collection are those of no tree.
+-- what bytes are refused for, where no earlier fault holds
 abbrev pub Refuses : List ℕ → Limits → ReadFault → Type 0
 Refuses bytes limits TooLong = limits.bytes < length bytes
 Refuses bytes limits (NotUtf8 at) = (length bytes ≤ limits.bytes) × (IsUtf8 bytes → ⊥) × (at ≡ utf8_valid_len bytes)
 Refuses bytes limits (Syntax line column why) = IsShortText bytes limits.bytes × ((events : List Event) → Reads (chars bytes) events → ⊥)
 Refuses bytes limits (Documents count) = IsShortText bytes limits.bytes × (events : List Event) × Reads (chars bytes) events × (count ≡ document_count events) × (count ≢ 1)
 Refuses bytes limits KeyNotText =
-    IsShortText bytes limits.bytes × (events : List Event) × Reads (chars bytes) events × (document_count events ≡ 1) × ((t : Tree) → IsTreeOf events t → ⊥)
+    IsShortText bytes limits.bytes × (events : List Event) × Reads (chars bytes) events × (document_count events ≡ 1) × HasCollectionKey events
 Refuses bytes limits KeyTwice = RefusesTree bytes limits KeyTwice
 Refuses bytes limits TooDeep = RefusesTree bytes limits TooDeep
 Refuses bytes limits LargeInStyle = RefusesTree bytes limits LargeInStyle

@@ -1,9 +1,12 @@
-use Rattle.std.proofs.Common.{◌≡◌, sym, subst}
+use Rattle.std.proofs.Common.{◌≡◌, ◌<◌, sym, ap, subst, ◌∙◌, arith}
+use Rattle.std.proofs.lemmas.Result.{err_from_is_err_and}
+use Rattle.yaml_events.specs.Meant.{events_of}
+use Rattle.yaml_grammar.specs.Trees.{Tree, IsTreeOf, depth}
 use Rattle.yaml_tree.specs.Kept.{limits_of}
-use Rattle.yaml_tree.specs.Reading.{IsRead}
+use Rattle.yaml_tree.specs.Reading.{IsRead, document_count}
 use Rattle.yaml_tree.specs.Seen.{tree_of}
 use Rattle.yaml_tree.specs.declared.tree.Tree as trees
-use Rattle.yaml_tree.proofs.ReadLemmas.{tree_read}
+use Rattle.yaml_tree.proofs.ReadLemmas.{tree_read, shallow_refused, deep_refused}
 use Rattle.yaml_tree.proofs.read.read_one.Goals as goal
 
 pub returns-in-Ok-clause-given : goal.returns-in-Ok-clause-given
@@ -12,3 +15,23 @@ returns-in-Ok-clause-given c =
     let good = c.in-Ok.ensures.ok in
     subst (λ (config : trees.Tree). IsRead c.args.bytes.now limits (tree_of config)) (sym good.0)
     (tree_read c.args.bytes.now limits c.in_ok-events.events (tree_of c.in_ok-tree.tree) c.in_ok-events.ensures.reads c.in_ok-tree.ensures good.1)
+
+pub returns-then-document_depth-limits-clause-refused :
+    goal.returns-then-document_depth-limits-clause-refused
+returns-then-document_depth-limits-clause-refused c =
+    let es = c.in_ok-events.events in
+    let one : document_count (events_of es) ≡ 1 =
+    ap (λ xs. document_count (events_of xs)) (sym c.as_slice.ensures) ∙ sym c.document_count-count.ensures ∙ c.if-count-ne1.false in
+    let deep : (t : Tree) → IsTreeOf (events_of es) t → c.args.limits.now.depth < depth t = λ t is.
+        let e = c.document_depth.ensures t (subst (λ xs. IsTreeOf (events_of xs) t) (sym c.as_slice-2.ensures) is) in
+        omega (arith, e, c.if-document_depth-limits.true) in
+    deep_refused c.args.bytes.now (limits_of c.args.limits.now) es c.deep_fault.result c.in_ok-events.ensures.reads one deep c.deep_fault.ensures
+
+pub returns-in_err-tree-clause-refused : goal.returns-in_err-tree-clause-refused
+returns-in_err-tree-clause-refused c =
+    let es = c.in_ok-events.events in
+    let one : document_count (events_of es) ≡ 1 =
+    ap (λ xs. document_count (events_of xs)) (sym c.as_slice.ensures) ∙ sym c.document_count-count.ensures ∙ c.if-count-ne1.false in
+    let p = err_from_is_err_and c.from_residual-in_err-tree.result c.from_residual-in_err-tree.ensures.1 in
+    rw (p.1, p.2)
+    (shallow_refused c.args.bytes.now (limits_of c.args.limits.now) es _ c.in_ok-events.ensures.reads one c.in_err-tree.ensures)
