@@ -10,11 +10,11 @@ mod count;
 mod deep;
 mod documents;
 mod keys;
-mod laws;
 mod limits;
 mod literal;
 mod quoted;
 mod read;
+mod read_laws;
 mod scalar;
 mod sink;
 mod style;
@@ -22,14 +22,17 @@ mod tree;
 
 pub use config::Config;
 pub use count::style_len;
-pub use laws::{bytes_give_one, refused_bytes_give_none};
 pub use limits::Limits;
 pub use read::read_one;
+pub use read_laws::{bytes_give_one, refused_bytes_give_none};
 pub use scalar::{ScalarStyle, scalar_style};
 pub use sink::Sink;
 pub use style::{write_key, write_style, write_value};
 pub use tree::Tree;
 pub use yaml_docs::ReadFault;
+
+#[cfg(test)]
+mod build_tests;
 
 #[cfg(test)]
 mod tests;
