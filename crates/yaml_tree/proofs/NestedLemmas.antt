@@ -63,7 +63,7 @@ mutual
 
   values_run : (vs : Values) (ts : Elements) (fs : List Frame) (rest : List Shape)
       → run (Some (in_seq ts ∷ fs)) (values_shapes vs ++ rest)
-          ≡ run (unless (values_have_collection_key vs) (Some (in_seq (elements_join ts (plain_elements vs)) ∷ fs))) rest
+      ≡ run (unless (values_have_collection_key vs) (Some (in_seq (elements_join ts (plain_elements vs)) ∷ fs))) rest
   values_run no_value ts fs rest = refl
   values_run (value v vs) ts fs rest =
       ap (run (Some (in_seq ts ∷ fs))) (append_assoc (nested_shapes v) (values_shapes vs) rest)
@@ -73,7 +73,7 @@ mutual
 
   pairs_run : (ps : Pairs) (ms : Members) (fs : List Frame) (rest : List Shape)
       → run (Some (at_key ms ∷ fs)) (pairs_shapes ps ++ rest)
-          ≡ run (unless (pairs_have_collection_key ps) (Some (at_key (members_join ms (plain_members ps)) ∷ fs))) rest
+      ≡ run (unless (pairs_have_collection_key ps) (Some (at_key (members_join ms (plain_members ps)) ∷ fs))) rest
   pairs_run no_pair ms fs rest = refl
   pairs_run (pair (text key) v ps) ms fs rest =
       ap (run (Some (at_value ms key ∷ fs))) (append_assoc (nested_shapes v) (pairs_shapes ps) rest)

@@ -124,7 +124,7 @@ impl Builder {
     pub(crate) fn end_seq(&mut self) -> Result<Vec<Tree>, ReadFault>
         ensures { MatchResult result
             (λ items. frames_of self.old.parts.items
-                ≡ in_seq (elements_of items.items) ∷ frames_of self.new.parts.items)
+            ≡ in_seq (elements_of items.items) ∷ frames_of self.new.parts.items)
             (HasNone (seq_ended (frames_of self.old.parts.items))) }
     {
         let part = self.pop()?;
@@ -138,7 +138,7 @@ impl Builder {
     pub(crate) fn end_map(&mut self) -> Result<Vec<(String, Tree)>, ReadFault>
         ensures { MatchResult result
             (λ pairs. frames_of self.old.parts.items
-                ≡ at_key (members_of pairs.items) ∷ frames_of self.new.parts.items)
+            ≡ at_key (members_of pairs.items) ∷ frames_of self.new.parts.items)
             (HasNone (map_ended (frames_of self.old.parts.items))) }
     {
         let part = self.pop()?;
@@ -152,7 +152,7 @@ impl Builder {
     pub(crate) fn take(&mut self, event: Event<'_>) -> Result<(), ReadFault>
         ensures { MatchResult result
             (λ _. step (frames_of self.old.parts.items) (shape (event_of event.entry))
-                ≡ Some (frames_of self.new.parts.items))
+            ≡ Some (frames_of self.new.parts.items))
             (HasNone (step (frames_of self.old.parts.items) (shape (event_of event.entry)))) }
     {
         match event {

@@ -51,28 +51,45 @@ fn nested<'a>(alloc: Global, levels: u32, words: &[&'a str]) -> Result<Events<'a
     Ok(events)
 }
 
+/// The pairs of a tree that is a mapping.
+fn pairs_of(tree: Tree) -> Option<Vec<(String, Tree)>> {
+    match tree {
+        Tree::Map(pairs) => Some(pairs),
+        Tree::Text(_text) => None,
+        Tree::Seq(_items) => None,
+    }
+}
+
+/// A document's length in the one style.
+fn length(alloc: Global, words: &[&str]) -> Result<Option<u64>, Fail> {
+    let events = listed(alloc, words)?;
+    match document_tree(alloc, events) {
+        Ok(tree) => Ok(style_len(&tree, 100)),
+        Err(_fault) => Ok(None),
+    }
+}
+
+/// The pairs of a document that is a mapping.
+fn mapping(alloc: Global, words: &[&str]) -> Result<Option<Vec<(String, Tree)>>, Fail> {
+    let events = listed(alloc, words)?;
+    match document_tree(alloc, events) {
+        Ok(tree) => Ok(pairs_of(tree)),
+        Err(_fault) => Ok(None),
+    }
+}
+
 #[test]
 fn a_tree_of_all_kinds(rt: HostRuntime) -> Result<(), Fail> {
     let alloc = rt.alloc();
     let words = [
         "+D", "+M", "a", "1", "b", "+S", "x", "y: z", "-S", "-M", "-D",
     ];
-    let events = listed(alloc, &words)?;
-    assert_eq!(rt; document_count(events.as_slice()), 1);
-    assert_eq!(rt; document_depth(events.as_slice()), 3);
-    let Ok(tree) = document_tree(alloc, events) else {
-        assert!(rt; false, "a tree");
-        return Ok(());
-    };
-    assert_eq!(rt; tree.depth(), 3);
     // `a: "1"`, `b:`, `  - x`, `  - "y: z"`, each with its line feed
-    assert_eq!(rt; style_len(&tree, 100), Some(27));
-    let Tree::Map(pairs) = tree else {
-        assert!(rt; false, "a mapping");
-        return Ok(());
-    };
+    assert_eq!(rt; length(alloc, &words)?, Some(27));
+    let pairs = mapping(alloc, &words)?.ok_or("a mapping")?;
     assert_eq!(rt; pairs.len(), 2);
     assert_eq!(rt; pairs[1].0.as_str(), "b");
+    assert_eq!(rt; pairs[1].1.depth(), 2);
     Ok(())
 }
 
@@ -86,9 +103,15 @@ fn collections_as_keys(rt: HostRuntime) -> Result<(), Fail> {
     ];
     for words in cases {
         let events = listed(alloc, words)?;
-        assert_eq!(rt; document_tree(alloc, events).err(), Some(ReadFault::KeyNotText));
+        assert_eq!(rt;
+            document_tree(alloc, events).err(),
+            Some(ReadFault::KeyNotText)
+        );
         let events = listed(alloc, words)?;
-        assert_eq!(rt; document_keys_differ(alloc, events).err(), Some(ReadFault::KeyNotText));
+        assert_eq!(rt;
+            document_keys_differ(alloc, events).err(),
+            Some(ReadFault::KeyNotText)
+        );
     }
     Ok(())
 }
@@ -109,9 +132,15 @@ fn lists_that_no_text_has(rt: HostRuntime) -> Result<(), Fail> {
     ];
     for words in cases {
         let events = listed(alloc, words)?;
-        assert_eq!(rt; document_tree(alloc, events).err(), Some(ReadFault::KeyNotText));
+        assert_eq!(rt;
+            document_tree(alloc, events).err(),
+            Some(ReadFault::KeyNotText)
+        );
         let events = listed(alloc, words)?;
-        assert_eq!(rt; document_keys_differ(alloc, events).err(), Some(ReadFault::KeyNotText));
+        assert_eq!(rt;
+            document_keys_differ(alloc, events).err(),
+            Some(ReadFault::KeyNotText)
+        );
     }
     Ok(())
 }
@@ -121,6 +150,10 @@ fn documents_are_counted(rt: HostRuntime) -> Result<(), Fail> {
     let alloc = rt.alloc();
     let events = listed(alloc, &[])?;
     assert_eq!(rt; document_count(events.as_slice()), 0);
+    let words = ["+D", "+M", "a", "1", "b", "+S", "x", "-S", "-M", "-D"];
+    let events = listed(alloc, &words)?;
+    assert_eq!(rt; document_count(events.as_slice()), 1);
+    assert_eq!(rt; document_depth(events.as_slice()), 3);
     let events = listed(alloc, &["+D", "x", "-D", "+D", "+S", "-S", "-D"])?;
     assert_eq!(rt; document_count(events.as_slice()), 2);
     Ok(())

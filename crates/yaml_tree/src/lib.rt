@@ -33,6 +33,5 @@ pub use yaml_docs::ReadFault;
 
 #[cfg(test)]
 mod build_tests;
-
 #[cfg(test)]
 mod tests;

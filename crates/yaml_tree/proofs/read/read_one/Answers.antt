@@ -23,8 +23,8 @@ returns-then-document_depth-limits-clause-refused c =
     let one : document_count (events_of es) ≡ 1 =
     ap (λ xs. document_count (events_of xs)) (sym c.as_slice.ensures) ∙ sym c.document_count-count.ensures ∙ c.if-count-ne1.false in
     let deep : (t : Tree) → IsTreeOf (events_of es) t → c.args.limits.now.depth < depth t = λ t is.
-        let e = c.document_depth.ensures t (subst (λ xs. IsTreeOf (events_of xs) t) (sym c.as_slice-2.ensures) is) in
-        omega (arith, e, c.if-document_depth-limits.true) in
+    let e = c.document_depth.ensures t (subst (λ xs. IsTreeOf (events_of xs) t) (sym c.as_slice-2.ensures) is) in
+    omega (arith, e, c.if-document_depth-limits.true) in
     deep_refused c.args.bytes.now (limits_of c.args.limits.now) es c.deep_fault.result c.in_ok-events.ensures.reads one deep c.deep_fault.ensures
 
 pub returns-in_err-tree-clause-refused : goal.returns-in_err-tree-clause-refused

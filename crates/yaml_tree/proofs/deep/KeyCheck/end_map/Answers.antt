@@ -20,8 +20,8 @@ returns c = λ fs keeps.
     let flag : c.if-self.self ≡ (before && keys_differ ms) =
     let answer = c.in_ok-differ.ensures ∙ ap (λ xs. keys_differ (members_of xs)) c.deref.ensures.value in
     elim c.if-self.branch [
-      then-self w ↦ w.self-is ∙ answer ∙ sym (ap (λ b. b && keys_differ ms) w.if-self.true)
-    | else-self w ↦ w.self-is ∙ w.if-self.false ∙ sym (ap (λ b. b && keys_differ ms) w.if-self.false)
+      | then-self w ↦ w.self-is ∙ answer ∙ sym (ap (λ b. b && keys_differ ms) w.if-self.true)
+      | else-self w ↦ w.self-is ∙ w.if-self.false ∙ sym (ap (λ b. b && keys_differ ms) w.if-self.false)
     ] in
     MatchResult-weaker c.put.result c.put.ensures
     (λ _ e. took _ (before && keys_differ ms) (map_ended fs) (map_stepped fs rest (frames_of c.put.new.self.parts.items) ms before parts (ended ∙ e) keeps.differ) flag)
