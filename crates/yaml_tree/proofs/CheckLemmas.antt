@@ -9,7 +9,7 @@ use Rattle.yaml_grammar.specs.Events as grammar_events
 use Rattle.yaml_grammar.specs.Trees as grammar
 use Rattle.yaml_grammar.specs.Trees.{shape}
 use Rattle.yaml_tree.specs.Building.{frames_of, HasNone, HasNoTree}
-use Rattle.yaml_tree.specs.Emptied.{Keeps, Took, emptied_frames}
+use Rattle.yaml_tree.specs.Emptied.{Took, emptied_frames}
 use Rattle.yaml_tree.specs.Frames.{Frame, finished}
 use Rattle.yaml_tree.specs.Seen.{Pair, tree_of, elements_of, members_of}
 use Rattle.yaml_tree.specs.declared.deep.KeyCheck.{KeyCheck}

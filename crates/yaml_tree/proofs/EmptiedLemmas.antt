@@ -2,8 +2,8 @@
 use Rattle.std.proofs.Common.{◌≡◌, ℕ, Bool, true, false, ◌&&◌, ◌||◌, not, List, [], ◌∷◌, Option, Some, None, refl, sym, ap, ap₂, subst, ◌∙◌}
 use Rattle.yaml_grammar.specs.Texts.{same_text}
 use Rattle.yaml_grammar.specs.Trees.{Tree, text, sequence, mapping, Elements, no_element, element, Members, no_member, member, Shape, document_from, document_to, seq_from, seq_to, map_from, map_to, scalar_of, distinct, elements_distinct, members_distinct, has_key}
-use Rattle.yaml_tree.specs.Emptied.{emptied, emptied_elements, emptied_members, emptied_frame, emptied_frames, frame_distinct, frames_distinct}
-use Rattle.yaml_tree.specs.Frames.{Frame, awaiting, root, whole, in_seq, at_key, at_value, elements_and, members_and, placed, put, step, document_ended, seq_ended, map_ended, finished}
+use Rattle.yaml_tree.specs.Emptied.{emptied, emptied_elements, emptied_members, emptied_frames, frames_distinct}
+use Rattle.yaml_tree.specs.Frames.{Frame, awaiting, root, whole, in_seq, at_key, at_value, elements_and, members_and, put, step, document_ended, seq_ended, map_ended, finished}
 use Rattle.yaml_tree.specs.Keys.{keys_differ, values_distinct}
 use Rattle.yaml_tree.proofs.KeyLemmas.{members_distinct-parts}
 

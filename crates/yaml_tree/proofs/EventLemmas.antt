@@ -1,12 +1,12 @@
 -- What events that are taken one after another say of the tree.
-use Rattle.std.proofs.Common.{◌≡◌, ℕ, ◌+◌, ◌<◌, List, [], ◌∷◌, ◌++◌, length, get_or, take, drop, Option, Some, None, refl, sym, ap, subst, ◌∙◌}
+use Rattle.std.proofs.Common.{◌≡◌, ◌+◌, ◌<◌, List, [], ◌∷◌, ◌++◌, length, get_or, take, drop, Option, Some, None, refl, sym, ap, subst, ◌∙◌}
 use Rattle.std.proofs.lemmas.List.{take_more, take-append-drop}
 use Rattle.yaml_docs.specs.declared.fault.ReadFault.{ReadFault}
 use Rattle.yaml_docs.specs.declared.fault.ReadFault.TheVariants.{TooLong, NotUtf8, Syntax, Documents, KeyNotText, KeyTwice, TooDeep, LargeInStyle, OutOfMemory}
 use Rattle.yaml_events.specs.Meant.{event_of, events_of}
 use Rattle.yaml_events.specs.declared.event.Event.{Event}
 use Rattle.yaml_grammar.specs.Events as grammar
-use Rattle.yaml_grammar.specs.Trees.{Tree, Shape, shape, shapes, IsTreeOf}
+use Rattle.yaml_grammar.specs.Trees.{Tree, shape, shapes, IsTreeOf}
 use Rattle.yaml_tree.specs.Building.{HasNone, HasNoTree}
 use Rattle.yaml_tree.specs.Frames.{Frame, whole, step, finished}
 use Rattle.yaml_tree.proofs.FrameLemmas.{after, run, run-append, run-None, document_run, run_written, finished_whole}

@@ -1,15 +1,14 @@
 -- Bytes give one tree at most, and none where they are refused.
-use Rattle.std.proofs.Common.{◌≡◌, ◌≢◌, ℕ, ◌<◌, ◌≤◌, true, false, List, [], ◌∷◌, ◌++◌, length, append_assoc, refl, sym, ap, subst, ◌∙◌, arith}
-use Rattle.std.specs.Prelude.{suc}
+use Rattle.std.proofs.Common.{◌≡◌, ◌≢◌, ℕ, ◌<◌, true, false, List, refl, sym, subst, ◌∙◌, arith}
 use Rattle.std.specs.Str.{chars}
 use Rattle.yaml_docs.specs.declared.fault.ReadFault.{ReadFault}
 use Rattle.yaml_docs.specs.declared.fault.ReadFault.TheVariants.{TooLong, NotUtf8, Syntax, Documents, KeyNotText, KeyTwice, TooDeep, LargeInStyle, OutOfMemory}
-use Rattle.yaml_grammar.specs.Events.{Event, document_start, document_end, seq_start, seq_end, map_start, map_end, scalar_event}
+use Rattle.yaml_grammar.specs.Events.{Event}
 use Rattle.yaml_grammar.specs.Reads.{Limits, Reads}
-use Rattle.yaml_grammar.specs.Trees.{Tree, text, sequence, mapping, Elements, no_element, element, Members, no_member, member, Shape, document_from, document_to, seq_from, seq_to, map_from, map_to, scalar_of, shapes, tree_shapes, elements_shapes, members_shapes, depth, distinct, IsTreeOf}
+use Rattle.yaml_grammar.specs.Trees.{Tree, depth, distinct, IsTreeOf}
 use Rattle.yaml_grammar.specs.Style.{style_text}
 use Rattle.yaml_grammar.specs.Texts.{byte_len}
-use Rattle.yaml_tree.specs.Reading.{IsRead, RefusesTree, Refuses, document_count}
+use Rattle.yaml_tree.specs.Reading.{IsRead, RefusesTree, Refuses}
 use Rattle.yaml_tree.proofs.ByteLemmas.{byte_len-chars}
 use Rattle.yaml_tree.proofs.EventLemmas.{tree_is_one}
 use Rattle.yaml_tree.proofs.NestedLemmas.{collection_key_none}

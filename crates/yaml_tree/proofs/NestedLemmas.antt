@@ -3,8 +3,8 @@ use Rattle.std.proofs.Common.{◌≡◌, ℕ, Bool, true, false, ◌||◌, List,
 use Rattle.yaml_grammar.specs.Events.{Event}
 use Rattle.yaml_grammar.specs.Trees as trees
 use Rattle.yaml_grammar.specs.Trees.{Tree, Elements, no_element, element, Members, no_member, member, Shape, document_from, document_to, seq_from, seq_to, map_from, map_to, scalar_of, shapes, IsTreeOf}
-use Rattle.yaml_tree.specs.Frames.{Frame, awaiting, whole, in_seq, at_key, at_value, elements_and, members_and, put, step, seq_ended, map_ended}
-use Rattle.yaml_tree.specs.Nested.{Nested, text, sequence, mapping, Values, no_value, value, Pairs, no_pair, pair, nested_shapes, values_shapes, pairs_shapes, is_collection, has_collection_key, values_have_collection_key, pairs_have_collection_key, HasCollectionKey}
+use Rattle.yaml_tree.specs.Frames.{Frame, awaiting, whole, in_seq, at_key, at_value, elements_and, members_and, put, step}
+use Rattle.yaml_tree.specs.Nested.{Nested, text, sequence, mapping, Values, no_value, value, Pairs, no_pair, pair, nested_shapes, values_shapes, pairs_shapes, has_collection_key, values_have_collection_key, pairs_have_collection_key, HasCollectionKey}
 use Rattle.yaml_tree.proofs.EventLemmas.{run_tree, none_stopped}
 use Rattle.yaml_tree.proofs.FrameLemmas.{run, run-None, elements_join, members_join, elements_join-none, members_join-none}
 

@@ -1,5 +1,5 @@
 -- Open parts, one more of them or one more thing in one.
-use Rattle.std.proofs.Common.{◌≡◌, ◌<◌, List, [], ◌∷◌, ◌++◌, length, None, String, Global, string_bytes, arith, refl, sym, ap, ◌∙◌}
+use Rattle.std.proofs.Common.{◌≡◌, ◌<◌, List, [], ◌∷◌, ◌++◌, length, None, string_bytes, arith, refl, ap}
 use Rattle.std.specs.Str.{chars}
 use Rattle.yaml_grammar.specs.Trees as grammar
 use Rattle.yaml_tree.specs.Building.{frame_of, frames_onto, frames_of}

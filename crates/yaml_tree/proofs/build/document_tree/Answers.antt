@@ -1,11 +1,11 @@
-use Rattle.std.proofs.Common.{◌≡◌, ◌+◌, ◌∷◌, [], ◌++◌, Some, List, length, take, drop, map, map-id, rules, sym, ap, subst, ◌∙◌}
+use Rattle.std.proofs.Common.{◌≡◌, ◌+◌, [], Some, List, length, drop, map-id, rules, sym, subst, ◌∙◌}
 use Rattle.std.proofs.lemmas.Iterator.Adapters.{YieldsList-from_vec}
 use Rattle.std.proofs.lemmas.Iterator.Consumers.{YieldsList-so_far, YieldsList-turn, YieldsList-end}
 use Rattle.std.proofs.lemmas.Result.{MatchResult-weaker, err_from_is_err_and}
-use Rattle.yaml_events.specs.Meant.{event_of, events_of}
+use Rattle.yaml_events.specs.Meant.{events_of}
 use Rattle.yaml_events.specs.declared.event.Event.{Event}
-use Rattle.yaml_grammar.specs.Trees.{shapes, IsTreeOf}
-use Rattle.yaml_tree.specs.Building.{frames_of, HasNoTree}
+use Rattle.yaml_grammar.specs.Trees.{shapes}
+use Rattle.yaml_tree.specs.Building.{frames_of}
 use Rattle.yaml_tree.specs.Seen.{tree_of}
 use Rattle.yaml_tree.proofs.EventLemmas.{items_on, run_more, run_tree, stopped_refuses, unfinished_refuses}
 use Rattle.yaml_tree.proofs.FrameLemmas.{run}
