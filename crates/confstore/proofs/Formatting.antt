@@ -7,8 +7,8 @@ use Rattle.std.proofs.lemmas.Str.{encodes-chars}
 use Rattle.yaml_grammar.specs.Style.{style_text}
 use Rattle.yaml_grammar.specs.Trees.{Tree}
 use Rattle.yaml_tree.specs.Reading.{IsRead, Refuses}
-use Rattle.yaml_tree.specs.declared.fault.ReadFault.{ReadFault}
-use Rattle.yaml_tree.specs.declared.fault.ReadFault.TheVariants.{TooLong, NotUtf8, Syntax, Documents, KeyNotText, KeyTwice, TooDeep, LargeInStyle, OutOfMemory}
+use Rattle.yaml_docs.specs.declared.fault.ReadFault.{ReadFault}
+use Rattle.yaml_docs.specs.declared.fault.ReadFault.TheVariants.{TooLong, NotUtf8, Syntax, Documents, KeyNotText, KeyTwice, TooDeep, LargeInStyle, OutOfMemory}
 use Rattle.yaml_tree.proofs.ByteLemmas.{byte_len-chars}
 use Rattle.confstore.specs.declared.tools.ToolFault.TheVariants.{Read}
 use Rattle.confstore.specs.Tools.{configuration, HasRead, Formats, RefusesInput, StopsInOutput, Stops}

@@ -5,7 +5,7 @@ use Rattle.yaml_grammar.specs.Reads.{Limits}
 use Rattle.yaml_grammar.specs.Style.{style_text}
 use Rattle.yaml_grammar.specs.Trees.{Tree}
 use Rattle.yaml_tree.specs.Reading.{IsRead, Refuses}
-use Rattle.yaml_tree.specs.declared.fault.ReadFault.{ReadFault}
+use Rattle.yaml_docs.specs.declared.fault.ReadFault.{ReadFault}
 use Rattle.confstore.specs.declared.tools.ToolFault.{ToolFault}
 use Rattle.confstore.specs.declared.tools.ToolFault.TheVariants.{Input, Output, Read}
 

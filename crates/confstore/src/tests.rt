@@ -42,6 +42,35 @@ fn formats(rt: HostRuntime) -> Result<(), Fail> {
             "a: \"on\"\nb: \"x y\"\nc: x\n",
         ),
         ("k: \"\"\n", "k: \"\"\n"),
+        (
+            "a: 1\nb: [x, \"y: z\"]\n",
+            "a: \"1\"\nb:\n  - x\n  - \"y: z\"\n",
+        ),
+        (
+            "a: 1\nb: [x, \"y: z\"]",
+            "a: \"1\"\nb:\n  - x\n  - \"y: z\"\n",
+        ),
+        ("k: a\n  b\n\n  c\n", "k: |-\n  a b\n  c\n"),
+        ("a\n- b\n", "\"a - b\"\n"),
+        ("a:\n- b\n", "a:\n  - b\n"),
+        (
+            ">\n  a\n  b\n\n  c\n   d\n  e\n",
+            "|\n  a b\n  c\n   d\n  e\n",
+        ),
+        ("k: |+\n  a\n\n...\n", "k: |+\n  a\n\n"),
+        ("\"a \\\n   b\"\n", "\"a b\"\n"),
+        ("{\"a\":1}\n", "a: \"1\"\n"),
+        ("a:b\n", "\"a:b\"\n"),
+        ("a: [\n  b\n ]\n", "a:\n  - b\n"),
+        (
+            "a:\n- b\n- c: 1\n  d: null\n",
+            "a:\n  - b\n  - c: \"1\"\n    d: \"null\"\n",
+        ),
+        ("\u{feff}%YAML 1.1\n---\na: yes\n", "a: \"yes\"\n"),
+        (
+            "[on, 12, \"\", é, \"\\0\", \"\\L\"]\n",
+            "- \"on\"\n- \"12\"\n- \"\"\n- \"é\"\n- \"\\0\"\n- \"\\u2028\"\n",
+        ),
     ];
     for (input, output) in cases {
         let done = outcome_of(rt.alloc(), &["confstore", "format"], input.as_bytes())?;
@@ -59,19 +88,123 @@ fn refuses(rt: HostRuntime) -> Result<(), Fail> {
     for _ in 0..1_048_577u32 {
         long.push(b'a')?;
     }
-    let cases: [(&[u8], &str); 6] = [
+    let cases: [(&[u8], &str); 10] = [
         (b"a: 1\na: 2\n", "confstore: KeyTwice\n"),
         (b"\xff", "confstore: NotUtf8\n"),
         (long.as_slice(), "confstore: TooLong\n"),
-        (b"a: [x]\n", "confstore: Syntax 1:1 NotYet\n"),
-        (b"a: 1\nb: 'x'\n", "confstore: Syntax 2:1 NotYet\n"),
-        (b"path: /usr\n", "confstore: Syntax 1:1 NotYet\n"),
+        (b"", "confstore: Documents\n"),
+        (b"# c", "confstore: Documents\n"),
+        (b"a\n---\nb\n", "confstore: Documents\n"),
+        (b"{a: 1, a: 2}\n", "confstore: KeyTwice\n"),
+        (b"[a]: b\n", "confstore: KeyNotText\n"),
+        (b"{a: 1, a: 2, {b: c}: d}\n", "confstore: KeyNotText\n"),
+        (b"a: b\n--- [a, {[]: b}]\n", "confstore: Documents\n"),
     ];
     for (input, told) in cases {
         let done = outcome_of(alloc, &["confstore", "format"], input)?;
         assert_eq!(rt; done.told.as_slice(), told.as_bytes());
         assert_eq!(rt; done.status, 1, "{told}");
         assert_eq!(rt; done.output.len(), 0, "{told}");
+    }
+    Ok(())
+}
+
+/// A text inside so many brackets.
+fn in_brackets(alloc: Global, levels: u32, inner: &str) -> Result<String, Fail> {
+    let mut text = String::new(alloc);
+    for _ in 0..levels {
+        text.push('[')?;
+    }
+    text.push_str(inner)?;
+    for _ in 0..levels {
+        text.push(']')?;
+    }
+    Ok(text)
+}
+
+#[test]
+fn depth_is_limited(rt: HostRuntime) -> Result<(), Fail> {
+    let alloc = rt.alloc();
+    let words = ["confstore", "format"];
+    let text = in_brackets(alloc, 63, "x")?;
+    let done = outcome_of(alloc, &words, text.as_bytes())?;
+    // 63 times `- `, `x` and a line feed
+    assert_eq!(rt; done.output.len(), 128);
+    assert_eq!(rt; done.status, 0);
+    let cases = [
+        (64, "x", "confstore: TooDeep\n"),
+        (64, "{a: 1, a: 2}", "confstore: KeyTwice\n"),
+        (64, "{a: 1, a: 2, [b]: c}", "confstore: KeyNotText\n"),
+        (500_000, "x", "confstore: TooDeep\n"),
+    ];
+    for (levels, inner, told) in cases {
+        let text = in_brackets(alloc, levels, inner)?;
+        let done = outcome_of(alloc, &words, text.as_bytes())?;
+        assert_eq!(rt; done.told.as_slice(), told.as_bytes());
+        assert_eq!(rt; done.status, 1, "{told}");
+    }
+    Ok(())
+}
+
+#[test]
+fn length_is_limited(rt: HostRuntime) -> Result<(), Fail> {
+    let alloc = rt.alloc();
+    let words = ["confstore", "format"];
+    // two quotes and a line feed beside the letters
+    let cases: [(u32, &str, usize, &str); 2] = [
+        (1_048_573, "\"\n", 1_048_576, ""),
+        (1_048_574, "\"", 0, "confstore: LargeInStyle\n"),
+    ];
+    for (letters, end, length, told) in cases {
+        let mut text = String::from_str(alloc, "\"")?;
+        for _ in 0..letters {
+            text.push('x')?;
+        }
+        text.push_str(end)?;
+        let done = outcome_of(alloc, &words, text.as_bytes())?;
+        assert_eq!(rt; done.output.len(), length);
+        assert_eq!(rt; done.told.as_slice(), told.as_bytes());
+    }
+    Ok(())
+}
+
+#[test]
+fn keys_have_1024_characters(rt: HostRuntime) -> Result<(), Fail> {
+    let alloc = rt.alloc();
+    let words = ["confstore", "format"];
+    let cases: [(&str, u32, &str, usize); 3] = [
+        ("", 1_024, ": v\n", 1_033),
+        ("", 1_025, ": v\n", 0),
+        ("? ", 1_025, "\n: v\n", 1_034),
+    ];
+    for (front, letters, end, length) in cases {
+        let mut text = String::from_str(alloc, front)?;
+        for _ in 0..letters {
+            text.push('k')?;
+        }
+        text.push_str(end)?;
+        let done = outcome_of(alloc, &words, text.as_bytes())?;
+        assert_eq!(rt; done.output.len(), length);
+    }
+    Ok(())
+}
+
+#[test]
+fn refuses_syntax(rt: HostRuntime) -> Result<(), Fail> {
+    let cases = [
+        "a: b: c\n",
+        "a: [\n  b\n]\n",
+        "k: &x a\n",
+        "k: *x\n",
+        "k: !!str a\n",
+        ": v\n",
+        "[[[",
+    ];
+    for input in cases {
+        let done = outcome_of(rt.alloc(), &["confstore", "format"], input.as_bytes())?;
+        assert!(rt; done.told.as_slice().starts_with(b"confstore: Syntax "), "of {input:?}");
+        assert_eq!(rt; done.status, 1, "of {input:?}");
+        assert_eq!(rt; done.output.len(), 0, "of {input:?}");
     }
     Ok(())
 }

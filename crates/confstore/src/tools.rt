@@ -35,7 +35,7 @@ pub enum ToolFault {
 
 impl From<AllocError> for ToolFault {
     ghost use Rattle.confstore.specs.declared.tools.ToolFault.TheVariants.{Read};
-    ghost use Rattle.yaml_tree.specs.declared.fault.ReadFault.TheVariants.{OutOfMemory};
+    ghost use Rattle.yaml_docs.specs.declared.fault.ReadFault.TheVariants.{OutOfMemory};
 
     ghost from_gives = { λ _ out. out ≡ Read OutOfMemory };
 

@@ -37,6 +37,14 @@ impl<'a> Events<'a> {
         self.items.as_slice()
     }
 
+    /// The events, in order, as a vector that owns them.
+    pub fn into_vec(self) -> Vec<Event<'a>>
+        ensures { result.items ≡ self.entry }
+    {
+        let Events { items } = self;
+        items
+    }
+
     /// Puts an event behind all others. An event for which there is no memory is handed back, and the list stays.
     pub fn push(&mut self, event: Event<'a>) -> Result<(), AllocFailed<Event<'a>>>
         ensures ok { OnOk result (self.new ≡ self.old ++ event.entry ∷ []) }

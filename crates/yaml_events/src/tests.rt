@@ -38,7 +38,8 @@ fn events_in_order(rt: HostRuntime) -> Result<(), Fail> {
         _ => assert!(rt; false, "three events"),
     }
     events.truncate(1);
-    match events.as_slice() {
+    let items = events.into_vec();
+    match items.as_slice() {
         [Event::DocStart] => {}
         _ => assert!(rt; false, "one event"),
     }

@@ -1,10 +1,13 @@
 pub mod Budget
 pub mod BudgetLaws
+pub mod Building
+pub mod Emptied
+pub mod Frames
 pub mod Keys
 pub mod Kept
 pub mod Lines
 pub mod Runs
 pub mod ScalarStyles
 pub mod Seen
-pub mod KnownLines
+pub mod Nested
 pub mod Reading

@@ -1,25 +1,20 @@
 -- Which tree bytes give, and what they are refused for.
-use Rattle.std.specs.Prelude.{◌≡◌, ◌≢◌, ◌⊎◌, ℕ, suc, ◌<◌, ◌≤◌, List, [], ◌∷◌, length}
+use Rattle.std.specs.Prelude.{◌≡◌, ◌≢◌, ℕ, suc, ◌<◌, ◌≤◌, List, [], ◌∷◌, length}
 use Rattle.std.specs.Str.{chars, IsUtf8}
 use Rattle.std.specs.Str.Lossy.{utf8_valid_len}
 use Rattle.yaml_grammar.specs.Events.{Event, document_start}
 use Rattle.yaml_grammar.specs.Reads.{Limits, Reads, Gives}
 use Rattle.yaml_grammar.specs.Trees.{Tree, IsTreeOf}
-use Rattle.yaml_events.specs.declared.fault.Why.{Why}
-use Rattle.yaml_events.specs.declared.fault.Why.TheVariants.{NotYet}
-use Rattle.yaml_tree.specs.declared.fault.ReadFault.{ReadFault}
-use Rattle.yaml_tree.specs.declared.fault.ReadFault.TheVariants.{TooLong, NotUtf8, Syntax, Documents, KeyNotText, KeyTwice, TooDeep, LargeInStyle, OutOfMemory}
+use Rattle.yaml_docs.specs.Reading.{IsShortText}
+use Rattle.yaml_docs.specs.declared.fault.ReadFault.{ReadFault}
+use Rattle.yaml_docs.specs.declared.fault.ReadFault.TheVariants.{TooLong, NotUtf8, Syntax, Documents, KeyNotText, KeyTwice, TooDeep, LargeInStyle, OutOfMemory}
 use Rattle.yaml_tree.specs.Kept.{IsFirstFault}
+use Rattle.yaml_tree.specs.Nested.{HasCollectionKey}
 
 -- the bytes are a text that gives the tree within the limits
 pub record IsRead (bytes : List ℕ) (limits : Limits) (t : Tree) : Type 0 where
   pub utf8 : IsUtf8 bytes
   pub gives : Gives (chars bytes) limits t
-
--- the bytes are a text, and not too many
-pub record IsShortText (bytes : List ℕ) (limits : Limits) : Type 0 where
-  pub short : length bytes ≤ limits.bytes
-  pub utf8 : IsUtf8 bytes
 
 abbrev pub document_count : List Event → ℕ
 document_count [] = 0
@@ -28,28 +23,26 @@ document_count (e ∷ es) = document_count es
 
 -- the text reads as one document that holds a tree, which is refused
 pub record RefusesTree (bytes : List ℕ) (limits : Limits) (fault : ReadFault) : Type 0 where
-  pub text : IsShortText bytes limits
+  pub text : IsShortText bytes limits.bytes
   pub events : List Event
   pub reads : Reads (chars bytes) events
   pub tree : Tree
   pub is_tree : IsTreeOf events tree
   pub first : IsFirstFault limits tree fault
 
--- What bytes are refused for, where no earlier fault holds. The events of one document in which some key is a collection are those of no tree.
+-- what bytes are refused for, where no earlier fault holds
 abbrev pub Refuses : List ℕ → Limits → ReadFault → Type 0
 Refuses bytes limits TooLong = limits.bytes < length bytes
 Refuses bytes limits (NotUtf8 at) = (length bytes ≤ limits.bytes) × (IsUtf8 bytes → ⊥) × (at ≡ utf8_valid_len bytes)
-Refuses bytes limits (Syntax line column why) = IsShortText bytes limits × ((why ≡ NotYet) ⊎ ((events : List Event) → Reads (chars bytes) events → ⊥))
-Refuses bytes limits (Documents count) = IsShortText bytes limits × (events : List Event) × Reads (chars bytes) events × (count ≡ document_count events) × (count ≢ 1)
+Refuses bytes limits (Syntax line column why) = IsShortText bytes limits.bytes × ((events : List Event) → Reads (chars bytes) events → ⊥)
+Refuses bytes limits (Documents count) = IsShortText bytes limits.bytes × (events : List Event) × Reads (chars bytes) events × (count ≡ document_count events) × (count ≢ 1)
 Refuses bytes limits KeyNotText =
-    IsShortText bytes limits × (events : List Event) × Reads (chars bytes) events × (document_count events ≡ 1) × ((t : Tree) → IsTreeOf events t → ⊥)
+    IsShortText bytes limits.bytes × (events : List Event) × Reads (chars bytes) events × (document_count events ≡ 1) × HasCollectionKey events
 Refuses bytes limits KeyTwice = RefusesTree bytes limits KeyTwice
 Refuses bytes limits TooDeep = RefusesTree bytes limits TooDeep
 Refuses bytes limits LargeInStyle = RefusesTree bytes limits LargeInStyle
 Refuses bytes limits OutOfMemory = Unit {0}
 
--- the text may be read later, or there was no memory
-abbrev pub NotYetOrMemory : ReadFault → Type 0
-NotYetOrMemory (Syntax line column why) = why ≡ NotYet
-NotYetOrMemory OutOfMemory = Unit {0}
-NotYetOrMemory _ = ⊥
+-- the bytes give no tree
+abbrev pub GivesNone : List ℕ → Limits → Type 0
+GivesNone bytes limits = (t : Tree) → IsRead bytes limits t → ⊥

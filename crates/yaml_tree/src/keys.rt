@@ -50,7 +50,7 @@ fn values_have_distinct_keys(alloc: Global, pairs: &[(String, Tree)]) -> Result<
 }
 
 /// Whether the keys of one mapping differ. Each is looked up among those before it, which stand in order.
-fn keys_differ(alloc: Global, pairs: &[(String, Tree)]) -> Result<bool, AllocError>
+pub(crate) fn keys_differ(alloc: Global, pairs: &[(String, Tree)]) -> Result<bool, AllocError>
     ensures { IfOk result (λ answer. answer ≡ keys_differ (members_of pairs.now)) }
 {
     let mut seen = BTreeSet::new(alloc);

@@ -4,14 +4,17 @@
 //! tree's text in the one style to a [`Sink`], which may be a buffer or a count; [`style_len`] is the text's length.
 #![tactic(auto)]
 
+mod build;
 mod config;
 mod count;
-mod fault;
+mod deep;
+mod documents;
 mod keys;
-mod known;
+mod limits;
 mod literal;
 mod quoted;
 mod read;
+mod read_laws;
 mod scalar;
 mod sink;
 mod style;
@@ -19,12 +22,16 @@ mod tree;
 
 pub use config::Config;
 pub use count::style_len;
-pub use fault::{Limits, ReadFault};
+pub use limits::Limits;
 pub use read::read_one;
+pub use read_laws::{bytes_give_one, refused_bytes_give_none};
 pub use scalar::{ScalarStyle, scalar_style};
 pub use sink::Sink;
 pub use style::{write_key, write_style, write_value};
 pub use tree::Tree;
+pub use yaml_docs::ReadFault;
 
+#[cfg(test)]
+mod build_tests;
 #[cfg(test)]
 mod tests;

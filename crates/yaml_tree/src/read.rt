@@ -1,20 +1,29 @@
 // Reading a text as one tree.
 ghost use Rattle.std.specs.Prelude.{◌≡◌, ◌≤◌, ◌<◌, ◌↔◌, Err, IfOk, IfErr, length};
+ghost use Rattle.yaml_events.specs.Meant.{events_of};
+ghost use Rattle.yaml_tree.specs.Building.{RefusesDeep};
 ghost use Rattle.yaml_tree.specs.Kept.{limits_of};
 ghost use Rattle.yaml_tree.specs.Reading.{IsRead, Refuses};
 ghost use Rattle.yaml_tree.specs.Seen.{tree_of};
 
-use crate::known::known_tree;
+use crate::build::document_tree;
+use crate::deep::document_keys_differ;
+use crate::documents::{document_count, document_depth};
 use crate::{Config, Limits, ReadFault};
 use std::alloc::Global;
-use yaml_chars::checked;
-use yaml_recognizers::texts::unambiguous;
+use yaml_docs::events;
+use yaml_events::Events;
 
 /// The tree of a text that is one document, within limits.
 ///
-/// `bytes` are UTF-8 (YAML 1.2.2, 5.2). The limits of depth and style are at most those of a [`Config`]. Each fault comes only
-/// where its line of [`ReadFault`] holds and no earlier one does. Today a text is read that is lines of a key, `: ` and a word or a text in double quotes; each
-/// other is refused by `Syntax` with `NotYet`.
+/// `bytes` are UTF-8 (YAML 1.2.2, 5.2), read by the failsafe schema (10.1) without aliases, anchors and tags. The limits
+/// of depth and style are at most those of a [`Config`]. No tree deeper than the limit is built, and the call stack
+/// doesn't grow with the text.
+///
+/// # Errors
+///
+/// Each fault comes only where its line of [`ReadFault`] holds and no earlier one does; [`ReadFault::OutOfMemory`] may
+/// come at any point.
 pub fn read_one(alloc: Global, bytes: &[u8], limits: &Limits) -> Result<Config, ReadFault>
     requires deep { limits.now.depth ≤ 66 }
     requires long { limits.now.style ≤ 67108864 }
@@ -22,17 +31,28 @@ pub fn read_one(alloc: Global, bytes: &[u8], limits: &Limits) -> Result<Config, 
     ensures too_long { (result ≡ Err ReadFault.TooLong) ↔ (limits.now.bytes < length bytes.now) }
     ensures refused { IfErr result (Refuses bytes.now (limits_of limits.now)) }
 {
-    if bytes.len() as u64 > limits.bytes {
-        return Err(ReadFault::TooLong);
+    let events = events(alloc, bytes, limits.bytes)?;
+    let count = document_count(events.as_slice());
+    if count != 1 {
+        return Err(ReadFault::Documents { count });
     }
-    let text = match checked(bytes) {
-        Ok(text) => text,
-        Err(yaml_chars::CharFault::NotUtf8 { at }) => return Err(ReadFault::NotUtf8 { at }),
-    };
-    unambiguous();
-    let tree = known_tree(alloc, text)?;
+    if document_depth(events.as_slice()) > limits.depth {
+        return Err(deep_fault(alloc, events));
+    }
+    let tree = document_tree(alloc, events)?;
     match Config::within(alloc, tree, limits) {
         Ok(config) => Ok(config),
         Err((_, fault)) => Err(fault),
+    }
+}
+
+/// What a document is refused for that is too deep: keys are looked at first.
+fn deep_fault(alloc: Global, events: Events<'_>) -> ReadFault
+    ensures { RefusesDeep (events_of events.entry) result }
+{
+    match document_keys_differ(alloc, events) {
+        Ok(true) => ReadFault::TooDeep,
+        Ok(false) => ReadFault::KeyTwice,
+        Err(fault) => fault,
     }
 }

@@ -2,7 +2,6 @@
 use super::*;
 use std::alloc::{AllocError, Global};
 use std::test::Fail;
-use yaml_events::Why;
 
 fn text(alloc: Global, value: &str) -> Result<Tree, AllocError> {
     Ok(Tree::Text(String::from_str(alloc, value)?))
@@ -154,52 +153,4 @@ fn faults_by_name(rt: HostRuntime) -> Result<(), Fail> {
     let name = format!(in rt.alloc(); "{fault}")?;
     assert_eq!(rt; name.as_str(), "Documents");
     Ok(())
-}
-
-#[test]
-fn reads_known_lines(rt: HostRuntime) -> Result<(), Fail> {
-    let alloc = rt.alloc();
-    let wide = Limits {
-        bytes: 100,
-        depth: 64,
-        style: 100,
-    };
-    let Ok(config) = read_one(alloc, b"host: \"example\"\nport: 8080\n", &wide) else {
-        assert!(rt; false, "two known lines");
-        return Ok(());
-    };
-    // `host: example` and `port: "8080"`, each with its line feed
-    assert_eq!(rt; style_len(config.tree(), 100), Some(27));
-
-    // the most bytes, the greatest depth and the most bytes in the one style
-    let cases: [(&[u8], u64, u64, u64, ReadFault); 8] = [
-        (b"a: b\n", 4, 64, 100, ReadFault::TooLong),
-        (b"a: b\xff\n", 100, 64, 100, ReadFault::NotUtf8 { at: 4 }),
-        (b"a: [x]\n", 100, 64, 100, not_yet(1)),
-        (b"a: 1\n- b\n", 100, 64, 100, not_yet(2)),
-        (b"a: b", 100, 64, 100, not_yet(1)),
-        (b"a: 1\na: 2\n", 100, 1, 100, ReadFault::KeyTwice),
-        (b"a: b\n", 100, 1, 100, ReadFault::TooDeep),
-        (b"a: b\n", 100, 64, 4, ReadFault::LargeInStyle),
-    ];
-    for (source, bytes, depth, style, fault) in cases {
-        let limits = Limits {
-            bytes,
-            depth: depth.min(64),
-            style: style.min(100),
-        };
-        match read_one(alloc, source, &limits) {
-            Ok(_) => assert!(rt; false, "{fault}"),
-            Err(found) => assert_eq!(rt; found, fault),
-        }
-    }
-    Ok(())
-}
-
-fn not_yet(line: u64) -> ReadFault {
-    ReadFault::Syntax {
-        line,
-        column: 1,
-        why: Why::NotYet,
-    }
 }

@@ -1,31 +1,37 @@
--- The tree of known lines, and its first fault.
-use Rattle.std.proofs.Common.{◌≡◌, ℕ, List, refl, sym, subst, ◌≤◌, length, arith}
-use Rattle.std.specs.Str.{chars, IsUtf8}
-use Rattle.yaml_grammar.specs.Trees.{Tree}
-use Rattle.yaml_tree.specs.declared.tree.Tree as trees
+use Rattle.std.proofs.Common.{◌≡◌, ◌<◌, sym, ap, subst, ◌∙◌, arith}
+use Rattle.std.proofs.lemmas.Result.{err_from_is_err_and}
+use Rattle.yaml_events.specs.Meant.{events_of}
+use Rattle.yaml_grammar.specs.Trees.{Tree, IsTreeOf, depth}
 use Rattle.yaml_tree.specs.Kept.{limits_of}
-use Rattle.yaml_tree.specs.KnownLines.{IsKnownText}
-use Rattle.yaml_tree.specs.Reading.{IsRead}
+use Rattle.yaml_tree.specs.Reading.{IsRead, document_count}
 use Rattle.yaml_tree.specs.Seen.{tree_of}
-use Rattle.yaml_tree.proofs.KnownReads.{known_is_read, known_is_refused}
+use Rattle.yaml_tree.specs.declared.tree.Tree as trees
+use Rattle.yaml_tree.proofs.ReadLemmas.{tree_read, shallow_refused, deep_refused}
 use Rattle.yaml_tree.proofs.read.read_one.Goals as goal
 
-pub returns-in-Ok-within-clause-given : goal.returns-in-Ok-within-clause-given
-returns-in-Ok-within-clause-given c =
-    let bytes : List ℕ = c.args.bytes.now in
-    let t : Tree = tree_of c.in_ok-tree.tree in
-    let same : c.in-Ok.text.now ≡ bytes = c.in-Ok.ensures.text in
-    let utf8 : IsUtf8 bytes = c.in-Ok.ensures.valid.0 refl in
-    let known : IsKnownText (chars bytes) t = subst (λ b. IsKnownText (chars b) t) same c.in_ok-tree.ensures.ok in
-    let good = c.in-Ok-within.ensures.ok in
-    subst (λ (config : trees.Tree). IsRead bytes (limits_of c.args.limits.now) (tree_of config)) (sym good.0)
-    (known_is_read bytes (limits_of c.args.limits.now) t c.unambiguous.ensures utf8 c.if-bytes-limits.false known good.1)
+pub returns-in-Ok-clause-given : goal.returns-in-Ok-clause-given
+returns-in-Ok-clause-given c =
+    let limits = limits_of c.args.limits.now in
+    let good = c.in-Ok.ensures.ok in
+    subst (λ (config : trees.Tree). IsRead c.args.bytes.now limits (tree_of config)) (sym good.0)
+    (tree_read c.args.bytes.now limits c.in_ok-events.events (tree_of c.in_ok-tree.tree) c.in_ok-events.ensures.reads c.in_ok-tree.ensures good.1)
 
-pub returns-clause-refused : goal.returns-clause-refused
-returns-clause-refused c =
-    let bytes : List ℕ = c.args.bytes.now in
-    let t : Tree = tree_of c.in_ok-tree.tree in
-    let same : c.in-Ok.text.now ≡ bytes = c.in-Ok.ensures.text in
-    let utf8 : IsUtf8 bytes = c.in-Ok.ensures.valid.0 refl in
-    let known : IsKnownText (chars bytes) t = subst (λ b. IsKnownText (chars b) t) same c.in_ok-tree.ensures.ok in
-    known_is_refused bytes (limits_of c.args.limits.now) t c.in-Err.fault c.unambiguous.ensures utf8 c.if-bytes-limits.false known c.in-Err.ensures.refused.1
+pub returns-then-document_depth-limits-clause-refused :
+    goal.returns-then-document_depth-limits-clause-refused
+returns-then-document_depth-limits-clause-refused c =
+    let es = c.in_ok-events.events in
+    let one : document_count (events_of es) ≡ 1 =
+    ap (λ xs. document_count (events_of xs)) (sym c.as_slice.ensures) ∙ sym c.document_count-count.ensures ∙ c.if-count-ne1.false in
+    let deep : (t : Tree) → IsTreeOf (events_of es) t → c.args.limits.now.depth < depth t = λ t is.
+    let e = c.document_depth.ensures t (subst (λ xs. IsTreeOf (events_of xs) t) (sym c.as_slice-2.ensures) is) in
+    omega (arith, e, c.if-document_depth-limits.true) in
+    deep_refused c.args.bytes.now (limits_of c.args.limits.now) es c.deep_fault.result c.in_ok-events.ensures.reads one deep c.deep_fault.ensures
+
+pub returns-in_err-tree-clause-refused : goal.returns-in_err-tree-clause-refused
+returns-in_err-tree-clause-refused c =
+    let es = c.in_ok-events.events in
+    let one : document_count (events_of es) ≡ 1 =
+    ap (λ xs. document_count (events_of xs)) (sym c.as_slice.ensures) ∙ sym c.document_count-count.ensures ∙ c.if-count-ne1.false in
+    let p = err_from_is_err_and c.from_residual-in_err-tree.result c.from_residual-in_err-tree.ensures.1 in
+    rw (p.1, p.2)
+    (shallow_refused c.args.bytes.now (limits_of c.args.limits.now) es _ c.in_ok-events.ensures.reads one c.in_err-tree.ensures)

@@ -1,0 +1,299 @@
+-- A step of open parts whose collections are emptied is one of the parts themselves.
+use Rattle.std.proofs.Common.{◌≡◌, ℕ, Bool, true, false, ◌&&◌, ◌||◌, not, List, [], ◌∷◌, Option, Some, None, refl, sym, ap, ap₂, subst, ◌∙◌}
+use Rattle.yaml_grammar.specs.Texts.{same_text}
+use Rattle.yaml_grammar.specs.Trees.{Tree, text, sequence, mapping, Elements, no_element, element, Members, no_member, member, Shape, document_from, document_to, seq_from, seq_to, map_from, map_to, scalar_of, distinct, elements_distinct, members_distinct, has_key}
+use Rattle.yaml_tree.specs.Emptied.{emptied, emptied_elements, emptied_members, emptied_frames, frames_distinct}
+use Rattle.yaml_tree.specs.Frames.{Frame, awaiting, root, whole, in_seq, at_key, at_value, elements_and, members_and, put, step, document_ended, seq_ended, map_ended, finished}
+use Rattle.yaml_tree.specs.Keys.{keys_differ, values_distinct}
+use Rattle.yaml_tree.proofs.KeyLemmas.{members_distinct-parts}
+
+abbrev pub emptied_some : Option (List Frame) → Option (List Frame)
+emptied_some None = None
+emptied_some (Some fs) = Some (emptied_frames fs)
+
+-- ---- parts
+
+elements_and-emptied : (ts : Elements) (t : Tree) → elements_and (emptied_elements ts) (emptied t) ≡ emptied_elements (elements_and ts t)
+elements_and-emptied no_element t = refl
+elements_and-emptied (element u ts) t = ap (element (emptied u)) (elements_and-emptied ts t)
+
+members_and-emptied : (ms : Members) (key : List ℕ) (t : Tree) → members_and (emptied_members ms) key (emptied t) ≡ emptied_members (members_and ms key t)
+members_and-emptied no_member key t = refl
+members_and-emptied (member k u ms) key t = ap (member k (emptied u)) (members_and-emptied ms key t)
+
+pub put_emptied : (fs : List Frame) (t : Tree) → put (emptied_frames fs) (emptied t) ≡ emptied_some (put fs t)
+put_emptied [] t = refl
+put_emptied (awaiting ∷ fs) t = refl
+put_emptied (root u ∷ fs) t = refl
+put_emptied (whole u ∷ fs) t = refl
+put_emptied (in_seq ts ∷ fs) t = ap (λ us. Some (in_seq us ∷ emptied_frames fs)) (elements_and-emptied ts t)
+put_emptied (at_key ms ∷ fs) (text key) = refl
+put_emptied (at_key ms ∷ fs) (sequence ts) = refl
+put_emptied (at_key ms ∷ fs) (mapping ns) = refl
+put_emptied (at_value ms key ∷ fs) t = ap (λ ns. Some (at_key ns ∷ emptied_frames fs)) (members_and-emptied ms key t)
+
+document_emptied : (fs : List Frame) → document_ended (emptied_frames fs) ≡ emptied_some (document_ended fs)
+document_emptied [] = refl
+document_emptied (awaiting ∷ fs) = refl
+document_emptied (root u ∷ fs) = refl
+document_emptied (whole u ∷ fs) = refl
+document_emptied (in_seq ts ∷ fs) = refl
+document_emptied (at_key ms ∷ fs) = refl
+document_emptied (at_value ms key ∷ fs) = refl
+
+-- what neither ends a sequence nor a mapping
+abbrev pub IsInner : Shape → Type 0
+IsInner document_from = Unit {0}
+IsInner document_to = Unit {0}
+IsInner seq_from = Unit {0}
+IsInner seq_to = ⊥
+IsInner map_from = Unit {0}
+IsInner map_to = ⊥
+IsInner (scalar_of value) = Unit {0}
+
+step_emptied : (fs : List Frame) (s : Shape) → IsInner s → step (emptied_frames fs) s ≡ emptied_some (step fs s)
+step_emptied fs document_from h = refl
+step_emptied fs document_to h = document_emptied fs
+step_emptied fs seq_from h = refl
+step_emptied fs seq_to h = absurd h
+step_emptied fs map_from h = refl
+step_emptied fs map_to h = absurd h
+step_emptied fs (scalar_of value) h = put_emptied fs (text value)
+
+-- ---- whether keys differ
+
+abbrev Differs : Option (List Frame) → Bool → Type 0
+Differs None b = Unit {0}
+Differs (Some fs) b = b ≡ frames_distinct fs
+
+and_last : (a b : Bool) → (a && b) ≡ (b && a)
+and_last true true = refl
+and_last true false = refl
+and_last false true = refl
+and_last false false = refl
+
+and_assoc : (a b c : Bool) → (a && (b && c)) ≡ (a && b && c)
+and_assoc true b c = refl
+and_assoc false b c = refl
+
+and_true : (b : Bool) → (b && true) ≡ b
+and_true true = refl
+and_true false = refl
+
+elements_and-distinct : (ts : Elements) (t : Tree) → elements_distinct (elements_and ts t) ≡ (distinct t && elements_distinct ts)
+elements_and-distinct no_element t = refl
+elements_and-distinct (element u ts) t =
+    ap (λ b. distinct u && b) (elements_and-distinct ts t) ∙ turn (distinct u) (distinct t) (elements_distinct ts)
+  where
+    turn : (a b c : Bool) → (a && (b && c)) ≡ (b && (a && c))
+    turn true true c = refl
+    turn true false c = refl
+    turn false true c = refl
+    turn false false c = refl
+
+members_and-distinct : (ms : Members) (key : List ℕ) (t : Tree) → values_distinct (members_and ms key t) ≡ (distinct t && values_distinct ms)
+members_and-distinct no_member key t = refl
+members_and-distinct (member k u ms) key t =
+    ap (λ b. distinct u && b) (members_and-distinct ms key t) ∙ turn (distinct u) (distinct t) (values_distinct ms)
+  where
+    turn : (a b c : Bool) → (a && (b && c)) ≡ (b && (a && c))
+    turn true true c = refl
+    turn true false c = refl
+    turn false true c = refl
+    turn false false c = refl
+
+put_differs : (fs : List Frame) (t : Tree) → Differs (put fs t) (distinct t && frames_distinct fs)
+put_differs [] t = tt
+put_differs (awaiting ∷ fs) t = refl
+put_differs (root u ∷ fs) t = tt
+put_differs (whole u ∷ fs) t = tt
+put_differs (in_seq ts ∷ fs) t =
+    and_assoc (distinct t) (elements_distinct ts) (frames_distinct fs) ∙ ap (λ b. b && frames_distinct fs) (sym (elements_and-distinct ts t))
+put_differs (at_key ms ∷ fs) (text key) = refl
+put_differs (at_key ms ∷ fs) (sequence ts) = tt
+put_differs (at_key ms ∷ fs) (mapping ns) = tt
+put_differs (at_value ms key ∷ fs) t =
+    and_assoc (distinct t) (values_distinct ms) (frames_distinct fs) ∙ ap (λ b. b && frames_distinct fs) (sym (members_and-distinct ms key t))
+
+document_differs : (fs : List Frame) → Differs (document_ended fs) (frames_distinct fs)
+document_differs [] = tt
+document_differs (awaiting ∷ fs) = tt
+document_differs (root u ∷ fs) = refl
+document_differs (whole u ∷ fs) = tt
+document_differs (in_seq ts ∷ fs) = tt
+document_differs (at_key ms ∷ fs) = tt
+document_differs (at_value ms key ∷ fs) = tt
+
+step_differs : (fs : List Frame) (s : Shape) → IsInner s → Differs (step fs s) (frames_distinct fs)
+step_differs fs document_from h = refl
+step_differs fs document_to h = document_differs fs
+step_differs fs seq_from h = refl
+step_differs fs seq_to h = absurd h
+step_differs fs map_from h = refl
+step_differs fs map_to h = absurd h
+step_differs fs (scalar_of value) h = put_differs fs (text value)
+
+-- ---- the parts that a step of emptied ones is a step of
+
+pub record Stepped (new : List Frame) (differ : Bool) (o : Option (List Frame)) : Type 0 where
+  pub parts : List Frame
+  pub are : o ≡ Some parts
+  pub frames : new ≡ emptied_frames parts
+  pub distinct : differ ≡ frames_distinct parts
+
+stepped : (o : Option (List Frame)) (new : List Frame) (b : Bool) → emptied_some o ≡ Some new → Differs o b → Stepped new b o
+stepped None new b e d = cc
+stepped (Some fs) new b e d = record { parts = fs; are = refl; frames = cc; distinct = d }
+
+none_emptied : (o : Option (List Frame)) → emptied_some o ≡ None → o ≡ None
+none_emptied None e = refl
+none_emptied (Some fs) e = cc
+
+pub inner_stepped : (fs new : List Frame) (s : Shape) → IsInner s → step (emptied_frames fs) s ≡ Some new → Stepped new (frames_distinct fs) (step fs s)
+inner_stepped fs new s h e = stepped (step fs s) new (frames_distinct fs) (sym (step_emptied fs s h) ∙ e) (step_differs fs s h)
+
+pub inner_none : (fs : List Frame) (s : Shape) → IsInner s → step (emptied_frames fs) s ≡ None → step fs s ≡ None
+inner_none fs s h e = none_emptied (step fs s) (sym (step_emptied fs s h) ∙ e)
+
+-- the sequence, the mapping that is innermost
+pub record InSeq (fs rest : List Frame) : Type 0 where
+  pub elements : Elements
+  pub outer : List Frame
+  pub is : fs ≡ in_seq elements ∷ outer
+  pub behind : rest ≡ emptied_frames outer
+
+pub record InMap (fs : List Frame) (ms : Members) (rest : List Frame) : Type 0 where
+  pub members : Members
+  pub outer : List Frame
+  pub is : fs ≡ at_key members ∷ outer
+  pub emptied_is : ms ≡ emptied_members members
+  pub behind : rest ≡ emptied_frames outer
+
+pub in_seq_parts : (fs : List Frame) (es : Elements) (rest : List Frame) → emptied_frames fs ≡ in_seq es ∷ rest → InSeq fs rest
+in_seq_parts [] es rest e = cc
+in_seq_parts (awaiting ∷ fs) es rest e = cc
+in_seq_parts (root u ∷ fs) es rest e = cc
+in_seq_parts (whole u ∷ fs) es rest e = cc
+in_seq_parts (in_seq ts ∷ fs) es rest e = record { elements = ts; outer = fs; is = refl; behind = cc }
+in_seq_parts (at_key ms ∷ fs) es rest e = cc
+in_seq_parts (at_value ms key ∷ fs) es rest e = cc
+
+pub in_map_parts : (fs : List Frame) (ns : Members) (rest : List Frame) → emptied_frames fs ≡ at_key ns ∷ rest → InMap fs ns rest
+in_map_parts [] ns rest e = cc
+in_map_parts (awaiting ∷ fs) ns rest e = cc
+in_map_parts (root u ∷ fs) ns rest e = cc
+in_map_parts (whole u ∷ fs) ns rest e = cc
+in_map_parts (in_seq ts ∷ fs) ns rest e = cc
+in_map_parts (at_key ms ∷ fs) ns rest e = record { members = ms; outer = fs; is = refl; emptied_is = cc; behind = cc }
+in_map_parts (at_value ms key ∷ fs) ns rest e = cc
+
+pub seq_stepped : (fs rest new : List Frame) → InSeq fs rest → put rest (sequence no_element) ≡ Some new → Stepped new (frames_distinct fs) (seq_ended fs)
+seq_stepped fs rest new i e =
+    let found = stepped (put i.outer (sequence i.elements)) new (elements_distinct i.elements && frames_distinct i.outer)
+    (sym (put_emptied i.outer (sequence i.elements)) ∙ ap (λ gs. put gs (sequence no_element)) (sym i.behind) ∙ e)
+    (put_differs i.outer (sequence i.elements)) in
+    subst (λ gs. Stepped new (frames_distinct gs) (seq_ended gs)) (sym i.is) found
+
+pub seq_put_none : (fs rest : List Frame) → InSeq fs rest → put rest (sequence no_element) ≡ None → seq_ended fs ≡ None
+seq_put_none fs rest i e =
+    ap seq_ended i.is
+    ∙ none_emptied (put i.outer (sequence i.elements)) (sym (put_emptied i.outer (sequence i.elements)) ∙ ap (λ gs. put gs (sequence no_element)) (sym i.behind) ∙ e)
+
+keys_of_mapping : (ms : Members) (d : Bool) (fs : List Frame) → d ≡ (values_distinct ms && frames_distinct fs)
+    → (d && keys_differ ms) ≡ (members_distinct ms && frames_distinct fs)
+keys_of_mapping ms d fs e =
+    ap (λ b. b && keys_differ ms) e ∙ and_last (values_distinct ms && frames_distinct fs) (keys_differ ms)
+    ∙ and_assoc (keys_differ ms) (values_distinct ms) (frames_distinct fs)
+    ∙ ap (λ b. b && frames_distinct fs) (sym (members_distinct-parts ms))
+
+has_key-emptied : (key : List ℕ) (ms : Members) → has_key key (emptied_members ms) ≡ has_key key ms
+has_key-emptied key no_member = refl
+has_key-emptied key (member k t ms) = ap (λ b. same_text key k || b) (has_key-emptied key ms)
+
+keys_differ-emptied : (ms : Members) → keys_differ (emptied_members ms) ≡ keys_differ ms
+keys_differ-emptied no_member = refl
+keys_differ-emptied (member k t ms) = ap₂ (λ a b. not a && b) (has_key-emptied k ms) (keys_differ-emptied ms)
+
+-- the flag is taken together with whether this mapping's keys differ
+pub map_stepped : (fs rest new : List Frame) (ns : Members) (d : Bool) → InMap fs ns rest → put rest (mapping no_member) ≡ Some new → d ≡ frames_distinct fs
+    → Stepped new (d && keys_differ ns) (map_ended fs)
+map_stepped fs rest new ns d i e was =
+    let keys : keys_differ ns ≡ keys_differ i.members = ap keys_differ i.emptied_is ∙ keys_differ-emptied i.members in
+    let flag : (d && keys_differ ns) ≡ (members_distinct i.members && frames_distinct i.outer) =
+    ap (λ b. d && b) keys ∙ keys_of_mapping i.members d i.outer (was ∙ ap frames_distinct i.is) in
+    let found = stepped (put i.outer (mapping i.members)) new (members_distinct i.members && frames_distinct i.outer)
+    (sym (put_emptied i.outer (mapping i.members)) ∙ ap (λ gs. put gs (mapping no_member)) (sym i.behind) ∙ e)
+    (put_differs i.outer (mapping i.members)) in
+    let there : Stepped new (members_distinct i.members && frames_distinct i.outer) (map_ended fs) =
+    subst (λ gs. Stepped new (members_distinct i.members && frames_distinct i.outer) (map_ended gs)) (sym i.is) found in
+    subst (λ b. Stepped new b (map_ended fs)) (sym flag) there
+
+pub map_put_none : (fs rest : List Frame) (ns : Members) → InMap fs ns rest → put rest (mapping no_member) ≡ None → map_ended fs ≡ None
+map_put_none fs rest ns i e =
+    ap map_ended i.is
+    ∙ none_emptied (put i.outer (mapping i.members)) (sym (put_emptied i.outer (mapping i.members)) ∙ ap (λ gs. put gs (mapping no_member)) (sym i.behind) ∙ e)
+
+-- no sequence, no mapping is innermost, or its place is none for a collection
+
+collection_none : (fs : List Frame) (us ts : Elements) → put (emptied_frames fs) (sequence us) ≡ None → put fs (sequence ts) ≡ None
+collection_none [] us ts e = refl
+collection_none (awaiting ∷ fs) us ts e = cc
+collection_none (root u ∷ fs) us ts e = refl
+collection_none (whole u ∷ fs) us ts e = refl
+collection_none (in_seq vs ∷ fs) us ts e = cc
+collection_none (at_key ms ∷ fs) us ts e = refl
+collection_none (at_value ms key ∷ fs) us ts e = cc
+
+mapping_none : (fs : List Frame) (ns os : Members) → put (emptied_frames fs) (mapping ns) ≡ None → put fs (mapping os) ≡ None
+mapping_none [] ns os e = refl
+mapping_none (awaiting ∷ fs) ns os e = cc
+mapping_none (root u ∷ fs) ns os e = refl
+mapping_none (whole u ∷ fs) ns os e = refl
+mapping_none (in_seq vs ∷ fs) ns os e = cc
+mapping_none (at_key ms ∷ fs) ns os e = refl
+mapping_none (at_value ms key ∷ fs) ns os e = cc
+
+pub seq_none : (fs : List Frame) → seq_ended (emptied_frames fs) ≡ None → seq_ended fs ≡ None
+seq_none [] e = refl
+seq_none (awaiting ∷ fs) e = refl
+seq_none (root u ∷ fs) e = refl
+seq_none (whole u ∷ fs) e = refl
+seq_none (in_seq ts ∷ fs) e = collection_none fs (emptied_elements ts) ts e
+seq_none (at_key ms ∷ fs) e = refl
+seq_none (at_value ms key ∷ fs) e = refl
+
+pub map_none : (fs : List Frame) → map_ended (emptied_frames fs) ≡ None → map_ended fs ≡ None
+map_none [] e = refl
+map_none (awaiting ∷ fs) e = refl
+map_none (root u ∷ fs) e = refl
+map_none (whole u ∷ fs) e = refl
+map_none (in_seq ts ∷ fs) e = refl
+map_none (at_key ms ∷ fs) e = mapping_none fs (emptied_members ms) ms e
+map_none (at_value ms key ∷ fs) e = refl
+
+-- ---- the end
+
+pub record Finished (differ : Bool) (fs : List Frame) : Type 0 where
+  pub tree : Tree
+  pub is : finished fs ≡ Some tree
+  pub distinct : differ ≡ distinct tree
+
+pub finished_emptied : (fs : List Frame) (t : Tree) (d : Bool) → finished (emptied_frames fs) ≡ Some t → d ≡ frames_distinct fs → Finished d fs
+finished_emptied [] t d e h = cc
+finished_emptied (awaiting ∷ fs) t d e h = cc
+finished_emptied (root u ∷ fs) t d e h = cc
+finished_emptied (whole u ∷ []) t d e h = record { tree = u; is = refl; distinct = h ∙ and_true (distinct u) }
+finished_emptied (whole u ∷ f ∷ fs) t d e h = cc
+finished_emptied (in_seq ts ∷ fs) t d e h = cc
+finished_emptied (at_key ms ∷ fs) t d e h = cc
+finished_emptied (at_value ms key ∷ fs) t d e h = cc
+
+pub finished_none : (fs : List Frame) → finished (emptied_frames fs) ≡ None → finished fs ≡ None
+finished_none [] e = refl
+finished_none (awaiting ∷ fs) e = refl
+finished_none (root u ∷ fs) e = refl
+finished_none (whole u ∷ []) e = cc
+finished_none (whole u ∷ f ∷ fs) e = refl
+finished_none (in_seq ts ∷ fs) e = refl
+finished_none (at_key ms ∷ fs) e = refl
+finished_none (at_value ms key ∷ fs) e = refl

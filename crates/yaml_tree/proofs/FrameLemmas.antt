@@ -1,0 +1,196 @@
+-- The events of a tree, taken one after another, give that tree; and events that give a tree are those of it.
+use Rattle.std.proofs.Common.{◌≡◌, ℕ, List, [], ◌∷◌, ◌++◌, Option, Some, None, append_assoc, refl, sym, ap, subst, ◌∙◌}
+use Rattle.std.proofs.lemmas.List.{append-nil}
+use Rattle.yaml_grammar.specs.Trees.{Tree, text, sequence, mapping, Elements, no_element, element, Members, no_member, member, Shape, document_from, document_to, seq_from, seq_to, map_from, map_to, scalar_of, tree_shapes, elements_shapes, members_shapes}
+use Rattle.yaml_tree.specs.Frames.{Frame, awaiting, root, whole, in_seq, at_key, at_value, elements_and, members_and, put, step, finished}
+
+-- ---- several events
+
+abbrev pub after : Option (List Frame) → Shape → Option (List Frame)
+after None s = None
+after (Some fs) s = step fs s
+
+abbrev pub run : Option (List Frame) → List Shape → Option (List Frame)
+run o [] = o
+run o (s ∷ ss) = run (after o s) ss
+
+pub run-append : (o : Option (List Frame)) (xs ys : List Shape) → run o (xs ++ ys) ≡ run (run o xs) ys
+run-append o [] ys = refl
+run-append o (x ∷ xs) ys = run-append (after o x) xs ys
+
+pub run-None : (ss : List Shape) → run None ss ≡ None
+run-None [] = refl
+run-None (s ∷ ss) = run-None ss
+
+-- ---- more at the end
+
+abbrev pub elements_join : Elements → Elements → Elements
+elements_join ts no_element = ts
+elements_join ts (element u us) = elements_join (elements_and ts u) us
+
+abbrev pub members_join : Members → Members → Members
+members_join ms no_member = ms
+members_join ms (member key u ns) = members_join (members_and ms key u) ns
+
+elements_join-element : (t : Tree) (ts us : Elements) → elements_join (element t ts) us ≡ element t (elements_join ts us)
+elements_join-element t ts no_element = refl
+elements_join-element t ts (element u us) = elements_join-element t (elements_and ts u) us
+
+members_join-member : (key : List ℕ) (t : Tree) (ms ns : Members) → members_join (member key t ms) ns ≡ member key t (members_join ms ns)
+members_join-member key t ms no_member = refl
+members_join-member key t ms (member k u ns) = members_join-member key t (members_and ms k u) ns
+
+pub elements_join-none : (us : Elements) → elements_join no_element us ≡ us
+elements_join-none no_element = refl
+elements_join-none (element u us) = elements_join-element u no_element us ∙ ap (element u) (elements_join-none us)
+
+pub members_join-none : (ns : Members) → members_join no_member ns ≡ ns
+members_join-none no_member = refl
+members_join-none (member key u ns) = members_join-member key u no_member ns ∙ ap (member key u) (members_join-none ns)
+
+pub elements_and-shapes : (ts : Elements) (u : Tree) → elements_shapes (elements_and ts u) ≡ elements_shapes ts ++ tree_shapes u
+elements_and-shapes no_element u = append-nil (tree_shapes u)
+elements_and-shapes (element t ts) u =
+    ap (λ ss. tree_shapes t ++ ss) (elements_and-shapes ts u) ∙ sym (append_assoc (tree_shapes t) (elements_shapes ts) (tree_shapes u))
+
+pub members_and-shapes : (ms : Members) (key : List ℕ) (u : Tree)
+    → members_shapes (members_and ms key u) ≡ members_shapes ms ++ scalar_of key ∷ tree_shapes u
+members_and-shapes no_member key u = ap (λ ss. scalar_of key ∷ ss) (append-nil (tree_shapes u))
+members_and-shapes (member k t ms) key u =
+    ap (λ ss. scalar_of k ∷ (tree_shapes t ++ ss)) (members_and-shapes ms key u)
+    ∙ ap (λ ss. scalar_of k ∷ ss) (sym (append_assoc (tree_shapes t) (members_shapes ms) (scalar_of key ∷ tree_shapes u)))
+
+-- ---- a tree's events put the tree into the innermost part
+
+-- the part, with the values of a collection in it one after another
+mutual
+  tree_run : (t : Tree) (fs : List Frame) (rest : List Shape) → run (Some fs) (tree_shapes t ++ rest) ≡ run (put fs t) rest
+  tree_run (text value) fs rest = refl
+  tree_run (sequence ts) fs rest =
+      ap (run (Some (in_seq no_element ∷ fs))) (append_assoc (elements_shapes ts) (seq_to ∷ []) rest)
+      ∙ elements_run ts no_element fs (seq_to ∷ rest)
+      ∙ ap (λ us. run (put fs (sequence us)) rest) (elements_join-none ts)
+  tree_run (mapping ms) fs rest =
+      ap (run (Some (at_key no_member ∷ fs))) (append_assoc (members_shapes ms) (map_to ∷ []) rest)
+      ∙ members_run ms no_member fs (map_to ∷ rest)
+      ∙ ap (λ ns. run (put fs (mapping ns)) rest) (members_join-none ms)
+
+  elements_run : (ts us : Elements) (fs : List Frame) (rest : List Shape)
+      → run (Some (in_seq us ∷ fs)) (elements_shapes ts ++ rest) ≡ run (Some (in_seq (elements_join us ts) ∷ fs)) rest
+  elements_run no_element us fs rest = refl
+  elements_run (element t ts) us fs rest =
+      ap (run (Some (in_seq us ∷ fs))) (append_assoc (tree_shapes t) (elements_shapes ts) rest)
+      ∙ tree_run t (in_seq us ∷ fs) (elements_shapes ts ++ rest)
+      ∙ elements_run ts (elements_and us t) fs rest
+
+  members_run : (ms ns : Members) (fs : List Frame) (rest : List Shape)
+      → run (Some (at_key ns ∷ fs)) (members_shapes ms ++ rest) ≡ run (Some (at_key (members_join ns ms) ∷ fs)) rest
+  members_run no_member ns fs rest = refl
+  members_run (member key t ms) ns fs rest =
+      ap (run (Some (at_value ns key ∷ fs))) (append_assoc (tree_shapes t) (members_shapes ms) rest)
+      ∙ tree_run t (at_value ns key ∷ fs) (members_shapes ms ++ rest)
+      ∙ members_run ms (members_and ns key t) fs rest
+
+pub document_run : (t : Tree) → run (Some []) (document_from ∷ (tree_shapes t ++ document_to ∷ [])) ≡ Some (whole t ∷ [])
+document_run t = tree_run t (awaiting ∷ []) (document_to ∷ [])
+
+-- ---- the events that the open parts were made by
+
+abbrev pub written : List Frame → List Shape
+written [] = []
+written (awaiting ∷ fs) = written fs ++ document_from ∷ []
+written (root t ∷ fs) = written fs ++ document_from ∷ tree_shapes t
+written (whole t ∷ fs) = written fs ++ document_from ∷ (tree_shapes t ++ document_to ∷ [])
+written (in_seq ts ∷ fs) = written fs ++ seq_from ∷ elements_shapes ts
+written (at_key ms ∷ fs) = written fs ++ map_from ∷ members_shapes ms
+written (at_value ms key ∷ fs) = written fs ++ map_from ∷ (members_shapes ms ++ scalar_of key ∷ [])
+
+-- that a step which is made writes the events ss more
+abbrev Writes : Option (List Frame) → List Shape → Type 0
+Writes None ss = Unit {0}
+Writes (Some gs) ss = written gs ≡ ss
+
+behind : (fs : List Frame) (s : Shape) (xs ys : List Shape) → written fs ++ s ∷ (xs ++ ys) ≡ written fs ++ s ∷ xs ++ ys
+behind fs s xs ys = sym (append_assoc (written fs) (s ∷ xs) ys)
+
+put_writes : (fs : List Frame) (t : Tree) → Writes (put fs t) (written fs ++ tree_shapes t)
+put_writes [] t = tt
+put_writes (awaiting ∷ fs) t = behind fs document_from [] (tree_shapes t)
+put_writes (root u ∷ fs) t = tt
+put_writes (whole u ∷ fs) t = tt
+put_writes (in_seq ts ∷ fs) t = ap (λ ss. written fs ++ seq_from ∷ ss) (elements_and-shapes ts t) ∙ behind fs seq_from (elements_shapes ts) (tree_shapes t)
+put_writes (at_key ms ∷ fs) (text key) = behind fs map_from (members_shapes ms) (scalar_of key ∷ [])
+put_writes (at_key ms ∷ fs) (sequence ts) = tt
+put_writes (at_key ms ∷ fs) (mapping ns) = tt
+put_writes (at_value ms key ∷ fs) t =
+    ap (λ ss. written fs ++ map_from ∷ ss) (members_and-shapes ms key t ∙ sym (append_assoc (members_shapes ms) (scalar_of key ∷ []) (tree_shapes t)))
+    ∙ behind fs map_from (members_shapes ms ++ scalar_of key ∷ []) (tree_shapes t)
+
+same_writes : (o : Option (List Frame)) (xs ys : List Shape) → xs ≡ ys → Writes o xs → Writes o ys
+same_writes o xs ys e h = subst (Writes o) e h
+
+step_writes : (fs : List Frame) (s : Shape) → Writes (step fs s) (written fs ++ s ∷ [])
+step_writes fs document_from = refl
+step_writes [] document_to = tt
+step_writes (awaiting ∷ fs) document_to = tt
+step_writes (root t ∷ fs) document_to = behind fs document_from (tree_shapes t) (document_to ∷ [])
+step_writes (whole t ∷ fs) document_to = tt
+step_writes (in_seq ts ∷ fs) document_to = tt
+step_writes (at_key ms ∷ fs) document_to = tt
+step_writes (at_value ms key ∷ fs) document_to = tt
+step_writes fs seq_from = refl
+step_writes [] seq_to = tt
+step_writes (awaiting ∷ fs) seq_to = tt
+step_writes (root t ∷ fs) seq_to = tt
+step_writes (whole t ∷ fs) seq_to = tt
+step_writes (in_seq ts ∷ fs) seq_to =
+    same_writes (put fs (sequence ts)) _ _ (behind fs seq_from (elements_shapes ts) (seq_to ∷ [])) (put_writes fs (sequence ts))
+step_writes (at_key ms ∷ fs) seq_to = tt
+step_writes (at_value ms key ∷ fs) seq_to = tt
+step_writes fs map_from = refl
+step_writes [] map_to = tt
+step_writes (awaiting ∷ fs) map_to = tt
+step_writes (root t ∷ fs) map_to = tt
+step_writes (whole t ∷ fs) map_to = tt
+step_writes (in_seq ts ∷ fs) map_to = tt
+step_writes (at_key ms ∷ fs) map_to =
+    same_writes (put fs (mapping ms)) _ _ (behind fs map_from (members_shapes ms) (map_to ∷ [])) (put_writes fs (mapping ms))
+step_writes (at_value ms key ∷ fs) map_to = tt
+step_writes fs (scalar_of value) = put_writes fs (text value)
+
+abbrev Wrote : Option (List Frame) → List Shape → Option (List Frame) → Type 0
+Wrote o ss None = Unit {0}
+Wrote None ss (Some gs) = ⊥
+Wrote (Some fs) ss (Some gs) = written gs ≡ written fs ++ ss
+
+after_wrote : (o : Option (List Frame)) (s : Shape) → (p : Option (List Frame)) → after o s ≡ p → Wrote o (s ∷ []) p
+after_wrote o s None e = tt
+after_wrote None s (Some gs) e = cc
+after_wrote (Some fs) s (Some gs) e = subst (λ p. Writes p (written fs ++ s ∷ [])) e (step_writes fs s)
+
+joined : (o : Option (List Frame)) (s : Shape) (ss : List Shape) (p q : Option (List Frame)) → Wrote o (s ∷ []) p → Wrote p ss q → Wrote o (s ∷ ss) q
+joined o s ss p None h k = tt
+joined o s ss None (Some gs) h k = absurd k
+joined None s ss (Some fs) (Some gs) h k = absurd h
+joined (Some es) s ss (Some fs) (Some gs) h k = k ∙ ap (λ xs. xs ++ ss) h ∙ append_assoc (written es) (s ∷ []) ss
+
+run_wrote : (o : Option (List Frame)) (ss : List Shape) → Wrote o ss (run o ss)
+run_wrote None ss = subst (Wrote None ss) (sym (run-None ss)) tt
+run_wrote (Some fs) [] = sym (append-nil (written fs))
+run_wrote (Some fs) (s ∷ ss) =
+    joined (Some fs) s ss (step fs s) (run (step fs s) ss) (after_wrote (Some fs) s (step fs s) refl) (run_wrote (step fs s) ss)
+
+pub run_written : (ss : List Shape) (gs : List Frame) → run (Some []) ss ≡ Some gs → ss ≡ written gs
+run_written ss gs e =
+    let wrote : written gs ≡ [] ++ ss = subst (Wrote (Some []) ss) e (run_wrote (Some []) ss) in
+    sym wrote
+
+pub finished_whole : (fs : List Frame) (t : Tree) → finished fs ≡ Some t → fs ≡ whole t ∷ []
+finished_whole [] t e = cc
+finished_whole (awaiting ∷ fs) t e = cc
+finished_whole (root u ∷ fs) t e = cc
+finished_whole (whole u ∷ []) t e = let same : u ≡ t = cc in ap (λ v. whole v ∷ []) same
+finished_whole (whole u ∷ f ∷ fs) t e = cc
+finished_whole (in_seq ts ∷ fs) t e = cc
+finished_whole (at_key ms ∷ fs) t e = cc
+finished_whole (at_value ms key ∷ fs) t e = cc

@@ -1,0 +1,64 @@
+-- What the open parts of src/build.rt stand for, and how events are refused that are those of no tree.
+use Rattle.std.specs.Prelude.{◌≡◌, true, false, List, [], ◌∷◌, Option, None, string_bytes}
+use Rattle.std.specs.Str.{chars}
+use Rattle.yaml_docs.specs.declared.fault.ReadFault.{ReadFault}
+use Rattle.yaml_docs.specs.declared.fault.ReadFault.TheVariants.{TooLong, NotUtf8, Syntax, Documents, KeyNotText, KeyTwice, TooDeep, LargeInStyle, OutOfMemory}
+use Rattle.yaml_grammar.specs.Events.{Event}
+use Rattle.yaml_grammar.specs.Trees as grammar
+use Rattle.yaml_grammar.specs.Trees.{IsTreeOf, distinct}
+use Rattle.yaml_tree.specs.declared.build.Part.{Part}
+use Rattle.yaml_tree.specs.declared.build.Part.TheVariants.{Document, Root, Whole, Seq, Map, Value}
+use Rattle.yaml_tree.specs.Frames.{Frame, awaiting, root, whole, in_seq, at_key, at_value}
+use Rattle.yaml_tree.specs.Seen.{tree_of, elements_of, members_of}
+
+abbrev pub frame_of : Part → Frame
+frame_of Document = awaiting
+frame_of (Root tree) = root (tree_of tree)
+frame_of (Whole tree) = whole (tree_of tree)
+frame_of (Seq items) = in_seq (elements_of items.items)
+frame_of (Map pairs) = at_key (members_of pairs.items)
+frame_of (Value pairs key) = at_value (members_of pairs.items) (chars (string_bytes key))
+
+-- those of a list whose last one is the innermost, put in front of others
+abbrev pub frames_onto : List Part → List Frame → List Frame
+frames_onto [] fs = fs
+frames_onto (x ∷ xs) fs = frames_onto xs (frame_of x ∷ fs)
+
+abbrev pub frames_of : List Part → List Frame
+frames_of parts = frames_onto parts []
+
+-- there is no such part, or no memory
+abbrev pub HasNone : {A : Type 0} → Option A → ReadFault → Type 0
+HasNone o KeyNotText = o ≡ None
+HasNone o OutOfMemory = Unit {0}
+HasNone o TooLong = ⊥
+HasNone o (NotUtf8 at) = ⊥
+HasNone o (Syntax line column why) = ⊥
+HasNone o (Documents count) = ⊥
+HasNone o KeyTwice = ⊥
+HasNone o TooDeep = ⊥
+HasNone o LargeInStyle = ⊥
+
+-- the events are those of no tree, or there is no memory
+abbrev pub HasNoTree : List Event → ReadFault → Type 0
+HasNoTree events KeyNotText = (t : grammar.Tree) → IsTreeOf events t → ⊥
+HasNoTree events OutOfMemory = Unit {0}
+HasNoTree events TooLong = ⊥
+HasNoTree events (NotUtf8 at) = ⊥
+HasNoTree events (Syntax line column why) = ⊥
+HasNoTree events (Documents count) = ⊥
+HasNoTree events KeyTwice = ⊥
+HasNoTree events TooDeep = ⊥
+HasNoTree events LargeInStyle = ⊥
+
+-- what events are refused for that are too deep, if they are those of a tree
+abbrev pub RefusesDeep : List Event → ReadFault → Type 0
+RefusesDeep events KeyNotText = (t : grammar.Tree) → IsTreeOf events t → ⊥
+RefusesDeep events KeyTwice = (t : grammar.Tree) × IsTreeOf events t × (distinct t ≡ false)
+RefusesDeep events TooDeep = (t : grammar.Tree) × IsTreeOf events t × (distinct t ≡ true)
+RefusesDeep events OutOfMemory = Unit {0}
+RefusesDeep events TooLong = ⊥
+RefusesDeep events (NotUtf8 at) = ⊥
+RefusesDeep events (Syntax line column why) = ⊥
+RefusesDeep events (Documents count) = ⊥
+RefusesDeep events LargeInStyle = ⊥

@@ -1,0 +1,211 @@
+// The tree of a document, built from its events.
+ghost use Rattle.std.specs.Prelude.{◌≡◌, List, [], ◌∷◌, Some, MatchResult};
+ghost use Rattle.yaml_events.specs.Meant.{event_of, events_of};
+ghost use Rattle.yaml_grammar.specs.Trees.{IsTreeOf, shape};
+ghost use Rattle.yaml_tree.specs.Building.{frame_of, frames_of, HasNone, HasNoTree};
+ghost use Rattle.yaml_tree.specs.Frames.{in_seq, at_key, placed, put, step, document_ended, seq_ended, map_ended, finished};
+ghost use Rattle.yaml_tree.specs.Seen.{tree_of, elements_of, members_of};
+
+use crate::{ReadFault, Tree};
+use std::alloc::Global;
+use yaml_events::{Event, Events};
+
+/// A part of a document that is not complete: its end, or a further value in it, is still to come.
+#[derive(Drop)]
+pub(crate) enum Part {
+    /// A document whose value is next.
+    Document,
+    /// A document that has its value; its end is next.
+    Root(Tree),
+    /// A document behind its end.
+    Whole(Tree),
+    /// A sequence of these elements so far.
+    Seq(Vec<Tree>),
+    /// A mapping of these pairs so far, where a key is next.
+    Map(Vec<(String, Tree)>),
+    /// A mapping of these pairs so far, where the value of a key is next.
+    Value(Vec<(String, Tree)>, String),
+}
+
+impl Part {
+    /// The part with a further value in it. `KeyNotText` if the value is a collection and stands for a key.
+    fn with(self, tree: Tree) -> Result<Part, ReadFault>
+        ensures { MatchResult result
+            (λ part. placed (frame_of self) (tree_of tree) ≡ Some (frame_of part))
+            (HasNone (placed (frame_of self) (tree_of tree))) }
+    {
+        match self {
+            Part::Document => Ok(Part::Root(tree)),
+            Part::Root(_) => Err(ReadFault::KeyNotText),
+            Part::Whole(_) => Err(ReadFault::KeyNotText),
+            Part::Seq(items) => {
+                let mut items = items;
+                items.push(tree)?;
+                Ok(Part::Seq(items))
+            }
+            Part::Map(pairs) => match tree {
+                Tree::Text(key) => Ok(Part::Value(pairs, key)),
+                Tree::Seq(_) => Err(ReadFault::KeyNotText),
+                Tree::Map(_) => Err(ReadFault::KeyNotText),
+            },
+            Part::Value(pairs, key) => {
+                let mut pairs = pairs;
+                pairs.push((key, tree))?;
+                Ok(Part::Map(pairs))
+            }
+        }
+    }
+}
+
+/// The parts of a document that are open, the innermost one last.
+#[derive(Drop)]
+pub(crate) struct Builder {
+    pub(crate) alloc: Global,
+    pub(crate) parts: Vec<Part>,
+}
+
+impl Builder {
+    pub(crate) fn new(alloc: Global) -> Self
+        ensures { frames_of result.parts.items ≡ [] }
+    {
+        Builder {
+            alloc,
+            parts: Vec::new(alloc),
+        }
+    }
+
+    /// Puts a part inside the innermost one.
+    fn push(&mut self, part: Part) -> Result<(), ReadFault>
+        ensures { MatchResult result
+            (λ _. frames_of self.new.parts.items ≡ frame_of part ∷ frames_of self.old.parts.items)
+            (λ fault. fault ≡ ReadFault.OutOfMemory) }
+    {
+        self.parts.push(part)?;
+        Ok(())
+    }
+
+    /// Takes the innermost part out.
+    fn pop(&mut self) -> Result<Part, ReadFault>
+        ensures { MatchResult result
+            (λ part. frames_of self.old.parts.items ≡ frame_of part ∷ frames_of self.new.parts.items)
+            (λ fault. (fault ≡ ReadFault.KeyNotText) × (frames_of self.old.parts.items ≡ [])) }
+    {
+        match self.parts.pop() {
+            Some(part) => Ok(part),
+            None => Err(ReadFault::KeyNotText),
+        }
+    }
+
+    /// Puts a value into the innermost part.
+    pub(crate) fn put(&mut self, tree: Tree) -> Result<(), ReadFault>
+        ensures { MatchResult result
+            (λ _. put (frames_of self.old.parts.items) (tree_of tree) ≡ Some (frames_of self.new.parts.items))
+            (HasNone (put (frames_of self.old.parts.items) (tree_of tree))) }
+    {
+        let part = self.pop()?;
+        let more = part.with(tree)?;
+        self.push(more)
+    }
+
+    /// Ends the innermost part, which is a document.
+    fn end_document(&mut self) -> Result<(), ReadFault>
+        ensures { MatchResult result
+            (λ _. document_ended (frames_of self.old.parts.items) ≡ Some (frames_of self.new.parts.items))
+            (HasNone (document_ended (frames_of self.old.parts.items))) }
+    {
+        let part = self.pop()?;
+        match part {
+            Part::Root(tree) => self.push(Part::Whole(tree)),
+            _ => Err(ReadFault::KeyNotText),
+        }
+    }
+
+    /// Ends the innermost part, which is a sequence, and returns its elements.
+    pub(crate) fn end_seq(&mut self) -> Result<Vec<Tree>, ReadFault>
+        ensures { MatchResult result
+            (λ items. frames_of self.old.parts.items
+            ≡ in_seq (elements_of items.items) ∷ frames_of self.new.parts.items)
+            (HasNone (seq_ended (frames_of self.old.parts.items))) }
+    {
+        let part = self.pop()?;
+        match part {
+            Part::Seq(items) => Ok(items),
+            _ => Err(ReadFault::KeyNotText),
+        }
+    }
+
+    /// Ends the innermost part, which is a mapping where a key is next, and returns its pairs.
+    pub(crate) fn end_map(&mut self) -> Result<Vec<(String, Tree)>, ReadFault>
+        ensures { MatchResult result
+            (λ pairs. frames_of self.old.parts.items
+            ≡ at_key (members_of pairs.items) ∷ frames_of self.new.parts.items)
+            (HasNone (map_ended (frames_of self.old.parts.items))) }
+    {
+        let part = self.pop()?;
+        match part {
+            Part::Map(pairs) => Ok(pairs),
+            _ => Err(ReadFault::KeyNotText),
+        }
+    }
+
+    /// Takes the next event of the document. `KeyNotText` if a collection stands for a key.
+    pub(crate) fn take(&mut self, event: Event<'_>) -> Result<(), ReadFault>
+        ensures { MatchResult result
+            (λ _. step (frames_of self.old.parts.items) (shape (event_of event.entry))
+            ≡ Some (frames_of self.new.parts.items))
+            (HasNone (step (frames_of self.old.parts.items) (shape (event_of event.entry)))) }
+    {
+        match event {
+            Event::DocStart => self.push(Part::Document),
+            Event::DocEnd => self.end_document(),
+            Event::SeqStart => self.push(Part::Seq(Vec::new(self.alloc))),
+            Event::SeqEnd => {
+                let items = self.end_seq()?;
+                self.put(Tree::Seq(items))
+            }
+            Event::MapStart => self.push(Part::Map(Vec::new(self.alloc))),
+            Event::MapEnd => {
+                let pairs = self.end_map()?;
+                self.put(Tree::Map(pairs))
+            }
+            Event::Scalar { value, .. } => {
+                let text = value.into_owned(self.alloc)?;
+                self.put(Tree::Text(text))
+            }
+        }
+    }
+
+    /// The tree of the document, where all of it is complete.
+    pub(crate) fn finish(mut self) -> Result<Tree, ReadFault>
+        ensures { MatchResult result
+            (λ tree. finished (frames_of self.parts.items) ≡ Some (tree_of tree))
+            (HasNone (finished (frames_of self.parts.items))) }
+    {
+        let last = self.pop()?;
+        if !self.parts.is_empty() {
+            return Err(ReadFault::KeyNotText);
+        }
+        match last {
+            Part::Whole(tree) => Ok(tree),
+            _ => Err(ReadFault::KeyNotText),
+        }
+    }
+}
+
+/// The tree of the one document whose events these are. The events are read by a loop with a stack: memory, and not the
+/// call stack, grows with the depth.
+///
+/// # Errors
+///
+/// [`ReadFault::KeyNotText`] if some key is a collection, [`ReadFault::OutOfMemory`] if there is no memory for the tree.
+pub(crate) fn document_tree(alloc: Global, events: Events<'_>) -> Result<Tree, ReadFault>
+    ensures { MatchResult result
+        (λ tree. IsTreeOf (events_of events.entry) (tree_of tree))
+        (HasNoTree (events_of events.entry)) }
+{
+    let mut builder = Builder::new(alloc);
+    for event in events.into_vec() {
+        builder.take(event)?;
+    }
+    builder.finish()
+}

@@ -1,0 +1,94 @@
+// Whether keys differ in a document that is too deep to be built.
+ghost use Rattle.std.specs.Prelude.{◌≡◌, List, [], MatchResult};
+ghost use Rattle.yaml_events.specs.Meant.{event_of, events_of};
+ghost use Rattle.yaml_grammar.specs.Trees as grammar;
+ghost use Rattle.yaml_grammar.specs.Trees.{IsTreeOf, distinct, shape};
+ghost use Rattle.yaml_tree.specs.Building.{HasNone, HasNoTree};
+ghost use Rattle.yaml_tree.specs.Emptied.{Keeps, Took};
+ghost use Rattle.yaml_tree.specs.Frames.{Frame, step, seq_ended, map_ended};
+
+use crate::build::Builder;
+use crate::keys::keys_differ;
+use crate::{ReadFault, Tree};
+use std::alloc::Global;
+use yaml_events::{Event, Events};
+
+/// A walk over a document that keeps the keys of the mappings that are open, and of a collection that has ended only what
+/// kind it is.
+#[derive(Drop)]
+pub(crate) struct KeyCheck {
+    builder: Builder,
+    /// Whether the keys differ in each mapping that has ended.
+    keys_differ: bool,
+}
+
+impl KeyCheck {
+    fn new(alloc: Global) -> Self
+        ensures { Keeps result [] }
+    {
+        KeyCheck {
+            builder: Builder::new(alloc),
+            keys_differ: true,
+        }
+    }
+
+    /// Takes the next event of the document. `KeyNotText` if a collection stands for a key.
+    fn take(&mut self, event: Event<'_>) -> Result<(), ReadFault>
+        ensures { (fs : List Frame) → Keeps self.old fs → MatchResult result
+            (λ _. Took self.new (step fs (shape (event_of event.entry))))
+            (HasNone (step fs (shape (event_of event.entry)))) }
+    {
+        match event {
+            Event::SeqEnd => self.end_seq(),
+            Event::MapEnd => self.end_map(),
+            event => self.builder.take(event),
+        }
+    }
+
+    /// Ends the innermost part, which is a sequence.
+    fn end_seq(&mut self) -> Result<(), ReadFault>
+        ensures { (fs : List Frame) → Keeps self.old fs → MatchResult result
+            (λ _. Took self.new (seq_ended fs))
+            (HasNone (seq_ended fs)) }
+    {
+        let _ = self.builder.end_seq()?;
+        let ended = Tree::Seq(Vec::new(self.builder.alloc));
+        self.builder.put(ended)
+    }
+
+    /// Ends the innermost part, which is a mapping, and compares its keys.
+    fn end_map(&mut self) -> Result<(), ReadFault>
+        ensures { (fs : List Frame) → Keeps self.old fs → MatchResult result
+            (λ _. Took self.new (map_ended fs))
+            (HasNone (map_ended fs)) }
+    {
+        let pairs = self.builder.end_map()?;
+        let differ = keys_differ(self.builder.alloc, &pairs)?;
+        self.keys_differ = self.keys_differ && differ;
+        let ended = Tree::Map(Vec::new(self.builder.alloc));
+        self.builder.put(ended)
+    }
+}
+
+/// Whether in each mapping of a document the keys differ from one another. No tree is built but the mappings that are open,
+/// so the document may be of any depth.
+///
+/// # Errors
+///
+/// [`ReadFault::KeyNotText`] if some key is a collection, [`ReadFault::OutOfMemory`] if there is no memory for the keys.
+pub(crate) fn document_keys_differ(alloc: Global, events: Events<'_>) -> Result<bool, ReadFault>
+    ensures { MatchResult result
+        (λ differ. (t : grammar.Tree) × IsTreeOf (events_of events.entry) t × (differ ≡ distinct t))
+        (HasNoTree (events_of events.entry)) }
+{
+    let mut check = KeyCheck::new(alloc);
+    for event in events.into_vec() {
+        check.take(event)?;
+    }
+    let KeyCheck {
+        builder,
+        keys_differ,
+    } = check;
+    let _ = builder.finish()?;
+    Ok(keys_differ)
+}

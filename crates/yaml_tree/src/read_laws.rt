@@ -1,0 +1,18 @@
+// Laws of what bytes give as a tree.
+ghost use Rattle.std.specs.Prelude.{◌≡◌, ◌≢◌, ℕ, List};
+ghost use Rattle.yaml_grammar.specs.Reads.{Limits};
+ghost use Rattle.yaml_grammar.specs.Trees.{Tree};
+ghost use Rattle.yaml_docs.specs.declared.fault.ReadFault.{ReadFault};
+ghost use Rattle.yaml_docs.specs.declared.fault.ReadFault.TheVariants.{OutOfMemory};
+ghost use Rattle.yaml_tree.specs.Reading.{IsRead, Refuses, GivesNone};
+
+/// Bytes give one tree at most.
+pub fn bytes_give_one()
+    ensures { (bytes : List ℕ) (limits : Limits) (t u : Tree) → IsRead bytes limits t → IsRead bytes limits u → t ≡ u }
+{}
+
+/// Bytes that are refused give no tree, unless there was no memory.
+pub fn refused_bytes_give_none()
+    ensures { (bytes : List ℕ) (limits : Limits) (fault : ReadFault) → fault ≢ OutOfMemory → Refuses bytes limits fault
+        → GivesNone bytes limits }
+{}
