@@ -6,5 +6,6 @@ pub mod Lines
 pub mod Runs
 pub mod ScalarStyles
 pub mod Seen
+pub mod Sizes
 pub mod KnownLines
 pub mod Reading

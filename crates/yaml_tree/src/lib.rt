@@ -9,20 +9,24 @@ mod count;
 mod fault;
 mod keys;
 mod known;
+mod laws;
 mod literal;
 mod quoted;
 mod read;
 mod scalar;
 mod sink;
+mod size;
 mod style;
 mod tree;
 
 pub use config::Config;
-pub use count::style_len;
+pub use count::{ByteCount, style_len};
 pub use fault::{Limits, ReadFault};
+pub use laws::lengths_follow_indentation;
 pub use read::read_one;
 pub use scalar::{ScalarStyle, scalar_style};
 pub use sink::Sink;
+pub use size::Size;
 pub use style::{write_key, write_style, write_value};
 pub use tree::Tree;
 
