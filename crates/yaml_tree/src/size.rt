@@ -1,5 +1,5 @@
 // How the length of a part grows with its indentation.
-ghost use Rattle.std.specs.Prelude.{◌≡◌, ◌≤◌};
+ghost use Rattle.std.specs.Prelude.{◌≡◌, ◌^◌, ◌<◌, ◌≤◌};
 ghost use Rattle.std.specs.Str.{chars};
 ghost use Rattle.yaml_grammar.specs.Texts.{byte_len};
 ghost use Rattle.yaml_grammar.specs.Trees.{depth};
@@ -27,7 +27,8 @@ impl Size {
     pub fn of_element(tree: &Tree) -> Size
         requires deep { depth (tree_of tree.now) ≤ 66 }
         requires long { byte_len (style_text (tree_of tree.now)) ≤ 67108864 }
-        ensures { result ≡ element_size (tree_of tree.now) }
+        ensures size { result ≡ element_size (tree_of tree.now) }
+        ensures small { (result.bytes < 2 ^ 32) × (result.lines < 2 ^ 32) }
     {
         let bytes = element_length(tree, 0);
         Size {
@@ -41,7 +42,8 @@ impl Size {
     pub fn of_value(tree: &Tree) -> Size
         requires deep { depth (tree_of tree.now) ≤ 66 }
         requires long { byte_len (style_text (tree_of tree.now)) ≤ 67108864 }
-        ensures { result ≡ value_size (tree_of tree.now) }
+        ensures size { result ≡ value_size (tree_of tree.now) }
+        ensures small { (result.bytes < 2 ^ 32) × (result.lines < 2 ^ 32) }
     {
         let bytes = value_length(tree, 0);
         Size {
@@ -52,7 +54,8 @@ impl Size {
 
     /// The size of a key through its `:`, where it stands at the indentation.
     pub fn of_key(key: &str) -> Size
-        ensures { result ≡ key_size (chars key.now) }
+        ensures size { result ≡ key_size (chars key.now) }
+        ensures small { (result.bytes < 2 ^ 70) × (result.lines ≤ 1) }
     {
         let bytes = key_length(key, 0);
         Size {
