@@ -1,9 +1,9 @@
 // A tree that is good to keep.
-ghost use Rattle.std.specs.Prelude.{◌≡◌, ◌≤◌, IfOk, OnOk, IfErr};
+ghost use Rattle.std.specs.Prelude.{◌≡◌, ◌≤◌, [], IfOk, OnOk, IfErr};
 ghost use Rattle.yaml_grammar.specs.Reads.{Good};
 ghost use Rattle.yaml_grammar.specs.Style.{style_text};
 ghost use Rattle.yaml_grammar.specs.Texts.{byte_len};
-ghost use Rattle.yaml_grammar.specs.Trees.{depth};
+ghost use Rattle.yaml_grammar.specs.Trees.{depth, text};
 ghost use Rattle.yaml_tree.specs.Kept.{IsKept, IsFirstFault, own_limits, limits_of};
 ghost use Rattle.yaml_tree.specs.Seen.{tree_of};
 
@@ -18,6 +18,9 @@ const OWN_LIMITS: Limits = Limits {
     depth: 66,
     style: 67_108_864,
 };
+
+/// The bytes of the empty text in the one style, `""` and a line feed.
+const EMPTY_LENGTH: u64 = 3;
 
 /// A tree in whose mappings no key stands twice, which is at most 66 deep and has at most 67,108,864 bytes in the one
 /// style. It keeps how many these are. Contracts see the tree.
@@ -85,6 +88,16 @@ impl Config {
         ensures { result ≡ tree }
     {
         Config { tree, length }
+    }
+
+    /// The configuration that is the empty text. It takes no memory.
+    pub fn empty(alloc: Global) -> Config
+        ensures { tree_of result ≡ text [] }
+    {
+        Config {
+            tree: Tree::Text(String::new(alloc)),
+            length: EMPTY_LENGTH,
+        }
     }
 
     /// The tree.
