@@ -1,12 +1,13 @@
 -- What the map's calls do to a state's configurations.
-use Rattle.std.proofs.Common.{◌≡◌, ℕ, Bool, true, false, cond, if◌then◌else◌, List, [], ◌∷◌, String, Global, Option, Some, option_map, string_bytes, string_eq, bytes_eq, IsUtf8, IsAscii, encode_utf8_all, refl, sym, ap, ◌∙◌}
+use Rattle.std.proofs.Common.{◌≡◌, ℕ, zero, suc, ◌+◌, Bool, true, false, not, nat_lt, length, cond, if◌then◌else◌, List, [], ◌∷◌, String, Global, Option, Some, None, option_map, string_bytes, string_eq, bytes_eq, IsUtf8, IsAscii, encode_utf8_all, refl, sym, ap, ◌∙◌, arith}
 use Rattle.std.proofs.lemmas.Bool.Decides.{same_from_decides}
 use Rattle.std.proofs.lemmas.Slice.Eq.{bytes_eq-Decides}
 use Rattle.std.proofs.lemmas.Str.{encodes-chars, IsUtf8-from_ascii}
 use Rattle.std.specs.Bool.{Decides}
-use Rattle.std.specs.Map.{lookup}
+use Rattle.std.specs.List.{position, position_or_len}
+use Rattle.std.specs.Map.{lookup, keys_of}
 use Rattle.std.specs.Str.{chars}
-use Rattle.indexmap.specs.IndexMap.{insert_entry, shift_remove_entry}
+use Rattle.indexmap.specs.IndexMap.{insert_entry, shift_remove_entry, set_value_at}
 use Rattle.yaml_grammar.specs.Texts.{same_text}
 use Rattle.yaml_grammar.specs.Trees as grammar
 use Rattle.yaml_tree.specs.Seen.{tree_of}
@@ -65,7 +66,59 @@ module _ (name : String Global) (utf8 : IsUtf8 (string_bytes name)) (t : Tree) w
       by true rest others same = refl
       by false rest others same = ap (λ xs. (chars (string_bytes e.0), tree_of e.1) ∷ xs) same
 
+-- ---- the place of a name
+
+pub position-found : (p : String Global → Bool) (ks : List (String Global)) (i : ℕ) → position p ks ≡ Some i → i ≡ position_or_len p ks
+position-found p ks i is = by (nat_lt (position_or_len p ks) (length ks)) is
+  where
+    by : (b : Bool) → cond b (Some (position_or_len p ks)) None ≡ Some i → i ≡ position_or_len p ks
+    by true e = cc
+    by false e = cc
+
+-- a configuration put in the place of its name
+module _ (q : List ℕ) (utf8 : IsUtf8 q) (t : Tree) where
+  set_value_at-placed : (es : List (String Global × Tree)) (u : grammar.Tree) → ArePlain es → config_named (entries_of es) (chars q) ≡ Some u
+      → entries_of (set_value_at es (position_or_len (λ k. bytes_eq q (string_bytes k)) (keys_of es)) t) ≡ put_config (entries_of es) (chars q) (tree_of t)
+  set_value_at-placed [] u plain there = cc
+  set_value_at-placed (e ∷ es) u plain there =
+      by (bytes_eq q (string_bytes e.0)) (sym (same_key q (string_bytes e.0) utf8 plain.0)) there (set_value_at-placed es u plain.1)
+    where
+      by : (b : Bool) → same_text (chars q) (chars (string_bytes e.0)) ≡ b
+          → (if same_text (chars q) (chars (string_bytes e.0)) then Some (tree_of e.1) else config_named (entries_of es) (chars q)) ≡ Some u
+          → (config_named (entries_of es) (chars q) ≡ Some u
+          → entries_of (set_value_at es (position_or_len (λ k. bytes_eq q (string_bytes k)) (keys_of es)) t) ≡ put_config (entries_of es) (chars q) (tree_of t))
+          → entries_of (set_value_at (e ∷ es) (cond (not b) (1 + position_or_len (λ k. bytes_eq q (string_bytes k)) (keys_of es)) 0) t)
+          ≡ (if same_text (chars q) (chars (string_bytes e.0)) then (chars (string_bytes e.0), tree_of t) ∷ entries_of es
+          else (chars (string_bytes e.0), tree_of e.1) ∷ put_config (entries_of es) (chars q) (tree_of t))
+      by true same found rest = rw same refl
+      by false same found rest =
+          let behind = rw same at found in
+          let n = position_or_len (λ k. bytes_eq q (string_bytes k)) (keys_of es) in
+          let next : 1 + n ≡ suc n = omega arith in
+          rw same (ap (λ i. entries_of (set_value_at (e ∷ es) i t)) next ∙ ap (λ xs. (chars (string_bytes e.0), tree_of e.1) ∷ xs) (rest behind))
+
+  pub set_value_at-named : (es : List (String Global × Tree)) (u : grammar.Tree) (i : ℕ) → ArePlain es → config_named (entries_of es) (chars q) ≡ Some u
+      → Some i ≡ position (λ k. bytes_eq q (string_bytes k)) (keys_of es)
+      → entries_of (set_value_at es i t) ≡ put_config (entries_of es) (chars q) (tree_of t)
+  set_value_at-named es u i plain there at =
+      ap (λ n. entries_of (set_value_at es n t)) (position-found (λ k. bytes_eq q (string_bytes k)) (keys_of es) i (sym at))
+      ∙ set_value_at-placed es u plain there
+
+pub put_config-same : (es : List Entry) (name : List ℕ) (t : grammar.Tree) → config_named es name ≡ Some t → put_config es name t ≡ es
+put_config-same [] name t is = cc
+put_config-same (e ∷ es) name t is = by (same_text name e.0) is (put_config-same es name t)
+  where
+    by : (b : Bool) → (if b then Some e.1 else config_named es name) ≡ Some t → (config_named es name ≡ Some t → put_config es name t ≡ es)
+        → (if b then (e.0, t) ∷ es else e ∷ put_config es name t) ≡ e ∷ es
+    by true found rest = let same : e.1 ≡ t = cc in ap (λ x. (e.0, x) ∷ es) (sym same)
+    by false found rest = ap (λ xs. e ∷ xs) (rest found)
+
 -- ---- names stay ASCII
+
+pub plain_set_value_at : (es : List (String Global × Tree)) (i : ℕ) (t : Tree) → ArePlain es → ArePlain (set_value_at es i t)
+plain_set_value_at [] i t plain = tt
+plain_set_value_at (e ∷ es) zero t plain = plain
+plain_set_value_at (e ∷ es) (suc i) t plain = (plain.0, plain_set_value_at es i t plain.1)
 
 pub plain_shift_remove_entry : (test : String Global → Bool) (es : List (String Global × Tree)) → ArePlain es → ArePlain (shift_remove_entry test es)
 plain_shift_remove_entry test [] plain = tt

@@ -1,6 +1,8 @@
 pub mod AcceptedLemmas
 pub mod BaseLemmas
 pub mod CountLemmas
+pub mod DepthLemmas
+pub mod EditLemmas
 pub mod EntryLemmas
 pub mod LimitLemmas
 pub mod LineLemmas

@@ -1,5 +1,6 @@
 pub mod BaseTexts
 pub mod Commands
+pub mod Edits
 pub mod Kept
 pub mod Limits
 pub mod Names

@@ -5,8 +5,7 @@ ghost use Rattle.yaml_tree.specs.Seen.{tree_of};
 ghost use Rattle.conf_record.specs.BaseTexts.{entry_lines, entry_length, framed_length};
 
 use itoa::Buffer;
-use std::convert::Infallible;
-use yaml_tree::{Config, Sink, write_key, write_value};
+use yaml_tree::{ByteCount, Config, Sink, write_key, write_value};
 
 /// The most bytes of a base text.
 pub(crate) const BASE_LIMIT: u64 = 67_108_864;
@@ -21,56 +20,11 @@ const NO_CONFIGS: u64 = 4;
 /// The byte that stands there else, before the first configuration.
 const LINE_FEED: u64 = 1;
 
-/// A count of bytes, which stands still at the greatest `u64`.
-#[derive(Drop)]
-pub(crate) struct ByteCount {
-    count: u64,
-}
-
-impl ByteCount {
-    /// Nothing is counted.
-    pub(crate) fn new() -> ByteCount
-        ensures { result.count ≡ 0 }
-    {
-        ByteCount { count: 0 }
-    }
-
-    /// How many bytes are counted.
-    pub(crate) fn total(&self) -> u64
-        ensures { result ≡ self.now.count }
-    {
-        self.count
-    }
-}
-
-impl Sink for ByteCount {
-    ghost use Rattle.std.specs.Prelude.{◌≡◌, ◌+◌, min};
-    ghost use Rattle.std.proofs.Common.{arith};
-    ghost use Rattle.yaml_grammar.specs.Texts.{byte_len};
-    ghost use Rattle.yaml_tree.specs.BudgetLaws.{byte_len-append};
-
-    type Fault = Infallible;
-
-    ghost Takes = { λ a cs b. min b.count 18446744073709551615 ≡ min (a.count + byte_len cs) 18446744073709551615 };
-
-    ghost takes_none = { λ s. Prim.omega arith };
-
-    ghost takes_both = { λ a b c xs ys first second. Prim.omega (arith, byte_len-append xs ys) };
-
-    fn put_text(&mut self, text: &str) -> Result<(), Infallible> {
-        self.count = self.count.saturating_add(text.len() as u64);
-        Ok(())
-    }
-
-    fn put_char(&mut self, c: char) -> Result<(), Infallible> {
-        self.count = self.count.saturating_add(c.len_utf8() as u64);
-        Ok(())
-    }
-
-    fn put_spaces(&mut self, count: u64) -> Result<(), Infallible> {
-        self.count = self.count.saturating_add(count);
-        Ok(())
-    }
+/// A count of bytes as a `u64`. The greatest `u64` stands for all that are more.
+pub(crate) fn capped(bytes: u128) -> u64
+    ensures { result ≡ min bytes u64.MAX }
+{
+    bytes.min(u128::from(u64::MAX)) as u64
 }
 
 /// Writes a configuration under its name as a base text has it, at the indentation 2.
@@ -93,7 +47,7 @@ pub(crate) fn entry_length(name: &str, config: &Config) -> u64
 {
     let mut bytes = ByteCount::new();
     match write_entry(name, config, &mut bytes) {
-        Ok(()) => bytes.total(),
+        Ok(()) => capped(bytes.total()),
         Err(never) => match never {},
     }
 }

@@ -6,6 +6,7 @@
 mod base;
 mod base_writer;
 mod command;
+mod edit;
 mod fault;
 mod laws;
 mod name;

@@ -11,11 +11,11 @@ ghost use Rattle.conf_record.specs.RecordsRead.{IsCommand};
 ghost use Rattle.conf_record.specs.Texts.{HasTexts};
 
 use crate::Command;
-use crate::base::ByteCount;
+use crate::base::capped;
 use crate::text_buffer::TextBuffer;
 use itoa::Buffer;
 use std::alloc::{AllocError, Global};
-use yaml_tree::{Sink, Tree, write_key, write_value};
+use yaml_tree::{ByteCount, Sink, Tree, write_key, write_value};
 
 /// The text of a command's record: an explicit document (YAML 1.2.2, 9.1.4), which is a line of `---`, a mapping in the one
 /// style and a line of `...`. The mapping tells, in this order, the number as decimal digits (`at`), the name (`import`,
@@ -80,7 +80,7 @@ fn record_length(command: &Command, texts: &Texts, number: u64) -> u64
 {
     let mut bytes = ByteCount::new();
     match write_record(command, texts, number, &mut bytes) {
-        Ok(()) => bytes.total(),
+        Ok(()) => capped(bytes.total()),
         Err(never) => match never {},
     }
 }

@@ -1,5 +1,5 @@
 // The state of a store.
-ghost use Rattle.std.specs.Prelude.{◌≡◌, ◌≢◌, ◌+◌, ◌<◌, ◌≤◌, ◌⊎◌, ℕ, List, [], min, true, option_map, length, string_bytes, string_eq, Ok, Err, OnOk, IfErr, OnErr};
+ghost use Rattle.std.specs.Prelude.{◌≡◌, ◌≢◌, ◌+◌, ◌<◌, ◌≤◌, ◌⊎◌, ℕ, List, [], min, true, option_map, length, string_bytes, string_eq, Ok, Err, OnOk, IfOk, IfErr, OnErr};
 ghost use Rattle.std.specs.Str.{chars};
 ghost use Rattle.std.specs.Iterator.{YieldsFirstBy, item_count};
 ghost use Rattle.yaml_grammar.specs.Reads.{Good};
@@ -11,23 +11,38 @@ ghost use Rattle.conf_record.specs.States.{Entry, names_of, config_named, put_co
 ghost use Rattle.yaml_grammar.specs.Trees.{mapping};
 ghost use Rattle.yaml_grammar.specs.Style.{value_at};
 ghost use Rattle.conf_record.specs.BaseTexts.{members, base_length, entry_length, entries_length};
-ghost use Rattle.conf_record.specs.Steps.{counted};
+ghost use Rattle.conf_record.specs.Steps.{and_then, counted};
+ghost use Rattle.conf_record.specs.Edits.{configs_edited, LeavesLengths};
 ghost use Rattle.indexmap.specs.IndexMap.{insert_entry};
 
 use crate::StoreFault;
 use crate::base::{BASE_LIMIT, base_length, entry_length, write_entry};
+use crate::edit::{Edit, STYLE_LIMIT};
 use indexmap::IndexMap;
 use indexmap::map::Keys;
 use std::alloc::{AllocError, Global};
 use std::marker::Model;
+use tree_path::Path;
 use yaml_tree::{Config, Sink};
 
-/// The configurations of a store by name, in order, and how many commands were accepted. Contracts see the list of
-/// configurations, with each name as its characters, and the count.
+/// The indentation of a configuration in a base text: two more than that of its name.
+const ENTRY_INDENT: u64 = 4;
+
+/// How many bytes there are after an edit: of the configuration in the one style, and of all configurations in the base text.
+#[derive(Clone, Copy)]
+struct Lengths {
+    config: u64,
+    entries: u64,
+}
+
+/// The configurations of a store by name, in order, and how many commands were accepted. It keeps how many bytes the
+/// configurations have in the base text. Contracts see the list of configurations, with each name as its characters, and the
+/// count.
 #[derive(Drop)]
 pub struct State {
     configs: IndexMap<String, Config>,
     count: u64,
+    entries: u64,
 }
 
 impl Model for State {
@@ -42,7 +57,7 @@ impl Model for State {
 
     ghost view = { λ s. record { configs = entries_of s.configs.entries; count = s.count } };
 
-    ghost invariant = { λ s. IsKept s.configs.entries s.count };
+    ghost invariant = { λ s. IsKept s.configs.entries s.count s.entries };
 }
 
 impl State {
@@ -53,6 +68,7 @@ impl State {
         State {
             configs: IndexMap::new(alloc),
             count: 0,
+            entries: 0,
         }
     }
 
@@ -93,8 +109,64 @@ impl State {
         let entries = self.length_with(&name, &config);
         self.check_room(entries, fits)?;
         insert(&mut self.configs, name, config)?;
+        self.entries = entries;
         self.count += 1;
         Ok(())
+    }
+
+    /// Makes an edit inside the configuration under a name, where that stands. The path is not empty.
+    ///
+    /// Every refusal is found first, by the lengths after the edit, and then memory is taken: nothing changes before that.
+    pub(crate) fn edit(
+        &mut self,
+        alloc: Global,
+        name: &str,
+        path: &Path,
+        edit: Edit,
+        fits: bool,
+    ) -> Result<(), StoreFault>
+        requires named { good_name (chars name.now) ≡ true }
+        requires steps { 0 < length path.now }
+        ensures ok { OnOk result
+            (and_then (configs_edited self.old.configs (chars name.now) edit path.now) (counted self.old fits) ≡ Ok self.new) }
+        ensures refused { IfErr result (λ fault. (fault ≡ StoreFault.OutOfMemory)
+            ⊎ (and_then (configs_edited self.old.configs (chars name.now) edit path.now) (counted self.old fits) ≡ Err fault)) }
+        ensures unchanged { OnErr result (self.new ≡ self.old) }
+    {
+        let Some(index) = self.configs.get_index_of(name) else {
+            return Err(StoreFault::NoConfig);
+        };
+        let lengths = self.lengths_after(name, path, &edit)?;
+        self.check_room(lengths.entries, fits)?;
+        edit.perform(alloc, &mut self.configs[index], path, lengths.config)?;
+        self.entries = lengths.entries;
+        self.count += 1;
+        Ok(())
+    }
+
+    /// The lengths that an edit would leave, where the configuration then keeps to its limits.
+    fn lengths_after(&self, name: &str, path: &Path, edit: &Edit) -> Result<Lengths, StoreFault>
+        requires { 0 < length path.now }
+        ensures ok { IfOk result (λ lengths. LeavesLengths self.now.configs (chars name.now) edit.now path.now lengths) }
+        ensures refused { IfErr result (λ fault. (fault ≡ StoreFault.OutOfMemory)
+            ⊎ (configs_edited self.now.configs (chars name.now) edit.now path.now ≡ Err fault)) }
+    {
+        let entries = self.entries_length();
+        let Some(config) = self.get(name) else {
+            return Err(StoreFault::NoConfig);
+        };
+        let change = edit.change(config, path)?;
+        if !edit.keeps_depth(path) {
+            return Err(StoreFault::TooDeep);
+        }
+        let bytes = change.length_after(config.style_length(), 0);
+        if bytes > STYLE_LIMIT {
+            return Err(StoreFault::ConfigLarge);
+        }
+        Ok(Lengths {
+            config: bytes as u64,
+            entries: change.length_after(entries, ENTRY_INDENT) as u64,
+        })
     }
 
     /// Takes out the configuration under a name.
@@ -107,6 +179,7 @@ impl State {
         let entries = self.length_without(name);
         self.check_room(entries, fits)?;
         let _ = self.configs.shift_remove(name);
+        self.entries = entries;
         self.count += 1;
         Ok(())
     }
@@ -116,6 +189,7 @@ impl State {
         ensures ok { OnOk result ((configs : List Entry) → entries ≡ min (entries_length configs) u64.MAX
             → counted self.now fits configs ≡ Ok (record { configs = configs; count = self.now.count + 1 })) }
         ensures counts { OnOk result (self.now.count < u64.MAX) }
+        ensures short { OnOk result (entries ≤ BASE_LIMIT) }
         ensures refused { IfErr result (λ fault. (configs : List Entry) → entries ≡ min (entries_length configs) u64.MAX
             → counted self.now fits configs ≡ Err fault) }
     {
@@ -133,17 +207,16 @@ impl State {
 
     /// How many bytes all configurations have in the base text.
     fn entries_length(&self) -> u64
-        ensures { result ≡ entries_length self.now.configs }
+        ensures exact { result ≡ entries_length self.now.configs }
+        ensures short { result ≤ BASE_LIMIT }
+        ensures kept { IsState self.now }
     {
-        let mut total = 0u64;
-        for (name, config) in self.configs.iter() {
-            total = total.saturating_add(entry_length(name, config));
-        }
-        total
+        let _ = self.count;
+        self.entries
     }
 
-    /// How many bytes the base text has.
-    pub(crate) fn base_length(&self) -> u64
+    /// How many bytes the base text has, at most 67,108,864. It is kept, and not counted anew.
+    pub fn base_length(&self) -> u64
         ensures { result ≡ base_length self.now }
     {
         base_length(u128::from(self.count), self.entries_length())

@@ -181,20 +181,20 @@ cut-distinct (mapping ms) u token d is =
 
 -- ---- along a path
 
-at_step-Ok : (step : ℕ) (r : Result Tree Miss) (next : Tree → Result Tree PathFault) (u : Tree) → at_step step r next ≡ Ok u
+pub at_step-Ok : (step : ℕ) (r : Result Tree Miss) (next : Tree → Result Tree PathFault) (u : Tree) → at_step step r next ≡ Ok u
     → (t : Tree) × (r ≡ Ok t) × (next t ≡ Ok u)
 at_step-Ok step (Ok t) next u is = (t, refl, is)
 at_step-Ok step (Err miss) next u is = cc
 
-and_then-Ok : (r : Result Tree PathFault) (next : Tree → Result Tree PathFault) (u : Tree) → and_then r next ≡ Ok u
+pub and_then-Ok : (r : Result Tree PathFault) (next : Tree → Result Tree PathFault) (u : Tree) → and_then r next ≡ Ok u
     → (t : Tree) × (r ≡ Ok t) × (next t ≡ Ok u)
 and_then-Ok (Ok t) next u is = (t, refl, is)
 and_then-Ok (Err fault) next u is = cc
 
-abbrev done : Tree → Result Tree PathFault
+abbrev pub done : Tree → Result Tree PathFault
 done t = Ok t
 
-same_Ok : (a b : Tree) (r : Result Tree Miss) → r ≡ Ok a → done a ≡ done b → r ≡ Ok b
+pub same_Ok : (a b : Tree) (r : Result Tree Miss) → r ≡ Ok a → done a ≡ done b → r ≡ Ok b
 same_Ok a b r is same = let e : a ≡ b = cc in is ∙ ap Ok e
 
 edit_from-distinct : (edit : Tree → List ℕ → Result Tree Miss) (keeps : (t u : Tree) (token : List ℕ) → distinct t ≡ true → edit t token ≡ Ok u → distinct u ≡ true)

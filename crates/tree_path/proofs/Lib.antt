@@ -1,6 +1,9 @@
+pub mod ChangeLaws
 pub mod Descents
 pub mod EditLaws
 pub mod Edits
+pub mod Located
+pub mod Measured
 pub mod Numbers
 pub mod Places
 pub mod Pointers

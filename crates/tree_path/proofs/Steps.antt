@@ -81,7 +81,7 @@ below-Err (number n) count miss inside behind past last is =
 below-Err behind_last count miss inside behind past last is = let same : Absent ≡ miss = cc in last refl ∙ ap Err same
 below-Err no_index count miss inside behind past last is = let same : NoIndex ≡ miss = cc in ap Err same
 
-not_last : (token : List ℕ) → same_text token (codes "-") ≡ false → index_of token ≡ behind_last → ⊥
+pub not_last : (token : List ℕ) → same_text token (codes "-") ≡ false → index_of token ≡ behind_last → ⊥
 not_last token other is =
     let P : Bool → Type 0 = λ b. cond b (number (number_behind 0 token)) no_index ≡ behind_last → ⊥ in
     (elim (is_number token) as P [ true ↦ λ e. cc | false ↦ λ e. cc ]) (rw other at is)

@@ -1,3 +1,4 @@
+pub mod Changes
 pub mod Paths
 pub mod Pointers
 pub mod Steps

@@ -5,6 +5,8 @@ pub mod LiteralLemmas
 pub mod QuotedLemmas
 pub mod ScalarLemmas
 pub mod SeenLemmas
+pub mod SizeLaws
+pub mod SizeBounds
 pub mod StyleLemmas
 pub mod TextLemmas
 pub mod TextsLemmas

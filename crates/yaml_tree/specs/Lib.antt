@@ -10,4 +10,5 @@ pub mod Runs
 pub mod ScalarStyles
 pub mod Seen
 pub mod Nested
+pub mod Sizes
 pub mod Reading

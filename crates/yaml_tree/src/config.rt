@@ -1,7 +1,9 @@
 // A tree that is good to keep.
-ghost use Rattle.std.specs.Prelude.{◌≡◌, ◌≤◌, IfOk, IfErr, MatchOption};
+ghost use Rattle.std.specs.Prelude.{◌≡◌, ◌≤◌, [], IfOk, OnOk, IfErr};
 ghost use Rattle.yaml_grammar.specs.Reads.{Good};
-ghost use Rattle.yaml_grammar.specs.Trees.{depth};
+ghost use Rattle.yaml_grammar.specs.Style.{style_text};
+ghost use Rattle.yaml_grammar.specs.Texts.{byte_len};
+ghost use Rattle.yaml_grammar.specs.Trees.{depth, text};
 ghost use Rattle.yaml_tree.specs.Kept.{IsKept, IsFirstFault, own_limits, limits_of};
 ghost use Rattle.yaml_tree.specs.Seen.{tree_of};
 
@@ -17,11 +19,15 @@ const OWN_LIMITS: Limits = Limits {
     style: 67_108_864,
 };
 
+/// The bytes of the empty text in the one style, `""` and a line feed.
+const EMPTY_LENGTH: u64 = 3;
+
 /// A tree in whose mappings no key stands twice, which is at most 66 deep and has at most 67,108,864 bytes in the one
-/// style. Contracts see the tree.
+/// style. It keeps how many these are. Contracts see the tree.
 #[derive(Debug, Drop)]
 pub struct Config {
     tree: Tree,
+    length: u64,
 }
 
 impl Model for Config {
@@ -32,12 +38,15 @@ impl Model for Config {
 
     ghost coded = { trees.the_row.coded };
 
+    ghost use Rattle.std.specs.Prelude.{◌≡◌};
+    ghost use Rattle.yaml_grammar.specs.Style.{style_text};
+    ghost use Rattle.yaml_grammar.specs.Texts.{byte_len};
     ghost use Rattle.yaml_tree.specs.Kept.{IsKept};
     ghost use Rattle.yaml_tree.specs.Seen.{tree_of};
 
     ghost view = { λ c. c.tree };
 
-    ghost invariant = { λ c. IsKept (tree_of c.tree) };
+    ghost invariant = { λ c. IsKept (tree_of c.tree) × (c.length ≡ byte_len (style_text (tree_of c.tree))) };
 }
 
 impl Config {
@@ -65,9 +74,29 @@ impl Config {
         ensures refused { IfErr result (λ refused. (refused.0 ≡ tree)
             × IsFirstFault (limits_of limits.now) (tree_of tree) refused.1) }
     {
-        match first_fault(alloc, &tree, limits) {
-            None => Ok(Config { tree }),
-            Some(fault) => Err((tree, fault)),
+        match checked_length(alloc, &tree, limits) {
+            Ok(length) => Ok(Config { tree, length }),
+            Err(fault) => Err((tree, fault)),
+        }
+    }
+
+    /// The configuration that a tree is, by a tree that a configuration may hold and its length in the one style. It takes no
+    /// memory and counts nothing.
+    pub fn from_parts(tree: Tree, length: u64) -> Config
+        requires kept { IsKept (tree_of tree) }
+        requires length { length ≡ byte_len (style_text (tree_of tree)) }
+        ensures { result ≡ tree }
+    {
+        Config { tree, length }
+    }
+
+    /// The configuration that is the empty text. It takes no memory.
+    pub fn empty(alloc: Global) -> Config
+        ensures { tree_of result ≡ text [] }
+    {
+        Config {
+            tree: Tree::Text(String::new(alloc)),
+            length: EMPTY_LENGTH,
         }
     }
 
@@ -84,8 +113,15 @@ impl Config {
         ensures same { result ≡ self }
         ensures kept { IsKept (tree_of self) }
     {
-        let Config { tree } = self;
+        let Config { tree, .. } = self;
         tree
+    }
+
+    /// How many bytes the tree has in the one style, at most 67,108,864. It is kept, and not counted anew.
+    pub fn style_length(&self) -> u64
+        ensures { result ≡ byte_len (style_text (tree_of self.now)) }
+    {
+        self.length
     }
 
     /// How deep the tree is, at most 66.
@@ -100,27 +136,28 @@ impl Config {
         ensures { IfOk result (λ copy. tree_of copy ≡ tree_of self.now) }
     {
         let tree = self.tree.try_copy(alloc)?;
-        Ok(Config { tree })
+        Ok(Config {
+            tree,
+            length: self.length,
+        })
     }
 }
 
-/// What a tree is refused for within limits of depth and style, or None.
-fn first_fault(alloc: Global, tree: &Tree, limits: &Limits) -> Option<ReadFault>
+/// The length of a tree in the one style, where it keeps to limits of depth and style; else what it is refused for.
+fn checked_length(alloc: Global, tree: &Tree, limits: &Limits) -> Result<u64, ReadFault>
     requires { limits.now.depth ≤ 66 }
-    ensures { MatchOption result
-        (Good (tree_of tree.now) (limits_of limits.now))
-        (IsFirstFault (limits_of limits.now) (tree_of tree.now)) }
+    ensures good { OnOk result (Good (tree_of tree.now) (limits_of limits.now)) }
+    ensures length { IfOk result (λ length. length ≡ byte_len (style_text (tree_of tree.now))) }
+    ensures refused { IfErr result (IsFirstFault (limits_of limits.now) (tree_of tree.now)) }
 {
-    match has_distinct_keys(alloc, tree) {
-        Err(_) => return Some(ReadFault::OutOfMemory),
-        Ok(false) => return Some(ReadFault::KeyTwice),
-        Ok(true) => {}
+    if !has_distinct_keys(alloc, tree)? {
+        return Err(ReadFault::KeyTwice);
     }
     if tree.depth() > limits.depth {
-        return Some(ReadFault::TooDeep);
+        return Err(ReadFault::TooDeep);
     }
     match style_len(tree, limits.style) {
-        None => Some(ReadFault::LargeInStyle),
-        Some(_) => None,
+        None => Err(ReadFault::LargeInStyle),
+        Some(length) => Ok(length),
     }
 }

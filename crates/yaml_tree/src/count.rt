@@ -56,6 +56,58 @@ pub(crate) fn is_long_key(key: &str) -> bool
     }
 }
 
+/// A count of bytes, which stops at the greatest `u128`.
+#[derive(Drop)]
+pub struct ByteCount {
+    count: u128,
+}
+
+impl ByteCount {
+    /// No bytes are counted yet.
+    pub fn new() -> ByteCount
+        ensures { result.count ≡ 0 }
+    {
+        ByteCount { count: 0 }
+    }
+
+    /// How many bytes are counted.
+    pub fn total(&self) -> u128
+        ensures { result ≡ self.now.count }
+    {
+        self.count
+    }
+}
+
+impl Sink for ByteCount {
+    ghost use Rattle.std.specs.Prelude.{◌≡◌, ◌+◌, min};
+    ghost use Rattle.std.proofs.Common.{arith};
+    ghost use Rattle.yaml_grammar.specs.Texts.{byte_len};
+    ghost use Rattle.yaml_tree.specs.BudgetLaws.{byte_len-append};
+
+    type Fault = Infallible;
+
+    ghost Takes = { λ a cs b. min b.count 340282366920938463463374607431768211455 ≡ min (a.count + byte_len cs) 340282366920938463463374607431768211455 };
+
+    ghost takes_none = { λ s. Prim.omega arith };
+
+    ghost takes_both = { λ a b c xs ys first second. Prim.omega (arith, byte_len-append xs ys) };
+
+    fn put_text(&mut self, text: &str) -> Result<(), Infallible> {
+        self.count = self.count.saturating_add(text.len() as u128);
+        Ok(())
+    }
+
+    fn put_char(&mut self, c: char) -> Result<(), Infallible> {
+        self.count = self.count.saturating_add(c.len_utf8() as u128);
+        Ok(())
+    }
+
+    fn put_spaces(&mut self, count: u64) -> Result<(), Infallible> {
+        self.count = self.count.saturating_add(u128::from(count));
+        Ok(())
+    }
+}
+
 /// How many bytes may still come; None once more came than might.
 #[derive(Drop)]
 struct ByteBudget {

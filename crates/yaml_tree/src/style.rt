@@ -108,7 +108,7 @@ fn write_elements<S: Sink>(items: &[Tree], indent: u64, sink: &mut S) -> Result<
 
 /// Writes an element behind its `- ` at `indent`.
 #[cycle(lines)]
-fn write_element<S: Sink>(tree: &Tree, indent: u64, sink: &mut S) -> Result<(), S::Fault>
+pub(crate) fn write_element<S: Sink>(tree: &Tree, indent: u64, sink: &mut S) -> Result<(), S::Fault>
     requires room { indent + 2 * depth (tree_of tree.now) < 2 ^ 64 }
     ensures { OnOk result (S.Takes sink.old (element_at (tree_of tree.now) indent) sink.new) }
 {

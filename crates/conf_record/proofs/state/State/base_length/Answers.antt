@@ -12,5 +12,5 @@ returns c =
     let numbered = kept.numbered in
     let short = kept.short in
     let framed = base_length-framed state.count state.configs (omega arith) in
-    let counted = c.base_length.ensures ∙ ap₂ (λ n l. min (framed_length n l) 18446744073709551615) count c.entries_length.ensures in
+    let counted = c.base_length.ensures ∙ ap₂ (λ n l. min (framed_length n l) 18446744073709551615) count c.entries_length.ensures.exact in
     omega (arith, short, framed, counted)

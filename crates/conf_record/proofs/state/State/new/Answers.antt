@@ -4,4 +4,4 @@ use Rattle.conf_record.proofs.StateLemmas.{kept_empty}
 use Rattle.conf_record.proofs.state.State.new.Goals as goal
 
 pub invariant_of-result : goal.invariant_of-result
-invariant_of-result c = subst (λ es. IsKept es 0) (sym c.new.ensures.empty) kept_empty
+invariant_of-result c = subst (λ es. IsKept es 0 0) (sym c.new.ensures.empty) kept_empty

@@ -17,13 +17,16 @@ invariant_of-self-2 c =
     let utf8 = subst IsUtf8 c.deref.ensures c.deref.utf8 in
     let room = c.in_ok-check_room.ensures.ok (put_config c.args.self.now.configs (chars name) tree)
     (c.length_with-entries.ensures ∙ ap (λ bs. min (entries_length (put_config c.args.self.now.configs (chars bs) tree)) 18446744073709551615) c.deref.ensures) in
-    kept_put c.self.inside.configs.entries c.self.inside.count c.self.invariant
+    let counts = c.length_with-entries.ensures ∙ ap (λ bs. min (entries_length (put_config c.args.self.now.configs (chars bs) tree)) 18446744073709551615) c.deref.ensures in
+    let exact : c.length_with-entries.result ≡ entries_length (put_config c.args.self.now.configs (chars name) tree) = omega (arith, counts, c.in_ok-check_room.ensures.short) in
+    kept_put c.self.inside.configs.entries c.self.inside.count c.self.inside.entries c.self.invariant
     (omega (arith, ap (λ s. s.count) c.self.view_is, c.in_ok-check_room.ensures.counts))
     c.args.name c.args.config utf8 (good_name-ascii name utf8 c.requires.named)
     c.requires.named c.requires.within c.args.fits _
     (subst (λ s. counted s c.args.fits (put_config s.configs (chars name) tree) ≡ Ok (record { configs = put_config s.configs (chars name) tree; count = s.count + 1 }))
     (sym c.self.view_is) room)
-    c.insert.new.configs.entries c.in_ok-insert.ensures.ok
+    c.insert.new.configs.entries c.length_with-entries.result c.in_ok-insert.ensures.ok
+    (exact ∙ ap (λ s. entries_length (put_config s.configs (chars name) tree)) (sym c.self.view_is))
 
 pub returns-clause-ok : goal.returns-clause-ok
 returns-clause-ok c =

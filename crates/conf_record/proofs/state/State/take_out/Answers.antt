@@ -1,5 +1,6 @@
 use Rattle.std.proofs.Common.{◌≡◌, ◌+◌, Ok, ap, sym, subst, ◌∙◌, arith}
 use Rattle.std.specs.Str.{chars}
+use Rattle.conf_record.specs.BaseTexts.{entries_length}
 use Rattle.conf_record.specs.States.{cut_config}
 use Rattle.conf_record.specs.Kept.{entries_of}
 use Rattle.conf_record.specs.Steps.{counted}
@@ -11,12 +12,13 @@ pub invariant_of-self : goal.invariant_of-self
 invariant_of-self c =
     let name = chars c.args.name.now in
     let room = c.in_ok-check_room.ensures.ok (cut_config c.args.self.now.configs name) (omega (arith, c.length_without-entries.ensures)) in
-    kept_cut c.self.inside.configs.entries c.self.inside.count c.self.invariant
+    kept_cut c.self.inside.configs.entries c.self.inside.count c.self.inside.entries c.self.invariant
     (omega (arith, ap (λ s. s.count) c.self.view_is, c.in_ok-check_room.ensures.counts))
     c.args.name.now c.utf8.name c.args.fits _
     (subst (λ s. counted s c.args.fits (cut_config s.configs name) ≡ Ok (record { configs = cut_config s.configs name; count = s.count + 1 }))
     (sym c.self.view_is) room)
-    c.shift_remove.new.self.entries c.shift_remove.ensures.entries
+    c.shift_remove.new.self.entries c.length_without-entries.result c.shift_remove.ensures.entries
+    (c.length_without-entries.ensures ∙ ap (λ s. entries_length (cut_config s.configs name)) (sym c.self.view_is))
 
 pub returns-clause-ok : goal.returns-clause-ok
 returns-clause-ok c =

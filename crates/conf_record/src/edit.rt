@@ -1,0 +1,112 @@
+// Edits inside a configuration: the lengths that they leave, and the edits themselves.
+ghost use Rattle.std.specs.Prelude.{◌≡◌, ◌⊎◌, ◌<◌, ◌≤◌, true, Ok, Err, OnOk, OnErr, IfOk, IfErr, length, nat_le};
+ghost use Rattle.yaml_grammar.specs.Reads.{Good};
+ghost use Rattle.yaml_grammar.specs.Texts.{byte_len};
+ghost use Rattle.yaml_grammar.specs.Trees.{Tree as Meant, depth, distinct};
+ghost use Rattle.yaml_grammar.specs.Style.{style_text};
+ghost use Rattle.yaml_tree.specs.Seen.{tree_of};
+ghost use Rattle.tree_path.specs.Changes.{Changes};
+ghost use Rattle.conf_record.specs.Edits.{edited};
+ghost use Rattle.conf_record.specs.States.{config_limits};
+ghost use Rattle.conf_record.specs.Steps.{by_path};
+
+use crate::StoreFault;
+use std::alloc::Global;
+use std::mem;
+use tree_path::{Change, Path, PathFault, delete_change, set_change};
+use yaml_tree::{Config, Tree};
+
+/// The greatest depth of a configuration.
+pub(crate) const DEPTH_LIMIT: u64 = 64;
+
+/// The most bytes of a configuration in the one style.
+pub(crate) const STYLE_LIMIT: u128 = 1_048_576;
+
+/// An edit at a path inside a configuration. The path is not empty.
+#[derive(Drop)]
+pub(crate) enum Edit {
+    /// Puts a value there.
+    Set(Config),
+    /// Takes out what is there.
+    Delete,
+}
+
+impl Edit {
+    /// What the edit changes in the configuration's length.
+    pub(crate) fn change(&self, config: &Config, path: &Path) -> Result<Change, PathFault>
+        requires { 0 < length path.now }
+        ensures ok { IfOk result (λ change. (new : Meant)
+            × (edited self.now (tree_of config.now) path.now ≡ Ok new) × Changes change (tree_of config.now) new) }
+        ensures refused { IfErr result (λ fault. edited self.now (tree_of config.now) path.now ≡ Err fault) }
+    {
+        match self {
+            Edit::Set(value) => set_change(config, path, value.tree()),
+            Edit::Delete => delete_change(config, path),
+        }
+    }
+
+    /// Whether a configuration that is at most 64 deep still is after the edit.
+    pub(crate) fn keeps_depth(&self, path: &Path) -> bool
+        ensures { (t new : Meant) → depth t ≤ DEPTH_LIMIT → edited self.now t path.now ≡ Ok new
+            → result ≡ nat_le (depth new) DEPTH_LIMIT }
+    {
+        match self {
+            Edit::Set(value) => {
+                (path.steps() as u64).saturating_add(value.depth()) <= DEPTH_LIMIT
+            }
+            Edit::Delete => true,
+        }
+    }
+
+    /// Makes the edit, which leaves so many bytes in the one style. Only running out of memory can fail, and changes nothing.
+    pub(crate) fn perform(
+        self,
+        alloc: Global,
+        config: &mut Config,
+        path: &Path,
+        bytes: u64,
+    ) -> Result<(), StoreFault>
+        requires steps { 0 < length path.now }
+        requires leaves { (new : Meant) × (edited self (tree_of config.old) path.now ≡ Ok new)
+            × (depth new ≤ DEPTH_LIMIT) × (byte_len (style_text new) ≤ STYLE_LIMIT) × (bytes ≡ byte_len (style_text new)) }
+        ensures ok { OnOk result (edited self (tree_of config.old) path.now ≡ Ok (tree_of config.new)) }
+        ensures within { OnOk result (Good (tree_of config.new) config_limits) }
+        ensures refused { IfErr result (λ fault. fault ≡ StoreFault.OutOfMemory) }
+        ensures unchanged { OnErr result (tree_of config.new ≡ tree_of config.old) }
+    {
+        let before = config.style_length();
+        let mut tree = mem::replace(config, Config::empty(alloc)).into_tree();
+        match self.edit_tree(alloc, &mut tree, path) {
+            Ok(()) => {
+                *config = Config::from_parts(tree, bytes);
+                Ok(())
+            }
+            Err(fault) => {
+                *config = Config::from_parts(tree, before);
+                Err(fault)
+            }
+        }
+    }
+
+    fn edit_tree(self, alloc: Global, tree: &mut Tree, path: &Path) -> Result<(), StoreFault>
+        requires { 0 < length path.now }
+        ensures ok { OnOk result (edited self (tree_of tree.old) path.now ≡ Ok (tree_of tree.new)) }
+        ensures distinct { OnOk result (distinct (tree_of tree.old) ≡ true → distinct (tree_of tree.new) ≡ true) }
+        ensures refused { IfErr result (λ fault. (fault ≡ StoreFault.OutOfMemory)
+            ⊎ (by_path (edited self (tree_of tree.old) path.now) ≡ Err fault)) }
+        ensures unchanged { OnErr result (tree_of tree.new ≡ tree_of tree.old) }
+    {
+        match self {
+            Edit::Set(value) => {
+                if let Err((_, fault)) = tree_path::set(alloc, tree, path, value.into_tree()) {
+                    return Err(StoreFault::from(fault));
+                }
+                Ok(())
+            }
+            Edit::Delete => {
+                let _ = tree_path::delete(tree, path)?;
+                Ok(())
+            }
+        }
+    }
+}

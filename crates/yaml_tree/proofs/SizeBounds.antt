@@ -1,0 +1,189 @@
+-- A part has no more indented lines than bytes, so lengths at small indentations are small where the length in the one style is.
+use Rattle.std.proofs.Common.{ℕ, zero, suc, ◌+◌, ◌*◌, ◌/◌, ◌%◌, ◌≤◌, ◌==◌, ◌||◌, nat_le, Bool, true, false, length, if◌then◌else◌, List, [], ◌∷◌, ◌++◌, codes, arith}
+use Rattle.std.proofs.lemmas.Str.{len_utf8_bounds}
+use Rattle.yaml_chars.specs.Classes.{between}
+use Rattle.yaml_grammar.specs.Texts.{byte_len, spaces}
+use Rattle.yaml_grammar.specs.Trees.{Tree, text, sequence, mapping, Elements, no_element, element, Members, no_member, member}
+use Rattle.yaml_grammar.specs.Style.{shown as is_shown, hex, letter_escape, quoted_char, quoted_chars, plain_in_style, literal_in_style, quoted, literal_mark, literal_lines, feeds_at_end, scalar_lines, key_text, long_key, key_lines, elements_at, elements_behind, element_at, members_at, members_behind, value_at, style_text}
+use Rattle.yaml_tree.specs.BudgetLaws.{byte_len-append}
+use Rattle.yaml_tree.specs.Sizes.{literal_indented, scalar_indented, key_indented, indented, elements_indented, elements_behind_indented, members_indented, members_behind_indented, value_indented}
+use Rattle.yaml_tree.proofs.SizeLaws.{three, four, scalar_law, elements_law, members_law}
+
+literal_bound : (fresh : Bool) (cs : List ℕ) → literal_indented fresh cs ≤ byte_len (literal_lines 0 fresh cs)
+literal_bound fresh [] = omega arith
+literal_bound fresh (c ∷ cs) = by (c == 10) fresh (literal_bound true cs) (literal_bound false cs)
+  where
+    by : (feed starts : Bool) → literal_indented true cs ≤ byte_len (literal_lines 0 true cs)
+        → literal_indented false cs ≤ byte_len (literal_lines 0 false cs)
+        → (if feed then literal_indented true cs else (if starts then 1 else 0) + literal_indented false cs)
+        ≤ byte_len (if feed then 10 ∷ literal_lines 0 true cs else (if starts then spaces 0 else []) ++ c ∷ literal_lines 0 false cs)
+    by true starts on off = omega (arith, on)
+    by false true on off = omega (arith, off, len_utf8_bounds c)
+    by false false on off = omega (arith, off)
+
+scalar_bound : (value : List ℕ) → scalar_indented value ≤ byte_len (scalar_lines 0 value)
+scalar_bound value = by (plain_in_style value) (literal_in_style value) (literal_mark (feeds_at_end value))
+  where
+    by : (plain literal : Bool) (mark : List ℕ)
+        → (if plain then 0 else if literal then literal_indented true value else 0)
+        ≤ byte_len (if plain then value ++ codes "\n" else if literal then mark ++ codes "\n" ++ literal_lines 0 true value else quoted value ++ codes "\n")
+    by true literal mark = omega arith
+    by false true mark = omega (arith, literal_bound true value, three mark (codes "\n") (literal_lines 0 true value))
+    by false false mark = omega arith
+
+key_bound : (key : List ℕ) → 1 + key_indented key ≤ byte_len (key_lines 0 key)
+key_bound key = by (long_key key) (key_text key)
+  where
+    by : (long : Bool) (shown : List ℕ) → 1 + (if long then 1 else 0)
+        ≤ byte_len (if long then codes "? " ++ shown ++ codes "\n" ++ spaces 0 ++ codes ":" else shown ++ codes ":")
+    by true shown =
+        omega (
+          arith,
+          byte_len-append (codes "? " ++ shown ++ codes "\n" ++ spaces 0) (codes ":"),
+          four (codes "? ") shown (codes "\n") (spaces 0),
+        )
+    by false shown = omega (arith, byte_len-append shown (codes ":"))
+
+pub key_lines_bound : (key : List ℕ) → key_indented key ≤ 1
+key_lines_bound key = by (long_key key)
+  where
+    by : (long : Bool) → (if long then 1 else 0) ≤ 1
+    by true = omega arith
+    by false = omega arith
+
+-- a key has at most 24 bytes for each byte of its text, and six more
+quoted_char_short : (c : ℕ) → length (quoted_char c) ≤ 6
+quoted_char_short c =
+    by ((c == 34) || (c == 92)) (is_shown c) ((c == 0) || between 7 13 c || (c == 27)) (nat_le c 0xff)
+  where
+    by : (sign itself named short : Bool) → length (if sign then 92 ∷ c ∷ [] else if itself then c ∷ [] else if named then 92 ∷ letter_escape c ∷ []
+        else if short then codes "\\x" ++ hex (c / 16) ∷ hex (c % 16) ∷ []
+        else codes "\\u" ++ hex (c / 4096) ∷ hex (c / 256 % 16) ∷ hex (c / 16 % 16) ∷ hex (c % 16) ∷ []) ≤ 6
+    by true itself named short = omega arith
+    by false true named short = omega arith
+    by false false true short = omega arith
+    by false false false true = omega arith
+    by false false false false = omega arith
+
+four_each : (cs : List ℕ) → byte_len cs ≤ 4 * length cs
+four_each [] = omega arith
+four_each (c ∷ cs) = omega (arith, four_each cs, len_utf8_bounds c)
+
+quoted_chars_bound : (cs : List ℕ) → byte_len (quoted_chars cs) ≤ 24 * byte_len cs
+quoted_chars_bound [] = omega arith
+quoted_chars_bound (c ∷ cs) =
+    omega (
+      arith,
+      quoted_chars_bound cs,
+      four_each (quoted_char c),
+      quoted_char_short c,
+      len_utf8_bounds c,
+      byte_len-append (quoted_char c) (quoted_chars cs),
+    )
+
+pub key_bytes_bound : (key : List ℕ) → byte_len (key_lines 0 key) ≤ 24 * byte_len key + 6
+key_bytes_bound key = by (long_key key) (key_text key) (text_bound (plain_in_style key))
+  where
+    text_bound : (plain : Bool) → byte_len (if plain then key else quoted key) ≤ 24 * byte_len key + 2
+    text_bound true = omega arith
+    text_bound false = omega (arith, quoted_chars_bound key, three (codes "\"") (quoted_chars key) (codes "\""))
+
+    by : (long : Bool) (shown : List ℕ) → byte_len shown ≤ 24 * byte_len key + 2
+        → byte_len (if long then codes "? " ++ shown ++ codes "\n" ++ spaces 0 ++ codes ":" else shown ++ codes ":") ≤ 24 * byte_len key + 6
+    by true shown h =
+        omega (
+          arith,
+          h,
+          byte_len-append (codes "? " ++ shown ++ codes "\n" ++ spaces 0) (codes ":"),
+          four (codes "? ") shown (codes "\n") (spaces 0),
+        )
+    by false shown h = omega (arith, h, byte_len-append shown (codes ":"))
+
+mutual
+  pub element_bound : (t : Tree) → indented t ≤ byte_len (element_at t 0)
+  element_bound (text value) = omega (arith, scalar_bound value, scalar_law 2 value)
+  element_bound (sequence ts) = omega (arith, elements_bound ts, elements_law ts 2)
+  element_bound (mapping ms) = omega (arith, members_bound ms, members_law ms 2)
+
+  pub elements_bound : (ts : Elements) → elements_indented ts ≤ byte_len (elements_at ts 0)
+  elements_bound no_element = omega arith
+  elements_bound (element t ts) =
+      omega (arith, element_bound t, elements_behind_bound ts, three (codes "- ") (element_at t 0) (elements_behind ts 0))
+
+  pub elements_behind_bound : (ts : Elements) → elements_behind_indented ts ≤ byte_len (elements_behind ts 0)
+  elements_behind_bound no_element = omega arith
+  elements_behind_bound (element t ts) =
+      omega (arith, element_bound t, elements_behind_bound ts, three (codes "- ") (element_at t 0) (elements_behind ts 0))
+
+  pub members_bound : (ms : Members) → members_indented ms ≤ byte_len (members_at ms 0)
+  members_bound no_member = omega arith
+  members_bound (member key t ms) =
+      omega (
+        arith,
+        key_bound key,
+        value_bound t,
+        members_behind_bound ms,
+        three (key_lines 0 key) (value_at t 0) (members_behind ms 0),
+      )
+
+  pub members_behind_bound : (ms : Members) → members_behind_indented ms ≤ byte_len (members_behind ms 0)
+  members_behind_bound no_member = omega arith
+  members_behind_bound (member key t ms) =
+      omega (
+        arith,
+        key_bound key,
+        value_bound t,
+        members_behind_bound ms,
+        three (key_lines 0 key) (value_at t 0) (members_behind ms 0),
+      )
+
+  pub value_bound : (t : Tree) → value_indented t ≤ byte_len (value_at t 0)
+  value_bound (text value) = omega (arith, scalar_bound value, scalar_law 2 value, byte_len-append (codes " ") (scalar_lines 2 value))
+  value_bound (sequence no_element) = omega arith
+  value_bound (sequence (element t ts)) =
+      omega (
+        arith,
+        elements_bound (element t ts),
+        elements_law (element t ts) 2,
+        three (codes "\n") (spaces 2) (elements_at (element t ts) 2),
+      )
+  value_bound (mapping no_member) = omega arith
+  value_bound (mapping (member key t ms)) =
+      omega (
+        arith,
+        members_bound (member key t ms),
+        members_law (member key t ms) 2,
+        three (codes "\n") (spaces 2) (members_at (member key t ms) 2),
+      )
+
+-- a number that is at most 1, times another
+pub times_at_most : (i n : ℕ) → i ≤ 1 → i * n ≤ n
+times_at_most zero n h = omega arith
+times_at_most (suc zero) n h = omega arith
+times_at_most (suc (suc i)) n h = absurd (omega arith)
+
+-- ---- by the length of the whole
+
+pub element_small : (t : Tree) → byte_len (element_at t 0) ≤ 3 * byte_len (style_text t)
+element_small (text value) = omega arith
+element_small (sequence ts) = omega (arith, elements_bound ts, elements_law ts 2)
+element_small (mapping ms) = omega (arith, members_bound ms, members_law ms 2)
+
+pub value_small : (t : Tree) → byte_len (value_at t 0) ≤ 3 + 3 * byte_len (style_text t)
+value_small (text value) = omega (arith, byte_len-append (codes " ") (scalar_lines 2 value))
+value_small (sequence no_element) = omega arith
+value_small (sequence (element t ts)) =
+    omega (
+      arith,
+      elements_bound (element t ts),
+      elements_law (element t ts) 2,
+      three (codes "\n") (spaces 2) (elements_at (element t ts) 2),
+    )
+value_small (mapping no_member) = omega arith
+value_small (mapping (member key t ms)) =
+    omega (
+      arith,
+      members_bound (member key t ms),
+      members_law (member key t ms) 2,
+      three (codes "\n") (spaces 2) (members_at (member key t ms) 2),
+    )

@@ -1,0 +1,20 @@
+use Rattle.std.proofs.Common.{arith}
+use Rattle.std.specs.Str.{chars}
+use Rattle.yaml_tree.specs.Sizes.{key_indented}
+use Rattle.yaml_tree.proofs.ByteLemmas.{byte_len-chars}
+use Rattle.yaml_tree.proofs.SizeLaws.{key_law}
+use Rattle.yaml_tree.proofs.SizeBounds.{key_bytes_bound, key_lines_bound, times_at_most}
+use Rattle.yaml_tree.proofs.size.key_length.Goals as goal
+
+pub returns : goal.returns
+returns c =
+    let key = chars c.args.key.now in
+    omega (
+      arith,
+      c.in-Ok.ensures,
+      key_law c.args.indent key,
+      key_bytes_bound key,
+      key_lines_bound key,
+      byte_len-chars c.args.key.now c.utf8.key,
+      times_at_most c.args.indent (key_indented key) c.requires,
+    )
