@@ -19,9 +19,8 @@ use crate::parts::{Chomping, Header};
 use crate::value::{feeds_behind, no_lines, push_between};
 use std::alloc::Global;
 use std::borrow::CowStr;
-use yaml_chars::next_break;
 use yaml_events::ScanFault;
-use yaml_scan::{break_end, push_line_feeds, spaces_end};
+use yaml_scan::push_line_feeds;
 
 /// How the breaks of a block scalar are read.
 #[derive(Clone, Copy)]
@@ -97,22 +96,15 @@ fn piece_end(
     }
 }
 
-/// How many bytes the value of the lines from `line` on may have: those up to the first line that is indented less. It says how
-/// much memory to take, and no contract says it.
-fn room(text: &str, line: Line, indent: usize) -> usize
-    requires { IsPlaced indent text.now line }
+/// How many bytes the value is given room for at first: those of the first text line, of the line feeds before it, and so many
+/// more. A longer value makes room for itself.
+const ROOM: usize = 128;
+
+fn room(gaps: usize, line: Line) -> usize
+    requires { line.start ≤ line.end }
 {
-    let mut place = line.next;
-    'lines: loop {
-        let first = spaces_end(text, place);
-        if first - place < indent && break_end(text, first).is_none() {
-            return place.saturating_sub(line.start);
-        }
-        let Some((start, len)) = next_break(text, first) else {
-            return text.len().saturating_sub(line.start);
-        };
-        place = start + len;
-    }
+    ROOM.saturating_add(gaps)
+        .saturating_add(line.end - line.start)
 }
 
 /// The value of the lines at `at`, and where they end.
@@ -135,7 +127,7 @@ fn lines<'a>(
     if let Some(end) = piece_end(text, gaps, line, indent, style.chomping) {
         return Ok((CowStr::Borrowed(&text[line.start..end]), line.next));
     }
-    let mut value = String::with_capacity(alloc, gaps.saturating_add(room(text, line, indent)))?;
+    let mut value = String::with_capacity(alloc, room(gaps, line))?;
     push_line_feeds(&mut value, gaps)?;
     let end = push_lines(&mut value, text, line, indent, style)?;
     Ok((CowStr::Owned(value), end))
@@ -192,7 +184,7 @@ fn body<'a>(
 /// `at` is on a boundary of a character. The scalar stands below an indentation of `n`, which is -1 at a document's top. Of the
 /// header the digit, from 1 to 9, and the chomping count; `folded` is not looked at. Each break in the value is one LF. The value
 /// is borrowed where the text has it in one piece: where it is the text of the only text line and the line feeds that stand behind it,
-/// and where it is empty and there is no text line. Memory for any other is taken once.
+/// and where it is empty and there is no text line. Memory for any other is taken once, where it is not much longer than its first line.
 ///
 /// Answers [`ScanFault::At`] where no such scalar stands: where a line of spaces before the first text line is too wide, or a
 /// line holds a character that none may hold. Answers [`ScanFault::OutOfMemory`] where there is no memory for the value.

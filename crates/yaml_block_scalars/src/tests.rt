@@ -185,14 +185,33 @@ fn headers(rt: HostRuntime) -> Result<(), Fail> {
 }
 
 #[test]
+fn makes_room(rt: HostRuntime) -> Result<(), Fail> {
+    let alloc = rt.alloc();
+    let mut text = String::from_str(alloc, "|\n")?;
+    let mut value = String::new(alloc);
+    for _ in 0..100 {
+        text.push_str("  a line\n")?;
+        value.push_str("a line\n")?;
+    }
+    assert!(rt; reads(alloc, &text, 0, &value)?);
+    Ok(())
+}
+
+#[test]
 fn borrows(rt: HostRuntime) -> Result<(), Fail> {
     let alloc = rt.alloc();
     for (text, borrowed) in [
         ("|-\n a\n", true),
         ("|\n a", true),
         ("|", true),
-        ("|\n a\n", false),
+        ("|\n a\n", true),
+        (">\n a\n", true),
+        ("|+\n a\n\n\n", true),
         ("|-\n\n a", false),
+        ("|\n a\r\n", false),
+        ("|+\n a\n \n", false),
+        ("|+\n\n", false),
+        (">\n a\n b\n", false),
     ] {
         match scan(alloc, text, -1)? {
             Found::Scalar(CowStr::Borrowed(_), _) => assert!(rt; borrowed),

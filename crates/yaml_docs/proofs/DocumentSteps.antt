@@ -35,7 +35,9 @@ use Rattle.yaml_scan.specs.declared.lines.Line.{Line}
 use Rattle.yaml_docs.specs.Directives.{IsDirective}
 use Rattle.yaml_docs.specs.Documents.{DocumentRead, ExplicitNodeRead, ExplicitRead, IsOmitted, SuffixRead, after_dashes}
 use Rattle.yaml_docs.specs.Found.{BlockNodeRead}
-use Rattle.yaml_docs.specs.Pieces.{Appends, PieceRead, read_as}
+use Rattle.yaml_flow.specs.FlowNodes.{Appended}
+use Rattle.yaml_flow.proofs.Appends.{appended_none, appended_one, appended_then}
+use Rattle.yaml_docs.specs.Pieces.{PieceRead, read_as}
 use Rattle.yaml_docs.specs.declared.documents.Piece.TheVariants.{Suffix, Explicit as ExplicitPiece, Directed, Bare}
 use Rattle.yaml_docs.proofs.TextPlaces.{StandsUpTo, place_after}
 
@@ -120,28 +122,11 @@ after_dashes_is (nothing comments) at = refl
 
 -- ---- events
 
-pub one_more : (old new : List Event) (event : Event) (meaning : grammar.Event) → new ≡ old ++ event ∷ [] → event_of event ≡ meaning → Appends old new (meaning ∷ [])
-one_more old new event meaning e m = record { added = event ∷ []; is = e; means = ap (λ x. x ∷ []) m }
-
-pub in_document : (old one two new : List Event) (meaning : List grammar.Event) → one ≡ old ++ DocStart ∷ [] → Appends one two meaning → new ≡ two ++ DocEnd ∷ []
-    → Appends old new (as_document meaning)
-in_document old one two new meaning e a f =
-    let whole : new ≡ ((old ++ DocStart ∷ []) ++ a.added) ++ DocEnd ∷ [] = f ∙ ap (λ x. x ++ DocEnd ∷ []) (a.is ∙ ap (λ x. x ++ a.added) e) in
-    let regrouped : ((old ++ DocStart ∷ []) ++ a.added) ++ DocEnd ∷ [] ≡ old ++ (DocStart ∷ (a.added ++ DocEnd ∷ [])) = simp append_assoc in
-    record {
-      added = DocStart ∷ (a.added ++ DocEnd ∷ []);
-      is = whole ∙ regrouped;
-      means = ap (λ x. grammar.document_start ∷ x) (map-append event_of a.added (DocEnd ∷ []) ∙ ap (λ x. x ++ document_end ∷ []) a.means);
-    }
-
-pub borrows_more : (text : List ℕ) (old new : List Event) (event : Event) → new ≡ old ++ event ∷ [] → BorrowsPlain text event → All (BorrowsPlain text) old → All (BorrowsPlain text) new
-borrows_more text old new event e b h =
-    subst (λ (es : List Event). All (BorrowsPlain text) es) (sym e)
-    (All-append (BorrowsPlain text) old (event ∷ []) h (All-cons (BorrowsPlain text) event [] b (All-nil (BorrowsPlain text))))
-
-pub borrows_in_document : (text : List ℕ) (old one two new : List Event) → one ≡ old ++ DocStart ∷ [] → (All (BorrowsPlain text) one → All (BorrowsPlain text) two) → new ≡ two ++ DocEnd ∷ []
-    → All (BorrowsPlain text) old → All (BorrowsPlain text) new
-borrows_in_document text old one two new e k f h = borrows_more text two new DocEnd f tt (k (borrows_more text old one DocStart e tt h))
+pub in_document : (text : List ℕ) (old one two new : List Event) (meaning : List grammar.Event) → one ≡ old ++ DocStart ∷ [] → Appended text one two meaning → new ≡ two ++ DocEnd ∷ []
+    → Appended text old new (as_document meaning)
+in_document text old one two new meaning e a f =
+    appended_then text old one new (grammar.document_start ∷ []) (meaning ++ document_end ∷ []) (appended_one text old one DocStart grammar.document_start e refl tt)
+    (appended_then text one two new meaning (document_end ∷ []) a (appended_one text two new DocEnd document_end f refl tt))
 
 -- ---- what is read at a place
 
@@ -154,7 +139,7 @@ content_read bs at old new end l o r =
       document = content r.node;
       reads = node_read (rest bs at) (rest bs end) (all_comments false (rest bs at)) r.node o
           (subst (λ (bol : Bool). document_node_at bol (rest bs at) ≡ Some (r.node, rest bs end)) l r.found);
-      appends = record { added = r.added; is = r.appends; means = r.means };
+      appended = r.appended;
     }
 
 pub content_missing : (bs : List ℕ) (at : ℕ) → line_starts bs at ≡ false → omits 0 false (all_comments false (rest bs at)) ≡ false
@@ -162,14 +147,14 @@ pub content_missing : (bs : List ℕ) (at : ℕ) → line_starts bs at ≡ false
 content_missing bs at l o h = node_missing (rest bs at) (all_comments false (rest bs at)) o (subst (λ (bol : Bool). document_node_at bol (rest bs at) ≡ None) l h)
 
 pub nothing_read : (bs : List ℕ) (at : ℕ) (old new : List Event) (end : ℕ) (event : Event) → IsOmitted bs at end → new ≡ old ++ event ∷ [] → event_of event ≡ scalar_event omitted_style at at []
-    → ExplicitNodeRead bs at old new end
-nothing_read bs at old new end event o e m =
+    → BorrowsPlain bs event → ExplicitNodeRead bs at old new end
+nothing_read bs at old new end event o e m b =
     record {
       boundary = o.boundary;
       starts = o.starts;
       document = nothing (all_comments false (rest bs at)).0;
       reads = omitted_read (rest bs at) (rest bs end) (all_comments false (rest bs at)) o.omitted o.leaves;
-      appends = one_more old new event (scalar_event omitted_style at at []) e m;
+      appended = appended_one bs old new event (scalar_event omitted_style at at []) e m b;
     }
 
 -- between the events of a document's start and end
@@ -181,7 +166,7 @@ explicit_found bs at old one two new end h l e f r =
       starts = r.starts;
       document = r.document;
       reads = explicit_is (rest bs at) (rest bs (at + 3)) (Some (r.document, rest bs end)) h l r.reads;
-      appends = subst (λ (es : List grammar.Event). Appends old new es) (after_dashes_is r.document at) (in_document old one two new (after_dashes r.document (at + 3)) e r.appends f);
+      appended = subst (λ (es : List grammar.Event). Appended bs old new es) (after_dashes_is r.document at) (in_document bs old one two new (after_dashes r.document (at + 3)) e r.appended f);
     }
 
 pub bare_found : (bs : List ℕ) (at : ℕ) (old one two new : List Event) (end : ℕ) → line_starts bs at ≡ true → one ≡ old ++ DocStart ∷ [] → new ≡ two ++ DocEnd ∷ []
@@ -193,7 +178,7 @@ bare_found bs at old one two new end l e f r =
       starts = r.fresh;
       found = document (bare r.node);
       reads = rw found refl;
-      appends = in_document old one two new (node_events r.node at) e (record { added = r.added; is = r.appends; means = r.means }) f;
+      appended = in_document bs old one two new (node_events r.node at) e r.appended f;
     }
 
 pub bare_missing : (bs : List ℕ) (at : ℕ) → line_starts bs at ≡ true → document_node_at (line_starts bs at) (rest bs at) ≡ None → read_as Bare (rest bs at) ≡ None
@@ -202,12 +187,12 @@ bare_missing bs at l h =
 
 pub suffix_piece : (bs : List ℕ) (at : ℕ) (events : List Event) (end : ℕ) → SuffixRead bs at end → PieceRead bs at Suffix events events end
 suffix_piece bs at events end r =
-    record { boundary = r.boundary; starts = r.starts; found = suffix r.comments; reads = r.reads; appends = record { added = []; is = sym (append-nil events); means = refl } }
+    record { boundary = r.boundary; starts = r.starts; found = suffix r.comments; reads = r.reads; appended = appended_none bs events }
 
 pub explicit_piece : (bs : List ℕ) (at : ℕ) (old new : List Event) (end : ℕ) → ExplicitRead bs at old new end → PieceRead bs at ExplicitPiece old new end
 explicit_piece bs at old new end r =
     let found : read_explicit document_node_at (rest bs at) ≡ Some (r.document, rest bs end) = r.reads in
-    record { boundary = r.boundary; starts = r.starts; found = document (explicit r.document); reads = rw found refl; appends = r.appends }
+    record { boundary = r.boundary; starts = r.starts; found = document (explicit r.document); reads = rw found refl; appended = r.appended }
 
 pub directed_piece : (bs : List ℕ) (at : ℕ) (old new : List Event) (end : ℕ) → DocumentRead bs at old new end → PieceRead bs at Directed old new end
 directed_piece bs at old new end r =
@@ -216,7 +201,7 @@ directed_piece bs at old new end r =
       starts = r.starts;
       found = document r.document;
       reads = ap (λ (x : Read Document). on x (λ d behind. Some (document d, behind))) r.reads;
-      appends = r.appends;
+      appended = r.appended;
     }
 
 pub explicit_none : (text : List ℕ) → read_explicit document_node_at text ≡ None → read_as ExplicitPiece text ≡ None
@@ -235,7 +220,7 @@ document_found bs at line old new end d r =
       starts = r.starts;
       document = directed d.blank d.first_version d.comments r.document;
       reads = d.reads document_node_at ∙ ap (λ (x : Read Explicit). on x (λ y behind. Some (directed d.blank d.first_version d.comments y, behind))) found;
-      appends = subst (λ (place : ℕ). Appends old new (explicit_events r.document place)) d.place r.appends;
+      appended = subst (λ (place : ℕ). Appended bs old new (explicit_events r.document place)) d.place r.appended;
     }
 
 pub document_missing : (bs : List ℕ) (at : ℕ) (line : Line) → IsDirective bs at line → read_explicit document_node_at (rest bs line.start) ≡ None → read_directed document_node_at (rest bs at) ≡ None

@@ -52,6 +52,7 @@ mark_there bs len behind u e l = subst (λ (n : ℕ). IsMarkEnd bs n) (sym l) at
   where
     s : StandsUpTo bs 0 (0xfeff ∷ []) behind 3
     s = place_after bs 0 (0xfeff ∷ []) behind u (IsCharBoundary-start bs u) e
+
     at_three : IsMarkEnd bs 3
     at_three =
         record {

@@ -6,7 +6,7 @@ use Rattle.std.specs.Prelude.{All, Bool, List, None, Option, Some, [], drop, fal
 use Rattle.std.specs.Str.{IsCharBoundary, IsUtf8, chars}
 use Rattle.std.proofs.lemmas.Bool.{cases_lt, false≢true, or_left, or_right}
 use Rattle.std.proofs.lemmas.List.{map-append}
-use Rattle.std.proofs.lemmas.List.Elements.{All-nil}
+use Rattle.std.proofs.lemmas.List.Elements.{All-append, All-nil}
 use Rattle.std.proofs.lemmas.Str.{len_utf8_bounds}
 use Rattle.yaml_chars.specs.Places.{between, rest}
 use Rattle.yaml_chars.proofs.Places.{rest-end}
@@ -31,6 +31,7 @@ use Rattle.yaml_recognizers.proofs.LineStarts.{byte_len_joined, line_or_end, lin
 use Rattle.yaml_recognizers.proofs.Reading.{chosen, none_some, on_parts, some_parts, sound_is}
 use Rattle.yaml_scan.specs.Lines.{IsLineStart, IsSolidLine}
 use Rattle.yaml_scan.specs.declared.lines.Line.{Line}
+use Rattle.yaml_flow.proofs.Appends.{appended_means}
 use Rattle.yaml_docs.specs.Documents.{IsMarkEnd}
 use Rattle.yaml_docs.specs.Pieces.{BeginsPiece, PieceRead, ReadUpTo, and_then, ends_document, meaning_from, pieces_meaning, read_as, stream_meaning}
 use Rattle.yaml_docs.specs.declared.documents.Piece.{Piece}
@@ -150,8 +151,8 @@ pub record PiecePassed (bs : List ℕ) (at : ℕ) (piece : Piece) (end : ℕ) (n
   pub read : ReadUpTo bs (ends_document piece) end new
 
 pub piece_passed : (bs : List ℕ) (opened : Bool) (at : ℕ) (piece : Piece) (old new : List Event) (end : ℕ) → IsUtf8 bs → ReadUpTo bs opened at old → is_empty (rest bs at) ≡ false
-    → BeginsPiece opened (rest bs at) piece → PieceRead bs at piece old new end → (All (BorrowsPlain bs) old → All (BorrowsPlain bs) new) → PiecePassed bs at piece end new
-piece_passed bs opened at piece old new end u r n b p k =
+    → BeginsPiece opened (rest bs at) piece → PieceRead bs at piece old new end → PiecePassed bs at piece end new
+piece_passed bs opened at piece old new end u r n b p =
     let found : piece_at opened true (rest bs at) ≡ Some (p.found, rest bs end) = b.reads ∙ p.reads in
     let spells : rest bs at ≡ piece_text p.found ++ rest bs end = piece_spells opened (rest bs at) (rest bs end) p.found found in
     let place : end ≡ at + byte_len (piece_text p.found) = spelled_end bs at end (piece_text p.found) u r.boundary p.boundary spells in
@@ -164,7 +165,7 @@ piece_passed bs opened at piece old new end u r n b p k =
     ∙ (ap (λ (place' : ℕ). and_then (piece_events p.found at) (pieces_meaning place' (pieces_at (opens opened p.found) true (rest bs end)))) (sym place)
     ∙ ap (λ (o : Bool). and_then (piece_events p.found at) (meaning_from o bs end)) (opens_as piece opened (rest bs at) (rest bs end) p.found p.reads)) in
     let events : events_of new ≡ events_of old ++ piece_events p.found at =
-    ap events_of p.appends.is ∙ (map-append event_of old p.appends.added ∙ ap (λ (x : List grammar.Event). events_of old ++ x) p.appends.means) in
+    appended_means bs old new (piece_events p.found at) p.appended in
     record {
       onward = omega arith;
       read = record {
@@ -173,7 +174,7 @@ piece_passed bs opened at piece old new end u r n b p k =
         unmarked = inl (omega arith);
         reads = r.reads ∙ (ap (and_then (events_of old)) step ∙ (joined_after (events_of old) (piece_events p.found at) (meaning_from (ends_document piece) bs end)
             ∙ ap (λ (x : List grammar.Event). and_then x (meaning_from (ends_document piece) bs end)) (sym events)));
-        borrows = k r.borrows;
+        borrows = subst (λ (es : List Event). All (BorrowsPlain bs) es) (sym p.appended.is) (All-append (BorrowsPlain bs) old p.appended.more r.borrows p.appended.borrows);
       };
     }
 

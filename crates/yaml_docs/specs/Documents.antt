@@ -1,5 +1,5 @@
 -- Documents of a stream at places of a text.
-use Rattle.std.specs.Prelude.{◌≡◌, ℕ, ◌-◌, ◌<◌, ◌≤◌, Bool, true, false, List, Some, drop}
+use Rattle.std.specs.Prelude.{◌≡◌, ℕ, ◌-◌, ◌<◌, ◌≤◌, Bool, true, false, List, Some, None, drop}
 use Rattle.std.proofs.Math.Logic.{◌⊎◌}
 use Rattle.std.specs.Str.{IsCharBoundary, chars}
 use Rattle.yaml_chars.specs.Places.{rest}
@@ -16,7 +16,8 @@ use Rattle.yaml_recognizers.specs.Comments.{all_comments}
 use Rattle.yaml_recognizers.specs.Recognizers.{document_node_at}
 use Rattle.yaml_recognizers.specs.Streams.{explicit_with, order_mark, suffix_with, read_directed, read_explicit}
 use Rattle.yaml_scan.specs.Lines.{IsLineStart}
-use Rattle.yaml_docs.specs.Pieces.{Appends, meaning_from, stream_meaning}
+use Rattle.yaml_flow.specs.FlowNodes.{Appended}
+use Rattle.yaml_docs.specs.Pieces.{meaning_from, stream_meaning}
 
 -- the place after a byte order mark at the start of a text, or its start
 pub record IsMarkEnd (text : List ℕ) (end : ℕ) : Type 0 where
@@ -50,7 +51,7 @@ pub record ExplicitNodeRead (text : List ℕ) (at : ℕ) (old new : List Event) 
   pub starts : IsLineStart text end
   pub document : Explicit
   pub reads : explicit_with document_node_at (rest text at) (all_comments false (rest text at)) ≡ Some (document, rest text end)
-  pub appends : Appends old new (after_dashes document at)
+  pub appended : Appended text old new (after_dashes document at)
 
 -- the document whose `---` stands at the place is read
 pub record ExplicitRead (text : List ℕ) (at : ℕ) (old new : List Event) (end : ℕ) : Type 0 where
@@ -58,7 +59,7 @@ pub record ExplicitRead (text : List ℕ) (at : ℕ) (old new : List Event) (end
   pub starts : IsLineStart text end
   pub document : Explicit
   pub reads : read_explicit document_node_at (rest text at) ≡ Some (document, rest text end)
-  pub appends : Appends old new (explicit_events document at)
+  pub appended : Appended text old new (explicit_events document at)
 
 -- the document whose directive stands at the place is read
 pub record DocumentRead (text : List ℕ) (at : ℕ) (old new : List Event) (end : ℕ) : Type 0 where
@@ -66,4 +67,18 @@ pub record DocumentRead (text : List ℕ) (at : ℕ) (old new : List Event) (end
   pub starts : IsLineStart text end
   pub document : Document
   pub reads : read_directed document_node_at (rest text at) ≡ Some (document, rest text end)
-  pub appends : Appends old new (document_events document at)
+  pub appended : Appended text old new (document_events document at)
+
+-- ---- where there is none
+
+abbrev pub NoSuffix : List ℕ → Type 0
+NoSuffix text = suffix_with (all_comments false (drop 3 text)) ≡ None
+
+abbrev pub NoExplicitNode : List ℕ → Type 0
+NoExplicitNode text = explicit_with document_node_at text (all_comments false text) ≡ None
+
+abbrev pub NoExplicit : List ℕ → Type 0
+NoExplicit text = read_explicit document_node_at text ≡ None
+
+abbrev pub NoDirected : List ℕ → Type 0
+NoDirected text = read_directed document_node_at text ≡ None

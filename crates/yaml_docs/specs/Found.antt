@@ -9,6 +9,8 @@ use Rattle.yaml_events.specs.Places.{line_starts}
 use Rattle.yaml_events.specs.declared.event.Event.{Event}
 use Rattle.yaml_events.specs.declared.context.BlockContext.{BlockContext}
 use Rattle.yaml_events.specs.declared.context.BlockContext.TheVariants.{Bin, Bout}
+use Rattle.yaml_scan.specs.Lines.{IsLineStart}
+use Rattle.yaml_flow.specs.FlowNodes.{Appended}
 use Rattle.yaml_recognizers.specs.Recognizers.{block_node_at}
 
 abbrev pub least_indent : ℤ → ℕ
@@ -24,9 +26,7 @@ pub record BlockNodeRead (m : ℕ) (shallow : Bool) (text : List ℕ) (at : ℕ)
   pub above : at ≤ end
   pub within : end ≤ length text
   pub boundary : IsCharBoundary text end
-  pub fresh : (line_starts text end ≡ true) ⊎ (rest text end ≡ [])
+  pub fresh : IsLineStart text end
   pub node : Node
   pub found : block_node_at m shallow (line_starts text at) (rest text at) ≡ Some (node, rest text end)
-  pub added : List Event
-  pub appends : new ≡ old ++ added
-  pub means : events_of added ≡ node_events node at
+  pub appended : Appended text old new (node_events node at)

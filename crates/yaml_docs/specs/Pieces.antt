@@ -17,6 +17,7 @@ use Rattle.yaml_recognizers.specs.Recognizers.{document_node_at, piece_at, piece
 use Rattle.yaml_recognizers.specs.Signs.{dash, dot}
 use Rattle.yaml_recognizers.specs.Streams.{mark_at, order_mark, read_directed, read_explicit, suffix_with}
 use Rattle.yaml_scan.specs.Lines.{IsLineStart}
+use Rattle.yaml_flow.specs.FlowNodes.{Appended}
 use Rattle.yaml_docs.specs.declared.documents.Piece.{Piece}
 use Rattle.yaml_docs.specs.declared.documents.Piece.TheVariants.{Suffix, Explicit, Directed, Bare}
 
@@ -70,19 +71,13 @@ pub record BeginsPiece (opened : Bool) (text : List ℕ) (piece : Piece) : Type 
   pub begins : Begins piece text
   pub reads : piece_at opened true text ≡ read_as piece text
 
--- The events of the second list are those of the first, and after them some with this meaning.
-pub record Appends (old new : List Event) (meaning : List grammar.Event) : Type 0 where
-  pub added : List Event
-  pub is : new ≡ old ++ added
-  pub means : events_of added ≡ meaning
-
 -- the piece from one place to another is read, and its events are appended
 pub record PieceRead (text : List ℕ) (at : ℕ) (piece : Piece) (old new : List Event) (end : ℕ) : Type 0 where
   pub boundary : IsCharBoundary text end
   pub starts : IsLineStart text end
   pub found : flat.Piece
   pub reads : read_as piece (rest text at) ≡ Some (found, rest text end)
-  pub appends : Appends old new (piece_events found at)
+  pub appended : Appended text old new (piece_events found at)
 
 -- The events of the whole text are these, and then those of the pieces from the place on.
 pub record ReadUpTo (text : List ℕ) (opened : Bool) (at : ℕ) (events : List Event) : Type 0 where

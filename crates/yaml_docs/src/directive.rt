@@ -1,6 +1,5 @@
 // The `%YAML` directive (YAML 1.2.2, 6.8.1).
 ghost use Rattle.std.specs.Prelude.{◌≡◌, nat_lt, true, Some, None, IfSome, IfNone};
-
 ghost use Rattle.std.specs.Str.{IsCharBoundary};
 ghost use Rattle.yaml_chars.specs.Places.{rest};
 ghost use Rattle.yaml_grammar.specs.Texts.{begins, every};
@@ -8,8 +7,8 @@ ghost use Rattle.yaml_docs.specs.Directives.{IsDirective, NoDirective, IsVersion
 
 use yaml_scan::{Line, line_after, white_end};
 
-/// Returns the first line after the `%YAML` directive at `at` that holds more than white space and a comment. Returns None where
-/// no such directive stands, or its version is neither 1.1 nor 1.2.
+/// Returns the first line after the `%YAML` directive at `at` that holds more than white space and a comment. Returns None
+/// if no such directive stands there, or its version is neither 1.1 nor 1.2.
 pub(crate) fn directive_end(text: &str, at: usize) -> Option<Line>
     requires { IsCharBoundary text.now at }
     ensures found { IfSome result (IsDirective text.now at) }

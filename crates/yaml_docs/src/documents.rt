@@ -1,6 +1,5 @@
 // The documents of a stream (YAML 1.2.2, 6.8 and chapter 9).
-ghost use Rattle.std.specs.Prelude.{All, ◌≡◌, true, false, drop, Some, None, IfOk, IfErr, IfSome, IfNone};
-
+ghost use Rattle.std.specs.Prelude.{All, ◌≡◌, true, false, Some, None, IfOk, IfErr, IfSome, IfNone};
 ghost use Rattle.std.specs.Str.{IsCharBoundary, chars};
 ghost use Rattle.yaml_chars.specs.Places.{rest};
 ghost use Rattle.yaml_events.specs.Borrowed.{BorrowsPlain};
@@ -9,17 +8,19 @@ ghost use Rattle.yaml_events.specs.Places.{line_starts, Refuses};
 ghost use Rattle.yaml_recognizers.specs.BlockNodes.{omits};
 ghost use Rattle.yaml_recognizers.specs.CanonicalComments.{is_line_end};
 ghost use Rattle.yaml_recognizers.specs.Comments.{all_comments};
-ghost use Rattle.yaml_recognizers.specs.Recognizers.{document_node_at, piece_at};
+ghost use Rattle.yaml_recognizers.specs.Recognizers.{piece_at};
 ghost use Rattle.yaml_recognizers.specs.Signs.{dash, dot};
-ghost use Rattle.yaml_recognizers.specs.Streams.{mark_at, read_explicit, read_directed, explicit_with, suffix_with};
-ghost use Rattle.yaml_docs.specs.Documents.{IsMarkEnd, IsOmitted, ExplicitRead, ExplicitNodeRead, DocumentRead, SuffixRead};
+ghost use Rattle.yaml_recognizers.specs.Streams.{mark_at};
+ghost use Rattle.yaml_docs.specs.Documents.{ExplicitRead, NoExplicit, DocumentRead, NoDirected};
+ghost use Rattle.yaml_docs.specs.Documents.{IsMarkEnd, IsOmitted, SuffixRead, NoSuffix, ExplicitNodeRead, NoExplicitNode};
 ghost use Rattle.yaml_docs.specs.Pieces.{Begins, BeginsPiece, PieceRead, ends_document, read_as, stream_meaning};
 
 use crate::directive::directive_end;
-use crate::nodes::{block_node, omitted};
+use crate::nodes::block_node;
 use std::alloc::Global;
 use yaml_chars::next_char;
 use yaml_events::{BlockContext, Event, Events, ScanFault, Why};
+use yaml_flow::omitted;
 use yaml_scan::{Line, Marker, is_marker, is_marker_of, line_after, solid_line, stands_at};
 
 /// What begins at a line of a stream that holds more than white space and a comment.
@@ -123,7 +124,6 @@ fn piece_end<'a>(
     requires begins { Begins piece (rest text.now at) }
     ensures reads { IfOk result (PieceRead text.now at piece events.old events.new) }
     ensures none { IfErr result (λ fault. Refuses fault (read_as piece (rest text.now at) ≡ None)) }
-    ensures borrowed { IfOk result (λ _. All (BorrowsPlain text.now) events.old → All (BorrowsPlain text.now) events.new) }
 {
     match piece {
         Piece::Suffix => suffix_end(text, at),
@@ -138,7 +138,7 @@ fn suffix_end(text: &str, at: usize) -> Result<usize, ScanFault>
     requires at { IsCharBoundary text.now at }
     requires mark { mark_at dot (rest text.now at) ≡ true }
     ensures reads { IfOk result (SuffixRead text.now at) }
-    ensures none { IfErr result (λ fault. Refuses fault (suffix_with (all_comments false (drop 3 (rest text.now at))) ≡ None)) }
+    ensures none { IfErr result (λ fault. Refuses fault (NoSuffix (rest text.now at))) }
 {
     let Some(line) = line_after(text, at + 3) else {
         return Err(ScanFault::At {
@@ -150,12 +150,16 @@ fn suffix_end(text: &str, at: usize) -> Result<usize, ScanFault>
 }
 
 /// Appends the events of the document without a marker at `at`, and returns its end (9.1.3, `l-bare-document`).
-fn bare_end<'a>(alloc: Global, events: &mut Events<'a>, text: &'a str, at: usize) -> Result<usize, ScanFault>
+fn bare_end<'a>(
+    alloc: Global,
+    events: &mut Events<'a>,
+    text: &'a str,
+    at: usize,
+) -> Result<usize, ScanFault>
     requires at { IsCharBoundary text.now at }
     requires line { line_starts text.now at ≡ true }
     ensures reads { IfOk result (PieceRead text.now at Piece.Bare events.old events.new) }
     ensures none { IfErr result (λ fault. Refuses fault (read_as Piece.Bare (rest text.now at) ≡ None)) }
-    ensures borrowed { IfOk result (λ _. All (BorrowsPlain text.now) events.old → All (BorrowsPlain text.now) events.new) }
 {
     events.push(Event::DocStart)?;
     let end = block_node(alloc, events, text, at, -1, BlockContext::Bin)?;
@@ -164,12 +168,16 @@ fn bare_end<'a>(alloc: Global, events: &mut Events<'a>, text: &'a str, at: usize
 }
 
 /// Appends the events of the document whose `---` stands at `at`, and returns its end (9.1.4, `l-explicit-document`).
-fn explicit_end<'a>(alloc: Global, events: &mut Events<'a>, text: &'a str, at: usize) -> Result<usize, ScanFault>
+fn explicit_end<'a>(
+    alloc: Global,
+    events: &mut Events<'a>,
+    text: &'a str,
+    at: usize,
+) -> Result<usize, ScanFault>
     requires at { IsCharBoundary text.now at }
     requires mark { mark_at dash (rest text.now at) ≡ true }
     ensures reads { IfOk result (ExplicitRead text.now at events.old events.new) }
-    ensures none { IfErr result (λ fault. Refuses fault (read_explicit document_node_at (rest text.now at) ≡ None)) }
-    ensures borrowed { IfOk result (λ _. All (BorrowsPlain text.now) events.old → All (BorrowsPlain text.now) events.new) }
+    ensures none { IfErr result (λ fault. Refuses fault (NoExplicit (rest text.now at))) }
 {
     events.push(Event::DocStart)?;
     let end = explicit_node_end(alloc, events, text, at + 3)?;
@@ -177,7 +185,7 @@ fn explicit_end<'a>(alloc: Global, events: &mut Events<'a>, text: &'a str, at: u
     Ok(end)
 }
 
-/// Appends the events of the node after a `---` that ends at `at`, and returns its end. A node that is left out is the empty text.
+/// Appends the events of the node after a `---` that ends at `at`, and returns its end. An omitted node is the empty text.
 fn explicit_node_end<'a>(
     alloc: Global,
     events: &mut Events<'a>,
@@ -187,8 +195,7 @@ fn explicit_node_end<'a>(
     requires at { IsCharBoundary text.now at }
     requires inside_line { line_starts text.now at ≡ false }
     ensures reads { IfOk result (ExplicitNodeRead text.now at events.old events.new) }
-    ensures none { IfErr result (λ fault. Refuses fault (explicit_with document_node_at (rest text.now at) (all_comments false (rest text.now at)) ≡ None)) }
-    ensures borrowed { IfOk result (λ _. All (BorrowsPlain text.now) events.old → All (BorrowsPlain text.now) events.new) }
+    ensures none { IfErr result (λ fault. Refuses fault (NoExplicitNode (rest text.now at))) }
 {
     let Some(end) = omitted_end(text, at) else {
         return block_node(alloc, events, text, at, -1, BlockContext::Bin);
@@ -215,12 +222,17 @@ fn omitted_end(text: &str, at: usize) -> Option<usize>
     Some(line.start)
 }
 
-/// Appends the events of the document whose directive stands at `at`, and returns its end (9.1.5, `l-directive-document`).
-fn directed_end<'a>(alloc: Global, events: &mut Events<'a>, text: &'a str, at: usize) -> Result<usize, ScanFault>
+/// Appends the events of the document whose directive stands at `at`, and returns its end (9.1.5,
+/// `l-directive-document`).
+fn directed_end<'a>(
+    alloc: Global,
+    events: &mut Events<'a>,
+    text: &'a str,
+    at: usize,
+) -> Result<usize, ScanFault>
     requires { IsCharBoundary text.now at }
     ensures reads { IfOk result (DocumentRead text.now at events.old events.new) }
-    ensures none { IfErr result (λ fault. Refuses fault (read_directed document_node_at (rest text.now at) ≡ None)) }
-    ensures borrowed { IfOk result (λ _. All (BorrowsPlain text.now) events.old → All (BorrowsPlain text.now) events.new) }
+    ensures none { IfErr result (λ fault. Refuses fault (NoDirected (rest text.now at))) }
 {
     let Some(line) = directive_end(text, at) else {
         return Err(ScanFault::At {

@@ -1,6 +1,7 @@
 //! Streams of documents (YAML 1.2.2, chapter 9), and where texts in a row are closed.
 //!
-//! [`events`] reads bytes as a stream, and returns its events or the reason why they are refused. [`next_close`] finds closing lines.
+//! [`events`] reads bytes as a stream, and returns its events or the reason why they are refused. [`next_close`] finds
+//! closing lines.
 #![tactic(auto)]
 
 mod closing;
@@ -14,5 +15,7 @@ pub use closing::next_close;
 pub use fault::ReadFault;
 pub use read::events;
 
+#[cfg(test)]
+mod read_tests;
 #[cfg(test)]
 mod tests;

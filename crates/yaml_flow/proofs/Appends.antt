@@ -52,8 +52,8 @@ module _ (text : List ℕ) where
         borrows = All-cons (BorrowsPlain text) MapStart k.more tt k.borrows;
       })
     where
-    inserted : (xs ys : EventList) → insert (xs ++ ys) (length xs) MapStart ≡ xs ++ (MapStart ∷ ys)
-    inserted xs ys = ap (λ zs. zs ++ (MapStart ∷ (drop (length xs) (xs ++ ys)))) (take-append_seam xs ys) ∙ ap (λ zs. xs ++ (MapStart ∷ zs)) (drop-append_seam xs ys)
+      inserted : (xs ys : EventList) → insert (xs ++ ys) (length xs) MapStart ≡ xs ++ (MapStart ∷ ys)
+      inserted xs ys = ap (λ zs. zs ++ (MapStart ∷ (drop (length xs) (xs ++ ys)))) (take-append_seam xs ys) ∙ ap (λ zs. xs ++ (MapStart ∷ zs)) (drop-append_seam xs ys)
 
 pub appended_means : (text : List ℕ) (old new : EventList) (meant : List Event) → Appended text old new meant → events_of new ≡ events_of old ++ meant
 appended_means text old new meant h = ap events_of h.is ∙ (map-append event_of old h.more ∙ ap (λ es. events_of old ++ es) h.means)

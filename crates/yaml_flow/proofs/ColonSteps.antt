@@ -33,7 +33,8 @@ use Rattle.yaml_flow.specs.declared.collection.Open.{Open}
 use Rattle.yaml_flow.specs.declared.collection.Part.{Part}
 use Rattle.yaml_flow.specs.declared.collection.Part.TheVariants.{First, Asked, Value as ValuePart}
 use Rattle.yaml_flow.specs.FlowNodes.{Appended}
-use Rattle.yaml_flow.specs.Frames.{AtColon, AtNode, BeganPair, Collection, EntryRead, EventList, IsSign, Keeps, NoPair, NodeRead, PartFits, Passes, SameLine, absent_events, bracket_front, ends_plain, entry_start, fits_single, frame_front, is_first, is_single, node_start, pair_end, pair_start, part_front, part_of, part_start}
+use Rattle.yaml_scan.proofs.ByteSigns.{IsSign}
+use Rattle.yaml_flow.specs.Frames.{AtColon, AtNode, BeganPair, Collection, EntryRead, EventList, Keeps, NoPair, NodeRead, PartFits, Passes, SameLine, absent_events, bracket_front, ends_plain, entry_start, fits_single, frame_front, is_first, is_single, node_start, pair_end, pair_start, part_front, part_of, part_start}
 use Rattle.yaml_scan.specs.Gaps.{NoGap}
 use Rattle.yaml_scan.specs.Places.{unbroken_between}
 use Rattle.yaml_flow.proofs.Appends.{appended_as, appended_between, appended_then, appended_to}
@@ -134,7 +135,7 @@ module _ (n : ℕ) (d : FlowContext) (text : List ℕ) where
         bol = bol_of o.part;
         key = key;
         plain = here.plain;
-        behind = rest text end;
+        follows = rest text end;
         gap = gap.gap;
         passes = gap.reads;
         sign = i;
@@ -143,13 +144,13 @@ module _ (n : ℕ) (d : FlowContext) (text : List ℕ) where
         written = appended_as text w.kept new _ _ (ap (λ x. bracket_front k w.start ++ (pair_start k.in_seq ++ flow_events key x)) start)
             (elim (cases_Bool (k.in_seq && is_first (part_of o.part))) [
               | inl h ↦ appended_as text w.kept new _ _ (single_written k.in_seq o.part (bracket_front k w.start) (flow_events key top.start) (entry_start k w.start) h)
-                (appended_between text w.kept here.before events new (frame_front o w.start) (flow_events key top.start) here.waits.written here.written
-                ((begun.single (single ∙ h)).1 ∙ ap (λ x. insert events x MapStart) (sym here.count)))
+                  (appended_between text w.kept here.before events new (frame_front o w.start) (flow_events key top.start) here.waits.written here.written
+                  ((begun.single (single ∙ h)).1 ∙ ap (λ x. insert events x MapStart) (sym here.count)))
               | inr h ↦ appended_to text w.kept events new _ (begun.other (single ∙ h))
-                (appended_as text w.kept events _ _
-                (append_assoc (bracket_front k w.start) (part_front k.in_seq o.part (entry_start k w.start)) (flow_events key top.start)
-                ∙ ap (λ es. bracket_front k w.start ++ (es ++ flow_events key top.start)) (pair_written k.in_seq o.part (entry_start k w.start) v h))
-                (appended_then text w.kept here.before events (frame_front o w.start) (flow_events key top.start) here.waits.written here.written))
+                  (appended_as text w.kept events _ _
+                  (append_assoc (bracket_front k w.start) (part_front k.in_seq o.part (entry_start k w.start)) (flow_events key top.start)
+                  ∙ ap (λ es. bracket_front k w.start ++ (es ++ flow_events key top.start)) (pair_written k.in_seq o.part (entry_start k w.start) v h))
+                  (appended_then text w.kept here.before events (frame_front o w.start) (flow_events key top.start) here.waits.written here.written))
             ]);
         reads = plugged n d text w top node_end end events here ∙ plug_key n d o key (rest text end) v;
       }
@@ -188,24 +189,24 @@ module _ (n : ℕ) (d : FlowContext) (text : List ℕ) where
   past_colon colon sign = ap past sign.splits
 
   module _ (w : Collection) (in_seq : Bool) (key_end : NodeEnd) (colon : ℕ) (events : EventList) (here : AtColon n d text w in_seq key_end colon events) where
-    sign_there : is_colon d (is_plain here.key) (read_gap n (one_line d) here.behind).1 ≡ true
-    sign_there = ap (λ x. is_colon d x (read_gap n (one_line d) here.behind).1) here.plain ∙ (ap (λ (r : GapRead). is_colon d (ends_plain key_end) r.1) here.passes ∙ here.sign)
+    sign_there : is_colon d (is_plain here.key) (read_gap n (one_line d) here.follows).1 ≡ true
+    sign_there = ap (λ x. is_colon d x (read_gap n (one_line d) here.follows).1) here.plain ∙ (ap (λ (r : GapRead). is_colon d (ends_plain key_end) r.1) here.passes ∙ here.sign)
 
-    after_gap : IsSign text colon 58 → read_gap n (one_line d) (past (read_gap n (one_line d) here.behind).1) ≡ gap_from (colon + 1)
+    after_gap : IsSign text colon 58 → read_gap n (one_line d) (past (read_gap n (one_line d) here.follows).1) ≡ gap_from (colon + 1)
     after_gap sign = ap (λ (r : GapRead). read_gap n (one_line d) (past r.1)) here.passes ∙ ap (read_gap n (one_line d)) (past_colon colon sign)
 
     value_empty : IsSign text colon 58 → left_out (ends_plain key_end) (gap_from (colon + 1)) ≡ true
-        → flow_value_at n d (is_plain here.key) here.behind ≡ Some (empty here.gap, rest text (colon + 1))
+        → flow_value_at n d (is_plain here.key) here.follows ≡ Some (empty here.gap, rest text (colon + 1))
     value_empty sign h =
-        value_left_out n d (is_plain here.key) here.behind sign_there (ap (left_out (is_plain here.key)) (after_gap sign) ∙ (ap (λ x. left_out x (gap_from (colon + 1))) here.plain ∙ h))
+        value_left_out n d (is_plain here.key) here.follows sign_there (ap (left_out (is_plain here.key)) (after_gap sign) ∙ (ap (λ x. left_out x (gap_from (colon + 1))) here.plain ∙ h))
         ∙ (ap (λ (r : GapRead). Some (empty r.0, past r.1)) here.passes ∙ ap (λ (t : List ℕ). Some (empty here.gap, t)) (past_colon colon sign))
 
     value_node : IsSign text colon 58 → left_out (ends_plain key_end) (gap_from (colon + 1)) ≡ false
-        → flow_value_at n d (is_plain here.key) here.behind
+        → flow_value_at n d (is_plain here.key) here.follows
         ≡ on (flow_node_at n d (starts_line false (gap_text (gap_from (colon + 1)).0)) (gap_from (colon + 1)).1) (λ f r. Some (given here.gap (gap_from (colon + 1)).0 f, r))
     value_node sign h =
-        value_given n d (is_plain here.key) here.behind sign_there (ap (left_out (is_plain here.key)) (after_gap sign) ∙ (ap (λ x. left_out x (gap_from (colon + 1))) here.plain ∙ h))
-        ∙ (ap (λ (g : GapRead). on (flow_node_at n d (starts_line false (gap_text g.0)) g.1) (λ f r. Some (given (read_gap n (one_line d) here.behind).0 g.0 f, r))) (after_gap sign)
+        value_given n d (is_plain here.key) here.follows sign_there (ap (left_out (is_plain here.key)) (after_gap sign) ∙ (ap (λ x. left_out x (gap_from (colon + 1))) here.plain ∙ h))
+        ∙ (ap (λ (g : GapRead). on (flow_node_at n d (starts_line false (gap_text g.0)) g.1) (λ f r. Some (given (read_gap n (one_line d) here.follows).0 g.0 f, r))) (after_gap sign)
         ∙ ap (λ (x : Option Sep). on (flow_node_at n d (starts_line false (gap_text (gap_from (colon + 1)).0)) (gap_from (colon + 1)).1) (λ f r. Some (given x (gap_from (colon + 1)).0 f, r)))
         (ap (λ (r : GapRead). r.0) here.passes))
 
@@ -223,7 +224,7 @@ module _ (n : ℕ) (d : FlowContext) (text : List ℕ) where
           bracket = k;
           kind = here.kind;
           entry = entry here.ask here.key (empty here.gap);
-          behind = rest text (colon + 1);
+          follows = rest text (colon + 1);
           gap = gap.gap;
           passes = gap.reads;
           place = omega (arith, placed, wide, sized, more);
@@ -245,7 +246,7 @@ module _ (n : ℕ) (d : FlowContext) (text : List ℕ) where
         let k : Bracket = here.bracket in
         let placed = here.place in
         let wide = gap.length in
-        let node : flow_value_at n d (is_plain here.key) here.behind ≡ on (flow_node_at n d (line_starts text at) (rest text at)) (λ f r. Some (given here.gap gap.gap f, r)) =
+        let node : flow_value_at n d (is_plain here.key) here.follows ≡ on (flow_node_at n d (line_starts text at) (rest text at)) (λ f r. Some (given here.gap gap.gap f, r)) =
         value_node sign h
         ∙ (ap (λ (g : GapRead). on (flow_node_at n d (starts_line false (gap_text g.0)) g.1) (λ f r. Some (given here.gap g.0 f, r))) gap.reads
         ∙ ap (λ (x : Bool). on (flow_node_at n d x (rest text at)) (λ f r. Some (given here.gap gap.gap f, r))) (gap.starts starts)) in
@@ -266,8 +267,8 @@ module _ (n : ℕ) (d : FlowContext) (text : List ℕ) where
         let h : Dead n d (gap_from (colon + 1)).1 = dead n d (rest text (colon + 1)) stop in
         elim (cases_Bool (left_out (ends_plain key_end) (gap_from (colon + 1)))) [
           | inl e ↦ here.reads
-            ∙ (ap (keyed n d k here.bol here.ask here.key) (value_empty sign e) ∙ made_dead n d k here.bol here.ask here.key (empty here.gap) (rest text (colon + 1)) h)
+              ∙ (ap (keyed n d k here.bol here.ask here.key) (value_empty sign e) ∙ made_dead n d k here.bol here.ask here.key (empty here.gap) (rest text (colon + 1)) h)
           | inr e ↦ here.reads
-            ∙ ap (keyed n d k here.bol here.ask here.key) (value_node sign e
-            ∙ ap (λ x. on x (λ f r. Some (given here.gap (gap_from (colon + 1)).0 f, r))) (h.node (starts_line false (gap_text (gap_from (colon + 1)).0))))
+              ∙ ap (keyed n d k here.bol here.ask here.key) (value_node sign e
+              ∙ ap (λ x. on x (λ f r. Some (given here.gap (gap_from (colon + 1)).0 f, r))) (h.node (starts_line false (gap_text (gap_from (colon + 1)).0))))
         ]

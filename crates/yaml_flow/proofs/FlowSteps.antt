@@ -28,7 +28,8 @@ use Rattle.yaml_flow.specs.declared.collection.Open.{Open}
 use Rattle.yaml_flow.specs.declared.collection.Part.{Part}
 use Rattle.yaml_flow.specs.declared.collection.Part.TheVariants.{First, Asked, Value as ValuePart}
 use Rattle.yaml_flow.specs.FlowNodes.{Appended}
-use Rattle.yaml_flow.specs.Frames.{AfterQuestion, AtColon, AtEntry, AtNode, BeforeGap, Collection, EntryRead, EventList, IsBracket, IsSign, Keeps, NodeRead, PartFits, Passes, WholeRead, absent_events, bracket_end, bracket_front, bracket_start, ends_plain, entries_start, entry_start, fits_single, frame_front, is_first, is_single, node_start, opener, pair_end, pair_start, part_front, part_of, part_start}
+use Rattle.yaml_scan.proofs.ByteSigns.{IsSign}
+use Rattle.yaml_flow.specs.Frames.{AfterQuestion, AtColon, AtEntry, AtNode, BeforeGap, Collection, EntryRead, EventList, IsBracket, Keeps, NodeRead, PartFits, Passes, WholeRead, absent_events, bracket_end, bracket_front, bracket_start, ends_plain, entries_start, entry_start, fits_single, frame_front, is_first, is_single, node_start, opener, pair_end, pair_start, part_front, part_of, part_start}
 use Rattle.yaml_scan.specs.Gaps.{NoGap, stuck, used_up}
 use Rattle.yaml_flow.proofs.Appends.{appended_as, appended_between, appended_then, appended_to}
 use Rattle.yaml_flow.proofs.EntryEvents.{alone_events, collection_events, done_end_more, done_more, empty_length, entry_length, given_length, pair_events, with_colon}
@@ -120,9 +121,9 @@ module _ (n : ℕ) (d : FlowContext) where
       → close_with b (on (made n d b.in_seq bol ask key v text) (λ e r. entries_of n d b.in_seq e r)) ≡ None
   made_dead b bol ask key v text h = either (key_is_short n d b.in_seq bol ask key v text)
     where
-    either : (t : Bool) → close_with b (on (if_fits t (Some (entry ask key v, text))) (λ e r. entries_of n d b.in_seq e r)) ≡ None
-    either true = entry_dead b (entry ask key v) text h
-    either false = refl
+      either : (t : Bool) → close_with b (on (if_fits t (Some (entry ask key v, text))) (λ e r. entries_of n d b.in_seq e r)) ≡ None
+      either true = entry_dead b (entry ask key v) text h
+      either false = refl
 
   -- ---- a key that is read
 
@@ -293,16 +294,16 @@ module _ (n : ℕ) (d : FlowContext) (text : List ℕ) where
   pub asks_dead : (w : Collection) (in_seq : Bool) (at : ℕ) (events : EventList) → NoGap n d (rest text at) → AfterQuestion n d text w in_seq at events → w.reads ≡ None
   asks_dead w in_seq at events stop here = by_gap (gap_from at).0 refl
     where
-    by_gap : (g : Option Sep) → (gap_from at).0 ≡ g → w.reads ≡ None
-    by_gap None e = asked_without w in_seq at events e here
-    by_gap (Some sep) e =
-        let b : Bracket = here.entry.bracket in
-        let t : past (rest text here.front) ≡ rest text at = after_sign at here.front here.after 63 here.sign in
-        here.entry.reads
-        ∙ (entry_is_asked n d (line_starts text here.front) b (rest text here.front) sep
-        (ap (λ x. first (λ y. y == closer x) (rest text here.front)) here.entry.kind ∙ here.unclosed) here.asked (ap (λ (x : List ℕ). (read_gap n (one_line d) x).0) t ∙ e)
-        ∙ ap (λ r. on r (λ f x. plug n d (record { bracket = b; part = asked_key sep }) f x))
-        (ap (λ (x : List ℕ). flow_node_at n d (starts_line false (gap_text (Some sep))) (read_gap n (one_line d) x).1) t ∙ (dead n d (rest text at) stop).node (starts_line false (gap_text (Some sep)))))
+      by_gap : (g : Option Sep) → (gap_from at).0 ≡ g → w.reads ≡ None
+      by_gap None e = asked_without w in_seq at events e here
+      by_gap (Some sep) e =
+          let b : Bracket = here.entry.bracket in
+          let t : past (rest text here.front) ≡ rest text at = after_sign at here.front here.after 63 here.sign in
+          here.entry.reads
+          ∙ (entry_is_asked n d (line_starts text here.front) b (rest text here.front) sep
+          (ap (λ x. first (λ y. y == closer x) (rest text here.front)) here.entry.kind ∙ here.unclosed) here.asked (ap (λ (x : List ℕ). (read_gap n (one_line d) x).0) t ∙ e)
+          ∙ ap (λ r. on r (λ f x. plug n d (record { bracket = b; part = asked_key sep }) f x))
+          (ap (λ (x : List ℕ). flow_node_at n d (starts_line false (gap_text (Some sep))) (read_gap n (one_line d) x).1) t ∙ (dead n d (rest text at) stop).node (starts_line false (gap_text (Some sep)))))
 
   -- ---- after an entry
 
@@ -310,7 +311,7 @@ module _ (n : ℕ) (d : FlowContext) (text : List ℕ) where
       → BeforeGap n d text w in_seq (at + 1) events
   comma_passed w in_seq at events sign here =
       let b : Bracket = here.bracket in
-      let g : GapRead = read_gap n (one_line d) here.behind in
+      let g : GapRead = read_gap n (one_line d) here.follows in
       let t : past g.1 ≡ rest text (at + 1) = ap (λ (r : GapRead). past r.1) here.passes ∙ ap past sign.splits in
       let x : DoneEntry = record { entry = here.entry; before = g.0; behind = (read_gap n (one_line d) (past g.1)).0 } in
       let more : Bracket = record { in_seq = b.in_seq; gap = b.gap; done = b.done ++ x ∷ [] } in
@@ -325,7 +326,7 @@ module _ (n : ℕ) (d : FlowContext) (text : List ℕ) where
         place = omega (arith, before, after, placed, ends);
         written = appended_as text w.kept events _ _ (ap (λ es. bracket_start b.in_seq ∷ es) (sym (done_more b.done x b.in_seq (entries_start b w.start)))) here.written;
         reads = here.reads
-            ∙ (comma_behind n d b here.entry here.behind (ap (λ (r : GapRead). first (λ y. y == 44) r.1) here.passes ∙ ap (first (λ y. y == 44)) sign.splits)
+            ∙ (comma_behind n d b here.entry here.follows (ap (λ (r : GapRead). first (λ y. y == 44) r.1) here.passes ∙ ap (first (λ y. y == 44)) sign.splits)
             ∙ ap (λ (y : List ℕ). close_with more (flow_entries_at n d b.in_seq (starts_line false (gap_text (read_gap n (one_line d) y).0)) (closer b.in_seq) (read_gap n (one_line d) y).1)) t);
       }
 
@@ -334,19 +335,19 @@ module _ (n : ℕ) (d : FlowContext) (text : List ℕ) where
   last_is w in_seq at events h here =
       let b : Bracket = here.bracket in
       here.reads
-      ∙ (last_entry n d b here.entry here.behind (ap (λ (r : GapRead). first (λ x. x == 44) r.1) here.passes ∙ h)
+      ∙ (last_entry n d b here.entry here.follows (ap (λ (r : GapRead). first (λ x. x == 44) r.1) here.passes ∙ h)
       ∙ ap (λ (r : GapRead). closed (closer b.in_seq) (collection_of b.in_seq b.gap (joined b.done (last here.entry r.0))) r.1) here.passes)
 
-  pub closes_behind : (w : Collection) (in_seq : Bool) (at : ℕ) (events new : EventList) → IsSign text at (closer in_seq) → line_starts text (at + 1) ≡ false
+  pub closes_entry : (w : Collection) (in_seq : Bool) (at : ℕ) (events new : EventList) → IsSign text at (closer in_seq) → line_starts text (at + 1) ≡ false
       → Appended text events new (bracket_end in_seq ∷ []) → EntryRead n d text w in_seq at events → WholeRead n d text w (at + 1) new
-  closes_behind w in_seq at events new sign s e here =
+  closes_entry w in_seq at events new sign s e here =
       let b : Bracket = here.bracket in
       ends_whole w b (last here.entry here.gap) in_seq (at + 1) events new here.kind here.written e s
       (last_is w in_seq at events (ap (first (λ x. x == 44)) sign.splits ∙ closer_no_comma in_seq) here ∙ closes_at in_seq b (last here.entry here.gap) at here.kind sign)
 
-  pub neither_behind : (w : Collection) (in_seq : Bool) (at : ℕ) (events : EventList) → first (λ x. x == 44) (rest text at) ≡ false
+  pub no_closing : (w : Collection) (in_seq : Bool) (at : ℕ) (events : EventList) → first (λ x. x == 44) (rest text at) ≡ false
       → first (λ x. x == closer in_seq) (rest text at) ≡ false → EntryRead n d text w in_seq at events → w.reads ≡ None
-  neither_behind w in_seq at events h k here =
+  no_closing w in_seq at events h k here =
       let b : Bracket = here.bracket in
       last_is w in_seq at events h here
       ∙ not_closed (closer b.in_seq) (collection_of b.in_seq b.gap (joined b.done (last here.entry here.gap))) (rest text at)

@@ -48,8 +48,8 @@ module _ (n : ℕ) (d : FlowContext) (text : List ℕ) where
       let broken : unbroken_between text at found.end ≡ false = broken_by found.is_over_lines (unbroken_between text at found.end) h.breaks e in
       line_follows text line at found.end u (further at found.end h.above broken) b h.boundary broken
     where
-    further : (i j : ℕ) → i ≤ j → unbroken_between text i j ≡ false → i < j
-    further i j l e = elim (cases_lt i j) [
-      | inl k ↦ k
-      | inr k ↦ (let same : j ≡ i = omega arith in absurd (false≢true (sym e ∙ (ap (λ x. unbroken_between text i x) same ∙ unbroken_here text i))))
-    ]
+      further : (i j : ℕ) → i ≤ j → unbroken_between text i j ≡ false → i < j
+      further i j l e = elim (cases_lt i j) [
+        | inl k ↦ k
+        | inr k ↦ (let same : j ≡ i = omega arith in absurd (false≢true (sym e ∙ (ap (λ x. unbroken_between text i x) same ∙ unbroken_here text i))))
+      ]

@@ -33,7 +33,8 @@ use Rattle.yaml_flow.specs.declared.collection.Open.{Open}
 use Rattle.yaml_flow.specs.declared.collection.Part.{Part}
 use Rattle.yaml_flow.specs.declared.collection.Part.TheVariants.{First, Asked, Value as ValuePart}
 use Rattle.yaml_flow.specs.FlowNodes.{Appended}
-use Rattle.yaml_flow.specs.Frames.{AtColon, AtNode, BeganPair, Collection, EntryRead, EventList, IsSign, Keeps, NoPair, NodeRead, PartFits, Passes, SameLine, absent_events, bracket_front, ends_plain, entry_start, fits_single, frame_front, is_first, is_single, is_value as is_value_part, node_start, pair_end, pair_start, part_front, part_of, part_start}
+use Rattle.yaml_scan.proofs.ByteSigns.{IsSign}
+use Rattle.yaml_flow.specs.Frames.{AtColon, AtNode, BeganPair, Collection, EntryRead, EventList, Keeps, NoPair, NodeRead, PartFits, Passes, SameLine, absent_events, bracket_front, ends_plain, entry_start, fits_single, frame_front, is_first, is_single, is_value as is_value_part, node_start, pair_end, pair_start, part_front, part_of, part_start}
 use Rattle.yaml_scan.specs.Gaps.{NoGap}
 use Rattle.yaml_scan.specs.Places.{unbroken_between}
 use Rattle.yaml_flow.proofs.Appends.{appended_as, appended_between, appended_then, appended_to}
@@ -159,7 +160,7 @@ module _ (n : ℕ) (d : FlowContext) (text : List ℕ) where
         bracket = k;
         kind = here.waits.keeps.kind;
         entry = entry_with o.part here.node;
-        behind = rest text end;
+        follows = rest text end;
         gap = gap.gap;
         passes = gap.reads;
         place = omega (arith, long, sized, placed, wide);
@@ -219,7 +220,7 @@ module _ (n : ℕ) (d : FlowContext) (text : List ℕ) where
         bracket = k;
         kind = here.waits.keeps.kind;
         entry = entry (ask_of o.part) key absent;
-        behind = rest text end;
+        follows = rest text end;
         gap = gap.gap;
         passes = gap.reads;
         place = omega (arith, start, long, wide, sized);

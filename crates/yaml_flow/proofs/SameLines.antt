@@ -10,7 +10,8 @@ use Rattle.yaml_chars.proofs.Places.{between-append, between-nil}
 use Rattle.yaml_grammar.specs.Texts.{every}
 use Rattle.yaml_recognizers.proofs.OneLineText.{unbroken_joined}
 use Rattle.yaml_recognizers.specs.FlowFrames.{closer}
-use Rattle.yaml_flow.specs.Frames.{IsBracket, IsSign, LineMoves, SameLine}
+use Rattle.yaml_scan.proofs.ByteSigns.{IsSign}
+use Rattle.yaml_flow.specs.Frames.{IsBracket, LineMoves, SameLine}
 use Rattle.yaml_scan.specs.Places.{unbroken_between}
 use Rattle.yaml_flow.proofs.Signs.{one_sign}
 
@@ -24,8 +25,8 @@ unbroken_here bs i = ap (every no_break) (between-nil bs i)
 pub same_line_here : (bs : List ℕ) (line at : ℕ) → line ≤ at → SameLine bs line at at
 same_line_here bs line at l = le_true line at l ∙ sym (unbroken_here bs at)
   where
-  le_true : (i j : ℕ) → i ≤ j → nat_le i j ≡ true
-  le_true i j l = grind (arith, nat_tests)
+    le_true : (i j : ℕ) → i ≤ j → nat_le i j ≡ true
+    le_true i j l = grind (arith, nat_tests)
 
 and_true : (b : Bool) → b && true ≡ b
 and_true true = refl
@@ -50,8 +51,8 @@ line_follows bs line at to u l b c h = record {
       ∙ sym (unbroken_parts bs from at to u k (omega arith) f b c ∙ (ap (λ x. unbroken_between bs from at && x) h ∙ and_false (unbroken_between bs from at)));
 }
   where
-  le_false : (i j : ℕ) → j < i → nat_le i j ≡ false
-  le_false i j l = grind (arith, nat_tests)
+    le_false : (i j : ℕ) → j < i → nat_le i j ≡ false
+    le_false i j l = grind (arith, nat_tests)
 
 pub line_same : (bs : List ℕ) (line at : ℕ) → LineMoves bs line at line at
 line_same bs line at = record { within = λ k. k; tells = λ from f k s. s }

@@ -72,10 +72,10 @@ module _ (n : ℕ) (c : flow.FlowContext) (text : List ℕ) (at : ℕ) where
   pub none_read : (style : grammar.Style) → reads_style style → NoScalarAt style n c text at → read_scalar n c (line_starts text at) (rest text at) ≡ None
   none_read style p h = by_read (read_scalar n c (line_starts text at) (rest text at)) refl
     where
-    by_read : (r : Read flow.Scalar) → read_scalar n c (line_starts text at) (rest text at) ≡ r → r ≡ None
-    by_read None e = refl
-    by_read (Some r) e =
-        absurd (h r.0 r.1 (p r.0 r.1 e) (stands_whole n c (line_starts text at) (rest text at) r.0 r.1 (sound n c (line_starts text at) (rest text at) r.0 r.1 e)))
+      by_read : (r : Read flow.Scalar) → read_scalar n c (line_starts text at) (rest text at) ≡ r → r ≡ None
+      by_read None e = refl
+      by_read (Some r) e =
+          absurd (h r.0 r.1 (p r.0 r.1 e) (stands_whole n c (line_starts text at) (rest text at) r.0 r.1 (sound n c (line_starts text at) (rest text at) r.0 r.1 e)))
 
   pub scalar_read : (style : grammar.Style) (found : FlowScalar) → style_of found.style ≡ style → ScalarAt style n c text at (chars (cow_str_bytes found.value)) found.end
       → line_starts text found.end ≡ false → BorrowsPlain text (scalar_event_at at found) → (IsBorrowedStr found.value → unbroken_between text at found.end ≡ true)

@@ -16,21 +16,11 @@ use Rattle.yaml_grammar.specs.Texts.{byte_len, first, starts_line}
 use Rattle.yaml_events.specs.Places.{line_starts, without_mark}
 use Rattle.yaml_recognizers.specs.FlowFrames.{closer}
 use Rattle.yaml_recognizers.specs.FlowNodes.{is_asked}
-use Rattle.yaml_flow.specs.Frames.{IsSign, IsBracket, opener}
+use Rattle.yaml_scan.proofs.ByteSigns.{IsSign, sign_there}
+use Rattle.yaml_scan.proofs.LineStarts.{starts_after_sign}
+use Rattle.yaml_flow.specs.Frames.{IsBracket, opener}
 
--- ---- the sign that stands at a place
-
-pub sign_there : (bs : List ℕ) (at x : ℕ) → IsUtf8 bs → IsCharBoundary bs at → x < 128 → first (λ y. y == x) (rest bs at) ≡ true → IsSign bs at x
-sign_there bs at x u b a h = elim (cases_lt at (length bs)) [
-  | inl l ↦ (let there = char_at bs at u b l in
-      let e : there.0 ≡ x = eqb-true there.0 x (sym (ap (first (λ y. y == x)) there.1.splits) ∙ h) in
-      elim (cases_lt (get_or bs at 0) 128) [
-        | inl low ↦ (let same : get_or bs at 0 ≡ x = sym (there.1.low low) ∙ e in
-            record { below = l; boundary = IsCharBoundary-after_ascii bs at u l low; splits = rest-ascii bs at u l low ∙ ap (λ c. c ∷ rest bs (at + 1)) same })
-        | inr high ↦ (let k = there.1.high high in absurd (omega arith))
-      ])
-  | inr over ↦ absurd (false≢true (sym (ap (first (λ y. y == x)) (rest-end bs at over)) ∙ h))
-]
+-- ---- brackets
 
 opener_low : (in_seq : Bool) → opener in_seq < 128
 opener_low true = omega arith
@@ -48,25 +38,12 @@ closer_there bs at in_seq u b h = sign_there bs at (closer in_seq) u b (closer_l
 
 -- ---- no line starts after a sign
 
-starts_last : (bol : Bool) (xs : List ℕ) (x : ℕ) → starts_line bol (xs ++ x ∷ []) ≡ line_break x
-starts_last bol [] x = refl
-starts_last bol (y ∷ ys) x = starts_last (line_break y) ys x
-
-mark_last : (xs : List ℕ) (x : ℕ) → (x == 0xfeff) ≡ false → starts_line true (without_mark (xs ++ x ∷ [])) ≡ line_break x
-mark_last [] x h = rw h refl
-mark_last (y ∷ ys) x h = elim (cases_Bool (y == 0xfeff)) [
-  | inl e ↦ rw e (starts_last true ys x)
-  | inr e ↦ rw e (starts_last (line_break y) ys x)
-]
-
 pub one_sign : (bs : List ℕ) (at x : ℕ) → IsUtf8 bs → IsCharBoundary bs at → IsSign bs at x → between bs at (at + 1) ≡ x ∷ []
 one_sign bs at x u b sign =
     sym (append_cancel_right (x ∷ []) (between bs at (at + 1)) (rest bs (at + 1)) (sym sign.splits ∙ rest-between bs at (at + 1) u (omega arith) b sign.boundary))
 
 pub not_starting : (bs : List ℕ) (at x : ℕ) → IsUtf8 bs → IsCharBoundary bs at → IsSign bs at x → line_break x ≡ false → (x == 0xfeff) ≡ false → line_starts bs (at + 1) ≡ false
-not_starting bs at x u b sign h k =
-    ap (λ t. starts_line true (without_mark t)) (between-append bs 0 at (at + 1) u (omega arith) (omega arith) (IsCharBoundary-start bs u) b sign.boundary ∙ ap (λ t. between bs 0 at ++ t) (one_sign bs at x u b sign))
-    ∙ (mark_last (between bs 0 at) x k ∙ h)
+not_starting bs at x u b sign h k = starts_after_sign bs at x u b sign k ∙ h
 
 pub opener_starts : (bs : List ℕ) (at : ℕ) (in_seq : Bool) → IsUtf8 bs → IsCharBoundary bs at → IsBracket bs at in_seq → line_starts bs (at + 1) ≡ false
 opener_starts bs at true u b s = not_starting bs at 91 u b s refl refl
@@ -82,8 +59,8 @@ pub no_question : (d : FlowContext) (text : List ℕ) → first (λ x. x == 63) 
 no_question d [] h = refl
 no_question d (c ∷ cs) h = rw h refl
 
-pub safe_behind : (d : FlowContext) (bs : List ℕ) (at : ℕ) → IsSign bs at 63 → first (safe d) (rest bs (at + 1)) ≡ true → is_asked d (rest bs at) ≡ false
-safe_behind d bs at sign h = ap (is_asked d) sign.splits ∙ rw h refl
+pub safe_after : (d : FlowContext) (bs : List ℕ) (at : ℕ) → IsSign bs at 63 → first (safe d) (rest bs (at + 1)) ≡ true → is_asked d (rest bs at) ≡ false
+safe_after d bs at sign h = ap (is_asked d) sign.splits ∙ rw h refl
 
 pub question_asks : (d : FlowContext) (bs : List ℕ) (at : ℕ) → IsSign bs at 63 → first (safe d) (rest bs (at + 1)) ≡ false → is_asked d (rest bs at) ≡ true
 question_asks d bs at sign h = ap (is_asked d) sign.splits ∙ rw h refl

@@ -25,6 +25,7 @@ use Rattle.yaml_grammar.specs.Texts.{first}
 use Rattle.yaml_recognizers.specs.FlowNodes.{is_asked}
 use Rattle.yaml_flow.specs.FlowNodes.{Appended}
 use Rattle.yaml_scan.specs.Places.{unbroken_between}
+use Rattle.yaml_scan.proofs.ByteSigns.{IsSign}
 use Rattle.yaml_flow.specs.declared.collection.NodeEnd.{NodeEnd}
 use Rattle.yaml_flow.specs.declared.collection.NodeEnd.TheVariants.{Plain, Delimited}
 use Rattle.yaml_flow.specs.declared.collection.Part.{Part}
@@ -89,13 +90,7 @@ pub record Onward (text : List ℕ) (at : ℕ) (next : Next) : Type 0 where
   pub above : at ≤ place_of next
   pub within : place_of next ≤ length text
 
--- ---- signs
-
--- the sign stands at the place
-pub record IsSign (text : List ℕ) (at x : ℕ) : Type 0 where
-  pub below : at < length text
-  pub boundary : IsCharBoundary text (at + 1)
-  pub splits : rest text at ≡ x ∷ rest text (at + 1)
+-- ---- brackets
 
 -- a bracket opens at the place, of this kind
 abbrev pub opener : Bool → ℕ
@@ -230,28 +225,28 @@ module _ (n : ℕ) (d : FlowContext) (text : List ℕ) where
     pub bol : Bool
     pub key : Flow
     pub plain : is_plain key ≡ ends_plain end_is
-    pub behind : List ℕ
+    pub follows : List ℕ
     pub gap : Option Sep
-    pub passes : read_gap n (one_line d) behind ≡ (gap, rest text colon)
+    pub passes : read_gap n (one_line d) follows ≡ (gap, rest text colon)
     pub sign : is_colon d (ends_plain end_is) (rest text colon) ≡ true
     pub place : entry_start bracket w.start + byte_len (asked_text ask) + byte_len (flow_text key) + byte_len (gap_text gap) ≡ colon
-    pub fits : (v : nodes.Value) (r : List ℕ) → flow_value_at n d (is_plain key) behind ≡ Some (v, r) → key_is_short n d bracket.in_seq bol ask key v r ≡ true
+    pub fits : (v : nodes.Value) (r : List ℕ) → flow_value_at n d (is_plain key) follows ≡ Some (v, r) → key_is_short n d bracket.in_seq bol ask key v r ≡ true
     pub written : Appended text w.kept events
         (bracket_front bracket w.start ++ (pair_start bracket.in_seq ++ flow_events key (entry_start bracket w.start + byte_len (asked_text ask))))
     pub reads : w.reads ≡ close_with bracket
-        (on (on (flow_value_at n d (is_plain key) behind) (λ v r. made n d bracket.in_seq bol ask key v r)) (λ e r. entries_of n d bracket.in_seq e r))
+        (on (on (flow_value_at n d (is_plain key) follows) (λ v r. made n d bracket.in_seq bol ask key v r)) (λ e r. entries_of n d bracket.in_seq e r))
 
   -- an entry is read, and the gap after it is passed
   pub record EntryRead (w : Collection) (in_seq : Bool) (at : ℕ) (events : EventList) : Type 0 where
     pub bracket : Bracket
     pub kind : bracket.in_seq ≡ in_seq
     pub entry : nodes.Entry
-    pub behind : List ℕ
+    pub follows : List ℕ
     pub gap : Option Sep
-    pub passes : read_gap n (one_line d) behind ≡ (gap, rest text at)
+    pub passes : read_gap n (one_line d) follows ≡ (gap, rest text at)
     pub place : entry_start bracket w.start + byte_len (entry_text entry) + byte_len (gap_text gap) ≡ at
     pub written : Appended text w.kept events (bracket_front bracket w.start ++ entry_events entry bracket.in_seq (entry_start bracket w.start))
-    pub reads : w.reads ≡ close_with bracket (entries_of n d bracket.in_seq entry behind)
+    pub reads : w.reads ≡ close_with bracket (entries_of n d bracket.in_seq entry follows)
 
   -- the gap after an opening bracket or a comma is to be passed
   pub record BeforeGap (w : Collection) (in_seq : Bool) (at : ℕ) (events : EventList) : Type 0 where

@@ -14,11 +14,11 @@ ghost use Rattle.yaml_events.specs.Borrowed.{BorrowsPlain};
 ghost use Rattle.yaml_scan.specs.Gaps.{NoGap};
 
 use crate::pair::plug;
-use yaml_scan::{gap_end, safe_at, stands_at};
 use crate::push::push;
 use crate::scalar::scalar_at;
 use std::alloc::Global;
 use yaml_events::{Event, Events, FlowContext, ScanFault, Style, Why};
+use yaml_scan::{gap_end, safe_at, stands_at};
 
 /// Which part of an entry is being read.
 #[derive(Clone, Copy)]
@@ -85,7 +85,11 @@ fn start_event<'a>(in_seq: bool) -> Event<'a>
     ensures meant { event_of result ≡ bracket_start in_seq }
     ensures borrowed { (text : List ℕ) → BorrowsPlain text result }
 {
-    if in_seq { Event::SeqStart } else { Event::MapStart }
+    if in_seq {
+        Event::SeqStart
+    } else {
+        Event::MapStart
+    }
 }
 
 fn end_event<'a>(in_seq: bool) -> Event<'a>
@@ -96,7 +100,12 @@ fn end_event<'a>(in_seq: bool) -> Event<'a>
 }
 
 /// Passes the gap at a place, which may be empty: returns the place after it. Where it goes over lines, `line` is moved after it.
-pub(crate) fn pass_gap(text: &str, at: usize, setting: Setting, line: &mut usize) -> Result<usize, ScanFault>
+pub(crate) fn pass_gap(
+    text: &str,
+    at: usize,
+    setting: Setting,
+    line: &mut usize,
+) -> Result<usize, ScanFault>
     requires { IsCharBoundary text.now at }
     ensures found { IfOk result (Passes setting.n (context_of setting.context) text.now at) }
     ensures line { IfOk result (LineMoves text.now line.old at line.new) }
@@ -387,13 +396,23 @@ pub(crate) fn collection<'a>(
     'nodes: loop {
         next = match next {
             Next::Entry { at } => entry(events, text, at, setting, &mut top, &mut line)?,
-            Next::Node { at } => node(alloc, events, text, at, setting, &mut top, &mut outer, &mut line)?,
+            Next::Node { at } => node(
+                alloc, events, text, at, setting, &mut top, &mut outer, &mut line,
+            )?,
             Next::AfterEntry { at } => after_entry(events, text, at, setting, top, &mut line)?,
             Next::Closed { end } => match outer.pop() {
                 None => return Ok(end),
                 Some(frame) => {
                     top = frame;
-                    plug(events, text, end, NodeEnd::Delimited, setting, &mut top, &mut line)?
+                    plug(
+                        events,
+                        text,
+                        end,
+                        NodeEnd::Delimited,
+                        setting,
+                        &mut top,
+                        &mut line,
+                    )?
                 }
             },
         };

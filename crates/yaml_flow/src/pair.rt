@@ -14,9 +14,9 @@ ghost use Rattle.yaml_flow.specs.Frames.{Collection, Stands, NodeRead, AtColon, 
 ghost use Rattle.yaml_flow.specs.declared.collection.Next.TheVariants.{AfterEntry};
 
 use crate::collection::{Next, NodeEnd, Open, Part, Setting, fault, pass_gap};
-use yaml_scan::{at_most_chars, safe_at, stands_at};
 use crate::push::{insert, omitted, push};
 use yaml_events::{Event, Events, FlowContext, ScanFault, Why};
+use yaml_scan::{at_most_chars, safe_at, stands_at};
 
 /// How many characters may stand between the start of a key on one line and its `:` (YAML 1.2.2, 7.4.2 and 8.2.2).
 pub const KEY_LIMIT: usize = 1024;
@@ -52,15 +52,15 @@ pub(crate) fn plug(
         → NodeRead setting.n (context_of setting.context) text.now w top.old node_end end events.old → w.reads ≡ None)) }
     ensures kept { (k : ℕ) → k ≤ top.old.before → Kept k events.old events.new }
 {
-    let behind = pass_gap(text, end, setting, line)?;
+    let after = pass_gap(text, end, setting, line)?;
     if is_value(top.part) {
-        return close_pair(events, *top, behind);
+        return close_pair(events, *top, after);
     }
-    if !colon_at(text, behind, node_end, setting.context) {
-        return without_value(events, end, behind, *top);
+    if !colon_at(text, after, node_end, setting.context) {
+        return without_value(events, end, after, *top);
     }
-    begin_pair(events, text, behind, *top, *line)?;
-    value(events, text, behind, node_end, setting, top, line)
+    begin_pair(events, text, after, *top, *line)?;
+    value(events, text, after, node_end, setting, top, line)
 }
 
 fn is_value(part: Part) -> bool
@@ -87,8 +87,8 @@ fn colon_at(text: &str, at: usize, key_end: NodeEnd, context: FlowContext) -> bo
 }
 
 /// Ends a pair that is read, with the gap after it.
-fn close_pair(events: &mut Events<'_>, top: Open, behind: usize) -> Result<Next, ScanFault>
-    ensures next { IfOk result (λ next. next ≡ AfterEntry behind) }
+fn close_pair(events: &mut Events<'_>, top: Open, after: usize) -> Result<Next, ScanFault>
+    ensures next { IfOk result (λ next. next ≡ AfterEntry after) }
     ensures written { OnOk result ((text : List ℕ) → Appended text events.old events.new (pair_end top.in_seq)) }
     ensures none { IfErr result (λ fault. Refuses fault ⊥) }
     ensures kept { (k : ℕ) → Kept k events.old events.new }
@@ -96,7 +96,7 @@ fn close_pair(events: &mut Events<'_>, top: Open, behind: usize) -> Result<Next,
     if top.in_seq {
         push(events, Event::MapEnd)?;
     }
-    Ok(Next::AfterEntry { at: behind })
+    Ok(Next::AfterEntry { at: after })
 }
 
 /// Returns whether the node is an entry of a sequence without `?`: it is a pair only where a `:` follows.
@@ -110,21 +110,32 @@ fn is_single(top: Open) -> bool
 }
 
 /// Ends an entry whose node, or key, ends at a place with no `:` after it.
-fn without_value(events: &mut Events<'_>, end: usize, behind: usize, top: Open) -> Result<Next, ScanFault>
-    ensures next { IfOk result (λ next. next ≡ AfterEntry behind) }
+fn without_value(
+    events: &mut Events<'_>,
+    end: usize,
+    after: usize,
+    top: Open,
+) -> Result<Next, ScanFault>
+    ensures next { IfOk result (λ next. next ≡ AfterEntry after) }
     ensures written { OnOk result ((text : List ℕ) → Appended text events.old events.new (absent_events (is_single top) top.in_seq end)) }
     ensures none { IfErr result (λ fault. Refuses fault ⊥) }
     ensures kept { (k : ℕ) → Kept k events.old events.new }
 {
     if is_single(top) {
-        return Ok(Next::AfterEntry { at: behind });
+        return Ok(Next::AfterEntry { at: after });
     }
     push(events, omitted(end))?;
-    close_pair(events, top, behind)
+    close_pair(events, top, after)
 }
 
 /// Begins the mapping of a pair in a sequence, once its `:` is seen: the key stands on one line with it, and is short.
-fn begin_pair(events: &mut Events<'_>, text: &str, colon: usize, top: Open, line: usize) -> Result<(), ScanFault>
+fn begin_pair(
+    events: &mut Events<'_>,
+    text: &str,
+    colon: usize,
+    top: Open,
+    line: usize,
+) -> Result<(), ScanFault>
     requires start { IsCharBoundary text.now top.start }
     requires colon { IsCharBoundary text.now colon }
     requires order { top.start ≤ colon }

@@ -22,7 +22,11 @@ pub(crate) fn push<'a>(events: &mut Events<'a>, event: Event<'a>) -> Result<(), 
 }
 
 /// Puts an event before the one at `at`, counted from 0.
-pub(crate) fn insert<'a>(events: &mut Events<'a>, at: usize, event: Event<'a>) -> Result<(), ScanFault>
+pub(crate) fn insert<'a>(
+    events: &mut Events<'a>,
+    at: usize,
+    event: Event<'a>,
+) -> Result<(), ScanFault>
     requires { at ≤ length events.old }
     ensures ok { OnOk result (events.new ≡ insert events.old at event.entry) }
     ensures none { IfErr result (λ fault. Refuses fault ⊥) }

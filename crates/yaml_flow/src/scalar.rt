@@ -7,11 +7,11 @@ ghost use Rattle.yaml_events.specs.Places.{Refuses};
 ghost use Rattle.yaml_flow.specs.FlowNodes.{FlowScalarRead, NoFlowScalar, scalar_event_at};
 ghost use Rattle.yaml_scan.specs.Places.{unbroken_between};
 
-use yaml_flow_scalars::{double, plain, single};
-use yaml_scan::{has_break, stands_at};
 use std::alloc::Global;
 use std::borrow::CowStr;
 use yaml_events::{Event, FlowContext, ScanFault, Span, Style};
+use yaml_flow_scalars::{double, plain, single};
+use yaml_scan::{has_break, stands_at};
 
 /// A flow scalar that starts at a known place.
 #[derive(Debug, Drop)]
@@ -41,7 +41,7 @@ impl<'a> FlowScalar<'a> {
 
     /// Returns whether the scalar, which starts at `start`, runs over lines. A borrowed value has no break, so only others are
     /// looked through.
-    pub(crate) fn is_over_lines(&self, text: &str, start: usize) -> bool
+    pub fn is_over_lines(&self, text: &str, start: usize) -> bool
         requires order { start ≤ self.now.end }
         requires from { IsCharBoundary text.now start }
         requires to { IsCharBoundary text.now self.now.end }

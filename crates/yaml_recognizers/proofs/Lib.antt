@@ -95,4 +95,5 @@ pub mod StandingNodes
 pub mod DocumentEnds
 pub mod NodePlaces
 pub mod NodesSpelled
+pub mod NodesStart
 pub mod Meaning

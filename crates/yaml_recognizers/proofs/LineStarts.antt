@@ -35,12 +35,12 @@ pub line_not_end : (bol : Bool) (text : List ℕ) → line_or_end bol text ≡ t
 line_not_end true text h e = refl
 line_not_end false text h e = absurd (false≢true (sym e ∙ h))
 
-break_starts : (bol : Bool) (b : Break) → starts_line bol (break_text b) ≡ true
+pub break_starts : (bol : Bool) (b : Break) → starts_line bol (break_text b) ≡ true
 break_starts bol lf = refl
 break_starts bol cr = refl
 break_starts bol cr_lf = refl
 
-stop_starts : (bol : Bool) (stop : Option Break) (behind : List ℕ) → stop_fits stop behind ≡ true → line_or_end (starts_line bol (optional break_text stop)) behind ≡ true
+pub stop_starts : (bol : Bool) (stop : Option Break) (behind : List ℕ) → stop_fits stop behind ≡ true → line_or_end (starts_line bol (optional break_text stop)) behind ≡ true
 stop_starts bol None behind h = or_right bol _ h
 stop_starts bol (Some b) behind h = or_left _ _ (break_starts bol b)
 

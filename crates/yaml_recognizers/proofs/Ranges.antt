@@ -201,8 +201,8 @@ mutual
       let more = items_ranged is k place in
       record {
         ranges = ranges_joined at (indented_events i k (at + 1)) (indented_end i k (at + 1)) (items_events is k place) (items_end is k place)
-        (ranges_from at (at + 1) (indented_events i k (at + 1)) (indented_end i k (at + 1)) (omega arith) one.ranges)
-        (ranges_from (indented_end i k (at + 1)) place (items_events is k place) (items_end is k place) (omega (arith, one.inside)) more.ranges);
+            (ranges_from at (at + 1) (indented_events i k (at + 1)) (indented_end i k (at + 1)) (omega arith) one.ranges)
+            (ranges_from (indented_end i k (at + 1)) place (items_events is k place) (items_end is k place) (omega (arith, one.inside)) more.ranges);
         inside = omega (arith, l, s, more.inside);
         onward = omega (arith, more.onward);
       }
@@ -217,7 +217,7 @@ mutual
       let more = pairs_ranged ps k place in
       record {
         ranges = ranges_joined at (pair_events p k at) (pair_end p k at) (pairs_events ps k place) (pairs_end ps k place) one.ranges
-        (ranges_from (pair_end p k at) place (pairs_events ps k place) (pairs_end ps k place) (omega (arith, one.inside)) more.ranges);
+            (ranges_from (pair_end p k at) place (pairs_events ps k place) (pairs_end ps k place) (omega (arith, one.inside)) more.ranges);
         inside = omega (arith, l, s, more.inside);
         onward = omega (arith, more.onward);
       }
@@ -231,8 +231,8 @@ mutual
       let more = indented_ranged value k place in
       record {
         ranges = ranges_joined at (indented_events key k (at + 1)) (indented_end key k (at + 1)) (indented_events value k place) (indented_end value k place)
-        (ranges_from at (at + 1) (indented_events key k (at + 1)) (indented_end key k (at + 1)) (omega arith) one.ranges)
-        (ranges_from (indented_end key k (at + 1)) place (indented_events value k place) (indented_end value k place) (omega (arith, one.inside)) more.ranges);
+            (ranges_from at (at + 1) (indented_events key k (at + 1)) (indented_end key k (at + 1)) (omega arith) one.ranges)
+            (ranges_from (indented_end key k (at + 1)) place (indented_events value k place) (indented_end value k place) (omega (arith, one.inside)) more.ranges);
         inside = omega (arith, l, s, more.inside);
         onward = omega (arith, more.onward);
       }
@@ -242,7 +242,7 @@ mutual
       let one = indented_ranged key k (at + 1) in
       record {
         ranges = ranges_joined at (indented_events key k (at + 1)) end (omitted_at end) end
-        (ranges_from at (at + 1) (indented_events key k (at + 1)) end (omega arith) one.ranges) (omega arith, omega arith, omega arith);
+            (ranges_from at (at + 1) (indented_events key k (at + 1)) end (omega arith) one.ranges) (omega arith, omega arith, omega arith);
         inside = omega (arith, l, one.inside);
         onward = omega (arith, one.onward);
       }
@@ -253,7 +253,7 @@ mutual
       let more = node_ranged value place in
       record {
         ranges = ranges_joined at (flow_events key at) behind (node_events value place) (node_end value place) (flow_ranges key at)
-        (ranges_from behind place (node_events value place) (node_end value place) (omega arith) more.ranges);
+            (ranges_from behind place (node_events value place) (node_end value place) (omega arith) more.ranges);
         inside = omega (arith, l, more.inside);
         onward = omega (arith, more.onward);
       }

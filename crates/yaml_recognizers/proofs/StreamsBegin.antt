@@ -213,7 +213,7 @@ plain_long : (c : FlowContext) (front behind : List ℕ) → plain_line c front 
 plain_long c [] behind h = absurd (false≢true h)
 plain_long c (x ∷ xs) behind h = omega arith
 
-flow_long : (f : Flow) (n : ℕ) (c : FlowContext) (bol : Bool) (behind : List ℕ) → canonical_flow f n c bol behind ≡ true → 1 ≤ length (flow_text f)
+pub flow_long : (f : Flow) (n : ℕ) (c : FlowContext) (bol : Bool) (behind : List ℕ) → canonical_flow f n c bol behind ≡ true → 1 ≤ length (flow_text f)
 flow_long (scalar (plain front more)) n c bol behind h =
     let l : 1 ≤ length front = plain_long c front (lines_behind plain_kind more behind) (plain_front n c bol front more behind h).0 in
     omega (arith, l, length-append (flat_map plain_text front) (flat_map (line_text plain_text) more), ap length (plain_texts front))
@@ -226,14 +226,14 @@ block_first_long : (folded : Bool) (a b c d e : List ℕ) → 1 ≤ length (((((
 block_first_long true a b c d e = omega arith
 block_first_long false a b c d e = omega arith
 
-block_long : (b : BlockScalar) → 1 ≤ length (block_text b)
+pub block_long : (b : BlockScalar) → 1 ≤ length (block_text b)
 block_long b = block_first_long (b.header).folded _ _ _ _ _
 
-items_long : (is : Items) (k : ℕ) → 1 ≤ length (items_text is k)
+pub items_long : (is : Items) (k : ℕ) → 1 ≤ length (items_text is k)
 items_long (item i) k = omega arith
 items_long (item_and i is) k = omega arith
 
-pairs_long : (ps : Pairs) (k : ℕ) → 1 ≤ length (pairs_text ps k)
+pub pairs_long : (ps : Pairs) (k : ℕ) → 1 ≤ length (pairs_text ps k)
 pairs_long (pair p) k = pair_long p k
 pairs_long (pair_and p ps) k = omega (arith, pair_long p k, length-append (pair_text p k ++ spaces k) (pairs_text ps k), length-append (pair_text p k) (spaces k))
 

@@ -6,7 +6,7 @@ use Rattle.yaml_grammar.specs.Separation.{comments_text, gap_text, line_end_text
 use Rattle.yaml_grammar.specs.FlowScalars.{FlowContext, outer, block_key, flow_key, inside}
 use Rattle.yaml_grammar.specs.FlowNodes.{Flow, scalar, seq, map, Entries, none, last, next, Entry, entry, Value, absent, empty, given, asked_text, single_pair, flow_text, entries_text, entry_text, value_text}
 use Rattle.yaml_grammar.specs.BlockNodes.{Node, block, flow, items, pairs, Items, item, item_and, Pairs, pair, pair_and, Pair, asked, asked_alone, keyed, keyed_alone, Indented, compact_items, compact_pairs, node, omitted, node_text, items_text, pairs_text, pair_text, indented_text}
-use Rattle.yaml_grammar.specs.Streams.{Explicit, content, nothing, Document, bare, explicit, directed, Part, suffixes, line, further, Stream, explicit_text, directive_text, document_text, suffix_text, part_text, parts_text, spelled}
+use Rattle.yaml_grammar.specs.Streams.{Explicit, content, nothing, Document, bare, explicit, directed, Part, suffixes, line, further, Stream, explicit_text, directive_text, document_text, mark_text, suffix_text, part_text, parts_text, spelled}
 use Rattle.yaml_recognizers.specs.StandingNodes.{FlowNodeStands, BlockNodeStands}
 
 -- A flow node at n in a context, or a block node at m. Here bol tells whether a line starts at its place, and `behind` is the text after it.
@@ -139,3 +139,14 @@ pub record SpelledAt (text : List ℕ) (at : ℕ) (part behind : List ℕ) : Typ
 abbrev pub NodeSpelled : List ℕ → NodePlace → Type 0
 NodeSpelled text (flow_at n c bol at f behind) = SpelledAt text at (flow_text f) behind
 NodeSpelled text (block_at m shallow bol at n behind) = SpelledAt text at (node_text n) behind
+
+-- What comes before the part, after a byte order mark, tells whether a line starts at it: the place after the mark is the start of a line.
+pub record StartsAt (mark : Bool) (text : List ℕ) (bol : Bool) (part behind : List ℕ) : Type 0 where
+  pub before : List ℕ
+  pub is : text ≡ mark_text mark ++ (before ++ (part ++ behind))
+  pub starts : starts_line true before ≡ bol
+
+-- a line starts at the node, or none, as is said of it
+abbrev pub NodeStarts : Bool → List ℕ → NodePlace → Type 0
+NodeStarts mark text (flow_at n c bol at f behind) = StartsAt mark text bol (flow_text f) behind
+NodeStarts mark text (block_at m shallow bol at n behind) = StartsAt mark text bol (node_text n) behind

@@ -7,7 +7,7 @@ ghost use Rattle.yaml_grammar.specs.Streams.{Stream, spelled, fits, meant};
 ghost use Rattle.yaml_grammar.specs.Reads.{Presents, CanRead, Reads};
 ghost use Rattle.yaml_recognizers.specs.CanonicalStreams.{FlatStream, flat_meant};
 ghost use Rattle.yaml_recognizers.specs.CanonicalForms.{HaveCanonicalForms};
-ghost use Rattle.yaml_recognizers.specs.NodePlaces.{NodeSpelled, NodeStands, stream_places};
+ghost use Rattle.yaml_recognizers.specs.NodePlaces.{NodeSpelled, NodeStands, NodeStarts, stream_places};
 ghost use Rattle.yaml_recognizers.specs.Ranges.{RangesInOrder};
 ghost use Rattle.yaml_recognizers.specs.Recognizers.{stream_at};
 
@@ -21,10 +21,12 @@ pub fn ranges_in_order()
     ensures { (presentation : Stream) → RangesInOrder 0 (meant presentation) (byte_len (spelled presentation)) }
 {}
 
-/// The nodes of a presentation, each with its place in the text, are spelled there. If the presentation fits, each of them fits at its
-/// place, and what comes after it ends it; so the laws of what is found where a node stands speak of each node of a whole text.
+/// The nodes of a presentation, each with its place in the text, are spelled there. If the presentation fits, a line starts at each of
+/// them where this is said of it, each fits at its place, and what comes after it ends it. So the laws of what is found where a node
+/// stands speak of each node of a whole text.
 pub fn nodes_stand()
     ensures spelled { (presentation : Stream) → All (NodeSpelled (spelled presentation)) (stream_places presentation) }
+    ensures starts { (presentation : Stream) → fits presentation ≡ true → All (NodeStarts presentation.mark (spelled presentation)) (stream_places presentation) }
     ensures stand { (presentation : Stream) → fits presentation ≡ true → All NodeStands (stream_places presentation) }
 {}
 

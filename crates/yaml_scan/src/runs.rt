@@ -73,6 +73,15 @@ pub fn nb_at(text: &str, at: usize) -> Option<usize>
             None
         };
     }
+    decoded_nb_at(text, at)
+}
+
+/// The same as [`nb_at`], by the character itself.
+fn decoded_nb_at(text: &str, at: usize) -> Option<usize>
+    requires { IsCharBoundary text.now at }
+    ensures found { IfSome result (IsNb text.now at) }
+    ensures none { IfNone result (first nb (rest text.now at) ≡ false) }
+{
     let Some((character, len)) = yaml_chars::next_char(text, at) else {
         return None;
     };

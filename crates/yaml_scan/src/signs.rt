@@ -81,6 +81,10 @@ pub fn safe_at(text: &str, at: usize, context: FlowContext) -> bool
     requires { IsCharBoundary text.now at }
     ensures { result ≡ first (safe (context_of context)) (rest text.now at) }
 {
+    let bytes = text.as_bytes();
+    if at < bytes.len() && bytes[at] <= b' ' {
+        return false;
+    }
     match next_char(text, at) {
         Some((character, _)) => is_safe(character, context),
         None => false,

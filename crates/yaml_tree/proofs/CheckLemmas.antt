@@ -1,4 +1,4 @@
--- A check of keys behind one event more.
+-- A check of keys after one event more.
 use Rattle.std.proofs.Common.{◌≡◌, Bool, List, [], Option, Some, None, Vec, Global, refl, ap, subst, ◌∙◌}
 use Rattle.yaml_docs.specs.declared.fault.ReadFault.{ReadFault}
 use Rattle.yaml_docs.specs.declared.fault.ReadFault.TheVariants.{TooLong, NotUtf8, Syntax, Documents, KeyNotText, KeyTwice, TooDeep, LargeInStyle, OutOfMemory}

@@ -1,4 +1,5 @@
--- The open parts of a document whose collections are emptied once they end, and whether keys differ in those that ended.
+-- The open parts of a document whose collections are emptied once they end, and whether keys differ in those that have
+-- ended.
 use Rattle.std.specs.Prelude.{◌≡◌, Bool, true, ◌&&◌, List, [], ◌∷◌, Option, Some}
 use Rattle.yaml_grammar.specs.Trees.{Tree, text, sequence, mapping, Elements, no_element, element, Members, no_member, member, distinct, elements_distinct}
 use Rattle.yaml_tree.specs.declared.deep.KeyCheck.{KeyCheck}

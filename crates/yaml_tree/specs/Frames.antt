@@ -2,7 +2,8 @@
 use Rattle.std.specs.Prelude.{ℕ, List, [], ◌∷◌, Option, Some, None}
 use Rattle.yaml_grammar.specs.Trees.{Tree, text, sequence, mapping, Elements, no_element, element, Members, no_member, member, Shape, document_from, document_to, seq_from, seq_to, map_from, map_to, scalar_of}
 
--- a document before its value, behind it, and behind its end; a sequence; a mapping where a key is next, and where a key's value is next
+-- a document before its value, with it, and after its end; a sequence; a mapping where a key is next, and one where the
+-- value of a key is next
 pub data Frame : Type 0 where
   awaiting : Frame
   root whole : Tree → Frame
@@ -66,7 +67,7 @@ map_ended (in_seq ts ∷ fs) = None
 map_ended (at_key ms ∷ fs) = put fs (mapping ms)
 map_ended (at_value ms key ∷ fs) = None
 
--- the open parts behind one event more, where it fits
+-- the open parts after one event more, where it has a place
 abbrev pub step : List Frame → Shape → Option (List Frame)
 step fs document_from = Some (awaiting ∷ fs)
 step fs document_to = document_ended fs

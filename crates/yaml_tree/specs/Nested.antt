@@ -1,4 +1,5 @@
--- What a document holds whose keys may be of any kind: a text, a sequence, or a mapping of keys to values (YAML 1.2.2, 3.2.1).
+-- What a document holds, where keys may be of any kind: a text, a sequence, or a mapping of keys to values
+-- (YAML 1.2.2, 3.2.1).
 use Rattle.std.specs.Prelude.{◌≡◌, ℕ, Bool, true, false, ◌||◌, List, [], ◌∷◌, ◌++◌, IsTrue}
 use Rattle.yaml_grammar.specs.Events.{Event}
 use Rattle.yaml_grammar.specs.Trees.{Shape, document_from, document_to, seq_from, seq_to, map_from, map_to, scalar_of, shapes}
@@ -53,7 +54,8 @@ abbrev mutual
 
   pub pairs_have_collection_key : Pairs → Bool
   pairs_have_collection_key no_pair = false
-  pairs_have_collection_key (pair k v ps) = is_collection k || has_collection_key k || has_collection_key v || pairs_have_collection_key ps
+  pairs_have_collection_key (pair k v ps) =
+      is_collection k || has_collection_key k || has_collection_key v || pairs_have_collection_key ps
 
 -- the events are those of one document, in which some key is a collection
 pub record HasCollectionKey (events : List Event) : Type 0 where

@@ -34,10 +34,14 @@ pub record RefusesTree (bytes : List ℕ) (limits : Limits) (fault : ReadFault) 
 abbrev pub Refuses : List ℕ → Limits → ReadFault → Type 0
 Refuses bytes limits TooLong = limits.bytes < length bytes
 Refuses bytes limits (NotUtf8 at) = (length bytes ≤ limits.bytes) × (IsUtf8 bytes → ⊥) × (at ≡ utf8_valid_len bytes)
-Refuses bytes limits (Syntax line column why) = IsShortText bytes limits.bytes × ((events : List Event) → Reads (chars bytes) events → ⊥)
-Refuses bytes limits (Documents count) = IsShortText bytes limits.bytes × (events : List Event) × Reads (chars bytes) events × (count ≡ document_count events) × (count ≢ 1)
+Refuses bytes limits (Syntax line column why) =
+    IsShortText bytes limits.bytes × ((events : List Event) → Reads (chars bytes) events → ⊥)
+Refuses bytes limits (Documents count) =
+    IsShortText bytes limits.bytes × (events : List Event) × Reads (chars bytes) events
+    × (count ≡ document_count events) × (count ≢ 1)
 Refuses bytes limits KeyNotText =
-    IsShortText bytes limits.bytes × (events : List Event) × Reads (chars bytes) events × (document_count events ≡ 1) × HasCollectionKey events
+    IsShortText bytes limits.bytes × (events : List Event) × Reads (chars bytes) events
+    × (document_count events ≡ 1) × HasCollectionKey events
 Refuses bytes limits KeyTwice = RefusesTree bytes limits KeyTwice
 Refuses bytes limits TooDeep = RefusesTree bytes limits TooDeep
 Refuses bytes limits LargeInStyle = RefusesTree bytes limits LargeInStyle

@@ -17,7 +17,7 @@ pub(crate) enum Part {
     Document,
     /// A document that has its value; its end is next.
     Root(Tree),
-    /// A document behind its end.
+    /// A document that has ended.
     Whole(Tree),
     /// A sequence of these elements so far.
     Seq(Vec<Tree>),
@@ -28,7 +28,8 @@ pub(crate) enum Part {
 }
 
 impl Part {
-    /// The part with a further value in it. `KeyNotText` if the value is a collection and stands for a key.
+    /// The part with a further value in it. Returns `KeyNotText` if the value is a collection where a
+    /// key is next, or if no value may follow.
     fn with(self, tree: Tree) -> Result<Part, ReadFault>
         ensures { MatchResult result
             (λ part. placed (frame_of self) (tree_of tree) ≡ Some (frame_of part))
@@ -74,7 +75,7 @@ impl Builder {
         }
     }
 
-    /// Puts a part inside the innermost one.
+    /// Opens a part inside the innermost one.
     fn push(&mut self, part: Part) -> Result<(), ReadFault>
         ensures { MatchResult result
             (λ _. frames_of self.new.parts.items ≡ frame_of part ∷ frames_of self.old.parts.items)
@@ -84,7 +85,7 @@ impl Builder {
         Ok(())
     }
 
-    /// Takes the innermost part out.
+    /// Removes the innermost part and returns it. Returns `KeyNotText` if there is none.
     fn pop(&mut self) -> Result<Part, ReadFault>
         ensures { MatchResult result
             (λ part. frames_of self.old.parts.items ≡ frame_of part ∷ frames_of self.new.parts.items)
@@ -96,7 +97,7 @@ impl Builder {
         }
     }
 
-    /// Puts a value into the innermost part.
+    /// Puts a value into the innermost part. Returns `KeyNotText` if it has no place there.
     pub(crate) fn put(&mut self, tree: Tree) -> Result<(), ReadFault>
         ensures { MatchResult result
             (λ _. put (frames_of self.old.parts.items) (tree_of tree) ≡ Some (frames_of self.new.parts.items))
@@ -107,7 +108,7 @@ impl Builder {
         self.push(more)
     }
 
-    /// Ends the innermost part, which is a document.
+    /// Ends the innermost part. Returns `KeyNotText` if it is no document that has its value.
     fn end_document(&mut self) -> Result<(), ReadFault>
         ensures { MatchResult result
             (λ _. document_ended (frames_of self.old.parts.items) ≡ Some (frames_of self.new.parts.items))
@@ -120,7 +121,7 @@ impl Builder {
         }
     }
 
-    /// Ends the innermost part, which is a sequence, and returns its elements.
+    /// Ends the innermost part and returns its elements. Returns `KeyNotText` if it is no sequence.
     pub(crate) fn end_seq(&mut self) -> Result<Vec<Tree>, ReadFault>
         ensures { MatchResult result
             (λ items. frames_of self.old.parts.items
@@ -134,7 +135,7 @@ impl Builder {
         }
     }
 
-    /// Ends the innermost part, which is a mapping where a key is next, and returns its pairs.
+    /// Ends the innermost part and returns its pairs. Returns `KeyNotText` if it is no mapping where a key is next.
     pub(crate) fn end_map(&mut self) -> Result<Vec<(String, Tree)>, ReadFault>
         ensures { MatchResult result
             (λ pairs. frames_of self.old.parts.items
@@ -148,7 +149,8 @@ impl Builder {
         }
     }
 
-    /// Takes the next event of the document. `KeyNotText` if a collection stands for a key.
+    /// Takes the next event of the document. Returns `KeyNotText` if the event has no place there, as
+    /// the end of a collection that is a key.
     pub(crate) fn take(&mut self, event: Event<'_>) -> Result<(), ReadFault>
         ensures { MatchResult result
             (λ _. step (frames_of self.old.parts.items) (shape (event_of event.entry))
@@ -175,7 +177,7 @@ impl Builder {
         }
     }
 
-    /// The tree of the document, where all of it is complete.
+    /// The tree of the document. Returns `KeyNotText` if the document has not ended.
     pub(crate) fn finish(mut self) -> Result<Tree, ReadFault>
         ensures { MatchResult result
             (λ tree. finished (frames_of self.parts.items) ≡ Some (tree_of tree))
@@ -197,7 +199,8 @@ impl Builder {
 ///
 /// # Errors
 ///
-/// [`ReadFault::KeyNotText`] if some key is a collection, [`ReadFault::OutOfMemory`] if there is no memory for the tree.
+/// - [`ReadFault::KeyNotText`] if some key is a collection.
+/// - [`ReadFault::OutOfMemory`] if there is no memory for the tree.
 pub(crate) fn document_tree(alloc: Global, events: Events<'_>) -> Result<Tree, ReadFault>
     ensures { MatchResult result
         (λ tree. IsTreeOf (events_of events.entry) (tree_of tree))

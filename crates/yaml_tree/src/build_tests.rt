@@ -8,8 +8,8 @@ use std::borrow::CowStr;
 use std::test::Fail;
 use yaml_events::{Event, Events, Span, Style};
 
-/// The event that a word stands for: `+` and `-` with `D`, `S` or `M` open and end a document, a sequence, a mapping; each
-/// other word is a scalar.
+/// The event that a word means: `+` and `-` with `D`, `S` or `M` open and end a document, a sequence, a mapping;
+/// each other word is a scalar.
 fn event(word: &str) -> Event<'_> {
     match word {
         "+D" => Event::DocStart,

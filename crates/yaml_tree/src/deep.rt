@@ -13,8 +13,8 @@ use crate::{ReadFault, Tree};
 use std::alloc::Global;
 use yaml_events::{Event, Events};
 
-/// A walk over a document that keeps the keys of the mappings that are open, and of a collection that has ended only what
-/// kind it is.
+/// A walk over a document that keeps the keys of the mappings that are open, and of a collection that has ended
+/// only its kind.
 #[derive(Drop)]
 pub(crate) struct KeyCheck {
     builder: Builder,
@@ -32,7 +32,7 @@ impl KeyCheck {
         }
     }
 
-    /// Takes the next event of the document. `KeyNotText` if a collection stands for a key.
+    /// Takes the next event of the document. Returns `KeyNotText` if the event has no place there.
     fn take(&mut self, event: Event<'_>) -> Result<(), ReadFault>
         ensures { (fs : List Frame) → Keeps self.old fs → MatchResult result
             (λ _. Took self.new (step fs (shape (event_of event.entry))))
@@ -45,7 +45,7 @@ impl KeyCheck {
         }
     }
 
-    /// Ends the innermost part, which is a sequence.
+    /// Ends the innermost part. Returns `KeyNotText` if it is no sequence, or if it is a key.
     fn end_seq(&mut self) -> Result<(), ReadFault>
         ensures { (fs : List Frame) → Keeps self.old fs → MatchResult result
             (λ _. Took self.new (seq_ended fs))
@@ -56,7 +56,7 @@ impl KeyCheck {
         self.builder.put(ended)
     }
 
-    /// Ends the innermost part, which is a mapping, and compares its keys.
+    /// Ends the innermost part and compares its keys. Returns `KeyNotText` if it is no mapping, or if it is a key.
     fn end_map(&mut self) -> Result<(), ReadFault>
         ensures { (fs : List Frame) → Keeps self.old fs → MatchResult result
             (λ _. Took self.new (map_ended fs))
@@ -70,12 +70,13 @@ impl KeyCheck {
     }
 }
 
-/// Whether in each mapping of a document the keys differ from one another. No tree is built but the mappings that are open,
-/// so the document may be of any depth.
+/// Whether in each mapping of a document the keys differ from one another. The document may be of any depth: of a
+/// collection that has ended only its kind is kept.
 ///
 /// # Errors
 ///
-/// [`ReadFault::KeyNotText`] if some key is a collection, [`ReadFault::OutOfMemory`] if there is no memory for the keys.
+/// - [`ReadFault::KeyNotText`] if some key is a collection.
+/// - [`ReadFault::OutOfMemory`] if there is no memory for the keys.
 pub(crate) fn document_keys_differ(alloc: Global, events: Events<'_>) -> Result<bool, ReadFault>
     ensures { MatchResult result
         (λ differ. (t : grammar.Tree) × IsTreeOf (events_of events.entry) t × (differ ≡ distinct t))

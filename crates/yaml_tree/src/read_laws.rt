@@ -8,11 +8,12 @@ ghost use Rattle.yaml_tree.specs.Reading.{IsRead, Refuses, GivesNone};
 
 /// Bytes give one tree at most.
 pub fn bytes_give_one()
-    ensures { (bytes : List ℕ) (limits : Limits) (t u : Tree) → IsRead bytes limits t → IsRead bytes limits u → t ≡ u }
+    ensures { (bytes : List ℕ) (limits : Limits) (t u : Tree)
+        → IsRead bytes limits t → IsRead bytes limits u → t ≡ u }
 {}
 
-/// Bytes that are refused give no tree, unless there was no memory.
+/// Bytes that are refused give no tree, unless they are refused for out of memory.
 pub fn refused_bytes_give_none()
-    ensures { (bytes : List ℕ) (limits : Limits) (fault : ReadFault) → fault ≢ OutOfMemory → Refuses bytes limits fault
-        → GivesNone bytes limits }
+    ensures { (bytes : List ℕ) (limits : Limits) (fault : ReadFault) → fault ≢ OutOfMemory
+        → Refuses bytes limits fault → GivesNone bytes limits }
 {}

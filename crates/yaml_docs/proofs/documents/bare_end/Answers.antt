@@ -6,7 +6,7 @@ use Rattle.yaml_recognizers.specs.Recognizers.{document_node_at}
 use Rattle.yaml_scan.proofs.Outcomes.{fault_passed}
 use Rattle.yaml_docs.specs.Pieces.{read_as}
 use Rattle.yaml_docs.specs.declared.documents.Piece.TheVariants.{Bare}
-use Rattle.yaml_docs.proofs.DocumentSteps.{bare_found, bare_missing, borrows_in_document}
+use Rattle.yaml_docs.proofs.DocumentSteps.{bare_found, bare_missing}
 use Rattle.yaml_docs.proofs.documents.bare_end.Goals as goal
 
 pub returns-in_err-end-clause-none : goal.returns-in_err-end-clause-none
@@ -20,8 +20,3 @@ pub returns-clause-reads : goal.returns-clause-reads
 returns-clause-reads c =
     bare_found c.args.text.now c.args.at c.args.events.now c.push.new.self c.block_node.new.events c.push-2.new.self c.in_ok-end.end c.requires.line
     c.in_ok-push.ensures.ok c.in_ok-push-2.ensures.ok c.in_ok-end.ensures.reads
-
-pub returns-clause-borrowed : goal.returns-clause-borrowed
-returns-clause-borrowed c =
-    borrows_in_document c.args.text.now c.args.events.now c.push.new.self c.block_node.new.events c.push-2.new.self c.in_ok-push.ensures.ok c.in_ok-end.ensures.borrowed
-    c.in_ok-push-2.ensures.ok

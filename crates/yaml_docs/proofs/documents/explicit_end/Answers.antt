@@ -5,7 +5,7 @@ use Rattle.yaml_recognizers.specs.Comments.{all_comments}
 use Rattle.yaml_recognizers.specs.Recognizers.{document_node_at}
 use Rattle.yaml_recognizers.specs.Streams.{explicit_with, read_explicit}
 use Rattle.yaml_scan.proofs.Outcomes.{fault_passed}
-use Rattle.yaml_docs.proofs.DocumentSteps.{borrows_in_document, dashes_there, explicit_found, explicit_is, inside_line}
+use Rattle.yaml_docs.proofs.DocumentSteps.{dashes_there, explicit_found, explicit_is, inside_line}
 use Rattle.yaml_docs.proofs.documents.explicit_end.Goals as goal
 
 pub explicit_node_end-requires-clause-at : goal.explicit_node_end-requires-clause-at
@@ -29,8 +29,3 @@ returns-clause-reads c =
     let there = dashes_there c.args.text.now c.args.at c.utf8.text c.requires.at c.requires.mark in
     explicit_found c.args.text.now c.args.at c.args.events.now c.push.new.self c.explicit_node_end.new.events c.push-2.new.self c.in_ok-end.end c.requires.mark there.leaves
     c.in_ok-push.ensures.ok c.in_ok-push-2.ensures.ok c.in_ok-end.ensures.reads
-
-pub returns-clause-borrowed : goal.returns-clause-borrowed
-returns-clause-borrowed c =
-    borrows_in_document c.args.text.now c.args.events.now c.push.new.self c.explicit_node_end.new.events c.push-2.new.self c.in_ok-push.ensures.ok c.in_ok-end.ensures.borrowed
-    c.in_ok-push-2.ensures.ok

@@ -7,7 +7,7 @@ use Rattle.yaml_recognizers.specs.Streams.{explicit_with}
 use Rattle.yaml_scan.proofs.Outcomes.{faults_so, ok_so}
 use Rattle.yaml_docs.specs.Documents.{ExplicitNodeRead}
 use Rattle.yaml_docs.specs.Found.{BlockNodeRead}
-use Rattle.yaml_docs.proofs.DocumentSteps.{borrows_more, content_missing, content_read, nothing_read}
+use Rattle.yaml_docs.proofs.DocumentSteps.{content_missing, content_read, nothing_read}
 use Rattle.yaml_docs.proofs.documents.explicit_node_end.Goals as goal
 
 pub returns-in_default-clause-reads : goal.returns-in_default-clause-reads
@@ -27,8 +27,4 @@ returns-in_default-clause-none c =
 
 pub returns-clause-reads : goal.returns-clause-reads
 returns-clause-reads c =
-    nothing_read c.args.text.now c.args.at c.args.events.now c.push.new.self c.in-Some.end c.omitted.result c.in-Some.ensures.found c.in_ok-push.ensures.ok c.omitted.ensures.event
-
-pub returns-clause-borrowed : goal.returns-clause-borrowed
-returns-clause-borrowed c =
-    borrows_more c.args.text.now c.args.events.now c.push.new.self c.omitted.result c.in_ok-push.ensures.ok (c.omitted.ensures.borrowed c.args.text.now)
+    nothing_read c.args.text.now c.args.at c.args.events.now c.push.new.self c.in-Some.end c.omitted.result c.in-Some.ensures.found c.in_ok-push.ensures.ok c.omitted.ensures.event (c.omitted.ensures.borrowed c.args.text.now)

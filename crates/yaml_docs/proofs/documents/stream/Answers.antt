@@ -60,7 +60,7 @@ passed c =
     lines_passed text c.pieces.opened c.pieces.at c.pieces.events line c.utf8.text c.pieces.invariant found (c.solid_line-line.ensures.starts c.pieces.invariant.starts) in
     let before : line.start < length text = omega (arith, found.boundary.0) in
     piece_passed text c.pieces.opened line.start c.in_ok-piece.piece c.pieces.events c.piece_end.new.events c.in_ok-at.at c.utf8.text read
-    (some_left text line.start c.utf8.text found.boundary before) c.in_ok-piece.ensures.found c.in_ok-at.ensures.reads c.in_ok-at.ensures.borrowed
+    (some_left text line.start c.utf8.text found.boundary before) c.in_ok-piece.ensures.found c.in_ok-at.ensures.reads
 
 pub pieces-smaller : goal.pieces-smaller
 pieces-smaller c =

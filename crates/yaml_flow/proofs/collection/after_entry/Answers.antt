@@ -7,9 +7,10 @@ use Rattle.yaml_recognizers.specs.FlowFrames.{closer}
 use Rattle.yaml_scan.proofs.Outcomes.{refuses, faults_so, ok_so}
 use Rattle.yaml_flow.specs.Frames.{bracket_end, place_of}
 use Rattle.yaml_flow.proofs.Appends.{appended_one}
-use Rattle.yaml_flow.proofs.FlowSteps.{closes_behind, comma_passed, neither_behind}
+use Rattle.yaml_flow.proofs.FlowSteps.{closes_entry, comma_passed, no_closing}
 use Rattle.yaml_flow.proofs.SameLines.{closer_line, sign_then}
-use Rattle.yaml_flow.proofs.Signs.{closer_starts, closer_there, not_starting, sign_there}
+use Rattle.yaml_scan.proofs.ByteSigns.{sign_there}
+use Rattle.yaml_flow.proofs.Signs.{closer_starts, closer_there, not_starting}
 use Rattle.yaml_flow.proofs.collection.after_entry.Goals as goal
 
 pub pass-requires-clause-at : goal.pass-requires-clause-at
@@ -77,8 +78,8 @@ returns-then-stands_at-2-clause-stands c =
     let h : first (λ x. x == closer in_seq) (rest text c.args.at) ≡ true =
     ap (λ k. first (λ x. x == k) (rest text c.args.at)) (sym c.closing.ensures) ∙ (sym c.stands_at-2.ensures ∙ c.if-stands_at-2.true) in
     let s = closer_there text c.args.at in_seq c.utf8.text c.requires h in
-    λ w here. closes_behind n d text w in_seq c.args.at c.args.events.now c.push.new.events s (closer_starts text c.args.at in_seq c.utf8.text c.requires s)
-        (appended_one text c.args.events.now c.push.new.events c.end_event.result (bracket_end in_seq) c.in_ok-push.ensures.ok c.end_event.ensures.meant (c.end_event.ensures.borrowed text)) here
+    λ w here. closes_entry n d text w in_seq c.args.at c.args.events.now c.push.new.events s (closer_starts text c.args.at in_seq c.utf8.text c.requires s)
+    (appended_one text c.args.events.now c.push.new.events c.end_event.result (bracket_end in_seq) c.in_ok-push.ensures.ok c.end_event.ensures.meant (c.end_event.ensures.borrowed text)) here
 
 pub returns-clause-none : goal.returns-clause-none
 returns-clause-none c =
@@ -86,5 +87,5 @@ returns-clause-none c =
     let d = context_of c.args.setting.context in
     let text = c.args.text.now in
     refuses c.fault.result _
-    (λ w here. neither_behind n d text w c.args.top.in_seq c.args.at c.args.events.now (sym c.stands_at.ensures ∙ c.if-stands_at.false)
+    (λ w here. no_closing n d text w c.args.top.in_seq c.args.at c.args.events.now (sym c.stands_at.ensures ∙ c.if-stands_at.false)
     (ap (λ k. first (λ x. x == k) (rest text c.args.at)) (sym c.closing.ensures) ∙ (sym c.stands_at-2.ensures ∙ c.if-stands_at-2.false)) here)

@@ -35,4 +35,4 @@ returns-clause-stands c =
     let apart = c.if-key-at.false in
     let further : c.args.at < c.in_ok-key.key = omega (arith, above, apart) in
     λ w here. asks n d text w (record c.args.top.now { part = Asked }) c.args.top.now.in_seq c.args.at c.in_ok-key.key c.args.events.now c.start_pair.new.events refl refl
-        c.requires.inside_line further gap (c.in_ok-start_pair.ensures.written text) here
+    c.requires.inside_line further gap (c.in_ok-start_pair.ensures.written text) here

@@ -226,7 +226,7 @@ returns-in_err-next-in-Some-clause-kept c =
     c.in-Some.ensures.items in
     let room = p.kept in
     λ k l. front_stays n d text whole c.nodes.outer.items c.nodes.top c.nodes.next c.nodes.events c.plug.new.events k c.nodes.invariant.waits
-        (c.plug.ensures.kept k (omega (arith, l, room))) l
+    (c.plug.ensures.kept k (omega (arith, l, room))) l
 
 pub nodes-preserved-in_ok-next-in-Entry : goal.nodes-preserved-in_ok-next-in-Entry
 nodes-preserved-in_ok-next-in-Entry c =

@@ -11,7 +11,8 @@ use Rattle.yaml_flow.specs.Frames.{bracket_end, place_of}
 use Rattle.yaml_flow.proofs.Appends.{appended_one}
 use Rattle.yaml_flow.proofs.FlowSteps.{begins, closes, question}
 use Rattle.yaml_flow.proofs.SameLines.{closer_line, sign_then}
-use Rattle.yaml_flow.proofs.Signs.{closer_starts, closer_there, no_question, not_starting, question_asks, safe_behind, sign_there}
+use Rattle.yaml_scan.proofs.ByteSigns.{sign_there}
+use Rattle.yaml_flow.proofs.Signs.{closer_starts, closer_there, no_question, not_starting, question_asks, safe_after}
 use Rattle.yaml_flow.proofs.collection.entry.Goals as goal
 use Rattle.yaml_flow.proofs.collection.entry.Goals.{then-not-stands_at-via-then-not-stands_at, then-not-stands_at-via-else-not-stands_at+then-safe_at}
 
@@ -51,7 +52,7 @@ returns-then-stands_at-clause-stands c =
     ap (λ k. first (λ x. x == k) (rest text c.args.at)) (sym c.closing.ensures) ∙ (sym c.stands_at.ensures ∙ c.if-stands_at.true) in
     let s = closer_there text c.args.at in_seq c.utf8.text c.requires h in
     λ w here. closes n d text w in_seq c.args.at c.args.events.now c.push.new.events s (closer_starts text c.args.at in_seq c.utf8.text c.requires s)
-        (appended_one text c.args.events.now c.push.new.events c.end_event.result (bracket_end in_seq) c.in_ok-push.ensures.ok c.end_event.ensures.meant (c.end_event.ensures.borrowed text)) here
+    (appended_one text c.args.events.now c.push.new.events c.end_event.result (bracket_end in_seq) c.in_ok-push.ensures.ok c.end_event.ensures.meant (c.end_event.ensures.borrowed text)) here
 
 pub safe_at-requires : goal.safe_at-requires
 safe_at-requires c =
@@ -65,12 +66,12 @@ returns-then-not-stands_at-clause-stands c =
     let in_seq = c.args.top.now.in_seq in
     let asked : is_asked d (rest text c.args.at) ≡ false = elim c.then-not-stands_at.branch [
       | then-not-stands_at-via-then-not-stands_at w ↦ no_question d (rest text c.args.at) (sym c.stands_at-2.ensures ∙ w.if-not-stands_at.true)
-      | then-not-stands_at-via-else-not-stands_at+then-safe_at w ↦ safe_behind d text c.args.at
-        (sign_there text c.args.at 63 c.utf8.text c.requires (omega arith) (sym c.stands_at-2.ensures ∙ w.if-not-stands_at.false))
-        (sym w.safe_at.ensures ∙ w.if-safe_at.true)
+      | then-not-stands_at-via-else-not-stands_at+then-safe_at w ↦ safe_after d text c.args.at
+          (sign_there text c.args.at 63 c.utf8.text c.requires (omega arith) (sym c.stands_at-2.ensures ∙ w.if-not-stands_at.false))
+          (sym w.safe_at.ensures ∙ w.if-safe_at.true)
     ] in
     λ w here. begins n d text w (record c.args.top.now { part = First }) in_seq c.args.at c.args.events.now refl refl
-        (ap (λ k. first (λ x. x == k) (rest text c.args.at)) (sym c.closing.ensures) ∙ (sym c.stands_at.ensures ∙ c.if-stands_at.false)) asked here
+    (ap (λ k. first (λ x. x == k) (rest text c.args.at)) (sym c.closing.ensures) ∙ (sym c.stands_at.ensures ∙ c.if-stands_at.false)) asked here
 
 pub asked-requires-clause-at : goal.asked-requires-clause-at
 asked-requires-clause-at c =

@@ -32,9 +32,9 @@ returns-clause-line c =
     let over : c.is_over_lines.result ≡ not (unbroken_between text start c.in_ok-found.found.end) = c.is_over_lines.ensures in
     let moves : LineMoves text c.args.line.now start c.if-is_over_lines.line c.in_ok-found.found.end = elim c.if-is_over_lines.branch [
       | then-is_over_lines w ↦ subst (λ k. LineMoves text c.args.line.now start k c.in_ok-found.found.end) (sym w.line-is)
-        (line_follows text c.args.line.now start c.in_ok-found.found.end c.utf8.text above c.requires.at read.boundary (broken_by _ _ over w.if-is_over_lines.true))
+          (line_follows text c.args.line.now start c.in_ok-found.found.end c.utf8.text above c.requires.at read.boundary (broken_by _ _ over w.if-is_over_lines.true))
       | else-is_over_lines w ↦ subst (λ k. LineMoves text c.args.line.now start k c.in_ok-found.found.end) (sym w.line-is)
-        (line_stays text c.args.line.now start c.in_ok-found.found.end c.utf8.text (omega (arith, above)) c.requires.at read.boundary (unbroken_by _ _ over w.if-is_over_lines.false))
+          (line_stays text c.args.line.now start c.in_ok-found.found.end c.utf8.text (omega (arith, above)) c.requires.at read.boundary (unbroken_by _ _ over w.if-is_over_lines.false))
     ] in
     ok_so c.plug.result _ _
     (λ next h. line_then text c.args.line.now start c.if-is_over_lines.line c.in_ok-found.found.end c.plug.new.line (place_of next) (omega (arith, above)) c.requires.at moves h) c.plug.ensures.line

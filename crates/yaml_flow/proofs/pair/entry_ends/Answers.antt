@@ -5,7 +5,7 @@ use Rattle.yaml_chars.specs.Places.{rest}
 use Rattle.yaml_chars.proofs.Places.{char_at, rest-end}
 use Rattle.yaml_grammar.specs.Texts.{first}
 use Rattle.yaml_recognizers.specs.FlowNodes.{ends_entry}
-use Rattle.yaml_flow.proofs.Signs.{sign_there}
+use Rattle.yaml_scan.proofs.ByteSigns.{sign_there}
 use Rattle.yaml_flow.proofs.pair.entry_ends.Goals as goal
 
 or_false : (b : Bool) → b ≡ b || false

@@ -13,13 +13,13 @@ use Rattle.yaml_flow.proofs.Results.{ok_two}
 use Rattle.yaml_flow.proofs.Stacks.{inside_widens}
 use Rattle.yaml_flow.proofs.pair.plug.Goals as goal
 
-pub returns-in_err-behind-clause-none : goal.returns-in_err-behind-clause-none
-returns-in_err-behind-clause-none c =
+pub returns-in_err-after-clause-none : goal.returns-in_err-after-clause-none
+returns-in_err-after-clause-none c =
     let n = c.args.setting.n in
     let d = context_of c.args.setting.context in
     let text = c.args.text.now in
-    fault_passed c.from_residual.result c.in_err-behind.field-0.0 (NoGap n d (rest text c.args.end)) _
-    (λ stop. λ w here. node_dead n d text w c.args.top.now c.args.node_end c.args.end c.args.events.now stop here) c.in_err-behind.ensures.none
+    fault_passed c.from_residual.result c.in_err-after.field-0.0 (NoGap n d (rest text c.args.end)) _
+    (λ stop. λ w here. node_dead n d text w c.args.top.now c.args.node_end c.args.end c.args.events.now stop here) c.in_err-after.ensures.none
     (err_from_is_err_and c.from_residual.result c.from_residual.ensures.1)
 
 pub returns-then-is_value-clause-stands : goal.returns-then-is_value-clause-stands
@@ -31,8 +31,8 @@ returns-then-is_value-clause-stands c =
     let p : top.part ≡ Value = the_value top.part (sym c.is_value.ensures ∙ c.if-is_value.true) in
     ok_two c.close_pair.result _ _ _
     (λ next e h. λ w here. subst (λ x. Stands n d text w top x c.close_pair.new.events) (sym e)
-    (value_read n d text w top c.args.node_end c.args.end c.in_ok-behind.behind c.args.events.now c.close_pair.new.events c.utf8.text c.requires.start c.requires.end p
-    c.in_ok-behind.ensures.found (h text) here)) c.close_pair.ensures.next c.close_pair.ensures.written
+    (value_read n d text w top c.args.node_end c.args.end c.in_ok-after.after c.args.events.now c.close_pair.new.events c.utf8.text c.requires.start c.requires.end p
+    c.in_ok-after.ensures.found (h text) here)) c.close_pair.ensures.next c.close_pair.ensures.written
 
 pub returns-then-not-colon_at-clause-stands : goal.returns-then-not-colon_at-clause-stands
 returns-then-not-colon_at-clause-stands c =
@@ -41,11 +41,11 @@ returns-then-not-colon_at-clause-stands c =
     let text = c.args.text.now in
     let top = c.args.top.now in
     let p : top.part ≡ Value → ⊥ = not_value top.part (sym c.is_value.ensures ∙ c.if-is_value.false) in
-    let sign : is_colon d (ends_plain c.args.node_end) (rest text c.in_ok-behind.behind) ≡ false = sym c.colon_at.ensures ∙ c.if-not-colon_at.true in
+    let sign : is_colon d (ends_plain c.args.node_end) (rest text c.in_ok-after.after) ≡ false = sym c.colon_at.ensures ∙ c.if-not-colon_at.true in
     ok_two c.without_value.result _ _ _
     (λ next e h. λ w here. subst (λ x. Stands n d text w top x c.without_value.new.events) (sym e)
-    (entry_alone n d text w top c.args.node_end c.args.end c.in_ok-behind.behind c.args.events.now c.without_value.new.events c.utf8.text c.requires.start c.requires.end p
-    c.in_ok-behind.ensures.found sign (h text) here)) c.without_value.ensures.next c.without_value.ensures.written
+    (entry_alone n d text w top c.args.node_end c.args.end c.in_ok-after.after c.args.events.now c.without_value.new.events c.utf8.text c.requires.start c.requires.end p
+    c.in_ok-after.ensures.found sign (h text) here)) c.without_value.ensures.next c.without_value.ensures.written
 
 pub returns-in_err-begin_pair-clause-none : goal.returns-in_err-begin_pair-clause-none
 returns-in_err-begin_pair-clause-none c =
@@ -53,13 +53,13 @@ returns-in_err-begin_pair-clause-none c =
     let d = context_of c.args.setting.context in
     let text = c.args.text.now in
     let top = c.args.top.now in
-    let colon = c.in_ok-behind.behind in
+    let colon = c.in_ok-after.after in
     let line = c.pass_gap.new.line in
     let sign : is_colon d (ends_plain c.args.node_end) (rest text colon) ≡ true = sym c.colon_at.ensures ∙ c.if-not-colon_at.false in
-    let same : SameLine text line top.start colon = c.in_ok-behind.ensures.line.tells top.start c.requires.start c.requires.order c.requires.line in
+    let same : SameLine text line top.start colon = c.in_ok-after.ensures.line.tells top.start c.requires.start c.requires.order c.requires.line in
     fault_passed c.from_residual-in_err-begin_pair.result c.in_err-begin_pair.field-0.0 (NoPair text top line colon) _
     (λ stop. λ w here. colon_refused n d text w top c.args.node_end line c.args.end colon c.args.events.now c.utf8.text c.requires.start c.requires.order
-    (inside_widens d c.requires.inside) c.in_ok-behind.ensures.found sign same stop here) c.in_err-begin_pair.ensures.none
+    (inside_widens d c.requires.inside) c.in_ok-after.ensures.found sign same stop here) c.in_err-begin_pair.ensures.none
     (err_from_is_err_and c.from_residual-in_err-begin_pair.result c.from_residual-in_err-begin_pair.ensures.1)
 
 pub returns-clause-stands : goal.returns-clause-stands
@@ -68,14 +68,14 @@ returns-clause-stands c =
     let d = context_of c.args.setting.context in
     let text = c.args.text.now in
     let top = c.args.top.now in
-    let colon = c.in_ok-behind.behind in
+    let colon = c.in_ok-after.after in
     let line = c.pass_gap.new.line in
     let p : top.part ≡ Value → ⊥ = not_value top.part (sym c.is_value.ensures ∙ c.if-is_value.false) in
     let sign : is_colon d (ends_plain c.args.node_end) (rest text colon) ≡ true = sym c.colon_at.ensures ∙ c.if-not-colon_at.false in
-    let same : SameLine text line top.start colon = c.in_ok-behind.ensures.line.tells top.start c.requires.start c.requires.order c.requires.line in
+    let same : SameLine text line top.start colon = c.in_ok-after.ensures.line.tells top.start c.requires.start c.requires.order c.requires.line in
     ok_so c.value.result _ _
     (λ next h. λ w here. h w (colon_read n d text w top c.args.node_end line c.args.end colon c.args.events.now c.begin_pair.new.events c.utf8.text c.requires.start c.requires.end c.requires.order
-    (inside_widens d c.requires.inside) p c.in_ok-behind.ensures.found sign same c.in_ok-begin_pair.ensures.begun here)) c.value.ensures.stands
+    (inside_widens d c.requires.inside) p c.in_ok-after.ensures.found sign same c.in_ok-begin_pair.ensures.begun here)) c.value.ensures.stands
 
 pub returns-clause-none : goal.returns-clause-none
 returns-clause-none c =
@@ -83,11 +83,11 @@ returns-clause-none c =
     let d = context_of c.args.setting.context in
     let text = c.args.text.now in
     let top = c.args.top.now in
-    let colon = c.in_ok-behind.behind in
+    let colon = c.in_ok-after.after in
     let line = c.pass_gap.new.line in
     let p : top.part ≡ Value → ⊥ = not_value top.part (sym c.is_value.ensures ∙ c.if-is_value.false) in
     let sign : is_colon d (ends_plain c.args.node_end) (rest text colon) ≡ true = sym c.colon_at.ensures ∙ c.if-not-colon_at.false in
-    let same : SameLine text line top.start colon = c.in_ok-behind.ensures.line.tells top.start c.requires.start c.requires.order c.requires.line in
+    let same : SameLine text line top.start colon = c.in_ok-after.ensures.line.tells top.start c.requires.start c.requires.order c.requires.line in
     faults_so c.value.result _ _
     (λ h. λ w here. h w (colon_read n d text w top c.args.node_end line c.args.end colon c.args.events.now c.begin_pair.new.events c.utf8.text c.requires.start c.requires.end c.requires.order
-    (inside_widens d c.requires.inside) p c.in_ok-behind.ensures.found sign same c.in_ok-begin_pair.ensures.begun here)) c.value.ensures.none
+    (inside_widens d c.requires.inside) p c.in_ok-after.ensures.found sign same c.in_ok-begin_pair.ensures.begun here)) c.value.ensures.none

@@ -17,7 +17,8 @@ use Rattle.yaml_flow.proofs.ColonSteps.{pair_without_value, value_dead, value_wa
 use Rattle.yaml_flow.proofs.Results.{ok_two}
 use Rattle.yaml_flow.proofs.PairKeys.{left_out}
 use Rattle.yaml_flow.proofs.SameLines.{sign_then}
-use Rattle.yaml_flow.proofs.Signs.{not_starting, sign_there}
+use Rattle.yaml_scan.proofs.ByteSigns.{sign_there}
+use Rattle.yaml_flow.proofs.Signs.{not_starting}
 use Rattle.yaml_flow.proofs.pair.value.Goals as goal
 
 -- the code's test is the recognizer's
@@ -81,4 +82,4 @@ returns-clause-stands c =
     let test : left_out (ends_plain c.args.key_end) (read_gap n (one_line d) (rest text (c.args.colon + 1))) ≡ false =
     test_is n d text (c.args.colon + 1) c.in_ok-at.at (ends_plain c.args.key_end) gap ∙ (sym c.is_left_out.ensures ∙ c.if-is_left_out.false) in
     λ w here. value_waits n d text w c.args.top.now.in_seq c.args.key_end c.args.colon c.args.events.now here (record c.args.top.now { part = Value }) c.in_ok-at.at refl refl
-        (not_starting text c.args.colon 58 c.utf8.text c.requires.at s refl refl) s gap test
+    (not_starting text c.args.colon 58 c.utf8.text c.requires.at s refl refl) s gap test

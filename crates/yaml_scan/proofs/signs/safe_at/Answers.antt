@@ -1,6 +1,9 @@
-use Rattle.std.proofs.Common.{◌≡◌, ◌<◌, ◌≤◌, ℕ, Bool, true, false, inl, inr, length, sym}
+use Rattle.std.proofs.Common.{◌∙◌, ap, arith, get_or, ◌≡◌, ◌<◌, ◌≤◌, ℕ, Bool, true, false, inl, inr, length, sym}
 use Rattle.yaml_events.specs.Meant.{context_of}
-use Rattle.yaml_grammar.specs.FlowScalars.{safe}
+use Rattle.yaml_grammar.specs.FlowScalars.{FlowContext, outer, inner, block_key, flow_key, safe}
+use Rattle.yaml_grammar.specs.Texts.{first}
+use Rattle.std.proofs.lemmas.Bool.Decides.{nat_tests}
+use Rattle.yaml_chars.proofs.Places.{rest-ascii}
 use Rattle.std.proofs.lemmas.Bool.{cases_lt, false≢true}
 use Rattle.yaml_scan.proofs.ByteRuns.{first_at_end}
 use Rattle.yaml_scan.proofs.signs.safe_at.Goals as goal
@@ -10,3 +13,16 @@ ended at end h = elim (cases_lt at end) [ inl l ↦ absurd (false≢true (h l)) 
 
 pub returns-in-None : goal.returns-in-None
 returns-in-None c = sym (first_at_end (safe (context_of c.args.context)) c.args.text.now c.args.at (ended c.args.at (length c.args.text.now) c.in-None.ensures.found.1))
+
+no_control : (c : FlowContext) (x : ℕ) → x ≤ 32 → safe c x ≡ false
+no_control outer x h = grind (arith, nat_tests)
+no_control inner x h = grind (arith, nat_tests)
+no_control block_key x h = grind (arith, nat_tests)
+no_control flow_key x h = grind (arith, nat_tests)
+
+pub returns-then-bytes-at-le32 : goal.returns-then-bytes-at-le32
+returns-then-bytes-at-le32 c =
+    let l : c.args.at < length c.args.text.now = omega (arith, c.as_bytes-bytes.ensures.len, c.if-at-bytes.true) in
+    let byte = ap (λ t. get_or t c.args.at 0) c.as_bytes-bytes.ensures.value in
+    let low : get_or c.args.text.now c.args.at 0 ≤ 32 = omega (arith, byte, c.if-bytes-at-le32.true) in
+    sym (ap (first (safe (context_of c.args.context))) (rest-ascii c.args.text.now c.args.at c.utf8.text l (omega arith)) ∙ no_control (context_of c.args.context) (get_or c.args.text.now c.args.at 0) low)

@@ -1,0 +1,184 @@
+-- The steps of the scanner before a node: at the front of a line, and on a line that goes on.
+use Rattle.std.proofs.Common.{ap, arith, refl, sym, ◌∙◌, ◌≡◌, ◌⊎◌}
+use Rattle.std.specs.Prelude.{Bool, List, None, Some, [], false, if◌then◌else◌, nat_le, not, suc, true, ℕ, ◌&&◌, ◌++◌, ◌+◌, ◌||◌, ◌∷◌}
+use Rattle.std.proofs.lemmas.Bool.{and_left, and_right, not_from_true, or_left, or_right}
+use Rattle.yaml_chars.specs.Classes.{white}
+use Rattle.yaml_chars.specs.Places.{rest}
+use Rattle.yaml_grammar.specs.BlockNodes.{Indented}
+use Rattle.yaml_grammar.specs.BlockScalars.{past_spaces, spaces_before}
+use Rattle.yaml_grammar.specs.Events.{Event, seq_start}
+use Rattle.yaml_grammar.specs.Separation.{LineEnd, comments_text, inline, sep_text}
+use Rattle.yaml_grammar.specs.Texts.{byte_len, first, is_empty, starts_line}
+use Rattle.yaml_recognizers.specs.BlockFrames.{BlockFrame, Sits, on_lines, plug, unwind, waits_item}
+use Rattle.yaml_recognizers.specs.BlockNodes.{node_behind}
+use Rattle.yaml_recognizers.specs.BlockScalars.{read_block}
+use Rattle.yaml_recognizers.specs.Comments.{all_comments}
+use Rattle.yaml_recognizers.specs.Fronts.{dropped, past, sign, taken}
+use Rattle.yaml_recognizers.specs.Reading.{Read, on}
+use Rattle.yaml_recognizers.specs.Recognizers.{block_indented_at, block_items_at, block_key_in, block_pairs_at, flow_leaf_at}
+use Rattle.yaml_recognizers.proofs.BlockFrames.{unwind_none}
+use Rattle.yaml_recognizers.proofs.LineStarts.{byte_len_joined}
+use Rattle.yaml_recognizers.proofs.Steps.{node_steps}
+use Rattle.yaml_events.specs.Places.{line_starts}
+use Rattle.yaml_block.specs.declared.frame.Sign.TheVariants.{Dash}
+use Rattle.yaml_block.specs.BlockParts.{as_part, part_at, sep_after}
+use Rattle.yaml_block.specs.Frames.{AfterSign, AtLeaf, AtNode, AtNodeLine, place_in}
+use Rattle.yaml_block.proofs.BlockLines.{is_deep, leaf_alone_after, mapping_or_leaf_after, nothing_after, sep_after_text, sequence_after, too_shallow_after}
+use Rattle.yaml_block.proofs.BlockSigns.{leaf_on_line, nothing_on_line, untabbed_taken}
+use Rattle.yaml_block.proofs.SignSteps.{byte_len_spaces, untaken}
+
+-- a separation after comments ends where its white does
+sep_end : (from start lead : ℕ) (comments : List LineEnd) (blank : List ℕ) → from + byte_len (comments_text comments) ≡ start → start + byte_len blank ≡ lead
+    → from + byte_len (sep_text (sep_after comments blank)) ≡ lead
+sep_end from start lead comments blank p q =
+    let t : byte_len (sep_text (sep_after comments blank)) ≡ byte_len (comments_text comments) + byte_len blank = ap byte_len (sep_after_text comments blank) ∙ byte_len_joined (comments_text comments) blank in
+    omega (arith, t, p, q)
+
+module _ (W : Read Indented) (text : List ℕ) (from : ℕ) where
+  pub node_line : (fs : List BlockFrame) (evs : List Event) (m : ℕ) (shallow bol : Bool) (at : ℕ) (comments : List LineEnd) (start : ℕ) → AtNode W text from fs evs m shallow bol at
+      → all_comments bol (rest text at) ≡ (comments, rest text start) → bol || not (is_empty comments) ≡ true → at + byte_len (comments_text comments) ≡ start
+      → starts_line bol (comments_text comments) ≡ line_starts text start → AtNodeLine W text from fs evs m shallow (is_empty comments) start
+  node_line fs evs m shallow bol at comments start h c s p l = record {
+    bol = bol;
+    comments = comments;
+    reads = h.reads ∙ ap (λ r. unwind fs (as_part r))
+        (node_steps m shallow bol (rest text at) ∙ ap (node_behind block_key_in flow_leaf_at read_block block_items_at block_pairs_at m shallow bol) c);
+    nested = h.nested;
+    starts = s;
+    alone_is = refl;
+    lines = l;
+    place = ap (λ x. x + byte_len (comments_text comments)) h.place ∙ p;
+    wrote = h.wrote;
+  }
+
+  pub sequence_opens : (fs : List BlockFrame) (evs : List Event) (m : ℕ) (shallow alone : Bool) (start s front : ℕ) → AtNodeLine W text from fs evs m shallow alone start
+      → spaces_before (rest text start) ≡ s → past_spaces (rest text start) ≡ rest text front → start + s ≡ front → sign 45 (rest text front) ≡ true
+      → nat_le m (if shallow then suc s else s) ≡ true → past (rest text front) ≡ rest text (front + 1)
+      → (sits : Sits) × AfterSign W text from (waits_item sits s [] ∷ fs) (evs ++ seq_start ∷ []) Dash s (front + 1)
+  sequence_opens fs evs m shallow alone start s front h c e p d l q = (
+    on_lines h.comments s,
+    record {
+      reads = h.reads ∙ ap (unwind fs)
+          (sequence_after m shallow h.bol h.comments (rest text start) h.starts (ap (sign 45) e ∙ d) (ap (is_deep m shallow) c ∙ l)
+          ∙ (ap (λ j. on (block_indented_at j false (past (past_spaces (rest text start)))) (λ i behind. plug (waits_item (on_lines h.comments j) j []) i behind)) c
+          ∙ ap (λ u. on (block_indented_at s false u) (λ i behind. plug (waits_item (on_lines h.comments s) s []) i behind)) (ap past e ∙ q)));
+      nested = (refl, h.nested);
+      awaits = (refl, refl);
+      place = ap (λ x. x + s + 1) h.place ∙ ap (λ x. x + 1) p;
+      wrote = ap (λ es. es ++ seq_start ∷ []) h.wrote;
+    },
+  )
+
+  pub line_leaf : (fs : List BlockFrame) (evs : List Event) (m : ℕ) (shallow alone : Bool) (start s front : ℕ) → AtNodeLine W text from fs evs m shallow alone start
+      → spaces_before (rest text start) ≡ s → past_spaces (rest text start) ≡ rest text front → start + s ≡ front
+      → sign 45 (rest text front) && nat_le m (if shallow then suc s else s) ≡ false → nat_le m s ≡ true → first white (rest text front) ≡ false
+      → (line_starts text start ≡ true) ⊎ (rest text start ≡ []) → starts_line (line_starts text start) (taken white (rest text start)) ≡ line_starts text front
+      → AtLeaf W text from fs evs m (Some s) front
+  line_leaf fs evs m shallow alone start s front h c e p d l w f b =
+      let t : List ℕ = rest text start in
+      let plain : first white (past_spaces t) ≡ false = ap (first white) e ∙ w in
+      let blank : List ℕ = taken white t in
+      let long : byte_len blank ≡ s = ap byte_len (untabbed_taken t plain) ∙ (byte_len_spaces (spaces_before t) ∙ c) in
+      record {
+        sep = sep_after h.comments blank;
+        mapping = Some (on_lines h.comments s, s);
+        reads = h.reads ∙ ap (unwind fs)
+            (mapping_or_leaf_after m shallow h.bol (line_starts text start) (line_starts text front) h.comments t h.starts
+            (ap (λ u. sign 45 u && is_deep m shallow (spaces_before t)) e ∙ (ap (λ j. sign 45 (rest text front) && is_deep m shallow j) c ∙ d)) (ap (nat_le m) c ∙ l) plain h.lines b f
+            ∙ (ap (λ j. part_at (Some (on_lines h.comments j, j)) m (line_starts text front) (sep_after h.comments blank) (past_spaces t)) c
+            ∙ ap (part_at (Some (on_lines h.comments s, s)) m (line_starts text front) (sep_after h.comments blank)) e));
+        nested = h.nested;
+        pairs_is = refl;
+        may_sit = (refl, ap (λ x. x + s) h.place ∙ p);
+        place = sep_end (place_in fs from) start front h.comments blank h.place (ap (λ x. start + x) long ∙ p);
+        wrote = h.wrote;
+      }
+
+  pub line_leaf_after_tab : (fs : List BlockFrame) (evs : List Event) (m : ℕ) (shallow alone : Bool) (start s front lead : ℕ) → AtNodeLine W text from fs evs m shallow alone start
+      → spaces_before (rest text start) ≡ s → past_spaces (rest text start) ≡ rest text front
+      → sign 45 (rest text front) && nat_le m (if shallow then suc s else s) ≡ false → nat_le m s ≡ true → first white (rest text front) ≡ true
+      → dropped white (rest text start) ≡ rest text lead → start + byte_len (taken white (rest text start)) ≡ lead
+      → starts_line (line_starts text start) (taken white (rest text start)) ≡ line_starts text lead
+      → AtLeaf W text from fs evs m None lead
+  line_leaf_after_tab fs evs m shallow alone start s front lead h c e d l w drops p b =
+      let t : List ℕ = rest text start in
+      let deep : nat_le m (spaces_before t) ≡ true = ap (nat_le m) c ∙ l in
+      let blank : List ℕ = taken white t in
+      record {
+        sep = sep_after h.comments blank;
+        mapping = None;
+        reads = h.reads ∙ ap (unwind fs)
+            (leaf_alone_after m shallow h.bol (line_starts text start) (line_starts text lead) h.comments t h.starts
+            (ap (λ u. sign 45 u && is_deep m shallow (spaces_before t)) e ∙ (ap (λ j. sign 45 (rest text front) && is_deep m shallow j) c ∙ d))
+            (and_right _ _ (not_from_true _ (ap (first white) e ∙ w))) (or_right _ _ deep) h.lines b
+            ∙ ap (part_at None m (line_starts text lead) (sep_after h.comments blank)) drops);
+        nested = h.nested;
+        pairs_is = refl;
+        may_sit = tt;
+        place = sep_end (place_in fs from) start lead h.comments blank h.place p;
+        wrote = h.wrote;
+      }
+
+  pub line_leaf_alone : (fs : List BlockFrame) (evs : List Event) (m : ℕ) (shallow alone : Bool) (start s front lead : ℕ) → AtNodeLine W text from fs evs m shallow alone start
+      → spaces_before (rest text start) ≡ s → past_spaces (rest text start) ≡ rest text front
+      → sign 45 (rest text front) && nat_le m (if shallow then suc s else s) ≡ false → nat_le m s ≡ false → alone ≡ true
+      → dropped white (rest text start) ≡ rest text lead → start + byte_len (taken white (rest text start)) ≡ lead
+      → starts_line (line_starts text start) (taken white (rest text start)) ≡ line_starts text lead
+      → AtLeaf W text from fs evs m None lead
+  line_leaf_alone fs evs m shallow alone start s front lead h c e d l a drops p b =
+      let t : List ℕ = rest text start in
+      let deep : nat_le m (spaces_before t) ≡ false = ap (nat_le m) c ∙ l in
+      let blank : List ℕ = taken white t in
+      record {
+        sep = sep_after h.comments blank;
+        mapping = None;
+        reads = h.reads ∙ ap (unwind fs)
+            (leaf_alone_after m shallow h.bol (line_starts text start) (line_starts text lead) h.comments t h.starts
+            (ap (λ u. sign 45 u && is_deep m shallow (spaces_before t)) e ∙ (ap (λ j. sign 45 (rest text front) && is_deep m shallow j) c ∙ d))
+            (and_left _ _ deep) (or_left _ _ (h.alone_is ∙ a)) h.lines b
+            ∙ ap (part_at None m (line_starts text lead) (sep_after h.comments blank)) drops);
+        nested = h.nested;
+        pairs_is = refl;
+        may_sit = tt;
+        place = sep_end (place_in fs from) start lead h.comments blank h.place p;
+        wrote = h.wrote;
+      }
+
+  pub line_too_shallow : (fs : List BlockFrame) (evs : List Event) (m : ℕ) (shallow alone : Bool) (start s front : ℕ) → AtNodeLine W text from fs evs m shallow alone start
+      → spaces_before (rest text start) ≡ s → past_spaces (rest text start) ≡ rest text front
+      → sign 45 (rest text front) && nat_le m (if shallow then suc s else s) ≡ false → nat_le m s ≡ false → alone ≡ false → W ≡ None
+  line_too_shallow fs evs m shallow alone start s front h c e d l a =
+      let t : List ℕ = rest text start in
+      h.reads ∙ (ap (unwind fs)
+      (too_shallow_after m shallow h.bol h.comments t h.starts
+      (ap (λ u. sign 45 u && is_deep m shallow (spaces_before t)) e ∙ (ap (λ j. sign 45 (rest text front) && is_deep m shallow j) c ∙ d)) (ap (nat_le m) c ∙ l) (h.alone_is ∙ a))
+      ∙ unwind_none fs)
+
+  pub line_at_end : (fs : List BlockFrame) (evs : List Event) (m : ℕ) (shallow alone : Bool) (start front : ℕ) → AtNodeLine W text from fs evs m shallow alone start
+      → past_spaces (rest text start) ≡ rest text front → rest text front ≡ [] → W ≡ None
+  line_at_end fs evs m shallow alone start front h e n =
+      h.reads ∙ (ap (λ r. unwind fs (as_part r)) (nothing_after m shallow h.bol h.comments (rest text start) h.starts (e ∙ n)) ∙ unwind_none fs)
+
+  -- ---- on a line that goes on
+
+  pub node_on_line : (fs : List BlockFrame) (evs : List Event) (m : ℕ) (shallow : Bool) (at lead : ℕ) → AtNode W text from fs evs m shallow false at
+      → all_comments false (rest text at) ≡ ([], rest text at) → is_empty (taken white (rest text at)) ≡ false → dropped white (rest text at) ≡ rest text lead
+      → at + byte_len (taken white (rest text at)) ≡ lead → line_starts text lead ≡ false → AtLeaf W text from fs evs m None lead
+  node_on_line fs evs m shallow at lead h c w drops p b =
+      let t : List ℕ = rest text at in
+      record {
+        sep = inline (taken white t);
+        mapping = None;
+        reads = h.reads ∙ ap (unwind fs)
+            (leaf_on_line m shallow t c w ∙ (ap (part_at None m false (inline (taken white t))) drops ∙ ap (λ x. part_at None m x (inline (taken white t)) (rest text lead)) (sym b)));
+        nested = h.nested;
+        pairs_is = refl;
+        may_sit = tt;
+        place = ap (λ x. x + byte_len (taken white t)) h.place ∙ p;
+        wrote = h.wrote;
+      }
+
+  pub node_no_white : (fs : List BlockFrame) (evs : List Event) (m : ℕ) (shallow : Bool) (at : ℕ) → AtNode W text from fs evs m shallow false at
+      → all_comments false (rest text at) ≡ ([], rest text at) → first white (rest text at) ≡ false → W ≡ None
+  node_no_white fs evs m shallow at h c w =
+      h.reads ∙ (ap (unwind fs) (ap as_part (nothing_on_line m shallow (rest text at) c (untaken (rest text at) w))) ∙ unwind_none fs)

@@ -1,0 +1,144 @@
+-- The reader's own state, in terms of what is read of the open collections, and what a step of it leads to.
+use Rattle.std.specs.Prelude.{◌≡◌, ℕ, suc, ◌+◌, ◌-◌, ◌*◌, ◌<◌, ◌≤◌, Bool, true, false, not, List, [], ◌∷◌, ◌++◌, length, Some, None, if◌then◌else◌}
+use Rattle.std.specs.Str.{IsCharBoundary}
+use Rattle.yaml_chars.specs.Places.{rest}
+use Rattle.yaml_grammar.specs.Events as grammar
+use Rattle.yaml_grammar.specs.BlockNodes.{Indented}
+use Rattle.yaml_recognizers.specs.CanonicalComments.{is_line_end}
+use Rattle.yaml_recognizers.specs.Reading.{Read}
+use Rattle.yaml_recognizers.specs.BlockFrames.{BlockFrame}
+use Rattle.yaml_events.specs.Places.{line_starts}
+use Rattle.yaml_events.specs.declared.event.Event.{Event}
+use Rattle.yaml_events.specs.declared.context.BlockContext.{BlockContext}
+use Rattle.yaml_events.specs.declared.context.BlockContext.TheVariants.{Bin, Bout}
+use Rattle.yaml_scan.specs.Places.{AreSpaces}
+use Rattle.yaml_scan.specs.Lines.{IsLineStart}
+use Rattle.yaml_scan.specs.declared.lines.Line.{Line}
+use Rattle.yaml_flow.specs.FlowNodes.{Appended}
+use Rattle.yaml_block.specs.Frames.{waits_of, indent_of, AfterSign, AtPair, AtLine, AtNode, AtNodeLine, AtLeaf}
+use Rattle.yaml_block.specs.declared.frame.Waits.{Waits}
+use Rattle.yaml_block.specs.declared.frame.Sign.{Sign}
+use Rattle.yaml_block.specs.declared.frame.Collection.{Collection}
+use Rattle.yaml_block.specs.declared.frame.NextLine.{NextLine}
+use Rattle.yaml_block.specs.declared.frame.Indentation.{Indentation}
+use Rattle.yaml_block.specs.declared.frame.Leaf.{Leaf}
+use Rattle.yaml_block.specs.declared.frame.Next.{Next}
+use Rattle.yaml_block.specs.declared.frame.Next.TheVariants as next
+use Rattle.yaml_block.specs.declared.reader.Reader.{Reader}
+
+-- whether a sequence may stand as deep as its parent
+abbrev pub is_shallow : BlockContext → Bool
+is_shallow Bin = false
+is_shallow Bout = true
+
+-- ---- the open collections
+
+-- the code's collection has what the frame waits for, and its indentation
+pub record Keeps (collection : Collection) (frame : BlockFrame) : Type 0 where
+  pub waits : waits_of frame ≡ collection.waits
+  pub indent : indent_of frame ≡ collection.indent
+
+-- the frames, the innermost first, and the code's collections, the innermost last
+abbrev pub Stack : List BlockFrame → List Collection → Type 0
+Stack [] collections = collections ≡ []
+Stack (f ∷ fs) collections = (around : List Collection) × (innermost : Collection) × (collections ≡ around ++ innermost ∷ []) × Keeps innermost f × Stack fs around
+
+-- the second list begins with the first
+pub record Grown (old new : List Event) : Type 0 where
+  pub more : List Event
+  pub is : new ≡ old ++ more
+
+-- The reader's collections are these frames, and its events mean evs after those of the call's start.
+pub record Holds (text : List ℕ) (base : List Event) (fs : List BlockFrame) (evs : List grammar.Event) (reader : Reader) : Type 0 where
+  pub stack : Stack fs reader.collections.items
+  pub appended : Appended text base reader.events evs
+
+-- ---- places
+
+abbrev pub place_of : Next → ℕ
+place_of (next.After at indent sign) = at
+place_of (next.Pair at indent) = at
+place_of (next.Line after) = after.line.start
+
+-- what is left to do: at one place a line comes after a part, and a pair after a line
+abbrev pub left : List ℕ → Next → ℕ
+left text (next.After at indent sign) = 3 * (length text - at) + 2
+left text (next.Pair at indent) = 3 * (length text - at)
+left text (next.Line after) = 3 * (length text - after.line.start) + 1
+
+-- a place after a sign of a collection at this indentation
+pub record IsAfterSign (text : List ℕ) (indent at : ℕ) : Type 0 where
+  pub boundary : IsCharBoundary text at
+  pub deeper : indent < at
+  pub inside_line : line_starts text at ≡ false
+
+-- a place where a pair at this indentation may stand
+pub record IsPairPlace (text : List ℕ) (indent at : ℕ) : Type 0 where
+  pub boundary : IsCharBoundary text at
+  pub deep : indent ≤ at
+
+-- a line, and where its spaces end
+pub record IsLine (text : List ℕ) (line : Line) : Type 0 where
+  pub boundary : IsCharBoundary text line.start
+  pub spaces : AreSpaces text line.start line.first
+  pub starts : IsLineStart text line.start
+
+pub record IsNextLine (text : List ℕ) (after : NextLine) : Type 0 where
+  pub line : IsLine text after.line
+  pub solid : is_line_end (rest text after.line.start) ≡ not after.is_solid
+
+abbrev pub IsPlaced : List ℕ → Next → Type 0
+IsPlaced text (next.After at indent sign) = IsAfterSign text indent at
+IsPlaced text (next.Pair at indent) = IsPairPlace text indent at
+IsPlaced text (next.Line after) = IsNextLine text after
+
+-- the step leads on from the place, to less than the bound
+pub record Onward (text : List ℕ) (at bound : ℕ) (to : Next) : Type 0 where
+  pub above : at ≤ place_of to
+  pub less : left text to < bound
+  pub placed : IsPlaced text to
+
+-- ---- steps
+
+-- what the call reads, W, by what is read next
+abbrev pub Stands : Read Indented → List ℕ → ℕ → List BlockFrame → List grammar.Event → ℕ → Next → Type 0
+Stands W text from fs evs end (next.After at indent sign) = AfterSign W text from fs evs sign indent at
+Stands W text from fs evs end (next.Pair at indent) = AtPair W text from fs evs indent at
+Stands W text from fs evs end (next.Line after) = AtLine W text from fs evs after.line.start end
+
+-- the reader goes on there
+pub record GoesOn (W : Read Indented) (text : List ℕ) (from : ℕ) (base : List Event) (reader : Reader) (to : Next) : Type 0 where
+  pub fs : List BlockFrame
+  pub evs : List grammar.Event
+  pub holds : Holds text base fs evs reader
+  pub stands : Stands W text from fs evs reader.end to
+
+-- what holds before a step, of what the call reads, where its part begins, the frames and the events
+abbrev pub Before : Type 1
+Before = Read Indented → ℕ → List BlockFrame → List grammar.Event → Type 0
+
+abbrev pub BeforePart : List ℕ → Sign → ℕ → ℕ → Before
+BeforePart text sign k at W from fs evs = AfterSign W text from fs evs sign k at
+
+abbrev pub BeforePair : List ℕ → ℕ → ℕ → Before
+BeforePair text k at W from fs evs = AtPair W text from fs evs k at
+
+abbrev pub BeforeNode : List ℕ → ℕ → Bool → ℕ → Before
+BeforeNode text m shallow at W from fs evs = AtNode W text from fs evs m shallow (line_starts text at) at
+
+abbrev pub BeforeNodeLine : List ℕ → Indentation → ℕ → Before
+BeforeNodeLine text node start W from fs evs =
+    (alone : Bool) × (node.margin ≡ (if alone then 0 else node.least)) × AtNodeLine W text from fs evs node.least (is_shallow node.context) alone start
+
+abbrev pub BeforeLeaf : List ℕ → Leaf → Before
+BeforeLeaf text leaf W from fs evs = AtLeaf W text from fs evs leaf.least leaf.pairs leaf.at
+
+-- Whatever the call reads, and whatever is open around: from this state before the step leads to what is read next.
+abbrev pub Leads : List ℕ → Before → Reader → Reader → Next → Type 0
+Leads text Holding old new to =
+    (W : Read Indented) (from : ℕ) (base : List Event) (fs : List BlockFrame) (evs : List grammar.Event) → Holds text base fs evs old → Holding W from fs evs → GoesOn W text from base new to
+
+-- Whatever the call reads: in this state before the step it reads nothing.
+abbrev pub Fails : List ℕ → Before → Reader → Type 0
+Fails text Holding old =
+    (W : Read Indented) (from : ℕ) (base : List Event) (fs : List BlockFrame) (evs : List grammar.Event) → Holds text base fs evs old → Holding W from fs evs → W ≡ None

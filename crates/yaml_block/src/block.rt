@@ -1,0 +1,133 @@
+// A block scalar as a part.
+ghost use Rattle.std.specs.Prelude.{◌≡◌, ◌*◌, ◌+◌, ◌-◌, ◌^◌, ◌<◌, ◌≤◌, ◌≤ℤ◌, negsuc, true, IfOk, IfErr, IsTrue, length, if◌then◌else◌, ℕ, List};
+ghost use Rattle.std.specs.Cow.{cow_str_bytes};
+ghost use Rattle.std.specs.Str.{IsCharBoundary};
+ghost use Rattle.yaml_chars.specs.Places.{rest};
+ghost use Rattle.yaml_grammar.specs.Events.{literal_style, folded_style};
+ghost use Rattle.yaml_grammar.specs.Texts.{first};
+ghost use Rattle.yaml_recognizers.specs.BlockNodes.{bar};
+ghost use Rattle.yaml_recognizers.specs.BlockScalars.{digit_fits};
+ghost use Rattle.yaml_recognizers.specs.BlockScalarFacts.{NoBody};
+ghost use Rattle.yaml_events.specs.Meant.{style_of};
+ghost use Rattle.yaml_events.specs.Places.{Refuses};
+ghost use Rattle.yaml_block_scalars.specs.Found.{IsBodyAt};
+ghost use Rattle.yaml_block_scalars.specs.Meant.{least_indent};
+ghost use Rattle.yaml_scan.specs.Lines.{IsLineStart};
+ghost use Rattle.yaml_block.specs.States.{Grown, Onward, Leads, Fails, BeforeLeaf};
+ghost use Rattle.yaml_block.specs.Bodies.{IsBlockStyle, IsAfterScalar};
+
+use crate::frame::{Leaf, Next, NextLine};
+use crate::reader::Reader;
+use std::alloc::Global;
+use std::borrow::CowStr;
+use yaml_block_scalars::{Header, folded, header, literal};
+use yaml_events::{Event, ScanFault, Span, Style};
+use yaml_scan::{Line, comment_line_end, solid_line, spaces_end, stands_at};
+
+/// The lines of a block scalar after its header.
+#[derive(Drop)]
+pub(crate) struct Body<'a> {
+    pub style: Style,
+    pub value: CowStr<'a>,
+    /// Where they end.
+    pub end: usize,
+}
+
+impl<'a> Reader<'a> {
+    /// The block scalar of a leaf, with the comments after it.
+    pub(crate) fn block_scalar(&mut self, text: &'a str, leaf: Leaf) -> Result<Next, ScanFault>
+        requires at { IsCharBoundary text.now leaf.at }
+        requires least { leaf.least ≤ 2 ^ 63 }
+        requires begins { first bar (rest text.now leaf.at) ≡ true }
+        ensures onward { IfOk result (Onward text.now leaf.at (3 * (length text.now - leaf.at))) }
+        ensures leads { IfOk result (Leads text.now (BeforeLeaf text.now leaf) self.old self.new) }
+        ensures grown { Grown self.old.events self.new.events }
+        ensures none { IfErr result (λ fault. Refuses fault (Fails text.now (BeforeLeaf text.now leaf) self.old)) }
+    {
+        let (head, lines) = header(text, leaf.at)?;
+        let body = body_at(self.alloc, text, lines, leaf.least, &head)?;
+        let end = body.end;
+        self.put(Event::Scalar {
+            style: body.style,
+            span: Span {
+                start: leaf.at,
+                end,
+            },
+            value: body.value,
+        })?;
+        self.end = end;
+        Ok(Next::Line(line_after_scalar(text, end)))
+    }
+}
+
+/// The indentation below which lines of this least indentation stand; -1 is that of a document's top.
+fn indentation_below(least: usize) -> i64
+    requires { least ≤ 2 ^ 63 }
+    ensures low { negsuc 0 ≤ℤ result }
+    ensures least { least_indent result ≡ least }
+{
+    if least == 0 { -1 } else { (least - 1) as i64 }
+}
+
+/// The lines at `at` of the scalar with this header, literal or folded.
+fn body_at<'a>(
+    alloc: Global,
+    text: &'a str,
+    at: usize,
+    least: usize,
+    head: &Header,
+) -> Result<Body<'a>, ScanFault>
+    requires at { IsCharBoundary text.now at }
+    requires fits { least ≤ 2 ^ 63 }
+    requires starts { IsLineStart text.now at }
+    requires digit { IsTrue (digit_fits head.now.digit) }
+    ensures found { IfOk result (λ body. IsBodyAt least head.now.folded head.now text.now at (cow_str_bytes body.value) body.end) }
+    ensures style { IfOk result (λ body. IsBlockStyle head.now.folded body.style) }
+    ensures line { IfOk result (λ body. IsLineStart text.now body.end) }
+    ensures none { IfErr result (λ fault. Refuses fault (NoBody head.now.digit least (rest text.now at))) }
+{
+    let below = indentation_below(least);
+    if head.folded {
+        let (value, end) = folded(alloc, text, at, below, head)?;
+        return Ok(Body {
+            style: Style::Folded,
+            value,
+            end,
+        });
+    }
+    let (value, end) = literal(alloc, text, at, below, head)?;
+    Ok(Body {
+        style: Style::Literal,
+        value,
+        end,
+    })
+}
+
+/// The line after a block scalar whose lines end at `at`. A comment line belongs to the scalar where no TAB stands before its `#`,
+/// and then all lines of comments after it do. Other lines of white space or comments end all that is open.
+fn line_after_scalar(text: &str, at: usize) -> NextLine
+    requires at { IsCharBoundary text.now at }
+    requires starts { IsLineStart text.now at }
+    ensures { IsAfterScalar text.now at result }
+{
+    let first = spaces_end(text, at);
+    let line = Line { start: at, first };
+    match comment_line_end(text, at) {
+        None => NextLine {
+            line,
+            is_solid: true,
+        },
+        Some(_) => {
+            if stands_at(text, first, b'#') {
+                return NextLine {
+                    line: solid_line(text, at),
+                    is_solid: true,
+                };
+            }
+            NextLine {
+                line,
+                is_solid: false,
+            }
+        }
+    }
+}

@@ -1,0 +1,79 @@
+// The open collections around a place, and what is read next.
+use yaml_events::BlockContext;
+use yaml_scan::Line;
+
+/// What an open collection waits for.
+#[derive(Clone, Copy, PartialEq, Eq)]
+pub(crate) enum Waits {
+    /// An item of a sequence.
+    Item,
+    /// The key after a `?`.
+    Key,
+    /// The value of a pair.
+    Value,
+}
+
+/// The sign that a part stands after.
+#[derive(Clone, Copy, PartialEq, Eq)]
+pub(crate) enum Sign {
+    /// `-`: a compact collection may stand on its line.
+    Dash,
+    /// `?`, or the `:` of its value: the same, and a sequence may stand as deep as the mapping.
+    Asked,
+    /// The `:` of a key on its line: no compact collection may stand there.
+    Colon,
+}
+
+/// An open collection.
+#[derive(Clone, Copy)]
+pub(crate) struct Collection {
+    pub waits: Waits,
+    /// How many spaces its items or pairs are indented by.
+    pub indent: usize,
+}
+
+/// The line after a part.
+#[derive(Clone, Copy)]
+pub(crate) struct NextLine {
+    pub line: Line,
+    /// Whether it holds more than white space and a comment. Only after a block scalar it may not.
+    pub is_solid: bool,
+}
+
+/// What is read next.
+#[derive(Clone, Copy)]
+pub(crate) enum Next {
+    /// The part after a sign of the innermost collection, which has this indentation.
+    After {
+        at: usize,
+        indent: usize,
+        sign: Sign,
+    },
+    /// A pair of a mapping with this indentation.
+    Pair {
+        at: usize,
+        indent: usize,
+    },
+    /// The line after a part that has been read.
+    Line(NextLine),
+}
+
+/// How far a node at the start of a line is indented.
+#[derive(Clone, Copy)]
+pub(crate) struct Indentation {
+    /// The least indentation of the node's lines.
+    pub least: usize,
+    /// How many spaces a leaf on this line stands after at least: none where no comment stands before the line.
+    pub margin: usize,
+    pub context: BlockContext,
+}
+
+/// Where a scalar, a flow collection or the first pair of a mapping may stand.
+#[derive(Clone, Copy)]
+pub(crate) struct Leaf {
+    pub at: usize,
+    /// The least indentation of its further lines.
+    pub least: usize,
+    /// The indentation of a mapping that begins here, if one may.
+    pub pairs: Option<usize>,
+}

@@ -1,0 +1,137 @@
+// A scalar, a flow collection, or the first pair of a mapping.
+ghost use Rattle.std.specs.Prelude.{◌≡◌, ◌*◌, ◌+◌, ◌-◌, ◌^◌, ◌<◌, ◌≤◌, ◌≤ℤ◌, negsuc, true, false, [], ◌∷◌, ◌++◌, ◌⊎◌, Some, None, ◌&&◌, nat_le, IfSome, IfOk, IfErr, OnOk, length};
+ghost use Rattle.std.specs.Str.{IsCharBoundary};
+ghost use Rattle.yaml_chars.specs.Places.{rest, between};
+ghost use Rattle.yaml_grammar.specs.Texts.{first};
+ghost use Rattle.yaml_recognizers.specs.BlockNodes.{bar};
+ghost use Rattle.yaml_recognizers.specs.Fronts.{sign};
+ghost use Rattle.yaml_events.specs.Places.{Refuses, line_starts};
+ghost use Rattle.yaml_block_scalars.specs.Meant.{least_indent};
+ghost use Rattle.yaml_scan.specs.Places.{unbroken_between};
+ghost use Rattle.yaml_block.specs.States.{Grown, IsNextLine, Onward, Leads, Fails, BeforeLeaf};
+
+use crate::frame::{Leaf, Next, NextLine, Sign, Waits};
+use crate::reader::Reader;
+use crate::refusal::{line_goes_on, no_node, refusal};
+use yaml_events::{Event, FlowContext, ScanFault, Why};
+use yaml_flow::{KEY_LIMIT, flow_node};
+use yaml_scan::{at_most_chars, has_break, line_after, sign_at, stands_at, white_end};
+
+impl<'a> Reader<'a> {
+    /// A scalar, a flow collection, or the first pair of a mapping.
+    pub(crate) fn leaf(&mut self, text: &'a str, leaf: Leaf) -> Result<Next, ScanFault>
+        requires at { IsCharBoundary text.now leaf.at }
+        requires least { leaf.least ≤ 2 ^ 63 }
+        requires pairs { IfSome leaf.pairs (λ indent. indent ≤ leaf.at) }
+        ensures onward { IfOk result (Onward text.now leaf.at (3 * (length text.now - leaf.at))) }
+        ensures leads { IfOk result (Leads text.now (BeforeLeaf text.now leaf) self.old self.new) }
+        ensures grown { Grown self.old.events self.new.events }
+        ensures none { IfErr result (λ fault. Refuses fault (Fails text.now (BeforeLeaf text.now leaf) self.old)) }
+    {
+        if begins_block_scalar(text, leaf.at) {
+            return self.block_scalar(text, leaf);
+        }
+        match leaf.pairs {
+            Some(indent) => {
+                if sign_at(text, leaf.at, b'?') {
+                    return self.first_asked(leaf.at, indent);
+                }
+            }
+            None => {}
+        }
+        self.flow_leaf(text, leaf)
+    }
+
+    /// A mapping whose first key stands after the `?` at this place.
+    fn first_asked(&mut self, at: usize, indent: usize) -> Result<Next, ScanFault>
+        requires fits { at < 2 ^ 63 }
+        ensures next { IfOk result (λ next. next ≡ Next.After (at + 1) indent Sign.Asked) }
+        ensures collections { OnOk result (self.new.collections.items ≡ self.old.collections.items ++ (record { waits = Waits.Key; indent = indent }) ∷ []) }
+        ensures events { OnOk result (self.new.events ≡ self.old.events ++ Event.MapStart ∷ []) }
+        ensures grown { Grown self.old.events self.new.events }
+        ensures none { IfErr result (λ fault. Refuses fault ⊥) }
+    {
+        self.open(Waits::Key, indent, Event::MapStart)?;
+        Ok(Next::After {
+            at: at + 1,
+            indent,
+            sign: Sign::Asked,
+        })
+    }
+
+    /// A flow node, which may be the key of the first pair of a mapping.
+    fn flow_leaf(&mut self, text: &'a str, leaf: Leaf) -> Result<Next, ScanFault>
+        requires at { IsCharBoundary text.now leaf.at }
+        requires pairs { IfSome leaf.pairs (λ indent. indent ≤ leaf.at) }
+        requires no_bar { first bar (rest text.now leaf.at) ≡ false }
+        requires not_asked { IfSome leaf.pairs (λ indent. sign 63 (rest text.now leaf.at) ≡ false) }
+        ensures onward { IfOk result (Onward text.now leaf.at (3 * (length text.now - leaf.at))) }
+        ensures leads { IfOk result (Leads text.now (BeforeLeaf text.now leaf) self.old self.new) }
+        ensures grown { Grown self.old.events self.new.events }
+        ensures none { IfErr result (λ fault. Refuses fault (Fails text.now (BeforeLeaf text.now leaf) self.old)) }
+    {
+        let before = self.events.as_slice().len();
+        let end = match flow_node(
+            self.alloc,
+            &mut self.events,
+            text,
+            leaf.at,
+            leaf.least as u64,
+            FlowContext::Outer,
+        ) {
+            Ok(end) => end,
+            Err(fault) => return Err(no_node(text, leaf.at, fault)),
+        };
+        let colon = white_end(text, end);
+        if sign_at(text, colon, b':') {
+            let indent = key_indent(text, leaf, end, colon)?;
+            self.put_before(before, Event::MapStart)?;
+            self.wait(Waits::Value, indent)?;
+            return Ok(Next::After {
+                at: colon + 1,
+                indent,
+                sign: Sign::Colon,
+            });
+        }
+        self.end = end;
+        match line_after(text, end) {
+            Some(line) => Ok(Next::Line(NextLine {
+                line,
+                is_solid: true,
+            })),
+            None => Err(line_goes_on(text, end, colon)),
+        }
+    }
+}
+
+/// Whether a block scalar begins at a place: with `|` or `>`.
+fn begins_block_scalar(text: &str, at: usize) -> bool
+    requires { IsCharBoundary text.now at }
+    ensures { result ≡ first bar (rest text.now at) }
+{
+    stands_at(text, at, b'|') || stands_at(text, at, b'>')
+}
+
+/// The indentation of the mapping whose first key is the flow node of the leaf, which ends at `end` and has its `:` at `colon`: a
+/// mapping may begin there, the node has no further line, and it is short (8.2.2).
+fn key_indent(text: &str, leaf: Leaf, end: usize, colon: usize) -> Result<usize, ScanFault>
+    requires at { IsCharBoundary text.now leaf.at }
+    requires end { IsCharBoundary text.now end }
+    requires colon { IsCharBoundary text.now colon }
+    requires order { leaf.at ≤ end }
+    requires gap { end ≤ colon }
+    ensures pairs { IfOk result (λ indent. leaf.pairs ≡ Some indent) }
+    ensures fits { OnOk result (unbroken_between text.now leaf.at end && nat_le (length (between text.now leaf.at colon)) KEY_LIMIT ≡ true) }
+    ensures none { IfErr result (λ fault. (leaf.pairs ≡ None) ⊎ (unbroken_between text.now leaf.at end && nat_le (length (between text.now leaf.at colon)) KEY_LIMIT ≡ false)) }
+{
+    let Some(indent) = leaf.pairs else {
+        return Err(refusal(colon, Why::Key));
+    };
+    if has_break(text, leaf.at, end) {
+        return Err(refusal(leaf.at, Why::Key));
+    }
+    if !at_most_chars(text, leaf.at, colon, KEY_LIMIT) {
+        return Err(refusal(leaf.at, Why::Key));
+    }
+    Ok(indent)
+}

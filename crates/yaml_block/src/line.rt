@@ -1,0 +1,97 @@
+// A node at the start of a line.
+ghost use Rattle.std.specs.Prelude.{◌≡◌, ◌*◌, ◌+◌, ◌-◌, ◌^◌, ◌<◌, ◌≤◌, suc, true, false, [], ◌∷◌, ◌++◌, nat_le, ◌&&◌, IfOk, IfErr, OnOk, length, if◌then◌else◌};
+ghost use Rattle.std.specs.Str.{IsCharBoundary};
+ghost use Rattle.yaml_chars.specs.Places.{rest};
+ghost use Rattle.yaml_recognizers.specs.CanonicalComments.{is_line_end};
+ghost use Rattle.yaml_recognizers.specs.Fronts.{sign};
+ghost use Rattle.yaml_events.specs.Places.{Refuses};
+ghost use Rattle.yaml_block.specs.States.{Grown, IsLine, Onward, Leads, Fails, BeforeNodeLine, is_shallow};
+
+use crate::frame::{Indentation, Leaf, Next, Sign, Waits};
+use crate::reader::Reader;
+use crate::refusal::too_shallow;
+use yaml_events::{BlockContext, Event, ScanFault};
+use yaml_scan::{Line, sign_at, white_end};
+
+impl Indentation {
+    /// Whether a sequence may stand after so many spaces.
+    fn fits_sequence(self, spaces: usize) -> bool
+        ensures { result ≡ nat_le self.least (if is_shallow self.context then suc spaces else spaces) }
+    {
+        match self.context {
+            BlockContext::Bin => self.least <= spaces,
+            BlockContext::Bout => self.least.saturating_sub(1) <= spaces,
+        }
+    }
+
+    /// Whether the line begins with a `-` of a sequence.
+    fn begins_sequence(self, text: &str, line: Line) -> bool
+        requires { IsLine text.now line }
+        ensures { result ≡ sign 45 (rest text.now line.first) && nat_le self.least (if is_shallow self.context then suc (line.first - line.start) else line.first - line.start) }
+    {
+        sign_at(text, line.first, b'-') && self.fits_sequence(line.first - line.start)
+    }
+}
+
+impl<'a> Reader<'a> {
+    /// A node at the start of a line.
+    pub(crate) fn on_line(
+        &mut self,
+        text: &'a str,
+        line: Line,
+        node: Indentation,
+    ) -> Result<Next, ScanFault>
+        requires line { IsLine text.now line }
+        requires solid { is_line_end (rest text.now line.start) ≡ false }
+        requires fits { length text.now < 2 ^ 63 }
+        requires least { node.least ≤ 2 ^ 63 }
+        ensures onward { IfOk result (Onward text.now line.start (3 * (length text.now - line.start))) }
+        ensures leads { IfOk result (Leads text.now (BeforeNodeLine text.now node line.start) self.old self.new) }
+        ensures grown { Grown self.old.events self.new.events }
+        ensures none { IfErr result (λ fault. Refuses fault (Fails text.now (BeforeNodeLine text.now node line.start) self.old)) }
+    {
+        let spaces = line.first - line.start;
+        if node.begins_sequence(text, line) {
+            return self.open_items(line.first, spaces);
+        }
+        if spaces < node.margin {
+            return Err(too_shallow(text, line));
+        }
+        let first = white_end(text, line.first);
+        if spaces < node.least || line.first < first {
+            return self.leaf(
+                text,
+                Leaf {
+                    at: first,
+                    least: node.least,
+                    pairs: None,
+                },
+            );
+        }
+        self.leaf(
+            text,
+            Leaf {
+                at: first,
+                least: node.least,
+                pairs: Some(spaces),
+            },
+        )
+    }
+
+    /// A sequence, whose first `-` stands at `dash`.
+    pub(crate) fn open_items(&mut self, dash: usize, indent: usize) -> Result<Next, ScanFault>
+        requires fits { dash < 2 ^ 63 }
+        ensures next { IfOk result (λ next. next ≡ Next.After (dash + 1) indent Sign.Dash) }
+        ensures collections { OnOk result (self.new.collections.items ≡ self.old.collections.items ++ (record { waits = Waits.Item; indent = indent }) ∷ []) }
+        ensures events { OnOk result (self.new.events ≡ self.old.events ++ Event.SeqStart ∷ []) }
+        ensures grown { Grown self.old.events self.new.events }
+        ensures none { IfErr result (λ fault. Refuses fault ⊥) }
+    {
+        self.open(Waits::Item, indent, Event::SeqStart)?;
+        Ok(Next::After {
+            at: dash + 1,
+            indent,
+            sign: Sign::Dash,
+        })
+    }
+}

@@ -1,0 +1,173 @@
+// A whole block node.
+ghost use Rattle.std.specs.Prelude.{◌≡◌, ℕ, ◌*◌, ◌+◌, ◌-◌, ◌^◌, ◌<◌, ◌≤◌, ◌≤ℤ◌, negsuc, List, [], None, true, IfOk, IfErr, length};
+ghost use Rattle.std.specs.Str.{IsCharBoundary};
+ghost use Rattle.yaml_chars.specs.Places.{rest};
+ghost use Rattle.yaml_recognizers.specs.Recognizers.{block_node_at};
+ghost use Rattle.yaml_recognizers.specs.StandingNodes.{NoBlockNode};
+ghost use Rattle.yaml_events.specs.Places.{Refuses, line_starts};
+ghost use Rattle.yaml_block_scalars.specs.Meant.{least_indent};
+ghost use Rattle.yaml_block.specs.Found.{BlockNodeRead, IsEachBlockNode};
+ghost use Rattle.yaml_block.specs.States.{Grown, Onward, Leads, Fails, BeforeNode, is_shallow};
+
+use crate::frame::{Indentation, Leaf, Next};
+use crate::reader::Reader;
+use crate::refusal::{no_white, refusal};
+use std::alloc::Global;
+use std::mem;
+use yaml_events::{BlockContext, Events, ScanFault, Why};
+use yaml_scan::{line_starts, rest_of_line_end, solid_line, white_end};
+
+impl<'a> Reader<'a> {
+    /// The front of the outermost node.
+    fn front(
+        &mut self,
+        text: &'a str,
+        at: usize,
+        least: usize,
+        context: BlockContext,
+    ) -> Result<Next, ScanFault>
+        requires at { IsCharBoundary text.now at }
+        requires least { least ≤ 2 ^ 63 }
+        ensures fits { length text.now < 2 ^ 63 }
+        ensures onward { IfOk result (Onward text.now at (3 * (length text.now - at))) }
+        ensures leads { IfOk result (Leads text.now (BeforeNode text.now least (is_shallow context) at) self.old self.new) }
+        ensures grown { Grown self.old.events self.new.events }
+        ensures none { IfErr result (λ fault. Refuses fault (Fails text.now (BeforeNode text.now least (is_shallow context) at) self.old)) }
+    {
+        if at == text.len() {
+            return Err(refusal(at, Why::Other));
+        }
+        if line_starts(text, at) {
+            return self.front_line(text, at, least, context);
+        }
+        if let Some(next) = rest_of_line_end(text, at) {
+            let line = solid_line(text, next);
+            return self.on_line(
+                text,
+                line,
+                Indentation {
+                    least,
+                    margin: least,
+                    context,
+                },
+            );
+        }
+        let first = white_end(text, at);
+        if first == at {
+            return Err(no_white(text, at));
+        }
+        self.leaf(
+            text,
+            Leaf {
+                at: first,
+                least,
+                pairs: None,
+            },
+        )
+    }
+
+    /// The same where a line starts at the place.
+    fn front_line(
+        &mut self,
+        text: &'a str,
+        at: usize,
+        least: usize,
+        context: BlockContext,
+    ) -> Result<Next, ScanFault>
+        requires at { IsCharBoundary text.now at }
+        requires least { least ≤ 2 ^ 63 }
+        requires fits { length text.now < 2 ^ 63 }
+        requires starts { line_starts text.now at ≡ true }
+        ensures onward { IfOk result (Onward text.now at (3 * (length text.now - at))) }
+        ensures leads { IfOk result (Leads text.now (BeforeNode text.now least (is_shallow context) at) self.old self.new) }
+        ensures grown { Grown self.old.events self.new.events }
+        ensures none { IfErr result (λ fault. Refuses fault (Fails text.now (BeforeNode text.now least (is_shallow context) at) self.old)) }
+    {
+        let line = solid_line(text, at);
+        // Where no comment stands before the line, its leaf needs no spaces.
+        let margin = if line.start == at { 0 } else { least };
+        self.on_line(
+            text,
+            line,
+            Indentation {
+                least,
+                margin,
+                context,
+            },
+        )
+    }
+
+    /// The whole node; returns the place after it and the comments that belong to it.
+    fn node(
+        &mut self,
+        text: &'a str,
+        at: usize,
+        least: usize,
+        context: BlockContext,
+    ) -> Result<usize, ScanFault>
+        requires at { IsCharBoundary text.now at }
+        requires least { least ≤ 2 ^ 63 }
+        requires none_open { self.old.collections.items ≡ [] }
+        ensures reads { IfOk result (BlockNodeRead least (is_shallow context) text.now at self.old.events self.new.events) }
+        ensures only { IfOk result (IsEachBlockNode least (is_shallow context) text.now at self.old.events self.new.events) }
+        ensures grown { Grown self.old.events self.new.events }
+        ensures missing { IfErr result (λ fault. Refuses fault (block_node_at least (is_shallow context) (line_starts text.now at) (rest text.now at) ≡ None)) }
+        ensures none { IfErr result (λ fault. Refuses fault (NoBlockNode least (is_shallow context) (line_starts text.now at) (rest text.now at))) }
+    {
+        let mut next = self.front(text, at, least, context)?;
+        'parts: loop {
+            next = match next {
+                Next::After { at, indent, sign } => self.after_sign(text, at, indent, sign)?,
+                Next::Pair { at, indent } => self.pair(text, at, indent)?,
+                Next::Line(after) => match self.unwind(text, after)? {
+                    Some(next) => next,
+                    None => return Ok(after.line.start),
+                },
+            };
+        }
+    }
+}
+
+/// The least indentation of a node below an indentation of `n`.
+fn least_indent(n: i64) -> usize
+    requires { negsuc 0 ≤ℤ n }
+    ensures value { result ≡ least_indent n }
+    ensures fits { result ≤ 2 ^ 63 }
+{
+    if n < 0 { 0 } else { n as usize + 1 }
+}
+
+/// Reads the block node at `at`, appends its events, and returns the place after it (YAML 1.2.2, 8.2).
+///
+/// `at` counts bytes from 0 and is on a boundary of a character. The node stands below an indentation of `n`, which is -1 at the top
+/// of a document; in the context `Bout` it may also be a sequence as deep as `n`. The place that is returned is after the comments
+/// that belong to the node: a line starts there, or the text ends.
+///
+/// Returns [`ScanFault::At`] where no block node stands, and [`ScanFault::OutOfMemory`] where there is no memory for events, for
+/// values or for the stack of open collections. The events are then as they were.
+pub fn block_node<'a>(
+    alloc: Global,
+    events: &mut Events<'a>,
+    text: &'a str,
+    at: usize,
+    n: i64,
+    context: BlockContext,
+) -> Result<usize, ScanFault>
+    requires at { IsCharBoundary text.now at }
+    requires below { negsuc 0 ≤ℤ n }
+    ensures reads { IfOk result (BlockNodeRead (least_indent n) (is_shallow context) text.now at events.old events.new) }
+    ensures only { IfOk result (IsEachBlockNode (least_indent n) (is_shallow context) text.now at events.old events.new) }
+    ensures missing { IfErr result (λ fault. Refuses fault (block_node_at (least_indent n) (is_shallow context) (line_starts text.now at) (rest text.now at) ≡ None)) }
+    ensures none { IfErr result (λ fault. Refuses fault (NoBlockNode (least_indent n) (is_shallow context) (line_starts text.now at) (rest text.now at))) }
+    ensures unchanged { IfErr result (λ _. events.new ≡ events.old) }
+{
+    let kept = events.as_slice().len();
+    let mut reader = Reader::new(alloc, at);
+    mem::swap(events, &mut reader.events);
+    let result = reader.node(text, at, least_indent(n), context);
+    mem::swap(events, &mut reader.events);
+    if result.is_err() {
+        events.truncate(kept);
+    }
+    result
+}

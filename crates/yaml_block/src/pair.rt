@@ -1,0 +1,60 @@
+// A further pair of a mapping.
+ghost use Rattle.std.specs.Prelude.{◌≡◌, ◌*◌, ◌+◌, ◌-◌, ◌^◌, ◌<◌, ◌≤◌, IfOk, IfErr, length};
+ghost use Rattle.yaml_events.specs.Places.{Refuses};
+ghost use Rattle.yaml_block.specs.States.{Grown, IsPairPlace, Onward, Leads, Fails, BeforePair};
+
+use crate::frame::{Next, Sign, Waits};
+use crate::reader::Reader;
+use crate::refusal::{no_node, refusal};
+use yaml_events::{FlowContext, ScanFault, Why};
+use yaml_flow::{KEY_LIMIT, flow_node};
+use yaml_scan::{at_most_chars, sign_at, white_end};
+
+impl<'a> Reader<'a> {
+    /// A pair of a mapping that is open: its key on one line with the `:`, or its `?`.
+    pub(crate) fn pair(
+        &mut self,
+        text: &'a str,
+        at: usize,
+        indent: usize,
+    ) -> Result<Next, ScanFault>
+        requires placed { IsPairPlace text.now indent at }
+        ensures onward { IfOk result (Onward text.now at (3 * (length text.now - at))) }
+        ensures leads { IfOk result (Leads text.now (BeforePair text.now indent at) self.old self.new) }
+        ensures grown { Grown self.old.events self.new.events }
+        ensures none { IfErr result (λ fault. Refuses fault (Fails text.now (BeforePair text.now indent at) self.old)) }
+    {
+        if sign_at(text, at, b'?') {
+            self.wait(Waits::Key, indent)?;
+            return Ok(Next::After {
+                at: at + 1,
+                indent,
+                sign: Sign::Asked,
+            });
+        }
+        let end = match flow_node(
+            self.alloc,
+            &mut self.events,
+            text,
+            at,
+            0,
+            FlowContext::BlockKey,
+        ) {
+            Ok(end) => end,
+            Err(fault) => return Err(no_node(text, at, fault)),
+        };
+        let colon = white_end(text, end);
+        if !sign_at(text, colon, b':') {
+            return Err(refusal(at, Why::Key));
+        }
+        if !at_most_chars(text, at, colon, KEY_LIMIT) {
+            return Err(refusal(at, Why::Key));
+        }
+        self.wait(Waits::Value, indent)?;
+        Ok(Next::After {
+            at: colon + 1,
+            indent,
+            sign: Sign::Colon,
+        })
+    }
+}

@@ -1,0 +1,106 @@
+// A block node that is being read.
+ghost use Rattle.std.specs.Prelude.{◌≡◌, ◌≤◌, List, ◌++◌, [], ◌∷◌, length, insert, IfErr, OnErr, OnOk, MatchBool};
+ghost use Rattle.yaml_events.specs.Places.{Refuses};
+ghost use Rattle.yaml_recognizers.specs.BlockFrames.{BlockFrame};
+ghost use Rattle.yaml_block.specs.Frames.{waits_of};
+ghost use Rattle.yaml_block.specs.States.{Grown, Stack};
+
+use crate::frame::{Collection, Waits};
+use std::alloc::Global;
+use yaml_events::{Event, Events, ScanFault};
+
+/// A block node that is being read.
+#[derive(Drop)]
+pub(crate) struct Reader<'a> {
+    pub alloc: Global,
+    /// The events so far.
+    pub events: Events<'a>,
+    /// The open collections, the innermost last.
+    pub collections: Vec<Collection>,
+    /// Where the last part ended: its last scalar or closing bracket, or the place where a value is left out.
+    pub end: usize,
+}
+
+impl<'a> Reader<'a> {
+    /// A reader with no events, before a node at a place. It takes no memory.
+    pub(crate) fn new(alloc: Global, at: usize) -> Self
+        ensures events { result.events ≡ [] }
+        ensures collections { result.collections.items ≡ [] }
+    {
+        Reader {
+            alloc,
+            events: Events::new(alloc),
+            collections: Vec::new(alloc),
+            end: at,
+        }
+    }
+
+    /// Appends an event.
+    pub(crate) fn put(&mut self, event: Event<'a>) -> Result<(), ScanFault>
+        ensures events { OnOk result (self.new.events ≡ self.old.events ++ event.entry ∷ []) }
+        ensures collections { self.new.collections ≡ self.old.collections }
+        ensures end { self.new.end ≡ self.old.end }
+        ensures grown { Grown self.old.events self.new.events }
+        ensures none { IfErr result (λ fault. Refuses fault ⊥) }
+    {
+        match self.events.push(event) {
+            Ok(()) => Ok(()),
+            Err(_) => Err(ScanFault::OutOfMemory),
+        }
+    }
+
+    /// Puts an event before the one at `place`, counted from 0.
+    pub(crate) fn put_before(&mut self, place: usize, event: Event<'a>) -> Result<(), ScanFault>
+        requires place { place ≤ length self.old.events }
+        ensures events { OnOk result (self.new.events ≡ insert self.old.events place event.entry) }
+        ensures back { OnErr result (self.new.events ≡ self.old.events) }
+        ensures collections { self.new.collections ≡ self.old.collections }
+        ensures end { self.new.end ≡ self.old.end }
+        ensures none { IfErr result (λ fault. Refuses fault ⊥) }
+    {
+        match self.events.insert(place, event) {
+            Ok(()) => Ok(()),
+            Err(_) => Err(ScanFault::OutOfMemory),
+        }
+    }
+
+    /// Opens a collection with this indentation, or goes on with it.
+    pub(crate) fn wait(&mut self, waits: Waits, indent: usize) -> Result<(), ScanFault>
+        ensures collections { OnOk result (self.new.collections.items ≡ self.old.collections.items ++ (record { waits = waits; indent = indent }) ∷ []) }
+        ensures events { self.new.events ≡ self.old.events }
+        ensures end { self.new.end ≡ self.old.end }
+        ensures none { IfErr result (λ fault. Refuses fault ⊥) }
+    {
+        match self.collections.push(Collection { waits, indent }) {
+            Ok(()) => Ok(()),
+            Err(_) => Err(ScanFault::OutOfMemory),
+        }
+    }
+
+    /// Opens a collection with this indentation, whose first event is `start`.
+    pub(crate) fn open(
+        &mut self,
+        waits: Waits,
+        indent: usize,
+        start: Event<'a>,
+    ) -> Result<(), ScanFault>
+        ensures collections { OnOk result (self.new.collections.items ≡ self.old.collections.items ++ (record { waits = waits; indent = indent }) ∷ []) }
+        ensures events { OnOk result (self.new.events ≡ self.old.events ++ start.entry ∷ []) }
+        ensures end { self.new.end ≡ self.old.end }
+        ensures grown { Grown self.old.events self.new.events }
+        ensures none { IfErr result (λ fault. Refuses fault ⊥) }
+    {
+        self.put(start)?;
+        self.wait(waits, indent)
+    }
+
+    /// Whether the innermost collection waits for a key.
+    pub(crate) fn waits_for_key(&self) -> bool
+        ensures { (f : BlockFrame) (fs : List BlockFrame) → Stack (f ∷ fs) self.now.collections.items → MatchBool result (waits_of f ≡ Waits.Key) (waits_of f ≡ Waits.Key → ⊥) }
+    {
+        match self.collections.as_slice().last() {
+            Some(collection) => collection.waits == Waits::Key,
+            None => false,
+        }
+    }
+}

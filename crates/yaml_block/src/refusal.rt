@@ -1,0 +1,63 @@
+// Why no block node stands at a place.
+ghost use Rattle.std.specs.Prelude.{◌≡◌};
+ghost use Rattle.std.specs.Str.{IsCharBoundary};
+
+use yaml_chars::{next_char, ns};
+use yaml_events::{ScanFault, Why};
+use yaml_scan::{Line, is_marker, sign_at};
+
+pub(crate) fn refusal(at: usize, why: Why) -> ScanFault {
+    ScanFault::At { at, why }
+}
+
+/// The refusal where white space should stand at a place.
+pub(crate) fn no_white(text: &str, at: usize) -> ScanFault
+    requires { IsCharBoundary text.now at }
+{
+    match next_char(text, at) {
+        Some(('\u{feff}', _)) => refusal(at, Why::ByteOrderMark),
+        _ => refusal(at, Why::Character),
+    }
+}
+
+/// The refusal where the line of a node that ends at `end` goes on at `at` with something else than a comment.
+pub(crate) fn line_goes_on(text: &str, end: usize, at: usize) -> ScanFault
+    requires { IsCharBoundary text.now at }
+{
+    let why = match next_char(text, at) {
+        Some((':', _)) => Why::Key,
+        Some(('\u{feff}', _)) => Why::ByteOrderMark,
+        Some(('#', _)) => Why::Other,
+        Some((c, _)) => { if ns(c) { Why::Other } else { Why::Character } }
+        None => Why::Other,
+    };
+    refusal(at, why)
+}
+
+/// The refusal of a line that is indented too little.
+pub(crate) fn too_shallow(text: &str, line: Line) -> ScanFault
+    requires { IsCharBoundary text.now line.start }
+{
+    if is_marker(text, line.start) {
+        refusal(line.first, Why::Marker)
+    } else {
+        refusal(line.first, Why::Indent)
+    }
+}
+
+/// The refusal of a node at a place: where a `:` stands there, its key is left out.
+pub(crate) fn no_node(text: &str, at: usize, fault: ScanFault) -> ScanFault
+    requires { IsCharBoundary text.now at }
+    ensures { fault ≡ ScanFault.OutOfMemory → result ≡ ScanFault.OutOfMemory }
+{
+    match fault {
+        ScanFault::OutOfMemory => fault,
+        ScanFault::At { .. } => {
+            if sign_at(text, at, b':') {
+                refusal(at, Why::OmittedKey)
+            } else {
+                fault
+            }
+        }
+    }
+}

@@ -1,0 +1,164 @@
+// What stands after a sign of a collection.
+ghost use Rattle.std.specs.Prelude.{◌≡◌, ◌*◌, ◌+◌, ◌-◌, ◌^◌, ◌<◌, ◌≤◌, suc, true, false, [], ◌&&◌, not, nat_lt, ◌==◌, nat_le, IfOk, IfErr, length};
+ghost use Rattle.std.specs.Str.{IsCharBoundary};
+ghost use Rattle.yaml_chars.specs.Places.{rest};
+ghost use Rattle.yaml_recognizers.specs.Comments.{all_comments, closes_line};
+ghost use Rattle.yaml_recognizers.specs.CanonicalComments.{is_line_end};
+ghost use Rattle.yaml_recognizers.specs.Ends.{ended};
+ghost use Rattle.yaml_events.specs.Places.{Refuses};
+ghost use Rattle.yaml_scan.specs.Lines.{IsLineStart, IsSolidLine};
+ghost use Rattle.yaml_block.specs.Frames.{is_colon, is_shallow as is_shallow_after};
+ghost use Rattle.yaml_block.specs.States.{Grown, IsAfterSign, IsLine, Onward, Leads, Fails, BeforePart, is_shallow};
+
+use crate::frame::{Indentation, Leaf, Next, NextLine, Sign};
+use crate::reader::Reader;
+use crate::refusal::{no_white, refusal};
+use yaml_events::{BlockContext, ScanFault, Why};
+use yaml_flow::omitted;
+use yaml_scan::{Line, line_after, sign_at, spaces_end, white_end};
+
+impl Sign {
+    /// Where a node after the sign stands.
+    fn context(self) -> BlockContext
+        ensures { is_shallow result ≡ is_shallow_after self }
+    {
+        match self {
+            Sign::Dash => BlockContext::Bin,
+            Sign::Asked | Sign::Colon => BlockContext::Bout,
+        }
+    }
+
+    /// Whether a compact collection may stand on the line of the sign.
+    fn allows_compact(self) -> bool
+        ensures { result ≡ not (is_colon self) }
+    {
+        match self {
+            Sign::Dash | Sign::Asked => true,
+            Sign::Colon => false,
+        }
+    }
+}
+
+/// Whether a part is left out after a sign at `indent`, where this line follows. At the end of the text and at a marker no spaces
+/// stand, and no `-` before white space.
+fn is_omitted(text: &str, line: Line, indent: usize, context: BlockContext) -> bool
+    requires line { IsLine text.now line }
+    requires solid { is_line_end (rest text.now line.start) ≡ false }
+    ensures { result ≡ ended (suc indent) (is_shallow context) (rest text.now line.start) }
+{
+    let spaces = line.first - line.start;
+    if spaces > indent {
+        return false;
+    }
+    match context {
+        BlockContext::Bin => true,
+        BlockContext::Bout => spaces < indent || !sign_at(text, line.first, b'-'),
+    }
+}
+
+impl<'a> Reader<'a> {
+    /// The part after a sign: on its line, on a later one, or left out.
+    pub(crate) fn after_sign(
+        &mut self,
+        text: &'a str,
+        at: usize,
+        indent: usize,
+        sign: Sign,
+    ) -> Result<Next, ScanFault>
+        requires placed { IsAfterSign text.now indent at }
+        requires fits { length text.now < 2 ^ 63 }
+        ensures onward { IfOk result (Onward text.now at (3 * (length text.now - at) + 2)) }
+        ensures leads { IfOk result (Leads text.now (BeforePart text.now sign indent at) self.old self.new) }
+        ensures grown { Grown self.old.events self.new.events }
+        ensures none { IfErr result (λ fault. Refuses fault (Fails text.now (BeforePart text.now sign indent at) self.old)) }
+    {
+        match line_after(text, at) {
+            Some(line) => self.on_later_line(text, at, line, indent, sign),
+            None => self.on_sign_line(text, at, indent, sign),
+        }
+    }
+
+    /// The part after a sign whose own line holds no more: at the next line that does, or left out.
+    fn on_later_line(
+        &mut self,
+        text: &'a str,
+        at: usize,
+        line: Line,
+        indent: usize,
+        sign: Sign,
+    ) -> Result<Next, ScanFault>
+        requires placed { IsAfterSign text.now indent at }
+        requires fits { length text.now < 2 ^ 63 }
+        requires closes { closes_line (all_comments false (rest text.now at)) ≡ true }
+        requires line { IsSolidLine false text.now at line }
+        requires starts { IsLineStart text.now line.start }
+        ensures onward { IfOk result (Onward text.now at (3 * (length text.now - at) + 2)) }
+        ensures leads { IfOk result (Leads text.now (BeforePart text.now sign indent at) self.old self.new) }
+        ensures grown { Grown self.old.events self.new.events }
+        ensures none { IfErr result (λ fault. Refuses fault (Fails text.now (BeforePart text.now sign indent at) self.old)) }
+    {
+        let context = sign.context();
+        if is_omitted(text, line, indent, context) {
+            if self.waits_for_key() {
+                return Err(refusal(at, Why::OmittedKey));
+            }
+            self.put(omitted(at))?;
+            self.end = at;
+            return Ok(Next::Line(NextLine {
+                line,
+                is_solid: true,
+            }));
+        }
+        let node = Indentation {
+            least: indent + 1,
+            margin: indent + 1,
+            context,
+        };
+        self.on_line(text, line, node)
+    }
+
+    /// The part after a sign on the line of the sign.
+    fn on_sign_line(
+        &mut self,
+        text: &'a str,
+        at: usize,
+        indent: usize,
+        sign: Sign,
+    ) -> Result<Next, ScanFault>
+        requires placed { IsAfterSign text.now indent at }
+        requires fits { length text.now < 2 ^ 63 }
+        requires goes_on { closes_line (all_comments false (rest text.now at)) ≡ false }
+        ensures onward { IfOk result (Onward text.now at (3 * (length text.now - at) + 2)) }
+        ensures leads { IfOk result (Leads text.now (BeforePart text.now sign indent at) self.old self.new) }
+        ensures grown { Grown self.old.events self.new.events }
+        ensures none { IfErr result (λ fault. Refuses fault (Fails text.now (BeforePart text.now sign indent at) self.old)) }
+    {
+        let first = white_end(text, at);
+        if first == at {
+            return Err(no_white(text, at));
+        }
+        let least = indent + 1;
+        if !sign.allows_compact() || spaces_end(text, at) < first {
+            return self.leaf(
+                text,
+                Leaf {
+                    at: first,
+                    least,
+                    pairs: None,
+                },
+            );
+        }
+        let inner = least + (first - at);
+        if sign_at(text, first, b'-') {
+            return self.open_items(first, inner);
+        }
+        self.leaf(
+            text,
+            Leaf {
+                at: first,
+                least,
+                pairs: Some(inner),
+            },
+        )
+    }
+}

@@ -1,0 +1,160 @@
+// The line after a part: which of the open collections goes on there.
+ghost use Rattle.std.specs.Prelude.{◌≡◌, ℕ, ◌*◌, ◌+◌, ◌-◌, ◌<◌, ◌≤◌, List, [], ◌∷◌, ◌++◌, Some, None, IfOk, IfErr, MatchOption, length, ◌==◌, ◌&&◌, not, false};
+ghost use Rattle.yaml_chars.specs.Places.{rest};
+ghost use Rattle.yaml_grammar.specs.BlockScalars.{past_spaces, spaces_before};
+ghost use Rattle.yaml_recognizers.specs.Fronts as fronts;
+ghost use Rattle.yaml_recognizers.specs.Ends.{ended};
+ghost use Rattle.yaml_events.specs.Places.{Refuses};
+ghost use Rattle.yaml_block.specs.States.{Grown, IsLine, IsNextLine, Onward};
+ghost use Rattle.yaml_block.specs.Turns.{Unwinds, Turns, ItemRead, KeyRead, PairRead, PartRead};
+
+use crate::frame::{Collection, Next, NextLine, Sign, Waits};
+use crate::reader::Reader;
+use yaml_events::{Event, ScanFault};
+use yaml_flow::omitted;
+use yaml_scan::{Line, is_marker, sign_at};
+
+impl<'a> Reader<'a> {
+    /// What goes on at the line after a part. None where all collections end there.
+    pub(crate) fn unwind(&mut self, text: &str, after: NextLine) -> Result<Option<Next>, ScanFault>
+        requires line { IsNextLine text.now after }
+        ensures onward { IfOk result (λ next. MatchOption next (Unit {0}) (Onward text.now after.line.start (3 * (length text.now - after.line.start) + 1))) }
+        ensures turns { IfOk result (Unwinds text.now after self.old self.new) }
+        ensures grown { Grown self.old.events self.new.events }
+        ensures none { IfErr result (λ fault. Refuses fault ⊥) }
+    {
+        'collections: while let Some(collection) = self.collections.pop() {
+            if let Some(next) = self.after_part(text, after, collection)? {
+                return Ok(Some(next));
+            }
+        }
+        Ok(None)
+    }
+
+    /// What goes on in this collection, whose part has been read. None where it ends at the line.
+    fn after_part(
+        &mut self,
+        text: &str,
+        after: NextLine,
+        collection: Collection,
+    ) -> Result<Option<Next>, ScanFault>
+        requires line { IsNextLine text.now after }
+        ensures onward { IfOk result (λ next. MatchOption next (Unit {0}) (Onward text.now after.line.start (3 * (length text.now - after.line.start) + 1))) }
+        ensures turns { IfOk result (Turns (PartRead collection) text.now after self.old self.new) }
+        ensures ended { IfOk result (λ next. MatchOption next (self.new.collections.items ≡ self.old.collections.items) (λ _. Unit {0})) }
+        ensures grown { Grown self.old.events self.new.events }
+        ensures none { IfErr result (λ fault. Refuses fault ⊥) }
+    {
+        match collection.waits {
+            Waits::Item => self.after_item(text, after, collection.indent),
+            Waits::Key => self.after_key(text, after, collection.indent),
+            Waits::Value => self.after_pair(text, after, collection.indent),
+        }
+    }
+
+    /// The next item of a sequence, or its end.
+    fn after_item(
+        &mut self,
+        text: &str,
+        after: NextLine,
+        indent: usize,
+    ) -> Result<Option<Next>, ScanFault>
+        requires line { IsNextLine text.now after }
+        ensures onward { IfOk result (λ next. MatchOption next (Unit {0}) (Onward text.now after.line.start (3 * (length text.now - after.line.start) + 1))) }
+        ensures turns { IfOk result (Turns (ItemRead indent) text.now after self.old self.new) }
+        ensures ended { IfOk result (λ next. MatchOption next (self.new.collections.items ≡ self.old.collections.items) (λ _. Unit {0})) }
+        ensures grown { Grown self.old.events self.new.events }
+        ensures none { IfErr result (λ fault. Refuses fault ⊥) }
+    {
+        let line = after.line;
+        if goes_on_with(text, line, indent, b'-') {
+            self.wait(Waits::Item, indent)?;
+            return Ok(Some(Next::After {
+                at: line.first + 1,
+                indent,
+                sign: Sign::Dash,
+            }));
+        }
+        self.put(Event::SeqEnd)?;
+        Ok(None)
+    }
+
+    /// The value of a key after `?`, which may be left out with its `:`.
+    fn after_key(
+        &mut self,
+        text: &str,
+        after: NextLine,
+        indent: usize,
+    ) -> Result<Option<Next>, ScanFault>
+        requires line { IsNextLine text.now after }
+        ensures onward { IfOk result (λ next. MatchOption next (Unit {0}) (Onward text.now after.line.start (3 * (length text.now - after.line.start) + 1))) }
+        ensures turns { IfOk result (Turns (KeyRead indent) text.now after self.old self.new) }
+        ensures ended { IfOk result (λ next. MatchOption next (self.new.collections.items ≡ self.old.collections.items) (λ _. Unit {0})) }
+        ensures grown { Grown self.old.events self.new.events }
+        ensures none { IfErr result (λ fault. Refuses fault ⊥) }
+    {
+        let line = after.line;
+        if goes_on_with(text, line, indent, b':') {
+            self.wait(Waits::Value, indent)?;
+            return Ok(Some(Next::After {
+                at: line.first + 1,
+                indent,
+                sign: Sign::Asked,
+            }));
+        }
+        self.put(omitted(self.end))?;
+        self.after_pair(text, after, indent)
+    }
+
+    /// The next pair of a mapping, or its end.
+    fn after_pair(
+        &mut self,
+        text: &str,
+        after: NextLine,
+        indent: usize,
+    ) -> Result<Option<Next>, ScanFault>
+        requires line { IsNextLine text.now after }
+        ensures onward { IfOk result (λ next. MatchOption next (Unit {0}) (Onward text.now after.line.start (3 * (length text.now - after.line.start) + 1))) }
+        ensures turns { IfOk result (Turns (PairRead indent) text.now after self.old self.new) }
+        ensures ended { IfOk result (λ next. MatchOption next (self.new.collections.items ≡ self.old.collections.items) (λ _. Unit {0})) }
+        ensures grown { Grown self.old.events self.new.events }
+        ensures none { IfErr result (λ fault. Refuses fault ⊥) }
+    {
+        let line = after.line;
+        if goes_on_with_pair(text, after, indent) {
+            return Ok(Some(Next::Pair {
+                at: line.first,
+                indent,
+            }));
+        }
+        self.put(Event::MapEnd)?;
+        Ok(None)
+    }
+}
+
+/// Whether a collection with this indentation goes on at the line, with this sign.
+fn goes_on_with(text: &str, line: Line, indent: usize, sign: u8) -> bool
+    requires line { IsLine text.now line }
+    requires ascii { sign < 128 }
+    ensures { result ≡ (spaces_before (rest text.now line.start) == indent) && fronts.sign sign (past_spaces (rest text.now line.start)) }
+{
+    line.first - line.start == indent && sign_at(text, line.first, sign)
+}
+
+/// Whether a mapping with this indentation goes on at the line.
+fn goes_on_with_pair(text: &str, after: NextLine, indent: usize) -> bool
+    requires { IsNextLine text.now after }
+    ensures { result ≡ (spaces_before (rest text.now after.line.start) == indent) && not (ended indent false (rest text.now after.line.start)) }
+{
+    let line = after.line;
+    if line.first - line.start != indent {
+        return false;
+    }
+    if !after.is_solid {
+        return false;
+    }
+    if line.start == text.len() {
+        return false;
+    }
+    !is_marker(text, line.start)
+}

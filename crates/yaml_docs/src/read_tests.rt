@@ -1,0 +1,137 @@
+// Streams of documents, and what bytes are refused for. Events are written as `+D` and `-D` for the start and the end of
+// a document, `S` for a sequence, `M` for a mapping, and `=P[0,1]"a"` for a plain scalar with its range: `O` is omitted,
+// `D` in double quotes, `L` literal.
+use super::*;
+use std::alloc::Global;
+use std::process::Abort;
+use std::test::Fail;
+use yaml_events::{Event, Style};
+
+fn letter(style: &Style) -> &'static str {
+    match style {
+        Style::Plain => "P",
+        Style::Single => "Q",
+        Style::Double => "D",
+        Style::Literal => "L",
+        Style::Folded => "F",
+        Style::Omitted => "O",
+    }
+}
+
+fn word(alloc: Global, event: &Event<'_>) -> Result<String, Fail> {
+    let word = match event {
+        Event::DocStart => format!(in alloc; "+D")?,
+        Event::DocEnd => format!(in alloc; "-D")?,
+        Event::SeqStart => format!(in alloc; "+S")?,
+        Event::SeqEnd => format!(in alloc; "-S")?,
+        Event::MapStart => format!(in alloc; "+M")?,
+        Event::MapEnd => format!(in alloc; "-M")?,
+        Event::Scalar { style, span, value } => {
+            let letter = letter(style);
+            let start = span.start;
+            let end = span.end;
+            let value = value.as_str();
+            format!(in alloc; "={letter}[{start},{end}]{value:?}")?
+        }
+    };
+    Ok(word)
+}
+
+/// The events of a text, or the fault that it is refused for.
+fn shown(alloc: Global, bytes: &[u8]) -> Result<String, Fail> {
+    let mut line = String::new(alloc);
+    match events(alloc, bytes, 100) {
+        Ok(events) => {
+            for event in events.as_slice() {
+                let next = word(alloc, event)?;
+                line = format!(in alloc; "{line} {next}")?;
+            }
+        }
+        Err(fault) => line = format!(in alloc; " {fault}")?,
+    }
+    Ok(line)
+}
+
+#[test]
+fn streams_without_nodes(rt: HostRuntime) -> Result<(), Fail> {
+    let alloc = rt.alloc();
+    assert_eq!(rt; shown(alloc, b"")?.as_str(), "");
+    assert_eq!(rt; shown(alloc, b"\xef\xbb\xbf")?.as_str(), "");
+    assert_eq!(rt; shown(alloc, b"...")?.as_str(), "");
+    assert_eq!(rt; shown(alloc, b"# c\n\t\n... # d\r\n...\r# e")?.as_str(), "");
+    Ok(())
+}
+
+#[test]
+fn nothing_after_a_marker_is_the_empty_text(rt: HostRuntime) -> Result<(), Fail> {
+    let alloc = rt.alloc();
+    assert_eq!(rt; shown(alloc, b"---")?.as_str(), " +D =O[3,3]\"\" -D");
+    assert_eq!(rt;
+        shown(alloc, b"\xef\xbb\xbf--- # c\n...\n---\n---")?.as_str(),
+        " +D =O[6,6]\"\" -D +D =O[18,18]\"\" -D +D =O[22,22]\"\" -D"
+    );
+    assert_eq!(rt;
+        shown(alloc, b"%YAML 1.2\n---\n")?.as_str(),
+        " +D =O[13,13]\"\" -D"
+    );
+    assert_eq!(rt;
+        shown(alloc, b"%YAML \t1.1 # c\n\n---\n...\n%YAML 1.2\r--- ")?.as_str(),
+        " +D =O[19,19]\"\" -D +D =O[37,37]\"\" -D"
+    );
+    Ok(())
+}
+
+#[test]
+fn directives_are_refused(rt: HostRuntime) -> Result<(), Fail> {
+    let alloc = rt.alloc();
+    assert_eq!(rt;
+        shown(alloc, b"%YAML 1.3\n---\n")?.as_str(),
+        " Syntax 1:1 Directive"
+    );
+    assert_eq!(rt;
+        shown(alloc, b"%YAML 1.2\na\n")?.as_str(),
+        " Syntax 2:1 Directive"
+    );
+    assert_eq!(rt;
+        shown(alloc, b"%YAML 1.2\n%YAML 1.2\n---\n")?.as_str(),
+        " Syntax 2:1 Directive"
+    );
+    assert_eq!(rt;
+        shown(alloc, b"%YAML1.2\n---\n")?.as_str(),
+        " Syntax 1:1 Directive"
+    );
+    assert_eq!(rt;
+        shown(alloc, b"# c\r\n%TAG ! a\r\n---\r\n")?.as_str(),
+        " Syntax 2:1 Directive"
+    );
+    assert_eq!(rt;
+        shown(alloc, b"%YAML 1.2\n")?.as_str(),
+        " Syntax 2:1 Directive"
+    );
+    Ok(())
+}
+
+#[test]
+fn texts_after_a_marker_are_refused(rt: HostRuntime) -> Result<(), Fail> {
+    let alloc = rt.alloc();
+    assert_eq!(rt; shown(alloc, b"... x\n")?.as_str(), " Syntax 1:4 Marker");
+    assert_eq!(rt;
+        shown(alloc, b"\n\r\n\r... x")?.as_str(),
+        " Syntax 4:4 Marker"
+    );
+    Ok(())
+}
+
+#[test]
+fn limits_come_first(rt: HostRuntime) {
+    let alloc = rt.alloc();
+    assert_eq!(rt;
+        events(alloc, b"\xff---", 3).err(),
+        Some(ReadFault::TooLong)
+    );
+    assert_eq!(rt;
+        events(alloc, b"\xff---", 4).err(),
+        Some(ReadFault::NotUtf8 { at: 0 })
+    );
+    assert!(rt; events(alloc, b"...\n", 4).is_ok());
+}
