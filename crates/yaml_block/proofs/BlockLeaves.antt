@@ -33,31 +33,39 @@ unread : {A : Type 0} (r : Read A) → ((a : A) (rest : List ℕ) → r ≡ Some
 unread None g = refl
 unread (Some y) g = absurd (g y.0 y.1 refl)
 
-leaf_opens : (m : ℕ) (bol : Bool) (text : List ℕ) (f : Flow) (rest : List ℕ) → flow_leaf_at m bol text ≡ Some (f, rest) → Opens text × (first bar text ≡ false)
+leaf_opens : (m : ℕ) (bol : Bool) (text : List ℕ) (f : Flow) (rest : List ℕ)
+    → flow_leaf_at m bol text ≡ Some (f, rest) → Opens text × (first bar text ≡ false)
 leaf_opens m bol text f rest e =
     let s : StandsFlow m outer bol text f rest = stands m outer bol text f rest e in
-    subst (λ (t : List ℕ). Opens t × (first bar t ≡ false)) (sym s.spells) (flow_opens f m outer bol rest refl s.canonical)
+    subst (λ (t : List ℕ). Opens t × (first bar t ≡ false)) (sym s.spells)
+    (flow_opens f m outer bol rest refl s.canonical)
 
 -- the text that a leaf spells, before its rest
-pub leaf_spells : (m : ℕ) (bol : Bool) (text : List ℕ) (f : Flow) (rest : List ℕ) → flow_leaf_at m bol text ≡ Some (f, rest) → text ≡ flow_text f ++ rest
+pub leaf_spells : (m : ℕ) (bol : Bool) (text : List ℕ) (f : Flow) (rest : List ℕ)
+    → flow_leaf_at m bol text ≡ Some (f, rest) → text ≡ flow_text f ++ rest
 leaf_spells m bol text f rest e = (stands m outer bol text f rest e).spells
 
 -- it stands on one line where its text has no break
-pub leaf_one_line : (m : ℕ) (bol : Bool) (text : List ℕ) (f : Flow) (rest : List ℕ) → flow_leaf_at m bol text ≡ Some (f, rest) → on_one_line f ≡ unbroken (flow_text f)
+pub leaf_one_line : (m : ℕ) (bol : Bool) (text : List ℕ) (f : Flow) (rest : List ℕ)
+    → flow_leaf_at m bol text ≡ Some (f, rest) → on_one_line f ≡ unbroken (flow_text f)
 leaf_one_line m bol text f rest e = flow_one_line f m outer bol rest (stands m outer bol text f rest e).canonical
 
 pub no_leaf_bar : (m : ℕ) (bol : Bool) (text : List ℕ) → first bar text ≡ true → flow_leaf_at m bol text ≡ None
-no_leaf_bar m bol text h = unread (flow_leaf_at m bol text) (λ f rest e. false≢true (sym (leaf_opens m bol text f rest e).1 ∙ h))
+no_leaf_bar m bol text h = unread (flow_leaf_at m bol text)
+    (λ f rest e. false≢true (sym (leaf_opens m bol text f rest e).1 ∙ h))
 
 pub no_leaf_colon : (m : ℕ) (bol : Bool) (text : List ℕ) → sign 58 text ≡ true → flow_leaf_at m bol text ≡ None
-no_leaf_colon m bol text h = unread (flow_leaf_at m bol text) (λ f rest e. false≢true (sym ((leaf_opens m bol text f rest e).0).no_colon ∙ h))
+no_leaf_colon m bol text h = unread (flow_leaf_at m bol text)
+    (λ f rest e. false≢true (sym ((leaf_opens m bol text f rest e).0).no_colon ∙ h))
 
 pub no_leaf_question : (m : ℕ) (bol : Bool) (text : List ℕ) → sign 63 text ≡ true → flow_leaf_at m bol text ≡ None
-no_leaf_question m bol text h = unread (flow_leaf_at m bol text) (λ f rest e. false≢true (sym ((leaf_opens m bol text f rest e).0).no_ask ∙ h))
+no_leaf_question m bol text h = unread (flow_leaf_at m bol text)
+    (λ f rest e. false≢true (sym ((leaf_opens m bol text f rest e).0).no_ask ∙ h))
 
 -- at white, a break, a `#` or the text's end
 pub no_leaf_unsolid : (m : ℕ) (bol : Bool) (text : List ℕ) → first solid text ≡ false → flow_leaf_at m bol text ≡ None
-no_leaf_unsolid m bol text h = unread (flow_leaf_at m bol text) (λ f rest e. false≢true (sym h ∙ ((leaf_opens m bol text f rest e).0).solid_first))
+no_leaf_unsolid m bol text h = unread (flow_leaf_at m bol text)
+    (λ f rest e. false≢true (sym h ∙ ((leaf_opens m bol text f rest e).0).solid_first))
 
 -- ---- what tells them apart
 
@@ -78,11 +86,13 @@ colon_no_bar : (text : List ℕ) → sign 58 text ≡ true → first bar text �
 colon_no_bar text h = ap (first bar) (sign_first 58 text h)
 
 -- no pair opens where no `?` and no key is
-no_pair : (bol : Bool) (text : List ℕ) → sign 63 text ≡ false → block_key_in bol text ≡ None → opens_pair block_key_in flow_leaf_at read_block bol text ≡ false
+no_pair : (bol : Bool) (text : List ℕ) → sign 63 text ≡ false → block_key_in bol text ≡ None
+    → opens_pair block_key_in flow_leaf_at read_block bol text ≡ false
 no_pair bol text s k = rw (s, k) refl
 
 -- the part where no pair opens
-no_mapping : (p : Option (Sits × ℕ)) (m : ℕ) (bol : Bool) (sep : Sep) (text : List ℕ) → is_some p && opens_pair block_key_in flow_leaf_at read_block bol text ≡ false
+no_mapping : (p : Option (Sits × ℕ)) (m : ℕ) (bol : Bool) (sep : Sep) (text : List ℕ)
+    → is_some p && opens_pair block_key_in flow_leaf_at read_block bol text ≡ false
     → part_at p m bol sep text ≡ leaf_part m bol sep text
 no_mapping None m bol sep text h = refl
 no_mapping (Some p) m bol sep text h = rw h refl
@@ -91,7 +101,8 @@ unmapped : (p : Option (Sits × ℕ)) (b : Bool) → b ≡ false → is_some p &
 unmapped None b h = refl
 unmapped (Some p) b h = h
 
-as_part_on : {A : Type 0} (r : Read A) (g : A → Node) → as_part (on r (λ a rest. Some (g a, rest))) ≡ on r (λ a rest. Some (node (g a), rest))
+as_part_on : {A : Type 0} (r : Read A) (g : A → Node)
+    → as_part (on r (λ a rest. Some (g a, rest))) ≡ on r (λ a rest. Some (node (g a), rest))
 as_part_on None g = refl
 as_part_on (Some r) g = refl
 
@@ -100,8 +111,10 @@ as_part_on (Some r) g = refl
 pub bar_part : (p : Option (Sits × ℕ)) (m : ℕ) (bol : Bool) (sep : Sep) (text : List ℕ) → first bar text ≡ true
     → part_at p m bol sep text ≡ on (read_block m text) (λ b rest. Some (node (block sep b), rest))
 bar_part p m bol sep text h =
-    no_mapping p m bol sep text (unmapped p _ (no_pair bol text (bar_no_question text h) (no_leaf_no_key 0 bol text (no_leaf_bar 0 bol text h))))
-    ∙ (ap as_part (choose (on (read_block m text) (λ b rest. Some (block sep b, rest))) (on (flow_leaf_at m bol text) (λ f rest. flow_with sep f (all_comments false rest))))
+    no_mapping p m bol sep text (unmapped p _ (no_pair bol text (bar_no_question text h)
+    (no_leaf_no_key 0 bol text (no_leaf_bar 0 bol text h))))
+    ∙ (ap as_part (choose (on (read_block m text) (λ b rest. Some (block sep b, rest)))
+    (on (flow_leaf_at m bol text) (λ f rest. flow_with sep f (all_comments false rest))))
     ∙ as_part_on (read_block m text) (λ b. block sep b))
   where
     choose : (r s : Read Node) → (if first bar text then r else s) ≡ r
@@ -110,115 +123,155 @@ bar_part p m bol sep text h =
 -- ---- a `?`
 
 pub question_opens : (sits : Sits) (k m : ℕ) (bol : Bool) (sep : Sep) (text : List ℕ) → sign 63 text ≡ true
-    → part_at (Some (sits, k)) m bol sep text ≡ on (block_indented_at k true (past text)) (λ i rest. plug (waits_key sits k []) i rest)
-question_opens sits k m bol sep text h = choose (close_pairs sits [] (block_pairs_at k bol text)) (leaf_part m bol sep text) ∙ asked_opens sits k bol [] text h
+    → part_at (Some (sits, k)) m bol sep text ≡ on (block_indented_at k true (past text))
+    (λ i rest. plug (waits_key sits k []) i rest)
+question_opens sits k m bol sep text h = choose (close_pairs sits [] (block_pairs_at k bol text))
+    (leaf_part m bol sep text) ∙ asked_opens sits k bol [] text h
   where
     choose : (r s : Read Indented) → (if opens_pair block_key_in flow_leaf_at read_block bol text then r else s) ≡ r
     choose r s = rw h refl
 
 -- ---- no leaf
 
-leaf_refused : (m : ℕ) (bol : Bool) (sep : Sep) (text : List ℕ) → first bar text ≡ false → flow_leaf_at m bol text ≡ None → leaf_part m bol sep text ≡ None
+leaf_refused : (m : ℕ) (bol : Bool) (sep : Sep) (text : List ℕ) → first bar text ≡ false
+    → flow_leaf_at m bol text ≡ None → leaf_part m bol sep text ≡ None
 leaf_refused m bol sep text h e = rw (h, e) refl
 
 -- neither a leaf nor, where a mapping may begin, a `?`
-pub leaf_missing : (p : Option (Sits × ℕ)) (m : ℕ) (bol : Bool) (sep : Sep) (text : List ℕ) → first bar text ≡ false → is_some p && sign 63 text ≡ false → flow_leaf_at m bol text ≡ None
+pub leaf_missing : (p : Option (Sits × ℕ)) (m : ℕ) (bol : Bool) (sep : Sep) (text : List ℕ) → first bar text ≡ false
+    → is_some p && sign 63 text ≡ false → flow_leaf_at m bol text ≡ None
     → part_at p m bol sep text ≡ None
 leaf_missing None m bol sep text h s e = leaf_refused m bol sep text h e
 leaf_missing (Some p) m bol sep text h s e =
-    no_mapping (Some p) m bol sep text (no_pair bol text s (no_leaf_no_key m bol text e)) ∙ leaf_refused m bol sep text h e
+    no_mapping (Some p) m bol sep text (no_pair bol text s (no_leaf_no_key m bol text e))
+    ∙ leaf_refused m bol sep text h e
 
 -- a `:` with no key before it
-pub colon_refused : (p : Option (Sits × ℕ)) (m : ℕ) (bol : Bool) (sep : Sep) (text : List ℕ) → sign 58 text ≡ true → part_at p m bol sep text ≡ None
-colon_refused p m bol sep text h = leaf_missing p m bol sep text (colon_no_bar text h) (unmapped p _ (colon_no_question text h)) (no_leaf_colon m bol text h)
+pub colon_refused : (p : Option (Sits × ℕ)) (m : ℕ) (bol : Bool) (sep : Sep) (text : List ℕ) → sign 58 text ≡ true
+    → part_at p m bol sep text ≡ None
+colon_refused p m bol sep text h = leaf_missing p m bol sep text (colon_no_bar text h)
+    (unmapped p _ (colon_no_question text h)) (no_leaf_colon m bol text h)
 
 -- ---- a leaf
 
 -- it is the first key
-pub first_key_opens : (sits : Sits) (k m : ℕ) (bol : Bool) (sep : Sep) (text : List ℕ) (f : Flow) (rest : List ℕ) → flow_leaf_at m bol text ≡ Some (f, rest) → is_key f rest ≡ true
+pub first_key_opens : (sits : Sits) (k m : ℕ) (bol : Bool) (sep : Sep) (text : List ℕ) (f : Flow) (rest : List ℕ)
+    → flow_leaf_at m bol text ≡ Some (f, rest) → is_key f rest ≡ true
     → part_at (Some (sits, k)) m bol sep text
-    ≡ on (keyed_part k (past (dropped white rest))) (λ i rest'. plug (waits_value sits k [] (key_on_line f (taken white rest))) i rest')
+    ≡ on (keyed_part k (past (dropped white rest)))
+    (λ i rest'. plug (waits_value sits k [] (key_on_line f (taken white rest))) i rest')
 first_key_opens sits k m bol sep text f rest e h =
-    let found : block_key_in bol text ≡ Some ((f, taken white rest), past (dropped white rest)) = leaf_is_key m bol text f rest e h in
+    let found : block_key_in bol text ≡ Some ((f, taken white rest), past (dropped white rest)) =
+    leaf_is_key m bol text f rest e h in
     let unasked : sign 63 text ≡ false = ((leaf_opens m bol text f rest e).0).no_ask in
-    choose found unasked (close_pairs sits [] (block_pairs_at k bol text)) (leaf_part m bol sep text) ∙ key_opens sits k bol [] text f (taken white rest) (past (dropped white rest)) unasked found
+    choose found unasked (close_pairs sits [] (block_pairs_at k bol text)) (leaf_part m bol sep text)
+    ∙ key_opens sits k bol [] text f (taken white rest) (past (dropped white rest)) unasked found
   where
-    choose : block_key_in bol text ≡ Some ((f, taken white rest), past (dropped white rest)) → sign 63 text ≡ false → (r s : Read Indented)
+    choose : block_key_in bol text ≡ Some ((f, taken white rest), past (dropped white rest)) → sign 63 text ≡ false
+        → (r s : Read Indented)
         → (if opens_pair block_key_in flow_leaf_at read_block bol text then r else s) ≡ r
     choose found unasked r s = rw (unasked, found) refl
 
 -- it is no key
-leaf_no_mapping : (p : Option (Sits × ℕ)) (m : ℕ) (bol : Bool) (sep : Sep) (text : List ℕ) (f : Flow) (rest : List ℕ) → flow_leaf_at m bol text ≡ Some (f, rest) → is_some p && is_key f rest ≡ false
+leaf_no_mapping : (p : Option (Sits × ℕ)) (m : ℕ) (bol : Bool) (sep : Sep) (text : List ℕ) (f : Flow) (rest : List ℕ)
+    → flow_leaf_at m bol text ≡ Some (f, rest) → is_some p && is_key f rest ≡ false
     → part_at p m bol sep text ≡ as_part (flow_with sep f (all_comments false rest))
 leaf_no_mapping p m bol sep text f rest e n =
-    no_mapping p m bol sep text (unpaired p n) ∙ ap as_part (choose (on (read_block m text) (λ b rest'. Some (block sep b, rest'))))
+    no_mapping p m bol sep text (unpaired p n) ∙ ap as_part
+    (choose (on (read_block m text) (λ b rest'. Some (block sep b, rest'))))
   where
-    unpaired : (q : Option (Sits × ℕ)) → is_some q && is_key f rest ≡ false → is_some q && opens_pair block_key_in flow_leaf_at read_block bol text ≡ false
+    unpaired : (q : Option (Sits × ℕ)) → is_some q && is_key f rest ≡ false
+        → is_some q && opens_pair block_key_in flow_leaf_at read_block bol text ≡ false
     unpaired None n = refl
-    unpaired (Some q) n = no_pair bol text ((leaf_opens m bol text f rest e).0).no_ask (leaf_no_key m bol text f rest e n)
+    unpaired (Some q) n = no_pair bol text ((leaf_opens m bol text f rest e).0).no_ask
+        (leaf_no_key m bol text f rest e n)
 
-    choose : (r : Read Node) → (if first bar text then r else on (flow_leaf_at m bol text) (λ f' rest'. flow_with sep f' (all_comments false rest'))) ≡ flow_with sep f (all_comments false rest)
+    choose : (r : Read Node) → (if first bar text then r
+        else on (flow_leaf_at m bol text) (λ f' rest'. flow_with sep f' (all_comments false rest'))) ≡ flow_with sep f
+        (all_comments false rest)
     choose r = rw ((leaf_opens m bol text f rest e).1, e) refl
 
 -- a `:` stands after it, and no line is closed
 colon_unclosed : (rest : List ℕ) → sign 58 (dropped white rest) ≡ true → closes_line (all_comments false rest) ≡ false
 colon_unclosed rest h =
-    let i : rest ≡ taken white rest ++ (58 ∷ past (dropped white rest)) = taken_split white rest ∙ ap (λ t. taken white rest ++ t) (sign_first 58 (dropped white rest) h) in
-    ap closes_line (ap (all_comments false) i ∙ no_comments false (taken white rest) (58 ∷ past (dropped white rest)) (taken_every white rest) refl) ∙ some (taken white rest) (past (dropped white rest))
+    let i : rest ≡ taken white rest ++ (58 ∷ past (dropped white rest)) = taken_split white rest
+    ∙ ap (λ t. taken white rest ++ t) (sign_first 58 (dropped white rest) h) in
+    ap closes_line (ap (all_comments false) i ∙ no_comments false (taken white rest) (58 ∷ past (dropped white rest))
+    (taken_every white rest) refl) ∙ some (taken white rest) (past (dropped white rest))
   where
     some : (xs ys : List ℕ) → closes_line ([], xs ++ (58 ∷ ys)) ≡ false
     some [] ys = refl
     some (x ∷ xs) ys = refl
 
-flow_refused : (sep : Sep) (f : Flow) (c : List LineEnd × List ℕ) → closes_line c ≡ false → as_part (flow_with sep f c) ≡ None
+flow_refused : (sep : Sep) (f : Flow) (c : List LineEnd × List ℕ) → closes_line c ≡ false
+    → as_part (flow_with sep f c) ≡ None
 flow_refused sep f c h = rw h refl
 
-flow_closed : (sep : Sep) (f : Flow) (c : List LineEnd × List ℕ) → closes_line c ≡ true → as_part (flow_with sep f c) ≡ Some (node (flow sep f c.0), c.1)
+flow_closed : (sep : Sep) (f : Flow) (c : List LineEnd × List ℕ) → closes_line c ≡ true
+    → as_part (flow_with sep f c) ≡ Some (node (flow sep f c.0), c.1)
 flow_closed sep f c h = rw h refl
 
 no_key_without : (f : Flow) (rest : List ℕ) → sign 58 (dropped white rest) ≡ false → is_key f rest ≡ false
 no_key_without f rest h = and_right (on_one_line f) _ (and_left (sign 58 (dropped white rest)) _ h)
 
 -- a `:` after a leaf that is no key, or where no mapping may begin
-pub leaf_before_colon : (p : Option (Sits × ℕ)) (m : ℕ) (bol : Bool) (sep : Sep) (text : List ℕ) (f : Flow) (rest : List ℕ) → flow_leaf_at m bol text ≡ Some (f, rest)
+pub leaf_before_colon : (p : Option (Sits × ℕ)) (m : ℕ) (bol : Bool) (sep : Sep) (text : List ℕ) (f : Flow)
+    (rest : List ℕ) → flow_leaf_at m bol text ≡ Some (f, rest)
     → sign 58 (dropped white rest) ≡ true → is_some p && is_key f rest ≡ false → part_at p m bol sep text ≡ None
-leaf_before_colon p m bol sep text f rest e h n = leaf_no_mapping p m bol sep text f rest e n ∙ flow_refused sep f (all_comments false rest) (colon_unclosed rest h)
+leaf_before_colon p m bol sep text f rest e h n = leaf_no_mapping p m bol sep text f rest e n
+    ∙ flow_refused sep f (all_comments false rest) (colon_unclosed rest h)
 
 -- no `:` after it: the leaf is the part where its line closes
-pub leaf_closes : (p : Option (Sits × ℕ)) (m : ℕ) (bol : Bool) (sep : Sep) (text : List ℕ) (f : Flow) (rest : List ℕ) → flow_leaf_at m bol text ≡ Some (f, rest)
+pub leaf_closes : (p : Option (Sits × ℕ)) (m : ℕ) (bol : Bool) (sep : Sep) (text : List ℕ) (f : Flow) (rest : List ℕ)
+    → flow_leaf_at m bol text ≡ Some (f, rest)
     → sign 58 (dropped white rest) ≡ false → closes_line (all_comments false rest) ≡ true
     → part_at p m bol sep text ≡ Some (node (flow sep f (all_comments false rest).0), (all_comments false rest).1)
-leaf_closes p m bol sep text f rest e h c = leaf_no_mapping p m bol sep text f rest e (unmapped p _ (no_key_without f rest h)) ∙ flow_closed sep f (all_comments false rest) c
+leaf_closes p m bol sep text f rest e h c = leaf_no_mapping p m bol sep text f rest e
+    (unmapped p _ (no_key_without f rest h)) ∙ flow_closed sep f (all_comments false rest) c
 
-pub leaf_goes_on : (p : Option (Sits × ℕ)) (m : ℕ) (bol : Bool) (sep : Sep) (text : List ℕ) (f : Flow) (rest : List ℕ) → flow_leaf_at m bol text ≡ Some (f, rest)
-    → sign 58 (dropped white rest) ≡ false → closes_line (all_comments false rest) ≡ false → part_at p m bol sep text ≡ None
-leaf_goes_on p m bol sep text f rest e h c = leaf_no_mapping p m bol sep text f rest e (unmapped p _ (no_key_without f rest h)) ∙ flow_refused sep f (all_comments false rest) c
+pub leaf_goes_on : (p : Option (Sits × ℕ)) (m : ℕ) (bol : Bool) (sep : Sep) (text : List ℕ) (f : Flow) (rest : List ℕ)
+    → flow_leaf_at m bol text ≡ Some (f, rest)
+    → sign 58 (dropped white rest) ≡ false → closes_line (all_comments false rest) ≡ false
+    → part_at p m bol sep text ≡ None
+leaf_goes_on p m bol sep text f rest e h c = leaf_no_mapping p m bol sep text f rest e
+    (unmapped p _ (no_key_without f rest h)) ∙ flow_refused sep f (all_comments false rest) c
 
 -- ---- a further pair
 
-key_node_opens : (bol : Bool) (text : List ℕ) (f : Flow) (rest : List ℕ) → flow_node_at 0 block_key bol text ≡ Some (f, rest) → Opens text × (first bar text ≡ false)
+key_node_opens : (bol : Bool) (text : List ℕ) (f : Flow) (rest : List ℕ)
+    → flow_node_at 0 block_key bol text ≡ Some (f, rest) → Opens text × (first bar text ≡ false)
 key_node_opens bol text f rest e =
     let s : StandsFlow 0 block_key bol text f rest = stands 0 block_key bol text f rest e in
-    subst (λ (t : List ℕ). Opens t × (first bar t ≡ false)) (sym s.spells) (flow_opens f 0 block_key bol rest refl s.canonical)
+    subst (λ (t : List ℕ). Opens t × (first bar t ≡ false)) (sym s.spells)
+    (flow_opens f 0 block_key bol rest refl s.canonical)
 
-pub next_key_opens : (sits : Sits) (k : ℕ) (bol : Bool) (done : List Pair) (text : List ℕ) (f : Flow) (rest : List ℕ) → flow_node_at 0 block_key bol text ≡ Some (f, rest)
+pub next_key_opens : (sits : Sits) (k : ℕ) (bol : Bool) (done : List Pair) (text : List ℕ) (f : Flow) (rest : List ℕ)
+    → flow_node_at 0 block_key bol text ≡ Some (f, rest)
     → sign 58 (dropped white rest) ≡ true → short_key f (taken white rest) ≡ true
     → close_pairs sits done (block_pairs_at k bol text)
-    ≡ on (keyed_part k (past (dropped white rest))) (λ i rest'. plug (waits_value sits k done (key_on_line f (taken white rest))) i rest')
+    ≡ on (keyed_part k (past (dropped white rest)))
+    (λ i rest'. plug (waits_value sits k done (key_on_line f (taken white rest))) i rest')
 next_key_opens sits k bol done text f rest e c s =
-    key_opens sits k bol done text f (taken white rest) (past (dropped white rest)) ((key_node_opens bol text f rest e).0).no_ask
+    key_opens sits k bol done text f (taken white rest) (past (dropped white rest))
+    ((key_node_opens bol text f rest e).0).no_ask
     (ap (λ r. on r (λ key rest'. key_behind key (taken white rest') (dropped white rest'))) e ∙ rw (c, s) refl)
 
-pub next_key_unfit : (sits : Sits) (k : ℕ) (bol : Bool) (done : List Pair) (text : List ℕ) (f : Flow) (rest : List ℕ) → flow_node_at 0 block_key bol text ≡ Some (f, rest)
-    → sign 58 (dropped white rest) && short_key f (taken white rest) ≡ false → close_pairs sits done (block_pairs_at k bol text) ≡ None
+pub next_key_unfit : (sits : Sits) (k : ℕ) (bol : Bool) (done : List Pair) (text : List ℕ) (f : Flow) (rest : List ℕ)
+    → flow_node_at 0 block_key bol text ≡ Some (f, rest)
+    → sign 58 (dropped white rest) && short_key f (taken white rest) ≡ false
+    → close_pairs sits done (block_pairs_at k bol text) ≡ None
 next_key_unfit sits k bol done text f rest e h =
     no_key sits k bol done text ((key_node_opens bol text f rest e).0).no_ask
     (ap (λ r. on r (λ key rest'. key_behind key (taken white rest') (dropped white rest'))) e ∙ rw h refl)
 
-pub next_key_missing : (sits : Sits) (k : ℕ) (bol : Bool) (done : List Pair) (text : List ℕ) → sign 63 text ≡ false → flow_node_at 0 block_key bol text ≡ None
+pub next_key_missing : (sits : Sits) (k : ℕ) (bol : Bool) (done : List Pair) (text : List ℕ) → sign 63 text ≡ false
+    → flow_node_at 0 block_key bol text ≡ None
     → close_pairs sits done (block_pairs_at k bol text) ≡ None
 next_key_missing sits k bol done text h e =
-    no_key sits k bol done text h (ap (λ r. on r (λ key rest'. key_behind key (taken white rest') (dropped white rest'))) e)
+    no_key sits k bol done text h
+    (ap (λ r. on r (λ key rest'. key_behind key (taken white rest') (dropped white rest'))) e)
 
-pub next_colon_refused : (sits : Sits) (k : ℕ) (bol : Bool) (done : List Pair) (text : List ℕ) → sign 58 text ≡ true → close_pairs sits done (block_pairs_at k bol text) ≡ None
-next_colon_refused sits k bol done text h = no_key sits k bol done text (colon_no_question text h) (no_leaf_no_key 0 bol text (no_leaf_colon 0 bol text h))
+pub next_colon_refused : (sits : Sits) (k : ℕ) (bol : Bool) (done : List Pair) (text : List ℕ) → sign 58 text ≡ true
+    → close_pairs sits done (block_pairs_at k bol text) ≡ None
+next_colon_refused sits k bol done text h = no_key sits k bol done text (colon_no_question text h)
+    (no_leaf_no_key 0 bol text (no_leaf_colon 0 bol text h))

@@ -29,7 +29,8 @@ use Rattle.yaml_block.proofs.BlockSigns.{white_behind_spaces, no_pair_there, unt
 
 -- a node after these comments
 abbrev pub node_after : ℕ → Bool → Bool → List LineEnd → List ℕ → Read Node
-node_after m shallow bol comments text = node_behind block_key_in flow_leaf_at read_block (λ k t. block_items_at k t) (λ k b t. block_pairs_at k b t) m shallow bol (comments, text)
+node_after m shallow bol comments text = node_behind block_key_in flow_leaf_at read_block (λ k t. block_items_at k t)
+    (λ k b t. block_pairs_at k b t) m shallow bol (comments, text)
 
 -- whether a sequence here is deep enough
 abbrev pub is_deep : ℕ → Bool → ℕ → Bool
@@ -37,71 +38,101 @@ is_deep m shallow s = nat_le m (if shallow then suc s else s)
 
 -- ---- a sequence
 
-items_as_part : (comments : List LineEnd) (k : ℕ) (r : Read Items) → as_part (on r (λ is rest. Some (items comments k is, rest))) ≡ close_items (on_lines comments k) [] r
+items_as_part : (comments : List LineEnd) (k : ℕ) (r : Read Items)
+    → as_part (on r (λ is rest. Some (items comments k is, rest))) ≡ close_items (on_lines comments k) [] r
 items_as_part comments k None = refl
 items_as_part comments k (Some r) = refl
 
-pairs_as_part : (comments : List LineEnd) (k : ℕ) (r : Read Pairs) → as_part (on r (λ ps rest. Some (pairs comments k ps, rest))) ≡ close_pairs (on_lines comments k) [] r
+pairs_as_part : (comments : List LineEnd) (k : ℕ) (r : Read Pairs)
+    → as_part (on r (λ ps rest. Some (pairs comments k ps, rest))) ≡ close_pairs (on_lines comments k) [] r
 pairs_as_part comments k None = refl
 pairs_as_part comments k (Some r) = refl
 
-pub sequence_after : (m : ℕ) (shallow bol : Bool) (comments : List LineEnd) (text : List ℕ) → bol || not (is_empty comments) ≡ true → sign 45 (past_spaces text) ≡ true
+pub sequence_after : (m : ℕ) (shallow bol : Bool) (comments : List LineEnd) (text : List ℕ)
+    → bol || not (is_empty comments) ≡ true → sign 45 (past_spaces text) ≡ true
     → is_deep m shallow (spaces_before text) ≡ true
     → as_part (node_after m shallow bol comments text)
-    ≡ on (block_indented_at (spaces_before text) false (past (past_spaces text))) (λ i rest. plug (waits_item (on_lines comments (spaces_before text)) (spaces_before text) []) i rest)
+    ≡ on (block_indented_at (spaces_before text) false (past (past_spaces text)))
+    (λ i rest. plug (waits_item (on_lines comments (spaces_before text)) (spaces_before text) []) i rest)
 sequence_after m shallow bol comments text a s d =
-    ap as_part (choose (on (block_items_at (spaces_before text) (past_spaces text)) (λ is rest. Some (items comments (spaces_before text) is, rest))))
+    ap as_part (choose (on (block_items_at (spaces_before text) (past_spaces text))
+    (λ is rest. Some (items comments (spaces_before text) is, rest))))
     ∙ (items_as_part comments (spaces_before text) (block_items_at (spaces_before text) (past_spaces text))
     ∙ items_open (on_lines comments (spaces_before text)) (spaces_before text) [] (past_spaces text) s)
   where
     choose : (r : Read Node)
-        → (if (bol || not (is_empty comments)) && sign 45 (past_spaces text) && is_deep m shallow (spaces_before text) then r
-        else if (bol || not (is_empty comments)) && nat_le m (spaces_before text) && opens_pair block_key_in flow_leaf_at read_block (spaces_before text == 0) (past_spaces text)
-        then on (block_pairs_at (spaces_before text) (spaces_before text == 0) (past_spaces text)) (λ ps rest. Some (pairs comments (spaces_before text) ps, rest))
-        else leaf_at block_key_in flow_leaf_at read_block m bol (sep_at m bol comments (taken white text)) (dropped white text))
+        → (if (bol || not (is_empty comments)) && sign 45 (past_spaces text) && is_deep m shallow (spaces_before text)
+        then r
+        else if (bol || not (is_empty comments)) && nat_le m (spaces_before text) && opens_pair block_key_in
+        flow_leaf_at read_block (spaces_before text == 0) (past_spaces text)
+        then on (block_pairs_at (spaces_before text) (spaces_before text == 0) (past_spaces text))
+        (λ ps rest. Some (pairs comments (spaces_before text) ps, rest))
+        else leaf_at block_key_in flow_leaf_at read_block m bol (sep_at m bol comments (taken white text))
+        (dropped white text))
         ≡ r
     choose r = rw (a, s, d) refl
 
 -- ---- no sequence
 
 -- a mapping, where one may begin; else a leaf
-mapping_after : (m : ℕ) (shallow bol : Bool) (comments : List LineEnd) (text : List ℕ) → bol || not (is_empty comments) ≡ true
-    → sign 45 (past_spaces text) && is_deep m shallow (spaces_before text) ≡ false → nat_le m (spaces_before text) ≡ true
+mapping_after : (m : ℕ) (shallow bol : Bool) (comments : List LineEnd) (text : List ℕ)
+    → bol || not (is_empty comments) ≡ true
+    → sign 45 (past_spaces text) && is_deep m shallow (spaces_before text) ≡ false
+    → nat_le m (spaces_before text) ≡ true
     → as_part (node_after m shallow bol comments text)
     ≡ (if opens_pair block_key_in flow_leaf_at read_block (spaces_before text == 0) (past_spaces text)
-    then close_pairs (on_lines comments (spaces_before text)) [] (block_pairs_at (spaces_before text) (spaces_before text == 0) (past_spaces text))
-    else as_part (leaf_at block_key_in flow_leaf_at read_block m bol (sep_at m bol comments (taken white text)) (dropped white text)))
+    then close_pairs (on_lines comments (spaces_before text)) []
+    (block_pairs_at (spaces_before text) (spaces_before text == 0) (past_spaces text))
+    else as_part (leaf_at block_key_in flow_leaf_at read_block m bol (sep_at m bol comments (taken white text))
+    (dropped white text)))
 mapping_after m shallow bol comments text a s d =
-    ap as_part (choose (on (block_items_at (spaces_before text) (past_spaces text)) (λ is rest. Some (items comments (spaces_before text) is, rest)))
-    (on (block_pairs_at (spaces_before text) (spaces_before text == 0) (past_spaces text)) (λ ps rest. Some (pairs comments (spaces_before text) ps, rest)))
-    (leaf_at block_key_in flow_leaf_at read_block m bol (sep_at m bol comments (taken white text)) (dropped white text)))
-    ∙ through (opens_pair block_key_in flow_leaf_at read_block (spaces_before text == 0) (past_spaces text)) (block_pairs_at (spaces_before text) (spaces_before text == 0) (past_spaces text))
-    (leaf_at block_key_in flow_leaf_at read_block m bol (sep_at m bol comments (taken white text)) (dropped white text))
+    ap as_part (choose (on (block_items_at (spaces_before text) (past_spaces text))
+    (λ is rest. Some (items comments (spaces_before text) is, rest)))
+    (on (block_pairs_at (spaces_before text) (spaces_before text == 0) (past_spaces text))
+    (λ ps rest. Some (pairs comments (spaces_before text) ps, rest)))
+    (leaf_at block_key_in flow_leaf_at read_block m bol (sep_at m bol comments (taken white text))
+    (dropped white text)))
+    ∙ through (opens_pair block_key_in flow_leaf_at read_block (spaces_before text == 0) (past_spaces text))
+    (block_pairs_at (spaces_before text) (spaces_before text == 0) (past_spaces text))
+    (leaf_at block_key_in flow_leaf_at read_block m bol (sep_at m bol comments (taken white text))
+    (dropped white text))
   where
     choose : (x y z : Read Node)
-        → (if (bol || not (is_empty comments)) && sign 45 (past_spaces text) && is_deep m shallow (spaces_before text) then x
-        else if (bol || not (is_empty comments)) && nat_le m (spaces_before text) && opens_pair block_key_in flow_leaf_at read_block (spaces_before text == 0) (past_spaces text) then y else z)
-        ≡ (if opens_pair block_key_in flow_leaf_at read_block (spaces_before text == 0) (past_spaces text) then y else z)
+        → (if (bol || not (is_empty comments)) && sign 45 (past_spaces text) && is_deep m shallow (spaces_before text)
+        then x
+        else if (bol || not (is_empty comments)) && nat_le m (spaces_before text) && opens_pair block_key_in
+        flow_leaf_at read_block (spaces_before text == 0) (past_spaces text) then y else z)
+        ≡ (if opens_pair block_key_in flow_leaf_at read_block (spaces_before text == 0) (past_spaces text) then y
+        else z)
     choose x y z = rw (a, s, d) refl
 
     through : (b : Bool) (r : Read Pairs) (z : Read Node)
-        → as_part (if b then on r (λ ps rest. Some (pairs comments (spaces_before text) ps, rest)) else z) ≡ (if b then close_pairs (on_lines comments (spaces_before text)) [] r else as_part z)
+        → as_part (if b then on r (λ ps rest. Some (pairs comments (spaces_before text) ps, rest)) else z)
+        ≡ (if b then close_pairs (on_lines comments (spaces_before text)) [] r else as_part z)
     through true r z = pairs_as_part comments (spaces_before text) r
     through false r z = refl
 
 -- a leaf, where no mapping may begin
-leaf_after : (m : ℕ) (shallow bol : Bool) (comments : List LineEnd) (text : List ℕ) → bol || not (is_empty comments) ≡ true
+leaf_after : (m : ℕ) (shallow bol : Bool) (comments : List LineEnd) (text : List ℕ)
+    → bol || not (is_empty comments) ≡ true
     → sign 45 (past_spaces text) && is_deep m shallow (spaces_before text) ≡ false
-    → nat_le m (spaces_before text) && opens_pair block_key_in flow_leaf_at read_block (spaces_before text == 0) (past_spaces text) ≡ false
-    → node_after m shallow bol comments text ≡ leaf_at block_key_in flow_leaf_at read_block m bol (sep_at m bol comments (taken white text)) (dropped white text)
+    → nat_le m (spaces_before text) && opens_pair block_key_in flow_leaf_at read_block (spaces_before text == 0)
+    (past_spaces text) ≡ false
+    → node_after m shallow bol comments text ≡ leaf_at block_key_in flow_leaf_at read_block m bol
+    (sep_at m bol comments (taken white text)) (dropped white text)
 leaf_after m shallow bol comments text a s d =
-    choose (on (block_items_at (spaces_before text) (past_spaces text)) (λ is rest. Some (items comments (spaces_before text) is, rest)))
-    (on (block_pairs_at (spaces_before text) (spaces_before text == 0) (past_spaces text)) (λ ps rest. Some (pairs comments (spaces_before text) ps, rest)))
-    (leaf_at block_key_in flow_leaf_at read_block m bol (sep_at m bol comments (taken white text)) (dropped white text))
+    choose (on (block_items_at (spaces_before text) (past_spaces text))
+    (λ is rest. Some (items comments (spaces_before text) is, rest)))
+    (on (block_pairs_at (spaces_before text) (spaces_before text == 0) (past_spaces text))
+    (λ ps rest. Some (pairs comments (spaces_before text) ps, rest)))
+    (leaf_at block_key_in flow_leaf_at read_block m bol (sep_at m bol comments (taken white text))
+    (dropped white text))
   where
     choose : (x y z : Read Node)
-        → (if (bol || not (is_empty comments)) && sign 45 (past_spaces text) && is_deep m shallow (spaces_before text) then x
-        else if (bol || not (is_empty comments)) && nat_le m (spaces_before text) && opens_pair block_key_in flow_leaf_at read_block (spaces_before text == 0) (past_spaces text) then y else z)
+        → (if (bol || not (is_empty comments)) && sign 45 (past_spaces text) && is_deep m shallow (spaces_before text)
+        then x
+        else if (bol || not (is_empty comments)) && nat_le m (spaces_before text) && opens_pair block_key_in
+        flow_leaf_at read_block (spaces_before text == 0) (past_spaces text) then y else z)
         ≡ z
     choose x y z = rw (a, s, d) refl
 
@@ -115,63 +146,80 @@ begins_white (suc m) (c ∷ cs) l = elim (cases_Bool (c == 32)) [
   | inr e ↦ (let n : suc m ≤ 0 = rw e at l in absurd (omega arith))
 ]
 
-deep_sep : (m : ℕ) (bol : Bool) (comments : List LineEnd) (text : List ℕ) → bol || not (is_empty comments) ≡ true → nat_le m (spaces_before text) ≡ true
+deep_sep : (m : ℕ) (bol : Bool) (comments : List LineEnd) (text : List ℕ) → bol || not (is_empty comments) ≡ true
+    → nat_le m (spaces_before text) ≡ true
     → sep_at m bol comments (taken white text) ≡ Some (sep_after comments (taken white text))
 deep_sep m true [] text a d = refl
 deep_sep m false [] text a d = absurd (false≢true a)
 deep_sep m bol (e ∷ es) text a d =
-    let i : indents m (taken white text) ≡ true = and_from _ _ (taken_every white text) (begins_white m text (leb-true m (spaces_before text) d)) in
+    let i : indents m (taken white text) ≡ true = and_from _ _ (taken_every white text)
+    (begins_white m text (leb-true m (spaces_before text) d)) in
     rw i refl
 
-alone_sep : (m : ℕ) (bol : Bool) (comments : List LineEnd) (lead : List ℕ) → bol || not (is_empty comments) ≡ true → is_empty comments ≡ true → sep_at m bol comments lead ≡ Some (sep_after comments lead)
+alone_sep : (m : ℕ) (bol : Bool) (comments : List LineEnd) (lead : List ℕ) → bol || not (is_empty comments) ≡ true
+    → is_empty comments ≡ true → sep_at m bol comments lead ≡ Some (sep_after comments lead)
 alone_sep m true [] lead a e = refl
 alone_sep m false [] lead a e = absurd (false≢true a)
 alone_sep m bol (c ∷ cs) lead a e = absurd (false≢true e)
 
-too_shallow_sep : (m : ℕ) (bol : Bool) (comments : List LineEnd) (text : List ℕ) → is_empty comments ≡ false → nat_le m (spaces_before text) ≡ false → sep_at m bol comments (taken white text) ≡ None
+too_shallow_sep : (m : ℕ) (bol : Bool) (comments : List LineEnd) (text : List ℕ) → is_empty comments ≡ false
+    → nat_le m (spaces_before text) ≡ false → sep_at m bol comments (taken white text) ≡ None
 too_shallow_sep m bol [] text e d = absurd (false≢true (sym e))
 too_shallow_sep m bol (c ∷ cs) text e d = elim (cases_Bool (begins (spaces m) (taken white text))) [
-  | inl b ↦ (let l : m ≤ spaces_before (taken white text ++ dropped white text) = lead_deep m (taken white text) (dropped white text) b in
+  | inl b ↦ (let l : m ≤ spaces_before (taken white text ++ dropped white text) =
+      lead_deep m (taken white text) (dropped white text) b in
       absurd (false≢true (sym d ∙ (ap (λ t. nat_le m (spaces_before t)) (taken_split white text) ∙ le-leb m _ l))))
   | inr b ↦ (let i : indents m (taken white text) ≡ false = and_right _ _ b in rw i refl)
 ]
 
-pub sep_after_text : (comments : List LineEnd) (lead : List ℕ) → sep_text (sep_after comments lead) ≡ comments_text comments ++ lead
+pub sep_after_text : (comments : List LineEnd) (lead : List ℕ)
+    → sep_text (sep_after comments lead) ≡ comments_text comments ++ lead
 sep_after_text [] lead = refl
 sep_after_text (c ∷ cs) lead = refl
 
 -- where a leaf stands, by whether a line starts after the comments
-sep_starts : (bol here there : Bool) (comments : List LineEnd) (lead : List ℕ) → starts_line bol (comments_text comments) ≡ here → starts_line here lead ≡ there
+sep_starts : (bol here there : Bool) (comments : List LineEnd) (lead : List ℕ)
+    → starts_line bol (comments_text comments) ≡ here → starts_line here lead ≡ there
     → starts_line bol (sep_text (sep_after comments lead)) ≡ there
 sep_starts bol here there comments lead h t =
-    ap (starts_line bol) (sep_after_text comments lead) ∙ (starts_joined bol (comments_text comments) lead ∙ (ap (λ b. starts_line b lead) h ∙ t))
+    ap (starts_line bol) (sep_after_text comments lead)
+    ∙ (starts_joined bol (comments_text comments) lead ∙ (ap (λ b. starts_line b lead) h ∙ t))
 
-leaf_with : (m : ℕ) (bol there : Bool) (sep : Sep) (found : Option Sep) (text : List ℕ) → found ≡ Some sep → starts_line bol (sep_text sep) ≡ there
+leaf_with : (m : ℕ) (bol there : Bool) (sep : Sep) (found : Option Sep) (text : List ℕ) → found ≡ Some sep
+    → starts_line bol (sep_text sep) ≡ there
     → as_part (leaf_at block_key_in flow_leaf_at read_block m bol found text) ≡ leaf_part m there sep text
 leaf_with m bol there sep found text e b =
-    ap (λ s. as_part (leaf_at block_key_in flow_leaf_at read_block m bol s text)) e ∙ ap (λ x. leaf_part m x sep text) b
+    ap (λ s. as_part (leaf_at block_key_in flow_leaf_at read_block m bol s text)) e
+    ∙ ap (λ x. leaf_part m x sep text) b
 
 -- ---- what begins at the front of a line
 
 pub spaces_start : (s : ℕ) → starts_line true (spaces s) ≡ (s == 0)
 spaces_start zero = refl
-spaces_start (suc s) = white_starts (spaces s) (all_white s) ∙ sym (let z : (suc s == 0) ≡ false = grind (arith, nat_tests) in z)
+spaces_start (suc s) = white_starts (spaces s) (all_white s)
+    ∙ sym (let z : (suc s == 0) ≡ false = grind (arith, nat_tests) in z)
   where
     all_white : (s : ℕ) → every white (spaces s) ≡ true
     all_white zero = refl
     all_white (suc s) = all_white s
 
 -- here: whether a line starts after the comments; there: whether one starts where the leaf may stand
-pub mapping_or_leaf_after : (m : ℕ) (shallow bol here there : Bool) (comments : List LineEnd) (text : List ℕ) → bol || not (is_empty comments) ≡ true
-    → sign 45 (past_spaces text) && is_deep m shallow (spaces_before text) ≡ false → nat_le m (spaces_before text) ≡ true → first white (past_spaces text) ≡ false
-    → starts_line bol (comments_text comments) ≡ here → starts_line here (taken white text) ≡ there → (here ≡ true) ⊎ (text ≡ [])
+pub mapping_or_leaf_after : (m : ℕ) (shallow bol here there : Bool) (comments : List LineEnd) (text : List ℕ)
+    → bol || not (is_empty comments) ≡ true
+    → sign 45 (past_spaces text) && is_deep m shallow (spaces_before text) ≡ false
+    → nat_le m (spaces_before text) ≡ true → first white (past_spaces text) ≡ false
+    → starts_line bol (comments_text comments) ≡ here → starts_line here (taken white text) ≡ there
+    → (here ≡ true) ⊎ (text ≡ [])
     → as_part (node_after m shallow bol comments text)
-    ≡ part_at (Some (on_lines comments (spaces_before text), spaces_before text)) m there (sep_after comments (taken white text)) (past_spaces text)
+    ≡ part_at (Some (on_lines comments (spaces_before text), spaces_before text)) m there
+    (sep_after comments (taken white text)) (past_spaces text)
 mapping_or_leaf_after m shallow bol here there comments text a s d w h t f =
     mapping_after m shallow bol comments text a s d
     ∙ (ap (λ r. if opens_pair block_key_in flow_leaf_at read_block (spaces_before text == 0) (past_spaces text)
-    then close_pairs (on_lines comments (spaces_before text)) [] (block_pairs_at (spaces_before text) (spaces_before text == 0) (past_spaces text)) else r)
-    (leaf_with m bol there sep (sep_at m bol comments (taken white text)) (dropped white text) (deep_sep m bol comments text a d) (sep_starts bol here there comments (taken white text) h t)
+    then close_pairs (on_lines comments (spaces_before text)) []
+    (block_pairs_at (spaces_before text) (spaces_before text == 0) (past_spaces text)) else r)
+    (leaf_with m bol there sep (sep_at m bol comments (taken white text)) (dropped white text)
+    (deep_sep m bol comments text a d) (sep_starts bol here there comments (taken white text) h t)
     ∙ ap (leaf_part m there sep) (untabbed text w))
     ∙ same f)
   where
@@ -180,55 +228,75 @@ mapping_or_leaf_after m shallow bol here there comments text a s d w h t f =
 
     same : (here ≡ true) ⊎ (text ≡ [])
         → (if opens_pair block_key_in flow_leaf_at read_block (spaces_before text == 0) (past_spaces text)
-        then close_pairs (on_lines comments (spaces_before text)) [] (block_pairs_at (spaces_before text) (spaces_before text == 0) (past_spaces text)) else leaf_part m there (sep_after comments (taken white text)) (past_spaces text))
-        ≡ part_at (Some (on_lines comments (spaces_before text), spaces_before text)) m there (sep_after comments (taken white text)) (past_spaces text)
+        then close_pairs (on_lines comments (spaces_before text)) []
+        (block_pairs_at (spaces_before text) (spaces_before text == 0) (past_spaces text))
+        else leaf_part m there (sep_after comments (taken white text)) (past_spaces text))
+        ≡ part_at (Some (on_lines comments (spaces_before text), spaces_before text)) m there
+        (sep_after comments (taken white text)) (past_spaces text)
     same (inl e) =
-        let b : (spaces_before text == 0) ≡ there = sym (spaces_start (spaces_before text)) ∙ (ap (starts_line true) (sym (untabbed_taken text w)) ∙ (ap (λ x. starts_line x (taken white text)) (sym e) ∙ t)) in
+        let b : (spaces_before text == 0) ≡ there = sym (spaces_start (spaces_before text))
+        ∙ (ap (starts_line true) (sym (untabbed_taken text w))
+        ∙ (ap (λ x. starts_line x (taken white text)) (sym e) ∙ t)) in
         ap (λ x. if opens_pair block_key_in flow_leaf_at read_block x (past_spaces text)
-        then close_pairs (on_lines comments (spaces_before text)) [] (block_pairs_at (spaces_before text) x (past_spaces text)) else leaf_part m there (sep_after comments (taken white text)) (past_spaces text)) b
+        then close_pairs (on_lines comments (spaces_before text)) []
+        (block_pairs_at (spaces_before text) x (past_spaces text))
+        else leaf_part m there (sep_after comments (taken white text)) (past_spaces text)) b
     same (inr e) =
         let u : first solid (past_spaces text) ≡ false = ap (λ x. first solid (past_spaces x)) e in
-        rw (no_pair_there (spaces_before text == 0) (past_spaces text) u, no_pair_there there (past_spaces text) u) refl
+        rw (no_pair_there (spaces_before text == 0) (past_spaces text) u, no_pair_there there (past_spaces text) u)
+        refl
 
 -- a leaf after a TAB, or where its line is less deep and no comments stand before it
-pub leaf_alone_after : (m : ℕ) (shallow bol here there : Bool) (comments : List LineEnd) (text : List ℕ) → bol || not (is_empty comments) ≡ true
-    → sign 45 (past_spaces text) && is_deep m shallow (spaces_before text) ≡ false → nat_le m (spaces_before text) && not (first white (past_spaces text)) ≡ false
+pub leaf_alone_after : (m : ℕ) (shallow bol here there : Bool) (comments : List LineEnd) (text : List ℕ)
+    → bol || not (is_empty comments) ≡ true
+    → sign 45 (past_spaces text) && is_deep m shallow (spaces_before text) ≡ false
+    → nat_le m (spaces_before text) && not (first white (past_spaces text)) ≡ false
     → is_empty comments || nat_le m (spaces_before text) ≡ true
     → starts_line bol (comments_text comments) ≡ here → starts_line here (taken white text) ≡ there
-    → as_part (node_after m shallow bol comments text) ≡ part_at None m there (sep_after comments (taken white text)) (dropped white text)
+    → as_part (node_after m shallow bol comments text) ≡ part_at None m there (sep_after comments (taken white text))
+    (dropped white text)
 leaf_alone_after m shallow bol here there comments text a s d o h t =
     ap as_part (leaf_after m shallow bol comments text a s (unpaired (nat_le m (spaces_before text)) d))
-    ∙ leaf_with m bol there (sep_after comments (taken white text)) (sep_at m bol comments (taken white text)) (dropped white text) (sep_there o)
+    ∙ leaf_with m bol there (sep_after comments (taken white text)) (sep_at m bol comments (taken white text))
+    (dropped white text) (sep_there o)
     (sep_starts bol here there comments (taken white text) h t)
   where
-    unpaired : (b : Bool) → b && not (first white (past_spaces text)) ≡ false → b && opens_pair block_key_in flow_leaf_at read_block (spaces_before text == 0) (past_spaces text) ≡ false
+    unpaired : (b : Bool) → b && not (first white (past_spaces text)) ≡ false
+        → b && opens_pair block_key_in flow_leaf_at read_block (spaces_before text == 0) (past_spaces text) ≡ false
     unpaired b d = elim (and_cases b (not (first white (past_spaces text))) d) [
       | inl e ↦ and_left _ _ e
-      | inr e ↦ and_right _ _ (no_pair_there (spaces_before text == 0) (past_spaces text) (white_unsolid_first (past_spaces text) (not-false _ e)))
+      | inr e ↦ and_right _ _ (no_pair_there (spaces_before text == 0) (past_spaces text)
+          (white_unsolid_first (past_spaces text) (not-false _ e)))
     ]
 
-    sep_there : is_empty comments || nat_le m (spaces_before text) ≡ true → sep_at m bol comments (taken white text) ≡ Some (sep_after comments (taken white text))
+    sep_there : is_empty comments || nat_le m (spaces_before text) ≡ true
+        → sep_at m bol comments (taken white text) ≡ Some (sep_after comments (taken white text))
     sep_there o = elim (or_cases (is_empty comments) (nat_le m (spaces_before text)) o) [
       | inl e ↦ alone_sep m bol comments (taken white text) a e
       | inr e ↦ deep_sep m bol comments text a e
     ]
 
 -- a line less deep after comments
-pub too_shallow_after : (m : ℕ) (shallow bol : Bool) (comments : List LineEnd) (text : List ℕ) → bol || not (is_empty comments) ≡ true
-    → sign 45 (past_spaces text) && is_deep m shallow (spaces_before text) ≡ false → nat_le m (spaces_before text) ≡ false → is_empty comments ≡ false
+pub too_shallow_after : (m : ℕ) (shallow bol : Bool) (comments : List LineEnd) (text : List ℕ)
+    → bol || not (is_empty comments) ≡ true
+    → sign 45 (past_spaces text) && is_deep m shallow (spaces_before text) ≡ false
+    → nat_le m (spaces_before text) ≡ false → is_empty comments ≡ false
     → as_part (node_after m shallow bol comments text) ≡ None
 too_shallow_after m shallow bol comments text a s d e =
     ap as_part (leaf_after m shallow bol comments text a s (and_left _ _ d)
-    ∙ ap (λ sep. leaf_at block_key_in flow_leaf_at read_block m bol sep (dropped white text)) (too_shallow_sep m bol comments text e d))
+    ∙ ap (λ sep. leaf_at block_key_in flow_leaf_at read_block m bol sep (dropped white text))
+    (too_shallow_sep m bol comments text e d))
 
 -- ---- whether there are comments
 
-none_read : (bol : Bool) (text : List ℕ) (r : Read LineEnd) → Sound (LineOf bol text) r → (more_comments text (λ rest. all_comments true rest) r).1 ≡ text
+none_read : (bol : Bool) (text : List ℕ) (r : Read LineEnd) → Sound (LineOf bol text) r
+    → (more_comments text (λ rest. all_comments true rest) r).1 ≡ text
     → (more_comments text (λ rest. all_comments true rest) r).0 ≡ []
 none_read bol text None s e = refl
 none_read bol text (Some r) s e =
     let l : length r.1 < length text = shorter bol text r.1 r.0 s in
-    let k : length r.1 ≡ length (comments_text (all_comments true r.1).0 ++ (all_comments true r.1).1) = ap length (all_sound true r.1).0 in
+    let k : length r.1 ≡ length (comments_text (all_comments true r.1).0 ++ (all_comments true r.1).1) =
+    ap length (all_sound true r.1).0 in
     let j : length (all_comments true r.1).1 ≡ length text = ap length e in
     absurd (omega (arith, l, k, j, length-append (comments_text (all_comments true r.1).0) (all_comments true r.1).1))
 
@@ -236,19 +304,24 @@ none_read bol text (Some r) s e =
 pub no_comments : (bol : Bool) (text : List ℕ) → (all_comments bol text).1 ≡ text → (all_comments bol text).0 ≡ []
 no_comments bol text e =
     ap (λ (c : List LineEnd × List ℕ). c.0) (comments_step bol text)
-    ∙ none_read bol text (read_line_end bol text) (line_sound bol text) (ap (λ (c : List LineEnd × List ℕ). c.1) (sym (comments_step bol text)) ∙ e)
+    ∙ none_read bol text (read_line_end bol text) (line_sound bol text)
+    (ap (λ (c : List LineEnd × List ℕ). c.1) (sym (comments_step bol text)) ∙ e)
 
 -- ---- at the end of the text
 
 -- no node stands there
-pub nothing_after : (m : ℕ) (shallow bol : Bool) (comments : List LineEnd) (text : List ℕ) → bol || not (is_empty comments) ≡ true → past_spaces text ≡ []
+pub nothing_after : (m : ℕ) (shallow bol : Bool) (comments : List LineEnd) (text : List ℕ)
+    → bol || not (is_empty comments) ≡ true → past_spaces text ≡ []
     → node_after m shallow bol comments text ≡ None
 nothing_after m shallow bol comments text a e =
     let u : first solid (past_spaces text) ≡ false = ap (first solid) e in
     let drops : dropped white text ≡ [] = sym (white_behind_spaces text) ∙ ap (dropped white) e in
-    leaf_after m shallow bol comments text a (and_left _ _ (ap (sign 45) e)) (and_right _ _ (no_pair_there (spaces_before text == 0) (past_spaces text) u))
-    ∙ (ap (leaf_at block_key_in flow_leaf_at read_block m bol (sep_at m bol comments (taken white text))) drops ∙ none (sep_at m bol comments (taken white text)))
+    leaf_after m shallow bol comments text a (and_left _ _ (ap (sign 45) e))
+    (and_right _ _ (no_pair_there (spaces_before text == 0) (past_spaces text) u))
+    ∙ (ap (leaf_at block_key_in flow_leaf_at read_block m bol (sep_at m bol comments (taken white text))) drops
+    ∙ none (sep_at m bol comments (taken white text)))
   where
     none : (sep : Option Sep) → leaf_at block_key_in flow_leaf_at read_block m bol sep [] ≡ None
     none None = refl
-    none (Some sep) = ap (λ r. on r (λ f rest. flow_with sep f (all_comments false rest))) (no_leaf_unsolid m (starts_line bol (sep_text sep)) [] refl)
+    none (Some sep) = ap (λ r. on r (λ f rest. flow_with sep f (all_comments false rest)))
+        (no_leaf_unsolid m (starts_line bol (sep_text sep)) [] refl)

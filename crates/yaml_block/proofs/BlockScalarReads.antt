@@ -24,18 +24,22 @@ pub record BlockReads (m : ℕ) (text behind value : List ℕ) (folded : Bool) :
   pub indent : ℕ
   pub stops : goes_on indent behind ≡ false
   pub reads : read_block m text ≡ Some (scalar (read_trail indent behind).0, (read_trail indent behind).1)
-  pub text_is : (comments : List LineEnd) → block_text (scalar comments) ≡ block_body_text (scalar []) ++ comments_text comments
+  pub text_is : (comments : List LineEnd) → block_text (scalar comments) ≡ block_body_text (scalar [])
+      ++ comments_text comments
   pub body_is : (comments : List LineEnd) → block_body_text (scalar comments) ≡ block_body_text (scalar [])
   pub means : (comments : List LineEnd) (at : ℕ)
-      → block_events at (scalar comments) ≡ scalar_event (if folded then folded_style else literal_style) at (at + byte_len (block_body_text (scalar []))) value ∷ []
+      → block_events at (scalar comments) ≡ scalar_event (if folded then folded_style else literal_style) at
+      (at + byte_len (block_body_text (scalar []))) value ∷ []
   pub spells : text ≡ block_body_text (scalar []) ++ behind
 
-pub block_reads : (m : ℕ) (text lines behind value : List ℕ) (folded : Bool) (digit : Option ℕ) (chomping : Chomping) → IsHeader text folded digit chomping lines
+pub block_reads : (m : ℕ) (text lines behind value : List ℕ) (folded : Bool) (digit : Option ℕ) (chomping : Chomping)
+    → IsHeader text folded digit chomping lines
     → IsBody digit m folded chomping lines value behind → BlockReads m text behind value folded
 block_reads m text lines behind value folded digit chomping h b =
     let header : Header = digit_first h.header in
     let found : read_header text ≡ Some (header, lines) = header_found text h.header lines h.stands in
-    let body : read_body (h.header).digit m lines ≡ Some (b.body, behind) = ap (λ d. read_body d m lines) (h.means).indentation ∙ body_found digit m lines b.body behind b.stands in
+    let body : read_body (h.header).digit m lines ≡ Some (b.body, behind) =
+    ap (λ d. read_body d m lines) (h.means).indentation ∙ body_found digit m lines b.body behind b.stands in
     let trail : List LineEnd × List ℕ = read_trail (b.body).indent behind in
     let reads : read_block m text ≡ Some (block_of header b.body trail.0, trail.1) = rw (found, body) refl in
     record {
@@ -46,9 +50,14 @@ block_reads m text lines behind value folded digit chomping h b =
       text_is = λ comments. refl;
       body_is = λ comments. refl;
       means = λ comments at.
-          ap (λ f. scalar_event (if f then folded_style else literal_style) at (at + byte_len (block_body_text (block_of header b.body []))) (block_value f (h.header).chomping (b.body).gaps (b.body).texts) ∷ []) (h.means).style
-          ∙ (ap (λ c. scalar_event (if folded then folded_style else literal_style) at (at + byte_len (block_body_text (block_of header b.body []))) (block_value folded c (b.body).gaps (b.body).texts) ∷ []) (h.means).chomps
-          ∙ ap (λ v. scalar_event (if folded then folded_style else literal_style) at (at + byte_len (block_body_text (block_of header b.body []))) v ∷ []) (sym b.means));
+          ap (λ f. scalar_event (if f then folded_style else literal_style) at
+          (at + byte_len (block_body_text (block_of header b.body [])))
+          (block_value f (h.header).chomping (b.body).gaps (b.body).texts) ∷ []) (h.means).style
+          ∙ (ap (λ c. scalar_event (if folded then folded_style else literal_style) at
+          (at + byte_len (block_body_text (block_of header b.body [])))
+          (block_value folded c (b.body).gaps (b.body).texts) ∷ []) (h.means).chomps
+          ∙ ap (λ v. scalar_event (if folded then folded_style else literal_style) at
+          (at + byte_len (block_body_text (block_of header b.body []))) v ∷ []) (sym b.means));
       spells = (blocks_read.sound m text (block_of header b.body trail.0) trail.1 reads).0
           ∙ (append_assoc (block_body_text (block_of header b.body [])) (comments_text trail.0) trail.1
           ∙ ap (λ t. block_body_text (block_of header b.body []) ++ t) (sym (trail_sound (b.body).indent behind).0));
@@ -59,12 +68,15 @@ block_no_header m text n = by_cases (read_header text) refl
   where
     by_cases : (r : Read Header) → read_header text ≡ r → read_block m text ≡ None
     by_cases None e = rw e refl
-    by_cases (Some r) e = absurd (let i : IsHeader text (r.0).folded (r.0).digit (r.0).chomping r.1 = header_is text r.0 r.1 e in n i.header r.1 i.stands)
+    by_cases (Some r) e = absurd (let i : IsHeader text (r.0).folded (r.0).digit (r.0).chomping r.1 =
+        header_is text r.0 r.1 e in n i.header r.1 i.stands)
 
-pub block_no_body : (m : ℕ) (text lines : List ℕ) (folded : Bool) (digit : Option ℕ) (chomping : Chomping) → IsHeader text folded digit chomping lines → NoBody digit m lines → read_block m text ≡ None
+pub block_no_body : (m : ℕ) (text lines : List ℕ) (folded : Bool) (digit : Option ℕ) (chomping : Chomping)
+    → IsHeader text folded digit chomping lines → NoBody digit m lines → read_block m text ≡ None
 block_no_body m text lines folded digit chomping h n =
     let found : read_header text ≡ Some (digit_first h.header, lines) = header_found text h.header lines h.stands in
-    let none : read_body (h.header).digit m lines ≡ None = ap (λ d. read_body d m lines) (h.means).indentation ∙ by_cases (read_body digit m lines) refl in
+    let none : read_body (h.header).digit m lines ≡ None = ap (λ d. read_body d m lines) (h.means).indentation
+    ∙ by_cases (read_body digit m lines) refl in
     rw (found, none) refl
   where
     fits : digit_fits digit ≡ true
@@ -72,7 +84,9 @@ block_no_body m text lines folded digit chomping h n =
 
     by_cases : (r : Read Body) → read_body digit m lines ≡ r → r ≡ None
     by_cases None e = refl
-    by_cases (Some r) e = absurd (let i : IsBody digit m folded chomping lines (block_value folded chomping (r.0).gaps (r.0).texts) r.1 = body_is digit m folded chomping lines r.0 r.1 fits e in n i.body r.1 i.stands)
+    by_cases (Some r) e = absurd (let i : IsBody digit m folded chomping lines
+        (block_value folded chomping (r.0).gaps (r.0).texts) r.1 =
+        body_is digit m folded chomping lines r.0 r.1 fits e in n i.body r.1 i.stands)
 
 -- ---- B3: the comments after it
 
@@ -82,41 +96,51 @@ hash_nb (c ∷ cs) h = ap nb (eqb-true c 35 h)
 
 hash_unmarked : (text : List ℕ) → first hash text ≡ true → marker text ≡ false
 hash_unmarked [] h = absurd (false≢true h)
-hash_unmarked (c ∷ cs) h = subst (λ (x : ℕ). marker (x ∷ cs) ≡ false) (sym (eqb-true c 35 h)) (marker_first 35 cs refl refl)
+hash_unmarked (c ∷ cs) h = subst (λ (x : ℕ). marker (x ∷ cs) ≡ false) (sym (eqb-true c 35 h))
+    (marker_first 35 cs refl refl)
 
 unmarked : (text : List ℕ) → first hash (past_spaces text) ≡ true → no_marker true text ≡ true
 unmarked text h = elim (cases_eq (spaces_before text) 0) [
-  | inl e ↦ (let u : past_spaces text ≡ text = none_spaced text e in not_from_false (marker text) (hash_unmarked text (ap (first hash) (sym u) ∙ h)))
+  | inl e ↦ (let u : past_spaces text ≡ text = none_spaced text e in not_from_false (marker text)
+      (hash_unmarked text (ap (first hash) (sym u) ∙ h)))
   | inr n ↦ spaced_unmarked text (omega (arith, n))
 ]
 
 -- a comment line that stops the text lines has fewer spaces than these
-stopped_before : (q : ℕ) (text : List ℕ) → goes_on q text ≡ false → first hash (past_spaces text) ≡ true → spaces_before text < q
+stopped_before : (q : ℕ) (text : List ℕ) → goes_on q text ≡ false → first hash (past_spaces text) ≡ true
+    → spaces_before text < q
 stopped_before q text g h =
     let e : Ended q text = ended_parts q text g in
     elim (cases_lt (spaces_before text) q) [
       | inl l ↦ l
       | inr l ↦ elim (cases_eq (spaces_before text) q) [
-        | inl i ↦ absurd (false≢true (sym e.no_text ∙ and_from _ _ (and_from _ _ (eq-eqb (spaces_before text) q i) (hash_nb (past_spaces text) h)) (unmarked text h)))
+        | inl i ↦ absurd (false≢true (sym e.no_text
+            ∙ and_from _ _ (and_from _ _ (eq-eqb (spaces_before text) q i) (hash_nb (past_spaces text) h))
+            (unmarked text h)))
         | inr n ↦ absurd (false≢true (sym e.narrow ∙ lt-ltb q (spaces_before text) (omega (arith, l, n))))
       ]
     ]
 
-pub trail_is : (q : ℕ) (text : List ℕ) → goes_on q text ≡ false → first hash (past_spaces text) && is_line_end text ≡ true → read_trail q text ≡ all_comments true text
+pub trail_is : (q : ℕ) (text : List ℕ) → goes_on q text ≡ false
+    → first hash (past_spaces text) && is_line_end text ≡ true → read_trail q text ≡ all_comments true text
 trail_is q text g h =
     let p : (first hash (past_spaces text) ≡ true) × (is_line_end text ≡ true) = and_parts _ _ h in
     let l : nat_lt (spaces_before text) q ≡ true = lt-ltb (spaces_before text) q (stopped_before q text g p.0) in
     choose l p.0 p.1 (all_comments true text)
   where
-    choose : nat_lt (spaces_before text) q ≡ true → first hash (past_spaces text) ≡ true → is_line_end text ≡ true → (r : List LineEnd × List ℕ) → (if trail_here q text then r else ([], text)) ≡ r
+    choose : nat_lt (spaces_before text) q ≡ true → first hash (past_spaces text) ≡ true → is_line_end text ≡ true
+        → (r : List LineEnd × List ℕ) → (if trail_here q text then r else ([], text)) ≡ r
     choose l c e r = rw (l, c, e) refl
 
-pub no_trail : (q : ℕ) (text : List ℕ) → first hash (past_spaces text) && is_line_end text ≡ false → read_trail q text ≡ ([], text)
-no_trail q text h = choose (nothing (nat_lt (spaces_before text) q) (first hash (past_spaces text)) (is_line_end text) h) (all_comments true text)
+pub no_trail : (q : ℕ) (text : List ℕ) → first hash (past_spaces text) && is_line_end text ≡ false
+    → read_trail q text ≡ ([], text)
+no_trail q text h = choose (nothing (nat_lt (spaces_before text) q) (first hash (past_spaces text)) (is_line_end text)
+    h) (all_comments true text)
   where
     nothing : (a b c : Bool) → b && c ≡ false → a && b && c ≡ false
     nothing true b c h = h
     nothing false b c h = refl
 
-    choose : trail_here q text ≡ false → (r : List LineEnd × List ℕ) → (if trail_here q text then r else ([], text)) ≡ ([], text)
+    choose : trail_here q text ≡ false → (r : List LineEnd × List ℕ)
+        → (if trail_here q text then r else ([], text)) ≡ ([], text)
     choose e r = rw e refl

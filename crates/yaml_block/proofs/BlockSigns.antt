@@ -41,7 +41,8 @@ untabbed (c ∷ cs) h = elim (cases_Bool (c == 32)) [
   | inr e ↦ (let w : (c == 32) || (c == 9) ≡ false = rw e at h in rw (e, (or_parts (c == 32) (c == 9) w).1) refl)
 ]
 
-pub untabbed_taken : (text : List ℕ) → first white (past_spaces text) ≡ false → taken white text ≡ spaces (spaces_before text)
+pub untabbed_taken : (text : List ℕ) → first white (past_spaces text) ≡ false
+    → taken white text ≡ spaces (spaces_before text)
 untabbed_taken [] h = refl
 untabbed_taken (c ∷ cs) h = elim (cases_Bool (c == 32)) [
   | inl e ↦ (let more : first white (past_spaces cs) ≡ false = rw e at h in
@@ -53,7 +54,11 @@ untabbed_taken (c ∷ cs) h = elim (cases_Bool (c == 32)) [
 -- white is passed alike from the front and from behind the spaces
 pub white_behind_spaces : (text : List ℕ) → dropped white (past_spaces text) ≡ dropped white text
 white_behind_spaces [] = refl
-white_behind_spaces (c ∷ cs) = elim (cases_Bool (c == 32)) [ inl e ↦ rw e (white_behind_spaces cs) | inr e ↦ ap (dropped white) (kept e) ]
+white_behind_spaces (c ∷ cs) = elim (cases_Bool (c == 32)) [
+  | inl e ↦ rw e (white_behind_spaces cs)
+  | inr e ↦ ap
+      (dropped white) (kept e)
+]
   where
     kept : c == 32 ≡ false → past_spaces (c ∷ cs) ≡ c ∷ cs
     kept e = rw e refl
@@ -67,7 +72,8 @@ none_taken (c ∷ cs) h = elim (cases_Bool (c == 32)) [
 ]
 
 -- white with no TAB has a space
-some_spaces : (text : List ℕ) → is_empty (taken white text) ≡ false → first white (past_spaces text) ≡ false → nat_le 1 (spaces_before text) ≡ true
+some_spaces : (text : List ℕ) → is_empty (taken white text) ≡ false → first white (past_spaces text) ≡ false
+    → nat_le 1 (spaces_before text) ≡ true
 some_spaces text h t = elim (cases_eq (spaces_before text) 0) [
   | inl e ↦ absurd (false≢true (sym h ∙ ap is_empty (untabbed_taken text t ∙ ap spaces e)))
   | inr n ↦ grind (arith, nat_tests)
@@ -96,7 +102,8 @@ all_end text = comments_end (suc (length text)) text (omega arith)
 pub solid_goes_on : (text : List ℕ) → first solid (past_spaces text) ≡ true → LineGoesOn text
 solid_goes_on text h = record {
   none = ap (all_comments false) (spaces_split text)
-      ∙ (no_comments false (spaces (spaces_before text)) (past_spaces text) (every_space (spaces_before text)) h ∙ ap (λ t. ([], t)) (sym (spaces_split text)));
+      ∙ (no_comments false (spaces (spaces_before text)) (past_spaces text) (every_space (spaces_before text)) h
+      ∙ ap (λ t. ([], t)) (sym (spaces_split text)));
   some = some text h;
 }
   where
@@ -104,7 +111,8 @@ solid_goes_on text h = record {
     some [] h = absurd (false≢true h)
     some (c ∷ cs) h = refl
 
-unclosed_by : (text : List ℕ) (r : Read LineEnd) → closes_line (more_comments text (λ rest. all_comments true rest) r) ≡ false
+unclosed_by : (text : List ℕ) (r : Read LineEnd) → closes_line (more_comments text (λ rest. all_comments true rest) r)
+    ≡ false
     → (more_comments text (λ rest. all_comments true rest) r ≡ ([], text)) × (is_empty text ≡ false)
 unclosed_by [] None h = absurd (false≢true (sym h))
 unclosed_by (c ∷ cs) None h = (refl, refl)
@@ -113,105 +121,138 @@ unclosed_by text (Some r) h = absurd (false≢true (sym h ∙ not_from_false _ (
 -- where no comments close the line, it goes on
 pub unclosed_goes_on : (text : List ℕ) → closes_line (all_comments false text) ≡ false → LineGoesOn text
 unclosed_goes_on text h =
-    let p : (more_comments text (λ rest. all_comments true rest) (read_line_end false text) ≡ ([], text)) × (is_empty text ≡ false) =
+    let p : (more_comments text (λ rest. all_comments true rest) (read_line_end false text) ≡ ([], text))
+    × (is_empty text ≡ false) =
     unclosed_by text (read_line_end false text) (ap closes_line (sym (comments_step false text)) ∙ h) in
     record { none = comments_step false text ∙ p.0; some = p.1 }
 
 -- before something solid no comments close the line
-pub solid_unclosed : (text : List ℕ) → first solid (past_spaces text) ≡ true → closes_line (all_comments false text) ≡ false
+pub solid_unclosed : (text : List ℕ) → first solid (past_spaces text) ≡ true
+    → closes_line (all_comments false text) ≡ false
 solid_unclosed text h = let g : LineGoesOn text = solid_goes_on text h in ap closes_line g.none ∙ and_left _ _ g.some
 
 -- where comments close the line, nothing solid stands behind its spaces
-closed_unsolid : (text : List ℕ) → closes_line (all_comments false text) ≡ true → first solid (past_spaces text) ≡ false
+closed_unsolid : (text : List ℕ) → closes_line (all_comments false text) ≡ true
+    → first solid (past_spaces text) ≡ false
 closed_unsolid text h =
     let s : CommentsOf false text (all_comments false text) = all_sound false text in
     ap (λ t. first solid (past_spaces t)) s.0
-    ∙ comments_closed (all_comments false text).0 (all_comments false text).1 (tail_fit (all_comments false text).0 (all_comments false text).1 s.1 h)
+    ∙ comments_closed (all_comments false text).0 (all_comments false text).1
+    (tail_fit (all_comments false text).0 (all_comments false text).1 s.1 h)
 
 -- ---- on the line of the sign
 
 -- no pair opens at what is not solid
-pub no_pair_there : (bol : Bool) (text : List ℕ) → first solid text ≡ false → opens_pair block_key_in flow_leaf_at read_block bol text ≡ false
-no_pair_there bol text h = or_from _ _ (unsolid_sign 63 text refl h) (ap is_some (no_leaf_no_key 0 bol text (no_leaf_unsolid 0 bol text h)))
+pub no_pair_there : (bol : Bool) (text : List ℕ) → first solid text ≡ false
+    → opens_pair block_key_in flow_leaf_at read_block bol text ≡ false
+no_pair_there bol text h = or_from _ _ (unsolid_sign 63 text refl h)
+    (ap is_some (no_leaf_no_key 0 bol text (no_leaf_unsolid 0 bol text h)))
 
 inline_node : (m : ℕ) (shallow : Bool) (text : List ℕ) → all_comments false text ≡ ([], text)
-    → block_node_at m shallow false text ≡ leaf_at block_key_in flow_leaf_at read_block m false (sep_at m false [] (taken white text)) (dropped white text)
-inline_node m shallow text e = node_steps m shallow false text ∙ ap (node_behind block_key_in flow_leaf_at read_block block_items_at block_pairs_at m shallow false) e
+    → block_node_at m shallow false text ≡ leaf_at block_key_in flow_leaf_at read_block m false
+    (sep_at m false [] (taken white text)) (dropped white text)
+inline_node m shallow text e = node_steps m shallow false text
+    ∙ ap (node_behind block_key_in flow_leaf_at read_block block_items_at block_pairs_at m shallow false) e
 
 -- a node on a line that goes on is a leaf behind white
-pub leaf_on_line : (m : ℕ) (shallow : Bool) (text : List ℕ) → all_comments false text ≡ ([], text) → is_empty (taken white text) ≡ false
-    → as_part (block_node_at m shallow false text) ≡ part_at None m false (inline (taken white text)) (dropped white text)
+pub leaf_on_line : (m : ℕ) (shallow : Bool) (text : List ℕ) → all_comments false text ≡ ([], text)
+    → is_empty (taken white text) ≡ false
+    → as_part (block_node_at m shallow false text) ≡ part_at None m false (inline (taken white text))
+    (dropped white text)
 leaf_on_line m shallow text e w =
-    ap as_part (inline_node m shallow text e ∙ ap (λ sep. leaf_at block_key_in flow_leaf_at read_block m false sep (dropped white text)) (some (taken white text) w))
-    ∙ ap (λ b. leaf_part m b (inline (taken white text)) (dropped white text)) (white_starts (taken white text) (taken_every white text))
+    ap as_part (inline_node m shallow text e ∙ ap (λ sep. leaf_at block_key_in flow_leaf_at read_block m false sep
+    (dropped white text)) (some (taken white text) w))
+    ∙ ap (λ b. leaf_part m b (inline (taken white text)) (dropped white text))
+    (white_starts (taken white text) (taken_every white text))
   where
     some : (lead : List ℕ) → is_empty lead ≡ false → sep_at m false [] lead ≡ Some (inline lead)
     some lead h = rw h refl
 
-pub nothing_on_line : (m : ℕ) (shallow : Bool) (text : List ℕ) → all_comments false text ≡ ([], text) → is_empty (taken white text) ≡ true
+pub nothing_on_line : (m : ℕ) (shallow : Bool) (text : List ℕ) → all_comments false text ≡ ([], text)
+    → is_empty (taken white text) ≡ true
     → block_node_at m shallow false text ≡ None
 nothing_on_line m shallow text e w =
-    inline_node m shallow text e ∙ ap (λ sep. leaf_at block_key_in flow_leaf_at read_block m false sep (dropped white text)) (none (taken white text) w)
+    inline_node m shallow text e ∙ ap (λ sep. leaf_at block_key_in flow_leaf_at read_block m false sep
+    (dropped white text)) (none (taken white text) w)
   where
     none : (lead : List ℕ) → is_empty lead ≡ true → sep_at m false [] lead ≡ None
     none lead h = rw h refl
 
 indented_on_line : (k : ℕ) (shallow : Bool) (text : List ℕ) → LineGoesOn text
-    → indented_node k shallow (λ t. block_node_at (suc k) shallow false t) text (all_comments false text) ≡ as_part (block_node_at (suc k) shallow false text)
+    → indented_node k shallow (λ t. block_node_at (suc k) shallow false t) text (all_comments false text) ≡ as_part
+    (block_node_at (suc k) shallow false text)
 indented_on_line k shallow text g =
-    ap (indented_node k shallow (λ t. block_node_at (suc k) shallow false t) text) g.none ∙ on_line (block_node_at (suc k) shallow false text)
+    ap (indented_node k shallow (λ t. block_node_at (suc k) shallow false t) text) g.none
+    ∙ on_line (block_node_at (suc k) shallow false text)
   where
-    on_line : (r : Read Node) → (if omits (suc k) shallow ([], text) then Some (omitted [], text) else on r (λ n rest. Some (node n, rest))) ≡ as_part r
+    on_line : (r : Read Node) → (if omits (suc k) shallow ([], text) then Some (omitted [], text)
+        else on r (λ n rest. Some (node n, rest))) ≡ as_part r
     on_line r = rw g.some refl
 
 -- no compact collection, where no spaces stand or something other than a sign or a key behind them
-not_compact : (compact shallow : Bool) (k : ℕ) (text : List ℕ) → nat_le 1 (spaces_before text) && sign 45 (past_spaces text) ≡ false
-    → nat_le 1 (spaces_before text) && opens_pair block_key_in flow_leaf_at read_block false (past_spaces text) ≡ false
-    → part_behind compact shallow k text ≡ indented_node k shallow (λ t. block_node_at (suc k) shallow false t) text (all_comments false text)
+not_compact : (compact shallow : Bool) (k : ℕ) (text : List ℕ)
+    → nat_le 1 (spaces_before text) && sign 45 (past_spaces text) ≡ false
+    → nat_le 1 (spaces_before text) && opens_pair block_key_in flow_leaf_at read_block false (past_spaces text)
+    ≡ false
+    → part_behind compact shallow k text ≡ indented_node k shallow (λ t. block_node_at (suc k) shallow false t) text
+    (all_comments false text)
 not_compact false shallow k text d o = refl
 not_compact true shallow k text d o = node_behind_sign k shallow text d o
 
 -- a compact sequence
-pub compact_sequence_opens : (k : ℕ) (shallow : Bool) (text : List ℕ) → is_empty (taken white text) ≡ false → first white (past_spaces text) ≡ false → sign 45 (past_spaces text) ≡ true
+pub compact_sequence_opens : (k : ℕ) (shallow : Bool) (text : List ℕ) → is_empty (taken white text) ≡ false
+    → first white (past_spaces text) ≡ false → sign 45 (past_spaces text) ≡ true
     → part_behind true shallow k text
-    ≡ on (block_indented_at (k + 1 + spaces_before text) false (past (past_spaces text))) (λ i rest. plug (waits_item (on_sign_line (spaces_before text)) (k + 1 + spaces_before text) []) i rest)
+    ≡ on (block_indented_at (k + 1 + spaces_before text) false (past (past_spaces text)))
+    (λ i rest. plug (waits_item (on_sign_line (spaces_before text)) (k + 1 + spaces_before text) []) i rest)
 compact_sequence_opens k shallow text w t s =
     sequence_on_sign_line k shallow text (and_from _ _ (some_spaces text w t) s)
     ∙ items_open (on_sign_line (spaces_before text)) (k + 1 + spaces_before text) [] (past_spaces text) s
 
 -- a compact mapping or a leaf: spaces alone stand before it
-pub compact_or_leaf : (k : ℕ) (shallow : Bool) (text : List ℕ) → LineGoesOn text → is_empty (taken white text) ≡ false → first white (past_spaces text) ≡ false → sign 45 (past_spaces text) ≡ false
+pub compact_or_leaf : (k : ℕ) (shallow : Bool) (text : List ℕ) → LineGoesOn text → is_empty (taken white text) ≡ false
+    → first white (past_spaces text) ≡ false → sign 45 (past_spaces text) ≡ false
     → part_behind true shallow k text
-    ≡ part_at (Some (on_sign_line (spaces_before text), k + 1 + spaces_before text)) (suc k) false (inline (taken white text)) (dropped white text)
+    ≡ part_at (Some (on_sign_line (spaces_before text), k + 1 + spaces_before text)) (suc k) false
+    (inline (taken white text)) (dropped white text)
 compact_or_leaf k shallow text g w t s =
     indented_steps k shallow text
-    ∙ (choose (on (block_items_at (k + 1 + spaces_before text) (past_spaces text)) (λ is rest. Some (compact_items (spaces_before text) is, rest)))
-    (on (block_pairs_at (k + 1 + spaces_before text) false (past_spaces text)) (λ ps rest. Some (compact_pairs (spaces_before text) ps, rest)))
+    ∙ (choose (on (block_items_at (k + 1 + spaces_before text) (past_spaces text))
+    (λ is rest. Some (compact_items (spaces_before text) is, rest)))
+    (on (block_pairs_at (k + 1 + spaces_before text) false (past_spaces text))
+    (λ ps rest. Some (compact_pairs (spaces_before text) ps, rest)))
     (indented_node k shallow (block_node_at (suc k) shallow false) text (all_comments false text))
     ∙ (ap (λ r. if opens_pair block_key_in flow_leaf_at read_block false (past_spaces text)
-    then close_pairs (on_sign_line (spaces_before text)) [] (block_pairs_at (k + 1 + spaces_before text) false (past_spaces text)) else r)
+    then close_pairs (on_sign_line (spaces_before text)) []
+    (block_pairs_at (k + 1 + spaces_before text) false (past_spaces text)) else r)
     (indented_on_line k shallow text g ∙ leaf_on_line (suc k) shallow text g.none w)
     ∙ ap (λ u. if opens_pair block_key_in flow_leaf_at read_block false u
-    then close_pairs (on_sign_line (spaces_before text)) [] (block_pairs_at (k + 1 + spaces_before text) false u) else leaf_part (suc k) false (inline (taken white text)) (dropped white text))
+    then close_pairs (on_sign_line (spaces_before text)) [] (block_pairs_at (k + 1 + spaces_before text) false u)
+    else leaf_part (suc k) false (inline (taken white text)) (dropped white text))
     (sym (untabbed text t))))
   where
     choose : (x y z : Read Indented)
         → (if nat_le 1 (spaces_before text) && sign 45 (past_spaces text) then x
-        else if nat_le 1 (spaces_before text) && opens_pair block_key_in flow_leaf_at read_block false (past_spaces text) then y else z)
+        else if nat_le 1 (spaces_before text) && opens_pair block_key_in flow_leaf_at read_block false
+        (past_spaces text) then y else z)
         ≡ (if opens_pair block_key_in flow_leaf_at read_block false (past_spaces text) then y else z)
     choose x y z = rw (s, some_spaces text w t) refl
 
 -- a leaf where no compact collection may stand, or behind a TAB
-pub leaf_on_sign_line : (compact shallow : Bool) (k : ℕ) (text : List ℕ) → LineGoesOn text → is_empty (taken white text) ≡ false → compact && not (first white (past_spaces text)) ≡ false
+pub leaf_on_sign_line : (compact shallow : Bool) (k : ℕ) (text : List ℕ) → LineGoesOn text
+    → is_empty (taken white text) ≡ false → compact && not (first white (past_spaces text)) ≡ false
     → part_behind compact shallow k text ≡ part_at None (suc k) false (inline (taken white text)) (dropped white text)
-leaf_on_sign_line false shallow k text g w t = indented_on_line k shallow text g ∙ leaf_on_line (suc k) shallow text g.none w
+leaf_on_sign_line false shallow k text g w t = indented_on_line k shallow text g
+    ∙ leaf_on_line (suc k) shallow text g.none w
 leaf_on_sign_line true shallow k text g w t =
     let u : first solid (past_spaces text) ≡ false = white_unsolid_first (past_spaces text) (not-false _ t) in
-    not_compact true shallow k text (and_right _ _ (unsolid_sign 45 (past_spaces text) refl u)) (and_right _ _ (no_pair_there false (past_spaces text) u))
+    not_compact true shallow k text (and_right _ _ (unsolid_sign 45 (past_spaces text) refl u))
+    (and_right _ _ (no_pair_there false (past_spaces text) u))
     ∙ (indented_on_line k shallow text g ∙ leaf_on_line (suc k) shallow text g.none w)
 
 -- no white, so nothing stands there
-pub nothing_on_sign_line : (compact shallow : Bool) (k : ℕ) (text : List ℕ) → LineGoesOn text → is_empty (taken white text) ≡ true → part_behind compact shallow k text ≡ None
+pub nothing_on_sign_line : (compact shallow : Bool) (k : ℕ) (text : List ℕ) → LineGoesOn text
+    → is_empty (taken white text) ≡ true → part_behind compact shallow k text ≡ None
 nothing_on_sign_line compact shallow k text g w =
     let z : nat_le 1 (spaces_before text) ≡ false = ap (nat_le 1) (none_taken text w) in
     not_compact compact shallow k text (and_left _ _ z) (and_left _ _ z)
@@ -220,55 +261,70 @@ nothing_on_sign_line compact shallow k text g w =
 -- ---- behind comments
 
 behind_comments : (compact shallow : Bool) (k : ℕ) (text : List ℕ) → closes_line (all_comments false text) ≡ true
-    → part_behind compact shallow k text ≡ indented_node k shallow (λ t. block_node_at (suc k) shallow false t) text (all_comments false text)
+    → part_behind compact shallow k text ≡ indented_node k shallow (λ t. block_node_at (suc k) shallow false t) text
+    (all_comments false text)
 behind_comments compact shallow k text h =
     let u : first solid (past_spaces text) ≡ false = closed_unsolid text h in
-    not_compact compact shallow k text (and_right _ _ (unsolid_sign 45 (past_spaces text) refl u)) (and_right _ _ (no_pair_there false (past_spaces text) u))
+    not_compact compact shallow k text (and_right _ _ (unsolid_sign 45 (past_spaces text) refl u))
+    (and_right _ _ (no_pair_there false (past_spaces text) u))
 
 -- nothing of the part stands there: it is left out
-pub omitted_behind : (compact shallow : Bool) (k : ℕ) (text : List ℕ) → closes_line (all_comments false text) ≡ true → ended (suc k) shallow (all_comments false text).1 ≡ true
+pub omitted_behind : (compact shallow : Bool) (k : ℕ) (text : List ℕ) → closes_line (all_comments false text) ≡ true
+    → ended (suc k) shallow (all_comments false text).1 ≡ true
     → part_behind compact shallow k text ≡ Some (omitted (all_comments false text).0, (all_comments false text).1)
-omitted_behind compact shallow k text h e = behind_comments compact shallow k text h ∙ left_out (all_comments false text) (block_node_at (suc k) shallow false text) h e
+omitted_behind compact shallow k text h e = behind_comments compact shallow k text h
+    ∙ left_out (all_comments false text) (block_node_at (suc k) shallow false text) h e
   where
     left_out : (c : List LineEnd × List ℕ) (r : Read Node) → closes_line c ≡ true → ended (suc k) shallow c.1 ≡ true
-        → (if omits (suc k) shallow c then Some (omitted c.0, c.1) else on r (λ n rest. Some (node n, rest))) ≡ Some (omitted c.0, c.1)
+        → (if omits (suc k) shallow c then Some (omitted c.0, c.1) else on r (λ n rest. Some (node n, rest)))
+        ≡ Some (omitted c.0, c.1)
     left_out c r h e = rw (h, e) refl
 
 -- a node stands on a later line
-pub node_on_lines : (compact shallow : Bool) (k : ℕ) (text : List ℕ) → closes_line (all_comments false text) ≡ true → ended (suc k) shallow (all_comments false text).1 ≡ false
+pub node_on_lines : (compact shallow : Bool) (k : ℕ) (text : List ℕ) → closes_line (all_comments false text) ≡ true
+    → ended (suc k) shallow (all_comments false text).1 ≡ false
     → part_behind compact shallow k text ≡ as_part (block_node_at (suc k) shallow false text)
-node_on_lines compact shallow k text h e = behind_comments compact shallow k text h ∙ there (all_comments false text) (block_node_at (suc k) shallow false text) h e
+node_on_lines compact shallow k text h e = behind_comments compact shallow k text h
+    ∙ there (all_comments false text) (block_node_at (suc k) shallow false text) h e
   where
     there : (c : List LineEnd × List ℕ) (r : Read Node) → closes_line c ≡ true → ended (suc k) shallow c.1 ≡ false
-        → (if omits (suc k) shallow c then Some (omitted c.0, c.1) else on r (λ n rest. Some (node n, rest))) ≡ as_part r
+        → (if omits (suc k) shallow c then Some (omitted c.0, c.1) else on r (λ n rest. Some (node n, rest)))
+        ≡ as_part r
     there c r h e = rw (h, e) refl
 
 -- ---- B2: whether a node ends before a line, by its spaces
 
-same_tests : (s k : ℕ) (shallow d : Bool) → nat_lt s (suc k) && not (shallow && nat_le (suc k) (suc s) && d) ≡ nat_lt s (suc k) && not (shallow && (s == k) && d)
+same_tests : (s k : ℕ) (shallow d : Bool) → nat_lt s (suc k) && not (shallow && nat_le (suc k) (suc s) && d)
+    ≡ nat_lt s (suc k) && not (shallow && (s == k) && d)
 same_tests s k shallow d = elim (cases_lt s (suc k)) [
   | inl l ↦ (let e : nat_le (suc k) (suc s) ≡ (s == k) = grind (arith, nat_tests) in rw e refl)
   | inr l ↦ (let f : nat_lt s (suc k) ≡ false = le-ltb s (suc k) l in rw f refl)
 ]
 
-unspaced : (k : ℕ) (shallow d : Bool) (s : ℕ) → s ≡ 0 → d ≡ false → nat_lt s (suc k) && not (shallow && (s == k) && d) ≡ true
+unspaced : (k : ℕ) (shallow d : Bool) (s : ℕ) → s ≡ 0 → d ≡ false
+    → nat_lt s (suc k) && not (shallow && (s == k) && d) ≡ true
 unspaced k shallow d s z e = and_from _ _ (lt-ltb s (suc k) (omega arith)) (not_from_false _ (and_right _ _ e))
 
 marker_dash : (text : List ℕ) → marker text ≡ true → sign 45 (past_spaces text) ≡ false
 marker_dash text h = elim (cases_Bool (sign 45 (past_spaces text))) [
-  | inl e ↦ absurd (false≢true (sym (dash_unmarked (past_spaces text) e) ∙ (ap marker (none_spaced text (marker_unspaced text h)) ∙ h)))
+  | inl e ↦ absurd (false≢true (sym (dash_unmarked (past_spaces text) e)
+      ∙ (ap marker (none_spaced text (marker_unspaced text h)) ∙ h)))
   | inr e ↦ e
 ]
 
 pub ended_is : (k : ℕ) (shallow : Bool) (text : List ℕ) → is_line_end text ≡ false
-    → ended (suc k) shallow text ≡ nat_lt (spaces_before text) (suc k) && not (shallow && (spaces_before text == k) && sign 45 (past_spaces text))
+    → ended (suc k) shallow text ≡ nat_lt (spaces_before text) (suc k)
+    && not (shallow && (spaces_before text == k) && sign 45 (past_spaces text))
 ended_is k shallow [] h = sym (unspaced k shallow false 0 refl refl)
 ended_is k shallow (c ∷ cs) h = elim (cases_Bool (marker (c ∷ cs))) [
-  | inl e ↦ rw e (sym (unspaced k shallow _ (spaces_before (c ∷ cs)) (marker_unspaced (c ∷ cs) e) (marker_dash (c ∷ cs) e)))
+  | inl e ↦ rw e (sym (unspaced k shallow _ (spaces_before (c ∷ cs)) (marker_unspaced (c ∷ cs) e)
+      (marker_dash (c ∷ cs) e)))
   | inr e ↦ rw (e, h) (same_tests (spaces_before (c ∷ cs)) k shallow (sign 45 (past_spaces (c ∷ cs))))
 ]
 
 -- the same with the two orders of spaces
 pub ended_line : (k : ℕ) (shallow : Bool) (text : List ℕ) → is_line_end text ≡ false
-    → ended (suc k) shallow text ≡ nat_lt (spaces_before text) (suc k) && not (shallow && nat_le (suc k) (suc (spaces_before text)) && sign 45 (past_spaces text))
-ended_line k shallow text h = ended_is k shallow text h ∙ sym (same_tests (spaces_before text) k shallow (sign 45 (past_spaces text)))
+    → ended (suc k) shallow text ≡ nat_lt (spaces_before text) (suc k)
+    && not (shallow && nat_le (suc k) (suc (spaces_before text)) && sign 45 (past_spaces text))
+ended_line k shallow text h = ended_is k shallow text h
+    ∙ sym (same_tests (spaces_before text) k shallow (sign 45 (past_spaces text)))

@@ -31,7 +31,8 @@ use Rattle.yaml_block.proofs.BlockLeaves.{bar_part, first_key_opens, leaf_before
 
 -- ---- where the mapping may sit
 
-mapping_some : (mapping : Option (Sits × ℕ)) (k : ℕ) → pairs_of mapping ≡ Some k → (sits : Sits) × (mapping ≡ Some (sits, k))
+mapping_some : (mapping : Option (Sits × ℕ)) (k : ℕ) → pairs_of mapping ≡ Some k
+    → (sits : Sits) × (mapping ≡ Some (sits, k))
 mapping_some None k h = absurd (let e : ⊥ = cc in e)
 mapping_some (Some p) k h = let e : p.1 ≡ k = cc in (p.0, ap (λ j. Some (p.0, j)) e)
 
@@ -39,7 +40,8 @@ mapping_none : (mapping : Option (Sits × ℕ)) → pairs_of mapping ≡ None �
 mapping_none None h = refl
 mapping_none (Some p) h = absurd (let e : ⊥ = cc in e)
 
-mapping_is : (mapping : Option (Sits × ℕ)) (pairs : Option ℕ) → pairs_of mapping ≡ pairs → is_some mapping ≡ is_some pairs
+mapping_is : (mapping : Option (Sits × ℕ)) (pairs : Option ℕ) → pairs_of mapping ≡ pairs
+    → is_some mapping ≡ is_some pairs
 mapping_is None pairs h = ap is_some h
 mapping_is (Some p) pairs h = ap is_some h
 
@@ -52,16 +54,20 @@ node_fits_frames (waits_value sits k done (key_asked key) ∷ fs) n = refl
 node_fits_frames (waits_value sits k done (key_on_line key gap) ∷ fs) n = refl
 
 -- whether a leaf is a key, by its text
-key_test : (m : ℕ) (bol : Bool) (text : List ℕ) (f : Flow) (behind : List ℕ) → flow_leaf_at m bol text ≡ Some (f, behind) → sign 58 (dropped white behind) ≡ true
+key_test : (m : ℕ) (bol : Bool) (text : List ℕ) (f : Flow) (behind : List ℕ)
+    → flow_leaf_at m bol text ≡ Some (f, behind) → sign 58 (dropped white behind) ≡ true
     → is_key f behind ≡ unbroken (flow_text f) && short_key f (taken white behind)
 key_test m bol text f behind e c = rw (leaf_one_line m bol text f behind e, c) refl
 
 module _ (W : Read Indented) (text : List ℕ) (from : ℕ) where
-  pub asked_pair : (fs : List BlockFrame) (evs : List Event) (m k at : ℕ) → AtLeaf W text from fs evs m (Some k) at → sign 63 (rest text at) ≡ true
-      → past (rest text at) ≡ rest text (at + 1) → (sits : Sits) × AfterSign W text from (waits_key sits k [] ∷ fs) (evs ++ map_start ∷ []) Asked k (at + 1)
+  pub asked_pair : (fs : List BlockFrame) (evs : List Event) (m k at : ℕ) → AtLeaf W text from fs evs m (Some k) at
+      → sign 63 (rest text at) ≡ true
+      → past (rest text at) ≡ rest text (at + 1) → (sits : Sits) × AfterSign W text from (waits_key sits k [] ∷ fs)
+      (evs ++ map_start ∷ []) Asked k (at + 1)
   asked_pair fs evs m k at h q p =
       let s : (sits : Sits) × (h.mapping ≡ Some (sits, k)) = mapping_some h.mapping k h.pairs_is in
-      let may : Seated s.0 k fs × (sits_place s.0 (place_in fs from) ≡ at) = subst (MaySit fs from at) s.1 h.may_sit in (
+      let may : Seated s.0 k fs × (sits_place s.0 (place_in fs from) ≡ at) =
+      subst (MaySit fs from at) s.1 h.may_sit in (
         s.0,
         record {
           reads = h.reads ∙ ap (unwind fs)
@@ -75,115 +81,156 @@ module _ (W : Read Indented) (text : List ℕ) (from : ℕ) where
         },
       )
 
-  pub first_key : (fs : List BlockFrame) (evs : List Event) (m k at : ℕ) (f : Flow) (end colon : ℕ) → AtLeaf W text from fs evs m (Some k) at
-      → flow_leaf_at m (line_starts text at) (rest text at) ≡ Some (f, rest text end) → at + byte_len (flow_text f) ≡ end
-      → dropped white (rest text end) ≡ rest text colon → end + byte_len (taken white (rest text end)) ≡ colon → sign 58 (rest text colon) ≡ true
-      → past (rest text colon) ≡ rest text (colon + 1) → unbroken (flow_text f) ≡ true → short_key f (taken white (rest text end)) ≡ true
-      → (sits : Sits) × AfterSign W text from (waits_value sits k [] (key_on_line f (taken white (rest text end))) ∷ fs) (evs ++ map_start ∷ flow_events f at) Colon k (colon + 1)
+  pub first_key : (fs : List BlockFrame) (evs : List Event) (m k at : ℕ) (f : Flow) (end colon : ℕ)
+      → AtLeaf W text from fs evs m (Some k) at
+      → flow_leaf_at m (line_starts text at) (rest text at) ≡ Some (f, rest text end)
+      → at + byte_len (flow_text f) ≡ end
+      → dropped white (rest text end) ≡ rest text colon → end + byte_len (taken white (rest text end)) ≡ colon
+      → sign 58 (rest text colon) ≡ true
+      → past (rest text colon) ≡ rest text (colon + 1) → unbroken (flow_text f) ≡ true
+      → short_key f (taken white (rest text end)) ≡ true
+      → (sits : Sits) × AfterSign W text from (waits_value sits k [] (key_on_line f (taken white (rest text end)))
+      ∷ fs) (evs ++ map_start ∷ flow_events f at) Colon k (colon + 1)
   first_key fs evs m k at f end colon h e len d gap c p u short =
       let s : (sits : Sits) × (h.mapping ≡ Some (sits, k)) = mapping_some h.mapping k h.pairs_is in
-      let may : Seated s.0 k fs × (sits_place s.0 (place_in fs from) ≡ at) = subst (MaySit fs from at) s.1 h.may_sit in
+      let may : Seated s.0 k fs × (sits_place s.0 (place_in fs from) ≡ at) =
+      subst (MaySit fs from at) s.1 h.may_sit in
       let white_gap : List ℕ = taken white (rest text end) in
-      let key : is_key f (rest text end) ≡ true = key_test m (line_starts text at) (rest text at) f (rest text end) e (ap (sign 58) d ∙ c) ∙ and_from _ _ u short in (
+      let key : is_key f (rest text end) ≡ true = key_test m (line_starts text at) (rest text at) f (rest text end) e
+      (ap (sign 58) d ∙ c) ∙ and_from _ _ u short in (
         s.0,
         record {
           reads = h.reads ∙ ap (unwind fs)
               (ap (λ mapping. part_at mapping m (line_starts text at) h.sep (rest text at)) s.1
               ∙ (first_key_opens s.0 k m (line_starts text at) h.sep (rest text at) f (rest text end) e key
-              ∙ ap (λ v. on (keyed_part k v) (λ i behind. plug (waits_value s.0 k [] (key_on_line f white_gap)) i behind)) (ap past d ∙ p)));
+              ∙ ap (λ v. on (keyed_part k v) (λ i behind.
+              plug (waits_value s.0 k [] (key_on_line f white_gap)) i behind)) (ap past d ∙ p)));
           nested = (may.0, h.nested);
           awaits = (refl, refl);
-          place = ap (λ x. x + byte_len (flow_text f) + byte_len white_gap + 1) may.1 ∙ (ap (λ x. x + byte_len white_gap + 1) len ∙ ap (λ x. x + 1) gap);
-          wrote = ap (λ es. es ++ map_start ∷ flow_events f at) h.wrote ∙ ap (λ x. events_in fs from ++ map_start ∷ flow_events f x) (sym may.1);
+          place = ap (λ x. x + byte_len (flow_text f) + byte_len white_gap + 1) may.1
+              ∙ (ap (λ x. x + byte_len white_gap + 1) len ∙ ap (λ x. x + 1) gap);
+          wrote = ap (λ es. es ++ map_start ∷ flow_events f at) h.wrote
+              ∙ ap (λ x. events_in fs from ++ map_start ∷ flow_events f x) (sym may.1);
         },
       )
 
   -- where no mapping may begin
-  pub second_key : (fs : List BlockFrame) (evs : List Event) (m at : ℕ) (f : Flow) (end colon : ℕ) → AtLeaf W text from fs evs m None at
-      → flow_leaf_at m (line_starts text at) (rest text at) ≡ Some (f, rest text end) → dropped white (rest text end) ≡ rest text colon → sign 58 (rest text colon) ≡ true → W ≡ None
+  pub second_key : (fs : List BlockFrame) (evs : List Event) (m at : ℕ) (f : Flow) (end colon : ℕ)
+      → AtLeaf W text from fs evs m None at
+      → flow_leaf_at m (line_starts text at) (rest text at) ≡ Some (f, rest text end)
+      → dropped white (rest text end) ≡ rest text colon → sign 58 (rest text colon) ≡ true → W ≡ None
   second_key fs evs m at f end colon h e d c =
       h.reads ∙ (ap (unwind fs)
-      (ap (λ mapping. part_at mapping m (line_starts text at) h.sep (rest text at)) (mapping_none h.mapping h.pairs_is)
-      ∙ leaf_before_colon None m (line_starts text at) h.sep (rest text at) f (rest text end) e (ap (sign 58) d ∙ c) refl)
+      (ap (λ mapping. part_at mapping m (line_starts text at) h.sep (rest text at))
+      (mapping_none h.mapping h.pairs_is)
+      ∙ leaf_before_colon None m (line_starts text at) h.sep (rest text at) f (rest text end) e (ap (sign 58) d
+      ∙ c) refl)
       ∙ unwind_none fs)
 
-  pub no_first_key : (fs : List BlockFrame) (evs : List Event) (m k at : ℕ) (f : Flow) (end colon : ℕ) → AtLeaf W text from fs evs m (Some k) at
-      → flow_leaf_at m (line_starts text at) (rest text at) ≡ Some (f, rest text end) → dropped white (rest text end) ≡ rest text colon → sign 58 (rest text colon) ≡ true
+  pub no_first_key : (fs : List BlockFrame) (evs : List Event) (m k at : ℕ) (f : Flow) (end colon : ℕ)
+      → AtLeaf W text from fs evs m (Some k) at
+      → flow_leaf_at m (line_starts text at) (rest text at) ≡ Some (f, rest text end)
+      → dropped white (rest text end) ≡ rest text colon → sign 58 (rest text colon) ≡ true
       → unbroken (flow_text f) && short_key f (taken white (rest text end)) ≡ false → W ≡ None
   no_first_key fs evs m k at f end colon h e d c n =
       let there : sign 58 (dropped white (rest text end)) ≡ true = ap (sign 58) d ∙ c in
       h.reads ∙ (ap (unwind fs)
       (leaf_before_colon h.mapping m (line_starts text at) h.sep (rest text at) f (rest text end) e there
-      (and_right (is_some h.mapping) _ (key_test m (line_starts text at) (rest text at) f (rest text end) e there ∙ n)))
+      (and_right (is_some h.mapping) _ (key_test m (line_starts text at) (rest text at) f (rest text end) e there
+      ∙ n)))
       ∙ unwind_none fs)
 
-  pub leaf_read : (fs : List BlockFrame) (evs : List Event) (m : ℕ) (pairs : Option ℕ) (at : ℕ) (f : Flow) (end colon start : ℕ) → AtLeaf W text from fs evs m pairs at
-      → flow_leaf_at m (line_starts text at) (rest text at) ≡ Some (f, rest text end) → at + byte_len (flow_text f) ≡ end
+  pub leaf_read : (fs : List BlockFrame) (evs : List Event) (m : ℕ) (pairs : Option ℕ) (at : ℕ) (f : Flow)
+      (end colon start : ℕ) → AtLeaf W text from fs evs m pairs at
+      → flow_leaf_at m (line_starts text at) (rest text at) ≡ Some (f, rest text end)
+      → at + byte_len (flow_text f) ≡ end
       → dropped white (rest text end) ≡ rest text colon → sign 58 (rest text colon) ≡ false
-      → closes_line (all_comments false (rest text end)) ≡ true → (all_comments false (rest text end)).1 ≡ rest text start
-      → end + byte_len (comments_text (all_comments false (rest text end)).0) ≡ start → AtLine W text from fs (evs ++ flow_events f at) start end
+      → closes_line (all_comments false (rest text end)) ≡ true
+      → (all_comments false (rest text end)).1 ≡ rest text start
+      → end + byte_len (comments_text (all_comments false (rest text end)).0) ≡ start
+      → AtLine W text from fs (evs ++ flow_events f at) start end
   leaf_read fs evs m pairs at f end colon start h e len d c close t p =
       let comments : List LineEnd = (all_comments false (rest text end)).0 in
-      let there : place_in fs from + byte_len (sep_text h.sep) + byte_len (flow_text f) ≡ end = ap (λ x. x + byte_len (flow_text f)) h.place ∙ len in
-      let spelled : byte_len (sep_text h.sep ++ flow_text f ++ comments_text comments) ≡ byte_len (sep_text h.sep) + byte_len (flow_text f) + byte_len (comments_text comments) =
-      byte_len_joined (sep_text h.sep ++ flow_text f) (comments_text comments) ∙ ap (λ x. x + byte_len (comments_text comments)) (byte_len_joined (sep_text h.sep) (flow_text f)) in
+      let there : place_in fs from + byte_len (sep_text h.sep) + byte_len (flow_text f) ≡ end =
+      ap (λ x. x + byte_len (flow_text f)) h.place ∙ len in
+      let spelled : byte_len (sep_text h.sep ++ flow_text f ++ comments_text comments) ≡ byte_len (sep_text h.sep)
+      + byte_len (flow_text f) + byte_len (comments_text comments) =
+      byte_len_joined (sep_text h.sep ++ flow_text f) (comments_text comments)
+      ∙ ap (λ x. x + byte_len (comments_text comments)) (byte_len_joined (sep_text h.sep) (flow_text f)) in
       record {
         part = node (flow h.sep f comments);
         reads = h.reads ∙ ap (unwind fs)
-            (leaf_closes h.mapping m (line_starts text at) h.sep (rest text at) f (rest text end) e (ap (sign 58) d ∙ c) close ∙ ap (λ v. Some (node (flow h.sep f comments), v)) t);
+            (leaf_closes h.mapping m (line_starts text at) h.sep (rest text at) f (rest text end) e (ap (sign 58) d
+            ∙ c) close ∙ ap (λ v. Some (node (flow h.sep f comments), v)) t);
         nested = h.nested;
         fits = node_fits_frames fs (flow h.sep f comments);
         place = omega (arith, there, spelled, p);
         ends = there;
-        wrote = ap (λ es. es ++ flow_events f at) h.wrote ∙ ap (λ x. events_in fs from ++ flow_events f x) (sym h.place);
+        wrote = ap (λ es. es ++ flow_events f at) h.wrote
+            ∙ ap (λ x. events_in fs from ++ flow_events f x) (sym h.place);
       }
 
-  pub leaf_goes_on : (fs : List BlockFrame) (evs : List Event) (m : ℕ) (pairs : Option ℕ) (at : ℕ) (f : Flow) (end colon : ℕ) → AtLeaf W text from fs evs m pairs at
-      → flow_leaf_at m (line_starts text at) (rest text at) ≡ Some (f, rest text end) → dropped white (rest text end) ≡ rest text colon → sign 58 (rest text colon) ≡ false
+  pub leaf_goes_on : (fs : List BlockFrame) (evs : List Event) (m : ℕ) (pairs : Option ℕ) (at : ℕ) (f : Flow)
+      (end colon : ℕ) → AtLeaf W text from fs evs m pairs at
+      → flow_leaf_at m (line_starts text at) (rest text at) ≡ Some (f, rest text end)
+      → dropped white (rest text end) ≡ rest text colon → sign 58 (rest text colon) ≡ false
       → closes_line (all_comments false (rest text end)) ≡ false → W ≡ None
   leaf_goes_on fs evs m pairs at f end colon h e d c close =
-      h.reads ∙ (ap (unwind fs) (leaf_unclosed h.mapping m (line_starts text at) h.sep (rest text at) f (rest text end) e (ap (sign 58) d ∙ c) close) ∙ unwind_none fs)
+      h.reads ∙ (ap (unwind fs) (leaf_unclosed h.mapping m (line_starts text at) h.sep (rest text at) f
+      (rest text end) e (ap (sign 58) d ∙ c) close) ∙ unwind_none fs)
 
-  pub no_leaf : (fs : List BlockFrame) (evs : List Event) (m : ℕ) (pairs : Option ℕ) (at : ℕ) → AtLeaf W text from fs evs m pairs at → first bar (rest text at) ≡ false
-      → is_some pairs && sign 63 (rest text at) ≡ false → flow_leaf_at m (line_starts text at) (rest text at) ≡ None → W ≡ None
+  pub no_leaf : (fs : List BlockFrame) (evs : List Event) (m : ℕ) (pairs : Option ℕ) (at : ℕ)
+      → AtLeaf W text from fs evs m pairs at → first bar (rest text at) ≡ false
+      → is_some pairs && sign 63 (rest text at) ≡ false → flow_leaf_at m (line_starts text at) (rest text at) ≡ None
+      → W ≡ None
   no_leaf fs evs m pairs at h b q e =
       h.reads ∙ (ap (unwind fs)
-      (leaf_missing h.mapping m (line_starts text at) h.sep (rest text at) b (ap (λ x. x && sign 63 (rest text at)) (mapping_is h.mapping pairs h.pairs_is) ∙ q) e)
+      (leaf_missing h.mapping m (line_starts text at) h.sep (rest text at) b
+      (ap (λ x. x && sign 63 (rest text at)) (mapping_is h.mapping pairs h.pairs_is) ∙ q) e)
       ∙ unwind_none fs)
 
-  pub block_read : (fs : List BlockFrame) (evs : List Event) (m : ℕ) (pairs : Option ℕ) (at : ℕ) (b : BlockScalar) (start : ℕ) → AtLeaf W text from fs evs m pairs at
-      → first bar (rest text at) ≡ true → read_block m (rest text at) ≡ Some (b, rest text start) → at + byte_len (block_text b) ≡ start
+  pub block_read : (fs : List BlockFrame) (evs : List Event) (m : ℕ) (pairs : Option ℕ) (at : ℕ) (b : BlockScalar)
+      (start : ℕ) → AtLeaf W text from fs evs m pairs at
+      → first bar (rest text at) ≡ true → read_block m (rest text at) ≡ Some (b, rest text start)
+      → at + byte_len (block_text b) ≡ start
       → AtLine W text from fs (evs ++ block_events at b) start (at + byte_len (block_body_text b))
   block_read fs evs m pairs at b start h bars e len =
-      let spelled : byte_len (sep_text h.sep ++ block_text b) ≡ byte_len (sep_text h.sep) + byte_len (block_text b) = byte_len_joined (sep_text h.sep) (block_text b) in
+      let spelled : byte_len (sep_text h.sep ++ block_text b) ≡ byte_len (sep_text h.sep) + byte_len (block_text b) =
+      byte_len_joined (sep_text h.sep) (block_text b) in
       record {
         part = node (block h.sep b);
         reads = h.reads ∙ ap (unwind fs)
-            (bar_part h.mapping m (line_starts text at) h.sep (rest text at) bars ∙ ap (λ r. on r (λ c behind. Some (node (block h.sep c), behind))) e);
+            (bar_part h.mapping m (line_starts text at) h.sep (rest text at) bars
+            ∙ ap (λ r. on r (λ c behind. Some (node (block h.sep c), behind))) e);
         nested = h.nested;
         fits = node_fits_frames fs (block h.sep b);
         place = omega (arith, spelled, h.place, len);
         ends = ap (λ x. x + byte_len (block_body_text b)) h.place;
-        wrote = ap (λ es. es ++ block_events at b) h.wrote ∙ ap (λ x. events_in fs from ++ block_events x b) (sym h.place);
+        wrote = ap (λ es. es ++ block_events at b) h.wrote
+            ∙ ap (λ x. events_in fs from ++ block_events x b) (sym h.place);
       }
 
-  pub no_block : (fs : List BlockFrame) (evs : List Event) (m : ℕ) (pairs : Option ℕ) (at : ℕ) → AtLeaf W text from fs evs m pairs at → first bar (rest text at) ≡ true
+  pub no_block : (fs : List BlockFrame) (evs : List Event) (m : ℕ) (pairs : Option ℕ) (at : ℕ)
+      → AtLeaf W text from fs evs m pairs at → first bar (rest text at) ≡ true
       → read_block m (rest text at) ≡ None → W ≡ None
   no_block fs evs m pairs at h bars e =
       h.reads ∙ (ap (unwind fs)
-      (bar_part h.mapping m (line_starts text at) h.sep (rest text at) bars ∙ ap (λ r. on r (λ c behind. Some (node (block h.sep c), behind))) e)
+      (bar_part h.mapping m (line_starts text at) h.sep (rest text at) bars
+      ∙ ap (λ r. on r (λ c behind. Some (node (block h.sep c), behind))) e)
       ∙ unwind_none fs)
 
   -- ---- a further pair
 
-  pub next_asked : (fs : List BlockFrame) (evs : List Event) (k at : ℕ) → AtPair W text from fs evs k at → sign 63 (rest text at) ≡ true → past (rest text at) ≡ rest text (at + 1)
+  pub next_asked : (fs : List BlockFrame) (evs : List Event) (k at : ℕ) → AtPair W text from fs evs k at
+      → sign 63 (rest text at) ≡ true → past (rest text at) ≡ rest text (at + 1)
       → (sits : Sits) × (done : List Pair) × AfterSign W text from (waits_key sits k done ∷ fs) evs Asked k (at + 1)
   next_asked fs evs k at h q p = (
     h.sits,
     h.done,
     record {
       reads = h.reads ∙ ap (unwind fs)
-          (asked_opens h.sits k (k == 0) h.done (rest text at) q ∙ ap (λ u. on (block_indented_at k true u) (λ i behind. plug (waits_key h.sits k h.done) i behind)) p);
+          (asked_opens h.sits k (k == 0) h.done (rest text at) q
+          ∙ ap (λ u. on (block_indented_at k true u) (λ i behind. plug (waits_key h.sits k h.done) i behind)) p);
       nested = (h.seated, h.nested);
       awaits = (refl, refl);
       place = ap (λ x. x + 1) h.place;
@@ -191,43 +238,59 @@ module _ (W : Read Indented) (text : List ℕ) (from : ℕ) where
     },
   )
 
-  pub next_key : (fs : List BlockFrame) (evs : List Event) (k at : ℕ) (f : Flow) (end colon : ℕ) → AtPair W text from fs evs k at
-      → flow_node_at 0 block_key (line_starts text at) (rest text at) ≡ Some (f, rest text end) → at + byte_len (flow_text f) ≡ end
-      → dropped white (rest text end) ≡ rest text colon → end + byte_len (taken white (rest text end)) ≡ colon → sign 58 (rest text colon) ≡ true
+  pub next_key : (fs : List BlockFrame) (evs : List Event) (k at : ℕ) (f : Flow) (end colon : ℕ)
+      → AtPair W text from fs evs k at
+      → flow_node_at 0 block_key (line_starts text at) (rest text at) ≡ Some (f, rest text end)
+      → at + byte_len (flow_text f) ≡ end
+      → dropped white (rest text end) ≡ rest text colon → end + byte_len (taken white (rest text end)) ≡ colon
+      → sign 58 (rest text colon) ≡ true
       → past (rest text colon) ≡ rest text (colon + 1) → short_key f (taken white (rest text end)) ≡ true
-      → (sits : Sits) × (done : List Pair) × (key : PairKey) × (sign_after key ≡ Colon) × AfterSign W text from (waits_value sits k done key ∷ fs) (evs ++ flow_events f at) Colon k (colon + 1)
+      → (sits : Sits) × (done : List Pair) × (key : PairKey) × (sign_after key ≡ Colon)
+      × AfterSign W text from (waits_value sits k done key ∷ fs) (evs ++ flow_events f at) Colon k (colon + 1)
   next_key fs evs k at f end colon h e len d gap c p short =
       let white_gap : List ℕ = taken white (rest text end) in
-      let here : flow_node_at 0 block_key (k == 0) (rest text at) ≡ Some (f, rest text end) = ap (λ b. flow_node_at 0 block_key b (rest text at)) (sym h.starts) ∙ e in (
+      let here : flow_node_at 0 block_key (k == 0) (rest text at) ≡ Some (f, rest text end) =
+      ap (λ b. flow_node_at 0 block_key b (rest text at)) (sym h.starts) ∙ e in (
         h.sits,
         h.done,
         key_on_line f white_gap,
         refl,
         record {
           reads = h.reads ∙ ap (unwind fs)
-              (next_key_opens h.sits k (k == 0) h.done (rest text at) f (rest text end) here (ap (sign 58) d ∙ c) short
-              ∙ ap (λ v. on (keyed_part k v) (λ i behind. plug (waits_value h.sits k h.done (key_on_line f white_gap)) i behind)) (ap past d ∙ p));
+              (next_key_opens h.sits k (k == 0) h.done (rest text at) f (rest text end) here (ap (sign 58) d
+              ∙ c) short
+              ∙ ap (λ v. on (keyed_part k v) (λ i behind.
+              plug (waits_value h.sits k h.done (key_on_line f white_gap)) i behind)) (ap past d ∙ p));
           nested = (h.seated, h.nested);
           awaits = (refl, refl);
-          place = ap (λ x. x + byte_len (flow_text f) + byte_len white_gap + 1) h.place ∙ (ap (λ x. x + byte_len white_gap + 1) len ∙ ap (λ x. x + 1) gap);
+          place = ap (λ x. x + byte_len (flow_text f) + byte_len white_gap + 1) h.place
+              ∙ (ap (λ x. x + byte_len white_gap + 1) len ∙ ap (λ x. x + 1) gap);
           wrote = ap (λ es. es ++ flow_events f at) h.wrote
-              ∙ (append_assoc (events_in fs from) (map_start ∷ done_pairs_events k h.done (sits_place h.sits (place_in fs from))) (flow_events f at)
-              ∙ ap (λ x. events_in fs from ++ map_start ∷ (done_pairs_events k h.done (sits_place h.sits (place_in fs from)) ++ flow_events f x)) (sym h.place));
+              ∙ (append_assoc (events_in fs from) (map_start ∷ done_pairs_events k h.done
+              (sits_place h.sits (place_in fs from))) (flow_events f at)
+              ∙ ap (λ x. events_in fs from ++ map_start
+              ∷ (done_pairs_events k h.done (sits_place h.sits (place_in fs from)) ++ flow_events f x))
+              (sym h.place));
         },
       )
 
-  pub no_next_key : (fs : List BlockFrame) (evs : List Event) (k at : ℕ) (f : Flow) (end colon : ℕ) → AtPair W text from fs evs k at
-      → flow_node_at 0 block_key (line_starts text at) (rest text at) ≡ Some (f, rest text end) → dropped white (rest text end) ≡ rest text colon
+  pub no_next_key : (fs : List BlockFrame) (evs : List Event) (k at : ℕ) (f : Flow) (end colon : ℕ)
+      → AtPair W text from fs evs k at
+      → flow_node_at 0 block_key (line_starts text at) (rest text at) ≡ Some (f, rest text end)
+      → dropped white (rest text end) ≡ rest text colon
       → sign 58 (rest text colon) && short_key f (taken white (rest text end)) ≡ false → W ≡ None
   no_next_key fs evs k at f end colon h e d n =
       h.reads ∙ (ap (unwind fs)
-      (next_key_unfit h.sits k (k == 0) h.done (rest text at) f (rest text end) (ap (λ b. flow_node_at 0 block_key b (rest text at)) (sym h.starts) ∙ e)
+      (next_key_unfit h.sits k (k == 0) h.done (rest text at) f (rest text end)
+      (ap (λ b. flow_node_at 0 block_key b (rest text at)) (sym h.starts) ∙ e)
       (ap (λ t. sign 58 t && short_key f (taken white (rest text end))) d ∙ n))
       ∙ unwind_none fs)
 
-  pub no_next_node : (fs : List BlockFrame) (evs : List Event) (k at : ℕ) → AtPair W text from fs evs k at → sign 63 (rest text at) ≡ false
+  pub no_next_node : (fs : List BlockFrame) (evs : List Event) (k at : ℕ) → AtPair W text from fs evs k at
+      → sign 63 (rest text at) ≡ false
       → flow_node_at 0 block_key (line_starts text at) (rest text at) ≡ None → W ≡ None
   no_next_node fs evs k at h q e =
       h.reads ∙ (ap (unwind fs)
-      (next_key_missing h.sits k (k == 0) h.done (rest text at) q (ap (λ b. flow_node_at 0 block_key b (rest text at)) (sym h.starts) ∙ e))
+      (next_key_missing h.sits k (k == 0) h.done (rest text at) q
+      (ap (λ b. flow_node_at 0 block_key b (rest text at)) (sym h.starts) ∙ e))
       ∙ unwind_none fs)

@@ -9,10 +9,10 @@ pub mod BlockScalarReads
 pub mod LineTests
 pub mod TextPlaces
 pub mod PlaceSteps
-pub mod Holding
-pub mod Turning
-pub mod Signing
-pub mod Looping
-pub mod Keying
-pub mod Presenting
-pub mod Blocking
+pub mod Stacks
+pub mod UnwindSteps
+pub mod SignsAndLines
+pub mod NodeLoop
+pub mod KeysAndPairs
+pub mod EachNode
+pub mod BlockScalarSteps

@@ -14,17 +14,22 @@ use Rattle.yaml_recognizers.proofs.BlockNodesEnd.{colon_stop, items_stop}
 abbrev pub stops_all : List ℕ → Bool
 stops_all text = is_empty text || marker text || is_line_end text
 
-pub no_item : (k : ℕ) (text : List ℕ) → stops_all text ≡ true → (spaces_before text == k) && sign 45 (past_spaces text) ≡ false
+pub no_item : (k : ℕ) (text : List ℕ) → stops_all text ≡ true
+    → (spaces_before text == k) && sign 45 (past_spaces text) ≡ false
 no_item k text h = items_stop k text (or_left _ _ h)
 
-pub no_value : (k : ℕ) (text : List ℕ) → stops_all text ≡ true → (spaces_before text == k) && sign 58 (past_spaces text) ≡ false
+pub no_value : (k : ℕ) (text : List ℕ) → stops_all text ≡ true
+    → (spaces_before text == k) && sign 58 (past_spaces text) ≡ false
 no_value k text h = colon_stop k text (or_left _ _ h)
 
 -- a pair goes on at any other line with its spaces
-pub pair_test : (k : ℕ) (text : List ℕ) → (spaces_before text == k) && not (ended k false text) ≡ (spaces_before text == k) && not (stops_all text)
+pub pair_test : (k : ℕ) (text : List ℕ) → (spaces_before text == k) && not (ended k false text)
+    ≡ (spaces_before text == k) && not (stops_all text)
 pair_test k text = elim (cases_eq (spaces_before text) k) [
-  | inl e ↦ (let l : nat_lt (spaces_before text) k ≡ false = le-ltb (spaces_before text) k (omega (arith, e)) in ap (λ b. (spaces_before text == k) && not b) (less l (stops_all text)))
-  | inr n ↦ (let i : (spaces_before text == k) ≡ false = ne_eqb (spaces_before text) k n in and_left _ _ i ∙ sym (and_left _ _ i))
+  | inl e ↦ (let l : nat_lt (spaces_before text) k ≡ false = le-ltb (spaces_before text) k (omega (arith, e)) in ap
+      (λ b. (spaces_before text == k) && not b) (less l (stops_all text)))
+  | inr n ↦ (let i : (spaces_before text == k) ≡ false = ne_eqb (spaces_before text) k n in and_left _ _ i
+      ∙ sym (and_left _ _ i))
 ]
   where
     less : nat_lt (spaces_before text) k ≡ false → (b : Bool) → b || (nat_lt (spaces_before text) k && true) ≡ b
@@ -32,7 +37,8 @@ pair_test k text = elim (cases_eq (spaces_before text) k) [
     less l false = rw l refl
 
 -- whether a sequence is deep enough
-pub deep_test : (m s : ℕ) (shallow : Bool) → nat_le m (if shallow then suc s else s) ≡ nat_le m s || (shallow && (s + 1 == m))
+pub deep_test : (m s : ℕ) (shallow : Bool) → nat_le m (if shallow then suc s else s) ≡ nat_le m s
+    || (shallow && (s + 1 == m))
 deep_test m s false = or_false (nat_le m s)
   where
     or_false : (b : Bool) → b ≡ b || false

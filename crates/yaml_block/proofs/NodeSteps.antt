@@ -28,21 +28,27 @@ use Rattle.yaml_block.proofs.BlockSigns.{leaf_on_line, nothing_on_line, untabbed
 use Rattle.yaml_block.proofs.SignSteps.{byte_len_spaces, untaken}
 
 -- a separation after comments ends where its white does
-sep_end : (from start lead : ℕ) (comments : List LineEnd) (blank : List ℕ) → from + byte_len (comments_text comments) ≡ start → start + byte_len blank ≡ lead
+sep_end : (from start lead : ℕ) (comments : List LineEnd) (blank : List ℕ)
+    → from + byte_len (comments_text comments) ≡ start → start + byte_len blank ≡ lead
     → from + byte_len (sep_text (sep_after comments blank)) ≡ lead
 sep_end from start lead comments blank p q =
-    let t : byte_len (sep_text (sep_after comments blank)) ≡ byte_len (comments_text comments) + byte_len blank = ap byte_len (sep_after_text comments blank) ∙ byte_len_joined (comments_text comments) blank in
+    let t : byte_len (sep_text (sep_after comments blank)) ≡ byte_len (comments_text comments) + byte_len blank =
+    ap byte_len (sep_after_text comments blank) ∙ byte_len_joined (comments_text comments) blank in
     omega (arith, t, p, q)
 
 module _ (W : Read Indented) (text : List ℕ) (from : ℕ) where
-  pub node_line : (fs : List BlockFrame) (evs : List Event) (m : ℕ) (shallow bol : Bool) (at : ℕ) (comments : List LineEnd) (start : ℕ) → AtNode W text from fs evs m shallow bol at
-      → all_comments bol (rest text at) ≡ (comments, rest text start) → bol || not (is_empty comments) ≡ true → at + byte_len (comments_text comments) ≡ start
-      → starts_line bol (comments_text comments) ≡ line_starts text start → AtNodeLine W text from fs evs m shallow (is_empty comments) start
+  pub node_line : (fs : List BlockFrame) (evs : List Event) (m : ℕ) (shallow bol : Bool) (at : ℕ)
+      (comments : List LineEnd) (start : ℕ) → AtNode W text from fs evs m shallow bol at
+      → all_comments bol (rest text at) ≡ (comments, rest text start) → bol || not (is_empty comments) ≡ true
+      → at + byte_len (comments_text comments) ≡ start
+      → starts_line bol (comments_text comments) ≡ line_starts text start
+      → AtNodeLine W text from fs evs m shallow (is_empty comments) start
   node_line fs evs m shallow bol at comments start h c s p l = record {
     bol = bol;
     comments = comments;
     reads = h.reads ∙ ap (λ r. unwind fs (as_part r))
-        (node_steps m shallow bol (rest text at) ∙ ap (node_behind block_key_in flow_leaf_at read_block block_items_at block_pairs_at m shallow bol) c);
+        (node_steps m shallow bol (rest text at) ∙ ap
+        (node_behind block_key_in flow_leaf_at read_block block_items_at block_pairs_at m shallow bol) c);
     nested = h.nested;
     starts = s;
     alone_is = refl;
@@ -51,17 +57,22 @@ module _ (W : Read Indented) (text : List ℕ) (from : ℕ) where
     wrote = h.wrote;
   }
 
-  pub sequence_opens : (fs : List BlockFrame) (evs : List Event) (m : ℕ) (shallow alone : Bool) (start s front : ℕ) → AtNodeLine W text from fs evs m shallow alone start
-      → spaces_before (rest text start) ≡ s → past_spaces (rest text start) ≡ rest text front → start + s ≡ front → sign 45 (rest text front) ≡ true
+  pub sequence_opens : (fs : List BlockFrame) (evs : List Event) (m : ℕ) (shallow alone : Bool) (start s front : ℕ)
+      → AtNodeLine W text from fs evs m shallow alone start
+      → spaces_before (rest text start) ≡ s → past_spaces (rest text start) ≡ rest text front → start + s ≡ front
+      → sign 45 (rest text front) ≡ true
       → nat_le m (if shallow then suc s else s) ≡ true → past (rest text front) ≡ rest text (front + 1)
       → (sits : Sits) × AfterSign W text from (waits_item sits s [] ∷ fs) (evs ++ seq_start ∷ []) Dash s (front + 1)
   sequence_opens fs evs m shallow alone start s front h c e p d l q = (
     on_lines h.comments s,
     record {
       reads = h.reads ∙ ap (unwind fs)
-          (sequence_after m shallow h.bol h.comments (rest text start) h.starts (ap (sign 45) e ∙ d) (ap (is_deep m shallow) c ∙ l)
-          ∙ (ap (λ j. on (block_indented_at j false (past (past_spaces (rest text start)))) (λ i behind. plug (waits_item (on_lines h.comments j) j []) i behind)) c
-          ∙ ap (λ u. on (block_indented_at s false u) (λ i behind. plug (waits_item (on_lines h.comments s) s []) i behind)) (ap past e ∙ q)));
+          (sequence_after m shallow h.bol h.comments (rest text start) h.starts (ap (sign 45) e
+          ∙ d) (ap (is_deep m shallow) c ∙ l)
+          ∙ (ap (λ j. on (block_indented_at j false (past (past_spaces (rest text start))))
+          (λ i behind. plug (waits_item (on_lines h.comments j) j []) i behind)) c
+          ∙ ap (λ u. on (block_indented_at s false u)
+          (λ i behind. plug (waits_item (on_lines h.comments s) s []) i behind)) (ap past e ∙ q)));
       nested = (refl, h.nested);
       awaits = (refl, refl);
       place = ap (λ x. x + s + 1) h.place ∙ ap (λ x. x + 1) p;
@@ -69,24 +80,33 @@ module _ (W : Read Indented) (text : List ℕ) (from : ℕ) where
     },
   )
 
-  pub line_leaf : (fs : List BlockFrame) (evs : List Event) (m : ℕ) (shallow alone : Bool) (start s front : ℕ) → AtNodeLine W text from fs evs m shallow alone start
+  pub line_leaf : (fs : List BlockFrame) (evs : List Event) (m : ℕ) (shallow alone : Bool) (start s front : ℕ)
+      → AtNodeLine W text from fs evs m shallow alone start
       → spaces_before (rest text start) ≡ s → past_spaces (rest text start) ≡ rest text front → start + s ≡ front
-      → sign 45 (rest text front) && nat_le m (if shallow then suc s else s) ≡ false → nat_le m s ≡ true → first white (rest text front) ≡ false
-      → (line_starts text start ≡ true) ⊎ (rest text start ≡ []) → starts_line (line_starts text start) (taken white (rest text start)) ≡ line_starts text front
+      → sign 45 (rest text front) && nat_le m (if shallow then suc s else s) ≡ false → nat_le m s ≡ true
+      → first white (rest text front) ≡ false
+      → (line_starts text start ≡ true) ⊎ (rest text start ≡ [])
+      → starts_line (line_starts text start) (taken white (rest text start)) ≡ line_starts text front
       → AtLeaf W text from fs evs m (Some s) front
   line_leaf fs evs m shallow alone start s front h c e p d l w f b =
       let t : List ℕ = rest text start in
       let plain : first white (past_spaces t) ≡ false = ap (first white) e ∙ w in
       let blank : List ℕ = taken white t in
-      let long : byte_len blank ≡ s = ap byte_len (untabbed_taken t plain) ∙ (byte_len_spaces (spaces_before t) ∙ c) in
+      let long : byte_len blank ≡ s = ap byte_len (untabbed_taken t plain)
+      ∙ (byte_len_spaces (spaces_before t) ∙ c) in
       record {
         sep = sep_after h.comments blank;
         mapping = Some (on_lines h.comments s, s);
         reads = h.reads ∙ ap (unwind fs)
-            (mapping_or_leaf_after m shallow h.bol (line_starts text start) (line_starts text front) h.comments t h.starts
-            (ap (λ u. sign 45 u && is_deep m shallow (spaces_before t)) e ∙ (ap (λ j. sign 45 (rest text front) && is_deep m shallow j) c ∙ d)) (ap (nat_le m) c ∙ l) plain h.lines b f
-            ∙ (ap (λ j. part_at (Some (on_lines h.comments j, j)) m (line_starts text front) (sep_after h.comments blank) (past_spaces t)) c
-            ∙ ap (part_at (Some (on_lines h.comments s, s)) m (line_starts text front) (sep_after h.comments blank)) e));
+            (mapping_or_leaf_after m shallow h.bol (line_starts text start) (line_starts text front) h.comments t
+            h.starts
+            (ap (λ u. sign 45 u && is_deep m shallow (spaces_before t)) e
+            ∙ (ap (λ j. sign 45 (rest text front) && is_deep m shallow j) c ∙ d)) (ap (nat_le m) c
+            ∙ l) plain h.lines b f
+            ∙ (ap (λ j. part_at (Some (on_lines h.comments j, j)) m (line_starts text front)
+            (sep_after h.comments blank) (past_spaces t)) c
+            ∙ ap (part_at (Some (on_lines h.comments s, s)) m (line_starts text front) (sep_after h.comments blank))
+            e));
         nested = h.nested;
         pairs_is = refl;
         may_sit = (refl, ap (λ x. x + s) h.place ∙ p);
@@ -94,9 +114,11 @@ module _ (W : Read Indented) (text : List ℕ) (from : ℕ) where
         wrote = h.wrote;
       }
 
-  pub line_leaf_after_tab : (fs : List BlockFrame) (evs : List Event) (m : ℕ) (shallow alone : Bool) (start s front lead : ℕ) → AtNodeLine W text from fs evs m shallow alone start
+  pub line_leaf_after_tab : (fs : List BlockFrame) (evs : List Event) (m : ℕ) (shallow alone : Bool)
+      (start s front lead : ℕ) → AtNodeLine W text from fs evs m shallow alone start
       → spaces_before (rest text start) ≡ s → past_spaces (rest text start) ≡ rest text front
-      → sign 45 (rest text front) && nat_le m (if shallow then suc s else s) ≡ false → nat_le m s ≡ true → first white (rest text front) ≡ true
+      → sign 45 (rest text front) && nat_le m (if shallow then suc s else s) ≡ false → nat_le m s ≡ true
+      → first white (rest text front) ≡ true
       → dropped white (rest text start) ≡ rest text lead → start + byte_len (taken white (rest text start)) ≡ lead
       → starts_line (line_starts text start) (taken white (rest text start)) ≡ line_starts text lead
       → AtLeaf W text from fs evs m None lead
@@ -109,7 +131,8 @@ module _ (W : Read Indented) (text : List ℕ) (from : ℕ) where
         mapping = None;
         reads = h.reads ∙ ap (unwind fs)
             (leaf_alone_after m shallow h.bol (line_starts text start) (line_starts text lead) h.comments t h.starts
-            (ap (λ u. sign 45 u && is_deep m shallow (spaces_before t)) e ∙ (ap (λ j. sign 45 (rest text front) && is_deep m shallow j) c ∙ d))
+            (ap (λ u. sign 45 u && is_deep m shallow (spaces_before t)) e
+            ∙ (ap (λ j. sign 45 (rest text front) && is_deep m shallow j) c ∙ d))
             (and_right _ _ (not_from_true _ (ap (first white) e ∙ w))) (or_right _ _ deep) h.lines b
             ∙ ap (part_at None m (line_starts text lead) (sep_after h.comments blank)) drops);
         nested = h.nested;
@@ -119,9 +142,11 @@ module _ (W : Read Indented) (text : List ℕ) (from : ℕ) where
         wrote = h.wrote;
       }
 
-  pub line_leaf_alone : (fs : List BlockFrame) (evs : List Event) (m : ℕ) (shallow alone : Bool) (start s front lead : ℕ) → AtNodeLine W text from fs evs m shallow alone start
+  pub line_leaf_alone : (fs : List BlockFrame) (evs : List Event) (m : ℕ) (shallow alone : Bool)
+      (start s front lead : ℕ) → AtNodeLine W text from fs evs m shallow alone start
       → spaces_before (rest text start) ≡ s → past_spaces (rest text start) ≡ rest text front
-      → sign 45 (rest text front) && nat_le m (if shallow then suc s else s) ≡ false → nat_le m s ≡ false → alone ≡ true
+      → sign 45 (rest text front) && nat_le m (if shallow then suc s else s) ≡ false → nat_le m s ≡ false
+      → alone ≡ true
       → dropped white (rest text start) ≡ rest text lead → start + byte_len (taken white (rest text start)) ≡ lead
       → starts_line (line_starts text start) (taken white (rest text start)) ≡ line_starts text lead
       → AtLeaf W text from fs evs m None lead
@@ -134,7 +159,8 @@ module _ (W : Read Indented) (text : List ℕ) (from : ℕ) where
         mapping = None;
         reads = h.reads ∙ ap (unwind fs)
             (leaf_alone_after m shallow h.bol (line_starts text start) (line_starts text lead) h.comments t h.starts
-            (ap (λ u. sign 45 u && is_deep m shallow (spaces_before t)) e ∙ (ap (λ j. sign 45 (rest text front) && is_deep m shallow j) c ∙ d))
+            (ap (λ u. sign 45 u && is_deep m shallow (spaces_before t)) e
+            ∙ (ap (λ j. sign 45 (rest text front) && is_deep m shallow j) c ∙ d))
             (and_left _ _ deep) (or_left _ _ (h.alone_is ∙ a)) h.lines b
             ∙ ap (part_at None m (line_starts text lead) (sep_after h.comments blank)) drops);
         nested = h.nested;
@@ -144,33 +170,43 @@ module _ (W : Read Indented) (text : List ℕ) (from : ℕ) where
         wrote = h.wrote;
       }
 
-  pub line_too_shallow : (fs : List BlockFrame) (evs : List Event) (m : ℕ) (shallow alone : Bool) (start s front : ℕ) → AtNodeLine W text from fs evs m shallow alone start
+  pub line_too_shallow : (fs : List BlockFrame) (evs : List Event) (m : ℕ) (shallow alone : Bool) (start s front : ℕ)
+      → AtNodeLine W text from fs evs m shallow alone start
       → spaces_before (rest text start) ≡ s → past_spaces (rest text start) ≡ rest text front
-      → sign 45 (rest text front) && nat_le m (if shallow then suc s else s) ≡ false → nat_le m s ≡ false → alone ≡ false → W ≡ None
+      → sign 45 (rest text front) && nat_le m (if shallow then suc s else s) ≡ false → nat_le m s ≡ false
+      → alone ≡ false → W ≡ None
   line_too_shallow fs evs m shallow alone start s front h c e d l a =
       let t : List ℕ = rest text start in
       h.reads ∙ (ap (unwind fs)
       (too_shallow_after m shallow h.bol h.comments t h.starts
-      (ap (λ u. sign 45 u && is_deep m shallow (spaces_before t)) e ∙ (ap (λ j. sign 45 (rest text front) && is_deep m shallow j) c ∙ d)) (ap (nat_le m) c ∙ l) (h.alone_is ∙ a))
+      (ap (λ u. sign 45 u && is_deep m shallow (spaces_before t)) e
+      ∙ (ap (λ j. sign 45 (rest text front) && is_deep m shallow j) c ∙ d)) (ap (nat_le m) c ∙ l) (h.alone_is
+      ∙ a))
       ∙ unwind_none fs)
 
-  pub line_at_end : (fs : List BlockFrame) (evs : List Event) (m : ℕ) (shallow alone : Bool) (start front : ℕ) → AtNodeLine W text from fs evs m shallow alone start
+  pub line_at_end : (fs : List BlockFrame) (evs : List Event) (m : ℕ) (shallow alone : Bool) (start front : ℕ)
+      → AtNodeLine W text from fs evs m shallow alone start
       → past_spaces (rest text start) ≡ rest text front → rest text front ≡ [] → W ≡ None
   line_at_end fs evs m shallow alone start front h e n =
-      h.reads ∙ (ap (λ r. unwind fs (as_part r)) (nothing_after m shallow h.bol h.comments (rest text start) h.starts (e ∙ n)) ∙ unwind_none fs)
+      h.reads ∙ (ap (λ r. unwind fs (as_part r)) (nothing_after m shallow h.bol h.comments (rest text start) h.starts
+      (e ∙ n)) ∙ unwind_none fs)
 
   -- ---- on a line that goes on
 
-  pub node_on_line : (fs : List BlockFrame) (evs : List Event) (m : ℕ) (shallow : Bool) (at lead : ℕ) → AtNode W text from fs evs m shallow false at
-      → all_comments false (rest text at) ≡ ([], rest text at) → is_empty (taken white (rest text at)) ≡ false → dropped white (rest text at) ≡ rest text lead
-      → at + byte_len (taken white (rest text at)) ≡ lead → line_starts text lead ≡ false → AtLeaf W text from fs evs m None lead
+  pub node_on_line : (fs : List BlockFrame) (evs : List Event) (m : ℕ) (shallow : Bool) (at lead : ℕ)
+      → AtNode W text from fs evs m shallow false at
+      → all_comments false (rest text at) ≡ ([], rest text at) → is_empty (taken white (rest text at)) ≡ false
+      → dropped white (rest text at) ≡ rest text lead
+      → at + byte_len (taken white (rest text at)) ≡ lead → line_starts text lead ≡ false
+      → AtLeaf W text from fs evs m None lead
   node_on_line fs evs m shallow at lead h c w drops p b =
       let t : List ℕ = rest text at in
       record {
         sep = inline (taken white t);
         mapping = None;
         reads = h.reads ∙ ap (unwind fs)
-            (leaf_on_line m shallow t c w ∙ (ap (part_at None m false (inline (taken white t))) drops ∙ ap (λ x. part_at None m x (inline (taken white t)) (rest text lead)) (sym b)));
+            (leaf_on_line m shallow t c w ∙ (ap (part_at None m false (inline (taken white t))) drops
+            ∙ ap (λ x. part_at None m x (inline (taken white t)) (rest text lead)) (sym b)));
         nested = h.nested;
         pairs_is = refl;
         may_sit = tt;
@@ -178,7 +214,9 @@ module _ (W : Read Indented) (text : List ℕ) (from : ℕ) where
         wrote = h.wrote;
       }
 
-  pub node_no_white : (fs : List BlockFrame) (evs : List Event) (m : ℕ) (shallow : Bool) (at : ℕ) → AtNode W text from fs evs m shallow false at
+  pub node_no_white : (fs : List BlockFrame) (evs : List Event) (m : ℕ) (shallow : Bool) (at : ℕ)
+      → AtNode W text from fs evs m shallow false at
       → all_comments false (rest text at) ≡ ([], rest text at) → first white (rest text at) ≡ false → W ≡ None
   node_no_white fs evs m shallow at h c w =
-      h.reads ∙ (ap (unwind fs) (ap as_part (nothing_on_line m shallow (rest text at) c (untaken (rest text at) w))) ∙ unwind_none fs)
+      h.reads ∙ (ap (unwind fs) (ap as_part (nothing_on_line m shallow (rest text at) c (untaken (rest text at) w)))
+      ∙ unwind_none fs)

@@ -60,11 +60,16 @@ some_last bol (x ∷ xs) h n =
     unbroken_white : (x : ℕ) → white x ≡ true → line_break x ≡ false
     unbroken_white x h = grind (arith, nat_tests)
 
-pub white_to : (bs : List ℕ) (at end : ℕ) → IsUtf8 bs → IsCharBoundary bs at → AreTaken white bs at end → WhiteTo bs at end
+pub white_to : (bs : List ℕ) (at end : ℕ) → IsUtf8 bs → IsCharBoundary bs at → AreTaken white bs at end
+    → WhiteTo bs at end
 white_to bs at end u b t =
-    let s : (at + byte_len (taken white (rest bs at)) ≡ end) × (starts_line (line_starts bs at) (taken white (rest bs at)) ≡ line_starts bs end) = white_spelled bs at end u b t.boundary t.leaves in
-    let stop : first white (rest bs end) ≡ false = ap (first white) (sym t.leaves) ∙ dropped_stop white (rest bs at) in
-    let some : at < end → is_empty (taken white (rest bs at)) ≡ false = λ l. filled (taken white (rest bs at)) s.0 l in
+    let s : (at + byte_len (taken white (rest bs at)) ≡ end)
+    × (starts_line (line_starts bs at) (taken white (rest bs at)) ≡ line_starts bs end) =
+    white_spelled bs at end u b t.boundary t.leaves in
+    let stop : first white (rest bs end) ≡ false = ap (first white) (sym t.leaves)
+    ∙ dropped_stop white (rest bs at) in
+    let some : at < end → is_empty (taken white (rest bs at)) ≡ false = λ l.
+    filled (taken white (rest bs at)) s.0 l in
     record {
       place = s.0;
       drops = t.leaves;
@@ -73,7 +78,8 @@ white_to bs at end u b t =
       some = some;
       none = λ e. ap (λ i. first white (rest bs i)) (sym e) ∙ stop;
       inside = λ n. white_inside bs at end u b t.boundary n t.leaves;
-      inside_after = λ l. sym s.1 ∙ some_last (line_starts bs at) (taken white (rest bs at)) (taken_every white (rest bs at)) (some l);
+      inside_after = λ l. sym s.1 ∙ some_last (line_starts bs at) (taken white (rest bs at))
+          (taken_every white (rest bs at)) (some l);
     }
   where
     filled : (xs : List ℕ) → at + byte_len xs ≡ end → at < end → is_empty xs ≡ false
@@ -82,50 +88,66 @@ white_to bs at end u b t =
 
 -- ---- comments
 
-pub comments_to : (bs : List ℕ) (at start : ℕ) (bol : Bool) → IsUtf8 bs → IsCharBoundary bs at → IsCharBoundary bs start → (all_comments bol (rest bs at)).1 ≡ rest bs start
+pub comments_to : (bs : List ℕ) (at start : ℕ) (bol : Bool) → IsUtf8 bs → IsCharBoundary bs at
+    → IsCharBoundary bs start → (all_comments bol (rest bs at)).1 ≡ rest bs start
     → (at + byte_len (comments_text (all_comments bol (rest bs at)).0) ≡ start)
     × (starts_line (line_starts bs at) (comments_text (all_comments bol (rest bs at)).0) ≡ line_starts bs start)
 comments_to bs at start bol u b d e =
     let comments : List LineEnd = (all_comments bol (rest bs at)).0 in
-    let t : rest bs at ≡ comments_text comments ++ rest bs start = (all_sound bol (rest bs at)).0 ∙ ap (λ x. comments_text comments ++ x) e in
-    (spelled bs at start (comments_text comments) u b d t, starts_over bs at start (comments_text comments) u b d t (comments_unmarked bol (rest bs at)))
+    let t : rest bs at ≡ comments_text comments ++ rest bs start = (all_sound bol (rest bs at)).0
+    ∙ ap (λ x. comments_text comments ++ x) e in (
+      spelled bs at start (comments_text comments) u b d t,
+      starts_over bs at start (comments_text comments) u b d t
+          (comments_unmarked bol (rest bs at)),
+    )
 
 -- ---- spaces
 
 pub spaces_to : (bs : List ℕ) (at end : ℕ) → AreSpaces bs at end → at + spaces_before (rest bs at) ≡ end
 spaces_to bs at end s = omega (arith, s.counts, s.above)
 
-pub no_tab : (bs : List ℕ) (at sp lead : ℕ) → AreSpaces bs at sp → WhiteTo bs at lead → sp ≡ lead → first white (rest bs sp) ≡ false
+pub no_tab : (bs : List ℕ) (at sp lead : ℕ) → AreSpaces bs at sp → WhiteTo bs at lead → sp ≡ lead
+    → first white (rest bs sp) ≡ false
 no_tab bs at sp lead s w e = ap (λ i. first white (rest bs i)) e ∙ w.stop
 
-pub tab : (bs : List ℕ) (at sp lead : ℕ) → IsUtf8 bs → IsCharBoundary bs at → AreSpaces bs at sp → AreTaken white bs at lead → sp < lead → first white (rest bs sp) ≡ true
+pub tab : (bs : List ℕ) (at sp lead : ℕ) → IsUtf8 bs → IsCharBoundary bs at → AreSpaces bs at sp
+    → AreTaken white bs at lead → sp < lead → first white (rest bs sp) ≡ true
 tab bs at sp lead u b s t l = by_cases (first white (rest bs sp)) refl
   where
     by_cases : (x : Bool) → first white (rest bs sp) ≡ x → first white (rest bs sp) ≡ true
     by_cases true e = e
     by_cases false e =
-        let same : rest bs sp ≡ rest bs lead = sym s.leaves ∙ (sym (untabbed (rest bs at) (ap (first white) s.leaves ∙ e)) ∙ t.leaves) in
+        let same : rest bs sp ≡ rest bs lead = sym s.leaves
+        ∙ (sym (untabbed (rest bs at) (ap (first white) s.leaves ∙ e)) ∙ t.leaves) in
         let i : sp ≡ lead = same_place bs sp lead u s.boundary t.boundary same in
         absurd (omega (arith, i, l))
 
 -- ---- flow nodes
 
-pub flow_to : (bs : List ℕ) (at end : ℕ) (f : Flow) (n : ℕ) (c : FlowContext) (bol : Bool) → IsUtf8 bs → IsCharBoundary bs at → IsCharBoundary bs end
-    → flow_node_at n c bol (rest bs at) ≡ Some (f, rest bs end) → (at + byte_len (flow_text f) ≡ end) × (between bs at end ≡ flow_text f)
+pub flow_to : (bs : List ℕ) (at end : ℕ) (f : Flow) (n : ℕ) (c : FlowContext) (bol : Bool) → IsUtf8 bs
+    → IsCharBoundary bs at → IsCharBoundary bs end
+    → flow_node_at n c bol (rest bs at) ≡ Some (f, rest bs end)
+    → (at + byte_len (flow_text f) ≡ end) × (between bs at end ≡ flow_text f)
 flow_to bs at end f n c bol u b d e =
     let t : rest bs at ≡ flow_text f ++ rest bs end = (stands n c bol (rest bs at) f (rest bs end) e).spells in
     (spelled bs at end (flow_text f) u b d t, between_is bs at end (flow_text f) u b d t)
 
-pub short_is : (bs : List ℕ) (at end colon : ℕ) (f : Flow) (n : ℕ) (c : FlowContext) (bol : Bool) → IsUtf8 bs → IsCharBoundary bs at → IsCharBoundary bs end
-    → flow_node_at n c bol (rest bs at) ≡ Some (f, rest bs end) → AreTaken white bs end colon → nat_le (length (between bs at colon)) 1024 ≡ short_key f (taken white (rest bs end))
+pub short_is : (bs : List ℕ) (at end colon : ℕ) (f : Flow) (n : ℕ) (c : FlowContext) (bol : Bool) → IsUtf8 bs
+    → IsCharBoundary bs at → IsCharBoundary bs end
+    → flow_node_at n c bol (rest bs at) ≡ Some (f, rest bs end) → AreTaken white bs end colon
+    → nat_le (length (between bs at colon)) 1024 ≡ short_key f (taken white (rest bs end))
 short_is bs at end colon f n c bol u b d e t =
-    let p : (at + byte_len (flow_text f) ≡ end) × (between bs at end ≡ flow_text f) = flow_to bs at end f n c bol u b d e in
+    let p : (at + byte_len (flow_text f) ≡ end) × (between bs at end ≡ flow_text f) =
+    flow_to bs at end f n c bol u b d e in
     let whole : between bs at colon ≡ flow_text f ++ taken white (rest bs end) =
-    between-append bs at end colon u (omega (arith, p.0)) t.above b d t.boundary ∙ (ap (λ x. x ++ between bs end colon) p.1 ∙ ap (λ x. flow_text f ++ x) (sym t.takes)) in
+    between-append bs at end colon u (omega (arith, p.0)) t.above b d t.boundary
+    ∙ (ap (λ x. x ++ between bs end colon) p.1 ∙ ap (λ x. flow_text f ++ x) (sym t.takes)) in
     ap (λ x. nat_le (length x) 1024) whole
 
-pub unbroken_is : (bs : List ℕ) (at end : ℕ) (f : Flow) (n : ℕ) (c : FlowContext) (bol : Bool) → IsUtf8 bs → IsCharBoundary bs at → IsCharBoundary bs end
-    → flow_node_at n c bol (rest bs at) ≡ Some (f, rest bs end) → every no_break (between bs at end) ≡ unbroken (flow_text f)
+pub unbroken_is : (bs : List ℕ) (at end : ℕ) (f : Flow) (n : ℕ) (c : FlowContext) (bol : Bool) → IsUtf8 bs
+    → IsCharBoundary bs at → IsCharBoundary bs end
+    → flow_node_at n c bol (rest bs at) ≡ Some (f, rest bs end)
+    → every no_break (between bs at end) ≡ unbroken (flow_text f)
 unbroken_is bs at end f n c bol u b d e = ap (every no_break) (flow_to bs at end f n c bol u b d e).1
 
 -- ---- a line of white space or a comment
@@ -133,7 +155,8 @@ unbroken_is bs at end f n c bol u b d e = ap (every no_break) (flow_to bs at end
 pub line_end_read : (text : List ℕ) → is_line_end text ≡ is_some (read_line_end true text)
 line_end_read text = by_cases (is_line_end text) (read_line_end true text) refl refl
   where
-    by_cases : (b : Bool) (r : Read LineEnd) → is_line_end text ≡ b → read_line_end true text ≡ r → is_line_end text ≡ is_some (read_line_end true text)
+    by_cases : (b : Bool) (r : Read LineEnd) → is_line_end text ≡ b → read_line_end true text ≡ r
+        → is_line_end text ≡ is_some (read_line_end true text)
     by_cases false r e q = e ∙ sym (ap is_some (no_line true text e))
     by_cases true None e q = absurd (false≢true (sym (no_line_end text q) ∙ e))
     by_cases true (Some l) e q = e ∙ sym (ap is_some q)

@@ -1,4 +1,5 @@
--- The steps of the scanner after a sign: to the part on its line, to a node on a later line, or to a value that is left out.
+-- The steps of the scanner after a sign: to the part on its line, to a node on a later line, or to
+-- a value that is left out.
 use Rattle.std.proofs.Common.{ap, arith, inl, inr, refl, sym, ◌∙◌, ◌≡◌, ◌⊎◌, ◌≤◌}
 use Rattle.std.specs.Prelude.{Bool, List, None, Some, [], false, nat_le, not, suc, true, zero, ℕ, ◌&&◌, ◌++◌, ◌+◌, ◌∷◌}
 use Rattle.std.proofs.lemmas.Bool.{and_from, and_left, and_right, false≢true, le-leb, not_from_false, not_from_true}
@@ -28,31 +29,37 @@ use Rattle.yaml_block.specs.Frames.{AfterSign, AtLeaf, AtLine, AtNodeLine, Await
 use Rattle.yaml_block.proofs.BlockSigns.{compact_or_leaf, leaf_on_sign_line, node_on_lines as node_behind_lines, nothing_on_sign_line, omitted_behind, unclosed_goes_on, untabbed, untabbed_taken}
 
 -- after a sign, by what may stand there
-after_is : (before : Sign) (k : ℕ) (t : List ℕ) → part_after before k t ≡ part_behind (not (is_colon before)) (is_shallow before) k t
+after_is : (before : Sign) (k : ℕ) (t : List ℕ) → part_after before k t ≡ part_behind (not (is_colon before))
+    (is_shallow before) k t
 after_is Dash k t = refl
 after_is Asked k t = refl
 after_is Colon k t = refl
 
-after_compact : (before : Sign) (k : ℕ) (t : List ℕ) → is_colon before ≡ false → part_after before k t ≡ part_behind true (is_shallow before) k t
+after_compact : (before : Sign) (k : ℕ) (t : List ℕ) → is_colon before ≡ false
+    → part_after before k t ≡ part_behind true (is_shallow before) k t
 after_compact Dash k t h = refl
 after_compact Asked k t h = refl
 after_compact Colon k t h = absurd (false≢true (sym h))
 
 -- a compact collection is seated after the sign that is awaited
-seated_compact : (before : Sign) (k s : ℕ) (fs : List BlockFrame) → Awaits before k fs → is_colon before ≡ false → Seated (on_sign_line s) (k + 1 + s) fs
+seated_compact : (before : Sign) (k s : ℕ) (fs : List BlockFrame) → Awaits before k fs → is_colon before ≡ false
+    → Seated (on_sign_line s) (k + 1 + s) fs
 seated_compact before k s [] a h = absurd a
 seated_compact before k s (g ∷ gs) a h = (ap is_colon a.0 ∙ h, ap (λ j. j + 1 + s) (sym a.1))
 
 -- what is left out fits each frame but for that of a key
-omitted_fits : (f : BlockFrame) (comments : List LineEnd) → (waits_of f ≡ Key → ⊥) → fits_frame f (omitted comments) ≡ true
+omitted_fits : (f : BlockFrame) (comments : List LineEnd) → (waits_of f ≡ Key → ⊥)
+    → fits_frame f (omitted comments) ≡ true
 omitted_fits (waits_item sits k done) comments h = refl
 omitted_fits (waits_key sits k done) comments h = absurd (h refl)
 omitted_fits (waits_value sits k done (key_asked key)) comments h = refl
 omitted_fits (waits_value sits k done (key_on_line key gap)) comments h = refl
 
-key_left_out : (f : BlockFrame) (gs : List BlockFrame) (comments : List LineEnd) (t : List ℕ) → waits_of f ≡ Key → unwind (f ∷ gs) (Some (omitted comments, t)) ≡ None
+key_left_out : (f : BlockFrame) (gs : List BlockFrame) (comments : List LineEnd) (t : List ℕ) → waits_of f ≡ Key
+    → unwind (f ∷ gs) (Some (omitted comments, t)) ≡ None
 key_left_out (waits_item sits k done) gs comments t h = absurd (let e : ⊥ = cc in e)
-key_left_out (waits_key sits k done) gs comments t h = ap (unwind gs) (asked_for_nothing sits k done (omitted comments) t refl) ∙ unwind_none gs
+key_left_out (waits_key sits k done) gs comments t h =
+    ap (unwind gs) (asked_for_nothing sits k done (omitted comments) t refl) ∙ unwind_none gs
 key_left_out (waits_value sits k done key) gs comments t h = absurd (let e : ⊥ = cc in e)
 
 pub byte_len_spaces : (n : ℕ) → byte_len (spaces n) ≡ n
@@ -68,26 +75,34 @@ untaken [] h = refl
 untaken (c ∷ cs) h = rw h refl
 
 -- a node on a later line stands behind some comments
-some_comments : (k : ℕ) (shallow : Bool) (c : List LineEnd × List ℕ) → closes_line c ≡ true → ended (suc k) shallow c.1 ≡ false → is_empty c.0 ≡ false
+some_comments : (k : ℕ) (shallow : Bool) (c : List LineEnd × List ℕ) → closes_line c ≡ true
+    → ended (suc k) shallow c.1 ≡ false → is_empty c.0 ≡ false
 some_comments k shallow c h e = by_cases c.0 c.1 h e
   where
-    by_cases : (comments : List LineEnd) (t : List ℕ) → closes_line (comments, t) ≡ true → ended (suc k) shallow t ≡ false → is_empty comments ≡ false
+    by_cases : (comments : List LineEnd) (t : List ℕ) → closes_line (comments, t) ≡ true
+        → ended (suc k) shallow t ≡ false → is_empty comments ≡ false
     by_cases [] [] h e = absurd (false≢true (sym e))
     by_cases [] (x ∷ xs) h e = absurd (false≢true h)
     by_cases (l ∷ ls) t h e = refl
 
 module _ (W : Read Indented) (text : List ℕ) (from : ℕ) where
-  pub omits_value : (fs : List BlockFrame) (evs : List Event) (before : Sign) (k at start : ℕ) → AfterSign W text from fs evs before k at
-      → closes_line (all_comments false (rest text at)) ≡ true → (all_comments false (rest text at)).1 ≡ rest text start
-      → ended (suc k) (is_shallow before) (rest text start) ≡ true → at + byte_len (comments_text (all_comments false (rest text at)).0) ≡ start
-      → (f : BlockFrame) × (gs : List BlockFrame) × (fs ≡ f ∷ gs) × (waits_of f ≡ Key → W ≡ None) × ((waits_of f ≡ Key → ⊥) → AtLine W text from fs (evs ++ omitted_at at) start at)
+  pub omits_value : (fs : List BlockFrame) (evs : List Event) (before : Sign) (k at start : ℕ)
+      → AfterSign W text from fs evs before k at
+      → closes_line (all_comments false (rest text at)) ≡ true
+      → (all_comments false (rest text at)).1 ≡ rest text start
+      → ended (suc k) (is_shallow before) (rest text start) ≡ true
+      → at + byte_len (comments_text (all_comments false (rest text at)).0) ≡ start
+      → (f : BlockFrame) × (gs : List BlockFrame) × (fs ≡ f ∷ gs) × (waits_of f ≡ Key → W ≡ None)
+      × ((waits_of f ≡ Key → ⊥) → AtLine W text from fs (evs ++ omitted_at at) start at)
   omits_value [] evs before k at start h c t e p = absurd h.awaits
   omits_value (f ∷ gs) evs before k at start h c t e p =
       let comments : List LineEnd = (all_comments false (rest text at)).0 in
       let behind : part_after before k (rest text at) ≡ Some (omitted comments, rest text start) =
       after_is before k (rest text at)
-      ∙ (omitted_behind (not (is_colon before)) (is_shallow before) k (rest text at) c (ap (ended (suc k) (is_shallow before)) t ∙ e) ∙ ap (λ u. Some (omitted comments, u)) t) in
-      let reads : W ≡ unwind (f ∷ gs) (Some (omitted comments, rest text start)) = h.reads ∙ ap (unwind (f ∷ gs)) behind in (
+      ∙ (omitted_behind (not (is_colon before)) (is_shallow before) k (rest text at) c
+      (ap (ended (suc k) (is_shallow before)) t ∙ e) ∙ ap (λ u. Some (omitted comments, u)) t) in
+      let reads : W ≡ unwind (f ∷ gs) (Some (omitted comments, rest text start)) = h.reads
+      ∙ ap (unwind (f ∷ gs)) behind in (
         f,
         gs,
         refl,
@@ -99,26 +114,35 @@ module _ (W : Read Indented) (text : List ℕ) (from : ℕ) where
           fits = omitted_fits f comments w;
           place = ap (λ q. q + byte_len (comments_text comments)) h.place ∙ p;
           ends = h.place;
-          wrote = ap (λ es. es ++ omitted_at at) h.wrote ∙ ap (λ q. events_in (f ∷ gs) from ++ omitted_at q) (sym h.place);
+          wrote = ap (λ es. es ++ omitted_at at) h.wrote
+              ∙ ap (λ q. events_in (f ∷ gs) from ++ omitted_at q) (sym h.place);
         },
       )
 
-  pub node_on_lines : (fs : List BlockFrame) (evs : List Event) (before : Sign) (k at start : ℕ) → AfterSign W text from fs evs before k at
-      → closes_line (all_comments false (rest text at)) ≡ true → (all_comments false (rest text at)).1 ≡ rest text start
-      → ended (suc k) (is_shallow before) (rest text start) ≡ false → at + byte_len (comments_text (all_comments false (rest text at)).0) ≡ start
+  pub node_on_lines : (fs : List BlockFrame) (evs : List Event) (before : Sign) (k at start : ℕ)
+      → AfterSign W text from fs evs before k at
+      → closes_line (all_comments false (rest text at)) ≡ true
+      → (all_comments false (rest text at)).1 ≡ rest text start
+      → ended (suc k) (is_shallow before) (rest text start) ≡ false
+      → at + byte_len (comments_text (all_comments false (rest text at)).0) ≡ start
       → starts_line false (comments_text (all_comments false (rest text at)).0) ≡ line_starts text start
       → AtNodeLine W text from fs evs (suc k) (is_shallow before) false start
   node_on_lines fs evs before k at start h c t e p l =
       let comments : List LineEnd = (all_comments false (rest text at)).0 in
-      let some : is_empty comments ≡ false = some_comments k (is_shallow before) (all_comments false (rest text at)) c (ap (ended (suc k) (is_shallow before)) t ∙ e) in
-      let whole : ◌≡◌ {A = List LineEnd × List ℕ} (all_comments false (rest text at)) (comments, rest text start) = ap (λ u. (comments, u)) t in
+      let some : is_empty comments ≡ false = some_comments k (is_shallow before) (all_comments false (rest text at)) c
+      (ap (ended (suc k) (is_shallow before)) t ∙ e) in
+      let whole : ◌≡◌ {A = List LineEnd × List ℕ} (all_comments false (rest text at)) (comments, rest text start) =
+      ap (λ u. (comments, u)) t in
       record {
         bol = false;
         comments = comments;
         reads = h.reads ∙ ap (unwind fs)
             (after_is before k (rest text at)
-            ∙ (node_behind_lines (not (is_colon before)) (is_shallow before) k (rest text at) c (ap (ended (suc k) (is_shallow before)) t ∙ e)
-            ∙ ap as_part (node_steps (suc k) (is_shallow before) false (rest text at) ∙ ap (node_behind block_key_in flow_leaf_at read_block block_items_at block_pairs_at (suc k) (is_shallow before) false) whole)));
+            ∙ (node_behind_lines (not (is_colon before)) (is_shallow before) k (rest text at) c
+            (ap (ended (suc k) (is_shallow before)) t ∙ e)
+            ∙ ap as_part (node_steps (suc k) (is_shallow before) false (rest text at)
+            ∙ ap (node_behind block_key_in flow_leaf_at read_block block_items_at block_pairs_at (suc k)
+            (is_shallow before) false) whole)));
         nested = h.nested;
         starts = not_from_false _ some;
         alone_is = some;
@@ -129,10 +153,13 @@ module _ (W : Read Indented) (text : List ℕ) (from : ℕ) where
 
   -- ---- on the line of the sign
 
-  pub compact_sequence : (fs : List BlockFrame) (evs : List Event) (before : Sign) (k at s front : ℕ) → AfterSign W text from fs evs before k at → is_colon before ≡ false
-      → spaces_before (rest text at) ≡ s → 1 ≤ s → past_spaces (rest text at) ≡ rest text front → at + s ≡ front → sign 45 (rest text front) ≡ true
+  pub compact_sequence : (fs : List BlockFrame) (evs : List Event) (before : Sign) (k at s front : ℕ)
+      → AfterSign W text from fs evs before k at → is_colon before ≡ false
+      → spaces_before (rest text at) ≡ s → 1 ≤ s → past_spaces (rest text at) ≡ rest text front → at + s ≡ front
+      → sign 45 (rest text front) ≡ true
       → past (rest text front) ≡ rest text (front + 1)
-      → AfterSign W text from (waits_item (on_sign_line s) (k + 1 + s) [] ∷ fs) (evs ++ seq_start ∷ []) Dash (k + 1 + s) (front + 1)
+      → AfterSign W text from (waits_item (on_sign_line s) (k + 1 + s) [] ∷ fs) (evs ++ seq_start ∷ []) Dash
+      (k + 1 + s) (front + 1)
   compact_sequence fs evs before k at s front h n c l e p d q =
       let t : List ℕ = rest text at in
       let dash : sign 45 (past_spaces t) ≡ true = ap (sign 45) e ∙ d in
@@ -150,10 +177,13 @@ module _ (W : Read Indented) (text : List ℕ) (from : ℕ) where
       }
     where
       opened : ℕ → List ℕ → Read Indented
-      opened j u = on (block_indented_at (k + 1 + j) false u) (λ i behind. plug (waits_item (on_sign_line j) (k + 1 + j) []) i behind)
+      opened j u = on (block_indented_at (k + 1 + j) false u)
+          (λ i behind. plug (waits_item (on_sign_line j) (k + 1 + j) []) i behind)
 
-  pub compact_leaf : (fs : List BlockFrame) (evs : List Event) (before : Sign) (k at s front : ℕ) → AfterSign W text from fs evs before k at → is_colon before ≡ false
-      → closes_line (all_comments false (rest text at)) ≡ false → spaces_before (rest text at) ≡ s → 1 ≤ s → past_spaces (rest text at) ≡ rest text front → at + s ≡ front
+  pub compact_leaf : (fs : List BlockFrame) (evs : List Event) (before : Sign) (k at s front : ℕ)
+      → AfterSign W text from fs evs before k at → is_colon before ≡ false
+      → closes_line (all_comments false (rest text at)) ≡ false → spaces_before (rest text at) ≡ s → 1 ≤ s
+      → past_spaces (rest text at) ≡ rest text front → at + s ≡ front
       → sign 45 (rest text front) ≡ false → first white (rest text front) ≡ false → line_starts text front ≡ false
       → AtLeaf W text from fs evs (suc k) (Some (k + 1 + s)) front
   compact_leaf fs evs before k at s front h n g c l e p d w b =
@@ -166,11 +196,14 @@ module _ (W : Read Indented) (text : List ℕ) (from : ℕ) where
         mapping = Some (on_sign_line s, k + 1 + s);
         reads = h.reads ∙ ap (unwind fs)
             (after_compact before k t n
-            ∙ (compact_or_leaf k (is_shallow before) t (unclosed_goes_on t g) (ap is_empty lead ∙ spaces_some s l) plain (ap (sign 45) e ∙ d)
-            ∙ (ap (λ j. part_at (Some (on_sign_line j, k + 1 + j)) (suc k) false (inline (taken white t)) (dropped white t)) c
+            ∙ (compact_or_leaf k (is_shallow before) t (unclosed_goes_on t g) (ap is_empty lead
+            ∙ spaces_some s l) plain (ap (sign 45) e ∙ d)
+            ∙ (ap (λ j. part_at (Some (on_sign_line j, k + 1 + j)) (suc k) false (inline (taken white t))
+            (dropped white t)) c
             ∙ (ap (λ xs. part_at (Some (on_sign_line s, k + 1 + s)) (suc k) false (inline xs) (dropped white t)) lead
             ∙ (ap (part_at (Some (on_sign_line s, k + 1 + s)) (suc k) false (inline (spaces s))) drops
-            ∙ ap (λ x. part_at (Some (on_sign_line s, k + 1 + s)) (suc k) x (inline (spaces s)) (rest text front)) (sym b))))));
+            ∙ ap (λ x. part_at (Some (on_sign_line s, k + 1 + s)) (suc k) x (inline (spaces s)) (rest text front))
+            (sym b))))));
         nested = h.nested;
         pairs_is = refl;
         may_sit = (seated_compact before k s fs h.awaits n, ap (λ x. x + s) h.place ∙ p);
@@ -178,9 +211,12 @@ module _ (W : Read Indented) (text : List ℕ) (from : ℕ) where
         wrote = h.wrote;
       }
 
-  pub sign_leaf : (fs : List BlockFrame) (evs : List Event) (before : Sign) (k at lead : ℕ) → AfterSign W text from fs evs before k at
-      → (is_colon before ≡ true) ⊎ (first white (past_spaces (rest text at)) ≡ true) → closes_line (all_comments false (rest text at)) ≡ false
-      → is_empty (taken white (rest text at)) ≡ false → dropped white (rest text at) ≡ rest text lead → at + byte_len (taken white (rest text at)) ≡ lead → line_starts text lead ≡ false
+  pub sign_leaf : (fs : List BlockFrame) (evs : List Event) (before : Sign) (k at lead : ℕ)
+      → AfterSign W text from fs evs before k at
+      → (is_colon before ≡ true) ⊎ (first white (past_spaces (rest text at)) ≡ true)
+      → closes_line (all_comments false (rest text at)) ≡ false
+      → is_empty (taken white (rest text at)) ≡ false → dropped white (rest text at) ≡ rest text lead
+      → at + byte_len (taken white (rest text at)) ≡ lead → line_starts text lead ≡ false
       → AtLeaf W text from fs evs (suc k) None lead
   sign_leaf fs evs before k at lead h n g w d p b =
       let t : List ℕ = rest text at in
@@ -189,8 +225,10 @@ module _ (W : Read Indented) (text : List ℕ) (from : ℕ) where
         mapping = None;
         reads = h.reads ∙ ap (unwind fs)
             (after_is before k t
-            ∙ (leaf_on_sign_line (not (is_colon before)) (is_shallow before) k t (unclosed_goes_on t g) w (no_compact n)
-            ∙ (ap (part_at None (suc k) false (inline (taken white t))) d ∙ ap (λ x. part_at None (suc k) x (inline (taken white t)) (rest text lead)) (sym b))));
+            ∙ (leaf_on_sign_line (not (is_colon before)) (is_shallow before) k t (unclosed_goes_on t g) w
+            (no_compact n)
+            ∙ (ap (part_at None (suc k) false (inline (taken white t))) d
+            ∙ ap (λ x. part_at None (suc k) x (inline (taken white t)) (rest text lead)) (sym b))));
         nested = h.nested;
         pairs_is = refl;
         may_sit = tt;
@@ -198,12 +236,16 @@ module _ (W : Read Indented) (text : List ℕ) (from : ℕ) where
         wrote = h.wrote;
       }
     where
-      no_compact : (is_colon before ≡ true) ⊎ (first white (past_spaces (rest text at)) ≡ true) → not (is_colon before) && not (first white (past_spaces (rest text at))) ≡ false
+      no_compact : (is_colon before ≡ true) ⊎ (first white (past_spaces (rest text at)) ≡ true)
+          → not (is_colon before) && not (first white (past_spaces (rest text at))) ≡ false
       no_compact (inl e) = and_left _ _ (not_from_true _ e)
       no_compact (inr e) = and_right _ _ (not_from_true _ e)
 
-  pub no_white : (fs : List BlockFrame) (evs : List Event) (before : Sign) (k at : ℕ) → AfterSign W text from fs evs before k at
+  pub no_white : (fs : List BlockFrame) (evs : List Event) (before : Sign) (k at : ℕ)
+      → AfterSign W text from fs evs before k at
       → closes_line (all_comments false (rest text at)) ≡ false → first white (rest text at) ≡ false → W ≡ None
   no_white fs evs before k at h g w =
       let t : List ℕ = rest text at in
-      h.reads ∙ (ap (unwind fs) (after_is before k t ∙ nothing_on_sign_line (not (is_colon before)) (is_shallow before) k t (unclosed_goes_on t g) (untaken t w)) ∙ unwind_none fs)
+      h.reads ∙ (ap (unwind fs) (after_is before k t
+      ∙ nothing_on_sign_line (not (is_colon before)) (is_shallow before) k t (unclosed_goes_on t g) (untaken t w))
+      ∙ unwind_none fs)

@@ -33,23 +33,37 @@ order_mark c = c == 0xfeff
 
 byte_len-encodes : (cs : List ℕ) → byte_len cs ≡ length (encodes cs)
 byte_len-encodes [] = refl
-byte_len-encodes (c ∷ cs) = let e = byte_len-encodes cs in omega (arith, e, length-encode c, length-append (encode c) (encodes cs))
+byte_len-encodes (c ∷ cs) = let e = byte_len-encodes cs in omega
+    (arith, e, length-encode c, length-append (encode c) (encodes cs))
 
 -- the second place is as many bytes after the first as the characters between take
-pub spelled : (bs : List ℕ) (i j : ℕ) (xs : List ℕ) → IsUtf8 bs → IsCharBoundary bs i → IsCharBoundary bs j → rest bs i ≡ xs ++ rest bs j → i + byte_len xs ≡ j
+pub spelled : (bs : List ℕ) (i j : ℕ) (xs : List ℕ) → IsUtf8 bs → IsCharBoundary bs i → IsCharBoundary bs j
+    → rest bs i ≡ xs ++ rest bs j → i + byte_len xs ≡ j
 spelled bs i j xs u b d e =
-    let bytes : drop i bs ≡ encodes xs ++ drop j bs = sym (encodes-rest bs i u b) ∙ (ap encodes e ∙ (encodes-append xs (rest bs j) ∙ ap (λ ys. encodes xs ++ ys) (encodes-rest bs j u d))) in
-    omega (arith, ap length bytes, length-append (encodes xs) (drop j bs), length-drop i bs, length-drop j bs, byte_len-encodes xs, b.0, d.0)
+    let bytes : drop i bs ≡ encodes xs ++ drop j bs = sym (encodes-rest bs i u b)
+    ∙ (ap encodes e ∙ (encodes-append xs (rest bs j) ∙ ap (λ ys. encodes xs ++ ys) (encodes-rest bs j u d))) in
+    omega (
+      arith,
+      ap length bytes,
+      length-append (encodes xs) (drop j bs),
+      length-drop i bs,
+      length-drop j bs,
+      byte_len-encodes xs,
+      b.0,
+      d.0,
+    )
 
 -- those characters
-pub between_is : (bs : List ℕ) (i j : ℕ) (xs : List ℕ) → IsUtf8 bs → IsCharBoundary bs i → IsCharBoundary bs j → rest bs i ≡ xs ++ rest bs j → between bs i j ≡ xs
+pub between_is : (bs : List ℕ) (i j : ℕ) (xs : List ℕ) → IsUtf8 bs → IsCharBoundary bs i → IsCharBoundary bs j
+    → rest bs i ≡ xs ++ rest bs j → between bs i j ≡ xs
 between_is bs i j xs u b d e =
     let l : i + byte_len xs ≡ j = spelled bs i j xs u b d e in
     append_cancel_right (between bs i j) xs (rest bs j) (sym (rest-between bs i j u (omega (arith, l)) b d) ∙ e)
 
 -- ---- S0: whether a line starts at the second
 
-unmarked_joined : (xs ys : List ℕ) → (xs ≡ [] → first order_mark ys ≡ false) → starts_line true (without_mark (xs ++ ys)) ≡ starts_line (starts_line true (without_mark xs)) ys
+unmarked_joined : (xs ys : List ℕ) → (xs ≡ [] → first order_mark ys ≡ false)
+    → starts_line true (without_mark (xs ++ ys)) ≡ starts_line (starts_line true (without_mark xs)) ys
 unmarked_joined [] [] h = refl
 unmarked_joined [] (y ∷ ys) h = rw (h refl) refl
 unmarked_joined (x ∷ xs) ys h = elim (cases_Bool (x == 0xfeff)) [
@@ -57,11 +71,14 @@ unmarked_joined (x ∷ xs) ys h = elim (cases_Bool (x == 0xfeff)) [
   | inr e ↦ rw e (starts_joined (line_break x) xs ys)
 ]
 
-pub starts_over : (bs : List ℕ) (i j : ℕ) (xs : List ℕ) → IsUtf8 bs → IsCharBoundary bs i → IsCharBoundary bs j → rest bs i ≡ xs ++ rest bs j → first order_mark xs ≡ false
+pub starts_over : (bs : List ℕ) (i j : ℕ) (xs : List ℕ) → IsUtf8 bs → IsCharBoundary bs i → IsCharBoundary bs j
+    → rest bs i ≡ xs ++ rest bs j → first order_mark xs ≡ false
     → starts_line (line_starts bs i) xs ≡ line_starts bs j
 starts_over bs i j xs u b d e n =
     let l : i + byte_len xs ≡ j = spelled bs i j xs u b d e in
-    sym (ap (λ t. starts_line true (without_mark t)) (between-append bs 0 i j u (omega arith) (omega (arith, l)) (IsCharBoundary-start bs u) b d ∙ ap (λ t. between bs 0 i ++ t) (between_is bs i j xs u b d e))
+    sym (ap (λ t. starts_line true (without_mark t))
+    (between-append bs 0 i j u (omega arith) (omega (arith, l)) (IsCharBoundary-start bs u) b d
+    ∙ ap (λ t. between bs 0 i ++ t) (between_is bs i j xs u b d e))
     ∙ unmarked_joined (between bs 0 i) xs (λ _. n))
 
 -- ---- white
@@ -70,16 +87,24 @@ white_unmarked : (xs : List ℕ) → every white xs ≡ true → first order_mar
 white_unmarked [] h = refl
 white_unmarked (x ∷ xs) h = let w : white x ≡ true = (and_parts _ _ h).0 in grind (arith, nat_tests, w)
 
-pub white_spelled : (bs : List ℕ) (i j : ℕ) → IsUtf8 bs → IsCharBoundary bs i → IsCharBoundary bs j → dropped white (rest bs i) ≡ rest bs j
-    → (i + byte_len (taken white (rest bs i)) ≡ j) × (starts_line (line_starts bs i) (taken white (rest bs i)) ≡ line_starts bs j)
+pub white_spelled : (bs : List ℕ) (i j : ℕ) → IsUtf8 bs → IsCharBoundary bs i → IsCharBoundary bs j
+    → dropped white (rest bs i) ≡ rest bs j
+    → (i + byte_len (taken white (rest bs i)) ≡ j)
+    × (starts_line (line_starts bs i) (taken white (rest bs i)) ≡ line_starts bs j)
 white_spelled bs i j u b d e =
-    let s : rest bs i ≡ taken white (rest bs i) ++ rest bs j = taken_split white (rest bs i) ∙ ap (λ t. taken white (rest bs i) ++ t) e in
-    (spelled bs i j (taken white (rest bs i)) u b d s, starts_over bs i j (taken white (rest bs i)) u b d s (white_unmarked (taken white (rest bs i)) (taken_every white (rest bs i))))
+    let s : rest bs i ≡ taken white (rest bs i) ++ rest bs j = taken_split white (rest bs i)
+    ∙ ap (λ t. taken white (rest bs i) ++ t) e in (
+      spelled bs i j (taken white (rest bs i)) u b d s,
+      starts_over bs i j (taken white (rest bs i)) u b d s
+          (white_unmarked (taken white (rest bs i)) (taken_every white (rest bs i))),
+    )
 
 -- no line starts after white space on a line
-pub white_inside : (bs : List ℕ) (i j : ℕ) → IsUtf8 bs → IsCharBoundary bs i → IsCharBoundary bs j → line_starts bs i ≡ false → dropped white (rest bs i) ≡ rest bs j → line_starts bs j ≡ false
+pub white_inside : (bs : List ℕ) (i j : ℕ) → IsUtf8 bs → IsCharBoundary bs i → IsCharBoundary bs j
+    → line_starts bs i ≡ false → dropped white (rest bs i) ≡ rest bs j → line_starts bs j ≡ false
 white_inside bs i j u b d n e =
-    sym (white_spelled bs i j u b d e).1 ∙ (ap (λ x. starts_line x (taken white (rest bs i))) n ∙ white_starts (taken white (rest bs i)) (taken_every white (rest bs i)))
+    sym (white_spelled bs i j u b d e).1 ∙ (ap (λ x. starts_line x (taken white (rest bs i))) n
+    ∙ white_starts (taken white (rest bs i)) (taken_every white (rest bs i)))
 
 -- ---- spaces
 
@@ -87,16 +112,20 @@ spaces_unmarked : (s : ℕ) → first order_mark (spaces s) ≡ false
 spaces_unmarked zero = refl
 spaces_unmarked (suc s) = refl
 
-pub spaces_spelled : (bs : List ℕ) (i j : ℕ) → IsUtf8 bs → IsCharBoundary bs i → IsCharBoundary bs j → past_spaces (rest bs i) ≡ rest bs j
+pub spaces_spelled : (bs : List ℕ) (i j : ℕ) → IsUtf8 bs → IsCharBoundary bs i → IsCharBoundary bs j
+    → past_spaces (rest bs i) ≡ rest bs j
     → starts_line (line_starts bs i) (spaces (spaces_before (rest bs i))) ≡ line_starts bs j
 spaces_spelled bs i j u b d e =
-    starts_over bs i j (spaces (spaces_before (rest bs i))) u b d (spaces_split (rest bs i) ∙ ap (λ t. spaces (spaces_before (rest bs i)) ++ t) e) (spaces_unmarked (spaces_before (rest bs i)))
+    starts_over bs i j (spaces (spaces_before (rest bs i))) u b d (spaces_split (rest bs i)
+    ∙ ap (λ t. spaces (spaces_before (rest bs i)) ++ t) e) (spaces_unmarked (spaces_before (rest bs i)))
 
 -- behind the spaces of a line that is not the text's end
-pub pair_starts : (bs : List ℕ) (i j k : ℕ) → IsUtf8 bs → IsCharBoundary bs i → IsCharBoundary bs j → (line_starts bs i ≡ true) ⊎ (rest bs i ≡ []) → is_empty (rest bs i) ≡ false
+pub pair_starts : (bs : List ℕ) (i j k : ℕ) → IsUtf8 bs → IsCharBoundary bs i → IsCharBoundary bs j
+    → (line_starts bs i ≡ true) ⊎ (rest bs i ≡ []) → is_empty (rest bs i) ≡ false
     → spaces_before (rest bs i) ≡ k → past_spaces (rest bs i) ≡ rest bs j → line_starts bs j ≡ (k == 0)
 pair_starts bs i j k u b d (inl s) n c e =
-    sym (spaces_spelled bs i j u b d e) ∙ (ap (λ x. starts_line x (spaces (spaces_before (rest bs i)))) s ∙ (spaces_start (spaces_before (rest bs i)) ∙ ap (λ x. x == 0) c))
+    sym (spaces_spelled bs i j u b d e) ∙ (ap (λ x. starts_line x (spaces (spaces_before (rest bs i)))) s
+    ∙ (spaces_start (spaces_before (rest bs i)) ∙ ap (λ x. x == 0) c))
 pair_starts bs i j k u b d (inr s) n c e = absurd (false≢true (sym n ∙ ap is_empty s))
 
 -- ---- comments
@@ -113,22 +142,31 @@ first_kept : (xs ys : List ℕ) → first order_mark (xs ++ ys) ≡ false → fi
 first_kept [] ys h = refl
 first_kept (x ∷ xs) ys h = h
 
-pub comments_unmarked : (bol : Bool) (text : List ℕ) → first order_mark (comments_text (all_comments bol text).0) ≡ false
+pub comments_unmarked : (bol : Bool) (text : List ℕ)
+    → first order_mark (comments_text (all_comments bol text).0) ≡ false
 comments_unmarked bol text = elim (cases_Bool (first order_mark text)) [
   | inl e ↦ ap (λ (c : List LineEnd × List ℕ). first order_mark (comments_text c.0)) (none text e)
-  | inr e ↦ first_kept (comments_text (all_comments bol text).0) (all_comments bol text).1 (ap (first order_mark) (sym (all_sound bol text).0) ∙ e)
+  | inr e ↦ first_kept (comments_text (all_comments bol text).0) (all_comments bol text).1
+      (ap (first order_mark) (sym (all_sound bol text).0) ∙ e)
 ]
   where
     none : (text : List ℕ) → first order_mark text ≡ true → all_comments bol text ≡ ([], text)
     none [] h = absurd (false≢true h)
-    none (c ∷ cs) h = comments_step bol (c ∷ cs) ∙ ap (more_comments (c ∷ cs) (λ rest'. all_comments true rest')) (mark_no_line bol c cs h)
+    none (c ∷ cs) h = comments_step bol (c ∷ cs) ∙ ap (more_comments (c ∷ cs) (λ rest'. all_comments true rest'))
+        (mark_no_line bol c cs h)
 
-pub comments_spelled : (bs : List ℕ) (bol : Bool) (i j : ℕ) → IsUtf8 bs → IsCharBoundary bs i → IsCharBoundary bs j → line_starts bs i ≡ bol → (all_comments bol (rest bs i)).1 ≡ rest bs j
-    → (i + byte_len (comments_text (all_comments bol (rest bs i)).0) ≡ j) × (starts_line bol (comments_text (all_comments bol (rest bs i)).0) ≡ line_starts bs j)
+pub comments_spelled : (bs : List ℕ) (bol : Bool) (i j : ℕ) → IsUtf8 bs → IsCharBoundary bs i → IsCharBoundary bs j
+    → line_starts bs i ≡ bol → (all_comments bol (rest bs i)).1 ≡ rest bs j
+    → (i + byte_len (comments_text (all_comments bol (rest bs i)).0) ≡ j)
+    × (starts_line bol (comments_text (all_comments bol (rest bs i)).0) ≡ line_starts bs j)
 comments_spelled bs bol i j u b d s e =
     let comments : List LineEnd = (all_comments bol (rest bs i)).0 in
-    let t : rest bs i ≡ comments_text comments ++ rest bs j = (all_sound bol (rest bs i)).0 ∙ ap (λ x. comments_text comments ++ x) e in
-    (spelled bs i j (comments_text comments) u b d t, ap (λ x. starts_line x (comments_text comments)) (sym s) ∙ starts_over bs i j (comments_text comments) u b d t (comments_unmarked bol (rest bs i)))
+    let t : rest bs i ≡ comments_text comments ++ rest bs j = (all_sound bol (rest bs i)).0
+    ∙ ap (λ x. comments_text comments ++ x) e in (
+      spelled bs i j (comments_text comments) u b d t,
+      ap (λ x. starts_line x (comments_text comments)) (sym s)
+          ∙ starts_over bs i j (comments_text comments) u b d t (comments_unmarked bol (rest bs i)),
+    )
 
 -- ---- signs
 
@@ -139,14 +177,16 @@ pub record IsPastSign (bs : List ℕ) (at : ℕ) : Type 0 where
   pub past_is : past (rest bs at) ≡ rest bs (at + 1)
   pub inside_line : line_starts bs (at + 1) ≡ false
 
-pub past_sign : (bs : List ℕ) (at x : ℕ) → IsUtf8 bs → IsCharBoundary bs at → x < 128 → line_break x ≡ false → sign x (rest bs at) ≡ true → IsPastSign bs at
+pub past_sign : (bs : List ℕ) (at x : ℕ) → IsUtf8 bs → IsCharBoundary bs at → x < 128 → line_break x ≡ false
+    → sign x (rest bs at) ≡ true → IsPastSign bs at
 past_sign bs at x u b a n h = elim (cases_lt at (length bs)) [
   | inl l ↦ (let there = char_at bs at u b l in
       let head = sign_head x (rest bs at) h in
       let e : there.0 ≡ x = same there.0 x (rest bs (at + len_utf8 there.0)) head.0 (sym there.1.splits ∙ head.1) in
       elim (cases_lt (get_or bs at 0) 128) [
         | inl low ↦ (let c : get_or bs at 0 ≡ x = sym (there.1.low low) ∙ e in
-            let splits : rest bs at ≡ x ∷ rest bs (at + 1) = rest-ascii bs at u l low ∙ ap (λ y. y ∷ rest bs (at + 1)) c in
+            let splits : rest bs at ≡ x ∷ rest bs (at + 1) = rest-ascii bs at u l low
+            ∙ ap (λ y. y ∷ rest bs (at + 1)) c in
             let next : IsCharBoundary bs (at + 1) = IsCharBoundary-after_ascii bs at u l low in
             let m : (x == 0xfeff) ≡ false = grind (arith, nat_tests) in
             record {

@@ -1,4 +1,5 @@
--- The steps of the scanner at a line after a part: a collection goes on, or it ends and is the part of the collection around it.
+-- The steps of the scanner at a line after a part: a collection goes on, or it ends and is the part
+-- of the collection around it.
 use Rattle.std.proofs.Common.{ap, append-nil, append_assoc, arith, refl, sym, ◌∙◌, ◌≡◌}
 use Rattle.std.specs.Prelude.{Bool, List, Some, [], codes, false, not, true, ℕ, ◌&&◌, ◌++◌, ◌+◌, ◌==◌, ◌∷◌}
 use Rattle.std.proofs.lemmas.Bool.{eq-eqb, false≢true, not-true}
@@ -27,53 +28,69 @@ use Rattle.yaml_block.proofs.SignSteps.{byte_len_spaces}
 
 -- ---- one more item, one more pair
 
-items_end_more : (k : ℕ) (done : List Indented) (i : Indented) (at : ℕ) → done_items_end k (done ++ i ∷ []) at ≡ item_place k i (done_items_end k done at)
+items_end_more : (k : ℕ) (done : List Indented) (i : Indented) (at : ℕ)
+    → done_items_end k (done ++ i ∷ []) at ≡ item_place k i (done_items_end k done at)
 items_end_more k [] i at = refl
 items_end_more k (d ∷ done) i at = items_end_more k done i (item_place k d at)
 
 items_events_more : (k : ℕ) (done : List Indented) (i : Indented) (at : ℕ)
-    → done_items_events k (done ++ i ∷ []) at ≡ done_items_events k done at ++ indented_events i k (done_items_end k done at + 1)
+    → done_items_events k (done ++ i ∷ []) at ≡ done_items_events k done at ++ indented_events i k
+    (done_items_end k done at + 1)
 items_events_more k [] i at = append-nil (indented_events i k (at + 1))
 items_events_more k (d ∷ done) i at =
     ap (λ es. indented_events d k (at + 1) ++ es) (items_events_more k done i (item_place k d at))
-    ∙ sym (append_assoc (indented_events d k (at + 1)) (done_items_events k done (item_place k d at)) (indented_events i k (done_items_end k done (item_place k d at) + 1)))
+    ∙ sym (append_assoc (indented_events d k (at + 1)) (done_items_events k done (item_place k d at))
+    (indented_events i k (done_items_end k done (item_place k d at) + 1)))
 
-pairs_end_more : (k : ℕ) (done : List Pair) (p : Pair) (at : ℕ) → done_pairs_end k (done ++ p ∷ []) at ≡ pair_place k p (done_pairs_end k done at)
+pairs_end_more : (k : ℕ) (done : List Pair) (p : Pair) (at : ℕ)
+    → done_pairs_end k (done ++ p ∷ []) at ≡ pair_place k p (done_pairs_end k done at)
 pairs_end_more k [] p at = refl
 pairs_end_more k (d ∷ done) p at = pairs_end_more k done p (pair_place k d at)
 
 pairs_events_more : (k : ℕ) (done : List Pair) (p : Pair) (at : ℕ)
-    → done_pairs_events k (done ++ p ∷ []) at ≡ done_pairs_events k done at ++ pair_events p k (done_pairs_end k done at)
+    → done_pairs_events k (done ++ p ∷ []) at ≡ done_pairs_events k done at ++ pair_events p k
+    (done_pairs_end k done at)
 pairs_events_more k [] p at = append-nil (pair_events p k at)
 pairs_events_more k (d ∷ done) p at =
     ap (λ es. pair_events d k at ++ es) (pairs_events_more k done p (pair_place k d at))
-    ∙ sym (append_assoc (pair_events d k at) (done_pairs_events k done (pair_place k d at)) (pair_events p k (done_pairs_end k done (pair_place k d at))))
+    ∙ sym (append_assoc (pair_events d k at) (done_pairs_events k done (pair_place k d at))
+    (pair_events p k (done_pairs_end k done (pair_place k d at))))
 
 -- ---- how long a collection is
 
-items_long : (k : ℕ) (done : List Indented) (is : Items) (at : ℕ) → at + byte_len (items_text (joined_items done is) k) ≡ done_items_end k done at + byte_len (items_text is k)
+items_long : (k : ℕ) (done : List Indented) (is : Items) (at : ℕ)
+    → at + byte_len (items_text (joined_items done is) k) ≡ done_items_end k done at + byte_len (items_text is k)
 items_long k [] is at = refl
 items_long k (i ∷ done) is at =
-    let more : item_place k i at + byte_len (items_text (joined_items done is) k) ≡ done_items_end k done (item_place k i at) + byte_len (items_text is k) = items_long k done is (item_place k i at) in
-    let a : byte_len (codes "-" ++ indented_text i k ++ spaces k ++ items_text (joined_items done is) k) ≡ byte_len (codes "-" ++ indented_text i k ++ spaces k) + byte_len (items_text (joined_items done is) k) =
+    let more : item_place k i at + byte_len (items_text (joined_items done is) k) ≡ done_items_end k done
+    (item_place k i at) + byte_len (items_text is k) = items_long k done is (item_place k i at) in
+    let a : byte_len (codes "-" ++ indented_text i k ++ spaces k ++ items_text (joined_items done is) k) ≡ byte_len
+    (codes "-" ++ indented_text i k ++ spaces k) + byte_len (items_text (joined_items done is) k) =
     byte_len_joined (codes "-" ++ indented_text i k ++ spaces k) (items_text (joined_items done is) k) in
-    let b : byte_len (codes "-" ++ indented_text i k ++ spaces k) ≡ byte_len (codes "-" ++ indented_text i k) + byte_len (spaces k) = byte_len_joined (codes "-" ++ indented_text i k) (spaces k) in
+    let b : byte_len (codes "-" ++ indented_text i k ++ spaces k) ≡ byte_len (codes "-" ++ indented_text i k)
+    + byte_len (spaces k) = byte_len_joined (codes "-" ++ indented_text i k) (spaces k) in
     let c : byte_len (codes "-" ++ indented_text i k) ≡ 1 + byte_len (indented_text i k) = refl in
     omega (arith, more, a, b, c, byte_len_spaces k)
 
-pairs_long : (k : ℕ) (done : List Pair) (ps : Pairs) (at : ℕ) → at + byte_len (pairs_text (joined_pairs done ps) k) ≡ done_pairs_end k done at + byte_len (pairs_text ps k)
+pairs_long : (k : ℕ) (done : List Pair) (ps : Pairs) (at : ℕ)
+    → at + byte_len (pairs_text (joined_pairs done ps) k) ≡ done_pairs_end k done at + byte_len (pairs_text ps k)
 pairs_long k [] ps at = refl
 pairs_long k (p ∷ done) ps at =
-    let more : pair_place k p at + byte_len (pairs_text (joined_pairs done ps) k) ≡ done_pairs_end k done (pair_place k p at) + byte_len (pairs_text ps k) = pairs_long k done ps (pair_place k p at) in
-    let a : byte_len (pair_text p k ++ spaces k ++ pairs_text (joined_pairs done ps) k) ≡ byte_len (pair_text p k ++ spaces k) + byte_len (pairs_text (joined_pairs done ps) k) =
+    let more : pair_place k p at + byte_len (pairs_text (joined_pairs done ps) k) ≡ done_pairs_end k done
+    (pair_place k p at) + byte_len (pairs_text ps k) = pairs_long k done ps (pair_place k p at) in
+    let a : byte_len (pair_text p k ++ spaces k ++ pairs_text (joined_pairs done ps) k) ≡ byte_len
+    (pair_text p k ++ spaces k) + byte_len (pairs_text (joined_pairs done ps) k) =
     byte_len_joined (pair_text p k ++ spaces k) (pairs_text (joined_pairs done ps) k) in
-    let b : byte_len (pair_text p k ++ spaces k) ≡ byte_len (pair_text p k) + byte_len (spaces k) = byte_len_joined (pair_text p k) (spaces k) in
+    let b : byte_len (pair_text p k ++ spaces k) ≡ byte_len (pair_text p k) + byte_len (spaces k) =
+    byte_len_joined (pair_text p k) (spaces k) in
     omega (arith, more, a, b, byte_len_spaces k)
 
 -- ---- a collection as the part of the one around it
 
 -- it fits that frame
-pub seated_fits : (sits : Sits) (k : ℕ) (fs : List BlockFrame) → Seated sits k fs → ((is : Items) → fits_frames fs (items_part sits is) ≡ true) × ((ps : Pairs) → fits_frames fs (pairs_part sits ps) ≡ true)
+pub seated_fits : (sits : Sits) (k : ℕ) (fs : List BlockFrame) → Seated sits k fs
+    → ((is : Items) → fits_frames fs (items_part sits is) ≡ true)
+    × ((ps : Pairs) → fits_frames fs (pairs_part sits ps) ≡ true)
 seated_fits (on_lines comments j) k fs h = (λ is. node_fits_frames fs _, λ ps. node_fits_frames fs _)
 seated_fits (on_sign_line s) k [] h = absurd h
 seated_fits (on_sign_line s) k (waits_item sits j done ∷ fs) h = (λ is. refl, λ ps. refl)
@@ -83,14 +100,19 @@ seated_fits (on_sign_line s) k (waits_value sits j done (key_on_line key gap) �
 
 -- its text, its end and its events, by the place of its first sign or key
 record SeatedItems (sits : Sits) (k : ℕ) (fs : List BlockFrame) (is : Items) (at : ℕ) : Type 0 where
-  text : at + byte_len (indented_text (items_part sits is) (inner_indent fs)) ≡ sits_place sits at + byte_len (items_text is k)
+  text : at + byte_len (indented_text (items_part sits is) (inner_indent fs)) ≡ sits_place sits at + byte_len
+      (items_text is k)
   end : indented_end (items_part sits is) (inner_indent fs) at ≡ items_end is k (sits_place sits at)
   events : indented_events (items_part sits is) (inner_indent fs) at ≡ as_seq (items_events is k (sits_place sits at))
 
-seated_items : (sits : Sits) (k : ℕ) (fs : List BlockFrame) (is : Items) (at : ℕ) → Seated sits k fs → SeatedItems sits k fs is at
+seated_items : (sits : Sits) (k : ℕ) (fs : List BlockFrame) (is : Items) (at : ℕ) → Seated sits k fs
+    → SeatedItems sits k fs is at
 seated_items (on_lines comments j) k fs is at h =
-    let a : byte_len (comments_text comments ++ spaces j ++ items_text is j) ≡ byte_len (comments_text comments ++ spaces j) + byte_len (items_text is j) = byte_len_joined (comments_text comments ++ spaces j) (items_text is j) in
-    let b : byte_len (comments_text comments ++ spaces j) ≡ byte_len (comments_text comments) + byte_len (spaces j) = byte_len_joined (comments_text comments) (spaces j) in
+    let a : byte_len (comments_text comments ++ spaces j ++ items_text is j) ≡ byte_len
+    (comments_text comments ++ spaces j) + byte_len (items_text is j) =
+    byte_len_joined (comments_text comments ++ spaces j) (items_text is j) in
+    let b : byte_len (comments_text comments ++ spaces j) ≡ byte_len (comments_text comments) + byte_len (spaces j) =
+    byte_len_joined (comments_text comments) (spaces j) in
     let c : byte_len (items_text is j) ≡ byte_len (items_text is k) = ap (λ x. byte_len (items_text is x)) h in
     record {
       text = omega (arith, a, b, c, byte_len_spaces j);
@@ -100,8 +122,10 @@ seated_items (on_lines comments j) k fs is at h =
 seated_items (on_sign_line s) k [] is at h = absurd h
 seated_items (on_sign_line s) k (g ∷ gs) is at h =
     let j : ℕ = indent_of g + 1 + s in
-    let a : byte_len (spaces s ++ items_text is j) ≡ byte_len (spaces s) + byte_len (items_text is j) = byte_len_joined (spaces s) (items_text is j) in
-    let c : byte_len (items_text is j) ≡ byte_len (items_text is k) = ap (λ x. byte_len (items_text is x)) (sym h.1) in
+    let a : byte_len (spaces s ++ items_text is j) ≡ byte_len (spaces s) + byte_len (items_text is j) =
+    byte_len_joined (spaces s) (items_text is j) in
+    let c : byte_len (items_text is j) ≡ byte_len (items_text is k) =
+    ap (λ x. byte_len (items_text is x)) (sym h.1) in
     record {
       text = omega (arith, a, c, byte_len_spaces s);
       end = ap (λ x. items_end is x (at + s)) (sym h.1);
@@ -109,14 +133,19 @@ seated_items (on_sign_line s) k (g ∷ gs) is at h =
     }
 
 record SeatedPairs (sits : Sits) (k : ℕ) (fs : List BlockFrame) (ps : Pairs) (at : ℕ) : Type 0 where
-  text : at + byte_len (indented_text (pairs_part sits ps) (inner_indent fs)) ≡ sits_place sits at + byte_len (pairs_text ps k)
+  text : at + byte_len (indented_text (pairs_part sits ps) (inner_indent fs)) ≡ sits_place sits at + byte_len
+      (pairs_text ps k)
   end : indented_end (pairs_part sits ps) (inner_indent fs) at ≡ pairs_end ps k (sits_place sits at)
   events : indented_events (pairs_part sits ps) (inner_indent fs) at ≡ as_map (pairs_events ps k (sits_place sits at))
 
-seated_pairs : (sits : Sits) (k : ℕ) (fs : List BlockFrame) (ps : Pairs) (at : ℕ) → Seated sits k fs → SeatedPairs sits k fs ps at
+seated_pairs : (sits : Sits) (k : ℕ) (fs : List BlockFrame) (ps : Pairs) (at : ℕ) → Seated sits k fs
+    → SeatedPairs sits k fs ps at
 seated_pairs (on_lines comments j) k fs ps at h =
-    let a : byte_len (comments_text comments ++ spaces j ++ pairs_text ps j) ≡ byte_len (comments_text comments ++ spaces j) + byte_len (pairs_text ps j) = byte_len_joined (comments_text comments ++ spaces j) (pairs_text ps j) in
-    let b : byte_len (comments_text comments ++ spaces j) ≡ byte_len (comments_text comments) + byte_len (spaces j) = byte_len_joined (comments_text comments) (spaces j) in
+    let a : byte_len (comments_text comments ++ spaces j ++ pairs_text ps j) ≡ byte_len
+    (comments_text comments ++ spaces j) + byte_len (pairs_text ps j) =
+    byte_len_joined (comments_text comments ++ spaces j) (pairs_text ps j) in
+    let b : byte_len (comments_text comments ++ spaces j) ≡ byte_len (comments_text comments) + byte_len (spaces j) =
+    byte_len_joined (comments_text comments) (spaces j) in
     let c : byte_len (pairs_text ps j) ≡ byte_len (pairs_text ps k) = ap (λ x. byte_len (pairs_text ps x)) h in
     record {
       text = omega (arith, a, b, c, byte_len_spaces j);
@@ -126,8 +155,10 @@ seated_pairs (on_lines comments j) k fs ps at h =
 seated_pairs (on_sign_line s) k [] ps at h = absurd h
 seated_pairs (on_sign_line s) k (g ∷ gs) ps at h =
     let j : ℕ = indent_of g + 1 + s in
-    let a : byte_len (spaces s ++ pairs_text ps j) ≡ byte_len (spaces s) + byte_len (pairs_text ps j) = byte_len_joined (spaces s) (pairs_text ps j) in
-    let c : byte_len (pairs_text ps j) ≡ byte_len (pairs_text ps k) = ap (λ x. byte_len (pairs_text ps x)) (sym h.1) in
+    let a : byte_len (spaces s ++ pairs_text ps j) ≡ byte_len (spaces s) + byte_len (pairs_text ps j) =
+    byte_len_joined (spaces s) (pairs_text ps j) in
+    let c : byte_len (pairs_text ps j) ≡ byte_len (pairs_text ps k) =
+    ap (λ x. byte_len (pairs_text ps x)) (sym h.1) in
     record {
       text = omega (arith, a, c, byte_len_spaces s);
       end = ap (λ x. pairs_end ps x (at + s)) (sym h.1);
@@ -143,23 +174,40 @@ record PairOf (k : ℕ) (key : PairKey) (i : Indented) : Type 0 where
   end : (at : ℕ) → pair_end made k at ≡ indented_end i k (value_place k key at)
   events : (at : ℕ) → pair_events made k at ≡ key_events k key at ++ indented_events i k (value_place k key at)
 
-asked_long : (k : ℕ) (key value : Indented) (at : ℕ) → at + 1 + byte_len (indented_text key k) + k + 1 + byte_len (indented_text value k) ≡ at + byte_len (pair_text (asked key value) k)
+asked_long : (k : ℕ) (key value : Indented) (at : ℕ)
+    → at + 1 + byte_len (indented_text key k) + k + 1 + byte_len (indented_text value k) ≡ at + byte_len
+    (pair_text (asked key value) k)
 asked_long k key value at =
-    let a : byte_len (codes "?" ++ indented_text key k ++ spaces k ++ codes ":" ++ indented_text value k) ≡ byte_len (codes "?" ++ indented_text key k ++ spaces k ++ codes ":") + byte_len (indented_text value k) =
+    let a : byte_len (codes "?" ++ indented_text key k ++ spaces k ++ codes ":" ++ indented_text value k) ≡ byte_len
+    (codes "?" ++ indented_text key k ++ spaces k ++ codes ":") + byte_len (indented_text value k) =
     byte_len_joined (codes "?" ++ indented_text key k ++ spaces k ++ codes ":") (indented_text value k) in
-    let b : byte_len (codes "?" ++ indented_text key k ++ spaces k ++ codes ":") ≡ byte_len (codes "?" ++ indented_text key k ++ spaces k) + 1 = byte_len_joined (codes "?" ++ indented_text key k ++ spaces k) (codes ":") in
-    let c : byte_len (codes "?" ++ indented_text key k ++ spaces k) ≡ byte_len (codes "?" ++ indented_text key k) + byte_len (spaces k) = byte_len_joined (codes "?" ++ indented_text key k) (spaces k) in
+    let b : byte_len (codes "?" ++ indented_text key k ++ spaces k ++ codes ":") ≡ byte_len
+    (codes "?" ++ indented_text key k ++ spaces k) + 1 =
+    byte_len_joined (codes "?" ++ indented_text key k ++ spaces k) (codes ":") in
+    let c : byte_len (codes "?" ++ indented_text key k ++ spaces k) ≡ byte_len (codes "?" ++ indented_text key k)
+    + byte_len (spaces k) = byte_len_joined (codes "?" ++ indented_text key k) (spaces k) in
     let d : byte_len (codes "?" ++ indented_text key k) ≡ 1 + byte_len (indented_text key k) = refl in
     omega (arith, a, b, c, d, byte_len_spaces k)
 
-keyed_long : (key gap value : List ℕ) (at : ℕ) → at + byte_len key + byte_len gap + 1 + byte_len value ≡ at + byte_len (key ++ gap ++ codes ":" ++ value)
+keyed_long : (key gap value : List ℕ) (at : ℕ) → at + byte_len key + byte_len gap + 1 + byte_len value ≡ at + byte_len
+    (key ++ gap ++ codes ":" ++ value)
 keyed_long key gap value at =
-    let a : byte_len (key ++ gap ++ codes ":" ++ value) ≡ byte_len (key ++ gap ++ codes ":") + byte_len value = byte_len_joined (key ++ gap ++ codes ":") value in
-    let b : byte_len (key ++ gap ++ codes ":") ≡ byte_len (key ++ gap) + 1 = byte_len_joined (key ++ gap) (codes ":") in
+    let a : byte_len (key ++ gap ++ codes ":" ++ value) ≡ byte_len (key ++ gap ++ codes ":") + byte_len value =
+    byte_len_joined (key ++ gap ++ codes ":") value in
+    let b : byte_len (key ++ gap ++ codes ":") ≡ byte_len (key ++ gap) + 1 =
+    byte_len_joined (key ++ gap) (codes ":") in
     omega (arith, a, b, byte_len_joined key gap)
 
-pair_of : (sits : Sits) (k : ℕ) (done : List Pair) (key : PairKey) (i : Indented) → fits_frame (waits_value sits k done key) i ≡ true → PairOf k key i
-pair_of sits k done (key_asked key) i h = record { made = asked key i; reads = λ t. refl; text = asked_long k key i; end = λ at. refl; events = λ at. refl }
+pair_of : (sits : Sits) (k : ℕ) (done : List Pair) (key : PairKey) (i : Indented)
+    → fits_frame (waits_value sits k done key) i ≡ true → PairOf k key i
+pair_of sits k done (key_asked key) i h = record {
+  made = asked key i;
+  reads = λ t. refl;
+  text =
+      asked_long k key i;
+  end = λ at. refl;
+  events = λ at. refl;
+}
 pair_of sits k done (key_on_line key gap) (compact_items s is) h = absurd (false≢true h)
 pair_of sits k done (key_on_line key gap) (compact_pairs s ps) h = absurd (false≢true h)
 pair_of sits k done (key_on_line key gap) (node n) h = record {
@@ -180,9 +228,12 @@ pair_of sits k done (key_on_line key gap) (omitted comments) h = record {
 -- ---- steps
 
 module _ (W : Read Indented) (text : List ℕ) (from : ℕ) where
-  pub item_goes_on : (fs : List BlockFrame) (evs : List Event) (sits : Sits) (k : ℕ) (done : List Indented) (start end front : ℕ) (h : AtLine W text from (waits_item sits k done ∷ fs) evs start end)
-      → spaces_before (rest text start) ≡ k → start + k ≡ front → past_spaces (rest text start) ≡ rest text front → sign 45 (rest text front) ≡ true
-      → past (rest text front) ≡ rest text (front + 1) → AfterSign W text from (waits_item sits k (done ++ h.part ∷ []) ∷ fs) evs Dash k (front + 1)
+  pub item_goes_on : (fs : List BlockFrame) (evs : List Event) (sits : Sits) (k : ℕ) (done : List Indented)
+      (start end front : ℕ) (h : AtLine W text from (waits_item sits k done ∷ fs) evs start end)
+      → spaces_before (rest text start) ≡ k → start + k ≡ front → past_spaces (rest text start) ≡ rest text front
+      → sign 45 (rest text front) ≡ true
+      → past (rest text front) ≡ rest text (front + 1)
+      → AfterSign W text from (waits_item sits k (done ++ h.part ∷ []) ∷ fs) evs Dash k (front + 1)
   item_goes_on fs evs sits k done start end front h c p e d q =
       let i : Indented = h.part in
       let at : ℕ = sits_place sits (place_in fs from) in
@@ -190,18 +241,23 @@ module _ (W : Read Indented) (text : List ℕ) (from : ℕ) where
       let place : E + 1 + byte_len (indented_text i k) ≡ start = h.place in
       record {
         reads = h.reads ∙ ap (unwind fs)
-            (item_next sits k done i (rest text start) (eq-eqb (spaces_before (rest text start)) k c) (ap (sign 45) e ∙ d)
-            ∙ ap (λ u. on (block_indented_at k false u) (λ j behind. plug (waits_item sits k (done ++ i ∷ [])) j behind)) (ap past e ∙ q));
+            (item_next sits k done i (rest text start) (eq-eqb (spaces_before (rest text start)) k c) (ap (sign 45) e
+            ∙ d)
+            ∙ ap (λ u. on (block_indented_at k false u)
+            (λ j behind. plug (waits_item sits k (done ++ i ∷ [])) j behind)) (ap past e ∙ q));
         nested = h.nested;
         awaits = (refl, refl);
         place = ap (λ x. x + 1) (items_end_more k done i at ∙ (ap (λ x. x + k) place ∙ p));
         wrote = h.wrote
-            ∙ (append_assoc (events_in fs from) (seq_start ∷ done_items_events k done at) (indented_events i k (E + 1))
+            ∙ (append_assoc (events_in fs from) (seq_start ∷ done_items_events k done at)
+            (indented_events i k (E + 1))
             ∙ ap (λ es. events_in fs from ++ seq_start ∷ es) (sym (items_events_more k done i at)));
       }
 
-  pub sequence_ends : (fs : List BlockFrame) (evs : List Event) (sits : Sits) (k : ℕ) (done : List Indented) (start end : ℕ) → AtLine W text from (waits_item sits k done ∷ fs) evs start end
-      → (spaces_before (rest text start) == k) && sign 45 (past_spaces (rest text start)) ≡ false → AtLine W text from fs (evs ++ seq_end ∷ []) start end
+  pub sequence_ends : (fs : List BlockFrame) (evs : List Event) (sits : Sits) (k : ℕ) (done : List Indented)
+      (start end : ℕ) → AtLine W text from (waits_item sits k done ∷ fs) evs start end
+      → (spaces_before (rest text start) == k) && sign 45 (past_spaces (rest text start)) ≡ false
+      → AtLine W text from fs (evs ++ seq_end ∷ []) start end
   sequence_ends fs evs sits k done start end h n =
       let i : Indented = h.part in
       let outer : ℕ = place_in fs from in
@@ -209,7 +265,8 @@ module _ (W : Read Indented) (text : List ℕ) (from : ℕ) where
       let E : ℕ = done_items_end k done at in
       let is : Items = joined_items done (item i) in
       let s : SeatedItems sits k fs is outer = seated_items sits k fs is outer h.nested.0 in
-      let long : at + byte_len (items_text is k) ≡ E + byte_len (items_text (item i) k) = items_long k done (item i) at in
+      let long : at + byte_len (items_text is k) ≡ E + byte_len (items_text (item i) k) =
+      items_long k done (item i) at in
       let one : byte_len (items_text (item i) k) ≡ 1 + byte_len (indented_text i k) = refl in
       let place : E + 1 + byte_len (indented_text i k) ≡ start = h.place in
       record {
@@ -220,14 +277,19 @@ module _ (W : Read Indented) (text : List ℕ) (from : ℕ) where
         place = omega (arith, s.text, long, one, place);
         ends = s.end ∙ (items_end_last k done i at ∙ h.ends);
         wrote = ap (λ es. es ++ seq_end ∷ []) h.wrote
-            ∙ (ap (λ es. es ++ seq_end ∷ []) (append_assoc (events_in fs from) (seq_start ∷ done_items_events k done at) (indented_events i k (E + 1)))
-            ∙ (append_assoc (events_in fs from) (seq_start ∷ (done_items_events k done at ++ indented_events i k (E + 1))) (seq_end ∷ [])
+            ∙ (ap (λ es. es ++ seq_end ∷ []) (append_assoc (events_in fs from)
+            (seq_start ∷ done_items_events k done at) (indented_events i k (E + 1)))
+            ∙ (append_assoc (events_in fs from) (seq_start ∷ (done_items_events k done at ++ indented_events i k
+            (E + 1))) (seq_end ∷ [])
             ∙ ap (λ es. events_in fs from ++ es) (ap as_seq (sym (items_front k done (item i) at)) ∙ sym s.events)));
       }
 
-  pub value_opens : (fs : List BlockFrame) (evs : List Event) (sits : Sits) (k : ℕ) (done : List Pair) (start end front : ℕ) (h : AtLine W text from (waits_key sits k done ∷ fs) evs start end)
-      → spaces_before (rest text start) ≡ k → start + k ≡ front → past_spaces (rest text start) ≡ rest text front → sign 58 (rest text front) ≡ true
-      → past (rest text front) ≡ rest text (front + 1) → AfterSign W text from (waits_value sits k done (key_asked h.part) ∷ fs) evs Asked k (front + 1)
+  pub value_opens : (fs : List BlockFrame) (evs : List Event) (sits : Sits) (k : ℕ) (done : List Pair)
+      (start end front : ℕ) (h : AtLine W text from (waits_key sits k done ∷ fs) evs start end)
+      → spaces_before (rest text start) ≡ k → start + k ≡ front → past_spaces (rest text start) ≡ rest text front
+      → sign 58 (rest text front) ≡ true
+      → past (rest text front) ≡ rest text (front + 1)
+      → AfterSign W text from (waits_value sits k done (key_asked h.part) ∷ fs) evs Asked k (front + 1)
   value_opens fs evs sits k done start end front h c p e d q =
       let i : Indented = h.part in
       let at : ℕ = sits_place sits (place_in fs from) in
@@ -235,16 +297,21 @@ module _ (W : Read Indented) (text : List ℕ) (from : ℕ) where
       let place : P + 1 + byte_len (indented_text i k) ≡ start = h.place in
       record {
         reads = h.reads ∙ ap (unwind fs)
-            (value_next sits k done i (rest text start) (not-true _ h.fits) (eq-eqb (spaces_before (rest text start)) k c) (ap (sign 58) e ∙ d)
-            ∙ ap (λ u. on (block_indented_at k true u) (λ j behind. plug (waits_value sits k done (key_asked i)) j behind)) (ap past e ∙ q));
+            (value_next sits k done i (rest text start) (not-true _ h.fits)
+            (eq-eqb (spaces_before (rest text start)) k c) (ap (sign 58) e ∙ d)
+            ∙ ap (λ u. on (block_indented_at k true u)
+            (λ j behind. plug (waits_value sits k done (key_asked i)) j behind)) (ap past e ∙ q));
         nested = h.nested;
         awaits = (refl, refl);
         place = ap (λ x. x + k + 1) place ∙ ap (λ x. x + 1) p;
-        wrote = h.wrote ∙ append_assoc (events_in fs from) (map_start ∷ done_pairs_events k done at) (indented_events i k (P + 1));
+        wrote = h.wrote ∙ append_assoc (events_in fs from) (map_start ∷ done_pairs_events k done at)
+            (indented_events i k (P + 1));
       }
 
-  pub key_alone : (fs : List BlockFrame) (evs : List Event) (sits : Sits) (k : ℕ) (done : List Pair) (start end : ℕ) → AtLine W text from (waits_key sits k done ∷ fs) evs start end
-      → (spaces_before (rest text start) == k) && sign 58 (past_spaces (rest text start)) ≡ false → AfterPair W text from fs (evs ++ omitted_at end) k start end
+  pub key_alone : (fs : List BlockFrame) (evs : List Event) (sits : Sits) (k : ℕ) (done : List Pair) (start end : ℕ)
+      → AtLine W text from (waits_key sits k done ∷ fs) evs start end
+      → (spaces_before (rest text start) == k) && sign 58 (past_spaces (rest text start)) ≡ false
+      → AfterPair W text from fs (evs ++ omitted_at end) k start end
   key_alone fs evs sits k done start end h n =
       let i : Indented = h.part in
       let at : ℕ = sits_place sits (place_in fs from) in
@@ -261,13 +328,18 @@ module _ (W : Read Indented) (text : List ℕ) (from : ℕ) where
         place = omega (arith, one, place);
         ends = h.ends;
         wrote = ap (λ es. es ++ omitted_at end) h.wrote
-            ∙ (ap (λ es. es ++ omitted_at end) (append_assoc (events_in fs from) (map_start ∷ done_pairs_events k done at) (indented_events i k (P + 1)))
-            ∙ (append_assoc (events_in fs from) (map_start ∷ (done_pairs_events k done at ++ indented_events i k (P + 1))) (omitted_at end)
-            ∙ (ap (λ es. events_in fs from ++ map_start ∷ es) (append_assoc (done_pairs_events k done at) (indented_events i k (P + 1)) (omitted_at end))
-            ∙ ap (λ x. events_in fs from ++ map_start ∷ (done_pairs_events k done at ++ (indented_events i k (P + 1) ++ omitted_at x))) (sym h.ends))));
+            ∙ (ap (λ es. es ++ omitted_at end) (append_assoc (events_in fs from)
+            (map_start ∷ done_pairs_events k done at) (indented_events i k (P + 1)))
+            ∙ (append_assoc (events_in fs from) (map_start ∷ (done_pairs_events k done at ++ indented_events i k
+            (P + 1))) (omitted_at end)
+            ∙ (ap (λ es. events_in fs from ++ map_start ∷ es)
+            (append_assoc (done_pairs_events k done at) (indented_events i k (P + 1)) (omitted_at end))
+            ∙ ap (λ x. events_in fs from ++ map_start
+            ∷ (done_pairs_events k done at ++ (indented_events i k (P + 1) ++ omitted_at x))) (sym h.ends))));
       }
 
-  pub value_read : (fs : List BlockFrame) (evs : List Event) (sits : Sits) (k : ℕ) (done : List Pair) (key : PairKey) (start end : ℕ)
+  pub value_read : (fs : List BlockFrame) (evs : List Event) (sits : Sits) (k : ℕ) (done : List Pair) (key : PairKey)
+      (start end : ℕ)
       → AtLine W text from (waits_value sits k done key ∷ fs) evs start end → AfterPair W text from fs evs k start end
   value_read fs evs sits k done key start end h =
       let i : Indented = h.part in
@@ -278,19 +350,25 @@ module _ (W : Read Indented) (text : List ℕ) (from : ℕ) where
         sits = sits;
         done = done;
         last = p.made;
-        reads = h.reads ∙ ap (λ r. unwind fs (on r (λ q behind. pairs_after sits k done q behind))) (p.reads (rest text start));
+        reads = h.reads ∙ ap (λ r. unwind fs (on r (λ q behind. pairs_after sits k done q behind)))
+            (p.reads (rest text start));
         nested = h.nested.1;
         seated = h.nested.0;
         place = sym (p.text P) ∙ h.place;
         ends = p.end P ∙ h.ends;
         wrote = h.wrote
-            ∙ (append_assoc (events_in fs from) (map_start ∷ (done_pairs_events k done at ++ key_events k key P)) (indented_events i k (value_place k key P))
+            ∙ (append_assoc (events_in fs from) (map_start ∷ (done_pairs_events k done at ++ key_events k key P))
+            (indented_events i k (value_place k key P))
             ∙ ap (λ es. events_in fs from ++ map_start ∷ es)
-            (append_assoc (done_pairs_events k done at) (key_events k key P) (indented_events i k (value_place k key P)) ∙ ap (λ es. done_pairs_events k done at ++ es) (sym (p.events P))));
+            (append_assoc (done_pairs_events k done at) (key_events k key P)
+            (indented_events i k (value_place k key P))
+            ∙ ap (λ es. done_pairs_events k done at ++ es) (sym (p.events P))));
       }
 
-  pub pair_goes_on : (fs : List BlockFrame) (evs : List Event) (k start end front : ℕ) → AfterPair W text from fs evs k start end
-      → (spaces_before (rest text start) == k) && not (ended k false (rest text start)) ≡ true → start + k ≡ front → past_spaces (rest text start) ≡ rest text front
+  pub pair_goes_on : (fs : List BlockFrame) (evs : List Event) (k start end front : ℕ)
+      → AfterPair W text from fs evs k start end
+      → (spaces_before (rest text start) == k) && not (ended k false (rest text start)) ≡ true → start + k ≡ front
+      → past_spaces (rest text start) ≡ rest text front
       → line_starts text front ≡ (k == 0) → AtPair W text from fs evs k front
   pair_goes_on fs evs k start end front h n p e b =
       let at : ℕ = sits_place h.sits (place_in fs from) in
@@ -298,22 +376,26 @@ module _ (W : Read Indented) (text : List ℕ) (from : ℕ) where
         sits = h.sits;
         done = h.done ++ h.last ∷ [];
         starts = b;
-        reads = h.reads ∙ ap (unwind fs) (pair_next h.sits k h.done h.last (rest text start) n ∙ ap (λ t. close_pairs h.sits (h.done ++ h.last ∷ []) (block_pairs_at k (k == 0) t)) e);
+        reads = h.reads ∙ ap (unwind fs) (pair_next h.sits k h.done h.last (rest text start) n
+            ∙ ap (λ t. close_pairs h.sits (h.done ++ h.last ∷ []) (block_pairs_at k (k == 0) t)) e);
         nested = h.nested;
         seated = h.seated;
         place = pairs_end_more k h.done h.last at ∙ (ap (λ x. x + k) h.place ∙ p);
         wrote = h.wrote ∙ ap (λ es. events_in fs from ++ map_start ∷ es) (sym (pairs_events_more k h.done h.last at));
       }
 
-  pub mapping_ends : (fs : List BlockFrame) (evs : List Event) (k start end : ℕ) → AfterPair W text from fs evs k start end
-      → (spaces_before (rest text start) == k) && not (ended k false (rest text start)) ≡ false → AtLine W text from fs (evs ++ map_end ∷ []) start end
+  pub mapping_ends : (fs : List BlockFrame) (evs : List Event) (k start end : ℕ)
+      → AfterPair W text from fs evs k start end
+      → (spaces_before (rest text start) == k) && not (ended k false (rest text start)) ≡ false
+      → AtLine W text from fs (evs ++ map_end ∷ []) start end
   mapping_ends fs evs k start end h n =
       let outer : ℕ = place_in fs from in
       let at : ℕ = sits_place h.sits outer in
       let P : ℕ = done_pairs_end k h.done at in
       let ps : Pairs = joined_pairs h.done (pair h.last) in
       let s : SeatedPairs h.sits k fs ps outer = seated_pairs h.sits k fs ps outer h.seated in
-      let long : at + byte_len (pairs_text ps k) ≡ P + byte_len (pair_text h.last k) = pairs_long k h.done (pair h.last) at in
+      let long : at + byte_len (pairs_text ps k) ≡ P + byte_len (pair_text h.last k) =
+      pairs_long k h.done (pair h.last) at in
       record {
         part = pairs_part h.sits ps;
         reads = h.reads ∙ ap (unwind fs) (pair_last h.sits k h.done h.last (rest text start) n);
@@ -322,14 +404,19 @@ module _ (W : Read Indented) (text : List ℕ) (from : ℕ) where
         place = omega (arith, s.text, long, h.place);
         ends = s.end ∙ (pairs_end_last k h.done h.last at ∙ h.ends);
         wrote = ap (λ es. es ++ map_end ∷ []) h.wrote
-            ∙ (append_assoc (events_in fs from) (map_start ∷ (done_pairs_events k h.done at ++ pair_events h.last k P)) (map_end ∷ [])
-            ∙ ap (λ es. events_in fs from ++ es) (ap as_map (sym (pairs_front k h.done (pair h.last) at)) ∙ sym s.events));
+            ∙ (append_assoc (events_in fs from) (map_start
+            ∷ (done_pairs_events k h.done at ++ pair_events h.last k P)) (map_end ∷ [])
+            ∙ ap (λ es. events_in fs from ++ es) (ap as_map (sym (pairs_front k h.done (pair h.last) at))
+            ∙ sym s.events));
       }
 
 -- all is read
-pub whole : (text : List ℕ) (from m : ℕ) (shallow bol : Bool) (evs : List Event) (start end : ℕ) → AtLine (as_part (block_node_at m shallow bol (rest text from))) text from [] evs start end
-    → (n : Node) × (block_node_at m shallow bol (rest text from) ≡ Some (n, rest text start)) × (evs ≡ node_events n from)
+pub whole : (text : List ℕ) (from m : ℕ) (shallow bol : Bool) (evs : List Event) (start end : ℕ)
+    → AtLine (as_part (block_node_at m shallow bol (rest text from))) text from [] evs start end
+    → (n : Node) × (block_node_at m shallow bol (rest text from) ≡ Some (n, rest text start))
+    × (evs ≡ node_events n from)
 whole text from m shallow bol evs start end h =
-    let p = on_parts (block_node_at m shallow bol (rest text from)) (λ n behind. Some (node n, behind)) (h.part, rest text start) h.reads in
+    let p = on_parts (block_node_at m shallow bol (rest text from)) (λ n behind. Some (node n, behind))
+    (h.part, rest text start) h.reads in
     let q : (node p.0 ≡ h.part) × (p.1 ≡ rest text start) = some_parts (node p.0) h.part p.1 (rest text start) p.3 in
     (p.0, p.2 ∙ ap (λ t. Some (p.0, t)) q.1, h.wrote ∙ ap (λ (i : Indented). indented_events i 0 from) (sym q.0))

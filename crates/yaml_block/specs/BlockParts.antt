@@ -24,14 +24,17 @@ leaf_part m bol sep text =
 abbrev pub part_at : Option (Sits × ℕ) → ℕ → Bool → Sep → List ℕ → Read Indented
 part_at None m bol sep text = leaf_part m bol sep text
 part_at (Some mapping) m bol sep text =
-    if opens_pair block_key_in flow_leaf_at read_block bol text then close_pairs mapping.0 [] (block_pairs_at mapping.1 bol text)
+    if opens_pair block_key_in flow_leaf_at read_block bol text
+    then close_pairs mapping.0 [] (block_pairs_at mapping.1 bol text)
     else leaf_part m bol sep text
 
--- After a sign at k. Compact tells whether a collection may stand on the line of the sign: it may after `-`, after `?` and after the
+-- After a sign at k. Compact tells whether a collection may stand on the line of the sign: it may
+-- after `-`, after `?` and after the
 -- `:` of its value. Shallow tells whether a sequence may stand as deep as the sign: it may not after `-`.
 abbrev pub part_behind : Bool → Bool → ℕ → List ℕ → Read Indented
 part_behind true shallow k text = block_indented_at k shallow text
-part_behind false shallow k text = indented_node k shallow (λ t. block_node_at (suc k) shallow false t) text (all_comments false text)
+part_behind false shallow k text = indented_node k shallow (λ t. block_node_at (suc k) shallow false t) text
+    (all_comments false text)
 
 -- the separation after lines of comments
 abbrev pub sep_after : List LineEnd → List ℕ → Sep

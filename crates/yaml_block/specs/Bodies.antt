@@ -15,4 +15,5 @@ IsBlockStyle folded style = style ≡ (if folded then Folded else Literal)
 pub record IsAfterScalar (text : List ℕ) (at : ℕ) (after : NextLine) : Type 0 where
   pub above : at ≤ after.line.start
   pub next : IsNextLine text after
-  pub trail : (q : ℕ) → goes_on q (rest text at) ≡ false → (read_trail q (rest text at)).1 ≡ rest text after.line.start
+  pub trail : (q : ℕ) → goes_on q (rest text at) ≡ false
+      → (read_trail q (rest text at)).1 ≡ rest text after.line.start

@@ -1,30 +1,43 @@
 -- A block node at a place of a text, which counts bytes.
-use Rattle.std.specs.Prelude.{◌≡◌, ℕ, ◌≤◌, Bool, List, ◌++◌, length, Some}
+use Rattle.std.specs.Prelude.{◌≡◌, ℕ, ◌≤◌, Bool, List, ◌++◌, length, Some, None}
 use Rattle.std.proofs.Math.Logic.{◌⊎◌}
 use Rattle.std.specs.Str.{IsCharBoundary}
 use Rattle.yaml_chars.specs.Places.{rest}
 use Rattle.yaml_grammar.specs.BlockNodes.{Node, node_events}
 use Rattle.yaml_recognizers.specs.Recognizers.{block_node_at}
-use Rattle.yaml_recognizers.specs.StandingNodes.{BlockNodeStands}
+use Rattle.yaml_recognizers.specs.StandingNodes.{BlockNodeStands, NoBlockNode}
 use Rattle.yaml_events.specs.Meant.{events_of}
 use Rattle.yaml_events.specs.Places.{line_starts}
 use Rattle.yaml_events.specs.declared.event.Event.{Event}
 use Rattle.yaml_scan.specs.Lines.{IsLineStart}
 use Rattle.yaml_flow.specs.FlowNodes.{Appended}
 
--- The block node at the place is read up to the end, where a line starts or the text ends, and its events are appended.
-pub record BlockNodeRead (m : ℕ) (shallow : Bool) (text : List ℕ) (at : ℕ) (old new : List Event) (end : ℕ) : Type 0 where
-  pub above : at ≤ end
-  pub within : end ≤ length text
-  pub boundary : IsCharBoundary text end
-  pub fresh : IsLineStart text end
-  pub node : Node
-  pub found : block_node_at m shallow (line_starts text at) (rest text at) ≡ Some (node, rest text end)
-  pub appended : Appended text old new (node_events node at)
+-- The block node at the place is read up to the end, where a line starts or the text ends, and its
+-- events are appended.
+pub record BlockNodeRead (m : ℕ) (shallow : Bool) (text : List ℕ) (at : ℕ) (old new : List Event) (end : ℕ) : Type 0
+  where
+    pub above : at ≤ end
+    pub within : end ≤ length text
+    pub boundary : IsCharBoundary text end
+    pub fresh : IsLineStart text end
+    pub node : Node
+    pub found : block_node_at m shallow (line_starts text at) (rest text at) ≡ Some (node, rest text end)
+    pub appended : Appended text old new (node_events node at)
 
--- Each block node that stands at the place, in whatever form it is presented, has these events. The end is behind the lines of white
--- space and comments behind it, or before them.
+-- Each block node that stands at the place, in whatever form it is presented, has these events. The
+-- end is after the lines of white
+-- space and comments that follow it, or before them.
 abbrev pub IsEachBlockNode : ℕ → Bool → List ℕ → ℕ → List Event → List Event → ℕ → Type 0
 IsEachBlockNode m shallow text at old new end =
-    (node : Node) (behind : List ℕ) (stands : BlockNodeStands m shallow (line_starts text at) (rest text at) node behind)
-    → (events_of new ≡ events_of old ++ node_events node at) × ((rest text end ≡ stands.behind.behind) ⊎ (rest text end ≡ behind))
+    (node : Node) (behind : List ℕ) (stands : BlockNodeStands m shallow (line_starts text at) (rest text at) node
+    behind)
+    → (events_of new ≡ events_of old ++ node_events node at)
+    × ((rest text end ≡ stands.behind.behind) ⊎ (rest text end ≡ behind))
+
+-- the recognizer finds no block node at the place
+abbrev pub NoBlockNodeFound : ℕ → Bool → List ℕ → ℕ → Type 0
+NoBlockNodeFound m shallow text at = block_node_at m shallow (line_starts text at) (rest text at) ≡ None
+
+-- none stands there, in whatever form
+abbrev pub NoBlockNodeAt : ℕ → Bool → List ℕ → ℕ → Type 0
+NoBlockNodeAt m shallow text at = NoBlockNode m shallow (line_starts text at) (rest text at)

@@ -1,4 +1,5 @@
--- Where the scanner of block nodes stands: the open collections around a place, what is read of each, and the events that they have given so far.
+-- The state of the scanner of block nodes: the open collections around a place, what is read of
+-- each, and their events so far.
 use Rattle.std.specs.Prelude.{◌≡◌, ℕ, ◌+◌, Bool, true, false, not, ◌||◌, ◌==◌, List, [], ◌∷◌, ◌++◌, Option, Some, None}
 use Rattle.yaml_chars.specs.Places.{rest}
 use Rattle.yaml_grammar.specs.Texts.{is_empty, starts_line, byte_len}
@@ -51,7 +52,9 @@ is_colon Dash = false
 is_colon Asked = false
 is_colon Colon = true
 
--- A collection at k sits in the part that the innermost of the frames waits for: a compact one after that frame's sign, which is no `:` of a key on its line.
+-- A collection at k sits in the part that the innermost frame waits for: a compact one follows that
+-- frame's sign, which is no `:`
+-- of a key on its line.
 abbrev pub Seated : Sits → ℕ → List BlockFrame → Type 0
 Seated (on_lines comments j) k fs = j ≡ k
 Seated (on_sign_line s) k [] = ⊥
@@ -115,7 +118,8 @@ abbrev pub front_events : BlockFrame → ℕ → List Event
 front_events (waits_item sits k done) at = seq_start ∷ done_items_events k done (sits_place sits at)
 front_events (waits_key sits k done) at = map_start ∷ done_pairs_events k done (sits_place sits at)
 front_events (waits_value sits k done key) at =
-    map_start ∷ (done_pairs_events k done (sits_place sits at) ++ key_events k key (done_pairs_end k done (sits_place sits at)))
+    map_start ∷ (done_pairs_events k done (sits_place sits at) ++ key_events k key
+    (done_pairs_end k done (sits_place sits at)))
 
 -- the same for all frames, from where the outermost part begins
 abbrev pub place_in : List BlockFrame → ℕ → ℕ
@@ -179,7 +183,8 @@ module _ (W : Read Indented) (text : List ℕ) (from : ℕ) (fs : List BlockFram
     pub place : done_pairs_end k done (sits_place sits (place_in fs from)) + byte_len (pair_text last k) ≡ start
     pub ends : pair_end last k (done_pairs_end k done (sits_place sits (place_in fs from))) ≡ end
     pub wrote : evs ≡ events_in fs from
-        ++ map_start ∷ (done_pairs_events k done (sits_place sits (place_in fs from)) ++ pair_events last k (done_pairs_end k done (sits_place sits (place_in fs from))))
+        ++ map_start ∷ (done_pairs_events k done (sits_place sits (place_in fs from)) ++ pair_events last k
+        (done_pairs_end k done (sits_place sits (place_in fs from))))
 
   -- A part is read, and a line starts after it, at `start`; its last scalar or closing bracket ended at `end`.
   pub record AtLine (start end : ℕ) : Type 0 where
@@ -198,11 +203,13 @@ module _ (W : Read Indented) (text : List ℕ) (from : ℕ) (fs : List BlockFram
     pub place : place_in fs from ≡ at
     pub wrote : evs ≡ events_in fs from
 
-  -- A node at m is read from a place before which its comments are read, at the start of a line; alone: there are none.
+  -- A node at m is read from a place before which its comments are read, at the start of a line;
+  -- alone: there are none.
   pub record AtNodeLine (m : ℕ) (shallow alone : Bool) (start : ℕ) : Type 0 where
     pub bol : Bool
     pub comments : List LineEnd
-    pub reads : W ≡ unwind fs (as_part (node_behind block_key_in flow_leaf_at read_block (λ k t. block_items_at k t) (λ k b t. block_pairs_at k b t) m shallow bol (comments, rest text start)))
+    pub reads : W ≡ unwind fs (as_part (node_behind block_key_in flow_leaf_at read_block (λ k t. block_items_at k t)
+        (λ k b t. block_pairs_at k b t) m shallow bol (comments, rest text start)))
     pub nested : Nested fs
     pub starts : bol || not (is_empty comments) ≡ true
     pub alone_is : is_empty comments ≡ alone

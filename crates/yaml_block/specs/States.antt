@@ -7,7 +7,8 @@ use Rattle.yaml_grammar.specs.BlockNodes.{Indented}
 use Rattle.yaml_recognizers.specs.CanonicalComments.{is_line_end}
 use Rattle.yaml_recognizers.specs.Reading.{Read}
 use Rattle.yaml_recognizers.specs.BlockFrames.{BlockFrame}
-use Rattle.yaml_events.specs.Places.{line_starts}
+use Rattle.yaml_events.specs.Places.{line_starts, Refuses}
+use Rattle.yaml_events.specs.declared.fault.ScanFault.{ScanFault}
 use Rattle.yaml_events.specs.declared.event.Event.{Event}
 use Rattle.yaml_events.specs.declared.context.BlockContext.{BlockContext}
 use Rattle.yaml_events.specs.declared.context.BlockContext.TheVariants.{Bin, Bout}
@@ -41,7 +42,13 @@ pub record Keeps (collection : Collection) (frame : BlockFrame) : Type 0 where
 -- the frames, the innermost first, and the code's collections, the innermost last
 abbrev pub Stack : List BlockFrame → List Collection → Type 0
 Stack [] collections = collections ≡ []
-Stack (f ∷ fs) collections = (around : List Collection) × (innermost : Collection) × (collections ≡ around ++ innermost ∷ []) × Keeps innermost f × Stack fs around
+Stack (f ∷ fs) collections = (around : List Collection) × (innermost : Collection)
+    × (collections ≡ around ++ innermost ∷ []) × Keeps innermost f × Stack fs around
+
+-- a collection is opened, or goes on
+abbrev pub IsOpened : Waits → ℕ → Reader → Reader → Type 0
+IsOpened waits indent old new = new.collections.items ≡ old.collections.items
+    ++ (record { waits = waits; indent = indent }) ∷ []
 
 -- the second list begins with the first
 pub record Grown (old new : List Event) : Type 0 where
@@ -49,7 +56,8 @@ pub record Grown (old new : List Event) : Type 0 where
   pub is : new ≡ old ++ more
 
 -- The reader's collections are these frames, and its events mean evs after those of the call's start.
-pub record Holds (text : List ℕ) (base : List Event) (fs : List BlockFrame) (evs : List grammar.Event) (reader : Reader) : Type 0 where
+pub record Holds (text : List ℕ) (base : List Event) (fs : List BlockFrame) (evs : List grammar.Event)
+    (reader : Reader) : Type 0 where
   pub stack : Stack fs reader.collections.items
   pub appended : Appended text base reader.events evs
 
@@ -107,7 +115,8 @@ Stands W text from fs evs end (next.Pair at indent) = AtPair W text from fs evs 
 Stands W text from fs evs end (next.Line after) = AtLine W text from fs evs after.line.start end
 
 -- the reader goes on there
-pub record GoesOn (W : Read Indented) (text : List ℕ) (from : ℕ) (base : List Event) (reader : Reader) (to : Next) : Type 0 where
+pub record GoesOn (W : Read Indented) (text : List ℕ) (from : ℕ) (base : List Event) (reader : Reader)
+    (to : Next) : Type 0 where
   pub fs : List BlockFrame
   pub evs : List grammar.Event
   pub holds : Holds text base fs evs reader
@@ -128,7 +137,8 @@ BeforeNode text m shallow at W from fs evs = AtNode W text from fs evs m shallow
 
 abbrev pub BeforeNodeLine : List ℕ → Indentation → ℕ → Before
 BeforeNodeLine text node start W from fs evs =
-    (alone : Bool) × (node.margin ≡ (if alone then 0 else node.least)) × AtNodeLine W text from fs evs node.least (is_shallow node.context) alone start
+    (alone : Bool) × (node.margin ≡ (if alone then 0 else node.least)) × AtNodeLine W text from fs evs node.least
+    (is_shallow node.context) alone start
 
 abbrev pub BeforeLeaf : List ℕ → Leaf → Before
 BeforeLeaf text leaf W from fs evs = AtLeaf W text from fs evs leaf.least leaf.pairs leaf.at
@@ -136,9 +146,15 @@ BeforeLeaf text leaf W from fs evs = AtLeaf W text from fs evs leaf.least leaf.p
 -- Whatever the call reads, and whatever is open around: from this state before the step leads to what is read next.
 abbrev pub Leads : List ℕ → Before → Reader → Reader → Next → Type 0
 Leads text Holding old new to =
-    (W : Read Indented) (from : ℕ) (base : List Event) (fs : List BlockFrame) (evs : List grammar.Event) → Holds text base fs evs old → Holding W from fs evs → GoesOn W text from base new to
+    (W : Read Indented) (from : ℕ) (base : List Event) (fs : List BlockFrame) (evs : List grammar.Event)
+    → Holds text base fs evs old → Holding W from fs evs → GoesOn W text from base new to
 
 -- Whatever the call reads: in this state before the step it reads nothing.
 abbrev pub Fails : List ℕ → Before → Reader → Type 0
 Fails text Holding old =
-    (W : Read Indented) (from : ℕ) (base : List Event) (fs : List BlockFrame) (evs : List grammar.Event) → Holds text base fs evs old → Holding W from fs evs → W ≡ None
+    (W : Read Indented) (from : ℕ) (base : List Event) (fs : List BlockFrame) (evs : List grammar.Event)
+    → Holds text base fs evs old → Holding W from fs evs → W ≡ None
+
+-- a step that refuses, but where there is no memory, reads nothing
+abbrev pub FailsBy : List ℕ → Before → Reader → ScanFault → Type 0
+FailsBy text Holding old fault = Refuses fault (Fails text Holding old)

@@ -1,12 +1,12 @@
 -- What the reader makes of the line after a part.
-use Rattle.std.specs.Prelude.{◌≡◌, ℕ, List, [], ◌∷◌, Option, Some, None, MatchOption}
+use Rattle.std.specs.Prelude.{◌≡◌, ℕ, ◌+◌, ◌-◌, ◌*◌, List, [], ◌∷◌, length, Option, MatchOption}
 use Rattle.yaml_grammar.specs.Events as grammar
 use Rattle.yaml_recognizers.specs.Reading.{Read}
 use Rattle.yaml_grammar.specs.BlockNodes.{Indented}
 use Rattle.yaml_recognizers.specs.BlockFrames.{BlockFrame}
 use Rattle.yaml_events.specs.declared.event.Event.{Event}
 use Rattle.yaml_block.specs.Frames.{AfterPair, AtLine, waits_of, indent_of}
-use Rattle.yaml_block.specs.States.{Holds, GoesOn, Keeps}
+use Rattle.yaml_block.specs.States.{Holds, GoesOn, Keeps, Onward}
 use Rattle.yaml_block.specs.declared.frame.Collection.{Collection}
 use Rattle.yaml_block.specs.declared.frame.NextLine.{NextLine}
 use Rattle.yaml_block.specs.declared.frame.Next.{Next}
@@ -19,20 +19,24 @@ Part = Read Indented → List ℕ → ℕ → List BlockFrame → List grammar.E
 
 -- the part that this collection waited for
 abbrev pub PartRead : Collection → Part
-PartRead collection W text from fs evs start end = (f : BlockFrame) × Keeps collection f × AtLine W text from (f ∷ fs) evs start end
+PartRead collection W text from fs evs start end = (f : BlockFrame) × Keeps collection f
+    × AtLine W text from (f ∷ fs) evs start end
 
 -- an item, a key after `?`, or a pair, of a collection with this indentation
 abbrev pub ItemRead : ℕ → Part
-ItemRead indent W text from fs evs start end = (f : BlockFrame) × (waits_of f ≡ Item) × (indent_of f ≡ indent) × AtLine W text from (f ∷ fs) evs start end
+ItemRead indent W text from fs evs start end = (f : BlockFrame) × (waits_of f ≡ Item) × (indent_of f ≡ indent)
+    × AtLine W text from (f ∷ fs) evs start end
 
 abbrev pub KeyRead : ℕ → Part
-KeyRead indent W text from fs evs start end = (f : BlockFrame) × (waits_of f ≡ Key) × (indent_of f ≡ indent) × AtLine W text from (f ∷ fs) evs start end
+KeyRead indent W text from fs evs start end = (f : BlockFrame) × (waits_of f ≡ Key) × (indent_of f ≡ indent)
+    × AtLine W text from (f ∷ fs) evs start end
 
 abbrev pub PairRead : ℕ → Part
 PairRead indent W text from fs evs start end = AfterPair W text from fs evs indent start end
 
 -- the collection has ended, and is itself a part
-pub record IsPart (W : Read Indented) (text : List ℕ) (from : ℕ) (base : List Event) (fs : List BlockFrame) (reader : Reader) (start : ℕ) : Type 0 where
+pub record IsPart (W : Read Indented) (text : List ℕ) (from : ℕ) (base : List Event) (fs : List BlockFrame)
+    (reader : Reader) (start : ℕ) : Type 0 where
   pub evs : List grammar.Event
   pub holds : Holds text base fs evs reader
   pub stands : AtLine W text from fs evs start reader.end
@@ -40,22 +44,34 @@ pub record IsPart (W : Read Indented) (text : List ℕ) (from : ℕ) (base : Lis
 -- The collection goes on with what is read next, or it ends.
 abbrev pub Turns : Part → List ℕ → NextLine → Reader → Reader → Option Next → Type 0
 Turns PartIs text after old new next =
-    (W : Read Indented) (from : ℕ) (base : List Event) (fs : List BlockFrame) (evs : List grammar.Event) → Holds text base fs evs old
+    (W : Read Indented) (from : ℕ) (base : List Event) (fs : List BlockFrame) (evs : List grammar.Event)
+    → Holds text base fs evs old
     → PartIs W text from fs evs after.line.start old.end
     → MatchOption next (IsPart W text from base fs new after.line.start) (λ to. GoesOn W text from base new to)
 
 -- Some collections have ended; what they were is a part.
-pub record Unwound (W : Read Indented) (text : List ℕ) (from : ℕ) (base : List Event) (reader : Reader) (start : ℕ) : Type 0 where
+pub record Unwound (W : Read Indented) (text : List ℕ) (from : ℕ) (base : List Event) (reader : Reader)
+    (start : ℕ) : Type 0 where
   pub fs : List BlockFrame
   pub part : IsPart W text from base fs reader start
 
 abbrev pub StillPart : List ℕ → ℕ → Reader → Reader → Type 0
 StillPart text start old now =
-    (W : Read Indented) (from : ℕ) (base : List Event) (fs : List BlockFrame) (evs : List grammar.Event) → Holds text base fs evs old → AtLine W text from fs evs start old.end → Unwound W text from base now start
+    (W : Read Indented) (from : ℕ) (base : List Event) (fs : List BlockFrame) (evs : List grammar.Event)
+    → Holds text base fs evs old → AtLine W text from fs evs start old.end → Unwound W text from base now start
 
 -- A collection goes on with what is read next, or all have ended.
 abbrev pub Unwinds : List ℕ → NextLine → Reader → Reader → Option Next → Type 0
 Unwinds text after old new next =
-    (W : Read Indented) (from : ℕ) (base : List Event) (fs : List BlockFrame) (evs : List grammar.Event) → Holds text base fs evs old
+    (W : Read Indented) (from : ℕ) (base : List Event) (fs : List BlockFrame) (evs : List grammar.Event)
+    → Holds text base fs evs old
     → AtLine W text from fs evs after.line.start old.end
     → MatchOption next (IsPart W text from base [] new after.line.start) (λ to. GoesOn W text from base new to)
+
+-- What is read next, if anything is, is further on in the text.
+abbrev pub MayGoOn : List ℕ → ℕ → Option Next → Type 0
+MayGoOn text start next = MatchOption next (Unit {0}) (Onward text start (3 * (length text - start) + 1))
+
+-- Where a collection ends, those around it stay open.
+abbrev pub EndsAlone : Reader → Reader → Option Next → Type 0
+EndsAlone old new next = MatchOption next (new.collections.items ≡ old.collections.items) (λ _. Unit {0})

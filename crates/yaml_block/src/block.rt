@@ -1,19 +1,17 @@
-// A block scalar as a part.
-ghost use Rattle.std.specs.Prelude.{◌≡◌, ◌*◌, ◌+◌, ◌-◌, ◌^◌, ◌<◌, ◌≤◌, ◌≤ℤ◌, negsuc, true, IfOk, IfErr, IsTrue, length, if◌then◌else◌, ℕ, List};
+// A block scalar in a block node (YAML 1.2.2, 8.1 and 8.2.3).
+ghost use Rattle.std.specs.Prelude.{◌≡◌, ◌*◌, ◌-◌, ◌^◌, ◌≤◌, ◌≤ℤ◌, negsuc, true, IfOk, IfErr, IsTrue, length};
 ghost use Rattle.std.specs.Cow.{cow_str_bytes};
 ghost use Rattle.std.specs.Str.{IsCharBoundary};
 ghost use Rattle.yaml_chars.specs.Places.{rest};
-ghost use Rattle.yaml_grammar.specs.Events.{literal_style, folded_style};
 ghost use Rattle.yaml_grammar.specs.Texts.{first};
 ghost use Rattle.yaml_recognizers.specs.BlockNodes.{bar};
 ghost use Rattle.yaml_recognizers.specs.BlockScalars.{digit_fits};
 ghost use Rattle.yaml_recognizers.specs.BlockScalarFacts.{NoBody};
-ghost use Rattle.yaml_events.specs.Meant.{style_of};
 ghost use Rattle.yaml_events.specs.Places.{Refuses};
 ghost use Rattle.yaml_block_scalars.specs.Found.{IsBodyAt};
 ghost use Rattle.yaml_block_scalars.specs.Meant.{least_indent};
 ghost use Rattle.yaml_scan.specs.Lines.{IsLineStart};
-ghost use Rattle.yaml_block.specs.States.{Grown, Onward, Leads, Fails, BeforeLeaf};
+ghost use Rattle.yaml_block.specs.States.{Grown, Onward, Leads, FailsBy, BeforeLeaf};
 ghost use Rattle.yaml_block.specs.Bodies.{IsBlockStyle, IsAfterScalar};
 
 use crate::frame::{Leaf, Next, NextLine};
@@ -34,7 +32,7 @@ pub(crate) struct Body<'a> {
 }
 
 impl<'a> Reader<'a> {
-    /// The block scalar of a leaf, with the comments after it.
+    /// Reads the block scalar of a leaf, with the comments that belong to it. Returns the line after it.
     pub(crate) fn block_scalar(&mut self, text: &'a str, leaf: Leaf) -> Result<Next, ScanFault>
         requires at { IsCharBoundary text.now leaf.at }
         requires least { leaf.least ≤ 2 ^ 63 }
@@ -42,7 +40,7 @@ impl<'a> Reader<'a> {
         ensures onward { IfOk result (Onward text.now leaf.at (3 * (length text.now - leaf.at))) }
         ensures leads { IfOk result (Leads text.now (BeforeLeaf text.now leaf) self.old self.new) }
         ensures grown { Grown self.old.events self.new.events }
-        ensures none { IfErr result (λ fault. Refuses fault (Fails text.now (BeforeLeaf text.now leaf) self.old)) }
+        ensures none { IfErr result (FailsBy text.now (BeforeLeaf text.now leaf) self.old) }
     {
         let (head, lines) = header(text, leaf.at)?;
         let body = body_at(self.alloc, text, lines, leaf.least, &head)?;
@@ -60,7 +58,7 @@ impl<'a> Reader<'a> {
     }
 }
 
-/// The indentation below which lines of this least indentation stand; -1 is that of a document's top.
+/// Returns the indentation below which a node has this least indentation; -1 is that of a document's top.
 fn indentation_below(least: usize) -> i64
     requires { least ≤ 2 ^ 63 }
     ensures low { negsuc 0 ≤ℤ result }
@@ -69,7 +67,7 @@ fn indentation_below(least: usize) -> i64
     if least == 0 { -1 } else { (least - 1) as i64 }
 }
 
-/// The lines at `at` of the scalar with this header, literal or folded.
+/// Reads the lines at `at` of the scalar with this header, literal or folded.
 fn body_at<'a>(
     alloc: Global,
     text: &'a str,
@@ -103,8 +101,8 @@ fn body_at<'a>(
     })
 }
 
-/// The line after a block scalar whose lines end at `at`. A comment line belongs to the scalar where no TAB stands before its `#`,
-/// and then all lines of comments after it do. Other lines of white space or comments end all that is open.
+/// Returns the line after a block scalar whose lines end at `at`. A comment line belongs to the scalar where no TAB is before its
+/// `#`, and then all lines of comments after it do. Other lines of white space or comments end all collections.
 fn line_after_scalar(text: &str, at: usize) -> NextLine
     requires at { IsCharBoundary text.now at }
     requires starts { IsLineStart text.now at }

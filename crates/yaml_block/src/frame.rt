@@ -13,14 +13,14 @@ pub(crate) enum Waits {
     Value,
 }
 
-/// The sign that a part stands after.
+/// The sign before a part.
 #[derive(Clone, Copy, PartialEq, Eq)]
 pub(crate) enum Sign {
-    /// `-`: a compact collection may stand on its line.
+    /// `-`: a compact collection may be on its line.
     Dash,
-    /// `?`, or the `:` of its value: the same, and a sequence may stand as deep as the mapping.
+    /// `?`, or the `:` of its value: the same, and a sequence may be as deep as the mapping.
     Asked,
-    /// The `:` of a key on its line: no compact collection may stand there.
+    /// The `:` of a key on its line: no compact collection may be there.
     Colon,
 }
 
@@ -36,7 +36,7 @@ pub(crate) struct Collection {
 #[derive(Clone, Copy)]
 pub(crate) struct NextLine {
     pub line: Line,
-    /// Whether it holds more than white space and a comment. Only after a block scalar it may not.
+    /// Whether it holds more than white space and a comment. Only after a block scalar may it hold no more.
     pub is_solid: bool,
 }
 
@@ -63,12 +63,12 @@ pub(crate) enum Next {
 pub(crate) struct Indentation {
     /// The least indentation of the node's lines.
     pub least: usize,
-    /// How many spaces a leaf on this line stands after at least: none where no comment stands before the line.
+    /// The least number of spaces before a leaf on this line: none where no line of comments is before it.
     pub margin: usize,
     pub context: BlockContext,
 }
 
-/// Where a scalar, a flow collection or the first pair of a mapping may stand.
+/// A place where a scalar, a flow collection or the first pair of a mapping may be.
 #[derive(Clone, Copy)]
 pub(crate) struct Leaf {
     pub at: usize,

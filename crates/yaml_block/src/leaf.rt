@@ -1,14 +1,13 @@
-// A scalar, a flow collection, or the first pair of a mapping.
-ghost use Rattle.std.specs.Prelude.{◌≡◌, ◌*◌, ◌+◌, ◌-◌, ◌^◌, ◌<◌, ◌≤◌, ◌≤ℤ◌, negsuc, true, false, [], ◌∷◌, ◌++◌, ◌⊎◌, Some, None, ◌&&◌, nat_le, IfSome, IfOk, IfErr, OnOk, length};
+// A scalar, a flow collection, or the first pair of a mapping (YAML 1.2.2, 8.2.2 and 8.2.3).
+ghost use Rattle.std.specs.Prelude.{◌≡◌, ◌*◌, ◌+◌, ◌-◌, ◌^◌, ◌<◌, ◌≤◌, true, false, [], ◌∷◌, ◌++◌, ◌⊎◌, Some, None, ◌&&◌, nat_le, IfSome, IfOk, IfErr, OnOk, length};
 ghost use Rattle.std.specs.Str.{IsCharBoundary};
 ghost use Rattle.yaml_chars.specs.Places.{rest, between};
 ghost use Rattle.yaml_grammar.specs.Texts.{first};
 ghost use Rattle.yaml_recognizers.specs.BlockNodes.{bar};
 ghost use Rattle.yaml_recognizers.specs.Fronts.{sign};
-ghost use Rattle.yaml_events.specs.Places.{Refuses, line_starts};
-ghost use Rattle.yaml_block_scalars.specs.Meant.{least_indent};
+ghost use Rattle.yaml_events.specs.Places.{Refuses};
 ghost use Rattle.yaml_scan.specs.Places.{unbroken_between};
-ghost use Rattle.yaml_block.specs.States.{Grown, IsNextLine, Onward, Leads, Fails, BeforeLeaf};
+ghost use Rattle.yaml_block.specs.States.{IsOpened, Grown, Onward, Leads, FailsBy, BeforeLeaf};
 
 use crate::frame::{Leaf, Next, NextLine, Sign, Waits};
 use crate::reader::Reader;
@@ -18,7 +17,7 @@ use yaml_flow::{KEY_LIMIT, flow_node};
 use yaml_scan::{at_most_chars, has_break, line_after, sign_at, stands_at, white_end};
 
 impl<'a> Reader<'a> {
-    /// A scalar, a flow collection, or the first pair of a mapping.
+    /// Reads a scalar, a flow collection, or the first key of a mapping. Returns what is read next.
     pub(crate) fn leaf(&mut self, text: &'a str, leaf: Leaf) -> Result<Next, ScanFault>
         requires at { IsCharBoundary text.now leaf.at }
         requires least { leaf.least ≤ 2 ^ 63 }
@@ -26,27 +25,24 @@ impl<'a> Reader<'a> {
         ensures onward { IfOk result (Onward text.now leaf.at (3 * (length text.now - leaf.at))) }
         ensures leads { IfOk result (Leads text.now (BeforeLeaf text.now leaf) self.old self.new) }
         ensures grown { Grown self.old.events self.new.events }
-        ensures none { IfErr result (λ fault. Refuses fault (Fails text.now (BeforeLeaf text.now leaf) self.old)) }
+        ensures none { IfErr result (FailsBy text.now (BeforeLeaf text.now leaf) self.old) }
     {
         if begins_block_scalar(text, leaf.at) {
             return self.block_scalar(text, leaf);
         }
-        match leaf.pairs {
-            Some(indent) => {
-                if sign_at(text, leaf.at, b'?') {
-                    return self.first_asked(leaf.at, indent);
-                }
+        if let Some(indent) = leaf.pairs {
+            if sign_at(text, leaf.at, b'?') {
+                return self.first_asked(leaf.at, indent);
             }
-            None => {}
         }
         self.flow_leaf(text, leaf)
     }
 
-    /// A mapping whose first key stands after the `?` at this place.
+    /// Opens a mapping whose first key follows the `?` at `at`.
     fn first_asked(&mut self, at: usize, indent: usize) -> Result<Next, ScanFault>
         requires fits { at < 2 ^ 63 }
         ensures next { IfOk result (λ next. next ≡ Next.After (at + 1) indent Sign.Asked) }
-        ensures collections { OnOk result (self.new.collections.items ≡ self.old.collections.items ++ (record { waits = Waits.Key; indent = indent }) ∷ []) }
+        ensures collections { OnOk result (IsOpened Waits.Key indent self.old self.new) }
         ensures events { OnOk result (self.new.events ≡ self.old.events ++ Event.MapStart ∷ []) }
         ensures grown { Grown self.old.events self.new.events }
         ensures none { IfErr result (λ fault. Refuses fault ⊥) }
@@ -59,7 +55,7 @@ impl<'a> Reader<'a> {
         })
     }
 
-    /// A flow node, which may be the key of the first pair of a mapping.
+    /// Reads a flow node, which may be the first key of a mapping.
     fn flow_leaf(&mut self, text: &'a str, leaf: Leaf) -> Result<Next, ScanFault>
         requires at { IsCharBoundary text.now leaf.at }
         requires pairs { IfSome leaf.pairs (λ indent. indent ≤ leaf.at) }
@@ -68,7 +64,7 @@ impl<'a> Reader<'a> {
         ensures onward { IfOk result (Onward text.now leaf.at (3 * (length text.now - leaf.at))) }
         ensures leads { IfOk result (Leads text.now (BeforeLeaf text.now leaf) self.old self.new) }
         ensures grown { Grown self.old.events self.new.events }
-        ensures none { IfErr result (λ fault. Refuses fault (Fails text.now (BeforeLeaf text.now leaf) self.old)) }
+        ensures none { IfErr result (FailsBy text.now (BeforeLeaf text.now leaf) self.old) }
     {
         let before = self.events.as_slice().len();
         let end = match flow_node(
@@ -99,12 +95,12 @@ impl<'a> Reader<'a> {
                 line,
                 is_solid: true,
             })),
-            None => Err(line_goes_on(text, end, colon)),
+            None => Err(line_goes_on(text, colon)),
         }
     }
 }
 
-/// Whether a block scalar begins at a place: with `|` or `>`.
+/// Returns whether a block scalar begins at `at`, with `|` or `>`.
 fn begins_block_scalar(text: &str, at: usize) -> bool
     requires { IsCharBoundary text.now at }
     ensures { result ≡ first bar (rest text.now at) }
@@ -112,8 +108,8 @@ fn begins_block_scalar(text: &str, at: usize) -> bool
     stands_at(text, at, b'|') || stands_at(text, at, b'>')
 }
 
-/// The indentation of the mapping whose first key is the flow node of the leaf, which ends at `end` and has its `:` at `colon`: a
-/// mapping may begin there, the node has no further line, and it is short (8.2.2).
+/// Returns the indentation of the mapping whose first key is the flow node of the leaf, which ends at `end` and has its `:` at
+/// `colon`. Returns an error where no mapping may begin there, and where the node has a further line or is too long for a key.
 fn key_indent(text: &str, leaf: Leaf, end: usize, colon: usize) -> Result<usize, ScanFault>
     requires at { IsCharBoundary text.now leaf.at }
     requires end { IsCharBoundary text.now end }

@@ -1,11 +1,10 @@
-// A node at the start of a line.
-ghost use Rattle.std.specs.Prelude.{◌≡◌, ◌*◌, ◌+◌, ◌-◌, ◌^◌, ◌<◌, ◌≤◌, suc, true, false, [], ◌∷◌, ◌++◌, nat_le, ◌&&◌, IfOk, IfErr, OnOk, length, if◌then◌else◌};
-ghost use Rattle.std.specs.Str.{IsCharBoundary};
+// A node at the start of a line (YAML 1.2.2, 8.2.3).
+ghost use Rattle.std.specs.Prelude.{◌≡◌, ◌*◌, ◌+◌, ◌-◌, ◌^◌, ◌<◌, ◌≤◌, suc, false, [], ◌∷◌, ◌++◌, nat_le, ◌&&◌, IfOk, IfErr, OnOk, length, if◌then◌else◌};
 ghost use Rattle.yaml_chars.specs.Places.{rest};
 ghost use Rattle.yaml_recognizers.specs.CanonicalComments.{is_line_end};
 ghost use Rattle.yaml_recognizers.specs.Fronts.{sign};
 ghost use Rattle.yaml_events.specs.Places.{Refuses};
-ghost use Rattle.yaml_block.specs.States.{Grown, IsLine, Onward, Leads, Fails, BeforeNodeLine, is_shallow};
+ghost use Rattle.yaml_block.specs.States.{IsOpened, Grown, IsLine, Onward, Leads, FailsBy, BeforeNodeLine, is_shallow};
 
 use crate::frame::{Indentation, Leaf, Next, Sign, Waits};
 use crate::reader::Reader;
@@ -14,7 +13,7 @@ use yaml_events::{BlockContext, Event, ScanFault};
 use yaml_scan::{Line, sign_at, white_end};
 
 impl Indentation {
-    /// Whether a sequence may stand after so many spaces.
+    /// Returns whether a sequence may be indented by so many spaces.
     fn fits_sequence(self, spaces: usize) -> bool
         ensures { result ≡ nat_le self.least (if is_shallow self.context then suc spaces else spaces) }
     {
@@ -24,7 +23,7 @@ impl Indentation {
         }
     }
 
-    /// Whether the line begins with a `-` of a sequence.
+    /// Returns whether the line begins with the `-` of a sequence.
     fn begins_sequence(self, text: &str, line: Line) -> bool
         requires { IsLine text.now line }
         ensures { result ≡ sign 45 (rest text.now line.first) && nat_le self.least (if is_shallow self.context then suc (line.first - line.start) else line.first - line.start) }
@@ -34,7 +33,7 @@ impl Indentation {
 }
 
 impl<'a> Reader<'a> {
-    /// A node at the start of a line.
+    /// Reads the front of a node at the start of a line. Returns what is read next.
     pub(crate) fn on_line(
         &mut self,
         text: &'a str,
@@ -48,7 +47,7 @@ impl<'a> Reader<'a> {
         ensures onward { IfOk result (Onward text.now line.start (3 * (length text.now - line.start))) }
         ensures leads { IfOk result (Leads text.now (BeforeNodeLine text.now node line.start) self.old self.new) }
         ensures grown { Grown self.old.events self.new.events }
-        ensures none { IfErr result (λ fault. Refuses fault (Fails text.now (BeforeNodeLine text.now node line.start) self.old)) }
+        ensures none { IfErr result (FailsBy text.now (BeforeNodeLine text.now node line.start) self.old) }
     {
         let spaces = line.first - line.start;
         if node.begins_sequence(text, line) {
@@ -78,11 +77,11 @@ impl<'a> Reader<'a> {
         )
     }
 
-    /// A sequence, whose first `-` stands at `dash`.
+    /// Opens a sequence whose first `-` is at `dash`.
     pub(crate) fn open_items(&mut self, dash: usize, indent: usize) -> Result<Next, ScanFault>
         requires fits { dash < 2 ^ 63 }
         ensures next { IfOk result (λ next. next ≡ Next.After (dash + 1) indent Sign.Dash) }
-        ensures collections { OnOk result (self.new.collections.items ≡ self.old.collections.items ++ (record { waits = Waits.Item; indent = indent }) ∷ []) }
+        ensures collections { OnOk result (IsOpened Waits.Item indent self.old self.new) }
         ensures events { OnOk result (self.new.events ≡ self.old.events ++ Event.SeqStart ∷ []) }
         ensures grown { Grown self.old.events self.new.events }
         ensures none { IfErr result (λ fault. Refuses fault ⊥) }

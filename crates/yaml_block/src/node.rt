@@ -1,13 +1,10 @@
 // A whole block node.
-ghost use Rattle.std.specs.Prelude.{◌≡◌, ℕ, ◌*◌, ◌+◌, ◌-◌, ◌^◌, ◌<◌, ◌≤◌, ◌≤ℤ◌, negsuc, List, [], None, true, IfOk, IfErr, length};
+ghost use Rattle.std.specs.Prelude.{◌≡◌, ◌*◌, ◌-◌, ◌^◌, ◌<◌, ◌≤◌, ◌≤ℤ◌, negsuc, [], true, IfOk, IfErr, length};
 ghost use Rattle.std.specs.Str.{IsCharBoundary};
-ghost use Rattle.yaml_chars.specs.Places.{rest};
-ghost use Rattle.yaml_recognizers.specs.Recognizers.{block_node_at};
-ghost use Rattle.yaml_recognizers.specs.StandingNodes.{NoBlockNode};
 ghost use Rattle.yaml_events.specs.Places.{Refuses, line_starts};
 ghost use Rattle.yaml_block_scalars.specs.Meant.{least_indent};
-ghost use Rattle.yaml_block.specs.Found.{BlockNodeRead, IsEachBlockNode};
-ghost use Rattle.yaml_block.specs.States.{Grown, Onward, Leads, Fails, BeforeNode, is_shallow};
+ghost use Rattle.yaml_block.specs.Found.{NoBlockNodeFound, NoBlockNodeAt, BlockNodeRead, IsEachBlockNode};
+ghost use Rattle.yaml_block.specs.States.{Grown, Onward, Leads, FailsBy, BeforeNode, is_shallow};
 
 use crate::frame::{Indentation, Leaf, Next};
 use crate::reader::Reader;
@@ -18,7 +15,7 @@ use yaml_events::{BlockContext, Events, ScanFault, Why};
 use yaml_scan::{line_starts, rest_of_line_end, solid_line, white_end};
 
 impl<'a> Reader<'a> {
-    /// The front of the outermost node.
+    /// Reads the front of the outermost node. Returns what is read next.
     fn front(
         &mut self,
         text: &'a str,
@@ -32,7 +29,7 @@ impl<'a> Reader<'a> {
         ensures onward { IfOk result (Onward text.now at (3 * (length text.now - at))) }
         ensures leads { IfOk result (Leads text.now (BeforeNode text.now least (is_shallow context) at) self.old self.new) }
         ensures grown { Grown self.old.events self.new.events }
-        ensures none { IfErr result (λ fault. Refuses fault (Fails text.now (BeforeNode text.now least (is_shallow context) at) self.old)) }
+        ensures none { IfErr result (FailsBy text.now (BeforeNode text.now least (is_shallow context) at) self.old) }
     {
         if at == text.len() {
             return Err(refusal(at, Why::Other));
@@ -66,7 +63,7 @@ impl<'a> Reader<'a> {
         )
     }
 
-    /// The same where a line starts at the place.
+    /// Reads the front of the outermost node where a line starts at `at`.
     fn front_line(
         &mut self,
         text: &'a str,
@@ -81,10 +78,10 @@ impl<'a> Reader<'a> {
         ensures onward { IfOk result (Onward text.now at (3 * (length text.now - at))) }
         ensures leads { IfOk result (Leads text.now (BeforeNode text.now least (is_shallow context) at) self.old self.new) }
         ensures grown { Grown self.old.events self.new.events }
-        ensures none { IfErr result (λ fault. Refuses fault (Fails text.now (BeforeNode text.now least (is_shallow context) at) self.old)) }
+        ensures none { IfErr result (FailsBy text.now (BeforeNode text.now least (is_shallow context) at) self.old) }
     {
         let line = solid_line(text, at);
-        // Where no comment stands before the line, its leaf needs no spaces.
+        // With no line of comments before it, a leaf needs no spaces.
         let margin = if line.start == at { 0 } else { least };
         self.on_line(
             text,
@@ -97,7 +94,7 @@ impl<'a> Reader<'a> {
         )
     }
 
-    /// The whole node; returns the place after it and the comments that belong to it.
+    /// Reads a whole node. Returns the place after it and the comments that belong to it.
     fn node(
         &mut self,
         text: &'a str,
@@ -111,8 +108,8 @@ impl<'a> Reader<'a> {
         ensures reads { IfOk result (BlockNodeRead least (is_shallow context) text.now at self.old.events self.new.events) }
         ensures only { IfOk result (IsEachBlockNode least (is_shallow context) text.now at self.old.events self.new.events) }
         ensures grown { Grown self.old.events self.new.events }
-        ensures missing { IfErr result (λ fault. Refuses fault (block_node_at least (is_shallow context) (line_starts text.now at) (rest text.now at) ≡ None)) }
-        ensures none { IfErr result (λ fault. Refuses fault (NoBlockNode least (is_shallow context) (line_starts text.now at) (rest text.now at))) }
+        ensures missing { IfErr result (λ fault. Refuses fault (NoBlockNodeFound least (is_shallow context) text.now at)) }
+        ensures none { IfErr result (λ fault. Refuses fault (NoBlockNodeAt least (is_shallow context) text.now at)) }
     {
         let mut next = self.front(text, at, least, context)?;
         'parts: loop {
@@ -128,7 +125,7 @@ impl<'a> Reader<'a> {
     }
 }
 
-/// The least indentation of a node below an indentation of `n`.
+/// Returns the least indentation of a node below an indentation of `n`.
 fn least_indent(n: i64) -> usize
     requires { negsuc 0 ≤ℤ n }
     ensures value { result ≡ least_indent n }
@@ -139,12 +136,14 @@ fn least_indent(n: i64) -> usize
 
 /// Reads the block node at `at`, appends its events, and returns the place after it (YAML 1.2.2, 8.2).
 ///
-/// `at` counts bytes from 0 and is on a boundary of a character. The node stands below an indentation of `n`, which is -1 at the top
-/// of a document; in the context `Bout` it may also be a sequence as deep as `n`. The place that is returned is after the comments
-/// that belong to the node: a line starts there, or the text ends.
+/// `at` counts bytes from 0 and is on a boundary of a character. The node is below an indentation of `n`, which is -1 at the top of
+/// a document; in the context `Bout` it may also be a sequence as deep as `n`. The place that is returned is after the comments that
+/// belong to the node: a line starts there, or the text ends.
 ///
-/// Returns [`ScanFault::At`] where no block node stands, and [`ScanFault::OutOfMemory`] where there is no memory for events, for
-/// values or for the stack of open collections. The events are then as they were.
+/// # Errors
+///
+/// [`ScanFault::At`] where no block node is at `at`, and [`ScanFault::OutOfMemory`] where there is no memory for events, for values or
+/// for the stack of open collections. The events are then as they were.
 pub fn block_node<'a>(
     alloc: Global,
     events: &mut Events<'a>,
@@ -157,8 +156,8 @@ pub fn block_node<'a>(
     requires below { negsuc 0 ≤ℤ n }
     ensures reads { IfOk result (BlockNodeRead (least_indent n) (is_shallow context) text.now at events.old events.new) }
     ensures only { IfOk result (IsEachBlockNode (least_indent n) (is_shallow context) text.now at events.old events.new) }
-    ensures missing { IfErr result (λ fault. Refuses fault (block_node_at (least_indent n) (is_shallow context) (line_starts text.now at) (rest text.now at) ≡ None)) }
-    ensures none { IfErr result (λ fault. Refuses fault (NoBlockNode (least_indent n) (is_shallow context) (line_starts text.now at) (rest text.now at))) }
+    ensures missing { IfErr result (λ fault. Refuses fault (NoBlockNodeFound (least_indent n) (is_shallow context) text.now at)) }
+    ensures none { IfErr result (λ fault. Refuses fault (NoBlockNodeAt (least_indent n) (is_shallow context) text.now at)) }
     ensures unchanged { IfErr result (λ _. events.new ≡ events.old) }
 {
     let kept = events.as_slice().len();

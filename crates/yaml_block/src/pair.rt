@@ -1,7 +1,6 @@
-// A further pair of a mapping.
-ghost use Rattle.std.specs.Prelude.{◌≡◌, ◌*◌, ◌+◌, ◌-◌, ◌^◌, ◌<◌, ◌≤◌, IfOk, IfErr, length};
-ghost use Rattle.yaml_events.specs.Places.{Refuses};
-ghost use Rattle.yaml_block.specs.States.{Grown, IsPairPlace, Onward, Leads, Fails, BeforePair};
+// A further pair of a mapping (YAML 1.2.2, 8.2.2).
+ghost use Rattle.std.specs.Prelude.{◌*◌, ◌-◌, IfOk, IfErr, length};
+ghost use Rattle.yaml_block.specs.States.{Grown, IsPairPlace, Onward, Leads, FailsBy, BeforePair};
 
 use crate::frame::{Next, Sign, Waits};
 use crate::reader::Reader;
@@ -11,7 +10,7 @@ use yaml_flow::{KEY_LIMIT, flow_node};
 use yaml_scan::{at_most_chars, sign_at, white_end};
 
 impl<'a> Reader<'a> {
-    /// A pair of a mapping that is open: its key on one line with the `:`, or its `?`.
+    /// Reads the front of a further pair of a mapping: its key on one line with the `:`, or its `?`. Returns what is read next.
     pub(crate) fn pair(
         &mut self,
         text: &'a str,
@@ -22,7 +21,7 @@ impl<'a> Reader<'a> {
         ensures onward { IfOk result (Onward text.now at (3 * (length text.now - at))) }
         ensures leads { IfOk result (Leads text.now (BeforePair text.now indent at) self.old self.new) }
         ensures grown { Grown self.old.events self.new.events }
-        ensures none { IfErr result (λ fault. Refuses fault (Fails text.now (BeforePair text.now indent at) self.old)) }
+        ensures none { IfErr result (FailsBy text.now (BeforePair text.now indent at) self.old) }
     {
         if sign_at(text, at, b'?') {
             self.wait(Waits::Key, indent)?;

@@ -3,7 +3,7 @@ ghost use Rattle.std.specs.Prelude.{◌≡◌, ◌≤◌, List, ◌++◌, [], �
 ghost use Rattle.yaml_events.specs.Places.{Refuses};
 ghost use Rattle.yaml_recognizers.specs.BlockFrames.{BlockFrame};
 ghost use Rattle.yaml_block.specs.Frames.{waits_of};
-ghost use Rattle.yaml_block.specs.States.{Grown, Stack};
+ghost use Rattle.yaml_block.specs.States.{IsOpened, Grown, Stack};
 
 use crate::frame::{Collection, Waits};
 use std::alloc::Global;
@@ -22,7 +22,7 @@ pub(crate) struct Reader<'a> {
 }
 
 impl<'a> Reader<'a> {
-    /// A reader with no events, before a node at a place. It takes no memory.
+    /// Returns a reader with no events, before a node at `at`. It takes no memory.
     pub(crate) fn new(alloc: Global, at: usize) -> Self
         ensures events { result.events ≡ [] }
         ensures collections { result.collections.items ≡ [] }
@@ -35,7 +35,7 @@ impl<'a> Reader<'a> {
         }
     }
 
-    /// Appends an event.
+    /// Puts an event after all others.
     pub(crate) fn put(&mut self, event: Event<'a>) -> Result<(), ScanFault>
         ensures events { OnOk result (self.new.events ≡ self.old.events ++ event.entry ∷ []) }
         ensures collections { self.new.collections ≡ self.old.collections }
@@ -66,7 +66,7 @@ impl<'a> Reader<'a> {
 
     /// Opens a collection with this indentation, or goes on with it.
     pub(crate) fn wait(&mut self, waits: Waits, indent: usize) -> Result<(), ScanFault>
-        ensures collections { OnOk result (self.new.collections.items ≡ self.old.collections.items ++ (record { waits = waits; indent = indent }) ∷ []) }
+        ensures collections { OnOk result (IsOpened waits indent self.old self.new) }
         ensures events { self.new.events ≡ self.old.events }
         ensures end { self.new.end ≡ self.old.end }
         ensures none { IfErr result (λ fault. Refuses fault ⊥) }
@@ -84,7 +84,7 @@ impl<'a> Reader<'a> {
         indent: usize,
         start: Event<'a>,
     ) -> Result<(), ScanFault>
-        ensures collections { OnOk result (self.new.collections.items ≡ self.old.collections.items ++ (record { waits = waits; indent = indent }) ∷ []) }
+        ensures collections { OnOk result (IsOpened waits indent self.old self.new) }
         ensures events { OnOk result (self.new.events ≡ self.old.events ++ start.entry ∷ []) }
         ensures end { self.new.end ≡ self.old.end }
         ensures grown { Grown self.old.events self.new.events }
@@ -94,7 +94,7 @@ impl<'a> Reader<'a> {
         self.wait(waits, indent)
     }
 
-    /// Whether the innermost collection waits for a key.
+    /// Returns whether the innermost collection waits for a key.
     pub(crate) fn waits_for_key(&self) -> bool
         ensures { (f : BlockFrame) (fs : List BlockFrame) → Stack (f ∷ fs) self.now.collections.items → MatchBool result (waits_of f ≡ Waits.Key) (waits_of f ≡ Waits.Key → ⊥) }
     {

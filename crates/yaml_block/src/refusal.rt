@@ -10,7 +10,7 @@ pub(crate) fn refusal(at: usize, why: Why) -> ScanFault {
     ScanFault::At { at, why }
 }
 
-/// The refusal where white space should stand at a place.
+/// Returns the refusal where white space is missing at `at`.
 pub(crate) fn no_white(text: &str, at: usize) -> ScanFault
     requires { IsCharBoundary text.now at }
 {
@@ -20,8 +20,8 @@ pub(crate) fn no_white(text: &str, at: usize) -> ScanFault
     }
 }
 
-/// The refusal where the line of a node that ends at `end` goes on at `at` with something else than a comment.
-pub(crate) fn line_goes_on(text: &str, end: usize, at: usize) -> ScanFault
+/// Returns the refusal where the line of a node goes on at `at` with something else than a comment.
+pub(crate) fn line_goes_on(text: &str, at: usize) -> ScanFault
     requires { IsCharBoundary text.now at }
 {
     let why = match next_char(text, at) {
@@ -34,7 +34,7 @@ pub(crate) fn line_goes_on(text: &str, end: usize, at: usize) -> ScanFault
     refusal(at, why)
 }
 
-/// The refusal of a line that is indented too little.
+/// Returns the refusal of a line that is indented too little.
 pub(crate) fn too_shallow(text: &str, line: Line) -> ScanFault
     requires { IsCharBoundary text.now line.start }
 {
@@ -45,7 +45,7 @@ pub(crate) fn too_shallow(text: &str, line: Line) -> ScanFault
     }
 }
 
-/// The refusal of a node at a place: where a `:` stands there, its key is left out.
+/// Returns the refusal of a node at `at`: where a `:` is there, its key is left out.
 pub(crate) fn no_node(text: &str, at: usize, fault: ScanFault) -> ScanFault
     requires { IsCharBoundary text.now at }
     ensures { fault ≡ ScanFault.OutOfMemory → result ≡ ScanFault.OutOfMemory }

@@ -1,14 +1,12 @@
-// What stands after a sign of a collection.
-ghost use Rattle.std.specs.Prelude.{◌≡◌, ◌*◌, ◌+◌, ◌-◌, ◌^◌, ◌<◌, ◌≤◌, suc, true, false, [], ◌&&◌, not, nat_lt, ◌==◌, nat_le, IfOk, IfErr, length};
-ghost use Rattle.std.specs.Str.{IsCharBoundary};
+// The part after a sign of a collection: `-`, `?` or `:` (YAML 1.2.2, 8.2.1 and 8.2.2).
+ghost use Rattle.std.specs.Prelude.{◌≡◌, ◌*◌, ◌+◌, ◌-◌, ◌^◌, ◌<◌, suc, true, false, not, IfOk, IfErr, length};
 ghost use Rattle.yaml_chars.specs.Places.{rest};
 ghost use Rattle.yaml_recognizers.specs.Comments.{all_comments, closes_line};
 ghost use Rattle.yaml_recognizers.specs.CanonicalComments.{is_line_end};
 ghost use Rattle.yaml_recognizers.specs.Ends.{ended};
-ghost use Rattle.yaml_events.specs.Places.{Refuses};
 ghost use Rattle.yaml_scan.specs.Lines.{IsLineStart, IsSolidLine};
 ghost use Rattle.yaml_block.specs.Frames.{is_colon, is_shallow as is_shallow_after};
-ghost use Rattle.yaml_block.specs.States.{Grown, IsAfterSign, IsLine, Onward, Leads, Fails, BeforePart, is_shallow};
+ghost use Rattle.yaml_block.specs.States.{Grown, IsAfterSign, IsLine, Onward, Leads, FailsBy, BeforePart, is_shallow};
 
 use crate::frame::{Indentation, Leaf, Next, NextLine, Sign};
 use crate::reader::Reader;
@@ -18,7 +16,7 @@ use yaml_flow::omitted;
 use yaml_scan::{Line, line_after, sign_at, spaces_end, white_end};
 
 impl Sign {
-    /// Where a node after the sign stands.
+    /// Returns the context of a node after the sign.
     fn context(self) -> BlockContext
         ensures { is_shallow result ≡ is_shallow_after self }
     {
@@ -28,7 +26,7 @@ impl Sign {
         }
     }
 
-    /// Whether a compact collection may stand on the line of the sign.
+    /// Returns whether a compact collection may be on the line of the sign (8.2.1, `ns-l-compact-sequence`, and 8.2.2).
     fn allows_compact(self) -> bool
         ensures { result ≡ not (is_colon self) }
     {
@@ -39,8 +37,8 @@ impl Sign {
     }
 }
 
-/// Whether a part is left out after a sign at `indent`, where this line follows. At the end of the text and at a marker no spaces
-/// stand, and no `-` before white space.
+/// Returns whether the part after a sign of a collection at `indent` is left out, where this line follows the sign's. The end of the
+/// text and a marker need no test: they have no spaces and no `-` before white space.
 fn is_omitted(text: &str, line: Line, indent: usize, context: BlockContext) -> bool
     requires line { IsLine text.now line }
     requires solid { is_line_end (rest text.now line.start) ≡ false }
@@ -57,7 +55,7 @@ fn is_omitted(text: &str, line: Line, indent: usize, context: BlockContext) -> b
 }
 
 impl<'a> Reader<'a> {
-    /// The part after a sign: on its line, on a later one, or left out.
+    /// Reads the front of the part after a sign: on its line, on a later one, or left out. Returns what is read next.
     pub(crate) fn after_sign(
         &mut self,
         text: &'a str,
@@ -70,7 +68,7 @@ impl<'a> Reader<'a> {
         ensures onward { IfOk result (Onward text.now at (3 * (length text.now - at) + 2)) }
         ensures leads { IfOk result (Leads text.now (BeforePart text.now sign indent at) self.old self.new) }
         ensures grown { Grown self.old.events self.new.events }
-        ensures none { IfErr result (λ fault. Refuses fault (Fails text.now (BeforePart text.now sign indent at) self.old)) }
+        ensures none { IfErr result (FailsBy text.now (BeforePart text.now sign indent at) self.old) }
     {
         match line_after(text, at) {
             Some(line) => self.on_later_line(text, at, line, indent, sign),
@@ -78,7 +76,7 @@ impl<'a> Reader<'a> {
         }
     }
 
-    /// The part after a sign whose own line holds no more: at the next line that does, or left out.
+    /// Reads the front of the part after a sign whose line holds no more: on the next line that does, or left out.
     fn on_later_line(
         &mut self,
         text: &'a str,
@@ -95,7 +93,7 @@ impl<'a> Reader<'a> {
         ensures onward { IfOk result (Onward text.now at (3 * (length text.now - at) + 2)) }
         ensures leads { IfOk result (Leads text.now (BeforePart text.now sign indent at) self.old self.new) }
         ensures grown { Grown self.old.events self.new.events }
-        ensures none { IfErr result (λ fault. Refuses fault (Fails text.now (BeforePart text.now sign indent at) self.old)) }
+        ensures none { IfErr result (FailsBy text.now (BeforePart text.now sign indent at) self.old) }
     {
         let context = sign.context();
         if is_omitted(text, line, indent, context) {
@@ -117,7 +115,7 @@ impl<'a> Reader<'a> {
         self.on_line(text, line, node)
     }
 
-    /// The part after a sign on the line of the sign.
+    /// Reads the front of the part after a sign on the sign's line.
     fn on_sign_line(
         &mut self,
         text: &'a str,
@@ -131,7 +129,7 @@ impl<'a> Reader<'a> {
         ensures onward { IfOk result (Onward text.now at (3 * (length text.now - at) + 2)) }
         ensures leads { IfOk result (Leads text.now (BeforePart text.now sign indent at) self.old self.new) }
         ensures grown { Grown self.old.events self.new.events }
-        ensures none { IfErr result (λ fault. Refuses fault (Fails text.now (BeforePart text.now sign indent at) self.old)) }
+        ensures none { IfErr result (FailsBy text.now (BeforePart text.now sign indent at) self.old) }
     {
         let first = white_end(text, at);
         if first == at {

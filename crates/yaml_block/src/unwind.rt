@@ -1,12 +1,12 @@
 // The line after a part: which of the open collections goes on there.
-ghost use Rattle.std.specs.Prelude.{◌≡◌, ℕ, ◌*◌, ◌+◌, ◌-◌, ◌<◌, ◌≤◌, List, [], ◌∷◌, ◌++◌, Some, None, IfOk, IfErr, MatchOption, length, ◌==◌, ◌&&◌, not, false};
+ghost use Rattle.std.specs.Prelude.{◌≡◌, ◌<◌, IfOk, IfErr, ◌==◌, ◌&&◌, not, false};
 ghost use Rattle.yaml_chars.specs.Places.{rest};
 ghost use Rattle.yaml_grammar.specs.BlockScalars.{past_spaces, spaces_before};
 ghost use Rattle.yaml_recognizers.specs.Fronts as fronts;
 ghost use Rattle.yaml_recognizers.specs.Ends.{ended};
 ghost use Rattle.yaml_events.specs.Places.{Refuses};
-ghost use Rattle.yaml_block.specs.States.{Grown, IsLine, IsNextLine, Onward};
-ghost use Rattle.yaml_block.specs.Turns.{Unwinds, Turns, ItemRead, KeyRead, PairRead, PartRead};
+ghost use Rattle.yaml_block.specs.States.{Grown, IsLine, IsNextLine};
+ghost use Rattle.yaml_block.specs.Turns.{MayGoOn, EndsAlone, Unwinds, Turns, ItemRead, KeyRead, PairRead, PartRead};
 
 use crate::frame::{Collection, Next, NextLine, Sign, Waits};
 use crate::reader::Reader;
@@ -15,10 +15,11 @@ use yaml_flow::omitted;
 use yaml_scan::{Line, is_marker, sign_at};
 
 impl<'a> Reader<'a> {
-    /// What goes on at the line after a part. None where all collections end there.
+    /// Closes the collections that end at the line after a part, and returns what is read next in the one that goes on there. Returns
+    /// None where all end.
     pub(crate) fn unwind(&mut self, text: &str, after: NextLine) -> Result<Option<Next>, ScanFault>
         requires line { IsNextLine text.now after }
-        ensures onward { IfOk result (λ next. MatchOption next (Unit {0}) (Onward text.now after.line.start (3 * (length text.now - after.line.start) + 1))) }
+        ensures onward { IfOk result (MayGoOn text.now after.line.start) }
         ensures turns { IfOk result (Unwinds text.now after self.old self.new) }
         ensures grown { Grown self.old.events self.new.events }
         ensures none { IfErr result (λ fault. Refuses fault ⊥) }
@@ -31,7 +32,7 @@ impl<'a> Reader<'a> {
         Ok(None)
     }
 
-    /// What goes on in this collection, whose part has been read. None where it ends at the line.
+    /// Returns what is read next in this collection, whose part has been read, or closes it and returns None.
     fn after_part(
         &mut self,
         text: &str,
@@ -39,9 +40,9 @@ impl<'a> Reader<'a> {
         collection: Collection,
     ) -> Result<Option<Next>, ScanFault>
         requires line { IsNextLine text.now after }
-        ensures onward { IfOk result (λ next. MatchOption next (Unit {0}) (Onward text.now after.line.start (3 * (length text.now - after.line.start) + 1))) }
+        ensures onward { IfOk result (MayGoOn text.now after.line.start) }
         ensures turns { IfOk result (Turns (PartRead collection) text.now after self.old self.new) }
-        ensures ended { IfOk result (λ next. MatchOption next (self.new.collections.items ≡ self.old.collections.items) (λ _. Unit {0})) }
+        ensures ended { IfOk result (EndsAlone self.old self.new) }
         ensures grown { Grown self.old.events self.new.events }
         ensures none { IfErr result (λ fault. Refuses fault ⊥) }
     {
@@ -52,7 +53,7 @@ impl<'a> Reader<'a> {
         }
     }
 
-    /// The next item of a sequence, or its end.
+    /// Goes on with the next item of a sequence, or closes it.
     fn after_item(
         &mut self,
         text: &str,
@@ -60,9 +61,9 @@ impl<'a> Reader<'a> {
         indent: usize,
     ) -> Result<Option<Next>, ScanFault>
         requires line { IsNextLine text.now after }
-        ensures onward { IfOk result (λ next. MatchOption next (Unit {0}) (Onward text.now after.line.start (3 * (length text.now - after.line.start) + 1))) }
+        ensures onward { IfOk result (MayGoOn text.now after.line.start) }
         ensures turns { IfOk result (Turns (ItemRead indent) text.now after self.old self.new) }
-        ensures ended { IfOk result (λ next. MatchOption next (self.new.collections.items ≡ self.old.collections.items) (λ _. Unit {0})) }
+        ensures ended { IfOk result (EndsAlone self.old self.new) }
         ensures grown { Grown self.old.events self.new.events }
         ensures none { IfErr result (λ fault. Refuses fault ⊥) }
     {
@@ -79,7 +80,7 @@ impl<'a> Reader<'a> {
         Ok(None)
     }
 
-    /// The value of a key after `?`, which may be left out with its `:`.
+    /// Goes on with the value of a key after `?`, or adds that it is left out.
     fn after_key(
         &mut self,
         text: &str,
@@ -87,9 +88,9 @@ impl<'a> Reader<'a> {
         indent: usize,
     ) -> Result<Option<Next>, ScanFault>
         requires line { IsNextLine text.now after }
-        ensures onward { IfOk result (λ next. MatchOption next (Unit {0}) (Onward text.now after.line.start (3 * (length text.now - after.line.start) + 1))) }
+        ensures onward { IfOk result (MayGoOn text.now after.line.start) }
         ensures turns { IfOk result (Turns (KeyRead indent) text.now after self.old self.new) }
-        ensures ended { IfOk result (λ next. MatchOption next (self.new.collections.items ≡ self.old.collections.items) (λ _. Unit {0})) }
+        ensures ended { IfOk result (EndsAlone self.old self.new) }
         ensures grown { Grown self.old.events self.new.events }
         ensures none { IfErr result (λ fault. Refuses fault ⊥) }
     {
@@ -106,7 +107,7 @@ impl<'a> Reader<'a> {
         self.after_pair(text, after, indent)
     }
 
-    /// The next pair of a mapping, or its end.
+    /// Goes on with the next pair of a mapping, or closes it.
     fn after_pair(
         &mut self,
         text: &str,
@@ -114,9 +115,9 @@ impl<'a> Reader<'a> {
         indent: usize,
     ) -> Result<Option<Next>, ScanFault>
         requires line { IsNextLine text.now after }
-        ensures onward { IfOk result (λ next. MatchOption next (Unit {0}) (Onward text.now after.line.start (3 * (length text.now - after.line.start) + 1))) }
+        ensures onward { IfOk result (MayGoOn text.now after.line.start) }
         ensures turns { IfOk result (Turns (PairRead indent) text.now after self.old self.new) }
-        ensures ended { IfOk result (λ next. MatchOption next (self.new.collections.items ≡ self.old.collections.items) (λ _. Unit {0})) }
+        ensures ended { IfOk result (EndsAlone self.old self.new) }
         ensures grown { Grown self.old.events self.new.events }
         ensures none { IfErr result (λ fault. Refuses fault ⊥) }
     {
@@ -132,7 +133,7 @@ impl<'a> Reader<'a> {
     }
 }
 
-/// Whether a collection with this indentation goes on at the line, with this sign.
+/// Returns whether a collection with this indentation goes on at the line, with this sign.
 fn goes_on_with(text: &str, line: Line, indent: usize, sign: u8) -> bool
     requires line { IsLine text.now line }
     requires ascii { sign < 128 }
@@ -141,7 +142,7 @@ fn goes_on_with(text: &str, line: Line, indent: usize, sign: u8) -> bool
     line.first - line.start == indent && sign_at(text, line.first, sign)
 }
 
-/// Whether a mapping with this indentation goes on at the line.
+/// Returns whether a mapping with this indentation goes on at the line with a further pair.
 fn goes_on_with_pair(text: &str, after: NextLine, indent: usize) -> bool
     requires { IsNextLine text.now after }
     ensures { result ≡ (spaces_before (rest text.now after.line.start) == indent) && not (ended indent false (rest text.now after.line.start)) }

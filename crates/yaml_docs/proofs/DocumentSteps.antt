@@ -34,7 +34,7 @@ use Rattle.yaml_scan.proofs.LineStarts.{starts_after}
 use Rattle.yaml_scan.specs.declared.lines.Line.{Line}
 use Rattle.yaml_docs.specs.Directives.{IsDirective}
 use Rattle.yaml_docs.specs.Documents.{DocumentRead, ExplicitNodeRead, ExplicitRead, IsOmitted, SuffixRead, after_dashes}
-use Rattle.yaml_docs.specs.Found.{BlockNodeRead}
+use Rattle.yaml_block.specs.Found.{BlockNodeRead}
 use Rattle.yaml_flow.specs.FlowNodes.{Appended}
 use Rattle.yaml_flow.proofs.Appends.{appended_none, appended_one, appended_then}
 use Rattle.yaml_docs.specs.Pieces.{PieceRead, read_as}

@@ -3,4 +3,3 @@ pub mod Reading
 pub mod Pieces
 pub mod Documents
 pub mod Directives
-pub mod Found

@@ -16,8 +16,8 @@ ghost use Rattle.yaml_docs.specs.Documents.{IsMarkEnd, IsOmitted, SuffixRead, No
 ghost use Rattle.yaml_docs.specs.Pieces.{Begins, BeginsPiece, PieceRead, ends_document, read_as, stream_meaning};
 
 use crate::directive::directive_end;
-use crate::nodes::block_node;
 use std::alloc::Global;
+use yaml_block::block_node;
 use yaml_chars::next_char;
 use yaml_events::{BlockContext, Event, Events, ScanFault, Why};
 use yaml_flow::omitted;
@@ -185,7 +185,7 @@ fn explicit_end<'a>(
     Ok(end)
 }
 
-/// Appends the events of the node after a `---` that ends at `at`, and returns its end. An omitted node is the empty text.
+/// Appends the events of the node after a `---` that ends at `at`, and returns its end. An omitted node is empty text.
 fn explicit_node_end<'a>(
     alloc: Global,
     events: &mut Events<'a>,

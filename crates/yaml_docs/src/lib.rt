@@ -8,7 +8,6 @@ mod closing;
 mod directive;
 mod documents;
 mod fault;
-mod nodes;
 mod read;
 
 pub use closing::next_close;
@@ -17,5 +16,7 @@ pub use read::events;
 
 #[cfg(test)]
 mod read_tests;
+#[cfg(test)]
+mod rows_tests;
 #[cfg(test)]
 mod tests;

@@ -1,5 +1,5 @@
 -- Lists of events that grow.
-use Rattle.std.proofs.Common.{◌≡◌, ap, append_assoc, refl, sym, ◌∙◌, ℕ, ◌≤◌, length, subst}
+use Rattle.std.proofs.Common.{◌≡◌, ap, append_assoc, refl, sym, ◌∙◌, ℕ, length}
 use Rattle.std.specs.Prelude.{List, [], ◌∷◌, ◌++◌, drop, insert, take}
 use Rattle.std.proofs.Math.Seq.{take-append_seam, drop-append_seam}
 use Rattle.std.proofs.lemmas.List.{append-nil, map-append}

@@ -1,48 +1,40 @@
 -- One step of the scanner of flow collections at the `:` after a key, and after it.
-use Rattle.std.proofs.Common.{◌≡◌, ap, append_assoc, arith, inl, inr, length, refl, subst, sym, ◌∙◌, ℕ, ◌+◌, ◌<◌, ◌≤◌}
-use Rattle.std.specs.Prelude.{Bool, true, false, not, ◌&&◌, ◌||◌, ◌==◌, nat_le, nat_lt, insert, is_some, List, [], ◌∷◌, ◌++◌, Option, Some, None}
+use Rattle.std.proofs.Common.{◌≡◌, ap, append_assoc, arith, inl, inr, length, refl, subst, sym, ◌∙◌, ℕ, ◌+◌, ◌≤◌}
+use Rattle.std.specs.Prelude.{Bool, true, false, ◌&&◌, nat_le, insert, List, ◌∷◌, ◌++◌, Option, Some, None}
 use Rattle.std.specs.Str.{IsUtf8, IsCharBoundary}
 use Rattle.std.proofs.lemmas.Bool.{and_parts, cases_Bool, false≢true}
-use Rattle.std.proofs.lemmas.Bool.Decides.{nat_tests}
 use Rattle.std.proofs.lemmas.List.{append-nil}
 use Rattle.yaml_chars.specs.Places.{rest, between}
-use Rattle.yaml_chars.proofs.Places.{rest-end}
 use Rattle.yaml_grammar.specs.Events.{Event, map_start, omitted_at}
-use Rattle.yaml_grammar.specs.FlowNodes.{Flow, Entries, Entry, entry, Value, absent, empty, given, is_plain, scalar, asked_text, entry_text, entry_events, flow_events, flow_text, value_events, value_text, is_pair}
-use Rattle.yaml_grammar.specs.FlowScalars.{FlowContext, Scalar, flow_key, inside, one_line}
-use Rattle.yaml_grammar.specs.FlowScalars as flow
+use Rattle.yaml_grammar.specs.FlowNodes.{Flow, entry, Value, absent, empty, given, is_plain, asked_text, flow_events, flow_text}
+use Rattle.yaml_grammar.specs.FlowScalars.{FlowContext, flow_key, one_line}
 use Rattle.yaml_grammar.specs.Separation.{Sep, gap_text}
-use Rattle.yaml_grammar.specs.Texts.{byte_len, first, starts_line}
+use Rattle.yaml_grammar.specs.Texts.{byte_len, starts_line}
 use Rattle.yaml_events.specs.declared.event.Event.TheVariants.{MapStart}
 use Rattle.yaml_events.specs.Places.{line_starts}
 use Rattle.yaml_recognizers.specs.Ends.{is_colon}
-use Rattle.yaml_recognizers.specs.FlowFrames.{FlowPart, first_node, asked_key, pair_value, Bracket, OpenFlow, close_with, entries_of, entry_of, plug}
-use Rattle.yaml_recognizers.specs.FlowNodes.{ends_entry, key_is_short, made}
-use Rattle.yaml_recognizers.specs.FlowScalars.{read_scalar}
+use Rattle.yaml_recognizers.specs.FlowFrames.{FlowPart, first_node, asked_key, pair_value, Bracket, OpenFlow, close_with, entries_of, entry_of}
+use Rattle.yaml_recognizers.specs.FlowNodes.{key_is_short}
 use Rattle.yaml_recognizers.specs.Fronts.{past}
 use Rattle.yaml_recognizers.specs.Gaps.{GapRead, read_gap}
 use Rattle.yaml_recognizers.specs.OneLine.{widens}
-use Rattle.yaml_recognizers.specs.Reading.{Read, if_fits, on}
+use Rattle.yaml_recognizers.specs.Reading.{on}
 use Rattle.yaml_recognizers.specs.Recognizers.{StandsFlow, flow_node_at, flow_value_at}
-use Rattle.yaml_recognizers.proofs.FlowFrames.{is_scalar}
 use Rattle.yaml_recognizers.proofs.FlowNodesFound.{stands}
 use Rattle.yaml_recognizers.proofs.GapsSound.{gap_sound}
-use Rattle.yaml_recognizers.proofs.LineStarts.{byte_len_joined}
 use Rattle.yaml_flow.specs.declared.collection.NodeEnd.{NodeEnd}
 use Rattle.yaml_flow.specs.declared.collection.Open.{Open}
-use Rattle.yaml_flow.specs.declared.collection.Part.{Part}
-use Rattle.yaml_flow.specs.declared.collection.Part.TheVariants.{First, Asked, Value as ValuePart}
+use Rattle.yaml_flow.specs.declared.collection.Part.TheVariants.{Value as ValuePart}
 use Rattle.yaml_flow.specs.FlowNodes.{Appended}
 use Rattle.yaml_scan.proofs.ByteSigns.{IsSign}
-use Rattle.yaml_flow.specs.Frames.{AtColon, AtNode, BeganPair, Collection, EntryRead, EventList, Keeps, NoPair, NodeRead, PartFits, Passes, SameLine, absent_events, bracket_front, ends_plain, entry_start, fits_single, frame_front, is_first, is_single, node_start, pair_end, pair_start, part_front, part_of, part_start}
+use Rattle.yaml_flow.specs.Frames.{AtColon, AtNode, BeganPair, Collection, EntryRead, EventList, NoPair, NodeRead, PartFits, Passes, SameLine, bracket_front, ends_plain, entry_start, fits_single, frame_front, is_first, is_single, pair_end, pair_start, part_front, part_of}
 use Rattle.yaml_scan.specs.Gaps.{NoGap}
-use Rattle.yaml_scan.specs.Places.{unbroken_between}
 use Rattle.yaml_flow.proofs.Appends.{appended_as, appended_between, appended_then, appended_to}
-use Rattle.yaml_flow.proofs.EntryEvents.{alone_events, empty_length, entry_length, given_length, pair_events, with_colon}
-use Rattle.yaml_flow.proofs.FlowSteps.{Dead, absent_fits, ask_of, bol_of, dead, is_value, key_entry, keyed, keyed_fits, keyed_refused, made_dead, no_node_at_end, plug_key, value_entry, waits_value}
+use Rattle.yaml_flow.proofs.EntryEvents.{empty_length, entry_length, pair_events, with_colon}
+use Rattle.yaml_flow.proofs.FlowSteps.{Dead, ask_of, bol_of, dead, is_value, keyed, keyed_fits, keyed_refused, made_dead, plug_key, value_entry, waits_value}
 use Rattle.yaml_flow.proofs.PairKeys.{fits_line, key_fits, left_out, no_value, value_given, value_left_out}
-use Rattle.yaml_flow.proofs.NodeSteps.{key_start, no_value_part, node_length, plugged, regroup5, single_is}
-use Rattle.yaml_flow.proofs.Signs.{between_after, place_after}
+use Rattle.yaml_flow.proofs.NodeSteps.{key_start, no_value_part, node_length, plugged, single_is}
+use Rattle.yaml_flow.proofs.Signs.{between_after}
 
 -- ---- the parts of a frame
 

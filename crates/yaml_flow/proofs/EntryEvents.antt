@@ -1,10 +1,10 @@
 -- The events of an entry, and of a collection, by the parts that are read.
-use Rattle.std.proofs.Common.{◌≡◌, ap, append_assoc, refl, sym, ◌∙◌, ℕ, ◌+◌, arith}
+use Rattle.std.proofs.Common.{◌≡◌, ap, append_assoc, refl, sym, ◌∙◌, ℕ, ◌+◌}
 use Rattle.std.specs.Prelude.{Bool, true, false, List, [], ◌∷◌, ◌++◌, Option, Some, None, if◌then◌else◌}
 use Rattle.std.proofs.lemmas.Bool.{false≢true}
 use Rattle.std.proofs.lemmas.List.{append-nil}
-use Rattle.yaml_grammar.specs.Events.{Event, omitted_at, map_start, map_end}
-use Rattle.yaml_grammar.specs.FlowNodes.{Flow, Value, absent, empty, given, Entry, entry, Entries, last, next, none, flow_text, flow_events, value_text, value_events, entry_text, entry_events, entries_events, asked_text, has_colon, is_pair}
+use Rattle.yaml_grammar.specs.Events.{Event, map_start, map_end}
+use Rattle.yaml_grammar.specs.FlowNodes.{Flow, Value, absent, empty, given, entry, Entries, flow_text, flow_events, value_text, value_events, entry_text, entry_events, entries_events, asked_text, has_colon, is_pair}
 use Rattle.yaml_grammar.specs.Separation.{Sep, gap_text}
 use Rattle.yaml_grammar.specs.Texts.{byte_len}
 use Rattle.yaml_recognizers.specs.FlowFrames.{Bracket, DoneEntry, joined, collection_of}

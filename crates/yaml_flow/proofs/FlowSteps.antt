@@ -1,20 +1,18 @@
 -- One step of the scanner of flow collections: from what stands before it to what stands after it.
-use Rattle.std.proofs.Common.{◌≡◌, ap, arith, inl, inr, length, eq-eqb, refl, subst, sym, ◌∙◌, ℕ, ◌+◌, ◌<◌, ◌≤◌, append_assoc}
-use Rattle.std.specs.Prelude.{Bool, true, false, not, ◌&&◌, ◌||◌, ◌==◌, nat_lt, is_some, List, [], ◌∷◌, ◌++◌, Option, Some, None}
-use Rattle.std.specs.Str.{IsUtf8, IsCharBoundary}
-use Rattle.std.proofs.lemmas.Bool.{cases_Bool, false≢true}
+use Rattle.std.proofs.Common.{◌≡◌, ap, arith, eq-eqb, refl, subst, sym, ◌∙◌, ℕ, ◌+◌, ◌<◌, append_assoc}
+use Rattle.std.specs.Prelude.{Bool, true, false, ◌==◌, nat_lt, is_some, List, [], ◌∷◌, ◌++◌, Option, Some, None}
+use Rattle.std.proofs.lemmas.Bool.{false≢true}
 use Rattle.std.proofs.lemmas.Bool.Decides.{nat_tests}
 use Rattle.std.proofs.lemmas.List.{append-nil}
 use Rattle.yaml_chars.specs.Places.{rest}
-use Rattle.yaml_grammar.specs.Events.{Event}
-use Rattle.yaml_grammar.specs.FlowNodes.{Flow, Entries, Entry, entry, Value, absent, empty, given, none, last, is_plain, scalar, asked_text, entry_text, entry_events, entries_events, flow_events, flow_text, value_text}
+use Rattle.yaml_grammar.specs.FlowNodes.{Flow, Entries, Entry, entry, Value, absent, given, none, last, is_plain, scalar, asked_text, entry_text, entries_events}
 use Rattle.yaml_grammar.specs.FlowScalars.{FlowContext, outer, inner, block_key, flow_key, inside, one_line}
 use Rattle.yaml_grammar.specs.Separation.{Sep, gap_text}
 use Rattle.yaml_grammar.specs.Texts.{byte_len, first, starts_line}
 use Rattle.yaml_events.specs.Places.{line_starts}
 use Rattle.yaml_recognizers.specs.Ends.{is_colon}
 use Rattle.yaml_recognizers.specs.FlowFrames.{FlowPart, first_node, asked_key, pair_value, Bracket, DoneEntry, OpenFlow, closer, close_with, collection_of, entries_of, entry_of, joined, plug}
-use Rattle.yaml_recognizers.specs.FlowNodes.{ends_entry, is_asked, key_is_short, made}
+use Rattle.yaml_recognizers.specs.FlowNodes.{is_asked, key_is_short, made}
 use Rattle.yaml_recognizers.specs.FlowScalars.{read_scalar}
 use Rattle.yaml_recognizers.specs.Fronts.{past}
 use Rattle.yaml_recognizers.specs.Gaps.{GapRead, read_gap}
@@ -23,17 +21,14 @@ use Rattle.yaml_recognizers.specs.Reading.{Read, closed, if_fits, on}
 use Rattle.yaml_recognizers.specs.Recognizers.{flow_node_at, flow_entries_at, flow_value_at}
 use Rattle.yaml_recognizers.proofs.FlowFrames.{asked_for_nothing, comma_behind, entry_begins, entry_is_asked, is_scalar, last_entry, no_entry, opens_map, opens_seq}
 use Rattle.yaml_recognizers.proofs.StuckGaps.{blank, no_colon, no_node}
-use Rattle.yaml_flow.specs.declared.collection.NodeEnd.{NodeEnd}
 use Rattle.yaml_flow.specs.declared.collection.Open.{Open}
-use Rattle.yaml_flow.specs.declared.collection.Part.{Part}
-use Rattle.yaml_flow.specs.declared.collection.Part.TheVariants.{First, Asked, Value as ValuePart}
+use Rattle.yaml_flow.specs.declared.collection.Part.TheVariants.{First, Asked}
 use Rattle.yaml_flow.specs.FlowNodes.{Appended}
 use Rattle.yaml_scan.proofs.ByteSigns.{IsSign}
-use Rattle.yaml_flow.specs.Frames.{AfterQuestion, AtColon, AtEntry, AtNode, BeforeGap, Collection, EntryRead, EventList, IsBracket, Keeps, NodeRead, PartFits, Passes, WholeRead, absent_events, bracket_end, bracket_front, bracket_start, ends_plain, entries_start, entry_start, fits_single, frame_front, is_first, is_single, node_start, opener, pair_end, pair_start, part_front, part_of, part_start}
+use Rattle.yaml_flow.specs.Frames.{AfterQuestion, AtEntry, AtNode, BeforeGap, Collection, EntryRead, EventList, IsBracket, Passes, WholeRead, bracket_end, bracket_front, bracket_start, entries_start, entry_start, pair_start}
 use Rattle.yaml_scan.specs.Gaps.{NoGap, stuck, used_up}
-use Rattle.yaml_flow.proofs.Appends.{appended_as, appended_between, appended_then, appended_to}
-use Rattle.yaml_flow.proofs.EntryEvents.{alone_events, collection_events, done_end_more, done_more, empty_length, entry_length, given_length, pair_events, with_colon}
-use Rattle.yaml_flow.proofs.PairKeys.{fits_line, key_fits, left_out, no_value, value_given, value_left_out}
+use Rattle.yaml_flow.proofs.Appends.{appended_as, appended_then}
+use Rattle.yaml_flow.proofs.EntryEvents.{collection_events, done_end_more, done_more}
 
 same : (x : ℕ) → (x == x) ≡ true
 same x = eq-eqb x x refl

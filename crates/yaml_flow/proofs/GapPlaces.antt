@@ -1,13 +1,12 @@
 -- The gap at a place, by what its scanner tells.
-use Rattle.std.proofs.Common.{◌≡◌, ap, arith, inl, inr, refl, subst, sym, ◌∙◌, ℕ, ◌+◌, ◌≤◌, ◌<◌}
+use Rattle.std.proofs.Common.{◌≡◌, ap, arith, inl, inr, refl, sym, ◌∙◌, ℕ, ◌≤◌, ◌<◌}
 use Rattle.std.specs.Prelude.{Bool, true, false, not, List, ◌++◌}
 use Rattle.std.specs.Str.{IsUtf8, IsCharBoundary}
 use Rattle.std.proofs.lemmas.Bool.{cases_lt, false≢true}
 use Rattle.yaml_chars.specs.Places.{rest}
 use Rattle.yaml_grammar.specs.FlowScalars.{FlowContext, one_line}
 use Rattle.yaml_grammar.specs.Separation.{gap_text}
-use Rattle.yaml_grammar.specs.Texts.{byte_len}
-use Rattle.yaml_recognizers.specs.Gaps.{GapRead, read_gap}
+use Rattle.yaml_recognizers.specs.Gaps.{GapRead}
 use Rattle.yaml_recognizers.proofs.GapsSound.{gap_sound}
 use Rattle.yaml_scan.specs.Gaps.{IsGap}
 use Rattle.yaml_scan.specs.Places.{unbroken_between}

@@ -1,8 +1,7 @@
 -- What a `:` after a node makes of it: a value, and a key that has to stand on one line and to be short.
 use Rattle.std.proofs.Common.{◌≡◌, ap, refl, subst, sym, ◌∙◌, ℕ, length, inl, inr}
-use Rattle.std.specs.Prelude.{Bool, true, false, not, ◌&&◌, ◌||◌, nat_le, List, [], ◌∷◌, ◌++◌, Option, Some, None, is_some}
+use Rattle.std.specs.Prelude.{Bool, true, false, not, ◌&&◌, ◌||◌, nat_le, List, ◌∷◌, ◌++◌, Option, Some, None, is_some}
 use Rattle.std.proofs.lemmas.Bool.{and_from, cases_Bool, or_parts}
-use Rattle.std.proofs.lemmas.List.{append-nil}
 use Rattle.std.proofs.Common.{append_assoc}
 use Rattle.yaml_grammar.specs.FlowNodes.{Flow, Value, absent, empty, given, before_colon, flow_text, has_colon, is_plain, short_key, value_text}
 use Rattle.yaml_grammar.specs.FlowScalars.{FlowContext, flow_key, one_line, safe}
@@ -16,14 +15,14 @@ use Rattle.yaml_recognizers.specs.FlowScalars.{read_scalar}
 use Rattle.yaml_recognizers.specs.Fronts.{past}
 use Rattle.yaml_recognizers.specs.Gaps.{GapRead, read_gap}
 use Rattle.yaml_recognizers.specs.OneLine.{gap_on_one_line, on_one_line, widens}
-use Rattle.yaml_recognizers.specs.Reading.{Read, on}
+use Rattle.yaml_recognizers.specs.Reading.{on}
 use Rattle.yaml_recognizers.specs.Recognizers.{StandsFlow, flow_node_at, flow_value_at}
 use Rattle.yaml_recognizers.proofs.FlowNodesDepth.{value_step}
 use Rattle.yaml_recognizers.proofs.FlowNodesFound.{stands}
 use Rattle.yaml_recognizers.proofs.FlowNodesSound.{colon_parts}
 use Rattle.yaml_recognizers.proofs.GapsSound.{gap_sound}
 use Rattle.yaml_recognizers.proofs.OneLineText.{unbroken, unbroken_joined, gap_one_line, flow_one_line}
-use Rattle.yaml_recognizers.proofs.Reading.{chosen, on_parts, some_parts}
+use Rattle.yaml_recognizers.proofs.Reading.{on_parts, some_parts}
 use Rattle.yaml_recognizers.proofs.ScalarsInNodes.{reads_scalars}
 use Rattle.yaml_recognizers.proofs.SinglePairs.{gap_before, single_pair_asks}
 

@@ -1,5 +1,5 @@
 -- A flow scalar by its first character.
-use Rattle.std.proofs.Common.{◌≡◌, ap, refl, sym, ◌∙◌, ℕ, ◌<◌, inl, inr, subst}
+use Rattle.std.proofs.Common.{◌≡◌, ap, refl, sym, ◌∙◌, ℕ, inl, inr}
 use Rattle.std.specs.Prelude.{Bool, true, false, ◌==◌, ◌&&◌, List, [], ◌∷◌, length, None, Some, drop}
 use Rattle.std.specs.Cow.{cow_str_bytes, IsBorrowedStr}
 use Rattle.std.specs.Str.{chars}
@@ -14,7 +14,7 @@ use Rattle.yaml_events.specs.Places.{line_starts}
 use Rattle.yaml_flow_scalars.specs.Standing.{ScalarAt, NoScalarAt}
 use Rattle.yaml_recognizers.specs.FlowScalars.{read_scalar}
 use Rattle.yaml_recognizers.specs.Fronts.{past}
-use Rattle.yaml_recognizers.specs.PlainScalars.{read_plain, read_run, with_lines, plain_lines_at}
+use Rattle.yaml_recognizers.specs.PlainScalars.{read_plain, read_run, plain_lines_at}
 use Rattle.yaml_recognizers.specs.QuotedScalars.{double_closes, read_double, read_item, read_quoted, read_single, read_single_one, single_closes}
 use Rattle.yaml_recognizers.specs.Reading.{Read}
 use Rattle.yaml_recognizers.proofs.FlowScalars.{complete, sound}

@@ -1,6 +1,6 @@
 -- A scalar as a node.
-use Rattle.std.proofs.Common.{◌≡◌, ap, refl, sym, ◌∙◌, ℕ, ◌+◌, ◌<◌, length, subst}
-use Rattle.std.specs.Prelude.{Bool, true, false, ◌==◌, List, [], ◌∷◌, ◌++◌, None, Some}
+use Rattle.std.proofs.Common.{◌≡◌, ap, refl, sym, ◌∙◌, ℕ, ◌+◌, length}
+use Rattle.std.specs.Prelude.{false, ◌==◌, List, [], ◌∷◌, ◌++◌, None, Some}
 use Rattle.std.specs.Cow.{cow_str_bytes}
 use Rattle.std.specs.Str.{IsUtf8, IsCharBoundary, chars}
 use Rattle.yaml_chars.specs.Places.{rest}
@@ -8,7 +8,7 @@ use Rattle.yaml_grammar.specs.Events as grammar
 use Rattle.yaml_grammar.specs.FlowNodes.{flow_events, is_plain, scalar}
 use Rattle.yaml_grammar.specs.FlowScalars as flow
 use Rattle.yaml_grammar.specs.Texts.{byte_len, first}
-use Rattle.yaml_events.specs.Meant.{event_of, style_of}
+use Rattle.yaml_events.specs.Meant.{style_of}
 use Rattle.yaml_events.specs.Places.{line_starts}
 use Rattle.yaml_recognizers.specs.Reading.{on}
 use Rattle.yaml_recognizers.specs.FlowScalars.{read_scalar}

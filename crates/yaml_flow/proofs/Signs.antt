@@ -1,19 +1,17 @@
 -- Signs at a place of a text, and the places after what stands there.
-use Rattle.std.proofs.Common.{◌≡◌, refl, sym, ◌∙◌, ap, subst, arith, ℕ, ◌+◌, ◌<◌, ◌≤◌, length, get_or, inl, inr, eq-eqb}
-use Rattle.std.specs.Prelude.{Bool, true, false, not, ◌&&◌, ◌||◌, ◌==◌, nat_lt, List, [], ◌∷◌, ◌++◌}
+use Rattle.std.proofs.Common.{◌≡◌, refl, sym, ◌∙◌, ap, arith, ℕ, ◌+◌, ◌<◌, ◌≤◌, length}
+use Rattle.std.specs.Prelude.{Bool, true, false, ◌==◌, List, [], ◌∷◌, ◌++◌}
 use Rattle.std.specs.Str.{IsUtf8, IsCharBoundary}
 use Rattle.std.specs.Char.{len_utf8}
 use Rattle.std.proofs.Math.Utf8.{encode, encodes}
-use Rattle.std.proofs.lemmas.Bool.{cases_lt, cases_Bool, false≢true, eqb-true}
-use Rattle.std.proofs.lemmas.Bool.Decides.{nat_tests}
-use Rattle.std.proofs.lemmas.List.{drop_more, append_cancel_right, length-append}
-use Rattle.std.proofs.lemmas.Str.{IsCharBoundary-after_ascii, IsCharBoundary-start, length-encode}
+use Rattle.std.proofs.lemmas.List.{append_cancel_right, length-append}
+use Rattle.std.proofs.lemmas.Str.{length-encode}
 use Rattle.yaml_chars.specs.Classes.{line_break}
 use Rattle.yaml_chars.specs.Places.{rest, between}
-use Rattle.yaml_chars.proofs.Places.{char_at, rest-end, rest-ascii, rest-between, between-append, same_place, split_at}
+use Rattle.yaml_chars.proofs.Places.{rest-between, same_place, split_at}
 use Rattle.yaml_grammar.specs.FlowScalars.{FlowContext, safe}
-use Rattle.yaml_grammar.specs.Texts.{byte_len, first, starts_line}
-use Rattle.yaml_events.specs.Places.{line_starts, without_mark}
+use Rattle.yaml_grammar.specs.Texts.{byte_len, first}
+use Rattle.yaml_events.specs.Places.{line_starts}
 use Rattle.yaml_recognizers.specs.FlowFrames.{closer}
 use Rattle.yaml_recognizers.specs.FlowNodes.{is_asked}
 use Rattle.yaml_scan.proofs.ByteSigns.{IsSign, sign_there}

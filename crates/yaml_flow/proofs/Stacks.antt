@@ -1,18 +1,17 @@
 -- The loop over open brackets: what is popped, what is left at the end, and what stays.
-use Rattle.std.proofs.Common.{◌≡◌, refl, sym, ◌∙◌, ap, subst, arith, ℕ, ◌+◌, ◌≤◌, ◌<◌, length, append_assoc}
-use Rattle.std.specs.Prelude.{Bool, true, false, List, [], ◌∷◌, ◌++◌, take, Option, Some, None}
+use Rattle.std.proofs.Common.{◌≡◌, refl, sym, ◌∙◌, ap, subst, arith, ℕ, ◌+◌, ◌≤◌, length, append_assoc}
+use Rattle.std.specs.Prelude.{true, false, List, [], ◌∷◌, ◌++◌, take, Some, None}
 use Rattle.std.specs.List.{All}
 use Rattle.std.specs.Str.{IsCharBoundary}
-use Rattle.std.proofs.Math.Seq.{take-append_seam}
 use Rattle.std.proofs.lemmas.List.{append-nil, length-append, take-append-le}
 use Rattle.std.proofs.lemmas.List.Elements.{All-push, All-same, All-weaker, All-pop}
 use Rattle.std.proofs.Common.{inl, inr}
 use Rattle.yaml_chars.specs.Places.{rest}
-use Rattle.yaml_grammar.specs.FlowNodes.{Flow, flow_events, is_plain}
+use Rattle.yaml_grammar.specs.FlowNodes.{flow_events}
 use Rattle.yaml_grammar.specs.FlowScalars.{FlowContext, outer, inner, block_key, flow_key, inside}
 use Rattle.yaml_events.specs.Places.{line_starts}
 use Rattle.yaml_recognizers.specs.OneLine.{widens}
-use Rattle.yaml_recognizers.specs.Reading.{Read, on}
+use Rattle.yaml_recognizers.specs.Reading.{on}
 use Rattle.yaml_recognizers.specs.Recognizers.{flow_node_at}
 use Rattle.yaml_recognizers.specs.FlowFrames.{plug}
 use Rattle.yaml_flow.specs.declared.collection.NodeEnd.TheVariants.{Delimited}
@@ -20,7 +19,7 @@ use Rattle.yaml_flow.specs.declared.collection.Open.{Open}
 use Rattle.yaml_flow.specs.declared.collection.Next.{Next}
 use Rattle.yaml_flow.specs.declared.collection.Next.TheVariants.{Entry, Node, AfterEntry, Closed}
 use Rattle.yaml_flow.specs.FlowNodes.{Appended}
-use Rattle.yaml_flow.specs.Frames.{Around, AtNode, Collection, EventList, Keeps, Kept, LineMoves, NodeRead, Onward, Pushes, SameLine, Stack, Stands, Started, Waits, WholeRead, place_of}
+use Rattle.yaml_flow.specs.Frames.{Around, AtNode, Collection, EventList, Kept, LineMoves, NodeRead, Onward, Pushes, SameLine, Stack, Stands, Started, Waits, WholeRead, place_of}
 use Rattle.yaml_flow.proofs.SameLines.{same_line_here}
 
 snoc_same : {A : Type 0} (xs ys : List A) (x y : A) → xs ++ x ∷ [] ≡ ys ++ y ∷ [] → (xs ≡ ys) × (x ≡ y)

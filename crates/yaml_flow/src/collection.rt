@@ -99,7 +99,8 @@ fn end_event<'a>(in_seq: bool) -> Event<'a>
     if in_seq { Event::SeqEnd } else { Event::MapEnd }
 }
 
-/// Passes the gap at a place, which may be empty: returns the place after it. Where it goes over lines, `line` is moved after it.
+/// Passes the gap at a place, which may be empty: returns the place after it. Where it goes over lines, `line`
+/// is moved after it.
 pub(crate) fn pass_gap(
     text: &str,
     at: usize,
@@ -109,7 +110,8 @@ pub(crate) fn pass_gap(
     requires { IsCharBoundary text.now at }
     ensures found { IfOk result (Passes setting.n (context_of setting.context) text.now at) }
     ensures line { IfOk result (LineMoves text.now line.old at line.new) }
-    ensures none { IfErr result (λ fault. Refuses fault (NoGap setting.n (context_of setting.context) (rest text.now at))) }
+    ensures none { IfErr result
+        (λ fault. Refuses fault (NoGap setting.n (context_of setting.context) (rest text.now at))) }
 {
     let gap = gap_end(text, at, setting.n, setting.context)?;
     if gap.is_over_lines {
@@ -125,7 +127,8 @@ fn pass(text: &str, at: usize, setting: Setting, line: &mut usize) -> Result<Nex
     ensures onward { IfOk result (Onward text.now at) }
     ensures less { IfOk result (λ next. left text.now next ≤ 2 * (length text.now - at) + 1) }
     ensures line { IfOk result (λ next. LineMoves text.now line.old at line.new (place_of next)) }
-    ensures stands { IfOk result (λ next. (w : Collection) (top : Open) (events : EventList) → BeforeGap setting.n (context_of setting.context) text.now w top.in_seq at events
+    ensures stands { IfOk result (λ next. (w : Collection) (top : Open) (events : EventList)
+        → BeforeGap setting.n (context_of setting.context) text.now w top.in_seq at events
         → Stands setting.n (context_of setting.context) text.now w top next events) }
     ensures none { IfErr result (λ fault. Refuses fault ((w : Collection) (in_seq : Bool) (events : EventList)
         → BeforeGap setting.n (context_of setting.context) text.now w in_seq at events → w.reads ≡ None)) }
@@ -147,7 +150,8 @@ fn entry(
     ensures onward { IfOk result (Onward text.now at) }
     ensures less { IfOk result (λ next. left text.now next < 2 * (length text.now - at) + 1) }
     ensures line { IfOk result (λ next. LineMoves text.now line.old at line.new (place_of next)) }
-    ensures stands { IfOk result (λ next. (w : Collection) → AtEntry setting.n (context_of setting.context) text.now w top.old.in_seq at events.old
+    ensures stands { IfOk result (λ next. (w : Collection)
+        → AtEntry setting.n (context_of setting.context) text.now w top.old.in_seq at events.old
         → Stands setting.n (context_of setting.context) text.now w top.new next events.new) }
     ensures none { IfErr result (λ fault. Refuses fault ((w : Collection)
         → AtEntry setting.n (context_of setting.context) text.now w top.old.in_seq at events.old → w.reads ≡ None)) }
@@ -178,7 +182,8 @@ fn asked(
     ensures onward { IfOk result (Onward text.now at) }
     ensures less { IfOk result (λ next. left text.now next ≤ 2 * (length text.now - at)) }
     ensures line { IfOk result (λ next. LineMoves text.now line.old at line.new (place_of next)) }
-    ensures stands { IfOk result (λ next. (w : Collection) → AfterQuestion setting.n (context_of setting.context) text.now w top.old.in_seq at events.old
+    ensures stands { IfOk result (λ next. (w : Collection)
+        → AfterQuestion setting.n (context_of setting.context) text.now w top.old.in_seq at events.old
         → Stands setting.n (context_of setting.context) text.now w top.new next events.new) }
     ensures none { IfErr result (λ fault. Refuses fault ((w : Collection)
         → AfterQuestion setting.n (context_of setting.context) text.now w top.old.in_seq at events.old → w.reads ≡ None)) }
@@ -195,7 +200,8 @@ fn asked(
 
 /// Starts the mapping that a pair of a sequence is.
 fn start_pair(events: &mut Events<'_>, in_seq: bool) -> Result<(), ScanFault>
-    ensures written { OnOk result ((text : List ℕ) → Appended text events.old events.new (pair_start in_seq)) }
+    ensures written { OnOk result
+        ((text : List ℕ) → Appended text events.old events.new (pair_start in_seq)) }
     ensures none { IfErr result (λ fault. Refuses fault ⊥) }
     ensures kept { (k : ℕ) → Kept k events.old events.new }
 {
@@ -218,7 +224,8 @@ fn after_entry(
     ensures onward { IfOk result (Onward text.now at) }
     ensures less { IfOk result (λ next. left text.now next < 2 * (length text.now - at)) }
     ensures line { IfOk result (λ next. LineMoves text.now line.old at line.new (place_of next)) }
-    ensures stands { IfOk result (λ next. (w : Collection) → EntryRead setting.n (context_of setting.context) text.now w top.in_seq at events.old
+    ensures stands { IfOk result (λ next. (w : Collection)
+        → EntryRead setting.n (context_of setting.context) text.now w top.in_seq at events.old
         → Stands setting.n (context_of setting.context) text.now w top next events.new) }
     ensures none { IfErr result (λ fault. Refuses fault ((w : Collection)
         → EntryRead setting.n (context_of setting.context) text.now w top.in_seq at events.old → w.reads ≡ None)) }
@@ -247,7 +254,8 @@ fn inside(c: FlowContext) -> FlowContext
 pub(crate) fn bracket_at(text: &str, at: usize) -> Option<bool>
     requires { IsCharBoundary text.now at }
     ensures found { IfSome result (IsBracket text.now at) }
-    ensures none { IfNone result ((first (λ x. x == 91) (rest text.now at) ≡ false) × (first (λ x. x == 123) (rest text.now at) ≡ false)) }
+    ensures none { IfNone result
+        ((first (λ x. x == 91) (rest text.now at) ≡ false) × (first (λ x. x == 123) (rest text.now at) ≡ false)) }
 {
     if stands_at(text, at, b'[') {
         return Some(true);
@@ -261,7 +269,8 @@ pub(crate) fn bracket_at(text: &str, at: usize) -> Option<bool>
 /// Opens the bracket at a place.
 fn begin(events: &mut Events<'_>, at: usize, in_seq: bool) -> Result<Open, ScanFault>
     ensures kind { IfOk result (λ top. top.in_seq ≡ in_seq) }
-    ensures written { OnOk result ((text : List ℕ) → Appended text events.old events.new (bracket_start in_seq ∷ [])) }
+    ensures written { OnOk result
+        ((text : List ℕ) → Appended text events.old events.new (bracket_start in_seq ∷ [])) }
     ensures none { IfErr result (λ fault. Refuses fault ⊥) }
     ensures kept { (k : ℕ) → Kept k events.old events.new }
 {
@@ -303,7 +312,8 @@ fn node<'a>(
     ensures less { IfOk result (λ next. left text.now next < 2 * (length text.now - at)) }
     ensures line { IfOk result (λ next. LineMoves text.now line.old at line.new (place_of next)) }
     ensures opened { OnOk result (Pushes outer.old.items at outer.new.items) }
-    ensures stands { IfOk result (λ next. (whole inner : Collection) (around : List Collection) → Stack setting.n (context_of setting.context) text.now whole around outer.old.items inner
+    ensures stands { IfOk result (λ next. (whole inner : Collection) (around : List Collection)
+        → Stack setting.n (context_of setting.context) text.now whole around outer.old.items inner
         → AtNode setting.n (context_of setting.context) text.now inner top.old at events.old
         → Waits setting.n (context_of setting.context) text.now whole outer.new.items top.new next events.new) }
     ensures none { IfErr result (λ fault. Refuses fault ((w : Collection)
@@ -341,7 +351,8 @@ fn scalar<'a>(
     ensures onward { IfOk result (Onward text.now top.old.start) }
     ensures less { IfOk result (λ next. left text.now next < 2 * (length text.now - top.old.start)) }
     ensures line { IfOk result (λ next. LineMoves text.now line.old top.old.start line.new (place_of next)) }
-    ensures stands { IfOk result (λ next. (w : Collection) → AtNode setting.n (context_of setting.context) text.now w top.old top.old.start events.old
+    ensures stands { IfOk result (λ next. (w : Collection)
+        → AtNode setting.n (context_of setting.context) text.now w top.old top.old.start events.old
         → Stands setting.n (context_of setting.context) text.now w top.new next events.new) }
     ensures none { IfErr result (λ fault. Refuses fault ((w : Collection)
         → AtNode setting.n (context_of setting.context) text.now w top.old top.old.start events.old → w.reads ≡ None)) }

@@ -15,11 +15,13 @@ use std::alloc::Global;
 use yaml_events::{Events, FlowContext, ScanFault};
 use yaml_recognizers::flow_nodes::flow_node_stands;
 
-/// Reads the flow node at a place of a text (YAML 1.2.2, 7.4 and 7.5): appends its events, and returns the place after it.
+/// Reads the flow node at a place of a text (YAML 1.2.2, 7.4 and 7.5): appends its events, and returns the
+/// place after it.
 ///
-/// Places count bytes from 0. Further lines of the node are indented by `n` spaces or more; in a key there are none. It fails with
-/// [`ScanFault::At`] exactly where no flow node stands there, and with [`ScanFault::OutOfMemory`] where there is no memory for the
-/// events, a value or the open brackets; the events are then as they were.
+/// Places count bytes from 0. Further lines of the node are indented by `n` spaces or more; in a key there are
+/// none. It fails with [`ScanFault::At`] exactly where no flow node stands there, and with
+/// [`ScanFault::OutOfMemory`] where there is no memory for the events, a value or the open brackets; the events
+/// are then as they were.
 pub fn flow_node<'a>(
     alloc: Global,
     events: &mut Events<'a>,
@@ -32,7 +34,8 @@ pub fn flow_node<'a>(
     ensures reads { IfOk result (λ end. FlowNodeRead n (context_of c) text.now at end events.old events.new) }
     ensures only { IfOk result (λ end. FlowNodeIs n (context_of c) text.now at end events.old events.new) }
     ensures missing { IfErr result (λ fault. Refuses fault (NoFlowNodeFound n (context_of c) text.now at)) }
-    ensures none { IfErr result (λ fault. Refuses fault (NoFlowNode n (context_of c) (line_starts text.now at) (rest text.now at))) }
+    ensures none { IfErr result
+        (λ fault. Refuses fault (NoFlowNode n (context_of c) (line_starts text.now at) (rest text.now at))) }
     ensures unchanged { IfErr result (λ _. events.new ≡ events.old) }
 {
     flow_node_stands();

@@ -18,7 +18,8 @@ use crate::push::{insert, omitted, push};
 use yaml_events::{Event, Events, FlowContext, ScanFault, Why};
 use yaml_scan::{at_most_chars, safe_at, stands_at};
 
-/// How many characters may stand between the start of a key on one line and its `:` (YAML 1.2.2, 7.4.2 and 8.2.2).
+/// How many characters may stand between the start of a key on one line and its `:` (YAML 1.2.2, 7.4.2 and
+/// 8.2.2).
 pub const KEY_LIMIT: usize = 1024;
 
 /// A key is short where with the white space before its `:` it has at most [`KEY_LIMIT`] characters.
@@ -46,7 +47,8 @@ pub(crate) fn plug(
     ensures onward { IfOk result (Onward text.now end) }
     ensures less { IfOk result (λ next. left text.now next ≤ 2 * (length text.now - end)) }
     ensures line { IfOk result (λ next. LineMoves text.now line.old end line.new (place_of next)) }
-    ensures stands { IfOk result (λ next. (w : Collection) → NodeRead setting.n (context_of setting.context) text.now w top.old node_end end events.old
+    ensures stands { IfOk result (λ next. (w : Collection)
+        → NodeRead setting.n (context_of setting.context) text.now w top.old node_end end events.old
         → Stands setting.n (context_of setting.context) text.now w top.new next events.new) }
     ensures none { IfErr result (λ fault. Refuses fault ((w : Collection)
         → NodeRead setting.n (context_of setting.context) text.now w top.old node_end end events.old → w.reads ≡ None)) }
@@ -89,7 +91,8 @@ fn colon_at(text: &str, at: usize, key_end: NodeEnd, context: FlowContext) -> bo
 /// Ends a pair that is read, with the gap after it.
 fn close_pair(events: &mut Events<'_>, top: Open, after: usize) -> Result<Next, ScanFault>
     ensures next { IfOk result (λ next. next ≡ AfterEntry after) }
-    ensures written { OnOk result ((text : List ℕ) → Appended text events.old events.new (pair_end top.in_seq)) }
+    ensures written { OnOk result
+        ((text : List ℕ) → Appended text events.old events.new (pair_end top.in_seq)) }
     ensures none { IfErr result (λ fault. Refuses fault ⊥) }
     ensures kept { (k : ℕ) → Kept k events.old events.new }
 {
@@ -117,7 +120,8 @@ fn without_value(
     top: Open,
 ) -> Result<Next, ScanFault>
     ensures next { IfOk result (λ next. next ≡ AfterEntry after) }
-    ensures written { OnOk result ((text : List ℕ) → Appended text events.old events.new (absent_events (is_single top) top.in_seq end)) }
+    ensures written { OnOk result
+        ((text : List ℕ) → Appended text events.old events.new (absent_events (is_single top) top.in_seq end)) }
     ensures none { IfErr result (λ fault. Refuses fault ⊥) }
     ensures kept { (k : ℕ) → Kept k events.old events.new }
 {
@@ -128,7 +132,8 @@ fn without_value(
     close_pair(events, top, after)
 }
 
-/// Begins the mapping of a pair in a sequence, once its `:` is seen: the key stands on one line with it, and is short.
+/// Begins the mapping of a pair in a sequence, once its `:` is seen: the key stands on one line with it, and is
+/// short.
 fn begin_pair(
     events: &mut Events<'_>,
     text: &str,
@@ -168,7 +173,8 @@ fn value(
     ensures onward { IfOk result (Onward text.now colon) }
     ensures less { IfOk result (λ next. left text.now next < 2 * (length text.now - colon)) }
     ensures line { IfOk result (λ next. LineMoves text.now line.old colon line.new (place_of next)) }
-    ensures stands { IfOk result (λ next. (w : Collection) → AtColon setting.n (context_of setting.context) text.now w top.old.in_seq key_end colon events.old
+    ensures stands { IfOk result (λ next. (w : Collection)
+        → AtColon setting.n (context_of setting.context) text.now w top.old.in_seq key_end colon events.old
         → Stands setting.n (context_of setting.context) text.now w top.new next events.new) }
     ensures none { IfErr result (λ fault. Refuses fault ((w : Collection)
         → AtColon setting.n (context_of setting.context) text.now w top.old.in_seq key_end colon events.old → w.reads ≡ None)) }
@@ -183,8 +189,8 @@ fn value(
     Ok(Next::Node { at })
 }
 
-/// Returns whether the value is left out after a `:` and the gap from `start` to `at`: the entry ends there, or no gap stands after
-/// a plain key's `:`.
+/// Returns whether the value is left out after a `:` and the gap from `start` to `at`: the entry ends there, or
+/// no gap stands after a plain key's `:`.
 fn is_left_out(text: &str, start: usize, at: usize, key_end: NodeEnd) -> bool
     requires { IsCharBoundary text.now at }
     ensures { result ≡ (ends_entry (rest text.now at) || (ends_plain key_end && not (nat_lt start at))) }

@@ -38,7 +38,8 @@ pub(crate) fn insert<'a>(
     }
 }
 
-/// Returns the event of a node that is left out at a place, which counts bytes from 0: the empty text, in no bytes (YAML 1.2.2, 7.2).
+/// Returns the event of a node that is left out at a place, which counts bytes from 0: the empty text, in no
+/// bytes (YAML 1.2.2, 7.2).
 pub fn omitted<'a>(at: usize) -> Event<'a>
     ensures event { event_of result ≡ scalar_event omitted_style at at [] }
     ensures borrowed { (text : List ℕ) → BorrowsPlain text result }

@@ -39,8 +39,8 @@ impl<'a> FlowScalar<'a> {
         }
     }
 
-    /// Returns whether the scalar, which starts at `start`, runs over lines. A borrowed value has no break, so only others are
-    /// looked through.
+    /// Returns whether the scalar, which starts at `start`, runs over lines. A borrowed value has no break, so
+    /// only others are looked through.
     pub fn is_over_lines(&self, text: &str, start: usize) -> bool
         requires order { start ≤ self.now.end }
         requires from { IsCharBoundary text.now start }
@@ -55,10 +55,12 @@ impl<'a> FlowScalar<'a> {
     }
 }
 
-/// Reads the flow scalar at a place (YAML 1.2.2, 7.3), by its first character: after `"` and `'` a quoted one, else a plain one.
+/// Reads the flow scalar at a place (YAML 1.2.2, 7.3), by its first character: after `"` and `'` a quoted one,
+/// else a plain one.
 ///
-/// Further lines are indented by `n` spaces or more; in a key there are none. It fails with [`ScanFault::At`] exactly where no
-/// flow scalar stands there, and with [`ScanFault::OutOfMemory`] where there is no memory for the value.
+/// Further lines are indented by `n` spaces or more; in a key there are none. It fails with [`ScanFault::At`]
+/// exactly where no flow scalar stands there, and with [`ScanFault::OutOfMemory`] where there is no memory for
+/// the value.
 pub fn scalar_at<'a>(
     alloc: Global,
     text: &'a str,

@@ -52,6 +52,9 @@ fn end_of(alloc: Global, text: &str, at: usize, n: u64) -> Result<usize, ScanFau
 /// The events of the flow node that is the whole text; none where it does not end there.
 fn meaning(alloc: Global, text: &str) -> Result<String, Fail> {
     let mut events = Events::new(alloc);
+    if !text.is_char_boundary(0) {
+        return Ok(String::new(alloc));
+    }
     match flow_node(alloc, &mut events, text, 0, 0, Outer) {
         Ok(end) if end == text.len() => shown(alloc, &events),
         _ => Ok(String::new(alloc)),

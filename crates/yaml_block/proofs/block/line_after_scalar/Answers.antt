@@ -1,5 +1,5 @@
 use Rattle.std.proofs.Common.{refl, sym, ◌∙◌}
-use Rattle.yaml_block.proofs.Blocking.{after_blank, after_comment, after_no_comment}
+use Rattle.yaml_block.proofs.BlockScalarSteps.{after_blank, after_comment, after_no_comment}
 use Rattle.yaml_block.proofs.block.line_after_scalar.Goals as goal
 
 pub returns-then-stands_at : goal.returns-then-stands_at

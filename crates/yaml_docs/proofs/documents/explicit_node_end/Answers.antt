@@ -6,7 +6,7 @@ use Rattle.yaml_recognizers.specs.Recognizers.{document_node_at}
 use Rattle.yaml_recognizers.specs.Streams.{explicit_with}
 use Rattle.yaml_scan.proofs.Outcomes.{faults_so, ok_so}
 use Rattle.yaml_docs.specs.Documents.{ExplicitNodeRead}
-use Rattle.yaml_docs.specs.Found.{BlockNodeRead}
+use Rattle.yaml_block.specs.Found.{BlockNodeRead}
 use Rattle.yaml_docs.proofs.DocumentSteps.{content_missing, content_read, nothing_read}
 use Rattle.yaml_docs.proofs.documents.explicit_node_end.Goals as goal
 

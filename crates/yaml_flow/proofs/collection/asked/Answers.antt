@@ -1,5 +1,5 @@
 use Rattle.std.proofs.lemmas.Result.{err_from_is_err_and}
-use Rattle.std.proofs.Common.{◌≡◌, true, false, sym, ap, ◌∙◌, arith, ℕ, ◌<◌, refl}
+use Rattle.std.proofs.Common.{arith, ◌<◌, refl}
 use Rattle.yaml_chars.specs.Places.{rest}
 use Rattle.yaml_events.specs.Meant.{context_of}
 use Rattle.yaml_scan.specs.Gaps.{NoGap}

@@ -1,4 +1,4 @@
-use Rattle.std.proofs.Common.{◌≡◌, true, false, sym, ◌∙◌, arith}
+use Rattle.std.proofs.Common.{true, false, sym, ◌∙◌}
 use Rattle.yaml_flow.proofs.Signs.{bracket_there}
 use Rattle.yaml_flow.proofs.collection.bracket_at.Goals as goal
 

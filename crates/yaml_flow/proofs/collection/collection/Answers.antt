@@ -1,7 +1,6 @@
 use Rattle.std.proofs.lemmas.Result.{err_from_is_err_and}
-use Rattle.std.proofs.Common.{◌≡◌, ℕ, ◌+◌, ◌≤◌, sym, ap, ◌∙◌, subst, arith, length, refl}
-use Rattle.std.specs.Prelude.{Bool, List, [], ◌∷◌, ◌++◌, None}
-use Rattle.std.specs.List.{All}
+use Rattle.std.proofs.Common.{◌≡◌, ◌+◌, sym, ap, ◌∙◌, subst, arith, refl}
+use Rattle.std.specs.Prelude.{Bool, [], None}
 use Rattle.std.proofs.lemmas.List.Elements.{All-nil, All-same}
 use Rattle.yaml_chars.specs.Places.{rest}
 use Rattle.yaml_events.specs.Meant.{context_of}
@@ -11,10 +10,10 @@ use Rattle.yaml_recognizers.specs.Recognizers.{flow_node_at}
 use Rattle.yaml_scan.proofs.Outcomes.{fault_passed}
 use Rattle.yaml_flow.specs.declared.collection.NodeEnd.TheVariants.{Delimited}
 use Rattle.yaml_flow.specs.declared.collection.Next.TheVariants.{Entry, Node, AfterEntry, Closed}
-use Rattle.yaml_flow.specs.Frames.{AtEntry, AtNode, BeforeGap, Collection, EntryRead, EventList, Kept, LineMoves, NodeRead, Onward, Started, Waits, WholeRead, place_of}
+use Rattle.yaml_flow.specs.Frames.{AtEntry, AtNode, BeforeGap, Collection, EntryRead, EventList, LineMoves, NodeRead, Onward, Started, WholeRead, place_of}
 use Rattle.yaml_flow.proofs.FlowSteps.{inside_twice, opened}
 use Rattle.yaml_flow.proofs.Signs.{opener_starts}
-use Rattle.yaml_flow.proofs.Stacks.{Popped, Reading, at_next, front_stays, kept_then, onward_from, popped, refused, stack_none, starts_pop, starts_push, starts_move, step, turn, whole_read}
+use Rattle.yaml_flow.proofs.Stacks.{Popped, Reading, at_next, front_stays, popped, refused, stack_none, starts_pop, starts_push, step, turn, whole_read}
 use Rattle.yaml_flow.proofs.collection.collection.Goals as goal
 
 pub pass-requires-clause-inside_line : goal.pass-requires-clause-inside_line

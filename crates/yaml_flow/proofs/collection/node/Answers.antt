@@ -1,5 +1,5 @@
-use Rattle.std.proofs.Common.{◌≡◌, true, false, sym, subst, ap, ◌∙◌, arith, ℕ, ◌+◌, ◌<◌, ◌≤◌, refl, length}
-use Rattle.std.specs.Prelude.{None, ◌∷◌}
+use Rattle.std.proofs.Common.{sym, subst, ap, arith, ◌+◌, refl, length}
+use Rattle.std.specs.Prelude.{◌∷◌}
 use Rattle.yaml_chars.specs.Places.{rest}
 use Rattle.yaml_events.specs.Meant.{context_of}
 use Rattle.yaml_events.specs.Places.{line_starts}

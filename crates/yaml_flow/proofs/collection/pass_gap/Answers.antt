@@ -1,9 +1,4 @@
-use Rattle.std.proofs.Common.{◌≡◌, ap, arith, subst, sym, ◌∙◌, ℕ, ◌<◌, true, false, inl, inr}
-use Rattle.std.specs.Prelude.{Bool, not}
-use Rattle.yaml_chars.specs.Places.{rest}
 use Rattle.yaml_events.specs.Meant.{context_of}
-use Rattle.yaml_grammar.specs.FlowScalars.{FlowContext}
-use Rattle.yaml_flow.specs.Frames.{LineMoves, Passes}
 use Rattle.yaml_flow.proofs.GapPlaces.{gap_passes, gap_line, gap_same_line}
 use Rattle.yaml_flow.proofs.collection.pass_gap.Goals as goal
 

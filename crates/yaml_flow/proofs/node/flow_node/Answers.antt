@@ -1,12 +1,9 @@
-use Rattle.std.proofs.Common.{◌≡◌, ap, sym, ◌∙◌, length, ◌≤◌, arith}
-use Rattle.std.specs.Prelude.{take}
 use Rattle.yaml_chars.specs.Places.{rest}
 use Rattle.yaml_events.specs.Meant.{context_of}
 use Rattle.yaml_events.specs.Places.{line_starts}
 use Rattle.yaml_grammar.specs.FlowNodes.{flow_events}
 use Rattle.yaml_scan.proofs.Outcomes.{refuses_so}
-use Rattle.yaml_flow.specs.FlowNodes.{FlowNodeRead}
-use Rattle.yaml_flow.proofs.Appends.{appended_means, take_all}
+use Rattle.yaml_flow.proofs.Appends.{appended_means}
 use Rattle.yaml_flow.proofs.node.flow_node.Goals as goal
 
 pub returns-in-Ok-clause-only : goal.returns-in-Ok-clause-only

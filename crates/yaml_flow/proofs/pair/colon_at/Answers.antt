@@ -1,4 +1,4 @@
-use Rattle.std.proofs.Common.{◌≡◌, true, false, sym, ap, ◌∙◌, arith, refl}
+use Rattle.std.proofs.Common.{true, sym, ap, ◌∙◌, arith}
 use Rattle.std.specs.Prelude.{not}
 use Rattle.yaml_chars.specs.Places.{rest}
 use Rattle.yaml_events.specs.Meant.{context_of}

@@ -1,15 +1,14 @@
 use Rattle.std.proofs.lemmas.Result.{err_from_is_err_and}
 use Rattle.std.proofs.Common.{◌≡◌, true, false, sym, subst, ap, ◌∙◌, arith, ℕ, ◌+◌, refl}
-use Rattle.std.specs.Prelude.{Bool, not, ◌||◌, ◌&&◌, nat_lt, is_some, Option, List, [], ◌++◌}
+use Rattle.std.specs.Prelude.{Bool, not, ◌||◌, ◌&&◌, nat_lt, List, []}
 use Rattle.yaml_chars.specs.Places.{rest}
 use Rattle.yaml_events.specs.Meant.{context_of}
 use Rattle.yaml_grammar.specs.Events.{omitted_at, omitted_style, scalar_event}
 use Rattle.yaml_grammar.specs.FlowScalars.{FlowContext, one_line}
 use Rattle.yaml_recognizers.specs.FlowNodes.{ends_entry}
-use Rattle.yaml_recognizers.specs.Gaps.{GapRead, read_gap}
+use Rattle.yaml_recognizers.specs.Gaps.{read_gap}
 use Rattle.yaml_scan.specs.Gaps.{NoGap}
 use Rattle.yaml_scan.proofs.Outcomes.{fault_passed, ok_so}
-use Rattle.yaml_flow.specs.declared.collection.NodeEnd.{NodeEnd}
 use Rattle.yaml_flow.specs.declared.collection.Part.TheVariants.{Value}
 use Rattle.yaml_flow.specs.Frames.{LineMoves, Passes, Stands, ends_plain, pair_end, place_of}
 use Rattle.yaml_flow.proofs.Appends.{appended_one, appended_then}

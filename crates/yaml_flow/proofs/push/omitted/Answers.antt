@@ -1,4 +1,4 @@
-use Rattle.std.proofs.Common.{◌≡◌, ap}
+use Rattle.std.proofs.Common.{ap}
 use Rattle.std.proofs.lemmas.Str.{chars-nil}
 use Rattle.yaml_grammar.specs.Events.{omitted_style, scalar_event}
 use Rattle.yaml_flow.proofs.push.omitted.Goals as goal

@@ -1,5 +1,5 @@
 use Rattle.std.proofs.lemmas.Result.{err_from_is_err_and}
-use Rattle.std.proofs.Common.{◌≡◌, refl, sym, ◌∙◌}
+use Rattle.std.proofs.Common.{refl, sym, ◌∙◌}
 use Rattle.yaml_events.specs.Meant.{context_of}
 use Rattle.yaml_events.specs.declared.event.Style.TheVariants.{Double, Plain, Single}
 use Rattle.yaml_flow_scalars.specs.Standing.{NoScalarAt}

@@ -8,7 +8,7 @@ use Rattle.yaml_flow.specs.FlowNodes.{NoFlowNodeFound}
 use Rattle.yaml_block.specs.States.{BeforeLeaf, Fails}
 use Rattle.yaml_block.specs.declared.frame.Sign.TheVariants.{Colon}
 use Rattle.yaml_block.specs.declared.frame.Waits.TheVariants.{Value}
-use Rattle.yaml_block.proofs.Keying.{after_onward, fault_kept, leaf_key, leaf_line, leaf_nothing, leaf_unclosed, leaf_unkeyed}
+use Rattle.yaml_block.proofs.KeysAndPairs.{after_onward, fault_kept, leaf_key, leaf_line, leaf_nothing, leaf_unclosed, leaf_unkeyed}
 use Rattle.yaml_block.proofs.TextPlaces.{past_sign}
 use Rattle.yaml_block.proofs.reader.Reader.flow_leaf.Goals as goal
 
@@ -16,46 +16,61 @@ pub returns-in-Err-clause-none : goal.returns-in-Err-clause-none
 returns-in-Err-clause-none c =
     let text = c.args.text.now in
     let leaf = c.args.leaf in
-    fault_kept c.in-Err.fault c.no_node.result (NoFlowNodeFound leaf.least outer text leaf.at) (Fails text (BeforeLeaf text leaf) c.args.self.now) c.no_node.ensures
-    (leaf_nothing text c.utf8.text leaf c.args.self.now c.requires.no_bar c.requires.not_asked) (c.in-Err.ensures).missing
+    fault_kept c.in-Err.fault c.no_node.result (NoFlowNodeFound leaf.least outer text leaf.at)
+    (Fails text (BeforeLeaf text leaf) c.args.self.now) c.no_node.ensures
+    (leaf_nothing text c.utf8.text leaf c.args.self.now c.requires.no_bar c.requires.not_asked)
+    (c.in-Err.ensures).missing
 
 pub returns-in_err-indent-clause-none : goal.returns-in_err-indent-clause-none
 returns-in_err-indent-clause-none c =
     let text = c.args.text.now in
     let leaf = c.args.leaf in
-    let fails = leaf_unkeyed text c.utf8.text leaf c.in-Ok.end c.white_end-colon.result c.args.self.now c.flow_node.new.events c.requires.at (c.in-Ok.ensures).reads (c.white_end-colon.ensures).taken
+    let fails = leaf_unkeyed text c.utf8.text leaf c.in-Ok.end c.white_end-colon.result c.args.self.now
+    c.flow_node.new.events c.requires.at (c.in-Ok.ensures).reads (c.white_end-colon.ensures).taken
     (sym c.sign_at.ensures ∙ c.if-sign_at.true) (c.in_err-indent.ensures).none in
-    fault_passed c.from_residual.result c.in_err-indent.field-0.0 (Fails text (BeforeLeaf text leaf) c.args.self.now) (Fails text (BeforeLeaf text leaf) c.args.self.now) (λ x. x)
-    (refuses c.in_err-indent.field-0.0 (Fails text (BeforeLeaf text leaf) c.args.self.now) fails) (err_from_is_err_and c.from_residual.result c.from_residual.ensures.1)
+    fault_passed c.from_residual.result c.in_err-indent.field-0.0 (Fails text (BeforeLeaf text leaf) c.args.self.now)
+    (Fails text (BeforeLeaf text leaf) c.args.self.now) (λ x. x)
+    (refuses c.in_err-indent.field-0.0 (Fails text (BeforeLeaf text leaf) c.args.self.now) fails)
+    (err_from_is_err_and c.from_residual.result c.from_residual.ensures.1)
 
 pub returns-then-sign_at-clause-onward : goal.returns-then-sign_at-clause-onward
 returns-then-sign_at-clause-onward c =
     let text = c.args.text.now in
     let at = c.args.leaf.at in
     let colon = c.white_end-colon.result in
-    let s = past_sign text colon 58 c.utf8.text ((c.white_end-colon.ensures).taken).boundary (omega arith) refl (sym c.sign_at.ensures ∙ c.if-sign_at.true) in
+    let s = past_sign text colon 58 c.utf8.text ((c.white_end-colon.ensures).taken).boundary (omega arith) refl
+    (sym c.sign_at.ensures ∙ c.if-sign_at.true) in
     let above = ((c.in-Ok.ensures).reads).above in
     let gap = ((c.white_end-colon.ensures).taken).above in
-    let deep : c.in_ok-indent.indent ≤ at = subst (λ (x : Option ℕ). IfSome x (λ i. i ≤ at)) (c.in_ok-indent.ensures).pairs c.requires.pairs in
-    after_onward text at _ colon c.in_ok-indent.indent Colon s (omega (arith, above, gap)) (omega (arith, above, gap, deep)) (omega (arith, s.below, above, gap))
+    let deep : c.in_ok-indent.indent ≤ at = subst (λ (x : Option ℕ). IfSome x (λ i. i ≤ at))
+    (c.in_ok-indent.ensures).pairs c.requires.pairs in
+    after_onward text at _ colon c.in_ok-indent.indent Colon s (omega (arith, above, gap))
+    (omega (arith, above, gap, deep)) (omega (arith, s.below, above, gap))
 
 pub returns-then-sign_at-clause-leads : goal.returns-then-sign_at-clause-leads
 returns-then-sign_at-clause-leads c =
     let k = c.in_ok-indent.indent in
-    leaf_key c.args.text.now c.utf8.text c.args.leaf k c.in-Ok.end c.white_end-colon.result c.args.self.now c.wait.new.self c.flow_node.new.events (c.in_ok-indent.ensures).pairs c.requires.at
-    (c.in-Ok.ensures).reads (c.white_end-colon.ensures).taken (sym c.sign_at.ensures ∙ c.if-sign_at.true) (c.in_ok-indent.ensures).fits
-    ((c.in_ok-wait.ensures).collections ∙ ap (λ v. v.items ++ (record { waits = Value; indent = k }) ∷ []) (c.in_ok-put_before.ensures).collections)
-    ((c.in_ok-wait.ensures).events ∙ ((c.in_ok-put_before.ensures).events ∙ ap (λ es. insert c.flow_node.new.events (length es) MapStart) c.as_slice-before.ensures))
+    leaf_key c.args.text.now c.utf8.text c.args.leaf k c.in-Ok.end c.white_end-colon.result c.args.self.now
+    c.wait.new.self c.flow_node.new.events (c.in_ok-indent.ensures).pairs c.requires.at
+    (c.in-Ok.ensures).reads (c.white_end-colon.ensures).taken (sym c.sign_at.ensures ∙ c.if-sign_at.true)
+    (c.in_ok-indent.ensures).fits
+    ((c.in_ok-wait.ensures).collections ∙ ap (λ v. v.items ++ (record { waits = Value; indent = k }) ∷ [])
+    (c.in_ok-put_before.ensures).collections)
+    ((c.in_ok-wait.ensures).events ∙ ((c.in_ok-put_before.ensures).events
+    ∙ ap (λ es. insert c.flow_node.new.events (length es) MapStart) c.as_slice-before.ensures))
 
 pub returns-in-Some-clause-leads : goal.returns-in-Some-clause-leads
 returns-in-Some-clause-leads c =
-    leaf_line c.args.text.now c.utf8.text c.args.leaf c.in-Ok.end c.white_end-colon.result c.in-Some.line c.args.self.now _ c.flow_node.new.events c.requires.at (c.in-Ok.ensures).reads
-    (c.white_end-colon.ensures).taken (sym c.sign_at.ensures ∙ c.if-sign_at.false) (c.in-Some.ensures).found (c.in-Some.ensures).closes refl refl refl
+    leaf_line c.args.text.now c.utf8.text c.args.leaf c.in-Ok.end c.white_end-colon.result c.in-Some.line
+    c.args.self.now _ c.flow_node.new.events c.requires.at (c.in-Ok.ensures).reads
+    (c.white_end-colon.ensures).taken (sym c.sign_at.ensures ∙ c.if-sign_at.false) (c.in-Some.ensures).found
+    (c.in-Some.ensures).closes refl refl refl
 
 pub returns-in-None-clause-none : goal.returns-in-None-clause-none
 returns-in-None-clause-none c =
     let text = c.args.text.now in
     let leaf = c.args.leaf in
     refuses c.line_goes_on.result (Fails text (BeforeLeaf text leaf) c.args.self.now)
-    (leaf_unclosed text c.utf8.text leaf c.in-Ok.end c.white_end-colon.result c.args.self.now c.flow_node.new.events (c.in-Ok.ensures).reads (c.white_end-colon.ensures).taken
+    (leaf_unclosed text c.utf8.text leaf c.in-Ok.end c.white_end-colon.result c.args.self.now c.flow_node.new.events
+    (c.in-Ok.ensures).reads (c.white_end-colon.ensures).taken
     (sym c.sign_at.ensures ∙ c.if-sign_at.false) (c.in-None.ensures).none)

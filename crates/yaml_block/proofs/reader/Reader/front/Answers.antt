@@ -12,12 +12,13 @@ use Rattle.yaml_block.specs.declared.frame.Next.{Next}
 use Rattle.yaml_block.specs.declared.frame.Next.TheVariants as next
 use Rattle.yaml_block.specs.declared.frame.Sign.TheVariants.{Dash, Asked}
 use Rattle.yaml_block.proofs.TextPlaces.{IsPastSign, past_sign}
-use Rattle.yaml_block.proofs.Signing.{leads_so, fails_so, nothing_at_end, front_rest_there, front_leaf_there, front_nothing_there}
+use Rattle.yaml_block.proofs.SignsAndLines.{leads_so, fails_so, nothing_at_end, front_rest_there, front_leaf_there, front_nothing_there}
 use Rattle.yaml_block.proofs.reader.Reader.front.Goals as goal
 
 pub returns-then-at-text-clause-none : goal.returns-then-at-text-clause-none
 returns-then-at-text-clause-none c =
-    refuses c.refusal.result _ (nothing_at_end c.args.text.now c.args.least c.args.at (is_shallow c.args.context) c.if-at-text.true c.args.self.now)
+    refuses c.refusal.result _ (nothing_at_end c.args.text.now c.args.least c.args.at (is_shallow c.args.context)
+    c.if-at-text.true c.args.self.now)
 
 pub returns-in-Some-clause-leads : goal.returns-in-Some-clause-leads
 returns-in-Some-clause-leads c =
@@ -25,8 +26,10 @@ returns-in-Some-clause-leads c =
     let line = c.solid_line-line.result in
     let node : Indentation = record { least = c.args.least; margin = c.args.least; context = c.args.context } in
     ok_so c.on_line.result _ _
-    (λ to. leads_so text (BeforeNodeLine text node line.start) (BeforeNode text c.args.least (is_shallow c.args.context) c.args.at) c.args.self.now c.on_line.new.self to
-    (front_rest_there text c.args.least c.args.at c.args.context c.utf8.text c.requires.at (sym c.line_starts.ensures ∙ c.if-line_starts.false) c.in-Some.next line c.in-Some.ensures.found c.solid_line-line.ensures.found))
+    (λ to. leads_so text (BeforeNodeLine text node line.start)
+    (BeforeNode text c.args.least (is_shallow c.args.context) c.args.at) c.args.self.now c.on_line.new.self to
+    (front_rest_there text c.args.least c.args.at c.args.context c.utf8.text c.requires.at (sym c.line_starts.ensures
+    ∙ c.if-line_starts.false) c.in-Some.next line c.in-Some.ensures.found c.solid_line-line.ensures.found))
     c.on_line.ensures.leads
 
 pub returns-in-Some-clause-none : goal.returns-in-Some-clause-none
@@ -35,14 +38,17 @@ returns-in-Some-clause-none c =
     let line = c.solid_line-line.result in
     let node : Indentation = record { least = c.args.least; margin = c.args.least; context = c.args.context } in
     faults_so c.on_line.result _ _
-    (fails_so text (BeforeNodeLine text node line.start) (BeforeNode text c.args.least (is_shallow c.args.context) c.args.at) c.args.self.now
-    (front_rest_there text c.args.least c.args.at c.args.context c.utf8.text c.requires.at (sym c.line_starts.ensures ∙ c.if-line_starts.false) c.in-Some.next line c.in-Some.ensures.found c.solid_line-line.ensures.found))
+    (fails_so text (BeforeNodeLine text node line.start)
+    (BeforeNode text c.args.least (is_shallow c.args.context) c.args.at) c.args.self.now
+    (front_rest_there text c.args.least c.args.at c.args.context c.utf8.text c.requires.at (sym c.line_starts.ensures
+    ∙ c.if-line_starts.false) c.in-Some.next line c.in-Some.ensures.found c.solid_line-line.ensures.found))
     c.on_line.ensures.none
 
 pub returns-then-first-at-clause-none : goal.returns-then-first-at-clause-none
 returns-then-first-at-clause-none c =
     refuses c.no_white.result _
-    (front_nothing_there c.args.text.now c.args.least c.args.at c.args.context c.utf8.text c.requires.at (sym c.line_starts.ensures ∙ c.if-line_starts.false) c.in_default.ensures.none
+    (front_nothing_there c.args.text.now c.args.least c.args.at c.args.context c.utf8.text c.requires.at
+    (sym c.line_starts.ensures ∙ c.if-line_starts.false) c.in_default.ensures.none
     c.white_end-first.result c.white_end-first.ensures.taken c.if-first-at.true c.args.self.now)
 
 pub returns-clause-leads : goal.returns-clause-leads
@@ -53,8 +59,10 @@ returns-clause-leads c =
     let far : c.args.at < lead = omega (arith, above, c.if-first-at.false) in
     let leaf : Leaf = record { at = lead; least = c.args.least; pairs = None } in
     ok_so c.leaf.result _ _
-    (λ to. leads_so text (BeforeLeaf text leaf) (BeforeNode text c.args.least (is_shallow c.args.context) c.args.at) c.args.self.now c.leaf.new.self to
-    (front_leaf_there text c.args.least c.args.at c.args.context c.utf8.text c.requires.at (sym c.line_starts.ensures ∙ c.if-line_starts.false) c.in_default.ensures.none lead c.white_end-first.ensures.taken far))
+    (λ to. leads_so text (BeforeLeaf text leaf) (BeforeNode text c.args.least (is_shallow c.args.context) c.args.at)
+    c.args.self.now c.leaf.new.self to
+    (front_leaf_there text c.args.least c.args.at c.args.context c.utf8.text c.requires.at (sym c.line_starts.ensures
+    ∙ c.if-line_starts.false) c.in_default.ensures.none lead c.white_end-first.ensures.taken far))
     c.leaf.ensures.leads
 
 pub returns-clause-none : goal.returns-clause-none
@@ -65,6 +73,8 @@ returns-clause-none c =
     let far : c.args.at < lead = omega (arith, above, c.if-first-at.false) in
     let leaf : Leaf = record { at = lead; least = c.args.least; pairs = None } in
     faults_so c.leaf.result _ _
-    (fails_so text (BeforeLeaf text leaf) (BeforeNode text c.args.least (is_shallow c.args.context) c.args.at) c.args.self.now
-    (front_leaf_there text c.args.least c.args.at c.args.context c.utf8.text c.requires.at (sym c.line_starts.ensures ∙ c.if-line_starts.false) c.in_default.ensures.none lead c.white_end-first.ensures.taken far))
+    (fails_so text (BeforeLeaf text leaf) (BeforeNode text c.args.least (is_shallow c.args.context) c.args.at)
+    c.args.self.now
+    (front_leaf_there text c.args.least c.args.at c.args.context c.utf8.text c.requires.at (sym c.line_starts.ensures
+    ∙ c.if-line_starts.false) c.in_default.ensures.none lead c.white_end-first.ensures.taken far))
     c.leaf.ensures.none

@@ -1,11 +1,12 @@
 use Rattle.std.proofs.Common.{◌≤◌, ◌<◌, ◌^◌, length}
 use Rattle.yaml_block.specs.States.{GoesOn, Grown, IsPlaced, is_shallow, left, place_of}
-use Rattle.yaml_block.proofs.Looping.{all}
+use Rattle.yaml_block.proofs.NodeLoop.{all}
 use Rattle.yaml_block.proofs.reader.Reader.node.Given as goal
 
 abbrev pub invariant-parts : goal.invariant-parts
 invariant-parts l = record {
-  goes_on : GoesOn (all l.text l.fn.least l.fn.at (is_shallow l.fn.context)) l.text l.fn.at l.fn.self.events l.self l.next;
+  goes_on : GoesOn (all l.text l.fn.least l.fn.at (is_shallow l.fn.context)) l.text l.fn.at l.fn.self.events l.self
+      l.next;
   above : l.fn.at ≤ place_of l.next;
   placed : IsPlaced l.text l.next;
   grown : Grown l.fn.self.events l.self.events;

@@ -15,7 +15,7 @@ use Rattle.yaml_block.proofs.TextPlaces.{IsPastSign, past_sign}
 use Rattle.yaml_chars.specs.Classes.{white}
 use Rattle.yaml_grammar.specs.Texts.{first}
 use Rattle.yaml_grammar.specs.BlockScalars.{past_spaces}
-use Rattle.yaml_block.proofs.Signing.{ok_opens, leads_so, fails_so, onward_from, dash_onward, nothing_there, leaf_there, compact_leaf_there, compact_sequence_there, spaces_below, allowed, not_allowed}
+use Rattle.yaml_block.proofs.SignsAndLines.{ok_opens, leads_so, fails_so, onward_from, dash_onward, nothing_there, leaf_there, compact_leaf_there, compact_sequence_there, spaces_below, allowed, not_allowed}
 use Rattle.yaml_block.proofs.PlaceSteps.{tab}
 use Rattle.yaml_block.proofs.reader.Reader.on_sign_line.Goals as goal
 use Rattle.yaml_block.proofs.reader.Reader.on_sign_line.Goals.{then-not-allows_compact-via-then-not-allows_compact, then-not-allows_compact-via-else-not-allows_compact+then-spaces_end-first}
@@ -23,7 +23,9 @@ use Rattle.yaml_block.proofs.reader.Reader.on_sign_line.Goals.{then-not-allows_c
 pub returns-then-first-at-clause-none : goal.returns-then-first-at-clause-none
 returns-then-first-at-clause-none c =
     refuses c.no_white.result _
-    (nothing_there c.args.text.now c.args.sign c.args.indent c.args.at c.utf8.text c.requires.placed c.requires.goes_on c.white_end-first.result c.white_end-first.ensures.taken c.if-first-at.true c.args.self.now)
+    (nothing_there c.args.text.now c.args.sign c.args.indent c.args.at c.utf8.text c.requires.placed
+    c.requires.goes_on c.white_end-first.result c.white_end-first.ensures.taken c.if-first-at.true
+    c.args.self.now)
 
 pub returns-then-not-allows_compact-clause-leads : goal.returns-then-not-allows_compact-clause-leads
 returns-then-not-allows_compact-clause-leads c =
@@ -32,14 +34,22 @@ returns-then-not-allows_compact-clause-leads c =
     let lead = c.white_end-first.result in
     let above : at ≤ lead = c.white_end-first.ensures.taken.above in
     let far : at < lead = omega (arith, above, c.if-first-at.false) in
-    let why : (is_colon c.args.sign ≡ true) ⊎ (first white (past_spaces (rest text at)) ≡ true) = elim c.then-not-allows_compact.branch [
-      | then-not-allows_compact-via-then-not-allows_compact w ↦ inl (not_allowed c.allows_compact.result (is_colon c.args.sign) c.allows_compact.ensures w.if-not-allows_compact.true)
-      | then-not-allows_compact-via-else-not-allows_compact+then-spaces_end-first w ↦ inr (ap (first white) (w.spaces_end.ensures).leaves ∙ tab text at w.spaces_end.result lead c.utf8.text (c.requires.placed).boundary w.spaces_end.ensures c.white_end-first.ensures.taken w.if-spaces_end-first.true)
+    let why : (is_colon c.args.sign ≡ true) ⊎ (first white (past_spaces (rest text at)) ≡ true) =
+    elim c.then-not-allows_compact.branch [
+      | then-not-allows_compact-via-then-not-allows_compact
+          w ↦ inl (not_allowed c.allows_compact.result (is_colon c.args.sign) c.allows_compact.ensures
+          w.if-not-allows_compact.true)
+      | then-not-allows_compact-via-else-not-allows_compact+then-spaces_end-first
+          w ↦ inr (ap (first white) (w.spaces_end.ensures).leaves
+          ∙ tab text at w.spaces_end.result lead c.utf8.text (c.requires.placed).boundary w.spaces_end.ensures
+          c.white_end-first.ensures.taken w.if-spaces_end-first.true)
     ] in
     let leaf : Leaf = record { at = lead; least = c.args.indent + 1; pairs = None } in
     ok_so c.leaf.result _ _
-    (λ to. leads_so text (BeforeLeaf text leaf) (BeforePart text c.args.sign c.args.indent at) c.args.self.now c.leaf.new.self to
-    (leaf_there text c.args.sign c.args.indent at c.utf8.text c.requires.placed c.requires.goes_on lead c.white_end-first.ensures.taken far why))
+    (λ to. leads_so text (BeforeLeaf text leaf) (BeforePart text c.args.sign c.args.indent at) c.args.self.now
+    c.leaf.new.self to
+    (leaf_there text c.args.sign c.args.indent at c.utf8.text c.requires.placed c.requires.goes_on lead
+    c.white_end-first.ensures.taken far why))
     c.leaf.ensures.leads
 
 pub returns-then-not-allows_compact-clause-none : goal.returns-then-not-allows_compact-clause-none
@@ -49,14 +59,21 @@ returns-then-not-allows_compact-clause-none c =
     let lead = c.white_end-first.result in
     let above : at ≤ lead = c.white_end-first.ensures.taken.above in
     let far : at < lead = omega (arith, above, c.if-first-at.false) in
-    let why : (is_colon c.args.sign ≡ true) ⊎ (first white (past_spaces (rest text at)) ≡ true) = elim c.then-not-allows_compact.branch [
-      | then-not-allows_compact-via-then-not-allows_compact w ↦ inl (not_allowed c.allows_compact.result (is_colon c.args.sign) c.allows_compact.ensures w.if-not-allows_compact.true)
-      | then-not-allows_compact-via-else-not-allows_compact+then-spaces_end-first w ↦ inr (ap (first white) (w.spaces_end.ensures).leaves ∙ tab text at w.spaces_end.result lead c.utf8.text (c.requires.placed).boundary w.spaces_end.ensures c.white_end-first.ensures.taken w.if-spaces_end-first.true)
+    let why : (is_colon c.args.sign ≡ true) ⊎ (first white (past_spaces (rest text at)) ≡ true) =
+    elim c.then-not-allows_compact.branch [
+      | then-not-allows_compact-via-then-not-allows_compact
+          w ↦ inl (not_allowed c.allows_compact.result (is_colon c.args.sign) c.allows_compact.ensures
+          w.if-not-allows_compact.true)
+      | then-not-allows_compact-via-else-not-allows_compact+then-spaces_end-first
+          w ↦ inr (ap (first white) (w.spaces_end.ensures).leaves
+          ∙ tab text at w.spaces_end.result lead c.utf8.text (c.requires.placed).boundary w.spaces_end.ensures
+          c.white_end-first.ensures.taken w.if-spaces_end-first.true)
     ] in
     let leaf : Leaf = record { at = lead; least = c.args.indent + 1; pairs = None } in
     faults_so c.leaf.result _ _
     (fails_so text (BeforeLeaf text leaf) (BeforePart text c.args.sign c.args.indent at) c.args.self.now
-    (leaf_there text c.args.sign c.args.indent at c.utf8.text c.requires.placed c.requires.goes_on lead c.white_end-first.ensures.taken far why))
+    (leaf_there text c.args.sign c.args.indent at c.utf8.text c.requires.placed c.requires.goes_on lead
+    c.white_end-first.ensures.taken far why))
     c.leaf.ensures.none
 
 pub returns-then-sign_at-clause-onward : goal.returns-then-sign_at-clause-onward
@@ -68,10 +85,13 @@ returns-then-sign_at-clause-onward c =
     let above : at ≤ lead = c.white_end-first.ensures.taken.above in
     let deeper : k < at = (c.requires.placed).deeper in
     let deep : k + 1 + (lead - at) ≤ lead = omega arith in
-    let past : IsPastSign text lead = past_sign text lead 45 c.utf8.text c.white_end-first.ensures.taken.boundary (omega arith) refl (sym c.sign_at.ensures ∙ c.if-sign_at.true) in
+    let past : IsPastSign text lead = past_sign text lead 45 c.utf8.text c.white_end-first.ensures.taken.boundary
+    (omega arith) refl (sym c.sign_at.ensures ∙ c.if-sign_at.true) in
     ok_so c.open_items.result _ _
     (λ to e. subst (λ (n : Next). Onward text at (3 * (length text - at) + 2) n) (sym e)
-    (onward_from text at at (3 * (length text - at)) (3 * (length text - at) + 2) (next.After (lead + 1) (k + 1 + (lead - at)) Dash) (omega arith) (omega arith) (dash_onward text at lead (k + 1 + (lead - at)) above deep past)))
+    (onward_from text at at (3 * (length text - at)) (3 * (length text - at) + 2)
+    (next.After (lead + 1) (k + 1 + (lead - at)) Dash) (omega arith) (omega arith)
+    (dash_onward text at lead (k + 1 + (lead - at)) above deep past)))
     c.open_items.ensures.next
 
 pub returns-then-sign_at-clause-leads : goal.returns-then-sign_at-clause-leads
@@ -82,13 +102,18 @@ returns-then-sign_at-clause-leads c =
     let lead = c.white_end-first.result in
     let above : at ≤ lead = c.white_end-first.ensures.taken.above in
     let far : at < lead = omega (arith, above, c.if-first-at.false) in
-    let below : c.spaces_end.result ≤ lead = spaces_below text at c.spaces_end.result lead c.spaces_end.ensures c.white_end-first.ensures.run in
+    let below : c.spaces_end.result ≤ lead = spaces_below text at c.spaces_end.result lead c.spaces_end.ensures
+    c.white_end-first.ensures.run in
     let same : c.spaces_end.result ≡ lead = omega (arith, below, c.if-spaces_end-first.false) in
-    let colon : is_colon c.args.sign ≡ false = allowed c.allows_compact.result (is_colon c.args.sign) c.allows_compact.ensures c.if-not-allows_compact.false in
-    let past : IsPastSign text lead = past_sign text lead 45 c.utf8.text c.white_end-first.ensures.taken.boundary (omega arith) refl (sym c.sign_at.ensures ∙ c.if-sign_at.true) in
-    ok_opens c.open_items.result (next.After (lead + 1) (k + 1 + (lead - at)) Dash) _ _ (Leads text (BeforePart text c.args.sign k at) c.args.self.now c.open_items.new.self)
+    let colon : is_colon c.args.sign ≡ false = allowed c.allows_compact.result (is_colon c.args.sign)
+    c.allows_compact.ensures c.if-not-allows_compact.false in
+    let past : IsPastSign text lead = past_sign text lead 45 c.utf8.text c.white_end-first.ensures.taken.boundary
+    (omega arith) refl (sym c.sign_at.ensures ∙ c.if-sign_at.true) in
+    ok_opens c.open_items.result (next.After (lead + 1) (k + 1 + (lead - at)) Dash) _ _
+    (Leads text (BeforePart text c.args.sign k at) c.args.self.now c.open_items.new.self)
     c.open_items.ensures.next c.open_items.ensures.collections c.open_items.ensures.events
-    (λ p e. compact_sequence_there text c.args.sign k at c.utf8.text c.requires.placed c.requires.goes_on lead c.white_end-first.ensures.taken c.spaces_end.result c.spaces_end.ensures same colon far
+    (λ p e. compact_sequence_there text c.args.sign k at c.utf8.text c.requires.placed c.requires.goes_on lead
+    c.white_end-first.ensures.taken c.spaces_end.result c.spaces_end.ensures same colon far
     (sym c.sign_at.ensures ∙ c.if-sign_at.true) past c.args.self.now c.open_items.new.self p e)
 
 pub returns-clause-leads : goal.returns-clause-leads
@@ -99,13 +124,17 @@ returns-clause-leads c =
     let lead = c.white_end-first.result in
     let above : at ≤ lead = c.white_end-first.ensures.taken.above in
     let far : at < lead = omega (arith, above, c.if-first-at.false) in
-    let below : c.spaces_end.result ≤ lead = spaces_below text at c.spaces_end.result lead c.spaces_end.ensures c.white_end-first.ensures.run in
+    let below : c.spaces_end.result ≤ lead = spaces_below text at c.spaces_end.result lead c.spaces_end.ensures
+    c.white_end-first.ensures.run in
     let same : c.spaces_end.result ≡ lead = omega (arith, below, c.if-spaces_end-first.false) in
-    let colon : is_colon c.args.sign ≡ false = allowed c.allows_compact.result (is_colon c.args.sign) c.allows_compact.ensures c.if-not-allows_compact.false in
+    let colon : is_colon c.args.sign ≡ false = allowed c.allows_compact.result (is_colon c.args.sign)
+    c.allows_compact.ensures c.if-not-allows_compact.false in
     let leaf : Leaf = record { at = lead; least = k + 1; pairs = Some (k + 1 + (lead - at)) } in
     ok_so c.leaf-2.result _ _
-    (λ to. leads_so text (BeforeLeaf text leaf) (BeforePart text c.args.sign k at) c.args.self.now c.leaf-2.new.self to
-    (compact_leaf_there text c.args.sign k at c.utf8.text c.requires.placed c.requires.goes_on lead c.white_end-first.ensures.taken c.spaces_end.result c.spaces_end.ensures same colon far
+    (λ to. leads_so text (BeforeLeaf text leaf) (BeforePart text c.args.sign k at) c.args.self.now c.leaf-2.new.self
+    to
+    (compact_leaf_there text c.args.sign k at c.utf8.text c.requires.placed c.requires.goes_on lead
+    c.white_end-first.ensures.taken c.spaces_end.result c.spaces_end.ensures same colon far
     (sym c.sign_at.ensures ∙ c.if-sign_at.false)))
     c.leaf-2.ensures.leads
 
@@ -117,12 +146,15 @@ returns-clause-none c =
     let lead = c.white_end-first.result in
     let above : at ≤ lead = c.white_end-first.ensures.taken.above in
     let far : at < lead = omega (arith, above, c.if-first-at.false) in
-    let below : c.spaces_end.result ≤ lead = spaces_below text at c.spaces_end.result lead c.spaces_end.ensures c.white_end-first.ensures.run in
+    let below : c.spaces_end.result ≤ lead = spaces_below text at c.spaces_end.result lead c.spaces_end.ensures
+    c.white_end-first.ensures.run in
     let same : c.spaces_end.result ≡ lead = omega (arith, below, c.if-spaces_end-first.false) in
-    let colon : is_colon c.args.sign ≡ false = allowed c.allows_compact.result (is_colon c.args.sign) c.allows_compact.ensures c.if-not-allows_compact.false in
+    let colon : is_colon c.args.sign ≡ false = allowed c.allows_compact.result (is_colon c.args.sign)
+    c.allows_compact.ensures c.if-not-allows_compact.false in
     let leaf : Leaf = record { at = lead; least = k + 1; pairs = Some (k + 1 + (lead - at)) } in
     faults_so c.leaf-2.result _ _
     (fails_so text (BeforeLeaf text leaf) (BeforePart text c.args.sign k at) c.args.self.now
-    (compact_leaf_there text c.args.sign k at c.utf8.text c.requires.placed c.requires.goes_on lead c.white_end-first.ensures.taken c.spaces_end.result c.spaces_end.ensures same colon far
+    (compact_leaf_there text c.args.sign k at c.utf8.text c.requires.placed c.requires.goes_on lead
+    c.white_end-first.ensures.taken c.spaces_end.result c.spaces_end.ensures same colon far
     (sym c.sign_at.ensures ∙ c.if-sign_at.false)))
     c.leaf-2.ensures.none

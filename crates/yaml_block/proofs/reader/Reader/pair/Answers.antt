@@ -6,7 +6,7 @@ use Rattle.yaml_scan.proofs.Outcomes.{refuses}
 use Rattle.yaml_flow.specs.FlowNodes.{NoFlowNodeFound}
 use Rattle.yaml_block.specs.States.{BeforePair, Fails}
 use Rattle.yaml_block.specs.declared.frame.Sign.TheVariants.{Asked, Colon}
-use Rattle.yaml_block.proofs.Keying.{after_onward, fault_kept, pair_asked, pair_key, pair_missing, pair_unkeyed}
+use Rattle.yaml_block.proofs.KeysAndPairs.{after_onward, fault_kept, pair_asked, pair_key, pair_missing, pair_unkeyed}
 use Rattle.yaml_block.proofs.TextPlaces.{past_sign}
 use Rattle.yaml_block.proofs.reader.Reader.pair.Goals as goal
 
@@ -14,12 +14,14 @@ pub returns-then-sign_at-clause-onward : goal.returns-then-sign_at-clause-onward
 returns-then-sign_at-clause-onward c =
     let text = c.args.text.now in
     let at = c.args.at in
-    let s = past_sign text at 63 c.utf8.text (c.requires.placed).boundary (omega arith) refl (sym c.sign_at.ensures ∙ c.if-sign_at.true) in
+    let s = past_sign text at 63 c.utf8.text (c.requires.placed).boundary (omega arith) refl (sym c.sign_at.ensures
+    ∙ c.if-sign_at.true) in
     after_onward text at _ at c.args.indent Asked s (omega arith) (c.requires.placed).deep (omega (arith, s.below))
 
 pub returns-then-sign_at-clause-leads : goal.returns-then-sign_at-clause-leads
 returns-then-sign_at-clause-leads c =
-    pair_asked c.args.text.now c.utf8.text c.args.at c.args.indent c.args.self.now c.wait.new.self (c.requires.placed).boundary (sym c.sign_at.ensures ∙ c.if-sign_at.true)
+    pair_asked c.args.text.now c.utf8.text c.args.at c.args.indent c.args.self.now c.wait.new.self
+    (c.requires.placed).boundary (sym c.sign_at.ensures ∙ c.if-sign_at.true)
     (c.in_ok-wait.ensures).collections (c.in_ok-wait.ensures).events
 
 pub returns-in-Err-clause-none : goal.returns-in-Err-clause-none
@@ -27,15 +29,18 @@ returns-in-Err-clause-none c =
     let text = c.args.text.now in
     let at = c.args.at in
     let k = c.args.indent in
-    fault_kept c.in-Err.fault c.no_node.result (NoFlowNodeFound 0 block_key text at) (Fails text (BeforePair text k at) c.args.self.now) c.no_node.ensures
-    (pair_missing text c.utf8.text at k c.args.self.now (sym c.sign_at.ensures ∙ c.if-sign_at.false)) (c.in-Err.ensures).missing
+    fault_kept c.in-Err.fault c.no_node.result (NoFlowNodeFound 0 block_key text at)
+    (Fails text (BeforePair text k at) c.args.self.now) c.no_node.ensures
+    (pair_missing text c.utf8.text at k c.args.self.now (sym c.sign_at.ensures ∙ c.if-sign_at.false))
+    (c.in-Err.ensures).missing
 
 pub returns-then-not-sign_at-clause-none : goal.returns-then-not-sign_at-clause-none
 returns-then-not-sign_at-clause-none c =
     let text = c.args.text.now in
     let at = c.args.at in
     refuses c.refusal.result (Fails text (BeforePair text c.args.indent at) c.args.self.now)
-    (pair_unkeyed text c.utf8.text at c.args.indent c.in-Ok.end c.white_end-colon.result c.args.self.now c.flow_node.new.events (c.requires.placed).boundary (c.in-Ok.ensures).reads
+    (pair_unkeyed text c.utf8.text at c.args.indent c.in-Ok.end c.white_end-colon.result c.args.self.now
+    c.flow_node.new.events (c.requires.placed).boundary (c.in-Ok.ensures).reads
     (c.white_end-colon.ensures).taken (inl (sym c.sign_at-2.ensures ∙ c.if-not-sign_at.true)))
 
 pub returns-then-not-at_most_chars-clause-none : goal.returns-then-not-at_most_chars-clause-none
@@ -43,7 +48,8 @@ returns-then-not-at_most_chars-clause-none c =
     let text = c.args.text.now in
     let at = c.args.at in
     refuses c.refusal-then-not-at_most_chars.result (Fails text (BeforePair text c.args.indent at) c.args.self.now)
-    (pair_unkeyed text c.utf8.text at c.args.indent c.in-Ok.end c.white_end-colon.result c.args.self.now c.flow_node.new.events (c.requires.placed).boundary (c.in-Ok.ensures).reads
+    (pair_unkeyed text c.utf8.text at c.args.indent c.in-Ok.end c.white_end-colon.result c.args.self.now
+    c.flow_node.new.events (c.requires.placed).boundary (c.in-Ok.ensures).reads
     (c.white_end-colon.ensures).taken (inr (sym c.at_most_chars.ensures ∙ c.if-not-at_most_chars.true)))
 
 pub returns-clause-onward : goal.returns-clause-onward
@@ -51,12 +57,22 @@ returns-clause-onward c =
     let text = c.args.text.now in
     let at = c.args.at in
     let colon = c.white_end-colon.result in
-    let s = past_sign text colon 58 c.utf8.text ((c.white_end-colon.ensures).taken).boundary (omega arith) refl (sym c.sign_at-2.ensures ∙ c.if-not-sign_at.false) in
-    after_onward text at _ colon c.args.indent Colon s (omega (arith, ((c.in-Ok.ensures).reads).above, ((c.white_end-colon.ensures).taken).above))
-    (omega (arith, (c.requires.placed).deep, ((c.in-Ok.ensures).reads).above, ((c.white_end-colon.ensures).taken).above)) (omega (arith, s.below, ((c.in-Ok.ensures).reads).above, ((c.white_end-colon.ensures).taken).above))
+    let s = past_sign text colon 58 c.utf8.text ((c.white_end-colon.ensures).taken).boundary (omega arith) refl
+    (sym c.sign_at-2.ensures ∙ c.if-not-sign_at.false) in
+    after_onward text at _ colon c.args.indent Colon s
+    (omega (arith, ((c.in-Ok.ensures).reads).above, ((c.white_end-colon.ensures).taken).above))
+    (omega (
+      arith,
+      (c.requires.placed).deep,
+      ((c.in-Ok.ensures).reads).above,
+      ((c.white_end-colon.ensures).taken).above,
+    ))
+    (omega (arith, s.below, ((c.in-Ok.ensures).reads).above, ((c.white_end-colon.ensures).taken).above))
 
 pub returns-clause-leads : goal.returns-clause-leads
 returns-clause-leads c =
-    pair_key c.args.text.now c.utf8.text c.args.at c.args.indent c.in-Ok.end c.white_end-colon.result c.args.self.now c.wait-2.new.self c.flow_node.new.events (c.requires.placed).boundary
+    pair_key c.args.text.now c.utf8.text c.args.at c.args.indent c.in-Ok.end c.white_end-colon.result c.args.self.now
+    c.wait-2.new.self c.flow_node.new.events (c.requires.placed).boundary
     (c.in-Ok.ensures).reads (c.white_end-colon.ensures).taken (sym c.sign_at-2.ensures ∙ c.if-not-sign_at.false)
-    (sym c.at_most_chars.ensures ∙ c.if-not-at_most_chars.false) (c.in_ok-wait-2.ensures).collections (c.in_ok-wait-2.ensures).events
+    (sym c.at_most_chars.ensures ∙ c.if-not-at_most_chars.false) (c.in_ok-wait-2.ensures).collections
+    (c.in_ok-wait-2.ensures).events

@@ -20,30 +20,44 @@ use Rattle.yaml_block.specs.declared.reader.Reader.{Reader}
 -- ---- events
 
 one : (text : List ℕ) (e : Event) → BorrowsPlain text e → All (BorrowsPlain text) (e ∷ [])
-one text e b k d l = let z : k ≡ 0 = omega arith in subst (λ (j : ℕ). BorrowsPlain text (slice_index_or (e ∷ []) j d)) (sym z) b
+one text e b k d l = let z : k ≡ 0 = omega arith in subst (λ (j : ℕ). BorrowsPlain text (slice_index_or (e ∷ []) j d))
+    (sym z) b
 
 pub appended_none : (text : List ℕ) (base : List Event) → Appended text base base []
-appended_none text base = record { more = []; is = simp append-nil; means = refl; borrows = All-nil (BorrowsPlain text) }
+appended_none text base = record {
+  more = [];
+  is = simp append-nil;
+  means = refl;
+  borrows =
+      All-nil (BorrowsPlain text);
+}
 
-pub appended_more : (text : List ℕ) (base old new : List Event) (evs more : List grammar.Event) → Appended text base old evs → Appended text old new more → Appended text base new (evs ++ more)
+pub appended_more : (text : List ℕ) (base old new : List Event) (evs more : List grammar.Event)
+    → Appended text base old evs → Appended text old new more → Appended text base new (evs ++ more)
 appended_more text base old new evs more a b = record {
   more = a.more ++ b.more;
   is = b.is ∙ ap (λ es. es ++ b.more) a.is ∙ append_assoc base a.more b.more;
-  means = map-append event_of a.more b.more ∙ (ap (λ es. es ++ events_of b.more) a.means ∙ ap (λ es. evs ++ es) b.means);
+  means = map-append event_of a.more b.more ∙ (ap (λ es. es ++ events_of b.more) a.means
+      ∙ ap (λ es. evs ++ es) b.means);
   borrows = All-append (BorrowsPlain text) a.more b.more a.borrows b.borrows;
 }
 
-single : (text : List ℕ) (old new : List Event) (e : Event) → new ≡ old ++ e ∷ [] → BorrowsPlain text e → Appended text old new (event_of e ∷ [])
+single : (text : List ℕ) (old new : List Event) (e : Event) → new ≡ old ++ e ∷ [] → BorrowsPlain text e
+    → Appended text old new (event_of e ∷ [])
 single text old new e n b = record { more = e ∷ []; is = n; means = refl; borrows = one text e b }
 
-pub appended_one : (text : List ℕ) (base old new : List Event) (evs : List grammar.Event) (e : Event) → Appended text base old evs → new ≡ old ++ e ∷ [] → BorrowsPlain text e
+pub appended_one : (text : List ℕ) (base old new : List Event) (evs : List grammar.Event) (e : Event)
+    → Appended text base old evs → new ≡ old ++ e ∷ [] → BorrowsPlain text e
     → Appended text base new (evs ++ event_of e ∷ [])
-appended_one text base old new evs e a n b = appended_more text base old new evs (event_of e ∷ []) a (single text old new e n b)
+appended_one text base old new evs e a n b = appended_more text base old new evs (event_of e ∷ []) a
+    (single text old new e n b)
 
 inserted : (old more : List Event) (e : Event) → insert (old ++ more) (length old) e ≡ old ++ e ∷ more
-inserted old more e = insert-append_right old more (length old) (length old) e refl (omega arith) ∙ ap (λ n. old ++ insert more n e) (let z : length old - length old ≡ 0 = omega arith in z)
+inserted old more e = insert-append_right old more (length old) (length old) e refl (omega arith)
+    ∙ ap (λ n. old ++ insert more n e) (let z : length old - length old ≡ 0 = omega arith in z)
 
-before : (text : List ℕ) (old mid new : List Event) (more : List grammar.Event) → Appended text old mid more → new ≡ insert mid (length old) MapStart
+before : (text : List ℕ) (old mid new : List Event) (more : List grammar.Event) → Appended text old mid more
+    → new ≡ insert mid (length old) MapStart
     → Appended text old new (grammar.map_start ∷ more)
 before text old mid new more a n = record {
   more = MapStart ∷ a.more;
@@ -52,24 +66,39 @@ before text old mid new more a n = record {
   borrows = All-append (BorrowsPlain text) (MapStart ∷ []) a.more (one text MapStart tt) a.borrows;
 }
 
-pub appended_before : (text : List ℕ) (base old mid new : List Event) (evs more : List grammar.Event) → Appended text base old evs → Appended text old mid more
+pub appended_before : (text : List ℕ) (base old mid new : List Event) (evs more : List grammar.Event)
+    → Appended text base old evs → Appended text old mid more
     → new ≡ insert mid (length old) MapStart → Appended text base new (evs ++ grammar.map_start ∷ more)
-appended_before text base old mid new evs more a b n = appended_more text base old new evs (grammar.map_start ∷ more) a (before text old mid new more b n)
+appended_before text base old mid new evs more a b n = appended_more text base old new evs (grammar.map_start ∷ more)
+    a (before text old mid new more b n)
 
-pub grown_before : (text : List ℕ) (old mid new : List Event) (more : List grammar.Event) → Appended text old mid more → new ≡ insert mid (length old) MapStart → Grown old new
-grown_before text old mid new more a n = let b = before text old mid new more a n in record { more = b.more; is = b.is }
+pub grown_before : (text : List ℕ) (old mid new : List Event) (more : List grammar.Event) → Appended text old mid more
+    → new ≡ insert mid (length old) MapStart → Grown old new
+grown_before text old mid new more a n = let b = before text old mid new more a n in record {
+  more = b.more;
+  is =
+      b.is;
+}
 
-pub grown_appended : (text : List ℕ) (old new : List Event) (more : List grammar.Event) → Appended text old new more → Grown old new
+pub grown_appended : (text : List ℕ) (old new : List Event) (more : List grammar.Event) → Appended text old new more
+    → Grown old new
 grown_appended text old new more a = record { more = a.more; is = a.is }
 
 pub grown_grown : (a b c : List Event) → Grown a b → Grown b c → Grown a c
-grown_grown a b c g h = record { more = g.more ++ h.more; is = h.is ∙ (ap (λ es. es ++ h.more) g.is ∙ append_assoc a g.more h.more) }
+grown_grown a b c g h = record {
+  more = g.more ++ h.more;
+  is = h.is
+      ∙ (ap (λ es. es ++ h.more) g.is ∙ append_assoc a g.more h.more);
+}
 
 -- ---- the stack
 
-pub opened : (text : List ℕ) (base : List Event) (fs : List BlockFrame) (evs evs' : List grammar.Event) (old new : Reader) (f : BlockFrame) (c : Collection) → Holds text base fs evs old
-    → new.collections.items ≡ old.collections.items ++ c ∷ [] → Keeps c f → Appended text base new.events evs' → Holds text base (f ∷ fs) evs' new
-opened text base fs evs evs' old new f c h e k a = record { stack = (old.collections.items, c, e, k, h.stack); appended = a }
+pub opened : (text : List ℕ) (base : List Event) (fs : List BlockFrame) (evs evs' : List grammar.Event)
+    (old new : Reader) (f : BlockFrame) (c : Collection) → Holds text base fs evs old
+    → new.collections.items ≡ old.collections.items ++ c ∷ [] → Keeps c f → Appended text base new.events evs'
+    → Holds text base (f ∷ fs) evs' new
+opened text base fs evs evs' old new f c h e k a =
+    record { stack = (old.collections.items, c, e, k, h.stack); appended = a }
 
 snoc_same : {A : Type 0} (xs ys : List A) (x y : A) → xs ++ x ∷ [] ≡ ys ++ y ∷ [] → (xs ≡ ys) × (x ≡ y)
 snoc_same [] [] x y e = (refl, cc)
@@ -89,11 +118,20 @@ pub record Popped (fs : List BlockFrame) (around : List Collection) (innermost :
   pub keeps : Keeps innermost frame
   pub stack : Stack others around
 
-pub popped : (fs : List BlockFrame) (items around : List Collection) (innermost : Collection) → Stack fs items → items ≡ around ++ innermost ∷ [] → Popped fs around innermost
-popped [] items around innermost s e = absurd (omega (arith, ap length (sym s ∙ e), length-append around (innermost ∷ [])))
+pub popped : (fs : List BlockFrame) (items around : List Collection) (innermost : Collection) → Stack fs items
+    → items ≡ around ++ innermost ∷ [] → Popped fs around innermost
+popped [] items around innermost s e =
+    absurd (omega (arith, ap length (sym s ∙ e), length-append around (innermost ∷ [])))
 popped (f ∷ fs) items around innermost s e =
     let both = snoc_same s.0 around s.1 innermost (sym s.2 ∙ e) in
-    record { frame = f; others = fs; is = refl; keeps = subst (λ c. Keeps c f) both.1 s.3; stack = subst (λ cs. Stack fs cs) both.0 s.4 }
+    record {
+      frame = f;
+      others = fs;
+      is = refl;
+      keeps = subst (λ c. Keeps c f) both.1 s.3;
+      stack =
+          subst (λ cs. Stack fs cs) both.0 s.4;
+    }
 
 pub emptied : (fs : List BlockFrame) (items : List Collection) → Stack fs items → length items ≡ 0 → fs ≡ []
 emptied [] items s l = refl

@@ -38,7 +38,7 @@ use Rattle.yaml_block.specs.declared.frame.Sign.TheVariants.{Dash, Asked, Colon}
 use Rattle.yaml_block.specs.declared.frame.Waits.{Waits}
 use Rattle.yaml_block.specs.declared.frame.Waits.TheVariants.{Item, Key, Value}
 use Rattle.yaml_block.specs.declared.reader.Reader.{Reader}
-use Rattle.yaml_block.proofs.Holding.{Popped, appended_one, emptied, opened, popped}
+use Rattle.yaml_block.proofs.Stacks.{Popped, appended_one, emptied, opened, popped}
 use Rattle.yaml_block.proofs.TextPlaces.{IsPastSign, past_sign}
 use Rattle.yaml_block.proofs.Unwinding.{item_goes_on, sequence_ends, value_opens, key_alone, value_read, pair_goes_on, mapping_ends}
 
@@ -51,9 +51,11 @@ pub record SignHere (bs : List ℕ) (line : Line) (k x : ℕ) : Type 0 where
   pub past_it : IsPastSign bs line.first
 
 pub sign_here : (bs : List ℕ) (line : Line) (k x : ℕ) → IsUtf8 bs → IsLine bs line → x < 128 → line_break x ≡ false
-    → (spaces_before (rest bs line.start) == k) && sign x (past_spaces (rest bs line.start)) ≡ true → SignHere bs line k x
+    → (spaces_before (rest bs line.start) == k) && sign x (past_spaces (rest bs line.start)) ≡ true
+    → SignHere bs line k x
 sign_here bs line k x u l a b h =
-    let p : ((spaces_before (rest bs line.start) == k) ≡ true) × (sign x (past_spaces (rest bs line.start)) ≡ true) = and_parts _ _ h in
+    let p : ((spaces_before (rest bs line.start) == k) ≡ true) × (sign x (past_spaces (rest bs line.start)) ≡ true) =
+    and_parts _ _ h in
     let count : spaces_before (rest bs line.start) ≡ k = eqb-true _ _ p.0 in
     let s : sign x (rest bs line.first) ≡ true = ap (sign x) (sym (l.spaces).leaves) ∙ p.1 in
     let above : line.start ≤ line.first = (l.spaces).above in
@@ -74,114 +76,160 @@ sign_onward bs line k x sg s =
     record {
       above = omega arith;
       less = omega arith;
-      placed = record { boundary = (s.past_it).boundary; deeper = omega arith; inside_line = (s.past_it).inside_line };
+      placed = record {
+        boundary = (s.past_it).boundary;
+        deeper = omega arith;
+        inside_line =
+            (s.past_it).inside_line;
+      };
     }
 
-module _ (W : Read Indented) (text : List ℕ) (from : ℕ) (base : List Event) (fs : List BlockFrame) (evs : List grammar.Event) (old new : Reader) (h : Holds text base fs evs old) where
+module _ (W : Read Indented) (text : List ℕ) (from : ℕ) (base : List Event) (fs : List BlockFrame)
+    (evs : List grammar.Event) (old new : Reader) (h : Holds text base fs evs old) where
   -- a step that goes on with the same events
   goes_on_with : (f : BlockFrame) (waits : Waits) (indent at : ℕ) (sg : Sign)
-      → new.collections.items ≡ old.collections.items ++ (record { waits = waits; indent = indent }) ∷ [] → new.events ≡ old.events
-      → waits_of f ≡ waits → indent_of f ≡ indent → AfterSign W text from (f ∷ fs) evs sg indent at → GoesOn W text from base new (next.After at indent sg)
+      → new.collections.items ≡ old.collections.items ++ (record { waits = waits; indent = indent }) ∷ []
+      → new.events ≡ old.events
+      → waits_of f ≡ waits → indent_of f ≡ indent → AfterSign W text from (f ∷ fs) evs sg indent at
+      → GoesOn W text from base new (next.After at indent sg)
   goes_on_with f waits indent at sg c e w i a = record {
     fs = f ∷ fs;
     evs = evs;
-    holds = opened text base fs evs evs old new f (record { waits = waits; indent = indent }) h c (record { waits = w; indent = i }) (subst (λ (es : List Event). Appended text base es evs) (sym e) h.appended);
+    holds = opened text base fs evs evs old new f (record { waits = waits; indent = indent }) h c
+        (record { waits = w; indent = i }) (subst (λ (es : List Event). Appended text base es evs)
+        (sym e) h.appended);
     stands = a;
   }
 
-  pub item_next : (indent : ℕ) (line : Line) (end : ℕ) → ItemRead indent W text from fs evs line.start end → SignHere text line indent 45
-      → new.collections.items ≡ old.collections.items ++ (record { waits = Item; indent = indent }) ∷ [] → new.events ≡ old.events
+  pub item_next : (indent : ℕ) (line : Line) (end : ℕ) → ItemRead indent W text from fs evs line.start end
+      → SignHere text line indent 45
+      → new.collections.items ≡ old.collections.items ++ (record { waits = Item; indent = indent }) ∷ []
+      → new.events ≡ old.events
       → GoesOn W text from base new (next.After (line.first + 1) indent Dash)
   item_next indent line end p s c e = by_frame p.0 p.1 p.2 p.3
     where
-      by_frame : (f : BlockFrame) → waits_of f ≡ Item → indent_of f ≡ indent → AtLine W text from (f ∷ fs) evs line.start end → GoesOn W text from base new (next.After (line.first + 1) indent Dash)
+      by_frame : (f : BlockFrame) → waits_of f ≡ Item → indent_of f ≡ indent
+          → AtLine W text from (f ∷ fs) evs line.start end
+          → GoesOn W text from base new (next.After (line.first + 1) indent Dash)
       by_frame (waits_item sits k done) w i a =
           let t : SignHere text line k 45 = subst (λ j. SignHere text line j 45) (sym i) s in
-          let after : AfterSign W text from (waits_item sits k (done ++ a.part ∷ []) ∷ fs) evs Dash k (line.first + 1) =
-          item_goes_on W text from fs evs sits k done line.start end line.first a t.count t.place t.spaces t.here (t.past_it).past_is in
+          let after : AfterSign W text from (waits_item sits k (done ++ a.part ∷ []) ∷ fs) evs Dash k
+          (line.first + 1) =
+          item_goes_on W text from fs evs sits k done line.start end line.first a t.count t.place t.spaces t.here
+          (t.past_it).past_is in
           goes_on_with (waits_item sits k (done ++ a.part ∷ [])) Item indent (line.first + 1) Dash c e refl i
-          (subst (λ j. AfterSign W text from (waits_item sits k (done ++ a.part ∷ []) ∷ fs) evs Dash j (line.first + 1)) i after)
+          (subst (λ j. AfterSign W text from (waits_item sits k (done ++ a.part ∷ []) ∷ fs) evs Dash j
+          (line.first + 1)) i after)
       by_frame (waits_key sits k done) w i a = absurd (let e : ⊥ = cc in e)
       by_frame (waits_value sits k done key) w i a = absurd (let e : ⊥ = cc in e)
 
-  pub value_next : (indent : ℕ) (line : Line) (end : ℕ) → KeyRead indent W text from fs evs line.start end → SignHere text line indent 58
-      → new.collections.items ≡ old.collections.items ++ (record { waits = Value; indent = indent }) ∷ [] → new.events ≡ old.events
+  pub value_next : (indent : ℕ) (line : Line) (end : ℕ) → KeyRead indent W text from fs evs line.start end
+      → SignHere text line indent 58
+      → new.collections.items ≡ old.collections.items ++ (record { waits = Value; indent = indent }) ∷ []
+      → new.events ≡ old.events
       → GoesOn W text from base new (next.After (line.first + 1) indent Asked)
   value_next indent line end p s c e = by_frame p.0 p.1 p.2 p.3
     where
-      by_frame : (f : BlockFrame) → waits_of f ≡ Key → indent_of f ≡ indent → AtLine W text from (f ∷ fs) evs line.start end → GoesOn W text from base new (next.After (line.first + 1) indent Asked)
+      by_frame : (f : BlockFrame) → waits_of f ≡ Key → indent_of f ≡ indent
+          → AtLine W text from (f ∷ fs) evs line.start end
+          → GoesOn W text from base new (next.After (line.first + 1) indent Asked)
       by_frame (waits_key sits k done) w i a =
           let t : SignHere text line k 58 = subst (λ j. SignHere text line j 58) (sym i) s in
-          let after : AfterSign W text from (waits_value sits k done (key_asked a.part) ∷ fs) evs Asked k (line.first + 1) =
-          value_opens W text from fs evs sits k done line.start end line.first a t.count t.place t.spaces t.here (t.past_it).past_is in
+          let after : AfterSign W text from (waits_value sits k done (key_asked a.part) ∷ fs) evs Asked k
+          (line.first + 1) =
+          value_opens W text from fs evs sits k done line.start end line.first a t.count t.place t.spaces t.here
+          (t.past_it).past_is in
           goes_on_with (waits_value sits k done (key_asked a.part)) Value indent (line.first + 1) Asked c e refl i
-          (subst (λ j. AfterSign W text from (waits_value sits k done (key_asked a.part) ∷ fs) evs Asked j (line.first + 1)) i after)
+          (subst (λ j. AfterSign W text from (waits_value sits k done (key_asked a.part) ∷ fs) evs Asked j
+          (line.first + 1)) i after)
       by_frame (waits_item sits k done) w i a = absurd (let e : ⊥ = cc in e)
       by_frame (waits_value sits k done key) w i a = absurd (let e : ⊥ = cc in e)
 
   -- a step that writes one event and ends a collection
-  ends_with : (e : Event) (start end : ℕ) → new.collections ≡ old.collections → new.events ≡ old.events ++ e ∷ [] → BorrowsPlain text e → new.end ≡ end
+  ends_with : (e : Event) (start end : ℕ) → new.collections ≡ old.collections → new.events ≡ old.events ++ e ∷ []
+      → BorrowsPlain text e → new.end ≡ end
       → AtLine W text from fs (evs ++ event_of e ∷ []) start end → IsPart W text from base fs new start
   ends_with e start end c n b q a = record {
     evs = evs ++ event_of e ∷ [];
-    holds = record { stack = subst (λ v. Stack fs v.items) (sym c) h.stack; appended = appended_one text base old.events new.events evs e h.appended n b };
+    holds = record {
+      stack = subst (λ v. Stack fs v.items) (sym c) h.stack;
+      appended =
+          appended_one text base old.events new.events evs e h.appended n b;
+    };
     stands = subst (λ j. AtLine W text from fs (evs ++ event_of e ∷ []) start j) (sym q) a;
   }
 
   pub item_ends : (indent start end : ℕ) → ItemRead indent W text from fs evs start end
       → (spaces_before (rest text start) == indent) && sign 45 (past_spaces (rest text start)) ≡ false
-      → new.collections ≡ old.collections → new.events ≡ old.events ++ SeqEnd ∷ [] → new.end ≡ end → IsPart W text from base fs new start
+      → new.collections ≡ old.collections → new.events ≡ old.events ++ SeqEnd ∷ [] → new.end ≡ end
+      → IsPart W text from base fs new start
   item_ends indent start end p n c e q = by_frame p.0 p.1 p.2 p.3
     where
-      by_frame : (f : BlockFrame) → waits_of f ≡ Item → indent_of f ≡ indent → AtLine W text from (f ∷ fs) evs start end → IsPart W text from base fs new start
+      by_frame : (f : BlockFrame) → waits_of f ≡ Item → indent_of f ≡ indent
+          → AtLine W text from (f ∷ fs) evs start end → IsPart W text from base fs new start
       by_frame (waits_item sits k done) w i a =
           ends_with SeqEnd start end c e tt q
-          (sequence_ends W text from fs evs sits k done start end a (subst (λ j. (spaces_before (rest text start) == j) && sign 45 (past_spaces (rest text start)) ≡ false) (sym i) n))
+          (sequence_ends W text from fs evs sits k done start end a
+          (subst (λ j. (spaces_before (rest text start) == j) && sign 45 (past_spaces (rest text start)) ≡ false)
+          (sym i) n))
       by_frame (waits_key sits k done) w i a = absurd (let e : ⊥ = cc in e)
       by_frame (waits_value sits k done key) w i a = absurd (let e : ⊥ = cc in e)
 
   pub pair_ends : (indent start end : ℕ) → AfterPair W text from fs evs indent start end
       → (spaces_before (rest text start) == indent) && not (ended indent false (rest text start)) ≡ false
-      → new.collections ≡ old.collections → new.events ≡ old.events ++ MapEnd ∷ [] → new.end ≡ end → IsPart W text from base fs new start
-  pair_ends indent start end a n c e q = ends_with MapEnd start end c e tt q (mapping_ends W text from fs evs indent start end a n)
+      → new.collections ≡ old.collections → new.events ≡ old.events ++ MapEnd ∷ [] → new.end ≡ end
+      → IsPart W text from base fs new start
+  pair_ends indent start end a n c e q = ends_with MapEnd start end c e tt q
+      (mapping_ends W text from fs evs indent start end a n)
 
 -- the key of a pair whose value is left out with its `:`
-pub alone_key : (W : Read Indented) (text : List ℕ) (from : ℕ) (fs : List BlockFrame) (evs : List grammar.Event) (indent start end : ℕ) → KeyRead indent W text from fs evs start end
+pub alone_key : (W : Read Indented) (text : List ℕ) (from : ℕ) (fs : List BlockFrame) (evs : List grammar.Event)
+    (indent start end : ℕ) → KeyRead indent W text from fs evs start end
     → (spaces_before (rest text start) == indent) && sign 58 (past_spaces (rest text start)) ≡ false
     → AfterPair W text from fs (evs ++ grammar.omitted_at end) indent start end
 alone_key W text from fs evs indent start end p n = by_frame p.0 p.1 p.2 p.3
   where
-    by_frame : (f : BlockFrame) → waits_of f ≡ Key → indent_of f ≡ indent → AtLine W text from (f ∷ fs) evs start end → AfterPair W text from fs (evs ++ grammar.omitted_at end) indent start end
+    by_frame : (f : BlockFrame) → waits_of f ≡ Key → indent_of f ≡ indent → AtLine W text from (f ∷ fs) evs start end
+        → AfterPair W text from fs (evs ++ grammar.omitted_at end) indent start end
     by_frame (waits_key sits k done) w i a =
         subst (λ j. AfterPair W text from fs (evs ++ grammar.omitted_at end) j start end) i
-        (key_alone W text from fs evs sits k done start end a (subst (λ j. (spaces_before (rest text start) == j) && sign 58 (past_spaces (rest text start)) ≡ false) (sym i) n))
+        (key_alone W text from fs evs sits k done start end a
+        (subst (λ j. (spaces_before (rest text start) == j) && sign 58 (past_spaces (rest text start)) ≡ false)
+        (sym i) n))
     by_frame (waits_item sits k done) w i a = absurd (let e : ⊥ = cc in e)
     by_frame (waits_value sits k done key) w i a = absurd (let e : ⊥ = cc in e)
 
 -- what is read of a collection, by what it waited for
-pub item_of : (W : Read Indented) (text : List ℕ) (from : ℕ) (fs : List BlockFrame) (evs : List grammar.Event) (c : Collection) (start end : ℕ) → c.waits ≡ Item
+pub item_of : (W : Read Indented) (text : List ℕ) (from : ℕ) (fs : List BlockFrame) (evs : List grammar.Event)
+    (c : Collection) (start end : ℕ) → c.waits ≡ Item
     → PartRead c W text from fs evs start end → ItemRead c.indent W text from fs evs start end
 item_of W text from fs evs c start end w p = (p.0, (p.1).waits ∙ w, (p.1).indent, p.2)
 
-pub key_of : (W : Read Indented) (text : List ℕ) (from : ℕ) (fs : List BlockFrame) (evs : List grammar.Event) (c : Collection) (start end : ℕ) → c.waits ≡ Key
+pub key_of : (W : Read Indented) (text : List ℕ) (from : ℕ) (fs : List BlockFrame) (evs : List grammar.Event)
+    (c : Collection) (start end : ℕ) → c.waits ≡ Key
     → PartRead c W text from fs evs start end → KeyRead c.indent W text from fs evs start end
 key_of W text from fs evs c start end w p = (p.0, (p.1).waits ∙ w, (p.1).indent, p.2)
 
-pub pair_of : (W : Read Indented) (text : List ℕ) (from : ℕ) (fs : List BlockFrame) (evs : List grammar.Event) (c : Collection) (start end : ℕ) → c.waits ≡ Value
+pub pair_of : (W : Read Indented) (text : List ℕ) (from : ℕ) (fs : List BlockFrame) (evs : List grammar.Event)
+    (c : Collection) (start end : ℕ) → c.waits ≡ Value
     → PartRead c W text from fs evs start end → PairRead c.indent W text from fs evs start end
 pair_of W text from fs evs c start end w p = by_frame p.0 ((p.1).waits ∙ w) (p.1).indent p.2
   where
-    by_frame : (f : BlockFrame) → waits_of f ≡ Value → indent_of f ≡ c.indent → AtLine W text from (f ∷ fs) evs start end → AfterPair W text from fs evs c.indent start end
-    by_frame (waits_value sits k done key) w i a = subst (λ j. AfterPair W text from fs evs j start end) i (value_read W text from fs evs sits k done key start end a)
+    by_frame : (f : BlockFrame) → waits_of f ≡ Value → indent_of f ≡ c.indent
+        → AtLine W text from (f ∷ fs) evs start end → AfterPair W text from fs evs c.indent start end
+    by_frame (waits_value sits k done key) w i a = subst (λ j. AfterPair W text from fs evs j start end) i
+        (value_read W text from fs evs sits k done key start end a)
     by_frame (waits_item sits k done) w i a = absurd (let e : ⊥ = cc in e)
     by_frame (waits_key sits k done) w i a = absurd (let e : ⊥ = cc in e)
 
 -- ---- whether a pair goes on
 
-pub not_as_deep : (k : ℕ) (text : List ℕ) (b : Bool) → (spaces_before text ≡ k → ⊥) → false ≡ (spaces_before text == k) && b
+pub not_as_deep : (k : ℕ) (text : List ℕ) (b : Bool) → (spaces_before text ≡ k → ⊥)
+    → false ≡ (spaces_before text == k) && b
 not_as_deep k text b n = sym (and_left _ b (ne_eqb (spaces_before text) k n))
 
-pub pair_stops : (k : ℕ) (text : List ℕ) → stops_all text ≡ true → false ≡ (spaces_before text == k) && not (ended k false text)
+pub pair_stops : (k : ℕ) (text : List ℕ) → stops_all text ≡ true
+    → false ≡ (spaces_before text == k) && not (ended k false text)
 pair_stops k text s = sym (pair_test k text ∙ and_right (spaces_before text == k) _ (ap not s))
 
 stops_at_line_end : (text : List ℕ) → is_line_end text ≡ true → stops_all text ≡ true
@@ -190,15 +238,21 @@ stops_at_line_end text h = or_right (is_empty text || marker text) (is_line_end 
 stops_at_end : (text : List ℕ) → text ≡ [] → stops_all text ≡ true
 stops_at_end text e = ap stops_all e
 
-pub no_pair_at_line_end : (k : ℕ) (text : List ℕ) → is_line_end text ≡ true → false ≡ (spaces_before text == k) && not (ended k false text)
+pub no_pair_at_line_end : (k : ℕ) (text : List ℕ) → is_line_end text ≡ true
+    → false ≡ (spaces_before text == k) && not (ended k false text)
 no_pair_at_line_end k text h = pair_stops k text (stops_at_line_end text h)
 
-pub no_pair_at_end : (bs : List ℕ) (k start : ℕ) → start ≡ length bs → false ≡ (spaces_before (rest bs start) == k) && not (ended k false (rest bs start))
-no_pair_at_end bs k start e = pair_stops k (rest bs start) (stops_at_end (rest bs start) (rest-end bs start (omega (arith, e))))
+pub no_pair_at_end : (bs : List ℕ) (k start : ℕ) → start ≡ length bs
+    → false ≡ (spaces_before (rest bs start) == k) && not (ended k false (rest bs start))
+no_pair_at_end bs k start e = pair_stops k (rest bs start)
+    (stops_at_end (rest bs start) (rest-end bs start (omega (arith, e))))
 
-pub pair_by_marker : (k : ℕ) (text : List ℕ) → spaces_before text ≡ k → is_line_end text ≡ false → is_empty text ≡ false
+pub pair_by_marker : (k : ℕ) (text : List ℕ) → spaces_before text ≡ k → is_line_end text ≡ false
+    → is_empty text ≡ false
     → not (marker text) ≡ (spaces_before text == k) && not (ended k false text)
-pair_by_marker k text s l e = sym (pair_test k text ∙ by_tests (spaces_before text == k) (is_empty text) (marker text) (is_line_end text) (eq-eqb (spaces_before text) k s) e l)
+pair_by_marker k text s l e = sym (pair_test k text
+    ∙ by_tests (spaces_before text == k) (is_empty text) (marker text) (is_line_end text)
+    (eq-eqb (spaces_before text) k s) e l)
   where
     by_tests : (a b c d : Bool) → a ≡ true → b ≡ false → d ≡ false → a && not (b || c || d) ≡ not c
     by_tests true false true false h i j = refl
@@ -218,19 +272,23 @@ not_empty k [] h = absurd (false≢true h)
 not_empty k (c ∷ cs) h = refl
 
 pub pair_here : (bs : List ℕ) (line : Line) (k : ℕ) → IsUtf8 bs → IsLine bs line
-    → (spaces_before (rest bs line.start) == k) && not (ended k false (rest bs line.start)) ≡ true → PairHere bs line k
+    → (spaces_before (rest bs line.start) == k) && not (ended k false (rest bs line.start)) ≡ true
+    → PairHere bs line k
 pair_here bs line k u l h =
-    let p : ((spaces_before (rest bs line.start) == k) ≡ true) × (not (ended k false (rest bs line.start)) ≡ true) = and_parts _ _ h in
+    let p : ((spaces_before (rest bs line.start) == k) ≡ true) × (not (ended k false (rest bs line.start)) ≡ true) =
+    and_parts _ _ h in
     let count : spaces_before (rest bs line.start) ≡ k = eqb-true _ _ p.0 in
     let above : line.start ≤ line.first = (l.spaces).above in
     let counts : spaces_before (rest bs line.start) ≡ line.first - line.start = (l.spaces).counts in
     record {
       place = omega arith;
       spaces = (l.spaces).leaves;
-      starts = pair_starts bs line.start line.first k u l.boundary (l.spaces).boundary l.starts (not_empty k (rest bs line.start) p.1) count (l.spaces).leaves;
+      starts = pair_starts bs line.start line.first k u l.boundary (l.spaces).boundary l.starts
+          (not_empty k (rest bs line.start) p.1) count (l.spaces).leaves;
     }
 
-pub pair_onward : (bs : List ℕ) (line : Line) (k : ℕ) → IsLine bs line → PairHere bs line k → Onward bs line.start (3 * (length bs - line.start) + 1) (next.Pair line.first k)
+pub pair_onward : (bs : List ℕ) (line : Line) (k : ℕ) → IsLine bs line → PairHere bs line k
+    → Onward bs line.start (3 * (length bs - line.start) + 1) (next.Pair line.first k)
 pair_onward bs line k l p =
     let place : line.start + k ≡ line.first = p.place in
     record {
@@ -239,9 +297,11 @@ pair_onward bs line k l p =
       placed = record { boundary = (l.spaces).boundary; deep = omega arith };
     }
 
-pub pair_next : (W : Read Indented) (text : List ℕ) (from : ℕ) (base : List Event) (fs : List BlockFrame) (evs : List grammar.Event) (reader : Reader) (k : ℕ) (line : Line) (end : ℕ)
+pub pair_next : (W : Read Indented) (text : List ℕ) (from : ℕ) (base : List Event) (fs : List BlockFrame)
+    (evs : List grammar.Event) (reader : Reader) (k : ℕ) (line : Line) (end : ℕ)
     → Holds text base fs evs reader → AfterPair W text from fs evs k line.start end
-    → (spaces_before (rest text line.start) == k) && not (ended k false (rest text line.start)) ≡ true → PairHere text line k → GoesOn W text from base reader (next.Pair line.first k)
+    → (spaces_before (rest text line.start) == k) && not (ended k false (rest text line.start)) ≡ true
+    → PairHere text line k → GoesOn W text from base reader (next.Pair line.first k)
 pair_next W text from base fs evs reader k line end h a t p = record {
   fs = fs;
   evs = evs;
@@ -250,51 +310,75 @@ pair_next W text from base fs evs reader k line end h a t p = record {
 }
 
 -- the reader after a value is left out
-pub left_out : (text : List ℕ) (base : List Event) (fs : List BlockFrame) (evs : List grammar.Event) (old new : Reader) (e : Event) (end : ℕ) → Holds text base fs evs old
-    → new.collections ≡ old.collections → new.events ≡ old.events ++ e ∷ [] → event_of e ≡ grammar.scalar_event grammar.omitted_style end end [] → BorrowsPlain text e
+pub left_out : (text : List ℕ) (base : List Event) (fs : List BlockFrame) (evs : List grammar.Event)
+    (old new : Reader) (e : Event) (end : ℕ) → Holds text base fs evs old
+    → new.collections ≡ old.collections → new.events ≡ old.events ++ e ∷ []
+    → event_of e ≡ grammar.scalar_event grammar.omitted_style end end [] → BorrowsPlain text e
     → Holds text base fs (evs ++ grammar.omitted_at end) new
 left_out text base fs evs old new e end h c n m b = record {
   stack = subst (λ v. Stack fs v.items) (sym c) h.stack;
-  appended = subst (λ x. Appended text base new.events (evs ++ x ∷ [])) m (appended_one text base old.events new.events evs e h.appended n b);
+  appended = subst (λ x. Appended text base new.events (evs ++ x ∷ [])) m
+      (appended_one text base old.events new.events evs e h.appended n b);
 }
 
-pub filled_there : (bs : List ℕ) (at : ℕ) → IsUtf8 bs → IsCharBoundary bs at → at < length bs → is_empty (rest bs at) ≡ false
+pub filled_there : (bs : List ℕ) (at : ℕ) → IsUtf8 bs → IsCharBoundary bs at → at < length bs
+    → is_empty (rest bs at) ≡ false
 filled_there bs at u b l = ap is_empty (char_at bs at u b l).1.splits
 
 -- ---- the walk over the open collections
 
-turned : (W : Read Indented) (text : List ℕ) (from : ℕ) (base : List Event) (start : ℕ) (now mid : Reader) (c : Collection) → now.collections.items ≡ mid.collections.items ++ c ∷ []
+turned : (W : Read Indented) (text : List ℕ) (from : ℕ) (base : List Event) (start : ℕ) (now mid : Reader)
+    (c : Collection) → now.collections.items ≡ mid.collections.items ++ c ∷ []
     → mid.events ≡ now.events → mid.end ≡ now.end → Unwound W text from base now start
-    → (gs : List BlockFrame) × (es : List grammar.Event) × Holds text base gs es mid × PartRead c W text from gs es start mid.end
+    → (gs : List BlockFrame) × (es : List grammar.Event) × Holds text base gs es mid
+    × PartRead c W text from gs es start mid.end
 turned W text from base start now mid c i e q p =
     let part : IsPart W text from base p.fs now start = p.part in
-    let top : Popped p.fs mid.collections.items c = popped p.fs now.collections.items mid.collections.items c (part.holds).stack i in (
+    let top : Popped p.fs mid.collections.items c = popped p.fs now.collections.items mid.collections.items c
+    (part.holds).stack i in (
       top.others,
       part.evs,
-      record { stack = top.stack; appended = subst (λ (es : List Event). Appended text base es part.evs) (sym e) (part.holds).appended },
-      (top.frame, top.keeps, subst (λ j. AtLine W text from (top.frame ∷ top.others) part.evs start j) (sym q) (subst (λ gs. AtLine W text from gs part.evs start now.end) top.is part.stands)),
+      record {
+        stack = top.stack;
+        appended = subst (λ (es : List Event). Appended text base es part.evs) (sym e)
+            (part.holds).appended;
+      },
+      (
+        top.frame,
+        top.keeps,
+        subst (λ j. AtLine W text from (top.frame ∷ top.others) part.evs start j) (sym q)
+            (subst (λ gs. AtLine W text from gs part.evs start now.end) top.is part.stands),
+      ),
     )
 
-pub unwinds_on : (text : List ℕ) (after : NextLine) (first now mid new : Reader) (c : Collection) (next : Option Next) (to : Next) → StillPart text after.line.start first now
-    → now.collections.items ≡ mid.collections.items ++ c ∷ [] → mid.events ≡ now.events → mid.end ≡ now.end → Turns (PartRead c) text after mid new next → next ≡ Some to
-    → (W : Read Indented) (from : ℕ) (base : List Event) (fs : List BlockFrame) (evs : List grammar.Event) → Holds text base fs evs first
+pub unwinds_on : (text : List ℕ) (after : NextLine) (first now mid new : Reader) (c : Collection) (next : Option Next)
+    (to : Next) → StillPart text after.line.start first now
+    → now.collections.items ≡ mid.collections.items ++ c ∷ [] → mid.events ≡ now.events → mid.end ≡ now.end
+    → Turns (PartRead c) text after mid new next → next ≡ Some to
+    → (W : Read Indented) (from : ℕ) (base : List Event) (fs : List BlockFrame) (evs : List grammar.Event)
+    → Holds text base fs evs first
     → AtLine W text from fs evs after.line.start first.end → GoesOn W text from base new to
 unwinds_on text after first now mid new c next to s i e q t n W from base fs evs h a =
     let p = turned W text from base after.line.start now mid c i e q (s W from base fs evs h a) in
-    let all : Turns (PartRead c) text after mid new (Some to) = subst (λ x. Turns (PartRead c) text after mid new x) n t in
+    let all : Turns (PartRead c) text after mid new (Some to) =
+    subst (λ x. Turns (PartRead c) text after mid new x) n t in
     all W from base p.0 p.1 p.2 p.3
 
-pub unwinds_more : (text : List ℕ) (after : NextLine) (first now mid new : Reader) (c : Collection) (next : Option Next) → StillPart text after.line.start first now
-    → now.collections.items ≡ mid.collections.items ++ c ∷ [] → mid.events ≡ now.events → mid.end ≡ now.end → Turns (PartRead c) text after mid new next → next ≡ None
+pub unwinds_more : (text : List ℕ) (after : NextLine) (first now mid new : Reader) (c : Collection)
+    (next : Option Next) → StillPart text after.line.start first now
+    → now.collections.items ≡ mid.collections.items ++ c ∷ [] → mid.events ≡ now.events → mid.end ≡ now.end
+    → Turns (PartRead c) text after mid new next → next ≡ None
     → StillPart text after.line.start first new
 unwinds_more text after first now mid new c next s i e q t n W from base fs evs h a =
     let p = turned W text from base after.line.start now mid c i e q (s W from base fs evs h a) in
     let all : Turns (PartRead c) text after mid new None = subst (λ x. Turns (PartRead c) text after mid new x) n t in
     record { fs = p.0; part = all W from base p.0 p.1 p.2 p.3 }
 
-pub unwinds_all : (text : List ℕ) (start : ℕ) (first now mid : Reader) → StillPart text start first now → length now.collections.items ≡ 0
+pub unwinds_all : (text : List ℕ) (start : ℕ) (first now mid : Reader) → StillPart text start first now
+    → length now.collections.items ≡ 0
     → mid.collections.items ≡ [] → mid.events ≡ now.events → mid.end ≡ now.end
-    → (W : Read Indented) (from : ℕ) (base : List Event) (fs : List BlockFrame) (evs : List grammar.Event) → Holds text base fs evs first
+    → (W : Read Indented) (from : ℕ) (base : List Event) (fs : List BlockFrame) (evs : List grammar.Event)
+    → Holds text base fs evs first
     → AtLine W text from fs evs start first.end → IsPart W text from base [] mid start
 unwinds_all text start first now mid s l i e q W from base fs evs h a =
     let p : Unwound W text from base now start = s W from base fs evs h a in
@@ -302,12 +386,18 @@ unwinds_all text start first now mid s l i e q W from base fs evs h a =
     let none : p.fs ≡ [] = emptied p.fs now.collections.items (part.holds).stack l in
     record {
       evs = part.evs;
-      holds = record { stack = i; appended = subst (λ (es : List Event). Appended text base es part.evs) (sym e) (part.holds).appended };
-      stands = subst (λ j. AtLine W text from [] part.evs start j) (sym q) (subst (λ gs. AtLine W text from gs part.evs start now.end) none part.stands);
+      holds = record {
+        stack = i;
+        appended = subst (λ (es : List Event). Appended text base es part.evs) (sym e)
+            (part.holds).appended;
+      };
+      stands = subst (λ j. AtLine W text from [] part.evs start j) (sym q)
+          (subst (λ gs. AtLine W text from gs part.evs start now.end) none part.stands);
     }
 
 pub still_first : (text : List ℕ) (start : ℕ) (first : Reader) → StillPart text start first first
-still_first text start first W from base fs evs h a = record { fs = fs; part = record { evs = evs; holds = h; stands = a } }
+still_first text start first W from base fs evs h a =
+    record { fs = fs; part = record { evs = evs; holds = h; stands = a } }
 
 pub no_items : {A : Type 0} (xs : List A) → length xs ≡ 0 → xs ≡ []
 no_items [] l = refl

@@ -20,7 +20,7 @@ use Rattle.yaml_block.specs.declared.frame.Next.TheVariants as next
 use Rattle.yaml_block.specs.declared.frame.NextLine.{NextLine}
 use Rattle.yaml_block.specs.declared.frame.Sign.{Sign}
 use Rattle.yaml_block.specs.declared.reader.Reader.{Reader}
-use Rattle.yaml_block.proofs.Holding.{appended_none}
+use Rattle.yaml_block.proofs.Stacks.{appended_none}
 use Rattle.yaml_block.proofs.Unwinding.{whole}
 
 none_part : (r : Read Node) → as_part r ≡ None → r ≡ None
@@ -39,40 +39,54 @@ module _ (text : List ℕ) (m at : ℕ) (shallow : Bool) where
     first_state : BeforeNode text m shallow at all at [] []
     first_state = record { reads = refl; nested = tt; place = refl; wrote = refl }
 
-    pub front_leads : (new : Reader) (to : Next) → Leads text (BeforeNode text m shallow at) first new to → GoesOn all text at first.events new to
+    pub front_leads : (new : Reader) (to : Next) → Leads text (BeforeNode text m shallow at) first new to
+        → GoesOn all text at first.events new to
     front_leads new to l = l all at first.events [] [] first_holds first_state
 
-    pub front_fails : Fails text (BeforeNode text m shallow at) first → block_node_at m shallow (line_starts text at) (rest text at) ≡ None
-    front_fails f = none_part (block_node_at m shallow (line_starts text at) (rest text at)) (f all at first.events [] [] first_holds first_state)
+    pub front_fails : Fails text (BeforeNode text m shallow at) first
+        → block_node_at m shallow (line_starts text at) (rest text at) ≡ None
+    front_fails f = none_part (block_node_at m shallow (line_starts text at) (rest text at))
+        (f all at first.events [] [] first_holds first_state)
 
   module _ (base : List Event) (now : Reader) (here : Next) (g : GoesOn all text at base now here) where
-    pub part_leads : (sg : Sign) (k place : ℕ) (new : Reader) (to : Next) → here ≡ next.After place k sg → Leads text (BeforePart text sg k place) now new to → GoesOn all text at base new to
+    pub part_leads : (sg : Sign) (k place : ℕ) (new : Reader) (to : Next) → here ≡ next.After place k sg
+        → Leads text (BeforePart text sg k place) now new to → GoesOn all text at base new to
     part_leads sg k place new to e l =
-        let p : GoesOn all text at base now (next.After place k sg) = subst (λ n. GoesOn all text at base now n) e g in
+        let p : GoesOn all text at base now (next.After place k sg) =
+        subst (λ n. GoesOn all text at base now n) e g in
         l all at base p.fs p.evs p.holds p.stands
 
-    pub part_fails : (sg : Sign) (k place : ℕ) → here ≡ next.After place k sg → Fails text (BeforePart text sg k place) now → block_node_at m shallow (line_starts text at) (rest text at) ≡ None
+    pub part_fails : (sg : Sign) (k place : ℕ) → here ≡ next.After place k sg
+        → Fails text (BeforePart text sg k place) now
+        → block_node_at m shallow (line_starts text at) (rest text at) ≡ None
     part_fails sg k place e f =
-        let p : GoesOn all text at base now (next.After place k sg) = subst (λ n. GoesOn all text at base now n) e g in
-        none_part (block_node_at m shallow (line_starts text at) (rest text at)) (f all at base p.fs p.evs p.holds p.stands)
+        let p : GoesOn all text at base now (next.After place k sg) =
+        subst (λ n. GoesOn all text at base now n) e g in
+        none_part (block_node_at m shallow (line_starts text at) (rest text at))
+        (f all at base p.fs p.evs p.holds p.stands)
 
-    pub pair_leads : (k place : ℕ) (new : Reader) (to : Next) → here ≡ next.Pair place k → Leads text (BeforePair text k place) now new to → GoesOn all text at base new to
+    pub pair_leads : (k place : ℕ) (new : Reader) (to : Next) → here ≡ next.Pair place k
+        → Leads text (BeforePair text k place) now new to → GoesOn all text at base new to
     pair_leads k place new to e l =
         let p : GoesOn all text at base now (next.Pair place k) = subst (λ n. GoesOn all text at base now n) e g in
         l all at base p.fs p.evs p.holds p.stands
 
-    pub pair_fails : (k place : ℕ) → here ≡ next.Pair place k → Fails text (BeforePair text k place) now → block_node_at m shallow (line_starts text at) (rest text at) ≡ None
+    pub pair_fails : (k place : ℕ) → here ≡ next.Pair place k → Fails text (BeforePair text k place) now
+        → block_node_at m shallow (line_starts text at) (rest text at) ≡ None
     pair_fails k place e f =
         let p : GoesOn all text at base now (next.Pair place k) = subst (λ n. GoesOn all text at base now n) e g in
-        none_part (block_node_at m shallow (line_starts text at) (rest text at)) (f all at base p.fs p.evs p.holds p.stands)
+        none_part (block_node_at m shallow (line_starts text at) (rest text at))
+        (f all at base p.fs p.evs p.holds p.stands)
 
-    pub line_leads : (after : NextLine) (new : Reader) (turn : Option Next) (to : Next) → here ≡ next.Line after → Unwinds text after now new turn → turn ≡ Some to → GoesOn all text at base new to
+    pub line_leads : (after : NextLine) (new : Reader) (turn : Option Next) (to : Next) → here ≡ next.Line after
+        → Unwinds text after now new turn → turn ≡ Some to → GoesOn all text at base new to
     line_leads after new turn to e t s =
         let p : GoesOn all text at base now (next.Line after) = subst (λ n. GoesOn all text at base now n) e g in
         let u : Unwinds text after now new (Some to) = subst (λ o. Unwinds text after now new o) s t in
         u all at base p.fs p.evs p.holds p.stands
 
-    pub line_ends : (after : NextLine) (new : Reader) (turn : Option Next) → here ≡ next.Line after → Unwinds text after now new turn → turn ≡ None → at ≤ after.line.start → IsLine text after.line
+    pub line_ends : (after : NextLine) (new : Reader) (turn : Option Next) → here ≡ next.Line after
+        → Unwinds text after now new turn → turn ≡ None → at ≤ after.line.start → IsLine text after.line
         → BlockNodeRead m shallow text at base new.events after.line.start
     line_ends after new turn e t s l line =
         let p : GoesOn all text at base now (next.Line after) = subst (λ n. GoesOn all text at base now n) e g in

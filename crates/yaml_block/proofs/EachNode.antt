@@ -15,15 +15,20 @@ use Rattle.yaml_events.specs.declared.event.Event.{Event}
 use Rattle.yaml_flow.specs.FlowNodes.{Appended}
 use Rattle.yaml_block.specs.Found.{BlockNodeRead, IsEachBlockNode}
 
-pub each_node : (m : ℕ) (shallow : Bool) (text : List ℕ) (at : ℕ) (old new : List Event) (end : ℕ) → BlockNodeRead m shallow text at old new end → IsEachBlockNode m shallow text at old new end
+pub each_node : (m : ℕ) (shallow : Bool) (text : List ℕ) (at : ℕ) (old new : List Event) (end : ℕ)
+    → BlockNodeRead m shallow text at old new end → IsEachBlockNode m shallow text at old new end
 each_node m shallow text at old new end r node behind stands =
     let g = block_found m shallow (line_starts text at) (rest text at) node behind stands in
-    let same : (r.node ≡ g.0) × (rest text end ≡ g.1) = some_parts r.node g.0 (rest text end) g.1 (sym r.found ∙ g.2) in
-    let means : events_of (r.appended).more ≡ node_events node at = (r.appended).means ∙ (ap (λ (n : Node). node_events n at) same.0 ∙ (g.3).means at) in (
-      ap events_of (r.appended).is ∙ (map-append event_of old (r.appended).more ∙ ap (λ es. events_of old ++ es) means),
+    let same : (r.node ≡ g.0) × (rest text end ≡ g.1) = some_parts r.node g.0 (rest text end) g.1 (sym r.found
+    ∙ g.2) in
+    let means : events_of (r.appended).more ≡ node_events node at = (r.appended).means
+    ∙ (ap (λ (n : Node). node_events n at) same.0 ∙ (g.3).means at) in (
+      ap events_of (r.appended).is ∙ (map-append event_of old (r.appended).more
+          ∙ ap (λ es. events_of old ++ es) means),
       by_end g.4 same.1,
     )
   where
-    by_end : {A B : List ℕ} {left : List ℕ} → (left ≡ A) ⊎ (left ≡ B) → rest text end ≡ left → (rest text end ≡ A) ⊎ (rest text end ≡ B)
+    by_end : {A B : List ℕ} {left : List ℕ} → (left ≡ A) ⊎ (left ≡ B) → rest text end ≡ left
+        → (rest text end ≡ A) ⊎ (rest text end ≡ B)
     by_end (inl e) q = inl (q ∙ e)
     by_end (inr e) q = inr (q ∙ e)

@@ -39,7 +39,7 @@ use Rattle.yaml_block.specs.declared.frame.Next.TheVariants as next
 use Rattle.yaml_block.specs.declared.frame.NextLine.{NextLine}
 use Rattle.yaml_block.specs.declared.reader.Reader.{Reader}
 use Rattle.yaml_block.proofs.BlockScalarReads.{BlockReads, block_no_body, block_no_header, block_reads, no_trail, trail_is}
-use Rattle.yaml_block.proofs.Holding.{appended_one}
+use Rattle.yaml_block.proofs.Stacks.{appended_one}
 use Rattle.yaml_block.proofs.LeafSteps.{block_read, no_block}
 use Rattle.yaml_block.proofs.PlaceSteps.{line_end_read}
 use Rattle.yaml_block.proofs.TextPlaces.{spelled}

@@ -1,0 +1,258 @@
+-- The steps of the reader at a flow node: a leaf, the first key of a mapping, or the key of a further pair.
+use Rattle.std.proofs.Common.{ap, arith, inl, inr, length, refl, subst, sym, ◌<◌, ◌∙◌, ◌≡◌, ◌≤◌, ◌⊎◌}
+use Rattle.std.specs.Prelude.{Bool, IfSome, List, None, Option, Some, [], false, insert, is_some, nat_le, true, ℕ, ◌&&◌, ◌*◌, ◌++◌, ◌+◌, ◌-◌, ◌∷◌}
+use Rattle.std.specs.Str.{IsCharBoundary, IsUtf8}
+use Rattle.std.proofs.lemmas.Bool.{and_left, and_parts, and_right}
+use Rattle.yaml_chars.specs.Breaks.{no_break}
+use Rattle.yaml_chars.specs.Classes.{white}
+use Rattle.yaml_chars.specs.Places.{between, rest}
+use Rattle.yaml_grammar.specs.BlockNodes.{Indented}
+use Rattle.yaml_grammar.specs.Events as grammar
+use Rattle.yaml_grammar.specs.FlowNodes.{flow_events, flow_text, short_key}
+use Rattle.yaml_grammar.specs.FlowScalars.{block_key, outer}
+use Rattle.yaml_grammar.specs.Texts.{byte_len, every, first}
+use Rattle.yaml_recognizers.specs.BlockFrames.{BlockFrame, key_on_line, waits_key, waits_value}
+use Rattle.yaml_recognizers.specs.BlockNodes.{bar}
+use Rattle.yaml_recognizers.specs.Comments.{all_comments, closes_line}
+use Rattle.yaml_recognizers.specs.Fronts.{sign, taken}
+use Rattle.yaml_recognizers.specs.Reading.{Read}
+use Rattle.yaml_recognizers.specs.Recognizers.{flow_node_at}
+use Rattle.yaml_recognizers.proofs.OneLineText.{unbroken}
+use Rattle.yaml_recognizers.proofs.Reading.{none_some}
+use Rattle.yaml_events.specs.Places.{Refuses, line_starts}
+use Rattle.yaml_events.specs.declared.event.Event.{Event}
+use Rattle.yaml_events.specs.declared.event.Event.TheVariants.{MapStart}
+use Rattle.yaml_events.specs.declared.fault.ScanFault.{ScanFault}
+use Rattle.yaml_events.specs.declared.fault.ScanFault.TheVariants.{At, OutOfMemory}
+use Rattle.yaml_scan.specs.Lines.{IsSolidLine}
+use Rattle.yaml_scan.specs.Places.{AreTaken}
+use Rattle.yaml_scan.specs.declared.lines.Line.{Line}
+use Rattle.yaml_scan.proofs.Outcomes.{refuses}
+use Rattle.yaml_flow.specs.FlowNodes.{Appended, FlowNodeRead}
+use Rattle.yaml_block.specs.Frames.{AtLeaf, AtLine}
+use Rattle.yaml_block.specs.States.{BeforeLeaf, BeforePair, Fails, Leads, Onward, Stack}
+use Rattle.yaml_block.specs.declared.frame.Collection.{Collection}
+use Rattle.yaml_block.specs.declared.frame.Leaf.{Leaf}
+use Rattle.yaml_block.specs.declared.frame.Next.TheVariants as next
+use Rattle.yaml_block.specs.declared.frame.Sign.{Sign}
+use Rattle.yaml_block.specs.declared.frame.Sign.TheVariants.{Asked, Colon}
+use Rattle.yaml_block.specs.declared.frame.Waits.TheVariants.{Key, Value}
+use Rattle.yaml_block.specs.declared.reader.Reader.{Reader}
+use Rattle.yaml_block.proofs.Stacks.{appended_before, appended_more, appended_one, opened}
+use Rattle.yaml_block.proofs.LeafSteps.{asked_pair, first_key, leaf_goes_on, leaf_read, next_asked, next_key, no_first_key, no_leaf, no_next_key, no_next_node, second_key}
+use Rattle.yaml_block.proofs.PlaceSteps.{WhiteTo, comments_to, flow_to, short_is, unbroken_is, white_to}
+use Rattle.yaml_block.proofs.TextPlaces.{IsPastSign, past_sign}
+
+-- a fault that is told in other words
+pub fault_kept : (fault other : ScanFault) (P Q : Type 0) → (fault ≡ OutOfMemory → other ≡ OutOfMemory) → (P → Q)
+    → Refuses fault P → Refuses other Q
+fault_kept (At at why) other P Q k f h = refuses other Q (f h)
+fault_kept OutOfMemory other P Q k f h = subst (λ (x : ScanFault). Refuses x Q) (sym (k refl)) tt
+
+-- a step to a place after a sign leads on
+pub after_onward : (text : List ℕ) (at bound p k : ℕ) (before : Sign) → IsPastSign text p → at ≤ p → k ≤ p
+    → 3 * (length text - (p + 1)) + 2 < bound → Onward text at bound (next.After (p + 1) k before)
+after_onward text at bound p k before s a d l = record {
+  above = omega (arith, a);
+  less = l;
+  placed = record { boundary = s.boundary; deeper = omega (arith, d); inside_line = s.inside_line };
+}
+
+either : (a b : Bool) → (a ≡ false) ⊎ (b ≡ false) → a && b ≡ false
+either a b (inl e) = and_left a b e
+either a b (inr e) = and_right a b e
+
+kept : (text : List ℕ) (base old new : List Event) (evs : List grammar.Event) → Appended text base old evs → new ≡ old
+    → Appended text base new evs
+kept text base old new evs a e = subst (λ (es : List Event). Appended text base es evs) (sym e) a
+
+module _ (text : List ℕ) (u : IsUtf8 text) where
+  -- ---- a further pair
+
+  pub pair_asked : (at k : ℕ) (old new : Reader) → IsCharBoundary text at → sign 63 (rest text at) ≡ true
+      → new.collections.items ≡ old.collections.items ++ (record { waits = Key; indent = k }) ∷ []
+      → new.events ≡ old.events → Leads text (BeforePair text k at) old new (next.After (at + 1) k Asked)
+  pair_asked at k old new b q c e = λ W from base fs evs held pair.
+      let s : IsPastSign text at = past_sign text at 63 u b (omega arith) refl q in
+      let p = next_asked W text from fs evs k at pair q s.past_is in
+      record {
+        fs = waits_key p.0 k p.1 ∷ fs;
+        evs = evs;
+        holds = opened text base fs evs evs old new (waits_key p.0 k p.1) (record { waits = Key; indent = k }) held c
+            (record { waits = refl; indent = refl }) (kept text base old.events new.events evs held.appended e);
+        stands = p.2;
+      }
+
+  pub pair_key : (at k end colon : ℕ) (old new : Reader) (mid : List Event) → IsCharBoundary text at
+      → FlowNodeRead 0 block_key text at end old.events mid → AreTaken white text end colon
+      → sign 58 (rest text colon) ≡ true → nat_le (length (between text at colon)) 1024 ≡ true
+      → new.collections.items ≡ old.collections.items ++ (record { waits = Value; indent = k }) ∷ []
+      → new.events ≡ mid → Leads text (BeforePair text k at) old new (next.After (colon + 1) k Colon)
+  pair_key at k end colon old new mid b f t c short i e = λ W from base fs evs held pair.
+      let w : WhiteTo text end colon = white_to text end colon u f.boundary t in
+      let s : IsPastSign text colon = past_sign text colon 58 u t.boundary (omega arith) refl c in
+      let len : at + byte_len (flow_text f.node) ≡ end =
+      (flow_to text at end f.node 0 block_key (line_starts text at) u b f.boundary f.found).0 in
+      let is_short : short_key f.node (taken white (rest text end)) ≡ true =
+      sym (short_is text at end colon f.node 0 block_key (line_starts text at) u b f.boundary f.found t)
+      ∙ short in
+      let p = next_key W text from fs evs k at f.node end colon pair f.found len w.drops w.place c s.past_is
+      is_short in
+      let key : BlockFrame = waits_value p.0 k p.1 p.2 in
+      record {
+        fs = key ∷ fs;
+        evs = evs ++ flow_events f.node at;
+        holds = opened text base fs evs (evs ++ flow_events f.node at) old new key
+            (record { waits = Value; indent = k }) held i (record { waits = refl; indent = refl })
+            (kept text base mid new.events (evs ++ flow_events f.node at)
+            (appended_more text base old.events mid evs (flow_events f.node at) held.appended f.appended) e);
+        stands = p.4;
+      }
+
+  pub pair_unkeyed : (at k end colon : ℕ) (old : Reader) (mid : List Event) → IsCharBoundary text at
+      → FlowNodeRead 0 block_key text at end old.events mid → AreTaken white text end colon
+      → (sign 58 (rest text colon) ≡ false) ⊎ (nat_le (length (between text at colon)) 1024 ≡ false)
+      → Fails text (BeforePair text k at) old
+  pair_unkeyed at k end colon old mid b f t n = λ W from base fs evs held pair.
+      let w : WhiteTo text end colon = white_to text end colon u f.boundary t in
+      no_next_key W text from fs evs k at f.node end colon pair f.found w.drops
+      (ap (λ x. sign 58 (rest text colon) && x) (sym
+      (short_is text at end colon f.node 0 block_key (line_starts text at) u b f.boundary f.found t))
+      ∙ either (sign 58 (rest text colon)) (nat_le (length (between text at colon)) 1024) n)
+
+  pub pair_missing : (at k : ℕ) (old : Reader) → sign 63 (rest text at) ≡ false
+      → flow_node_at 0 block_key (line_starts text at) (rest text at) ≡ None → Fails text (BeforePair text k at) old
+  pair_missing at k old q n = λ W from base fs evs held pair. no_next_node W text from fs evs k at pair q n
+
+  -- ---- a leaf
+
+  pub leaf_asked : (leaf : Leaf) (k : ℕ) (old new : Reader) → leaf.pairs ≡ Some k → IsCharBoundary text leaf.at
+      → sign 63 (rest text leaf.at) ≡ true
+      → new.collections.items ≡ old.collections.items ++ (record { waits = Key; indent = k }) ∷ []
+      → new.events ≡ old.events ++ MapStart ∷ []
+      → Leads text (BeforeLeaf text leaf) old new (next.After (leaf.at + 1) k Asked)
+  leaf_asked leaf k old new n b q c e = λ W from base fs evs held here.
+      let s : IsPastSign text leaf.at = past_sign text leaf.at 63 u b (omega arith) refl q in
+      let at_leaf : AtLeaf W text from fs evs leaf.least (Some k) leaf.at =
+      subst (λ (x : Option ℕ). AtLeaf W text from fs evs leaf.least x leaf.at) n here in
+      let p = asked_pair W text from fs evs leaf.least k leaf.at at_leaf q s.past_is in
+      record {
+        fs = waits_key p.0 k [] ∷ fs;
+        evs = evs ++ grammar.map_start ∷ [];
+        holds = opened text base fs evs (evs ++ grammar.map_start ∷ []) old new (waits_key p.0 k [])
+            (record { waits = Key; indent = k }) held c (record { waits = refl; indent = refl })
+            (appended_one text base old.events new.events evs MapStart held.appended e tt);
+        stands = p.1;
+      }
+
+  pub leaf_key : (leaf : Leaf) (k end colon : ℕ) (old new : Reader) (mid : List Event) → leaf.pairs ≡ Some k
+      → IsCharBoundary text leaf.at → FlowNodeRead leaf.least outer text leaf.at end old.events mid
+      → AreTaken white text end colon → sign 58 (rest text colon) ≡ true
+      → every no_break (between text leaf.at end) && nat_le (length (between text leaf.at colon)) 1024 ≡ true
+      → new.collections.items ≡ old.collections.items ++ (record { waits = Value; indent = k }) ∷ []
+      → new.events ≡ insert mid (length old.events) MapStart
+      → Leads text (BeforeLeaf text leaf) old new (next.After (colon + 1) k Colon)
+  leaf_key leaf k end colon old new mid n b f t c fits i e = λ W from base fs evs held here.
+      let at : ℕ = leaf.at in
+      let w : WhiteTo text end colon = white_to text end colon u f.boundary t in
+      let s : IsPastSign text colon = past_sign text colon 58 u t.boundary (omega arith) refl c in
+      let len : at + byte_len (flow_text f.node) ≡ end =
+      (flow_to text at end f.node leaf.least outer (line_starts text at) u b f.boundary f.found).0 in
+      let q : (every no_break (between text at end) ≡ true) × (nat_le (length (between text at colon)) 1024 ≡ true) =
+      and_parts _ _ fits in
+      let is_short : short_key f.node (taken white (rest text end)) ≡ true =
+      sym (short_is text at end colon f.node leaf.least outer (line_starts text at) u b f.boundary f.found t)
+      ∙ q.1 in
+      let one : unbroken (flow_text f.node) ≡ true =
+      sym (unbroken_is text at end f.node leaf.least outer (line_starts text at) u b f.boundary f.found) ∙ q.0 in
+      let at_leaf : AtLeaf W text from fs evs leaf.least (Some k) at =
+      subst (λ (x : Option ℕ). AtLeaf W text from fs evs leaf.least x at) n here in
+      let p = first_key W text from fs evs leaf.least k at f.node end colon at_leaf f.found len w.drops w.place c
+      s.past_is one is_short in
+      let key : BlockFrame = waits_value p.0 k [] (key_on_line f.node (taken white (rest text end))) in
+      record {
+        fs = key ∷ fs;
+        evs = evs ++ grammar.map_start ∷ flow_events f.node at;
+        holds = opened text base fs evs (evs ++ grammar.map_start ∷ flow_events f.node at) old new key
+            (record { waits = Value; indent = k }) held i (record { waits = refl; indent = refl })
+            (appended_before text base old.events mid new.events evs (flow_events f.node at) held.appended f.appended
+            e);
+        stands = p.1;
+      }
+
+  pub leaf_unkeyed : (leaf : Leaf) (end colon : ℕ) (old : Reader) (mid : List Event) → IsCharBoundary text leaf.at
+      → FlowNodeRead leaf.least outer text leaf.at end old.events mid
+      → AreTaken white text end colon → sign 58 (rest text colon) ≡ true
+      → (leaf.pairs ≡ None) ⊎ (every no_break (between text leaf.at end) && nat_le
+      (length (between text leaf.at colon)) 1024 ≡ false) → Fails text (BeforeLeaf text leaf) old
+  leaf_unkeyed leaf end colon old mid b f t c n = λ W from base fs evs held here.
+      by_pairs W from fs evs leaf.pairs refl n here
+    where
+      w : WhiteTo text end colon
+      w = white_to text end colon u f.boundary t
+
+      tests : every no_break (between text leaf.at end) && nat_le (length (between text leaf.at colon)) 1024
+          ≡ unbroken (flow_text f.node) && short_key f.node (taken white (rest text end))
+      tests =
+          ap (λ x. x && nat_le (length (between text leaf.at colon)) 1024)
+          (unbroken_is text leaf.at end f.node leaf.least outer (line_starts text leaf.at) u b f.boundary f.found)
+          ∙ ap (λ x. unbroken (flow_text f.node) && x)
+          (short_is text leaf.at end colon f.node leaf.least outer (line_starts text leaf.at) u b f.boundary
+          f.found t)
+
+      by_pairs : (W : Read Indented) (from : ℕ) (fs : List BlockFrame) (evs : List grammar.Event) (pairs : Option ℕ)
+          → leaf.pairs ≡ pairs
+          → (leaf.pairs ≡ None) ⊎ (every no_break (between text leaf.at end) && nat_le
+          (length (between text leaf.at colon)) 1024 ≡ false)
+          → AtLeaf W text from fs evs leaf.least leaf.pairs leaf.at → W ≡ None
+      by_pairs W from fs evs None e n here =
+          second_key W text from fs evs leaf.least leaf.at f.node end colon
+          (subst (λ (x : Option ℕ). AtLeaf W text from fs evs leaf.least x leaf.at) e here) f.found w.drops c
+      by_pairs W from fs evs (Some k) e (inl n) here = absurd (none_some k (sym n ∙ e))
+      by_pairs W from fs evs (Some k) e (inr n) here =
+          no_first_key W text from fs evs leaf.least k leaf.at f.node end colon
+          (subst (λ (x : Option ℕ). AtLeaf W text from fs evs leaf.least x leaf.at) e here) f.found w.drops c
+          (sym tests ∙ n)
+
+  pub leaf_line : (leaf : Leaf) (end colon : ℕ) (line : Line) (old new : Reader) (mid : List Event)
+      → IsCharBoundary text leaf.at → FlowNodeRead leaf.least outer text leaf.at end old.events mid
+      → AreTaken white text end colon → sign 58 (rest text colon) ≡ false → IsSolidLine false text end line
+      → closes_line (all_comments false (rest text end)) ≡ true
+      → new.collections ≡ old.collections → new.events ≡ mid → new.end ≡ end
+      → Leads text (BeforeLeaf text leaf) old new (next.Line (record { line = line; is_solid = true }))
+  leaf_line leaf end colon line old new mid b f t c l close i e d = λ W from base fs evs held here.
+      let at : ℕ = leaf.at in
+      let len : at + byte_len (flow_text f.node) ≡ end =
+      (flow_to text at end f.node leaf.least outer (line_starts text at) u b f.boundary f.found).0 in
+      let read : AtLine W text from fs (evs ++ flow_events f.node at) line.start end =
+      leaf_read W text from fs evs leaf.least leaf.pairs at f.node end colon line.start here f.found len t.leaves c
+      close l.leaves (comments_to text end line.start false u f.boundary l.boundary l.leaves).0 in
+      record {
+        fs = fs;
+        evs = evs ++ flow_events f.node at;
+        holds = record {
+          stack = subst (λ (v : List Collection). Stack fs v) (sym (ap (λ v. v.items) i)) held.stack;
+          appended = kept text base mid new.events (evs ++ flow_events f.node at)
+              (appended_more text base old.events mid evs (flow_events f.node at) held.appended f.appended) e;
+        };
+        stands = subst (λ (x : ℕ). AtLine W text from fs (evs ++ flow_events f.node at) line.start x) (sym d) read;
+      }
+
+  pub leaf_unclosed : (leaf : Leaf) (end colon : ℕ) (old : Reader) (mid : List Event)
+      → FlowNodeRead leaf.least outer text leaf.at end old.events mid → AreTaken white text end colon
+      → sign 58 (rest text colon) ≡ false → closes_line (all_comments false (rest text end)) ≡ false
+      → Fails text (BeforeLeaf text leaf) old
+  leaf_unclosed leaf end colon old mid f t c n = λ W from base fs evs held here.
+      leaf_goes_on W text from fs evs leaf.least leaf.pairs leaf.at f.node end colon here f.found t.leaves c n
+
+  pub leaf_nothing : (leaf : Leaf) (old : Reader) → first bar (rest text leaf.at) ≡ false
+      → IfSome leaf.pairs (λ indent. sign 63 (rest text leaf.at) ≡ false)
+      → flow_node_at leaf.least outer (line_starts text leaf.at) (rest text leaf.at) ≡ None
+      → Fails text (BeforeLeaf text leaf) old
+  leaf_nothing leaf old h q n = λ W from base fs evs held here.
+      no_leaf W text from fs evs leaf.least leaf.pairs leaf.at here h (unasked leaf.pairs q) n
+    where
+      unasked : (pairs : Option ℕ) → IfSome pairs (λ indent. sign 63 (rest text leaf.at) ≡ false)
+          → is_some pairs && sign 63 (rest text leaf.at) ≡ false
+      unasked None h = refl
+      unasked (Some k) h = h
