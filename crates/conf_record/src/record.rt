@@ -1,5 +1,5 @@
 // The text of a record: the document that tells a command and the number that it was accepted under.
-ghost use Rattle.std.specs.Prelude.{◌≡◌, ◌*◌, ◌^◌, ◌<◌, ◌++◌, min, codes, decimal, string_bytes, IfOk, OnOk};
+ghost use Rattle.std.specs.Prelude.{◌≡◌, ◌≤◌, ◌++◌, min, codes, decimal, string_bytes, IfOk, OnOk};
 ghost use Rattle.std.specs.Str.{chars};
 ghost use Rattle.yaml_grammar.specs.Texts.{byte_len};
 ghost use Rattle.yaml_grammar.specs.Trees.{text, depth};
@@ -134,7 +134,7 @@ fn write_command<S: Sink>(command: &Command, texts: &Texts, sink: &mut S) -> Res
 }
 
 fn write_member<S: Sink>(key: &str, value: &Tree, sink: &mut S) -> Result<(), S::Fault>
-    requires { 2 * depth (tree_of value.now) < 2 ^ 64 }
+    requires { depth (tree_of value.now) ≤ 66 }
     ensures { OnOk result (S.Takes sink.old (key_lines 0 (chars key.now) ++ value_at (tree_of value.now) 0) sink.new) }
 {
     write_key(key, 0, sink)?;

@@ -433,9 +433,33 @@ fn a_base_text_has_a_greatest_length(rt: HostRuntime) -> Result<(), Fail> {
     assert_eq!(rt; state.get("c63").is_none(), true);
     import(alloc, &mut state, "c63", letters(alloc, 1_048_080)?)?;
     assert_eq!(rt; state.count(), 64);
+    assert_eq!(rt; state.base_length(), 67_108_864);
     assert_eq!(rt;
         set(alloc, &mut state, "c00", "", text(alloc, "y")?),
         Ok(())
     );
+    Ok(())
+}
+
+// The base text has `---`, `store: confstore-1`, `at: "1"`, `configs:`, `  a: x` and `...`, and each line its line feed.
+#[test]
+fn the_base_length_is_kept(rt: HostRuntime) -> Result<(), Fail> {
+    let alloc = rt.alloc();
+    let mut state = State::new(alloc);
+    assert_eq!(rt; state.base_length(), 47);
+    import(alloc, &mut state, "a", text(alloc, "x")?)?;
+    assert_eq!(rt; state.base_length(), 51);
+    set(alloc, &mut state, "a", "", Tree::Seq(Vec::new(alloc)))?;
+    assert_eq!(rt; state.base_length(), 52);
+    let b = Tree::Map(vec![in alloc; pair(alloc, "k", text(alloc, "v")?)?]?);
+    import(alloc, &mut state, "b", b)?;
+    assert_eq!(rt; state.base_length(), 66);
+    delete(alloc, &mut state, "b", "/k")?;
+    assert_eq!(rt; state.base_length(), 60);
+    delete(alloc, &mut state, "a", "")?;
+    assert_eq!(rt; state.base_length(), 52);
+    delete(alloc, &mut state, "b", "")?;
+    assert_eq!(rt; state.base_length(), 47);
+    assert_eq!(rt; state.count(), 6);
     Ok(())
 }

@@ -7,6 +7,9 @@ use thiserror::Error;
 use tree_path::{Path, PathFault, delete, set};
 use yaml_tree::{Config, ReadFault, Tree, style_len};
 
+/// The greatest depth of a tree whose length is told.
+const DEEPEST: u8 = 66;
+
 /// Something was refused.
 #[derive(Debug, Drop, Error)]
 pub(crate) enum Refused {
@@ -20,13 +23,16 @@ pub(crate) enum Refused {
     Memory(#[from] AllocError),
     #[error("{0}")]
     Output(#[from] io::Error),
-    #[error("the tree is longer than any")]
+    #[error("the tree is too deep or too long")]
     Long,
 }
 
 /// How many bytes the tree has in the one style.
 pub(crate) fn length_in_style(alloc: Global, order: &Order) -> Result<u64, Refused> {
     let tree = order.shape.tree(alloc)?;
+    if tree.is_deeper_than(DEEPEST) {
+        return Err(Refused::Long);
+    }
     style_len(&tree, u64::MAX).ok_or(Refused::Long)
 }
 

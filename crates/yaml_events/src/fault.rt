@@ -7,9 +7,6 @@ use thiserror::Error;
 /// Why no node stands where one is looked for. Which of them a text gets is no promise: it is there to help its writer.
 #[derive(Clone, Copy, Debug, PartialEq, Eq, Error)]
 pub enum Why {
-    /// The text may be right: it is not read yet.
-    #[error("NotYet")]
-    NotYet,
     /// An alias (`*name`), which the profile leaves out.
     #[error("Alias")]
     Alias,

@@ -1,12 +1,15 @@
 pub mod ByteLemmas
+pub mod DepthTests
 pub mod KeyLemmas
 pub mod LengthLemmas
+pub mod LevelLemmas
 pub mod LiteralLemmas
 pub mod QuotedLemmas
 pub mod ScalarLemmas
 pub mod SeenLemmas
 pub mod SizeLaws
 pub mod SizeBounds
+pub mod SpecialWords
 pub mod StyleLemmas
 pub mod TextLemmas
 pub mod TextsLemmas

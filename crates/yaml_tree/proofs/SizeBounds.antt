@@ -1,5 +1,6 @@
 -- A part has no more indented lines than bytes, so lengths at small indentations are small where the length in the one style is.
-use Rattle.std.proofs.Common.{ℕ, zero, suc, ◌+◌, ◌*◌, ◌/◌, ◌%◌, ◌≤◌, ◌==◌, ◌||◌, nat_le, Bool, true, false, length, if◌then◌else◌, List, [], ◌∷◌, ◌++◌, codes, arith}
+use Rattle.std.proofs.Common.{◌≡◌, ℕ, zero, suc, ◌+◌, ◌*◌, ◌/◌, ◌%◌, ◌≤◌, ◌==◌, ◌||◌, nat_le, nat_lt, Bool, true, false, length, length-append, if◌then◌else◌, List, [], ◌∷◌, ◌++◌, codes, arith}
+use Rattle.std.proofs.lemmas.Bool.Decides.{nat_tests}
 use Rattle.std.proofs.lemmas.Str.{len_utf8_bounds}
 use Rattle.yaml_chars.specs.Classes.{between}
 use Rattle.yaml_grammar.specs.Texts.{byte_len, spaces}
@@ -64,6 +65,22 @@ quoted_char_short c =
     by false false true short = omega arith
     by false false false true = omega arith
     by false false false false = omega arith
+
+quoted_chars_short : (cs : List ℕ) → length (quoted_chars cs) ≤ 6 * length cs
+quoted_chars_short [] = omega arith
+quoted_chars_short (c ∷ cs) =
+    omega (arith, quoted_chars_short cs, quoted_char_short c, length-append (quoted_char c) (quoted_chars cs))
+
+pub short_key : (key : List ℕ) → length key ≤ 166 → false ≡ long_key key
+short_key key short = by (length (key_text key)) (text_short (plain_in_style key))
+  where
+    text_short : (plain : Bool) → length (if plain then key else quoted key) ≤ 1000
+    text_short true = omega arith
+    text_short false =
+        omega (arith, quoted_chars_short key, length-append (codes "\"" ++ quoted_chars key) (codes "\""), length-append (codes "\"") (quoted_chars key))
+
+    by : (n : ℕ) → n ≤ 1000 → false ≡ nat_lt 1000 n
+    by n h = grind (arith, nat_tests)
 
 four_each : (cs : List ℕ) → byte_len cs ≤ 4 * length cs
 four_each [] = omega arith

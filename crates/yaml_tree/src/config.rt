@@ -52,8 +52,8 @@ impl Model for Config {
 impl Config {
     /// The configuration that a tree is. A tree that is none comes back with the first of these faults: a mapping holds a
     /// key twice ([`ReadFault::KeyTwice`]), the tree is more than 66 deep ([`ReadFault::TooDeep`]), it has more than
-    /// 67,108,864 bytes in the one style ([`ReadFault::LargeInStyle`]); or with [`ReadFault::OutOfMemory`], for want of
-    /// memory to look keys up. The stack grows with the tree's depth.
+    /// 67,108,864 bytes in the one style ([`ReadFault::LargeInStyle`]); or with [`ReadFault::OutOfMemory`], where there is no
+    /// memory to look keys up. The tree may have any depth.
     pub fn new(alloc: Global, tree: Tree) -> Result<Config, (Tree, ReadFault)>
         ensures ok { IfOk result (λ config. (config ≡ tree) × IsKept (tree_of tree)) }
         ensures refused { IfErr result (λ refused. (refused.0 ≡ tree)
@@ -153,7 +153,7 @@ fn checked_length(alloc: Global, tree: &Tree, limits: &Limits) -> Result<u64, Re
     if !has_distinct_keys(alloc, tree)? {
         return Err(ReadFault::KeyTwice);
     }
-    if tree.depth() > limits.depth {
+    if tree.is_deeper_than(limits.depth as u8) {
         return Err(ReadFault::TooDeep);
     }
     match style_len(tree, limits.style) {

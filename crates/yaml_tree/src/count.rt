@@ -3,6 +3,7 @@ ghost use Rattle.std.specs.Prelude.{◌≡◌, ◌≤◌};
 ghost use Rattle.std.specs.Option.{SomeIff};
 ghost use Rattle.std.specs.Str.{chars};
 ghost use Rattle.yaml_grammar.specs.Texts.{byte_len};
+ghost use Rattle.yaml_grammar.specs.Trees.{depth};
 ghost use Rattle.yaml_grammar.specs.Style.{long_key, style_text};
 ghost use Rattle.yaml_tree.specs.Budget.{left_after};
 ghost use Rattle.yaml_tree.specs.Seen.{tree_of};
@@ -45,10 +46,16 @@ impl Sink for CharCount {
     }
 }
 
+/// The most bytes of a key that needs no count: each character has at most six in quotes.
+const SHORT_KEY: usize = 166;
+
 /// Whether a key's spelling, quotes counted, has more than 1,000 characters.
 pub(crate) fn is_long_key(key: &str) -> bool
     ensures { result ≡ long_key (chars key.now) }
 {
+    if key.len() <= SHORT_KEY {
+        return false;
+    }
     let mut spelling = CharCount { count: 0 };
     match write_key_text(key, &mut spelling) {
         Ok(()) => spelling.count > 1000,
@@ -155,16 +162,13 @@ impl Sink for ByteBudget {
     }
 }
 
-/// How many bytes a tree has in the one style; None where these are more than `max`. It takes no memory; the stack grows
-/// with the tree's depth.
+/// How many bytes a tree has in the one style; None where these are more than `max`. It takes no memory. The call stack grows
+/// with the depth, which therefore is at most 66; [`is_deeper_than`](Tree::is_deeper_than) tests that.
 pub fn style_len(tree: &Tree, max: u64) -> Option<u64>
+    requires { depth (tree_of tree.now) ≤ 66 }
     ensures { SomeIff result
         (byte_len (style_text (tree_of tree.now)) ≤ max) (byte_len (style_text (tree_of tree.now))) }
 {
-    // Each level of a tree has at least two bytes, so that the indentation fits its type below.
-    if tree.depth() > max / 2 {
-        return None;
-    }
     let mut budget = ByteBudget { left: Some(max) };
     match write_style(tree, &mut budget) {
         Ok(()) => Some(max - budget.left?),

@@ -1,52 +1,86 @@
 // Whether keys differ (YAML 1.2.2, 3.2.1.3).
-ghost use Rattle.std.specs.Prelude.{◌≡◌, IfOk};
-ghost use Rattle.yaml_grammar.specs.Trees.{distinct, elements_distinct};
-ghost use Rattle.yaml_tree.specs.Keys.{keys_differ, values_distinct};
-ghost use Rattle.yaml_tree.specs.Seen.{tree_of, elements_of, members_of};
+ghost use Rattle.std.specs.Prelude.{◌≡◌, ◌+◌, ◌&&◌, true, IfOk, MatchOption};
+ghost use Rattle.yaml_grammar.specs.Trees.{distinct};
+ghost use Rattle.yaml_tree.specs.Keys.{keys_differ, own_keys_differ, level_distinct, level_nodes, nodes};
+ghost use Rattle.yaml_tree.specs.Seen.{tree_of, members_of};
 
 use crate::Tree;
 use std::alloc::{AllocError, Global};
 use std::collections::BTreeSet;
 
-/// Whether in each mapping of a tree the keys differ from one another.
-#[cycle(keys)]
+/// Whether in each mapping of a tree the keys differ from one another. The walk keeps its way on a stack of its own, so the tree
+/// may have any depth.
 pub(crate) fn has_distinct_keys(alloc: Global, tree: &Tree) -> Result<bool, AllocError>
     ensures { IfOk result (λ answer. answer ≡ distinct (tree_of tree.now)) }
 {
-    match tree {
-        Tree::Text(_) => Ok(true),
-        Tree::Seq(items) => have_distinct_keys(alloc, items),
-        Tree::Map(pairs) => {
-            if !keys_differ(alloc, pairs)? {
-                return Ok(false);
+    if !have_own_keys_distinct(alloc, tree)? {
+        return Ok(false);
+    }
+    let mut levels = Vec::new(alloc);
+    levels.push(Level::inside(tree))?;
+    while let Some(level) = levels.pop() {
+        let Some((first, rest)) = level.split_first() else {
+            continue;
+        };
+        if !have_own_keys_distinct(alloc, first)? {
+            return Ok(false);
+        }
+        levels.push(rest)?;
+        levels.push(Level::inside(first))?;
+    }
+    Ok(true)
+}
+
+/// Values that are still to be looked at.
+#[derive(Clone, Copy)]
+enum Level<'t> {
+    /// Elements of a sequence.
+    Elements(&'t [Tree]),
+    /// Values of a mapping.
+    Values(&'t [(String, Tree)]),
+}
+
+impl<'t> Level<'t> {
+    /// The values directly inside a tree; a text has none.
+    fn inside(tree: &'t Tree) -> Level<'t>
+        ensures keys { distinct (tree_of tree.now) ≡ (own_keys_differ (tree_of tree.now) && level_distinct result) }
+        ensures size { nodes (tree_of tree.now) ≡ 1 + level_nodes result }
+    {
+        match tree {
+            Tree::Text(_) => Level::Elements(&[]),
+            Tree::Seq(items) => Level::Elements(items),
+            Tree::Map(pairs) => Level::Values(pairs),
+        }
+    }
+
+    /// The first value and those after it.
+    fn split_first(self) -> Option<(&'t Tree, Level<'t>)>
+        ensures { MatchOption result
+            ((level_distinct self.entry ≡ true))
+            (λ parts. (level_distinct self.entry ≡ (distinct (tree_of parts.0.now) && level_distinct parts.1))
+            × (level_nodes self.entry ≡ nodes (tree_of parts.0.now) + level_nodes parts.1)) }
+    {
+        match self {
+            Level::Elements(items) => {
+                let (first, rest) = items.split_first()?;
+                Some((first, Level::Elements(rest)))
             }
-            values_have_distinct_keys(alloc, pairs)
+            Level::Values(pairs) => {
+                let (first, rest) = pairs.split_first()?;
+                Some((&first.1, Level::Values(rest)))
+            }
         }
     }
 }
 
-#[cycle(keys)]
-fn have_distinct_keys(alloc: Global, items: &[Tree]) -> Result<bool, AllocError>
-    ensures { IfOk result (λ answer. answer ≡ elements_distinct (elements_of items.now)) }
+/// Whether the keys of a tree differ, where it is a mapping; those deeper inside don't count.
+fn have_own_keys_distinct(alloc: Global, tree: &Tree) -> Result<bool, AllocError>
+    ensures { IfOk result (λ answer. answer ≡ own_keys_differ (tree_of tree.now)) }
 {
-    for item in items {
-        if !has_distinct_keys(alloc, item)? {
-            return Ok(false);
-        }
+    match tree {
+        Tree::Text(_) | Tree::Seq(_) => Ok(true),
+        Tree::Map(pairs) => keys_differ(alloc, pairs),
     }
-    Ok(true)
-}
-
-#[cycle(keys)]
-fn values_have_distinct_keys(alloc: Global, pairs: &[(String, Tree)]) -> Result<bool, AllocError>
-    ensures { IfOk result (λ answer. answer ≡ values_distinct (members_of pairs.now)) }
-{
-    for (_, value) in pairs {
-        if !has_distinct_keys(alloc, value)? {
-            return Ok(false);
-        }
-    }
-    Ok(true)
 }
 
 /// Whether the keys of one mapping differ. Each is looked up among those before it, which stand in order.

@@ -84,11 +84,17 @@ fn has_word_chars(text: &str) -> bool
     text.chars().all(is_word_char)
 }
 
+/// The most bytes of a special word.
+const LONGEST_SPECIAL: usize = 5;
+
 /// Whether a word is special in any letter case.
 fn is_special(text: &str) -> bool
     requires { chars text.now ≡ text.now }
     ensures { result ≡ is_among (lower (chars text.now)) special_words }
 {
+    if text.len() > LONGEST_SPECIAL {
+        return false;
+    }
     is_same_word(text, "null")
         || is_same_word(text, "true")
         || is_same_word(text, "false")

@@ -1,5 +1,5 @@
 // The one style: the text of a tree, written to a sink.
-ghost use Rattle.std.specs.Prelude.{◌+◌, ◌*◌, ◌^◌, ◌<◌, ◌++◌, true, codes, OnOk};
+ghost use Rattle.std.specs.Prelude.{◌+◌, ◌*◌, ◌^◌, ◌<◌, ◌≤◌, ◌++◌, true, codes, OnOk};
 ghost use Rattle.std.specs.Str.{chars};
 ghost use Rattle.yaml_grammar.specs.Texts.{spaces};
 ghost use Rattle.yaml_grammar.specs.Trees.{depth, elements_depth, members_depth};
@@ -11,9 +11,10 @@ use crate::literal::write_literal_lines;
 use crate::quoted::write_quoted;
 use crate::{ScalarStyle, Sink, Tree, scalar_style};
 
-/// Writes a tree in the one style: the text, with the end of its last line. The stack grows with the tree's depth.
+/// Writes a tree in the one style: the text, with the end of its last line. The call stack grows with the depth, which therefore
+/// is at most 66; [`is_deeper_than`](Tree::is_deeper_than) tests that.
 pub fn write_style<S: Sink>(tree: &Tree, sink: &mut S) -> Result<(), S::Fault>
-    requires { 2 * depth (tree_of tree.now) < 2 ^ 64 }
+    requires { depth (tree_of tree.now) ≤ 66 }
     ensures { OnOk result (S.Takes sink.old (style_text (tree_of tree.now)) sink.new) }
 {
     match tree {
@@ -136,15 +137,25 @@ fn write_members<S: Sink>(
     for (key, value) in pairs {
         sink.put_spaces(lead)?;
         write_key(key, indent, sink)?;
-        write_value(value, indent, sink)?;
+        write_value_lines(value, indent, sink)?;
         lead = indent;
     }
     Ok(())
 }
 
+/// Writes a value behind the `:` of its key at `indent`. The call stack grows with the depth, which therefore is at most 66;
+/// [`is_deeper_than`](Tree::is_deeper_than) tests that.
+pub fn write_value<S: Sink>(tree: &Tree, indent: u64, sink: &mut S) -> Result<(), S::Fault>
+    requires deep { depth (tree_of tree.now) ≤ 66 }
+    requires room { indent + 132 < 2 ^ 64 }
+    ensures { OnOk result (S.Takes sink.old (value_at (tree_of tree.now) indent) sink.new) }
+{
+    write_value_lines(tree, indent, sink)
+}
+
 /// Writes a value behind the `:` of its key at `indent`.
 #[cycle(lines)]
-pub fn write_value<S: Sink>(tree: &Tree, indent: u64, sink: &mut S) -> Result<(), S::Fault>
+fn write_value_lines<S: Sink>(tree: &Tree, indent: u64, sink: &mut S) -> Result<(), S::Fault>
     requires room { indent + 2 * depth (tree_of tree.now) < 2 ^ 64 }
     ensures { OnOk result (S.Takes sink.old (value_at (tree_of tree.now) indent) sink.new) }
 {

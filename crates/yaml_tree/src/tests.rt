@@ -92,6 +92,8 @@ fn a_key_twice_is_refused(rt: HostRuntime) -> Result<(), Fail> {
 fn depth_is_at_most_66(rt: HostRuntime) -> Result<(), Fail> {
     let alloc = rt.alloc();
     let deepest = in_sequences(alloc, text(alloc, "x")?, 65)?;
+    assert_eq!(rt; deepest.is_deeper_than(65), true);
+    assert_eq!(rt; deepest.is_deeper_than(66), false);
     assert_eq!(rt; deepest.depth(), 66);
     assert_eq!(rt; fault(alloc, deepest), None);
     assert_eq!(rt;
@@ -106,8 +108,12 @@ fn the_style_has_at_most_67108864_bytes(rt: HostRuntime) -> Result<(), Fail> {
     let alloc = rt.alloc();
     // 65 times `- `, a header of 2 bytes, and lines of `a` behind 130 spaces, of 132 bytes each
     let most = in_sequences(alloc, repeated(alloc, "a\n", 508_399)?, 65)?;
-    assert_eq!(rt; style_len(&most, 67_108_864), Some(67_108_800));
-    assert_eq!(rt; fault(alloc, most), None);
+    let Ok(most) = Config::new(alloc, most) else {
+        assert!(rt; false, "as long as a configuration may be");
+        return Ok(());
+    };
+    assert_eq!(rt; most.style_length(), 67_108_800);
+    assert_eq!(rt; style_len(most.tree(), 67_108_864), Some(67_108_800));
     let more = in_sequences(alloc, repeated(alloc, "a\n", 508_400)?, 65)?;
     assert_eq!(rt; fault(alloc, more), Some(ReadFault::LargeInStyle));
     Ok(())
@@ -119,6 +125,7 @@ fn a_length_past_the_most_is_none(rt: HostRuntime) -> Result<(), Fail> {
     let items = vec![in alloc; text(alloc, "x")?, text(alloc, "y: z")?]?;
     let b = (String::from_str(alloc, "b")?, Tree::Seq(items));
     let tree = Tree::Map(vec![in alloc; pair(alloc, "a", "1")?, b]?);
+    assert!(rt; !tree.is_deeper_than(66));
     assert_eq!(rt; style_len(&tree, 27), Some(27));
     assert_eq!(rt; style_len(&tree, 26), None);
     assert_eq!(rt; style_len(&tree, 3), None);
@@ -131,13 +138,15 @@ fn copies_are_equal(rt: HostRuntime) -> Result<(), Fail> {
     let items = vec![in alloc; text(alloc, "x")?]?;
     let list = (String::from_str(alloc, "list")?, Tree::Seq(items));
     let tree = Tree::Map(vec![in alloc; pair(alloc, "k", "v")?, list]?);
+    assert!(rt; !tree.is_deeper_than(66));
     let copy = tree.try_copy(alloc)?;
-    assert_eq!(rt; style_len(&copy, 100), Some(17));
     let Ok(config) = Config::new(alloc, copy) else {
         assert!(rt; false, "a good tree");
         return Ok(());
     };
+    assert_eq!(rt; config.style_length(), 17);
     let again = config.try_copy(alloc)?;
+    assert_eq!(rt; again.style_length(), 17);
     assert_eq!(rt; again.depth(), 3);
     assert_eq!(rt; again.tree().depth(), 3);
     match again.into_tree() {
@@ -152,5 +161,95 @@ fn faults_by_name(rt: HostRuntime) -> Result<(), Fail> {
     let fault = ReadFault::Documents { count: 2 };
     let name = format!(in rt.alloc(); "{fault}")?;
     assert_eq!(rt; name.as_str(), "Documents");
+    Ok(())
+}
+/// Sequences of one element, one in another, or mappings of one pair: a tree that is deeper than any configuration.
+fn very_deep(alloc: Global, levels: u32) -> Result<Tree, AllocError> {
+    let mut whole = text(alloc, "x")?;
+    for level in 0..levels {
+        whole = if level % 2 == 0 {
+            Tree::Seq(vec![in alloc; whole]?)
+        } else {
+            Tree::Map(vec![in alloc; (String::from_str(alloc, "k")?, whole)]?)
+        };
+    }
+    Ok(whole)
+}
+
+/// Takes a tree apart from the outside, so that none of its levels is dropped inside another.
+fn take_apart(alloc: Global, tree: Tree) {
+    let mut whole = tree;
+    loop {
+        whole = match whole {
+            Tree::Text(_) => return,
+            Tree::Seq(mut items) => match items.pop() {
+                Some(item) => item,
+                None => Tree::Text(String::new(alloc)),
+            },
+            Tree::Map(mut pairs) => match pairs.pop() {
+                Some((_, value)) => value,
+                None => Tree::Text(String::new(alloc)),
+            },
+        };
+    }
+}
+
+#[test]
+fn a_tree_of_any_depth_is_refused(rt: HostRuntime) -> Result<(), Fail> {
+    let alloc = rt.alloc();
+    let deep = very_deep(alloc, 1_000_000)?;
+    assert_eq!(rt; deep.is_deeper_than(255), true);
+    match Config::new(alloc, deep) {
+        Ok(_) => assert!(rt; false, "a tree that is too deep"),
+        Err((deep, fault)) => {
+            assert_eq!(rt; fault, ReadFault::TooDeep);
+            take_apart(alloc, deep);
+        }
+    }
+    let twice = Tree::Map(vec![in alloc; pair(alloc, "a", "1")?, pair(alloc, "a", "2")?]?);
+    let mut deep = twice;
+    for _ in 0..1_000_000u32 {
+        deep = Tree::Seq(vec![in alloc; deep]?);
+    }
+    match Config::new(alloc, deep) {
+        Ok(_) => assert!(rt; false, "a key twice"),
+        Err((deep, fault)) => {
+            assert_eq!(rt; fault, ReadFault::KeyTwice);
+            take_apart(alloc, deep);
+        }
+    }
+    Ok(())
+}
+
+#[test]
+fn the_empty_configuration(rt: HostRuntime) {
+    let config = Config::empty(rt.alloc());
+    assert_eq!(rt; config.style_length(), 3);
+    assert_eq!(rt; config.depth(), 1);
+}
+
+// `a b` and `c` in a literal, behind `- ` and behind `k:`
+#[test]
+fn sizes_of_parts(rt: HostRuntime) -> Result<(), Fail> {
+    let alloc = rt.alloc();
+    let Ok(literal) = Config::new(alloc, text(alloc, "a b\n\nc")?) else {
+        assert!(rt; false, "a text");
+        return Ok(());
+    };
+    assert_eq!(rt;
+        Size::of_element(literal.tree()),
+        Size {
+            bytes: 3 + 6 + 1 + 4,
+            lines: 2
+        }
+    );
+    assert_eq!(rt;
+        Size::of_value(literal.tree()),
+        Size {
+            bytes: 1 + 3 + 6 + 1 + 4,
+            lines: 2
+        }
+    );
+    assert_eq!(rt; Size::of_key("port"), Size { bytes: 5, lines: 0 });
     Ok(())
 }

@@ -59,8 +59,8 @@ write_members-returns-then-is_empty g t c =
     (subst (λ cs. g.S.Sink.Takes c.args.sink.now cs c.put_text.new.self) (chars-no_member ∙ same))
     c.put_text.ensures
 
-pub write_members-write_value-requires : goal.write_members-write_value-requires
-write_members-write_value-requires g t c κs within =
+pub write_members-write_value_lines-requires : goal.write_members-write_value_lines-requires
+write_members-write_value_lines-requires g t c κs within =
     let l = c.loop-key in
     let pairs = c.args.pairs.now in
     let x = c.loop-key-item.result in
@@ -85,8 +85,8 @@ write_members-loop-key-preserved g t c =
       omega (arith, deep, l.invariant.0),
       λ end left. l.invariant.1 end
           (subst (λ ms. g.S.Sink.Takes l.sink (members_led l.lead (members_of ms) c.args.indent) end) (sym here)
-          (both _ _ _ _ _ (both _ _ _ _ _ (both _ _ _ _ _ c.in_ok-put_spaces.ensures key) c.in_ok-write_value.ensures)
-          (subst (λ cs. g.S.Sink.Takes c.write_value.new.sink cs end) (members_led-same rest c.args.indent) left))),
+          (both _ _ _ _ _ (both _ _ _ _ _ (both _ _ _ _ _ c.in_ok-put_spaces.ensures key) c.in_ok-write_value_lines.ensures)
+          (subst (λ cs. g.S.Sink.Takes c.write_value_lines.new.sink cs end) (members_led-same rest c.args.indent) left))),
     )
 
 pub write_members-returns : goal.write_members-returns
@@ -110,8 +110,8 @@ write_element-returns-in-Map g t c =
     ∙ sym (ap (λ tree. element_at tree c.args.indent) seen)))
     c.write_members.ensures
 
-pub write_value-returns-in_ok-put_char-in-Text : goal.write_value-returns-in_ok-put_char-in-Text
-write_value-returns-in_ok-put_char-in-Text g t c =
+pub write_value_lines-returns-in_ok-put_char-in-Text : goal.write_value_lines-returns-in_ok-put_char-in-Text
+write_value_lines-returns-in_ok-put_char-in-Text g t c =
     let text = ap (λ bytes. codes " " ++ scalar_lines (c.args.indent + 2) (chars bytes)) c.deref.ensures in
     let seen = ap (λ tree. value_at tree c.args.indent) (ap tree_of c.in-Text.is ∙ tree_of-Text c.in-Text.text) in
     on_ok_weaker c.write_scalar.result
@@ -119,8 +119,8 @@ write_value-returns-in_ok-put_char-in-Text g t c =
     (g.met.S.Sink.takes_both _ _ _ _ _ c.in_ok-put_char-in-Text.ensures written))
     c.write_scalar.ensures
 
-pub write_value-returns-then-is_empty : goal.write_value-returns-then-is_empty
-write_value-returns-then-is_empty g t c =
+pub write_value_lines-returns-then-is_empty : goal.write_value_lines-returns-then-is_empty
+write_value_lines-returns-then-is_empty g t c =
     let items = c.in-Seq.items in
     let empty = eqb-true _ _ (sym c.if-is_empty.ensures) in
     let none : length items.items ≡ 0 = omega (arith, empty, items.ok) in
@@ -130,8 +130,8 @@ write_value-returns-then-is_empty g t c =
     (chars-no_element_value ∙ sym (sequence_value-empty items.items c.args.indent none) ∙ sym seen))
     c.put_text.ensures
 
-pub write_value-returns-in_ok-put_spaces-in-Seq : goal.write_value-returns-in_ok-put_spaces-in-Seq
-write_value-returns-in_ok-put_spaces-in-Seq g t c =
+pub write_value_lines-returns-in_ok-put_spaces-in-Seq : goal.write_value_lines-returns-in_ok-put_spaces-in-Seq
+write_value_lines-returns-in_ok-put_spaces-in-Seq g t c =
     let both = g.met.S.Sink.takes_both in
     let items = c.in-Seq.items in
     let filled = eqb-false _ _ (sym c.if-is_empty.ensures) in
@@ -144,8 +144,8 @@ write_value-returns-in_ok-put_spaces-in-Seq g t c =
     (both _ _ _ _ _ (both _ _ _ _ _ c.in_ok-put_char-in-Seq.ensures c.in_ok-put_spaces-in-Seq.ensures) written))
     c.write_elements.ensures
 
-pub write_value-returns-then-is_empty-2 : goal.write_value-returns-then-is_empty-2
-write_value-returns-then-is_empty-2 g t c =
+pub write_value_lines-returns-then-is_empty-2 : goal.write_value_lines-returns-then-is_empty-2
+write_value_lines-returns-then-is_empty-2 g t c =
     let pairs = c.in-Map.pairs in
     let empty = eqb-true _ _ (sym c.if-is_empty-2.ensures) in
     let none : length pairs.items ≡ 0 = omega (arith, empty, pairs.ok) in
@@ -155,8 +155,8 @@ write_value-returns-then-is_empty-2 g t c =
     (chars-no_member_value ∙ sym (mapping_value-empty pairs.items c.args.indent none) ∙ sym seen))
     c.put_text-then-is_empty-2.ensures
 
-pub write_value-returns-in_ok-put_spaces-in-Map : goal.write_value-returns-in_ok-put_spaces-in-Map
-write_value-returns-in_ok-put_spaces-in-Map g t c =
+pub write_value_lines-returns-in_ok-put_spaces-in-Map : goal.write_value_lines-returns-in_ok-put_spaces-in-Map
+write_value_lines-returns-in_ok-put_spaces-in-Map g t c =
     let both = g.met.S.Sink.takes_both in
     let pairs = c.in-Map.pairs in
     let filled = eqb-false _ _ (sym c.if-is_empty-2.ensures) in

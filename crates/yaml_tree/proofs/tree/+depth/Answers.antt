@@ -4,8 +4,8 @@ use Rattle.yaml_tree.specs.Seen.{tree_of, members_of}
 use Rattle.yaml_tree.proofs.SeenLemmas.{tree_of-Map}
 use Rattle.yaml_tree.proofs.tree.+depth.Goals as goal
 
-pub Tree::depth-returns-in-Map : goal.Tree::depth-returns-in-Map
-Tree::depth-returns-in-Map t c =
+pub depth_of-returns-in-Map : goal.depth_of-returns-in-Map
+depth_of-returns-in-Map t c =
     let seen = ap depth (ap tree_of c.in-Map.is ∙ tree_of-Map c.in-Map.pairs) in
     let pairs = ap (λ ms. members_depth (members_of ms)) c.deref-in-Map.ensures.value in
     omega (arith, seen, pairs, c.deepest_value.ensures, c.saturating_add-in-Map.ensures)
