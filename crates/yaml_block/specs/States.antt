@@ -1,7 +1,7 @@
 -- The reader's own state, in terms of what is read of the open collections, and what a step of it leads to.
-use Rattle.std.specs.Prelude.{◌≡◌, ℕ, suc, ◌+◌, ◌-◌, ◌*◌, ◌<◌, ◌≤◌, Bool, true, false, not, List, [], ◌∷◌, ◌++◌, length, Some, None, if◌then◌else◌}
+use Rattle.std.specs.Prelude.{◌≡◌, ℕ, suc, ◌+◌, ◌-◌, ◌*◌, ◌<◌, ◌≤◌, Bool, true, false, not, ◌&&◌, nat_le, List, [], ◌∷◌, ◌++◌, length, Some, None, if◌then◌else◌}
 use Rattle.std.specs.Str.{IsCharBoundary}
-use Rattle.yaml_chars.specs.Places.{rest}
+use Rattle.yaml_chars.specs.Places.{between, rest}
 use Rattle.yaml_grammar.specs.Events as grammar
 use Rattle.yaml_grammar.specs.BlockNodes.{Indented}
 use Rattle.yaml_recognizers.specs.CanonicalComments.{is_line_end}
@@ -12,7 +12,7 @@ use Rattle.yaml_events.specs.declared.fault.ScanFault.{ScanFault}
 use Rattle.yaml_events.specs.declared.event.Event.{Event}
 use Rattle.yaml_events.specs.declared.context.BlockContext.{BlockContext}
 use Rattle.yaml_events.specs.declared.context.BlockContext.TheVariants.{Bin, Bout}
-use Rattle.yaml_scan.specs.Places.{AreSpaces}
+use Rattle.yaml_scan.specs.Places.{AreSpaces, unbroken_between}
 use Rattle.yaml_scan.specs.Lines.{IsLineStart}
 use Rattle.yaml_scan.specs.declared.lines.Line.{Line}
 use Rattle.yaml_flow.specs.FlowNodes.{Appended}
@@ -31,6 +31,15 @@ use Rattle.yaml_block.specs.declared.reader.Reader.{Reader}
 abbrev pub is_shallow : BlockContext → Bool
 is_shallow Bin = false
 is_shallow Bout = true
+
+-- a sequence after so many spaces is deep enough for a node at m
+abbrev pub is_deep : ℕ → BlockContext → ℕ → Bool
+is_deep m context s = nat_le m (if is_shallow context then suc s else s)
+
+-- The node from `at` to `end`, with its `:` at `colon`, is on one line, and short enough for a key (8.2.2): the `:` follows after at
+-- most 1,024 characters.
+abbrev pub fits_as_key : List ℕ → ℕ → ℕ → ℕ → Bool
+fits_as_key text at end colon = unbroken_between text at end && nat_le (length (between text at colon)) 1024
 
 -- ---- the open collections
 

@@ -79,7 +79,8 @@ fn body_at<'a>(
     requires fits { least ≤ 2 ^ 63 }
     requires starts { IsLineStart text.now at }
     requires digit { IsTrue (digit_fits head.now.digit) }
-    ensures found { IfOk result (λ body. IsBodyAt least head.now.folded head.now text.now at (cow_str_bytes body.value) body.end) }
+    ensures found { IfOk result (λ body.
+        IsBodyAt least head.now.folded head.now text.now at (cow_str_bytes body.value) body.end) }
     ensures style { IfOk result (λ body. IsBlockStyle head.now.folded body.style) }
     ensures line { IfOk result (λ body. IsLineStart text.now body.end) }
     ensures none { IfErr result (λ fault. Refuses fault (NoBody head.now.digit least (rest text.now at))) }
@@ -101,8 +102,8 @@ fn body_at<'a>(
     })
 }
 
-/// Returns the line after a block scalar whose lines end at `at`. A comment line belongs to the scalar where no TAB is before its
-/// `#`, and then all lines of comments after it do. Other lines of white space or comments end all collections.
+/// Returns the line after a block scalar whose lines end at `at`. A comment line belongs to the scalar where no TAB is
+/// before its `#`, and then all lines of comments after it do. Other lines of white space or comments end all collections.
 fn line_after_scalar(text: &str, at: usize) -> NextLine
     requires at { IsCharBoundary text.now at }
     requires starts { IsLineStart text.now at }

@@ -1,13 +1,12 @@
 // A scalar, a flow collection, or the first pair of a mapping (YAML 1.2.2, 8.2.2 and 8.2.3).
-ghost use Rattle.std.specs.Prelude.{◌≡◌, ◌*◌, ◌+◌, ◌-◌, ◌^◌, ◌<◌, ◌≤◌, true, false, [], ◌∷◌, ◌++◌, ◌⊎◌, Some, None, ◌&&◌, nat_le, IfSome, IfOk, IfErr, OnOk, length};
+ghost use Rattle.std.specs.Prelude.{◌≡◌, ◌*◌, ◌+◌, ◌-◌, ◌^◌, ◌<◌, ◌≤◌, true, false, [], ◌∷◌, ◌++◌, ◌⊎◌, Some, None, IfSome, IfOk, IfErr, OnOk, length};
 ghost use Rattle.std.specs.Str.{IsCharBoundary};
-ghost use Rattle.yaml_chars.specs.Places.{rest, between};
+ghost use Rattle.yaml_chars.specs.Places.{rest};
 ghost use Rattle.yaml_grammar.specs.Texts.{first};
 ghost use Rattle.yaml_recognizers.specs.BlockNodes.{bar};
 ghost use Rattle.yaml_recognizers.specs.Fronts.{sign};
 ghost use Rattle.yaml_events.specs.Places.{Refuses};
-ghost use Rattle.yaml_scan.specs.Places.{unbroken_between};
-ghost use Rattle.yaml_block.specs.States.{IsOpened, Grown, Onward, Leads, FailsBy, BeforeLeaf};
+ghost use Rattle.yaml_block.specs.States.{fits_as_key, IsOpened, Grown, Onward, Leads, FailsBy, BeforeLeaf};
 
 use crate::frame::{Leaf, Next, NextLine, Sign, Waits};
 use crate::reader::Reader;
@@ -108,8 +107,8 @@ fn begins_block_scalar(text: &str, at: usize) -> bool
     stands_at(text, at, b'|') || stands_at(text, at, b'>')
 }
 
-/// Returns the indentation of the mapping whose first key is the flow node of the leaf, which ends at `end` and has its `:` at
-/// `colon`. Returns an error where no mapping may begin there, and where the node has a further line or is too long for a key.
+/// Returns the indentation of the mapping whose first key is the flow node of the leaf, which ends at `end` and has its `:`
+/// at `colon`. Returns an error where no mapping may begin there, and where the node has a further line or is too long.
 fn key_indent(text: &str, leaf: Leaf, end: usize, colon: usize) -> Result<usize, ScanFault>
     requires at { IsCharBoundary text.now leaf.at }
     requires end { IsCharBoundary text.now end }
@@ -117,8 +116,8 @@ fn key_indent(text: &str, leaf: Leaf, end: usize, colon: usize) -> Result<usize,
     requires order { leaf.at ≤ end }
     requires gap { end ≤ colon }
     ensures pairs { IfOk result (λ indent. leaf.pairs ≡ Some indent) }
-    ensures fits { OnOk result (unbroken_between text.now leaf.at end && nat_le (length (between text.now leaf.at colon)) KEY_LIMIT ≡ true) }
-    ensures none { IfErr result (λ fault. (leaf.pairs ≡ None) ⊎ (unbroken_between text.now leaf.at end && nat_le (length (between text.now leaf.at colon)) KEY_LIMIT ≡ false)) }
+    ensures fits { OnOk result (fits_as_key text.now leaf.at end colon ≡ true) }
+    ensures none { IfErr result (λ _. (leaf.pairs ≡ None) ⊎ (fits_as_key text.now leaf.at end colon ≡ false)) }
 {
     let Some(indent) = leaf.pairs else {
         return Err(refusal(colon, Why::Key));

@@ -1,10 +1,11 @@
 // A node at the start of a line (YAML 1.2.2, 8.2.3).
-ghost use Rattle.std.specs.Prelude.{◌≡◌, ◌*◌, ◌+◌, ◌-◌, ◌^◌, ◌<◌, ◌≤◌, suc, false, [], ◌∷◌, ◌++◌, nat_le, ◌&&◌, IfOk, IfErr, OnOk, length, if◌then◌else◌};
+ghost use Rattle.std.specs.Prelude.{◌≡◌, ◌*◌, ◌+◌, ◌-◌, ◌^◌, ◌<◌, ◌≤◌, false, [], ◌∷◌, ◌++◌, ◌&&◌, IfOk, IfErr, OnOk, length};
 ghost use Rattle.yaml_chars.specs.Places.{rest};
 ghost use Rattle.yaml_recognizers.specs.CanonicalComments.{is_line_end};
 ghost use Rattle.yaml_recognizers.specs.Fronts.{sign};
 ghost use Rattle.yaml_events.specs.Places.{Refuses};
-ghost use Rattle.yaml_block.specs.States.{IsOpened, Grown, IsLine, Onward, Leads, FailsBy, BeforeNodeLine, is_shallow};
+ghost use Rattle.yaml_recognizers.specs.Signs.{dash};
+ghost use Rattle.yaml_block.specs.States.{is_deep, IsOpened, Grown, IsLine, Onward, Leads, FailsBy, BeforeNodeLine};
 
 use crate::frame::{Indentation, Leaf, Next, Sign, Waits};
 use crate::reader::Reader;
@@ -15,7 +16,7 @@ use yaml_scan::{Line, sign_at, white_end};
 impl Indentation {
     /// Returns whether a sequence may be indented by so many spaces.
     fn fits_sequence(self, spaces: usize) -> bool
-        ensures { result ≡ nat_le self.least (if is_shallow self.context then suc spaces else spaces) }
+        ensures { result ≡ is_deep self.least self.context spaces }
     {
         match self.context {
             BlockContext::Bin => self.least <= spaces,
@@ -26,7 +27,7 @@ impl Indentation {
     /// Returns whether the line begins with the `-` of a sequence.
     fn begins_sequence(self, text: &str, line: Line) -> bool
         requires { IsLine text.now line }
-        ensures { result ≡ sign 45 (rest text.now line.first) && nat_le self.least (if is_shallow self.context then suc (line.first - line.start) else line.first - line.start) }
+        ensures { result ≡ sign dash (rest text.now line.first) && is_deep self.least self.context (line.first - line.start) }
     {
         sign_at(text, line.first, b'-') && self.fits_sequence(line.first - line.start)
     }

@@ -27,7 +27,8 @@ impl<'a> Reader<'a> {
         requires least { least ≤ 2 ^ 63 }
         ensures fits { length text.now < 2 ^ 63 }
         ensures onward { IfOk result (Onward text.now at (3 * (length text.now - at))) }
-        ensures leads { IfOk result (Leads text.now (BeforeNode text.now least (is_shallow context) at) self.old self.new) }
+        ensures leads { IfOk result (Leads text.now (BeforeNode text.now least (is_shallow context) at)
+            self.old self.new) }
         ensures grown { Grown self.old.events self.new.events }
         ensures none { IfErr result (FailsBy text.now (BeforeNode text.now least (is_shallow context) at) self.old) }
     {
@@ -76,7 +77,8 @@ impl<'a> Reader<'a> {
         requires fits { length text.now < 2 ^ 63 }
         requires starts { line_starts text.now at ≡ true }
         ensures onward { IfOk result (Onward text.now at (3 * (length text.now - at))) }
-        ensures leads { IfOk result (Leads text.now (BeforeNode text.now least (is_shallow context) at) self.old self.new) }
+        ensures leads { IfOk result (Leads text.now (BeforeNode text.now least (is_shallow context) at)
+            self.old self.new) }
         ensures grown { Grown self.old.events self.new.events }
         ensures none { IfErr result (FailsBy text.now (BeforeNode text.now least (is_shallow context) at) self.old) }
     {
@@ -105,10 +107,13 @@ impl<'a> Reader<'a> {
         requires at { IsCharBoundary text.now at }
         requires least { least ≤ 2 ^ 63 }
         requires none_open { self.old.collections.items ≡ [] }
-        ensures reads { IfOk result (BlockNodeRead least (is_shallow context) text.now at self.old.events self.new.events) }
-        ensures only { IfOk result (IsEachBlockNode least (is_shallow context) text.now at self.old.events self.new.events) }
+        ensures reads { IfOk result (BlockNodeRead least (is_shallow context) text.now at
+            self.old.events self.new.events) }
+        ensures only { IfOk result (IsEachBlockNode least (is_shallow context) text.now at
+            self.old.events self.new.events) }
         ensures grown { Grown self.old.events self.new.events }
-        ensures missing { IfErr result (λ fault. Refuses fault (NoBlockNodeFound least (is_shallow context) text.now at)) }
+        ensures missing { IfErr result (λ fault.
+            Refuses fault (NoBlockNodeFound least (is_shallow context) text.now at)) }
         ensures none { IfErr result (λ fault. Refuses fault (NoBlockNodeAt least (is_shallow context) text.now at)) }
     {
         let mut next = self.front(text, at, least, context)?;
@@ -136,14 +141,14 @@ fn least_indent(n: i64) -> usize
 
 /// Reads the block node at `at`, appends its events, and returns the place after it (YAML 1.2.2, 8.2).
 ///
-/// `at` counts bytes from 0 and is on a boundary of a character. The node is below an indentation of `n`, which is -1 at the top of
-/// a document; in the context `Bout` it may also be a sequence as deep as `n`. The place that is returned is after the comments that
-/// belong to the node: a line starts there, or the text ends.
+/// `at` counts bytes from 0 and is on a boundary of a character. The node is below an indentation of `n`, which is -1 at the
+/// top of a document; in the context `Bout` it may also be a sequence as deep as `n`. The place that is returned is after the
+/// comments that belong to the node: a line starts there, or the text ends.
 ///
 /// # Errors
 ///
-/// [`ScanFault::At`] where no block node is at `at`, and [`ScanFault::OutOfMemory`] where there is no memory for events, for values or
-/// for the stack of open collections. The events are then as they were.
+/// [`ScanFault::At`] where no block node is at `at`, and [`ScanFault::OutOfMemory`] where there is no memory for events, for
+/// values or for the stack of open collections. The events are then as they were.
 pub fn block_node<'a>(
     alloc: Global,
     events: &mut Events<'a>,
@@ -154,10 +159,14 @@ pub fn block_node<'a>(
 ) -> Result<usize, ScanFault>
     requires at { IsCharBoundary text.now at }
     requires below { negsuc 0 ≤ℤ n }
-    ensures reads { IfOk result (BlockNodeRead (least_indent n) (is_shallow context) text.now at events.old events.new) }
-    ensures only { IfOk result (IsEachBlockNode (least_indent n) (is_shallow context) text.now at events.old events.new) }
-    ensures missing { IfErr result (λ fault. Refuses fault (NoBlockNodeFound (least_indent n) (is_shallow context) text.now at)) }
-    ensures none { IfErr result (λ fault. Refuses fault (NoBlockNodeAt (least_indent n) (is_shallow context) text.now at)) }
+    ensures reads { IfOk result (BlockNodeRead (least_indent n) (is_shallow context) text.now at
+        events.old events.new) }
+    ensures only { IfOk result (IsEachBlockNode (least_indent n) (is_shallow context) text.now at
+        events.old events.new) }
+    ensures missing { IfErr result (λ fault.
+        Refuses fault (NoBlockNodeFound (least_indent n) (is_shallow context) text.now at)) }
+    ensures none { IfErr result (λ fault.
+        Refuses fault (NoBlockNodeAt (least_indent n) (is_shallow context) text.now at)) }
     ensures unchanged { IfErr result (λ _. events.new ≡ events.old) }
 {
     let kept = events.as_slice().len();

@@ -96,7 +96,8 @@ impl<'a> Reader<'a> {
 
     /// Returns whether the innermost collection waits for a key.
     pub(crate) fn waits_for_key(&self) -> bool
-        ensures { (f : BlockFrame) (fs : List BlockFrame) → Stack (f ∷ fs) self.now.collections.items → MatchBool result (waits_of f ≡ Waits.Key) (waits_of f ≡ Waits.Key → ⊥) }
+        ensures { (f : BlockFrame) (fs : List BlockFrame) → Stack (f ∷ fs) self.now.collections.items
+            → MatchBool result (waits_of f ≡ Waits.Key) (waits_of f ≡ Waits.Key → ⊥) }
     {
         match self.collections.as_slice().last() {
             Some(collection) => collection.waits == Waits::Key,

@@ -37,8 +37,8 @@ impl Sign {
     }
 }
 
-/// Returns whether the part after a sign of a collection at `indent` is left out, where this line follows the sign's. The end of the
-/// text and a marker need no test: they have no spaces and no `-` before white space.
+/// Returns whether the part after a sign of a collection at `indent` is left out, where this line follows the sign's. The
+/// end of the text and a marker need no test: they have no spaces and no `-` before white space.
 fn is_omitted(text: &str, line: Line, indent: usize, context: BlockContext) -> bool
     requires line { IsLine text.now line }
     requires solid { is_line_end (rest text.now line.start) ≡ false }

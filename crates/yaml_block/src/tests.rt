@@ -58,8 +58,8 @@ fn refusal(alloc: Global, text: &str) -> Option<(usize, Why)> {
     }
 }
 
-/// The events of the block node that is a document's whole text, but for lines of white space and comments after it; none where more
-/// follows.
+/// The events of the block node that is a document's whole text, but for lines of white space and comments after it; none
+/// where more follows.
 fn meaning(alloc: Global, text: &str) -> Result<String, Fail> {
     let mut events = Events::new(alloc);
     match block_node(alloc, &mut events, text, 0, -1, Bin) {

@@ -15,8 +15,8 @@ use yaml_flow::omitted;
 use yaml_scan::{Line, is_marker, sign_at};
 
 impl<'a> Reader<'a> {
-    /// Closes the collections that end at the line after a part, and returns what is read next in the one that goes on there. Returns
-    /// None where all end.
+    /// Closes the collections that end at the line after a part, and returns what is read next in the one that goes on
+    /// there. Returns None where all end.
     pub(crate) fn unwind(&mut self, text: &str, after: NextLine) -> Result<Option<Next>, ScanFault>
         requires line { IsNextLine text.now after }
         ensures onward { IfOk result (MayGoOn text.now after.line.start) }
@@ -137,7 +137,8 @@ impl<'a> Reader<'a> {
 fn goes_on_with(text: &str, line: Line, indent: usize, sign: u8) -> bool
     requires line { IsLine text.now line }
     requires ascii { sign < 128 }
-    ensures { result ≡ (spaces_before (rest text.now line.start) == indent) && fronts.sign sign (past_spaces (rest text.now line.start)) }
+    ensures { result ≡ (spaces_before (rest text.now line.start) == indent)
+        && fronts.sign sign (past_spaces (rest text.now line.start)) }
 {
     line.first - line.start == indent && sign_at(text, line.first, sign)
 }
@@ -145,7 +146,8 @@ fn goes_on_with(text: &str, line: Line, indent: usize, sign: u8) -> bool
 /// Returns whether a mapping with this indentation goes on at the line with a further pair.
 fn goes_on_with_pair(text: &str, after: NextLine, indent: usize) -> bool
     requires { IsNextLine text.now after }
-    ensures { result ≡ (spaces_before (rest text.now after.line.start) == indent) && not (ended indent false (rest text.now after.line.start)) }
+    ensures { result ≡ (spaces_before (rest text.now after.line.start) == indent)
+        && not (ended indent false (rest text.now after.line.start)) }
 {
     let line = after.line;
     if line.first - line.start != indent {

@@ -1,8 +1,10 @@
 -- What the types of src/ mean in the grammar.
-use Rattle.std.specs.Prelude.{ℕ, ◌+◌, ℤ, pos, negsuc}
+use Rattle.std.specs.Prelude.{ℕ, ◌+◌, ℤ, pos, negsuc, Bool, true, false}
 use Rattle.yaml_grammar.specs.BlockScalars as grammar
 use Rattle.yaml_block_scalars.specs.declared.parts.Chomping.{Chomping}
 use Rattle.yaml_block_scalars.specs.declared.parts.Chomping.TheVariants.{Strip, Clip, Keep}
+use Rattle.yaml_block_scalars.specs.declared.scalar.Form.{Form}
+use Rattle.yaml_block_scalars.specs.declared.scalar.Form.TheVariants.{Literal, Folded}
 
 abbrev pub chomping_of : Chomping → grammar.Chomping
 chomping_of Strip = grammar.strip
@@ -13,3 +15,7 @@ chomping_of Keep = grammar.keep
 abbrev pub least_indent : ℤ → ℕ
 least_indent (pos n) = n + 1
 least_indent (negsuc n) = 0
+
+abbrev pub is_folded : Form → Bool
+is_folded Literal = false
+is_folded Folded = true

@@ -14,7 +14,7 @@ use crate::parts::{Chomping, Header};
 use yaml_events::{ScanFault, Why};
 use yaml_scan::rest_of_line_end;
 
-/// The digit at `at`, from 1 to 9, which may be missing, and the place behind it.
+/// Returns the digit at `at`, from 1 to 9, if there is one, and the place after it.
 fn digit_at(text: &str, at: usize) -> (Option<u8>, usize)
     requires { IsCharBoundary text.now at }
     ensures { IsDigit text.now at result.0 result.1 }
@@ -30,7 +30,7 @@ fn digit_at(text: &str, at: usize) -> (Option<u8>, usize)
     (Some(byte - b'0'), at + 1)
 }
 
-/// The chomping mark at `at`, which may be missing, and the place behind it.
+/// Returns what the chomping mark at `at` says, which may be missing, and the place after it.
 fn chomping_at(text: &str, at: usize) -> (Chomping, usize)
     requires { IsCharBoundary text.now at }
     ensures { IsMark text.now at (chomping_of result.0) result.1 }
@@ -48,7 +48,7 @@ fn chomping_at(text: &str, at: usize) -> (Chomping, usize)
     (Chomping::Clip, at)
 }
 
-/// The digit and the chomping mark at `at`, in either order, and the place behind them.
+/// Returns the digit and the chomping mark at `at`, in either order, and the place after them.
 fn signs_at(text: &str, at: usize) -> (Option<u8>, Chomping, usize)
     requires { IsCharBoundary text.now at }
     ensures { AreSigns text.now at result.0 (chomping_of result.1) result.2 }
@@ -67,8 +67,8 @@ fn signs_at(text: &str, at: usize) -> (Option<u8>, Chomping, usize)
     }
 }
 
-/// Behind the end of a header's line at `at`: white, a comment behind white, and a break or the end of the text. None where
-/// something else stands there.
+/// Returns the place after the rest of the line of a header at `at`: white space, a comment after white
+/// space, and a break or the end of the text. Returns None where anything else is there.
 fn header_end(text: &str, at: usize) -> Option<usize>
     requires { IsCharBoundary text.now at }
     ensures { MatchOption result (read_header_end (rest text.now at) ≡ None) (IsHeaderEnd text.now at) }
@@ -79,11 +79,16 @@ fn header_end(text: &str, at: usize) -> Option<usize>
     rest_of_line_end(text, at)
 }
 
-/// The header of the block scalar at `at`, and the place behind its line, its break included (YAML 1.2.2, 8.1.1).
+/// Returns the header of the block scalar at `at`, and the place after its line, its break included
+/// (YAML 1.2.2, 8.1.1).
 ///
-/// `at` is on a boundary of a character. The header is `|` or `>`, then at most one digit from 1 to 9 and at most one of `-` and
-/// `+`, in either order, and then the end of the line, where a comment may stand behind white. Answers [`ScanFault::At`] with
-/// [`Why::BlockHeader`] where no header stands; takes no memory.
+/// The header is `|` or `>`, then at most one digit from 1 to 9 and at most one of `-` and `+`, in either
+/// order, and then the end of the line, with a comment after white space if there is one.
+///
+/// # Errors
+///
+/// [`ScanFault::At`] with [`Why::BlockHeader`] where no header is at `at`. It is never
+/// [`ScanFault::OutOfMemory`].
 pub fn header(text: &str, at: usize) -> Result<(Header, usize), ScanFault>
     requires { IsCharBoundary text.now at }
     ensures found { IfOk result (λ found. IsHeaderAt text.now at found.0 found.1) }

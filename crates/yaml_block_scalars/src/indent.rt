@@ -9,7 +9,8 @@ ghost use Rattle.yaml_block_scalars.specs.Lines.{AreLeading};
 use yaml_events::{ScanFault, Why};
 use yaml_scan::{break_end, is_marker, nb_at, spaces_end};
 
-/// How many spaces the widest line of spaces has, of all that stand at `at` one behind the other, and where they end.
+/// Returns the number of spaces of the widest line of spaces, of all such lines in a row from `at` on,
+/// and where these lines end.
 fn leading_lines(text: &str, at: usize) -> (usize, usize)
     requires { IsCharBoundary text.now at }
     ensures { AreLeading text.now at result.0 result.1 }
@@ -26,7 +27,8 @@ fn leading_lines(text: &str, at: usize) -> (usize, usize)
     }
 }
 
-/// The indentation that the lines at `at` set, of `least` or more: that of the first line that holds something else than spaces.
+/// Returns the indentation that the lines at `at` set, which is `least` or more: that of the first line
+/// that holds anything but spaces.
 pub(crate) fn detected(text: &str, at: usize, least: usize) -> Result<usize, ScanFault>
     requires { IsCharBoundary text.now at }
     ensures found { IfOk result (λ indent. find_indent None least (rest text.now at) ≡ Some indent) }

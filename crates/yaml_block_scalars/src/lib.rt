@@ -1,7 +1,8 @@
 //! A scanner of block scalars: literal (`|`) and folded (`>`) texts of YAML 1.2.2, 8.1.
 //!
-//! [`header`] reads a block scalar's first line, [`literal`] and [`folded`] the lines behind it. Comments behind a scalar are not
-//! part of it. A place counts the bytes of the text, from 0.
+//! [`header`] reads the first line of a block scalar, [`literal`] and [`folded`] the lines after it.
+//! Comments after a scalar are not part of it. A place counts the bytes of the text from 0, and is on
+//! a boundary of a character.
 #![tactic(auto)]
 
 mod first_line;

@@ -10,23 +10,24 @@ ghost use Rattle.yaml_block_scalars.specs.Lines.{IsPastGaps, AreGaps, IsTextStar
 use yaml_events::{ScanFault, Why};
 use yaml_scan::{break_end, is_marker, nb_at, nb_end, spaces_end, stop_at, white_at};
 
-/// A text line, and the empty lines behind it.
+/// A text line, and the empty lines after it.
 #[derive(Clone, Copy)]
 pub(crate) struct Line {
-    /// Where its text starts, behind the indentation, and where it ends.
+    /// Where its text starts, after the indentation, and where it ends.
     pub(crate) start: usize,
     pub(crate) end: usize,
-    /// Whether its text begins with white.
+    /// Whether its text begins with white space.
     pub(crate) white: bool,
     /// Whether it has a break.
     pub(crate) has_break: bool,
-    /// How many empty lines stand behind it.
+    /// The number of empty lines after it.
     pub(crate) gaps: usize,
-    /// Where the line behind those starts.
+    /// Where the line after those starts.
     pub(crate) next: usize,
 }
 
-/// How many empty lines stand at `at`, and the place behind them: lines of at most `indent` spaces and a break.
+/// Returns the number of empty lines at `at`, and the place after them: lines of at most `indent` spaces
+/// and a break.
 pub(crate) fn empty_lines(text: &str, at: usize, indent: usize) -> (usize, usize)
     requires { IsCharBoundary text.now at }
     ensures { AreGaps indent text.now at result.0 result.1 }
@@ -46,7 +47,8 @@ pub(crate) fn empty_lines(text: &str, at: usize, indent: usize) -> (usize, usize
     }
 }
 
-/// Where the text of the text line at `at` starts, where no empty line stands; None where no text line does.
+/// Returns where the text of the text line at `at` starts. Returns None where no text line is there. No
+/// empty line is at `at`.
 pub(crate) fn text_start(text: &str, at: usize, indent: usize) -> Option<usize>
     requires boundary { IsCharBoundary text.now at }
     requires past { IsPastGaps indent (rest text.now at) }
@@ -68,9 +70,11 @@ pub(crate) fn text_start(text: &str, at: usize, indent: usize) -> Option<usize>
     Some(at + indent)
 }
 
-/// The text line at `at`, where no empty line stands; None where no text line does.
+/// Returns the text line at `at`. Returns None where no text line is there. No empty line is at `at`.
 ///
-/// Answers a fault where its text ends neither in a break nor at the end of the text.
+/// # Errors
+///
+/// [`ScanFault::At`] where the text of the line ends neither in a break nor at the end of the text.
 pub(crate) fn text_line(text: &str, at: usize, indent: usize) -> Result<Option<Line>, ScanFault>
     requires boundary { IsCharBoundary text.now at }
     requires past { IsPastGaps indent (rest text.now at) }

@@ -7,7 +7,7 @@ pub enum Chomping {
     Strip,
     /// No mark: the last text line's break is kept.
     Clip,
-    /// `+`: that break is kept, and those of the empty lines behind it.
+    /// `+`: that break is kept, and those of the empty lines after it.
     Keep,
 }
 

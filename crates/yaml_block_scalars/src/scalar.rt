@@ -1,4 +1,4 @@
-// Block scalars behind their headers.
+// Block scalars after their headers.
 ghost use Rattle.std.specs.Prelude.{◌≡◌, ◌≤◌, ◌^◌, ◌≤ℤ◌, negsuc, true, false, [], None, Some, IsTrue, IfOk, IfErr, MatchOption, length, string_bytes};
 ghost use Rattle.std.specs.Cow.{cow_str_bytes, IsBorrowedStr};
 ghost use Rattle.std.specs.Str.{IsCharBoundary, chars};
@@ -11,7 +11,7 @@ ghost use Rattle.yaml_recognizers.specs.BlockScalarFacts.{NoBody};
 ghost use Rattle.yaml_block_scalars.specs.Found.{IsBodyAt, IsPieceAt, AreLines, ArePiece};
 ghost use Rattle.yaml_block_scalars.specs.Lines.{AreFeeds, IsPlaced, IsPiece, IsNoPiece, ArePushed};
 ghost use Rattle.yaml_scan.specs.Lines.{IsLineStart};
-ghost use Rattle.yaml_block_scalars.specs.Meant.{chomping_of, least_indent};
+ghost use Rattle.yaml_block_scalars.specs.Meant.{chomping_of, is_folded, least_indent};
 
 use crate::indent::detected;
 use crate::line::{Line, empty_lines, text_line, text_start};
@@ -29,7 +29,7 @@ struct Style {
     chomping: Chomping,
 }
 
-/// Pushes the text line `first` and all behind it into the value, and tells where they end.
+/// Appends the text line `first` and all lines after it to the value. Returns where they end.
 fn push_lines(
     value: &mut String,
     text: &str,
@@ -53,7 +53,7 @@ fn push_lines(
     }
 }
 
-/// The end of so many line feeds at `at`; None where other characters stand there.
+/// Returns the end of `count` line feeds at `at`. Returns None where anything else is there.
 fn feeds_end(text: &str, at: usize, count: usize) -> Option<usize>
     requires { IsCharBoundary text.now at }
     ensures { MatchOption result (begins (line_feeds count) (rest text.now at) ≡ false) (AreFeeds text.now at count) }
@@ -72,8 +72,9 @@ fn feeds_end(text: &str, at: usize, count: usize) -> Option<usize>
     Some(end)
 }
 
-/// Where the value ends in the text, if the text has it in one piece from the start of the text line `line` on, behind so many
-/// empty lines; None where it has not.
+/// Returns where the value ends in the text, if the text has it in one piece from the start of `line`
+/// on. Returns None otherwise. `line` is the first text line, and `gaps` counts the empty lines before
+/// it.
 fn piece_end(
     text: &str,
     gaps: usize,
@@ -96,8 +97,8 @@ fn piece_end(
     }
 }
 
-/// How many bytes the value is given room for at first: those of the first text line, of the line feeds before it, and so many
-/// more. A longer value makes room for itself.
+/// The bytes that a value has room for at first, beyond its first text line and the line feeds before
+/// it. A longer value grows as any `String` does.
 const ROOM: usize = 128;
 
 fn room(gaps: usize, line: Line) -> usize
@@ -107,7 +108,7 @@ fn room(gaps: usize, line: Line) -> usize
         .saturating_add(line.end - line.start)
 }
 
-/// The value of the lines at `at`, and where they end.
+/// Returns the value of the lines at `at`, and where they end.
 fn lines<'a>(
     alloc: Global,
     text: &'a str,
@@ -133,7 +134,7 @@ fn lines<'a>(
     Ok((CowStr::Owned(value), end))
 }
 
-/// The least indentation of a scalar below one of `n`.
+/// Returns the least indentation of a scalar below an indentation of `n`.
 fn least_indent(n: i64) -> usize
     ensures value { result ≡ least_indent n }
     ensures fits { result ≤ 2 ^ 63 }
@@ -141,7 +142,7 @@ fn least_indent(n: i64) -> usize
     if n < 0 { 0 } else { n as usize + 1 }
 }
 
-/// The indentation of the lines at `at`, of `least` or more.
+/// Returns the indentation of the lines at `at`, which is `least` or more.
 fn indent_at(text: &str, at: usize, least: usize, digit: Option<u8>) -> Result<usize, ScanFault>
     requires boundary { IsCharBoundary text.now at }
     requires fits { least ≤ 2 ^ 63 }
@@ -154,40 +155,63 @@ fn indent_at(text: &str, at: usize, least: usize, digit: Option<u8>) -> Result<u
     }
 }
 
-/// The value of the scalar whose header ends at `at`, literal or folded, and where its lines end.
+/// The two forms of a block scalar.
+#[derive(Clone, Copy)]
+enum Form {
+    Literal,
+    Folded,
+}
+
+impl Form {
+    fn is_folded(self) -> bool
+        ensures { result ≡ is_folded self }
+    {
+        match self {
+            Form::Literal => false,
+            Form::Folded => true,
+        }
+    }
+}
+
+/// Returns the value of the scalar of this form whose header ends at `at`, and where its lines end.
 fn body<'a>(
     alloc: Global,
     text: &'a str,
     at: usize,
-    least: usize,
+    n: i64,
     header: &Header,
-    folded: bool,
+    form: Form,
 ) -> Result<(CowStr<'a>, usize), ScanFault>
     requires boundary { IsCharBoundary text.now at }
-    requires fits { least ≤ 2 ^ 63 }
+    requires below { negsuc 0 ≤ℤ n }
     requires digit { IsTrue (digit_fits header.now.digit) }
-    ensures found { IfOk result (λ found. IsBodyAt least folded header.now text.now at (cow_str_bytes found.0) found.1) }
-    ensures borrowed { IfOk result (λ found. IsPieceAt least header.now text.now at found.1 → IsBorrowedStr found.0) }
-    ensures none { IfErr result (λ fault. Refuses fault (NoBody header.now.digit least (rest text.now at))) }
+    ensures found { IfOk result (λ found. IsBodyAt (least_indent n) (is_folded form) header.now text.now at (cow_str_bytes found.0) found.1) }
+    ensures line { IsLineStart text.now at → IfOk result (λ found. IsLineStart text.now found.1) }
+    ensures borrowed { IfOk result (λ found. IsPieceAt (least_indent n) header.now text.now at found.1 → IsBorrowedStr found.0) }
+    ensures none { IfErr result (λ fault. Refuses fault (NoBody header.now.digit (least_indent n) (rest text.now at))) }
 {
-    let indent = indent_at(text, at, least, header.digit)?;
+    let indent = indent_at(text, at, least_indent(n), header.digit)?;
     let style = Style {
-        folded,
+        folded: form.is_folded(),
         chomping: header.chomping,
     };
     lines(alloc, text, at, indent, style)
 }
 
-/// The value of the literal scalar whose header ends at `at`, and the place behind its last text line or empty line; `at` where it
-/// has neither (YAML 1.2.2, 8.1.2).
+/// Returns the value of the literal scalar whose header ends at `at`, and the place after its last text
+/// line or empty line: `at` where it has neither (YAML 1.2.2, 8.1.2).
 ///
-/// `at` is on a boundary of a character. The scalar stands below an indentation of `n`, which is -1 at a document's top. Of the
-/// header the digit, from 1 to 9, and the chomping count; `folded` is not looked at. Each break in the value is one LF. The value
-/// is borrowed where the text has it in one piece: where it is the text of the only text line and the line feeds that stand behind it,
-/// and where it is empty and there is no text line. Memory for any other is taken once, where it is not much longer than its first line.
+/// The scalar is below an indentation of `n`, which is -1 at the top of a document. The digit of the
+/// header, from 1 to 9, and its chomping count; its `folded` does not. Each break in the value is one
+/// line feed. The value is borrowed where the text has it in one piece: where it is the text of the only
+/// text line with the line feeds that follow it, and where it is empty and there is no text line. Memory
+/// for any other value is allocated once, unless the value is much longer than its first line.
 ///
-/// Answers [`ScanFault::At`] where no such scalar stands: where a line of spaces before the first text line is too wide, or a
-/// line holds a character that none may hold. Answers [`ScanFault::OutOfMemory`] where there is no memory for the value.
+/// # Errors
+///
+/// [`ScanFault::At`] where no such scalar is at `at`: where a line of spaces before the first text line is
+/// too wide, or a line holds a character that none may hold. [`ScanFault::OutOfMemory`] if there is no
+/// memory for the value.
 pub fn literal<'a>(
     alloc: Global,
     text: &'a str,
@@ -203,14 +227,14 @@ pub fn literal<'a>(
     ensures borrowed { IfOk result (λ found. IsPieceAt (least_indent n) header.now text.now at found.1 → IsBorrowedStr found.0) }
     ensures none { IfErr result (λ fault. Refuses fault (NoBody header.now.digit (least_indent n) (rest text.now at))) }
 {
-    body(alloc, text, at, least_indent(n), header, false)
+    body(alloc, text, at, n, header, Form::Literal)
 }
 
-/// The value of the folded scalar whose header ends at `at`, and the place behind its last text line or empty line; `at` where it
-/// has neither (YAML 1.2.2, 8.1.3).
+/// Returns the value of the folded scalar whose header ends at `at`, and the place after its last text
+/// line or empty line: `at` where it has neither (YAML 1.2.2, 8.1.3).
 ///
-/// As [`literal`], but that a break between two text lines that begin with no white is folded: it is a space, or the LF of each
-/// empty line there.
+/// The same as [`literal`], but a break between two text lines that do not begin with white space is
+/// folded: it is a space, or a line feed for each empty line there.
 pub fn folded<'a>(
     alloc: Global,
     text: &'a str,
@@ -226,5 +250,5 @@ pub fn folded<'a>(
     ensures borrowed { IfOk result (λ found. IsPieceAt (least_indent n) header.now text.now at found.1 → IsBorrowedStr found.0) }
     ensures none { IfErr result (λ fault. Refuses fault (NoBody header.now.digit (least_indent n) (rest text.now at))) }
 {
-    body(alloc, text, at, least_indent(n), header, true)
+    body(alloc, text, at, n, header, Form::Folded)
 }

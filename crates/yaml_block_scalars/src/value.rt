@@ -13,7 +13,7 @@ use std::alloc::{AllocError, Global};
 use std::borrow::CowStr;
 use yaml_scan::push_line_feeds;
 
-/// How many line feeds stand behind the last text line in the value.
+/// Returns how many line feeds follow the last text line in the value.
 pub(crate) fn feeds_behind(chomping: Chomping, line: Line) -> usize
     requires { line.gaps < usize.MAX }
     ensures { (l : TextLine) → Describes line l → line_feeds result ≡ chomped (chomping_of chomping) l }
@@ -26,7 +26,7 @@ pub(crate) fn feeds_behind(chomping: Chomping, line: Line) -> usize
     }
 }
 
-/// How many line feeds the value has, where there is no text line.
+/// Returns how many line feeds the value has where there is no text line.
 fn kept_feeds(chomping: Chomping, gaps: usize) -> usize
     ensures { line_feeds result ≡ kept (chomping_of chomping) gaps }
 {
@@ -36,7 +36,7 @@ fn kept_feeds(chomping: Chomping, gaps: usize) -> usize
     }
 }
 
-/// Pushes what stands between two text lines in the value.
+/// Appends what is between two text lines in the value.
 pub(crate) fn push_between(
     value: &mut String,
     folded: bool,
@@ -55,7 +55,7 @@ pub(crate) fn push_between(
     push_line_feeds(value, line.gaps)
 }
 
-/// The value where there is no text line, behind so many empty lines.
+/// Returns the value where there are so many empty lines and no text line.
 pub(crate) fn no_lines<'a>(
     alloc: Global,
     chomping: Chomping,

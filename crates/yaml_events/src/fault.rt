@@ -4,7 +4,8 @@ ghost use Rattle.std.specs.Prelude.{◌≡◌};
 use std::alloc::{AllocError, AllocFailed};
 use thiserror::Error;
 
-/// Why no node stands where one is looked for. Which of them a text gets is no promise: it is there to help its writer.
+/// Why no node is where one is looked for. Which of them a text gets is no promise: it only helps the
+/// writer of the text.
 #[derive(Clone, Copy, Debug, PartialEq, Eq, Error)]
 pub enum Why {
     /// An alias (`*name`), which the profile leaves out.
@@ -28,7 +29,7 @@ pub enum Why {
     /// A character that may not stand there.
     #[error("Character")]
     Character,
-    /// An escape that there is not.
+    /// An unknown escape.
     #[error("Escape")]
     Escape,
     /// A line that has too few or too many spaces.
@@ -46,20 +47,20 @@ pub enum Why {
     /// A block scalar's header that is none.
     #[error("BlockHeader")]
     BlockHeader,
-    /// A document's mark inside a node.
+    /// A document marker inside a node.
     #[error("Marker")]
     Marker,
     #[error("Other")]
     Other,
 }
 
-/// Why a scanner answers nothing.
+/// Why a scanner fails.
 #[derive(Clone, Copy, Debug, PartialEq, Eq, Error)]
 pub enum ScanFault {
-    /// No node stands there; `at` is a byte of the text, counted from 0.
+    /// No node is there. `at` counts bytes of the text from 0.
     #[error("At {at} {why}")]
     At { at: usize, why: Why },
-    /// There was no memory for a value.
+    /// There is no memory for a value.
     #[error("OutOfMemory")]
     OutOfMemory,
 }

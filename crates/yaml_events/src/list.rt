@@ -21,7 +21,7 @@ impl<'a> Model for Events<'a> {
 }
 
 impl<'a> Events<'a> {
-    /// An empty list. It takes no memory, and keeps the allocator for the events that are put in.
+    /// Returns an empty list. It allocates nothing, and keeps the allocator for later events.
     pub fn new(alloc: Global) -> Self
         ensures { result ≡ [] }
     {
@@ -30,14 +30,14 @@ impl<'a> Events<'a> {
         }
     }
 
-    /// The events, in order.
+    /// Returns the events, in order.
     pub fn as_slice(&self) -> &[Event<'a>]
         ensures { result.now ≡ self.now }
     {
         self.items.as_slice()
     }
 
-    /// The events, in order, as a vector that owns them.
+    /// Returns the events, in order, as a vector that owns them.
     pub fn into_vec(self) -> Vec<Event<'a>>
         ensures { result.items ≡ self.entry }
     {
@@ -45,7 +45,7 @@ impl<'a> Events<'a> {
         items
     }
 
-    /// Puts an event behind all others. An event for which there is no memory is handed back, and the list stays.
+    /// Appends an event. If there is no memory for it, it is handed back, and the list is unchanged.
     pub fn push(&mut self, event: Event<'a>) -> Result<(), AllocFailed<Event<'a>>>
         ensures ok { OnOk result (self.new ≡ self.old ++ event.entry ∷ []) }
         ensures back { IfErr result (λ e. (e.value ≡ event.entry) × (self.new ≡ self.old)) }
@@ -53,8 +53,8 @@ impl<'a> Events<'a> {
         self.items.push(event)
     }
 
-    /// Puts an event before the one at `at`, counted from 0; behind all others where `at` is the length. An event for
-    /// which there is no memory is handed back, and the list stays.
+    /// Inserts an event before the one at `at`, counted from 0, or appends it where `at` is the length. If
+    /// there is no memory for it, it is handed back, and the list is unchanged.
     pub fn insert(&mut self, at: usize, event: Event<'a>) -> Result<(), AllocFailed<Event<'a>>>
         requires { at ≤ length self.old }
         ensures ok { OnOk result (self.new ≡ insert self.old at event.entry) }
@@ -63,7 +63,7 @@ impl<'a> Events<'a> {
         self.items.insert(at, event)
     }
 
-    /// Keeps the first `len` events and drops those behind them.
+    /// Keeps the first `len` events and drops those after them.
     pub fn truncate(&mut self, len: usize)
         requires { len ≤ length self.old }
         ensures { self.new ≡ take len self.old }

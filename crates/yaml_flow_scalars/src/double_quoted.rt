@@ -20,21 +20,23 @@ use std::borrow::CowStr;
 use yaml_events::{FlowContext, ScanFault, Why};
 use yaml_scan::{Class, break_end, push_line_feeds, run_end, stands_at};
 
-/// What an escape means, and the place behind it.
+/// What an escape means, and the place after it.
 #[derive(Clone, Copy)]
 struct Escape {
     meant: char,
     end: usize,
 }
 
-/// The scalar in double quotes at a place (7.3.1): its value, and the place behind its closing quote.
+/// Returns the value of the scalar in double quotes at `at` (7.3.1), and the place after its closing
+/// quote. A further line is indented by `n` spaces or more; a key has none. The value of a scalar with
+/// neither a break nor a backslash in it is borrowed from the text, and takes no memory.
 ///
-/// Places count bytes from 0. A further line is indented by `n` spaces or more; in a key there is none. Where neither a break
-/// nor a backslash stands between the quotes the value is borrowed, and no memory is taken.
+/// # Errors
 ///
-/// Answers [`ScanFault::At`] exactly where no such scalar stands there: without an opening or a closing quote, at an escape that
-/// there is not, at a control character, at a break in a key, and at a line that is indented too little or is a document's mark;
-/// and [`ScanFault::OutOfMemory`] where there is no memory for a value that is not borrowed.
+/// [`ScanFault::At`] exactly where no such scalar is at `at`: without an opening or a closing quote, at an
+/// unknown escape, at a control character, at a break in a key, and at a line that is indented too little
+/// or is a document marker. [`ScanFault::OutOfMemory`] if there is no memory for a value that is not
+/// borrowed.
 pub fn double<'a>(
     alloc: Global,
     text: &'a str,
@@ -64,8 +66,8 @@ pub fn double<'a>(
     Ok((CowStr::Owned(value), end))
 }
 
-/// The value of a scalar of which the first run of characters goes from `start` to `first`, and the place behind its closing
-/// quote.
+/// Returns the value of a scalar whose first run of characters goes from `start` to `first`, and the
+/// place after its closing quote.
 fn unescaped(
     alloc: Global,
     text: &str,
@@ -91,7 +93,8 @@ fn unescaped(
     Ok((value, end + 1))
 }
 
-/// Adds a run of characters, and what the escape or the break behind it means. Answers the place behind that.
+/// Appends a run of characters, and what the escape or the break after it means. Returns the place
+/// after that.
 fn push_run(
     value: &mut String,
     text: &str,
@@ -126,7 +129,7 @@ fn push_run(
     Ok(fold.next)
 }
 
-/// Adds what the backslash at a place means with what stands behind it. Answers the place behind that.
+/// Appends what the escape or the join at `at` means. Returns the place after it.
 fn push_escape(
     value: &mut String,
     text: &str,
@@ -149,7 +152,8 @@ fn push_escape(
     Ok(fold.next)
 }
 
-/// The fold whose break stands at the place, where lines may be joined there. No other join stands right behind it.
+/// Returns the fold whose break is at `at`, where lines may be joined there. No other join follows it at
+/// once.
 fn line_behind(text: &str, at: usize, n: u64, context: FlowContext) -> Result<Fold, ScanFault>
     requires { IsCharBoundary text.now at }
     ensures ok { IfOk result (λ fold. JoinsAt n (context_of context) text.now at fold.empties fold.next) }
@@ -176,7 +180,7 @@ fn line_behind(text: &str, at: usize, n: u64, context: FlowContext) -> Result<Fo
     Ok(fold)
 }
 
-/// Whether a break stands at the place.
+/// Returns whether a break is at `at`.
 fn breaks_at(text: &str, at: usize) -> bool
     requires { IsCharBoundary text.now at }
     ensures { result ≡ first line_break (rest text.now at) }
@@ -184,7 +188,7 @@ fn breaks_at(text: &str, at: usize) -> bool
     break_end(text, at).is_some()
 }
 
-/// The escape whose backslash stands at the place (5.7, `c-ns-esc-char`).
+/// Returns the escape whose backslash is at `at` (5.7, `c-ns-esc-char`).
 fn escape_at(text: &str, at: usize) -> Option<Escape>
     requires within { at < length text.now }
     requires backslash { slice_index text.now at ≡ 92 }
@@ -210,7 +214,7 @@ fn escape_at(text: &str, at: usize) -> Option<Escape>
     })
 }
 
-/// How many digits stand behind the sign of an escape; 0 where it is a whole escape or none.
+/// Returns how many digits follow the sign of an escape: 0 where it is a whole escape or none.
 fn digits_behind(sign: u8) -> usize
     ensures { result ≡ (if is_in sign (codes "xuU") then digits_behind sign else 0) }
 {
@@ -222,7 +226,7 @@ fn digits_behind(sign: u8) -> usize
     }
 }
 
-/// What a sign behind a backslash means that takes no digits.
+/// Returns what a sign after a backslash means, where it takes no digits.
 fn escaped_char(sign: u8) -> Option<char>
     ensures found { IfSome result (IsEscape sign) }
     ensures none { IfNone result (double_item (escape sign) ≡ false) }
@@ -249,7 +253,7 @@ fn escaped_char(sign: u8) -> Option<char>
     }
 }
 
-/// The number that so many hexadecimal digits from the place on are.
+/// Returns the number that `count` hexadecimal digits from `at` on are.
 fn hex_number(text: &str, at: usize, count: usize) -> Option<u32>
     requires at { IsCharBoundary text.now at }
     requires few { count ≤ 8 }
@@ -269,7 +273,7 @@ fn hex_number(text: &str, at: usize, count: usize) -> Option<u32>
     Some(number)
 }
 
-/// The value of a hexadecimal digit.
+/// Returns the value of a hexadecimal digit.
 fn hex_digit(byte: u8) -> Option<u32>
     ensures found { IfSome result (IsDigit byte) }
     ensures none { IfNone result (hex_digit byte ≡ false) }

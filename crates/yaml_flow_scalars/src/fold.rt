@@ -10,17 +10,19 @@ use std::alloc::AllocError;
 use yaml_events::{FlowContext, ScanFault, Why};
 use yaml_scan::{break_end, is_marker, is_white, push_line_feeds, white_end};
 
-/// A break inside a scalar, with the empty lines behind it and the white at the front of the next line.
+/// A break inside a scalar, with the empty lines after it and the white space at the front of the
+/// next line.
 #[derive(Clone, Copy)]
 pub(crate) struct Fold {
-    /// How many empty lines there are.
+    /// The number of empty lines.
     pub(crate) empties: usize,
-    /// The place of what the next line holds.
+    /// Where the content of the next line starts.
     pub(crate) next: usize,
 }
 
-/// The fold whose break stands at the place: behind it come empty lines, and a line that is indented by `indent` spaces or
-/// more and is no document's mark. There is none where no break stands there, or no such line.
+/// Returns the fold whose break is at `at`: empty lines follow the break, and then a line that is
+/// indented by `indent` spaces or more and is no document marker. Returns None where no break is at
+/// `at`, or no such line follows.
 pub(crate) fn fold_at(text: &str, at: usize, indent: u64) -> Option<Fold>
     requires { IsCharBoundary text.now at }
     ensures found { IfSome result (λ fold. IsFold indent text.now at fold.empties fold.next) }
@@ -48,16 +50,16 @@ pub(crate) fn fold_at(text: &str, at: usize, indent: u64) -> Option<Fold>
     }
 }
 
-/// The white at the front of a line.
+/// The white space at the front of a line.
 #[derive(Clone, Copy)]
 struct Front {
-    /// The place behind it; in a line that is indented too little, the one behind its spaces.
+    /// Where it ends. In a line that is indented too little, where its spaces end.
     end: usize,
-    /// Whether it begins with all the spaces of the indentation.
+    /// Whether the line has all the spaces of the indentation.
     indented: bool,
 }
 
-/// The white at the front of the line that starts at the place.
+/// Returns the white space at the front of the line that starts at `at`.
 fn line_front(text: &str, at: usize, indent: u64) -> Front
     requires { IsCharBoundary text.now at }
     ensures { IsFront indent text.now at result.end result.indented }
@@ -75,7 +77,7 @@ fn line_front(text: &str, at: usize, indent: u64) -> Front
     }
 }
 
-/// Behind the spaces from the place on, `indent` of them at most.
+/// Returns the end of the spaces at `at`, at most `indent` of them.
 fn margin_end(text: &str, at: usize, indent: u64) -> usize
     requires { IsCharBoundary text.now at }
     ensures { IsMargin indent text.now at result }
@@ -88,8 +90,8 @@ fn margin_end(text: &str, at: usize, indent: u64) -> usize
     end
 }
 
-/// Why no fold begins with the break at the place, and the line that is at fault: the first one behind it that is not empty. No
-/// contract says it, since it only helps the writer of the text.
+/// Returns why no fold begins with the break at `at`, and the start of the line at fault: the first
+/// line after it that is not empty. No contract says it: it only helps the writer of the text.
 pub(crate) fn fold_fault(text: &str, at: usize) -> ScanFault
     requires { IsCharBoundary text.now at }
 {
@@ -111,7 +113,7 @@ pub(crate) fn fold_fault(text: &str, at: usize) -> ScanFault
     }
 }
 
-/// Adds what a fold means: a space, or a line feed for each empty line.
+/// Appends what a fold means: a space, or a line feed for each empty line.
 pub(crate) fn push_fold(value: &mut String, empties: usize) -> Result<(), AllocError>
     ensures { OnOk result (string_bytes value.new ≡ string_bytes value.old ++ folded_break empties) }
 {
@@ -121,7 +123,7 @@ pub(crate) fn push_fold(value: &mut String, empties: usize) -> Result<(), AllocE
     push_line_feeds(value, empties)
 }
 
-/// Whether what stands in the context stands on one line: a key does.
+/// Returns whether what is in the context is on one line, as a key is.
 pub(crate) fn stands_on_one_line(context: FlowContext) -> bool
     ensures { result ≡ one_line (context_of context) }
 {
@@ -131,7 +133,7 @@ pub(crate) fn stands_on_one_line(context: FlowContext) -> bool
     }
 }
 
-/// Where the white space begins that is at the end of what stands between the two places.
+/// Returns where the white space starts that ends at `end`, but not before `from`.
 pub(crate) fn white_start(text: &str, from: usize, end: usize) -> usize
     requires order { from ≤ end }
     requires from { IsCharBoundary text.now from }

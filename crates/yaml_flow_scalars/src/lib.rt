@@ -1,7 +1,8 @@
 //! Scanners of flow scalars: plain, in single quotes and in double quotes (YAML 1.2.2, 7.3).
 //!
-//! Each looks at one place of a text, which counts bytes from 0, for a scalar of its own kind, and answers its value and the
-//! place behind it. What stands there is said by the grammar's definitions; `specs/Standing.antt` says how.
+//! Each call looks for a scalar of its own kind at one place of a text, and returns its value and its
+//! end. A place counts the bytes of the text from 0, and is on a boundary of a character. Contracts
+//! say what stands at a place by the grammar's definitions, as `specs/Standing.antt` shows.
 #![tactic(auto)]
 
 mod double_quoted;

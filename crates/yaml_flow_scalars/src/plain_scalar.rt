@@ -25,20 +25,23 @@ use yaml_scan::{Class, is_marker, is_safe, line_starts, run_end, safe_at, white_
 /// A further line of a plain scalar.
 #[derive(Clone, Copy)]
 struct PlainLine {
-    /// How many empty lines stand before it.
+    /// The number of empty lines before it.
     empties: usize,
-    /// The place of its first character behind the indentation.
+    /// Where its first character after the indentation is.
     start: usize,
-    /// The place behind its last plain character.
+    /// The place after its last plain character.
     end: usize,
 }
 
-/// The plain scalar at a place (7.3.3, `ns-plain`), the longest one: its value, and the place behind its last character. `at`
-/// counts bytes from 0. A further line is indented by `n` spaces or more; in a key there is none.
+/// Returns the value of the longest plain scalar at `at` (7.3.3, `ns-plain`), and the place after its
+/// last character. A further line is indented by `n` spaces or more; a key has none. The value of a
+/// scalar on one line is borrowed from the text.
 ///
-/// A value on one line is borrowed from the text. Answers [`ScanFault::At`] exactly where no plain scalar stands at `at`: it
-/// tells that place and why, as far as the first character shows it. [`ScanFault::OutOfMemory`] comes where there is no memory
-/// for a value that runs over lines.
+/// # Errors
+///
+/// [`ScanFault::At`] exactly where no plain scalar is at `at`, with that place and the reason as far as
+/// the first character shows it. [`ScanFault::OutOfMemory`] if there is no memory for a value that goes
+/// over lines.
 pub fn plain<'a>(
     alloc: Global,
     text: &'a str,
@@ -63,7 +66,7 @@ pub fn plain<'a>(
     Ok((CowStr::Owned(value), end))
 }
 
-/// Behind the first character of a plain scalar.
+/// Returns the place after the first character of a plain scalar.
 fn first_end(text: &str, at: usize, context: FlowContext) -> Result<usize, ScanFault>
     requires { IsCharBoundary text.now at }
     ensures found { IfOk result (BeginsPlain (context_of context) text.now at) }
@@ -93,7 +96,7 @@ fn first_end(text: &str, at: usize, context: FlowContext) -> Result<usize, ScanF
     Ok(at + len)
 }
 
-/// Whether an ASCII letter or digit stands at the place: each plain scalar may begin with it.
+/// Returns whether an ASCII letter or digit is at `at`: a plain scalar may begin with any of them.
 fn letter_or_digit_at(text: &str, at: usize) -> bool
     requires { IsCharBoundary text.now at }
     ensures { result ≡ first letter_or_digit (rest text.now at) }
@@ -108,7 +111,8 @@ fn is_letter_or_digit(byte: u8) -> bool
     matches!(byte, b'0'..=b'9' | b'A'..=b'Z' | b'a'..=b'z')
 }
 
-/// Whether a plain scalar may begin with the character, behind which the text goes on at the place (`ns-plain-first`).
+/// Returns whether a plain scalar may begin with a character that ends at `behind`
+/// (`ns-plain-first`).
 fn is_first(character: char, text: &str, behind: usize, context: FlowContext) -> bool
     requires { IsCharBoundary text.now behind }
     ensures { result ≡ plain_first (context_of context) character (rest text.now behind) }
@@ -122,7 +126,7 @@ fn is_first(character: char, text: &str, behind: usize, context: FlowContext) ->
     matches!(character, '?' | ':' | '-') && safe_at(text, behind, context)
 }
 
-/// Why a plain scalar doesn't begin with the character.
+/// Returns why a plain scalar does not begin with a character.
 fn why_not_first(character: char) -> Why {
     match character {
         '*' => Why::Alias,
@@ -135,16 +139,17 @@ fn why_not_first(character: char) -> Why {
     }
 }
 
-/// What stands before a place of a plain scalar.
+/// What is before a place of a plain scalar.
 #[derive(Clone, Copy)]
 enum Before {
-    /// A character of the scalar that is no white space.
+    /// A character of the scalar that is not white space.
     Content,
     /// White space or a break.
     Blank,
 }
 
-/// What stands before the place `stop`, where words from `end` on go up to `words` and white space from there on.
+/// Returns what is before `stop`, where words go from `end` to `words`, and white space from there to
+/// `stop`.
 fn before_stop(before: Before, end: usize, words: usize, stop: usize) -> Before
     requires { words ≤ stop }
     ensures { is_content result ≡ ((nat_lt end words || is_content before) && (stop == words)) }
@@ -158,7 +163,7 @@ fn before_stop(before: Before, end: usize, words: usize, stop: usize) -> Before
     }
 }
 
-/// The class of words: white space, and ASCII characters that are plain wherever they stand.
+/// Returns the class of words: white space, and ASCII characters that are plain wherever they are.
 fn words_of(context: FlowContext) -> Class
     ensures { test_of result ≡ word (context_of context) }
 {
@@ -168,8 +173,8 @@ fn words_of(context: FlowContext) -> Class
     }
 }
 
-/// The end of the plain character at the place, where no word goes on (`ns-plain-char`): a `:` or a `#` where it may stand, or a
-/// character that is not ASCII.
+/// Returns the end of the plain character at `at`, where no word goes on (`ns-plain-char`): a `:` or a
+/// `#` where one is allowed, or a character that is not ASCII.
 fn special_end(text: &str, at: usize, before: Before, context: FlowContext) -> Option<usize>
     requires at { IsCharBoundary text.now at }
     requires stop { at < length text.now → word (context_of context) (slice_index text.now at) ≡ false }
@@ -195,7 +200,7 @@ fn special_end(text: &str, at: usize, before: Before, context: FlowContext) -> O
     }
 }
 
-/// Whether the character is plain, where the text goes on at the place behind it (`ns-plain-char`).
+/// Returns whether a character that ends at `behind` is plain (`ns-plain-char`).
 fn is_plain(
     character: char,
     before: Before,
@@ -213,7 +218,8 @@ fn is_plain(
     }
 }
 
-/// Behind white space and plain characters from the place on: behind the last plain one on the line, or at the place itself.
+/// Returns the end of the plain characters from `from` on that are on its line, with the white space
+/// between them; `from` where there is none.
 fn plain_run_end(text: &str, from: usize, before: Before, context: FlowContext) -> usize
     requires { IsCharBoundary text.now from }
     ensures { IsPlainRun (context_of context) (is_content before) text.now from result }
@@ -234,7 +240,7 @@ fn plain_run_end(text: &str, from: usize, before: Before, context: FlowContext) 
     }
 }
 
-/// The further line of a plain scalar that goes on behind a line's last plain character. In a key there is none.
+/// Returns the further line of a plain scalar after a line that ends at `at`. A key has none.
 fn next_line(text: &str, at: usize, n: u64, context: FlowContext) -> Option<PlainLine>
     requires { IsCharBoundary text.now at }
     ensures found { IfSome result (λ line. IsNextLine n (context_of context) text.now at line.empties line.start line.end) }
@@ -257,7 +263,7 @@ fn next_line(text: &str, at: usize, n: u64, context: FlowContext) -> Option<Plai
     })
 }
 
-/// Adds what a further line and all behind it mean. Gives the place behind the last one.
+/// Appends what a further line and all lines after it mean. Returns the end of the last one.
 fn push_lines(
     value: &mut String,
     text: &str,

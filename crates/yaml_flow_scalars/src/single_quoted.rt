@@ -19,15 +19,16 @@ use std::borrow::CowStr;
 use yaml_events::{FlowContext, ScanFault, Why};
 use yaml_scan::{Class, break_end, run_end, stands_at};
 
-/// The scalar in single quotes at a place (7.3.2): its value, and the place behind its closing quote. `at` counts bytes from 0. A
-/// further line is indented by `n` spaces or more; in a key there is none.
+/// Returns the value of the scalar in single quotes at `at` (7.3.2), and the place after its closing
+/// quote. A further line is indented by `n` spaces or more; a key has none. The value of a scalar on one
+/// line without a pair of quotes in it is borrowed from the text, and takes no memory.
 ///
-/// Where it stands on one line and has no pair of quotes, the value is borrowed from the text, and no memory is taken.
+/// # Errors
 ///
-/// Answers [`ScanFault::At`] where no such scalar stands there: the place at fault, and why, which is no promise. It is `Quote`
-/// where no quote opens or closes it, `Character` where a control character stands in it, `Key` where a key runs over lines, and
-/// `Indent` or `Marker` where a further line is indented too little or is a document's mark. [`ScanFault::OutOfMemory`] where
-/// there is no memory for the value.
+/// [`ScanFault::At`] where no such scalar is at `at`, with the place at fault and the reason, which is no
+/// promise: `Quote` where no quote opens or closes it, `Character` at a control character, `Key` where a
+/// key goes over lines, `Indent` or `Marker` where a further line is indented too little or is a document
+/// marker. [`ScanFault::OutOfMemory`] if there is no memory for the value.
 pub fn single<'a>(
     alloc: Global,
     text: &'a str,
@@ -51,7 +52,8 @@ pub fn single<'a>(
     unquoted(alloc, text, at + 1, n, context)
 }
 
-/// The value of what stands between the quotes, from behind the opening one on, and the place behind the closing one.
+/// Returns the value between the quotes, from the place after the opening one on, and the place after
+/// the closing one.
 fn unquoted<'a>(
     alloc: Global,
     text: &'a str,
@@ -91,7 +93,7 @@ fn unquoted<'a>(
     }
 }
 
-/// The fold whose break stands at the place; in a key there is none.
+/// Returns the fold whose break is at `at`. A key has none.
 fn fold_in(text: &str, at: usize, n: u64, context: FlowContext) -> Option<Fold>
     requires { IsCharBoundary text.now at }
     ensures lines { IfSome result (λ fold. one_line (context_of context) ≡ false) }
@@ -104,7 +106,7 @@ fn fold_in(text: &str, at: usize, n: u64, context: FlowContext) -> Option<Fold>
     fold_at(text, at, n)
 }
 
-/// Why a scalar does not go on at the place, where no quote and no fold stands.
+/// Returns why a scalar does not go on at `at`, where no quote and no fold is.
 fn fault_at(text: &str, at: usize, context: FlowContext) -> ScanFault
     requires { IsCharBoundary text.now at }
 {
