@@ -6,6 +6,9 @@ ghost use Rattle.yaml_tree.specs.Seen.{tree_of, elements_of, members_of};
 use std::alloc::{AllocError, Global};
 
 /// A tree of texts (YAML 1.2.2, 3.2.1).
+///
+/// Dropping a tree grows the call stack with its depth. The owner of a tree that may be tens of thousands of levels deep takes it
+/// apart from the outside, level by level.
 #[derive(Debug, Drop)]
 pub enum Tree {
     /// A text.
