@@ -17,17 +17,17 @@ line_and_closing_line = 10 ∷ closing_line
 
 -- ---- the ends of lines
 
-line_behind : (xs : List ℕ) → ends_line (xs ++ 10 ∷ []) ≡ true
+pub line_behind : (xs : List ℕ) → ends_line (xs ++ 10 ∷ []) ≡ true
 line_behind [] = refl
 line_behind (x ∷ []) = refl
 line_behind (x ∷ y ∷ ys) = line_behind (y ∷ ys)
 
-last_byte : (xs : List ℕ) (x : ℕ) → ends_line (xs ++ x ∷ []) ≡ true → x ≡ 10
+pub last_byte : (xs : List ℕ) (x : ℕ) → ends_line (xs ++ x ∷ []) ≡ true → x ≡ 10
 last_byte [] x h = grind (arith, nat_tests)
 last_byte (x ∷ []) y h = last_byte [] y h
 last_byte (x ∷ y ∷ ys) z h = last_byte (y ∷ ys) z h
 
-last_of : (x : ℕ) (xs : List ℕ) → (front : List ℕ) × (last : ℕ) × (x ∷ xs ≡ front ++ last ∷ [])
+pub last_of : (x : ℕ) (xs : List ℕ) → (front : List ℕ) × (last : ℕ) × (x ∷ xs ≡ front ++ last ∷ [])
 last_of x [] = ([], x, refl)
 last_of x (y ∷ ys) = let l = last_of y ys in (x ∷ l.0, l.1, ap (λ zs. x ∷ zs) l.2)
 

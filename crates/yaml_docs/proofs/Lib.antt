@@ -8,3 +8,4 @@ pub mod MarkEnds
 pub mod Words
 pub mod StreamSteps
 pub mod Readings
+pub mod CutLines

@@ -3,3 +3,5 @@ pub mod Reading
 pub mod Pieces
 pub mod Documents
 pub mod Directives
+pub mod Cutting
+pub mod LineBegun

@@ -5,10 +5,10 @@ ghost use Rattle.yaml_docs.specs.NextClosing.{StartsLine, IsNextClosing, NoClosi
 use memchr::memmem;
 
 /// The line that closes a text: three dots and a line feed.
-const CLOSING_LINE: &[u8] = b"...\n";
+pub(crate) const CLOSING_LINE: &[u8] = b"...\n";
 
 /// The same behind the end of another line.
-const LINE_AND_CLOSING_LINE: &[u8] = b"\n...\n";
+pub(crate) const LINE_AND_CLOSING_LINE: &[u8] = b"\n...\n";
 
 /// The first place behind `at` that stands just behind a closing line: a line of exactly `...` and a line feed. Places count
 /// bytes from 0. A line has to start at `at`, as at 0 and behind each closing line, so that the next one can be looked for from there.

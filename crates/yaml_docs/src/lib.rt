@@ -1,19 +1,23 @@
 //! Streams of documents (YAML 1.2.2, chapter 9), and where texts in a row are closed.
 //!
 //! [`events`] reads bytes as a stream, and returns its events or the reason why they are refused. [`next_close`] finds
-//! closing lines.
+//! closing lines, and a [`Cutter`] cuts bytes that come in parts after each of them.
 #![tactic(auto)]
 
 mod closing;
+mod cutter;
 mod directive;
 mod documents;
 mod fault;
 mod read;
 
 pub use closing::next_close;
+pub use cutter::{CutFault, Cutter, Fed};
 pub use fault::ReadFault;
 pub use read::events;
 
+#[cfg(test)]
+mod cutter_tests;
 #[cfg(test)]
 mod read_tests;
 #[cfg(test)]

@@ -1,0 +1,16 @@
+-- A closing line that is begun at the end of bytes.
+use Rattle.std.specs.Prelude.{◌≡◌, ◌≤◌, ℕ, List, ◌++◌, take, drop, codes, IsTrue}
+use Rattle.yaml_grammar.specs.Closings.{ends_line}
+
+-- a line starts before the last so many bytes, which are dots, at most three
+pub record IsBegun (held : List ℕ) (dots : ℕ) : Type 0 where
+  pub front : List ℕ
+  pub few : dots ≤ 3
+  pub is : held ≡ front ++ take dots (codes "...\n")
+  pub line : IsTrue (ends_line front)
+
+-- and further bytes complete it as a closing line
+pub record Completes (held more : List ℕ) (dots : ℕ) : Type 0 where
+  pub begun : IsBegun held dots
+  pub behind : List ℕ
+  pub is : more ≡ drop dots (codes "...\n") ++ behind

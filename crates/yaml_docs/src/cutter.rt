@@ -1,0 +1,178 @@
+// Cutting bytes that come in parts behind each closing line.
+ghost use Rattle.std.specs.Prelude.{◌≡◌, ◌≤◌, ◌+◌, ℕ, true, [], IfOk, IfErr, IfSome, IfNone, Err, length};
+ghost use Rattle.yaml_grammar.specs.Closings.{ends_line};
+ghost use Rattle.yaml_docs.specs.Cutting.{Held, Unclosed, Takes, Feeds, Overfeeds};
+ghost use Rattle.yaml_docs.specs.LineBegun.{IsBegun, Completes};
+
+use crate::closing::{CLOSING_LINE, LINE_AND_CLOSING_LINE};
+use memchr::memmem;
+use std::alloc::{AllocError, Global};
+use std::marker::Model;
+use thiserror::Error;
+
+/// How many bytes a [`Cutter`] took, and whether what it holds is a whole piece.
+#[derive(Clone, Copy, Debug, PartialEq, Eq)]
+pub struct Fed {
+    /// How many of the bytes were taken, from the first.
+    pub taken: usize,
+    /// Whether they end with the closing line of a piece. If not, all bytes were taken.
+    pub closed: bool,
+}
+
+/// Why a [`Cutter`] takes no bytes.
+#[derive(Clone, Copy, Debug, PartialEq, Eq, Error)]
+pub enum CutFault {
+    /// The piece would have more bytes than it may.
+    #[error("TooLong")]
+    TooLong,
+    /// Out of memory.
+    #[error("OutOfMemory")]
+    OutOfMemory,
+}
+
+impl From<AllocError> for CutFault {
+    ghost use Rattle.yaml_docs.specs.declared.cutter.CutFault.TheVariants.{OutOfMemory};
+
+    ghost from_gives = { λ _ fault. fault ≡ OutOfMemory };
+
+    fn from(_error: AllocError) -> CutFault {
+        CutFault::OutOfMemory
+    }
+}
+
+/// Holds the bytes after the last closing line of a stream that comes in parts. A closing line is a line of exactly `...` and a
+/// line feed, as [`next_close`](crate::next_close) finds it. Contracts see the bytes and the most that it may hold.
+#[derive(Debug, Drop)]
+pub struct Cutter {
+    held: Vec<u8>,
+    max: u64,
+}
+
+impl Model for Cutter {
+    ghost use Rattle.std.specs.Prelude.{◌≤◌, length};
+    ghost use Rattle.yaml_grammar.specs.Closings.{ends_line};
+    ghost use Rattle.yaml_docs.specs.Cutting.{Held, held_code};
+
+    ghost Value = { Held };
+
+    ghost coded = { held_code };
+
+    ghost view = { λ c. record { bytes = c.held.items; max = c.max } };
+
+    ghost invariant = { λ c. length c.held.items ≤ c.max };
+}
+
+impl Cutter {
+    /// A cutter that holds nothing, for pieces of at most `max` bytes. It takes no memory, and keeps the allocator.
+    pub fn new(alloc: Global, max: u64) -> Self
+        ensures { result ≡ record { bytes = []; max = max } }
+    {
+        Cutter {
+            held: Vec::new(alloc),
+            max,
+        }
+    }
+
+    /// Takes bytes up to and including the first closing line, or all of them if there is none. A closed piece has to be
+    /// [cleared](Cutter::clear) before. It looks at each byte once, and copies it once.
+    ///
+    /// # Errors
+    /// `TooLong` if what is held and what would be taken have more than the most bytes together; `OutOfMemory`. In both
+    /// cases nothing is taken.
+    pub fn feed(&mut self, bytes: &[u8]) -> Result<Fed, CutFault>
+        requires { Unclosed self.old.bytes }
+        ensures ok { IfOk result (Feeds self.old bytes.now self.new) }
+        ensures short { IfOk result (λ fed. length self.new.bytes ≤ self.new.max) }
+        ensures too_long { result ≡ Err CutFault.TooLong → Overfeeds self.old bytes.now }
+        ensures unchanged { IfErr result (λ fault. self.new ≡ self.old) }
+    {
+        let fed = first_closing(&self.held, bytes);
+        if fed.taken as u64 > self.max - self.held.len() as u64 {
+            return Err(CutFault::TooLong);
+        }
+        self.held.extend_from_slice(&bytes[..fed.taken])?;
+        Ok(fed)
+    }
+
+    /// The bytes that are held.
+    pub fn piece(&self) -> &[u8]
+        ensures { result.now ≡ self.now.bytes }
+    {
+        &self.held
+    }
+
+    /// Drops the bytes that are held, and keeps their memory for the next ones.
+    pub fn clear(&mut self)
+        ensures { self.new ≡ record { bytes = []; max = self.old.max } }
+    {
+        self.held.clear();
+    }
+}
+
+/// How many of the bytes are taken after those that are held.
+fn first_closing(held: &[u8], bytes: &[u8]) -> Fed
+    requires { Unclosed held.now }
+    ensures takes { Takes held.now bytes.now result.taken result.closed }
+    ensures within { result.taken ≤ length bytes.now }
+{
+    if let Some(taken) = completed_line(held, bytes) {
+        return Fed {
+            taken,
+            closed: true,
+        };
+    }
+    match memmem::find(bytes, LINE_AND_CLOSING_LINE) {
+        Some(line) => Fed {
+            taken: line + LINE_AND_CLOSING_LINE.len(),
+            closed: true,
+        },
+        None => Fed {
+            taken: bytes.len(),
+            closed: false,
+        },
+    }
+}
+
+/// How many of the bytes complete a closing line that is begun in what is held, or that begins right after it.
+fn completed_line(held: &[u8], bytes: &[u8]) -> Option<usize>
+    ensures found { IfSome result (λ taken. (dots : ℕ) × Completes held.now bytes.now dots × (taken + dots ≡ 4)) }
+    ensures none { IfNone result ((dots : ℕ) → Completes held.now bytes.now dots → ⊥) }
+{
+    for dots in 0..CLOSING_LINE.len() {
+        if completes(held, bytes, dots) {
+            return Some(CLOSING_LINE.len() - dots);
+        }
+    }
+    None
+}
+
+/// Whether the bytes complete a closing line of which so many dots are held.
+fn completes(held: &[u8], bytes: &[u8], dots: usize) -> bool
+    requires { dots ≤ 3 }
+    ensures completes { result ≡ true → Completes held.now bytes.now dots }
+    ensures otherwise { Completes held.now bytes.now dots → result ≡ true }
+{
+    is_begun(held, dots) && bytes.starts_with(&CLOSING_LINE[dots..])
+}
+
+/// Whether the last line that is held is so many dots.
+fn is_begun(held: &[u8], dots: usize) -> bool
+    requires { dots ≤ 3 }
+    ensures begun { result ≡ true → IsBegun held.now dots }
+    ensures not_begun { IsBegun held.now dots → result ≡ true }
+{
+    match held.strip_suffix(&CLOSING_LINE[..dots]) {
+        Some(lines) => ends_line(lines),
+        None => false,
+    }
+}
+
+/// Whether a line starts after the bytes.
+fn ends_line(bytes: &[u8]) -> bool
+    ensures { result ≡ ends_line bytes.now }
+{
+    match bytes.last() {
+        Some(byte) => *byte == b'\n',
+        None => true,
+    }
+}
