@@ -1,4 +1,7 @@
 // Block nodes and their events, as an independent reader of the grammar finds them, and texts that hold none.
+ghost use Rattle.std.specs.Prelude.{IfOk};
+ghost use Rattle.std.specs.Str.{IsCharBoundary};
+
 use super::*;
 use std::alloc::Global;
 use std::test::Fail;
@@ -41,13 +44,26 @@ fn shown(alloc: Global, events: &Events<'_>) -> Result<String, Fail> {
     Ok(text)
 }
 
+/// Reads the block node at the front of a text, below an indentation of `n`.
+fn read<'a>(
+    alloc: Global,
+    events: &mut Events<'a>,
+    text: &'a str,
+    n: i64,
+    context: BlockContext,
+) -> Result<usize, ScanFault>
+    ensures { IfOk result (IsCharBoundary text.now) }
+{
+    if n < -1 || !text.is_char_boundary(0) {
+        return Err(ScanFault::OutOfMemory);
+    }
+    block_node(alloc, events, text, 0, n, context)
+}
+
 /// Where the block node at the front of a text ends, below an indentation of `n`, or why there is none.
 fn end_of(alloc: Global, text: &str, n: i64, context: BlockContext) -> Result<usize, ScanFault> {
     let mut events = Events::new(alloc);
-    if n < -1 {
-        return Err(ScanFault::OutOfMemory);
-    }
-    block_node(alloc, &mut events, text, 0, n, context)
+    read(alloc, &mut events, text, n, context)
 }
 
 /// The place and the reason of the refusal of a document's text.
@@ -62,7 +78,7 @@ fn refusal(alloc: Global, text: &str) -> Option<(usize, Why)> {
 /// where more follows.
 fn meaning(alloc: Global, text: &str) -> Result<String, Fail> {
     let mut events = Events::new(alloc);
-    match block_node(alloc, &mut events, text, 0, -1, Bin) {
+    match read(alloc, &mut events, text, -1, Bin) {
         Ok(end) if solid_line(text, end).start == text.len() => shown(alloc, &events),
         _ => Ok(String::new(alloc)),
     }
@@ -234,7 +250,7 @@ fn many_open_collections(rt: HostRuntime) -> Result<(), Fail> {
     let dashes = repeated(rt.alloc(), "- ", 20000)?;
     let text = format!(in rt.alloc(); "{dashes}a\n")?;
     let mut events = Events::new(rt.alloc());
-    let end = block_node(rt.alloc(), &mut events, text.as_str(), 0, -1, Bin);
+    let end = read(rt.alloc(), &mut events, text.as_str(), -1, Bin);
     assert_eq!(rt; end, Ok(40002));
     assert_eq!(rt; events.as_slice().len(), 40001);
     Ok(())
