@@ -22,11 +22,11 @@ RUNS = [
     ("tree", "wide", 10_000, 2_000),
     ("tree", "deep", 8, 100_000),
     ("tree", "deep", 64, 50_000),
-    ("state", "wide", 100, 2_000),
-    ("state", "wide", 1_000, 200),
-    ("state", "wide", 10_000, 20),
-    ("state", "deep", 8, 10_000),
-    ("state", "deep", 64, 2_000),
+    ("state", "wide", 100, 50_000),
+    ("state", "wide", 1_000, 10_000),
+    ("state", "wide", 10_000, 1_000),
+    ("state", "deep", 8, 50_000),
+    ("state", "deep", 64, 20_000),
 ]
 
 

@@ -11,7 +11,7 @@ use Rattle.tree_path.specs.declared.change.Slot.{Slot}
 use Rattle.tree_path.specs.declared.change.Slot.TheVariants.{Value, Element}
 
 -- The change leads from the first tree to the second: what is taken out and what is put in make up for the difference, of the
--- tree by itself and of the tree behind the `:` of a key at any indentation.
+-- tree by itself and of the tree after the `:` of a key at any indentation.
 pub record Changes (change : Change) (old new : Tree) : Type 0 where
   pub alone : byte_len (style_text new) + change.removed.bytes ≡ byte_len (style_text old) + change.added.bytes
   pub behind_key : (i : ℕ) → byte_len (value_at new i) + length_at change.removed (i + 2) ≡ byte_len (value_at old i) + length_at change.added (i + 2)
@@ -25,13 +25,13 @@ IsCollection (text value) = ⊥
 IsCollection (sequence ts) = Unit {0}
 IsCollection (mapping ms) = Unit {0}
 
--- its lines at the indentation n, without the spaces before the first; a literal's lines stand behind n spaces
+-- its lines at the indentation n, without the spaces before the first; a literal's lines stand after n spaces
 abbrev pub node_at : Tree → ℕ → List ℕ
 node_at (text value) n = scalar_lines n value
 node_at (sequence ts) n = elements_at ts n
 node_at (mapping ms) n = members_at ms n
 
--- 1 for a collection that holds something, which begins a line of its own behind the `:` of a key
+-- 1 for a collection that holds something, which begins a line of its own after the `:` of a key
 abbrev pub own_line : Tree → ℕ
 own_line (text value) = 0
 own_line (sequence no_element) = 0
@@ -85,7 +85,7 @@ member_row key t = record {
   lines = 1 + (key_size key).lines + (value_size t).lines;
 }
 
--- the same where it is the first: in a collection that stands behind a `- ` no spaces are before it
+-- the same where it is the first: in a collection that stands after a `- ` no spaces are before it
 abbrev pub first_row : Slot → Size → Size
 first_row Value row = row
 first_row Element row = record { bytes = row.bytes; lines = row.lines - 1 }

@@ -74,9 +74,9 @@ fn shifted_size(size: Size, by: u128) -> Size
 /// Where a node stands. A whole tree counts as a value.
 #[derive(Clone, Copy, Debug, PartialEq, Eq)]
 pub enum Slot {
-    /// Behind the `:` of a key.
+    /// After the `:` of a key.
     Value,
-    /// Behind a `- `.
+    /// After a `- `.
     Element,
 }
 
@@ -151,7 +151,7 @@ pub(crate) fn growth(count: usize, row: Size, slot: Slot) -> Change
     }
 }
 
-/// A row where it is the first: in a collection that stands behind a `- ` no spaces are before it.
+/// A row where it is the first: in a collection that stands after a `- ` no spaces are before it.
 fn first_row(slot: Slot, row: Size) -> Size
     requires { 0 < row.lines }
     ensures { result ≡ first_row slot row }

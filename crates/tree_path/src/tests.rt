@@ -237,21 +237,33 @@ fn lengths_after_edits(rt: HostRuntime) -> Result<(), Fail> {
     let alloc = rt.alloc();
     // `  - z` more, another text, `a/b: []`, and a line `new: v` more
     assert_eq!(rt; length_with(alloc, "/a~1b/-", text(alloc, "z")?)?, Ok(17));
-    assert_eq!(rt; length_with(alloc, "/a~1b/0", text(alloc, "word")?)?, Ok(14));
+    assert_eq!(rt;
+        length_with(alloc, "/a~1b/0", text(alloc, "word")?)?,
+        Ok(14)
+    );
     assert_eq!(rt; length_with(alloc, "/a~1b", sequence(alloc, &[])?)?, Ok(8));
     assert_eq!(rt; length_with(alloc, "/new", text(alloc, "v")?)?, Ok(18));
     // `a/b:`, `  - |-`, `    p`, an empty line and `    q`
-    assert_eq!(rt; length_with(alloc, "/a~1b/0", text(alloc, "p\n\nq")?)?, Ok(25));
+    assert_eq!(rt;
+        length_with(alloc, "/a~1b/0", text(alloc, "p\n\nq")?)?,
+        Ok(25)
+    );
     // the whole: `|-`, `  p` and `  q`
     assert_eq!(rt; length_with(alloc, "", text(alloc, "p\nq")?)?, Ok(11));
     // `{}` and `a/b: []`
     assert_eq!(rt; length_without(alloc, "/a~1b")?, Ok(3));
     assert_eq!(rt; length_without(alloc, "/a~1b/0")?, Ok(8));
     let missing = PathFault::NoSuchPlace { step: 2 };
-    assert_eq!(rt; length_with(alloc, "/a~1b/1", text(alloc, "z")?)?, Err(missing));
+    assert_eq!(rt;
+        length_with(alloc, "/a~1b/1", text(alloc, "z")?)?,
+        Err(missing)
+    );
     assert_eq!(rt; length_without(alloc, "/a~1b/1")?, Err(missing));
     let no_index = PathFault::NotIndex { step: 2 };
-    assert_eq!(rt; length_with(alloc, "/a~1b/k", text(alloc, "z")?)?, Err(no_index));
+    assert_eq!(rt;
+        length_with(alloc, "/a~1b/k", text(alloc, "z")?)?,
+        Err(no_index)
+    );
     assert_eq!(rt; length_without(alloc, "/a~1b/01")?, Err(no_index));
     Ok(())
 }

@@ -48,7 +48,7 @@ abbrev mutual
   members_behind_indented no_member = 0
   members_behind_indented (member key t ms) = 1 + key_indented key + value_indented t + members_behind_indented ms
 
-  -- behind the `:` of a key, a collection that holds something begins a line
+  -- after the `:` of a key, a collection that holds something begins a line
   pub value_indented : Tree → ℕ
   value_indented (text value) = scalar_indented value
   value_indented (sequence no_element) = 0
@@ -58,11 +58,11 @@ abbrev mutual
 
 -- ---- sizes
 
--- an element behind its `- `, which stands at the indentation
+-- an element after its `- `, which stands at the indentation
 abbrev pub element_size : Tree → Size
 element_size t = record { bytes = byte_len (element_at t 0); lines = indented t }
 
--- a value behind the `:` of its key, which stands at the indentation
+-- a value after the `:` of its key, which stands at the indentation
 abbrev pub value_size : Tree → Size
 value_size t = record { bytes = byte_len (value_at t 0); lines = value_indented t }
 

@@ -22,7 +22,7 @@ pub struct Size {
 }
 
 impl Size {
-    /// The size of an element behind its `- `, which stands at the indentation. The tree is within the limits of a
+    /// The size of an element after its `- `, which stands at the indentation. The tree is within the limits of a
     /// [`Config`](crate::Config).
     pub fn of_element(tree: &Tree) -> Size
         requires deep { depth (tree_of tree.now) ≤ 66 }
@@ -37,7 +37,7 @@ impl Size {
         }
     }
 
-    /// The size of a value behind the `:` of its key, which stands at the indentation. The tree is within the limits of a
+    /// The size of a value after the `:` of its key, which stands at the indentation. The tree is within the limits of a
     /// [`Config`](crate::Config).
     pub fn of_value(tree: &Tree) -> Size
         requires deep { depth (tree_of tree.now) ≤ 66 }
@@ -77,7 +77,7 @@ fn key_length(key: &str, indent: u64) -> u128
     }
 }
 
-/// How many bytes an element has behind its `- ` at an indentation.
+/// How many bytes an element has after its `- ` at an indentation.
 fn element_length(tree: &Tree, indent: u64) -> u128
     requires deep { depth (tree_of tree.now) ≤ 66 }
     requires long { byte_len (style_text (tree_of tree.now)) ≤ 67108864 }
@@ -91,7 +91,7 @@ fn element_length(tree: &Tree, indent: u64) -> u128
     }
 }
 
-/// How many bytes a value has behind the `:` of its key at an indentation.
+/// How many bytes a value has after the `:` of its key at an indentation.
 fn value_length(tree: &Tree, indent: u64) -> u128
     requires deep { depth (tree_of tree.now) ≤ 66 }
     requires long { byte_len (style_text (tree_of tree.now)) ≤ 67108864 }

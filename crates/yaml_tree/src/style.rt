@@ -24,7 +24,7 @@ pub fn write_style<S: Sink>(tree: &Tree, sink: &mut S) -> Result<(), S::Fault>
     }
 }
 
-/// Writes a value with the end of its last line; a literal's lines stand behind `indent` spaces.
+/// Writes a value with the end of its last line; a literal's lines stand after `indent` spaces.
 fn write_scalar<S: Sink>(text: &str, indent: u64, sink: &mut S) -> Result<(), S::Fault>
     ensures { OnOk result (S.Takes sink.old (scalar_lines indent (chars text.now)) sink.new) }
 {
@@ -66,7 +66,7 @@ pub(crate) fn write_key_text<S: Sink>(key: &str, sink: &mut S) -> Result<(), S::
     }
 }
 
-/// Writes a key through its `:`, a long one behind `? ` on a line of its own.
+/// Writes a key through its `:`, a long one after `? ` on a line of its own.
 pub fn write_key<S: Sink>(key: &str, indent: u64, sink: &mut S) -> Result<(), S::Fault>
     ensures { OnOk result (S.Takes sink.old (key_lines indent (chars key.now)) sink.new) }
 {
@@ -88,7 +88,7 @@ fn write_long_key<S: Sink>(key: &str, indent: u64, sink: &mut S) -> Result<(), S
     sink.put_char(':')
 }
 
-/// Writes the elements of a sequence, each behind `- `, at `indent`; the first without its spaces.
+/// Writes the elements of a sequence, each after `- `, at `indent`; the first without its spaces.
 #[cycle(lines)]
 fn write_elements<S: Sink>(items: &[Tree], indent: u64, sink: &mut S) -> Result<(), S::Fault>
     requires room { indent + 2 * elements_depth (elements_of items.now) < 2 ^ 64 }
@@ -107,7 +107,7 @@ fn write_elements<S: Sink>(items: &[Tree], indent: u64, sink: &mut S) -> Result<
     Ok(())
 }
 
-/// Writes an element behind its `- ` at `indent`.
+/// Writes an element after its `- ` at `indent`.
 #[cycle(lines)]
 pub(crate) fn write_element<S: Sink>(tree: &Tree, indent: u64, sink: &mut S) -> Result<(), S::Fault>
     requires room { indent + 2 * depth (tree_of tree.now) < 2 ^ 64 }
@@ -143,7 +143,7 @@ fn write_members<S: Sink>(
     Ok(())
 }
 
-/// Writes a value behind the `:` of its key at `indent`. The call stack grows with the depth, which therefore is at most 66;
+/// Writes a value after the `:` of its key at `indent`. The call stack grows with the depth, which therefore is at most 66;
 /// [`is_deeper_than`](Tree::is_deeper_than) tests that.
 pub fn write_value<S: Sink>(tree: &Tree, indent: u64, sink: &mut S) -> Result<(), S::Fault>
     requires deep { depth (tree_of tree.now) ≤ 66 }
@@ -153,7 +153,7 @@ pub fn write_value<S: Sink>(tree: &Tree, indent: u64, sink: &mut S) -> Result<()
     write_value_lines(tree, indent, sink)
 }
 
-/// Writes a value behind the `:` of its key at `indent`.
+/// Writes a value after the `:` of its key at `indent`.
 #[cycle(lines)]
 fn write_value_lines<S: Sink>(tree: &Tree, indent: u64, sink: &mut S) -> Result<(), S::Fault>
     requires room { indent + 2 * depth (tree_of tree.now) < 2 ^ 64 }
