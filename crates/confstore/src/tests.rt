@@ -202,7 +202,10 @@ fn refuses_syntax(rt: HostRuntime) -> Result<(), Fail> {
     ];
     for input in cases {
         let done = outcome_of(rt.alloc(), &["confstore", "format"], input.as_bytes())?;
-        assert!(rt; done.told.as_slice().starts_with(b"confstore: Syntax "), "of {input:?}");
+        assert!(rt;
+            done.told.as_slice().starts_with(b"confstore: Syntax "),
+            "of {input:?}"
+        );
         assert_eq!(rt; done.status, 1, "of {input:?}");
         assert_eq!(rt; done.output.len(), 0, "of {input:?}");
     }
