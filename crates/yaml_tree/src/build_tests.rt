@@ -64,7 +64,12 @@ fn pairs_of(tree: Tree) -> Option<Vec<(String, Tree)>> {
 fn length(alloc: Global, words: &[&str]) -> Result<Option<u64>, Fail> {
     let events = listed(alloc, words)?;
     match document_tree(alloc, events) {
-        Ok(tree) => Ok(style_len(&tree, 100)),
+        Ok(tree) => {
+            if tree.is_deeper_than(66) {
+                return Ok(None);
+            }
+            Ok(style_len(&tree, 100))
+        }
         Err(_fault) => Ok(None),
     }
 }
