@@ -94,7 +94,8 @@ fn a_tree_of_all_kinds(rt: HostRuntime) -> Result<(), Fail> {
     let pairs = mapping(alloc, &words)?.ok_or("a mapping")?;
     assert_eq!(rt; pairs.len(), 2);
     assert_eq!(rt; pairs[1].0.as_str(), "b");
-    assert_eq!(rt; pairs[1].1.depth(), 2);
+    assert!(rt; pairs[1].1.is_deeper_than(1));
+    assert!(rt; !pairs[1].1.is_deeper_than(2));
     Ok(())
 }
 
