@@ -1,9 +1,9 @@
 // Paths as texts, the examples of RFC 6901, and edits.
-use crate::{Path, PathFault, at, delete, delete_len, set, set_len};
+use crate::{Path, PathFault, at, delete, set};
 use std::alloc::{AllocError, Global};
 use std::process::Abort;
 use std::test::Fail;
-use yaml_tree::{Config, Tree};
+use yaml_tree::Tree;
 
 fn text(alloc: Global, value: &str) -> Result<Tree, AllocError> {
     Ok(Tree::Text(String::from_str(alloc, value)?))
@@ -206,64 +206,4 @@ fn edits(rt: HostRuntime) -> Result<(), Fail> {
     );
     assert_eq!(rt; show(alloc, &tree)?.as_str(), "{c: 1;}");
     check_set(&rt, &mut tree, "", "whole", None, "whole")
-}
-
-fn config(alloc: Global, tree: Tree) -> Result<Config, Fail> {
-    Config::new(alloc, tree).map_err(|(_, fault)| Fail::from(fault))
-}
-
-/// The length after a value is set in `a/b: [x]`, whose text is `a/b:` and `  - x`.
-fn length_with(alloc: Global, pointer: &str, value: Tree) -> Result<Result<u128, PathFault>, Fail> {
-    let inner = pair(alloc, "a/b", sequence(alloc, &["x"])?)?;
-    let whole = config(alloc, Tree::Map(vec![in alloc; inner]?))?;
-    let path = Path::parse(alloc, pointer)?;
-    let value = config(alloc, value)?;
-    Ok(set_len(&whole, &path, value.tree()))
-}
-
-/// The length after what is at a path is deleted there.
-fn length_without(alloc: Global, pointer: &str) -> Result<Result<u128, PathFault>, Fail> {
-    let inner = pair(alloc, "a/b", sequence(alloc, &["x"])?)?;
-    let whole = config(alloc, Tree::Map(vec![in alloc; inner]?))?;
-    let path = Path::parse(alloc, pointer)?;
-    if path.steps() == 0 {
-        return Ok(Ok(0));
-    }
-    Ok(delete_len(&whole, &path))
-}
-
-#[test]
-fn lengths_after_edits(rt: HostRuntime) -> Result<(), Fail> {
-    let alloc = rt.alloc();
-    // `  - z` more, another text, `a/b: []`, and a line `new: v` more
-    assert_eq!(rt; length_with(alloc, "/a~1b/-", text(alloc, "z")?)?, Ok(17));
-    assert_eq!(rt;
-        length_with(alloc, "/a~1b/0", text(alloc, "word")?)?,
-        Ok(14)
-    );
-    assert_eq!(rt; length_with(alloc, "/a~1b", sequence(alloc, &[])?)?, Ok(8));
-    assert_eq!(rt; length_with(alloc, "/new", text(alloc, "v")?)?, Ok(18));
-    // `a/b:`, `  - |-`, `    p`, an empty line and `    q`
-    assert_eq!(rt;
-        length_with(alloc, "/a~1b/0", text(alloc, "p\n\nq")?)?,
-        Ok(25)
-    );
-    // the whole: `|-`, `  p` and `  q`
-    assert_eq!(rt; length_with(alloc, "", text(alloc, "p\nq")?)?, Ok(11));
-    // `{}` and `a/b: []`
-    assert_eq!(rt; length_without(alloc, "/a~1b")?, Ok(3));
-    assert_eq!(rt; length_without(alloc, "/a~1b/0")?, Ok(8));
-    let missing = PathFault::NoSuchPlace { step: 2 };
-    assert_eq!(rt;
-        length_with(alloc, "/a~1b/1", text(alloc, "z")?)?,
-        Err(missing)
-    );
-    assert_eq!(rt; length_without(alloc, "/a~1b/1")?, Err(missing));
-    let no_index = PathFault::NotIndex { step: 2 };
-    assert_eq!(rt;
-        length_with(alloc, "/a~1b/k", text(alloc, "z")?)?,
-        Err(no_index)
-    );
-    assert_eq!(rt; length_without(alloc, "/a~1b/01")?, Err(no_index));
-    Ok(())
 }
