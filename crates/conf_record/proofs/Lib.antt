@@ -7,10 +7,11 @@ pub mod EntryLemmas
 pub mod LimitLemmas
 pub mod LineLemmas
 pub mod NameLemmas
+pub mod PartLemmas
 pub mod PathLemmas
 pub mod PointerLemmas
-pub mod ReadLemmas
 pub mod RecordLemmas
+pub mod RefusalLemmas
 pub mod RunLaws
 pub mod SizeLemmas
 pub mod StateLemmas

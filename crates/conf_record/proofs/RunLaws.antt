@@ -25,7 +25,7 @@ counted-one s new fits configs e =
     by false true true is = cc
     by false true false is = let same : record { configs = configs; count = s.count + 1 } ≡ new = cc in sym (ap (λ t. t.count) same)
 
-step-one : (s new : Contents) (command : Command) (fits : Bool) → step s command fits ≡ Ok new → new.count ≡ s.count + 1
+pub step-one : (s new : Contents) (command : Command) (fits : Bool) → step s command fits ≡ Ok new → new.count ≡ s.count + 1
 step-one s new command fits e = by (good_name (name_of command)) e
   where
     by : (good : Bool) → (if good then and_then (configs_after s.configs command) (counted s fits) else Err BadName) ≡ Ok new → new.count ≡ s.count + 1

@@ -1,5 +1,5 @@
 -- The base text of a state: one document that holds all of it.
-use Rattle.std.specs.Prelude.{ℕ, ◌+◌, ◌==◌, if◌then◌else◌, length, List, [], ◌∷◌, ◌++◌, codes, decimal}
+use Rattle.std.specs.Prelude.{ℕ, ◌+◌, ◌==◌, if◌then◌else◌, length, List, [], ◌∷◌, ◌++◌, codes, decimal, encode_utf8_all}
 use Rattle.yaml_grammar.specs.Texts.{byte_len, spaces}
 use Rattle.yaml_grammar.specs.Trees.{Tree, text, mapping, Members, no_member, member}
 use Rattle.yaml_grammar.specs.Style.{style_text, key_lines, value_at}
@@ -22,6 +22,10 @@ closed_document t = codes "---\n" ++ style_text t ++ codes "...\n"
 
 unfoldable pub base_text : Contents → List ℕ
 base_text s = closed_document (base_tree s)
+
+-- the same in UTF-8
+unfoldable pub base_bytes : Contents → List ℕ
+base_bytes s = encode_utf8_all (base_text s)
 
 unfoldable pub base_length : Contents → ℕ
 base_length s = byte_len (base_text s)

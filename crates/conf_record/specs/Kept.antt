@@ -1,12 +1,15 @@
 -- What a state of src/ is as a value, and the limits that it keeps.
-use Rattle.std.specs.Prelude.{◌≡◌, ℕ, List, [], ◌∷◌, String, string_bytes, IsAscii}
+use Rattle.std.specs.Prelude.{◌≡◌, ◌⊎◌, ℕ, min, true, false, List, [], ◌∷◌, None, is_some, String, string_bytes, IsAscii}
 use Rattle.std.specs.declared.alloc.Global.{Global}
+use Rattle.yaml_grammar.specs.Reads.{Good}
+use Rattle.yaml_grammar.specs.Trees as grammar
 use Rattle.yaml_tree.specs.Seen.{tree_of}
 use Rattle.yaml_tree.specs.declared.tree.Tree.{Tree}
 use Rattle.conf_record.specs.Commands.{text_of}
-use Rattle.conf_record.specs.States.{Entry}
+use Rattle.conf_record.specs.Names.{good_name}
+use Rattle.conf_record.specs.States.{Entry, config_named, put_config, config_limits}
 use Rattle.conf_record.specs.Limits.{IsState}
-use Rattle.conf_record.specs.BaseTexts.{entries_length}
+use Rattle.conf_record.specs.BaseTexts.{entry_length, entries_length}
 
 abbrev pub names_from : List (String Global) → List (List ℕ)
 names_from [] = []
@@ -26,3 +29,16 @@ pub record IsKept (es : List (String Global × Tree)) (count bytes : ℕ) : Type
   pub plain : ArePlain es
   pub state : IsState (record { configs = entries_of es; count = count })
   pub counted : bytes ≡ entries_length (entries_of es)
+
+-- a configuration was put after the others, under a name that is good and new; it has so many bytes in the base text
+pub record Appended (old new : List (String Global × Tree)) (name : List ℕ) (t : grammar.Tree) (length : ℕ) : Type 0 where
+  pub named : good_name name ≡ true
+  pub within : Good t config_limits
+  pub absent : config_named (entries_of old) name ≡ None
+  pub entries : entries_of new ≡ put_config (entries_of old) name t
+  pub plain : ArePlain new
+  pub bytes : length ≡ min (entry_length name t) 18446744073709551615
+
+-- no state has this configuration after the others: its name is not good or is there, or its tree is over the limits
+abbrev pub IsUnfit : List Entry → List ℕ → grammar.Tree → Type 0
+IsUnfit es name t = (good_name name ≡ false) ⊎ (Good t config_limits → ⊥) ⊎ (is_some (config_named es name) ≡ true)

@@ -1,5 +1,5 @@
 -- Records: the documents that tell commands, each with the number that it was accepted under.
-use Rattle.std.specs.Prelude.{ℕ, List, codes, decimal}
+use Rattle.std.specs.Prelude.{ℕ, List, codes, decimal, encode_utf8_all}
 use Rattle.yaml_grammar.specs.Trees.{Tree, text, mapping, Members, no_member, member}
 use Rattle.conf_record.specs.Commands.{Command, import_as, set_at, delete_at}
 use Rattle.conf_record.specs.BaseTexts.{closed_document}
@@ -16,3 +16,7 @@ record_tree command number = mapping (member (codes "at") (text (decimal number)
 
 unfoldable pub record_text : Command → ℕ → List ℕ
 record_text command number = closed_document (record_tree command number)
+
+-- the same in UTF-8
+unfoldable pub record_bytes : Command → ℕ → List ℕ
+record_bytes command number = encode_utf8_all (record_text command number)

@@ -12,7 +12,7 @@ use Rattle.conf_record.specs.Commands.{Command, import_as, set_at, delete_at, na
 use Rattle.conf_record.specs.States.{Entry, Contents, config_named, put_config, cut_config, config_limits, base_limit, count_limit}
 use Rattle.conf_record.specs.BaseTexts.{base_length}
 use Rattle.conf_record.specs.declared.fault.StoreFault.{StoreFault}
-use Rattle.conf_record.specs.declared.fault.StoreFault.TheVariants.{BadName, NoConfig, Path, TooDeep, ConfigLarge, StoreFull, JournalLong, CountFull}
+use Rattle.conf_record.specs.declared.fault.StoreFault.TheVariants.{BadName, NoConfig, Path, Read, TooDeep, ConfigLarge, StoreFull, JournalLong, CountFull, Reopen, Device, OutOfMemory}
 
 -- the first refusal of two calls in a row, or what the second gives
 abbrev pub and_then : {A B : Type 0} → Result A StoreFault → (A → Result B StoreFault) → Result B StoreFault
@@ -72,6 +72,14 @@ performed s command fits = and_then (configs_after s.configs command) (counted s
 
 abbrev pub step : Contents → Command → Bool → Result Contents StoreFault
 step s command fits = if good_name (name_of command) then performed s command fits else Err BadName
+
+-- A refusal of a command by a state. The other faults are those of a text that is read, of the disk and of memory.
+abbrev pub IsRefusal : StoreFault → Type 0
+IsRefusal (Read fault) = ⊥
+IsRefusal Reopen = ⊥
+IsRefusal Device = ⊥
+IsRefusal OutOfMemory = ⊥
+IsRefusal fault = Unit {0}
 
 -- the state after commands that are accepted one after the other, or the first refusal
 abbrev pub after : Contents → List Command → Result Contents StoreFault

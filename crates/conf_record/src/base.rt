@@ -11,16 +11,16 @@ use yaml_tree::{ByteCount, Config, Sink, write_key, write_value};
 pub(crate) const BASE_LIMIT: u64 = 67_108_864;
 
 /// The bytes of a base text without its count and its configurations: `---`, `store: confstore-1`, `at: ""`, `configs:`
-/// and `...`, and a line feed behind each but `configs:`.
+/// and `...`, and a line feed after each but `configs:`.
 const FRAME: u64 = 42;
 
-/// The bytes of ` {}` and a line feed, which stand behind `configs:` where there are none.
+/// The bytes of ` {}` and a line feed, which follow `configs:` where there are no configurations.
 const NO_CONFIGS: u64 = 4;
 
-/// The byte that stands there else, before the first configuration.
+/// The line feed that follows it otherwise, before the first configuration.
 const LINE_FEED: u64 = 1;
 
-/// A count of bytes as a `u64`. The greatest `u64` stands for all that are more.
+/// A count of bytes as a `u64`, which stays at the greatest `u64`.
 pub(crate) fn capped(bytes: u128) -> u64
     ensures { result ≡ min bytes u64.MAX }
 {
@@ -41,7 +41,7 @@ pub(crate) fn write_entry<S: Sink>(
     write_value(tree, 2, sink)
 }
 
-/// How many bytes a configuration has in a base text, with its name. The greatest `u64` stands for all that are more.
+/// How many bytes a configuration has in a base text, with its name; at most the greatest `u64`.
 pub(crate) fn entry_length(name: &str, config: &Config) -> u64
     ensures { result ≡ min (entry_length (chars name.now) (tree_of config.now)) u64.MAX }
 {
@@ -52,8 +52,7 @@ pub(crate) fn entry_length(name: &str, config: &Config) -> u64
     }
 }
 
-/// How many bytes a base text has that tells this count, and whose configurations have so many bytes. The greatest `u64`
-/// stands for all that are more.
+/// How many bytes a base text has with this count and this many bytes of configurations; at most the greatest `u64`.
 pub(crate) fn base_length(count: u128, entries: u64) -> u64
     ensures { result ≡ min (framed_length count entries) u64.MAX }
 {

@@ -1,7 +1,7 @@
 // The base text of a state: the document that holds all of it.
 ghost use Rattle.std.specs.Prelude.{◌≡◌, string_bytes, IfOk, OnOk};
 ghost use Rattle.std.specs.Str.{chars};
-ghost use Rattle.conf_record.specs.BaseTexts.{base_text};
+ghost use Rattle.conf_record.specs.BaseTexts.{base_text, base_bytes};
 
 use crate::State;
 use crate::record::write_number;
@@ -9,12 +9,14 @@ use crate::text_buffer::TextBuffer;
 use std::alloc::{AllocError, Global};
 use yaml_tree::Sink;
 
-/// The base text of a state: an explicit document (YAML 1.2.2, 9.1.4), which is a line of `---`, a mapping in the one style
-/// and a line of `...`. The mapping tells, in this order, the format (`store`), the count of accepted commands as decimal
-/// digits (`at`), and the configurations by name, in their order (`configs`). It is linear in the text's length, and takes
-/// memory once, for the text, which has at most 67,108,864 bytes. Only want of memory can fail.
+/// The base text of a state: an explicit document (YAML 1.2.2, 9.1.4), which is a line of `---`, a mapping in the
+/// one style and a line of `...`. The mapping holds, in this order, the format (`store`), the count of accepted
+/// commands as decimal digits (`at`), and the configurations by name, in their order (`configs`). It is linear in
+/// the text's length, and takes memory once, for the text, which has at most 67,108,864 bytes. It fails only if
+/// memory runs out.
 pub fn base_text(alloc: Global, state: &State) -> Result<String, AllocError>
-    ensures { IfOk result (λ text. chars (string_bytes text) ≡ base_text state.now) }
+    ensures text { IfOk result (λ text. chars (string_bytes text) ≡ base_text state.now) }
+    ensures bytes { IfOk result (λ text. string_bytes text ≡ base_bytes state.now) }
 {
     let mut buffer = TextBuffer::with_capacity(alloc, state.base_length())?;
     write_base(state, &mut buffer)?;

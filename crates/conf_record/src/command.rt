@@ -7,7 +7,7 @@ use yaml_tree::Config;
 /// A change of one configuration.
 #[derive(Debug, Drop)]
 pub enum Command {
-    /// Puts a tree under a name: last where the name is new, else in the place of the tree that is there.
+    /// Puts a tree under a name: last if the name is new; otherwise it replaces the tree that is there.
     Import {
         name: String,
         tree: Config,
@@ -18,7 +18,7 @@ pub enum Command {
         path: String,
         value: Config,
     },
-    /// Takes out what stands at a path of the configuration under a name; at the empty path the configuration itself.
+    /// Removes what is at a path of the configuration under a name; at the empty path, the configuration itself.
     Delete {
         name: String,
         path: String,

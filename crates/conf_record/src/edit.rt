@@ -27,7 +27,7 @@ pub(crate) const STYLE_LIMIT: u128 = 1_048_576;
 pub(crate) enum Edit {
     /// Puts a value there.
     Set(Config),
-    /// Takes out what is there.
+    /// Removes what is there.
     Delete,
 }
 
@@ -58,7 +58,8 @@ impl Edit {
         }
     }
 
-    /// Makes the edit, which leaves so many bytes in the one style. Only running out of memory can fail, and changes nothing.
+    /// Makes the edit, which leaves so many bytes in the one style. Only running out of memory can fail, and changes
+    /// nothing.
     pub(crate) fn perform(
         self,
         alloc: Global,

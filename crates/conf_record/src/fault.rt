@@ -6,20 +6,20 @@ use thiserror::Error;
 use tree_path::PathFault;
 use yaml_tree::ReadFault;
 
-/// Why a command is refused. Reopen comes before all others, then the one that stands further up here; want of memory may
-/// come at any point. The message is the innermost fault's own name.
+/// Why a command is refused. `Reopen` comes before all others; of the others the first in this list is returned.
+/// `OutOfMemory` may come at any point. The message is the innermost fault's own name.
 #[derive(Clone, Copy, Debug, PartialEq, Eq, Error)]
 pub enum StoreFault {
-    /// The name isn't 1 to 64 small letters, digits, `_` and `-`, a letter first.
+    /// The name isn't 1 to 64 lowercase letters, digits, `_` and `-`, starting with a letter.
     #[error("BadName")]
     BadName,
     /// No configuration has the name.
     #[error("NoConfig")]
     NoConfig,
-    /// The path is none, or leads to no place.
+    /// The pointer is not a path, or the path leads to no place.
     #[error("{0}")]
     Path(PathFault),
-    /// The text to import isn't read.
+    /// The text to import is refused.
     #[error("{0}")]
     Read(ReadFault),
     /// The configuration would be more than 64 deep.
@@ -43,7 +43,7 @@ pub enum StoreFault {
     /// The device failed.
     #[error("Device")]
     Device,
-    /// There was no memory. It never stands inside Path or Read.
+    /// There was no memory. It is never inside `Path` or `Read`.
     #[error("OutOfMemory")]
     OutOfMemory,
 }

@@ -1,19 +1,32 @@
 // Laws of the definitions.
-ghost use Rattle.std.specs.Prelude.{◌≡◌, ◌+◌, ◌≤◌, ◌++◌, ℕ, Bool, List, Ok, length};
+ghost use Rattle.std.specs.Prelude.{◌≡◌, ◌+◌, ◌≤◌, ◌++◌, ℕ, Bool, true, List, Ok, Err, length};
 ghost use Rattle.conf_record.specs.Commands.{Command};
 ghost use Rattle.conf_record.specs.States.{Contents, count_limit};
 ghost use Rattle.conf_record.specs.Limits.{IsState};
-ghost use Rattle.conf_record.specs.Steps.{step, after, and_then};
+ghost use Rattle.conf_record.specs.Steps.{IsRefusal, step, after, and_then};
+ghost use Rattle.conf_record.specs.declared.fault.StoreFault.{StoreFault};
 ghost use Rattle.conf_record.specs.BaseTexts.{base_text};
 ghost use Rattle.conf_record.specs.Records.{record_text};
 ghost use Rattle.conf_record.specs.RecordsRead.{IsCommand, ReadsRecord, ReadsBase};
 
+use yaml_grammar::one_tree;
 use yaml_laws::style_reads;
 
-/// The count tells how many commands were accepted.
+/// The count is the number of accepted commands.
 pub fn accepted_commands_are_counted()
     ensures { (s new : Contents) (commands : List Command)
         → after s commands ≡ Ok new → new.count ≡ s.count + length commands }
+{}
+
+/// A command is accepted only where the journal has room for its record, and the count then rises by one. Where it is
+/// refused, the fault is one of the command and the state: never one of a text that is read, of the disk, of memory,
+/// or that the store has to be opened again.
+pub fn steps_are_counted_or_refused()
+    ensures room { (s new : Contents) (command : Command) (fits : Bool) → step s command fits ≡ Ok new → fits ≡ true }
+    ensures count { (s new : Contents) (command : Command) (fits : Bool)
+        → step s command fits ≡ Ok new → new.count ≡ s.count + 1 }
+    ensures refused { (s : Contents) (command : Command) (fits : Bool) (fault : StoreFault)
+        → step s command fits ≡ Err fault → IsRefusal fault }
 {}
 
 /// Commands performed in one run leave what they leave in two.
@@ -22,9 +35,9 @@ pub fn runs_are_joined()
         → after s (first ++ second) ≡ and_then (after s first) (λ between. after between second) }
 {}
 
-/// The base text of a state reads as that state, and as no other. The record of a command that some state accepts reads as that
-/// command under its number, up to the greatest count, and as no other. Each is read within the limits of a `Config`: at most
-/// 67,108,864 bytes, also in the one style, and at most 66 deep.
+/// The base text of a state reads as that state, and as no other. The record of a command that some state accepts
+/// reads as that command under its number, up to the greatest count, and as no other. Each is read within the limits
+/// of a `Config`: at most 67,108,864 bytes, also in the one style, and at most 66 deep.
 pub fn records_read()
     ensures base { (s : Contents) → IsState s → ReadsBase (base_text s) s }
     ensures one_base { (s other : Contents) → IsState s → ReadsBase (base_text s) other → other ≡ s }
@@ -34,5 +47,6 @@ pub fn records_read()
         → IsCommand command → step s command fits ≡ Ok new → number ≤ count_limit
         → ReadsRecord (record_text command number) other told → (other ≡ command) × (told ≡ number) }
 {
+    one_tree();
     style_reads();
 }

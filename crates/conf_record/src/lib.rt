@@ -1,6 +1,7 @@
 //! The state of a store: configurations by name, and what each command makes of them.
 //!
-//! A state and a command are told by texts: [`base_text`] holds a whole state, and [`record_text`] one command with its number.
+//! States and commands are written as texts: [`base_text`] holds a whole state, and [`record_text`] one command with
+//! its number.
 #![tactic(auto)]
 
 mod base;
@@ -18,7 +19,9 @@ mod text_buffer;
 pub use base_writer::base_text;
 pub use command::Command;
 pub use fault::StoreFault;
-pub use laws::{accepted_commands_are_counted, records_read, runs_are_joined};
+pub use laws::{
+    accepted_commands_are_counted, records_read, runs_are_joined, steps_are_counted_or_refused,
+};
 pub use name::good_name;
 pub use record::record_text;
 pub use state::{Names, State};

@@ -4,7 +4,8 @@ ghost use Rattle.std.specs.Str.{chars};
 ghost use Rattle.yaml_grammar.specs.Texts.{every, first};
 ghost use Rattle.conf_record.specs.Names.{small_letter, name_char, good_name};
 
-/// Whether a text may name a configuration: 1 to 64 small letters of ASCII, digits, `_` and `-`, a letter first.
+/// Whether a text may name a configuration: 1 to 64 lowercase ASCII letters, digits, `_` and `-`, starting with a
+/// letter.
 pub fn good_name(name: &str) -> bool
     ensures named { result ≡ good_name (chars name.now) }
     ensures ascii { IsTrue result → chars name.now ≡ name.now }

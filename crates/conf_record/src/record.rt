@@ -1,4 +1,4 @@
-// The text of a record: the document that tells a command and the number that it was accepted under.
+// The text of a record: the document that holds a command and the number that it was accepted under.
 ghost use Rattle.std.specs.Prelude.{◌≡◌, ◌≤◌, ◌++◌, min, codes, decimal, string_bytes, IfOk, OnOk};
 ghost use Rattle.std.specs.Str.{chars};
 ghost use Rattle.yaml_grammar.specs.Texts.{byte_len};
@@ -6,7 +6,7 @@ ghost use Rattle.yaml_grammar.specs.Trees.{text, depth};
 ghost use Rattle.yaml_grammar.specs.Style.{key_lines, value_at, members_behind};
 ghost use Rattle.yaml_tree.specs.Seen.{tree_of};
 ghost use Rattle.conf_record.specs.Commands.{command_of};
-ghost use Rattle.conf_record.specs.Records.{command_members, record_text};
+ghost use Rattle.conf_record.specs.Records.{command_members, record_text, record_bytes};
 ghost use Rattle.conf_record.specs.RecordsRead.{IsCommand};
 ghost use Rattle.conf_record.specs.Texts.{HasTexts};
 
@@ -17,16 +17,17 @@ use itoa::Buffer;
 use std::alloc::{AllocError, Global};
 use yaml_tree::{ByteCount, Sink, Tree, write_key, write_value};
 
-/// The text of a command's record: an explicit document (YAML 1.2.2, 9.1.4), which is a line of `---`, a mapping in the one
-/// style and a line of `...`. The mapping tells, in this order, the number as decimal digits (`at`), the name (`import`,
-/// `set` or `delete`), the path of a set or a delete (`path`), and the tree of an import (`tree`) or the value of a set
-/// (`value`). It is linear in the text's length, and takes memory for the text and for a copy of the name and the path. Only
-/// want of memory can fail.
+/// The text of a command's record: an explicit document (YAML 1.2.2, 9.1.4), which is a line of `---`, a mapping in
+/// the one style and a line of `...`. The mapping holds, in this order, the number as decimal digits (`at`), the
+/// name (`import`, `set` or `delete`), the path of a set or a delete (`path`), and the tree of an import (`tree`) or
+/// the value of a set (`value`). It is linear in the text's length, and takes memory for the text and for a copy of
+/// the name and the path. It fails only if memory runs out.
 ///
-/// [`records_read`](crate::records_read) says that the text reads as that command under that number, where the command is
-/// accepted.
+/// [`records_read`](crate::records_read) says that the text reads as that command under that number, where the
+/// command is accepted.
 pub fn record_text(alloc: Global, command: &Command, number: u64) -> Result<String, AllocError>
     ensures text { IfOk result (λ text. chars (string_bytes text) ≡ record_text (command_of command.now) number) }
+    ensures bytes { IfOk result (λ text. string_bytes text ≡ record_bytes (command_of command.now) number) }
     ensures kept { IsCommand (command_of command.now) }
 {
     learn_kept(command);
@@ -73,7 +74,7 @@ fn texts_of(alloc: Global, command: &Command) -> Result<Texts, AllocError>
     }
 }
 
-/// How many bytes a record has. The greatest `u64` stands for all that are more.
+/// How many bytes a record has; at most the greatest `u64`.
 fn record_length(command: &Command, texts: &Texts, number: u64) -> u64
     requires { HasTexts (tree_of texts.now.name) (tree_of texts.now.path) (command_of command.now) }
     ensures { result ≡ min (byte_len (record_text (command_of command.now) number)) u64.MAX }
@@ -100,7 +101,7 @@ fn write_record<S: Sink>(
     sink.put_text("...\n")
 }
 
-/// Writes the line of a document that tells its number.
+/// Writes the first lines of a record, with its number.
 pub(crate) fn write_number<S: Sink>(number: u64, sink: &mut S) -> Result<(), S::Fault>
     ensures { OnOk result (S.Takes sink.old
         (key_lines 0 (codes "at") ++ value_at (text (decimal number)) 0) sink.new) }
@@ -111,7 +112,7 @@ pub(crate) fn write_number<S: Sink>(number: u64, sink: &mut S) -> Result<(), S::
     sink.put_text("\"\n")
 }
 
-/// Writes what stands behind the number.
+/// Writes what follows the number.
 fn write_command<S: Sink>(command: &Command, texts: &Texts, sink: &mut S) -> Result<(), S::Fault>
     requires { HasTexts (tree_of texts.now.name) (tree_of texts.now.path) (command_of command.now) }
     ensures { OnOk result (S.Takes sink.old (members_behind (command_members (command_of command.now)) 0) sink.new) }

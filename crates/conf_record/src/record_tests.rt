@@ -65,7 +65,7 @@ fn a_record_of_a_delete(rt: HostRuntime) -> Result<(), Fail> {
     Ok(())
 }
 
-// The line of three dots in the value stands behind spaces, and closes nothing.
+// The line of three dots in the value is indented, and closes nothing.
 #[test]
 fn a_record_of_a_literal(rt: HostRuntime) -> Result<(), Fail> {
     let alloc = rt.alloc();

@@ -1,11 +1,12 @@
 // The state of a store.
-ghost use Rattle.std.specs.Prelude.{◌≡◌, ◌≢◌, ◌+◌, ◌<◌, ◌≤◌, ◌⊎◌, ℕ, List, [], min, true, option_map, length, string_bytes, string_eq, Ok, Err, OnOk, IfOk, IfErr, OnErr};
+ghost use Rattle.std.specs.Prelude.{◌≡◌, ◌≢◌, ◌+◌, ◌<◌, ◌≤◌, ◌⊎◌, ℕ, List, [], min, true, option_map, length, string_bytes, string_eq, Ok, Err, OnOk, IfOk, IfSome, IfNone, MatchOption, is_some, IfErr, OnErr};
 ghost use Rattle.std.specs.Str.{chars};
 ghost use Rattle.std.specs.Iterator.{YieldsFirstBy, item_count};
 ghost use Rattle.yaml_grammar.specs.Reads.{Good};
 ghost use Rattle.yaml_tree.specs.Seen.{tree_of};
 ghost use Rattle.conf_record.specs.Commands.{text_of};
 ghost use Rattle.conf_record.specs.Names.{good_name};
+ghost use Rattle.conf_record.specs.Kept.{entries_of, ArePlain, Appended, IsUnfit};
 ghost use Rattle.conf_record.specs.Limits.{IsState};
 ghost use Rattle.conf_record.specs.States.{Entry, names_of, config_named, put_config, cut_config, config_limits};
 ghost use Rattle.yaml_grammar.specs.Trees.{mapping};
@@ -15,9 +16,10 @@ ghost use Rattle.conf_record.specs.Steps.{and_then, counted};
 ghost use Rattle.conf_record.specs.Edits.{configs_edited, LeavesLengths};
 ghost use Rattle.indexmap.specs.IndexMap.{insert_entry};
 
-use crate::StoreFault;
 use crate::base::{BASE_LIMIT, base_length, entry_length, write_entry};
 use crate::edit::{Edit, STYLE_LIMIT};
+use crate::steps::check_limits;
+use crate::{StoreFault, good_name};
 use indexmap::IndexMap;
 use indexmap::map::Keys;
 use std::alloc::{AllocError, Global};
@@ -28,7 +30,8 @@ use yaml_tree::{Config, Sink};
 /// The indentation of a configuration in a base text: two more than that of its name.
 const ENTRY_INDENT: u64 = 4;
 
-/// How many bytes there are after an edit: of the configuration in the one style, and of all configurations in the base text.
+/// How many bytes there are after an edit: of the configuration in the one style, and of all configurations in the
+/// base text.
 #[derive(Clone, Copy)]
 struct Lengths {
     config: u64,
@@ -36,8 +39,8 @@ struct Lengths {
 }
 
 /// The configurations of a store by name, in order, and how many commands were accepted. It keeps how many bytes the
-/// configurations have in the base text. Contracts see the list of configurations, with each name as its characters, and the
-/// count.
+/// configurations have in the base text. Contracts see the list of configurations, with each name as its characters,
+/// and the count.
 #[derive(Drop)]
 pub struct State {
     configs: IndexMap<String, Config>,
@@ -70,6 +73,38 @@ impl State {
             count: 0,
             entries: 0,
         }
+    }
+
+    /// The state that holds these configurations, in this order, after this many accepted commands. Returns `None`
+    /// if no state does: a name is not good or comes twice, a configuration is over its limits, or the base text
+    /// would have more than 67,108,864 bytes. It is linear in the configurations, and moves them; only running out
+    /// of memory can fail.
+    pub fn from_parts(
+        alloc: Global,
+        parts: Vec<(String, Config)>,
+        count: u64,
+    ) -> Result<Option<State>, AllocError>
+        ensures some { IfOk result (λ read. IfSome read (λ state.
+            (state ≡ record { configs = entries_of parts.items; count = count }) × IsState state)) }
+        ensures none { IfOk result (λ read. IfNone read
+            (IsState (record { configs = entries_of parts.items; count = count }) → ⊥)) }
+    {
+        let mut configs = IndexMap::new(alloc);
+        let mut entries = 0u64;
+        for (name, config) in parts {
+            match append(&mut configs, name, config)? {
+                Some(length) => entries = entries.saturating_add(length),
+                None => return Ok(None),
+            }
+        }
+        if base_length(u128::from(count), entries) > BASE_LIMIT {
+            return Ok(None);
+        }
+        Ok(Some(State {
+            configs,
+            count,
+            entries,
+        }))
     }
 
     /// How many commands were accepted.
@@ -114,9 +149,10 @@ impl State {
         Ok(())
     }
 
-    /// Makes an edit inside the configuration under a name, where that stands. The path is not empty.
+    /// Makes an edit inside the configuration under a name, in place. The path is not empty.
     ///
-    /// Every refusal is found first, by the lengths after the edit, and then memory is taken: nothing changes before that.
+    /// Every refusal is found first, by the lengths after the edit, and then memory is taken: nothing changes before
+    /// that.
     pub(crate) fn edit(
         &mut self,
         alloc: Global,
@@ -169,7 +205,7 @@ impl State {
         })
     }
 
-    /// Takes out the configuration under a name.
+    /// Removes the configuration under a name.
     pub(crate) fn take_out(&mut self, name: &str, fits: bool) -> Result<(), StoreFault>
         ensures ok { OnOk result (counted self.old fits (cut_config self.old.configs (chars name.now)) ≡ Ok self.new) }
         ensures refused { IfErr result
@@ -184,7 +220,8 @@ impl State {
         Ok(())
     }
 
-    /// Whether the store has room for one command more, after which the configurations have so many bytes in the base text.
+    /// Whether the store has room for one more command, after which the configurations have `entries` bytes in the base
+    /// text.
     fn check_room(&self, entries: u64, fits: bool) -> Result<(), StoreFault>
         ensures ok { OnOk result ((configs : List Entry) → entries ≡ min (entries_length configs) u64.MAX
             → counted self.now fits configs ≡ Ok (record { configs = configs; count = self.now.count + 1 })) }
@@ -222,7 +259,7 @@ impl State {
         base_length(u128::from(self.count), self.entries_length())
     }
 
-    /// Writes the configurations as a base text has them behind `configs:`.
+    /// Writes the configurations as a base text has them after `configs:`.
     pub(crate) fn write_configs<S: Sink>(&self, sink: &mut S) -> Result<(), S::Fault>
         ensures { OnOk result (S.Takes sink.old (value_at (mapping (members self.now.configs)) 0) sink.new) }
     {
@@ -247,8 +284,8 @@ impl State {
         }
     }
 
-    /// How many bytes the configurations would have in the base text with this one under its name. The greatest `u64`
-    /// stands for all that are more.
+    /// How many bytes the configurations would have in the base text with this one under its name; at most the greatest
+    /// `u64`.
     fn length_with(&self, name: &str, config: &Config) -> u64
         ensures { result ≡ min (entries_length (put_config self.now.configs (chars name.now) (tree_of config.now))) u64.MAX }
     {
@@ -264,7 +301,41 @@ impl State {
     }
 }
 
-/// Puts a configuration under a name: last where the name is new, else in the place of the one that is there.
+/// Puts a configuration after the others, and returns how many bytes it has in the base text, at most the greatest
+/// `u64`. Returns `None` if its name is not good or is taken, or the configuration is over its limits.
+fn append(
+    configs: &mut IndexMap<String, Config>,
+    name: String,
+    config: Config,
+) -> Result<Option<u64>, AllocError>
+    requires { ArePlain configs.old.entries }
+    ensures { IfOk result (λ read. MatchOption read
+        (IsUnfit (entries_of configs.old.entries) (text_of name) (tree_of config))
+        (Appended configs.old.entries configs.new.entries (text_of name) (tree_of config))) }
+{
+    if !good_name(&name) {
+        return Ok(None);
+    }
+    if check_limits(&config).is_err() {
+        return Ok(None);
+    }
+    if has(configs, &name) {
+        return Ok(None);
+    }
+    let length = entry_length(&name, &config);
+    insert(configs, name, config)?;
+    Ok(Some(length))
+}
+
+/// Whether there is a configuration under a name.
+fn has(configs: &IndexMap<String, Config>, name: &str) -> bool
+    requires { ArePlain configs.now.entries }
+    ensures { result ≡ is_some (config_named (entries_of configs.now.entries) (chars name.now)) }
+{
+    configs.get(name).is_some()
+}
+
+/// Puts a configuration under a name: last if the name is new; otherwise it replaces the one that is there.
 fn insert(
     configs: &mut IndexMap<String, Config>,
     name: String,
@@ -277,7 +348,7 @@ fn insert(
     Ok(())
 }
 
-/// The names of a state's configurations that are left, in order. Contracts see the list of them.
+/// An iterator over the names of a state's configurations, in order. Contracts see the list of them.
 #[derive(Drop)]
 pub struct Names<'a> {
     keys: Keys<'a, String, Config>,

@@ -14,12 +14,12 @@ use std::alloc::Global;
 use tree_path::Path;
 use yaml_tree::Config;
 
-/// Performs a command. A state that refuses it stays as it was, and the command is given up. `fits` says whether the journal
-/// has room for the command's record; where it hasn't, the command is refused by [`StoreFault::JournalLong`], behind the
-/// refusals that stand before it.
+/// Performs a command. A refused command leaves the state unchanged, and is dropped. `fits` says whether the journal
+/// has room for the command's record; if it hasn't, the command is refused with [`StoreFault::JournalLong`], unless
+/// one of the refusals before that in the list holds.
 ///
-/// An import under a new name goes last; under a name that is there it takes the place of the tree. A set or a delete edits
-/// the tree under the name, and a delete at the empty path takes the configuration out.
+/// An import under a new name goes last; under an existing name it replaces the tree. A set or a delete edits the tree
+/// under the name, and a delete at the empty path removes the configuration.
 pub fn step(
     alloc: Global,
     state: &mut State,
@@ -99,7 +99,8 @@ fn delete(
     state.edit(alloc, name, &path, Edit::Delete, fits)
 }
 
-fn check_limits(config: &Config) -> Result<(), StoreFault>
+/// Whether a configuration keeps to the limits of a store's configurations.
+pub(crate) fn check_limits(config: &Config) -> Result<(), StoreFault>
     ensures ok { OnOk result (limited (tree_of config.now) ≡ Ok (tree_of config.now)) }
     ensures within { OnOk result (Good (tree_of config.now) config_limits) }
     ensures refused { IfErr result (λ fault. limited (tree_of config.now) ≡ Err fault) }

@@ -369,8 +369,8 @@ fn is_before(state: &State, number: u32) -> bool {
     }
 }
 
-/// Performs the run, and answers how many steps were refused memory. Such a step has to leave the state as it was, and to be
-/// answered as ever when it is asked again.
+/// Performs the run, and answers how many steps were refused memory. Such a step has to leave the state as it was,
+/// and to be answered as ever when it is asked again.
 fn refusals(rt: &impl Abort, alloc: Global) -> u32 {
     let mut state = State::new(alloc);
     let mut refusals = 0u32;
@@ -387,8 +387,8 @@ fn refusals(rt: &impl Abort, alloc: Global) -> u32 {
     refusals
 }
 
-// A script runs these two with each allocation refused in turn. The first has to hold all the same, and the second exactly
-// where none of the run's allocations was refused.
+// A script runs these two with each allocation refused in turn. The first has to hold all the same, and the second
+// exactly where none of the run's allocations was refused.
 #[test]
 fn a_step_without_memory_changes_nothing(rt: HostRuntime) {
     let refused = refusals(&rt, rt.alloc());
@@ -441,7 +441,8 @@ fn a_base_text_has_a_greatest_length(rt: HostRuntime) -> Result<(), Fail> {
     Ok(())
 }
 
-// The base text has `---`, `store: confstore-1`, `at: "1"`, `configs:`, `  a: x` and `...`, and each line its line feed.
+// The base text has `---`, `store: confstore-1`, `at: "1"`, `configs:`, `  a: x` and `...`, and each line its line
+// feed.
 #[test]
 fn the_base_length_is_kept(rt: HostRuntime) -> Result<(), Fail> {
     let alloc = rt.alloc();

@@ -12,7 +12,7 @@ pub(crate) struct TextBuffer {
 }
 
 impl TextBuffer {
-    /// Nothing is written, and there is room for so many bytes.
+    /// An empty text with room for this many bytes.
     pub(crate) fn with_capacity(alloc: Global, bytes: u64) -> Result<TextBuffer, AllocError>
         ensures { IfOk result (λ buffer. string_bytes buffer.text ≡ []) }
     {

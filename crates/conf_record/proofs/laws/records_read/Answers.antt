@@ -8,7 +8,6 @@ use Rattle.conf_record.specs.Commands.{Command}
 use Rattle.conf_record.specs.Records.{record_tree, record_text}
 use Rattle.conf_record.specs.RecordsRead.{record_of, base_of}
 use Rattle.conf_record.proofs.AcceptedLemmas.{accepted}
-use Rattle.conf_record.proofs.ReadLemmas.{gives_one}
 use Rattle.conf_record.proofs.RecordLemmas.{FramedGood, framed_document, record_good, record_tells, base_good, base_tells}
 use Rattle.conf_record.proofs.laws.records_read.Goals as goal
 
@@ -36,7 +35,7 @@ pub returns-clause-one_base : goal.returns-clause-one_base
 unfolding base_text
 returns-clause-one_base c = λ s other kept reads.
     let own = document_gives c.style_reads.ensures.framed (base_tree s) (base_good s kept) in
-    let same = gives_one (closed_document (base_tree s)) own_limits (base_tree s) reads.tree own reads.gives in
+    let same = c.one_tree.ensures (closed_document (base_tree s)) own_limits own_limits (base_tree s) reads.tree own reads.gives in
     some_same s other (sym (base_tells s kept.numbered) ∙ ap base_of same ∙ reads.tells)
 
 pub returns-clause-record : goal.returns-clause-record
@@ -54,5 +53,5 @@ unfolding record_text
 returns-clause-one_record c = λ s new command other fits number told kept is done numbered reads.
     let ok = accepted s new command fits kept done in
     let own = document_gives c.style_reads.ensures.framed (record_tree command number) (record_good command number is ok numbered) in
-    let same = gives_one (closed_document (record_tree command number)) own_limits (record_tree command number) reads.tree own reads.gives in
+    let same = c.one_tree.ensures (closed_document (record_tree command number)) own_limits own_limits (record_tree command number) reads.tree own reads.gives in
     pair_same (command, number) (other, told) (sym (record_tells command number ok numbered) ∙ ap record_of same ∙ reads.tells)

@@ -1,0 +1,4 @@
+pub mod DocumentLemmas
+pub mod FieldLemmas
+pub mod PieceLemmas
+pub mod TreeLemmas

@@ -1,0 +1,69 @@
+-- The parts of a tree that a `Config` keeps.
+use Rattle.std.proofs.Common.{◌≡◌, ◌≤◌, ℕ, ◌+◌, true, ◌&&◌, List, [], ◌∷◌, ◌++◌, length, max, not, String, Global, append_assoc, append-nil, arith, refl, sym, ap, ◌∙◌}
+use Rattle.std.proofs.lemmas.Bool.{and_parts}
+use Rattle.yaml_grammar.specs.Texts.{byte_len}
+use Rattle.yaml_grammar.specs.Style.{key_lines, value_at, members_behind}
+use Rattle.yaml_grammar.specs.Trees.{Tree, mapping, Members, no_member, member, has_key, distinct, members_distinct, depth, members_depth, AreTextMembers}
+use Rattle.yaml_tree.specs.BudgetLaws.{byte_len-append}
+use Rattle.yaml_tree.specs.Kept.{IsKept}
+use Rattle.yaml_tree.specs.Seen.{Pair, members_of}
+use Rattle.yaml_tree.specs.declared.tree.Tree as code
+use Rattle.conf_record.specs.RecordsRead.{values}
+use Rattle.conf_record.proofs.SizeLemmas.{value_size}
+use Rattle.conf_pieces.specs.Reading.{AreKept, trees_of}
+
+behind_bytes : (key : List ℕ) (t : Tree) (ms : Members)
+    → byte_len (members_behind (member key t ms) 0) ≡ byte_len (key_lines 0 key) + byte_len (value_at t 0) + byte_len (members_behind ms 0)
+behind_bytes key t ms =
+    omega (arith, byte_len-append (key_lines 0 key ++ value_at t 0) (members_behind ms 0), byte_len-append (key_lines 0 key) (value_at t 0))
+
+max_parts : (a b c : ℕ) → max a b ≤ c → (a ≤ c) × (b ≤ c)
+max_parts a b c h = (omega arith, omega arith)
+
+values_kept : (ms : Members) → AreTextMembers ms → members_distinct ms ≡ true → members_depth ms ≤ 65 → byte_len (members_behind ms 0) ≤ 67108864 → AreKept (values ms)
+values_kept no_member are keys deep long = tt
+values_kept (member key t ms) are keys deep long =
+    let parts = and_parts (not (has_key key ms) && distinct t) (members_distinct ms) keys in
+    let own = (and_parts (not (has_key key ms)) (distinct t) parts.0).1 in
+    let levels = max_parts (depth t) (members_depth ms) 65 deep in
+    let bytes = behind_bytes key t ms in
+    let alone = (value_size t).least in
+    let low = levels.0 in (
+      record { texts = are.1; keys = own; deep = omega (arith, low); long = omega (arith, bytes, alone, long) },
+      values_kept ms are.2 parts.1 levels.1 (omega (arith, bytes, long)),
+    )
+
+pub parts_kept : (ms : Members) → IsKept (mapping ms) → AreKept (values ms)
+parts_kept no_member kept = tt
+parts_kept (member key t ms) kept =
+    let deep = kept.deep in
+    values_kept (member key t ms) kept.texts kept.keys (omega (arith, deep)) kept.long
+
+-- the values of a mapping's pairs
+own_values : (items : List Pair) → AreKept (values (members_of items)) → AreKept (trees_of items)
+own_values [] kept = tt
+own_values (p ∷ ps) kept = (kept.0, own_values ps kept.1)
+
+pub own_parts : (items : List Pair) → IsKept (mapping (members_of items)) → AreKept (trees_of items)
+own_parts items kept = own_values items (parts_kept (members_of items) kept)
+
+-- ---- pairs that are moved, in their order
+
+pub record MovedSoFar (all done left : List Pair) : Type 0 where
+  pub whole : done ++ left ≡ all
+  pub kept : AreKept (trees_of left)
+
+pub none_moved : (all : List Pair) → AreKept (trees_of all) → MovedSoFar all [] all
+none_moved all kept = record { whole = refl; kept = kept }
+
+pub one_moved : (all done left : List Pair) (name : String Global) (t u : code.Tree) → u ≡ t → MovedSoFar all done ((name, t) ∷ left)
+    → (new : List Pair) → new ≡ done ++ (name, u) ∷ [] → MovedSoFar all new left
+one_moved all done left name t u same so new is =
+    record {
+      whole = ap (λ xs. xs ++ left) (is ∙ ap (λ v. done ++ (name, v) ∷ []) same) ∙ append_assoc done ((name, t) ∷ []) left ∙ so.whole;
+      kept = so.kept.1;
+    }
+
+pub all_moved : (all done left : List Pair) → MovedSoFar all done left → length left ≡ 0 → done ≡ all
+all_moved all done [] so none = sym (append-nil done) ∙ so.whole
+all_moved all done (p ∷ ps) so none = absurd (omega arith)

@@ -1,0 +1,130 @@
+-- What a tree is as a record or a base.
+use Rattle.std.proofs.Common.{◌≡◌, refl, sym, ◌∙◌, ap, subst, ℕ, Bool, true, false, List, [], ◌∷◌, codes, Option, Some, None, IfSome, IfNone, string_bytes}
+use Rattle.std.specs.Str.{chars}
+use Rattle.yaml_grammar.specs.Trees.{Tree, text, sequence, mapping, Elements, Members}
+use Rattle.yaml_tree.specs.Kept.{own_limits}
+use Rattle.yaml_tree.specs.Reading.{IsRead}
+use Rattle.yaml_tree.specs.Seen.{Pair, tree_of, members_of}
+use Rattle.conf_record.specs.Commands.{Command, command_of}
+use Rattle.conf_record.specs.Kept.{entries_of}
+use Rattle.conf_record.specs.Limits.{IsState}
+use Rattle.conf_record.specs.RecordsRead.{keys_are, values, import_of, set_of, delete_of, record_of, import_keys, set_keys, delete_keys, base_keys, base_of, contents_of, entries}
+use Rattle.conf_record.specs.States.{Contents}
+use Rattle.conf_record.specs.declared.command.Command as code
+use Rattle.conf_record.proofs.LineLemmas.{ascii}
+use Rattle.conf_pieces.specs.Documents.{IsRecord, IsNoRecord, IsBase, IsNoBase}
+use Rattle.conf_pieces.specs.Reading.{texts, command_seen}
+use Rattle.conf_pieces.proofs.DocumentLemmas.{BytesGiveOne}
+
+-- ---- records
+
+pub record_text : (v : List ℕ) → record_of (text v) ≡ None
+unfolding record_of
+record_text v = refl
+
+pub record_sequence : (ts : Elements) → record_of (sequence ts) ≡ None
+unfolding record_of
+record_sequence ts = refl
+
+pub record_import : (ms : Members) → keys_are import_keys ms ≡ true → record_of (mapping ms) ≡ import_of (values ms)
+unfolding record_of
+record_import ms e = rw e refl
+
+pub record_set : (ms : Members) → keys_are import_keys ms ≡ false → keys_are set_keys ms ≡ true → record_of (mapping ms) ≡ set_of (values ms)
+unfolding record_of
+record_set ms e f = rw (e, f) refl
+
+pub record_delete : (ms : Members) → keys_are import_keys ms ≡ false → keys_are set_keys ms ≡ false → keys_are delete_keys ms ≡ true
+    → record_of (mapping ms) ≡ delete_of (values ms)
+unfolding record_of
+record_delete ms e f g = rw (e, f, g) refl
+
+pub record_none : (ms : Members) → keys_are import_keys ms ≡ false → keys_are set_keys ms ≡ false → keys_are delete_keys ms ≡ false
+    → record_of (mapping ms) ≡ None
+unfolding record_of
+record_none ms e f g = rw (e, f, g) refl
+
+-- the keys that the code asks for are those of the definitions
+pub import_texts : texts import_keys ≡ import_keys
+import_texts = λ i. ascii (codes "at") refl i ∷ ascii (codes "import") refl i ∷ ascii (codes "tree") refl i ∷ []
+
+pub set_texts : texts set_keys ≡ set_keys
+set_texts = λ i. ascii (codes "at") refl i ∷ ascii (codes "set") refl i ∷ ascii (codes "path") refl i ∷ ascii (codes "value") refl i ∷ []
+
+pub delete_texts : texts delete_keys ≡ delete_keys
+delete_texts = λ i. ascii (codes "at") refl i ∷ ascii (codes "delete") refl i ∷ ascii (codes "path") refl i ∷ []
+
+pub base_texts : texts base_keys ≡ base_keys
+base_texts = λ i. ascii (codes "store") refl i ∷ ascii (codes "at") refl i ∷ ascii (codes "configs") refl i ∷ []
+
+pub asked : (ks wanted : List (List ℕ)) (ps items : List Pair) (r b : Bool) → r ≡ keys_are ks (members_of ps) → ks ≡ wanted → ps ≡ items → r ≡ b
+    → keys_are wanted (members_of items) ≡ b
+asked ks wanted ps items r b e same here is =
+    ap (λ x. keys_are x (members_of items)) (sym same) ∙ ap (λ x. keys_are ks (members_of x)) (sym here) ∙ sym e ∙ is
+
+no_some : {A : Type 0} (x : A) → None ≡ Some x → ⊥
+no_some x e = cc
+
+-- ---- bases
+
+pub base_text : (v : List ℕ) → base_of (text v) ≡ None
+unfolding base_of
+base_text v = refl
+
+pub base_sequence : (ts : Elements) → base_of (sequence ts) ≡ None
+unfolding base_of
+base_sequence ts = refl
+
+pub base_keyed : (ms : Members) → keys_are base_keys ms ≡ true → base_of (mapping ms) ≡ contents_of (values ms)
+unfolding base_of
+base_keyed ms e = rw e refl
+
+pub base_other : (ms : Members) → keys_are base_keys ms ≡ false → base_of (mapping ms) ≡ None
+unfolding base_of
+base_other ms e = rw e refl
+
+entries_same : (items : List Pair) → entries (members_of items) ≡ entries_of items
+entries_same [] = refl
+entries_same (p ∷ ps) = ap (λ es. (chars (string_bytes p.0), tree_of p.1) ∷ es) (entries_same ps)
+
+abbrev pub state_of : List Pair → ℕ → Contents
+state_of items count = record { configs = entries_of items; count = count }
+
+-- ---- documents, where bytes give one tree at most
+
+module _ (give_one : BytesGiveOne) (bytes : List ℕ) (t : Tree) (is : IsRead bytes own_limits t) where
+  same_as_record : (command : Command) (number : ℕ) (r : IsRecord bytes command number) → t ≡ r.reads.tree
+  same_as_record command number r = give_one bytes own_limits t r.reads.tree is (record { utf8 = r.utf8; gives = r.reads.gives })
+
+  same_as_base : (state : Contents) (r : IsBase bytes state) → t ≡ r.reads.tree
+  same_as_base state r = give_one bytes own_limits t r.reads.tree is (record { utf8 = r.utf8; gives = r.reads.gives })
+
+  -- a tree that is no record's was given by bytes that are none
+  pub no_record : (read : Option (code.Command × ℕ)) → command_seen read ≡ record_of t → IfNone read (IsNoRecord bytes)
+  no_record None e = λ command number r.
+      no_some (command, number) (e ∙ ap record_of (same_as_record command number r) ∙ r.reads.tells)
+  no_record (Some r) e = tt
+
+  pub one_record : (read : Option (code.Command × ℕ)) → command_seen read ≡ record_of t → IfSome read (λ r. IsRecord bytes (command_of r.0) r.1)
+  one_record None e = tt
+  one_record (Some r) e = record { utf8 = is.utf8; reads = record { tree = t; gives = is.gives; tells = sym e } }
+
+  pub no_parts : None ≡ base_of t → IsNoBase bytes
+  no_parts e = λ state r. no_some state (e ∙ ap base_of (same_as_base state r) ∙ r.reads.tells)
+
+  module _ (items : List Pair) (count : ℕ) (parts : Some (record { configs = entries (members_of items); count = count }) ≡ base_of t) where
+    reads : base_of t ≡ Some (state_of items count)
+    reads = sym parts ∙ ap (λ es. Some (record { configs = es; count = count })) (entries_same items)
+
+    pub one_base : (read : Option Contents) → IfSome read (λ state. (state ≡ state_of items count) × IsState state) → IfSome read (λ state. IsBase bytes state)
+    one_base None e = tt
+    one_base (Some s) e =
+        record { utf8 = is.utf8; reads = record { tree = t; gives = is.gives; tells = reads ∙ ap Some (sym e.0); kept = e.1 } }
+
+    some_state : (a b : Contents) → Some a ≡ Some b → a ≡ b
+    some_state a b e = cc
+
+    pub no_base : (read : Option Contents) → IfNone read (IsState (state_of items count) → ⊥) → IfNone read (IsNoBase bytes)
+    no_base (Some s) never = tt
+    no_base None never = λ state r.
+        never (subst IsState (some_state state (state_of items count) (sym r.reads.tells ∙ sym (ap base_of (same_as_base state r)) ∙ reads)) r.reads.kept)

@@ -1,0 +1,64 @@
+// The configurations and the count of a base's tree.
+ghost use Rattle.std.specs.Prelude.{◌≡◌, IfSome, codes};
+ghost use Rattle.std.specs.Str.{chars};
+ghost use Rattle.yaml_grammar.specs.Texts.{same_text};
+ghost use Rattle.yaml_tree.specs.Kept.{IsKept};
+ghost use Rattle.yaml_tree.specs.Seen.{tree_of, members_of};
+ghost use Rattle.yaml_grammar.specs.Trees.{mapping};
+ghost use Rattle.conf_record.specs.RecordsRead.{values, contents_of, base_of};
+ghost use Rattle.conf_pieces.specs.Reading.{AreKept, parts_seen};
+
+use crate::fields::{is_same, keys_are, next_pairs, next_text, next_value, number_from};
+use yaml_tree::Tree;
+
+/// The configurations and the count of a base's tree, whatever their limits; None where it is no base's.
+pub(crate) fn base_from(tree: Tree) -> Option<(Vec<(String, Tree)>, u64)>
+    requires kept { IsKept (tree_of tree) }
+    ensures read { parts_seen result ≡ base_of (tree_of tree) }
+    ensures kept { IfSome result (λ p. IsKept (mapping (members_of p.0.items))) }
+{
+    let pairs = match tree {
+        Tree::Text(_) => return None,
+        Tree::Seq(_) => return None,
+        Tree::Map(pairs) => pairs,
+    };
+    if !keys_are(&["store", "at", "configs"], &pairs) {
+        return None;
+    }
+    contents_from(pairs)
+}
+
+/// The configurations and the count of these values: the format, the count and the configurations.
+fn contents_from(pairs: Vec<(String, Tree)>) -> Option<(Vec<(String, Tree)>, u64)>
+    requires kept { AreKept (values (members_of pairs.items)) }
+    ensures read { parts_seen result ≡ contents_of (values (members_of pairs.items)) }
+    ensures kept { IfSome result (λ p. IsKept (mapping (members_of p.0.items))) }
+{
+    let mut values = pairs.into_iter();
+    let Some(format) = next_text(&mut values) else {
+        return None;
+    };
+    let Some(digits) = next_text(&mut values) else {
+        return None;
+    };
+    let Some(configs) = next_pairs(&mut values) else {
+        return None;
+    };
+    if next_value(&mut values).is_some() {
+        return None;
+    }
+    if !is_format(&format) {
+        return None;
+    }
+    let Some(count) = number_from(&digits) else {
+        return None;
+    };
+    Some((configs, count))
+}
+
+/// Whether a text is the name of the one format.
+fn is_format(text: &str) -> bool
+    ensures { result ≡ same_text (chars text.now) (codes "confstore-1") }
+{
+    is_same(text, "confstore-1")
+}

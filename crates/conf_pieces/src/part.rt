@@ -1,0 +1,35 @@
+// Parts of a configuration's tree as configurations.
+ghost use Rattle.std.specs.Prelude.{◌≡◌, IfOk};
+ghost use Rattle.yaml_tree.specs.Kept.{IsKept};
+ghost use Rattle.yaml_tree.specs.Seen.{tree_of};
+ghost use Rattle.conf_pieces.specs.Reading.{AreKept, trees_of};
+
+use std::alloc::{AllocError, Global};
+use yaml_tree::{ByteCount, Config, Tree, write_style};
+
+/// The configuration that a part of a configuration's tree is. It takes no memory, and counts the part's length.
+pub(crate) fn part(tree: Tree) -> Config
+    requires { IsKept (tree_of tree) }
+    ensures { result ≡ tree }
+{
+    let mut bytes = ByteCount::new();
+    match write_style(&tree, &mut bytes) {
+        Ok(()) => Config::from_parts(tree, bytes.total() as u64),
+        Err(never) => match never {},
+    }
+}
+
+/// The same for the values of a mapping, under their keys.
+pub(crate) fn configurations(
+    alloc: Global,
+    pairs: Vec<(String, Tree)>,
+) -> Result<Vec<(String, Config)>, AllocError>
+    requires { AreKept (trees_of pairs.items) }
+    ensures { IfOk result (λ configs. configs.items ≡ pairs.items) }
+{
+    let mut configs = Vec::with_capacity(alloc, pairs.len())?;
+    for (name, tree) in pairs {
+        configs.push((name, part(tree)))?;
+    }
+    Ok(configs)
+}
