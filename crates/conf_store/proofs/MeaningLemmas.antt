@@ -1,0 +1,189 @@
+-- What bytes mean: at most one state. After a crash it is the state after the records that are whole.
+use Rattle.std.proofs.Common.{◌≡◌, ◌⊎◌, ◌↔◌, inl, inr, refl, sym, ◌∙◌, ap, subst, arith, ◌<◌, ◌≤◌, append_assoc, length-append, length-take}
+use Rattle.std.specs.Prelude.{ℕ, true, zero, suc, ◌+◌, List, [], ◌∷◌, ◌++◌, length, take, drop, replicate, Option, Some, None, Result, Ok, Err}
+use Rattle.std.proofs.lemmas.List.{length-replicate}
+use Rattle.yaml_grammar.specs.Closings.{ClosesOnce, Pieces}
+use Rattle.yaml_laws.specs.Closed.{OnePieces}
+use Rattle.conf_disk.specs.Folder.{File, Folder}
+use Rattle.conf_disk.specs.Image.{Image, IsImage, IsTorn, synced_file}
+use Rattle.conf_record.specs.Commands.{Command}
+use Rattle.conf_record.specs.States.{Contents}
+use Rattle.conf_record.specs.Limits.{IsState}
+use Rattle.conf_record.specs.Steps.{step, after, and_then}
+use Rattle.conf_record.specs.declared.fault.StoreFault.{StoreFault}
+use Rattle.conf_record.proofs.RunLaws.{after-append, after-count, and_then-Ok}
+use Rattle.conf_pieces.specs.Documents.{IsRecord, IsBase, record_pieces, records_bytes, TornRecords, OneBase, OneRecord, RecordsTear}
+use Rattle.conf_record.specs.BaseTexts.{base_bytes}
+use Rattle.conf_record.specs.Records.{record_bytes}
+use Rattle.conf_journal.specs.Store.{store_limit}
+use Rattle.conf_store.specs.Meaning.{AreRecords, PiecesMean, Means, FileMeans, MeanTheSame, empty_state}
+use Rattle.conf_store.specs.Durable.{IsWholeStore, IsJournal, AfterPrefix}
+use Rattle.conf_store.proofs.PieceLemmas.{pieces-joined, pieces-one}
+
+-- ---- lists of records
+
+records-count : (count : ℕ) (pieces : List (List ℕ)) (commands : List Command) → AreRecords count pieces commands → length pieces ≡ length commands
+records-count count [] [] are = refl
+records-count count [] (command ∷ commands) are = absurd are
+records-count count (piece ∷ pieces) [] are = absurd are
+records-count count (piece ∷ pieces) (command ∷ commands) are = ap suc (records-count (count + 1) pieces commands are.1)
+
+records-joined : (count : ℕ) (ps qs : List (List ℕ)) (cs ds : List Command) → AreRecords count ps cs → AreRecords (count + length cs) qs ds → AreRecords count (ps ++ qs) (cs ++ ds)
+records-joined count [] qs [] ds first second = subst (λ n. AreRecords n qs ds) (omega arith) second
+records-joined count [] qs (c ∷ cs) ds first second = absurd first
+records-joined count (p ∷ ps) qs [] ds first second = absurd first
+records-joined count (p ∷ ps) qs (c ∷ cs) ds first second =
+    (first.0, records-joined (count + 1) ps qs cs ds first.1 (subst (λ n. AreRecords n qs ds) (omega arith) second))
+
+records-front : (count k : ℕ) (commands : List Command) → AreRecords count (record_pieces count commands) commands
+    → AreRecords count (record_pieces count (take k commands)) (take k commands)
+records-front count zero commands are = tt
+records-front count (suc k) [] are = tt
+records-front count (suc k) (c ∷ cs) are = (are.0, records-front (count + 1) k cs are.1)
+
+-- ---- lists of commands
+
+-- a prefix of accepted commands is accepted
+pub after-front : (s end : Contents) (commands : List Command) (k : ℕ) → after s commands ≡ Ok end → (mid : Contents) × (after s (take k commands) ≡ Ok mid)
+after-front s end commands zero leads = (s, refl)
+after-front s end [] (suc k) leads = (s, refl)
+after-front s end (c ∷ cs) (suc k) leads =
+    let first = and_then-Ok (step s c true) (λ t. after t cs) end leads in
+    let more = after-front first.0 end cs k first.2 in
+    (more.0, ap (λ r. and_then r (λ t. after t (take k cs))) first.1 ∙ more.1)
+
+pub after-joined : (s mid end : Contents) (first second : List Command) → after s first ≡ Ok mid → after mid second ≡ Ok end → after s (first ++ second) ≡ Ok end
+after-joined s mid end first second one two =
+    after-append s first second ∙ ap (λ r. and_then r (λ between. after between second)) one ∙ two
+
+-- ---- what pieces mean
+
+-- pieces with records after them
+pub pieces-mean-more : (pieces : List (List ℕ)) (more : List (List ℕ)) (s end : Contents) (commands : List Command) → PiecesMean pieces s
+    → AreRecords s.count more commands → after s commands ≡ Ok end → PiecesMean (pieces ++ more) end
+pieces-mean-more pieces more s end commands mean are_records leads =
+    let count : s.count ≡ mean.start.count + length mean.commands = after-count mean.start s mean.commands mean.leads in
+    record {
+      base = mean.base;
+      records = mean.records ++ more;
+      are = ap (λ ps. ps ++ more) mean.are;
+      start = mean.start;
+      is_base = mean.is_base;
+      commands = mean.commands ++ commands;
+      are_records = records-joined mean.start.count mean.records more mean.commands commands mean.are_records (subst (λ n. AreRecords n more commands) count are_records);
+      leads = after-joined mean.start s end mean.commands commands mean.leads leads;
+    }
+
+pub base-means : (base : List ℕ) (s : Contents) → IsBase base s → PiecesMean (base ∷ []) s
+base-means base s is = record { base = base; records = []; are = refl; start = s; is_base = is; commands = []; are_records = tt; leads = refl }
+
+-- pieces with one more record
+pub record-means : (pieces : List (List ℕ)) (piece : List ℕ) (s end : Contents) (command : Command) → PiecesMean pieces s
+    → IsRecord piece command (s.count + 1) → step s command true ≡ Ok end → PiecesMean (pieces ++ piece ∷ []) end
+record-means pieces piece s end command mean is done =
+    pieces-mean-more pieces (piece ∷ []) s end (command ∷ []) mean (is, tt) (ap (λ r. and_then r (λ t. after t [])) done)
+
+one-list : (count : ℕ) → OneRecord → (pieces : List (List ℕ)) (cs ds : List Command) → AreRecords count pieces cs → AreRecords count pieces ds → cs ≡ ds
+one-list count one [] [] [] first second = refl
+one-list count one [] (c ∷ cs) ds first second = absurd first
+one-list count one [] [] (d ∷ ds) first second = absurd second
+one-list count one (p ∷ ps) [] ds first second = absurd first
+one-list count one (p ∷ ps) (c ∷ cs) [] first second = absurd second
+one-list count one (p ∷ ps) (c ∷ cs) (d ∷ ds) first second =
+    let same = one p d c (count + 1) (count + 1) second.0 first.0 in
+    let rest = one-list (count + 1) one ps cs ds first.1 second.1 in
+    λ i. same.0 i ∷ rest i
+
+pub ok-same : (s end : Contents) (r : Result Contents StoreFault) → r ≡ Ok s → r ≡ Ok end → s ≡ end
+ok-same s end r first second = cc
+
+pub pieces-mean-one : OneBase → OneRecord → (pieces : List (List ℕ)) (s end : Contents) → PiecesMean pieces s → PiecesMean pieces end → s ≡ end
+pieces-mean-one one_base one_record pieces s end first second =
+    let same : first.base ∷ first.records ≡ second.base ∷ second.records = sym first.are ∙ second.are in
+    let bases : first.base ≡ second.base = cc in
+    let records : first.records ≡ second.records = cc in
+    let starts : first.start ≡ second.start = one_base second.base second.start first.start second.is_base (subst (λ b. IsBase b first.start) bases first.is_base) in
+    let are_records : AreRecords second.start.count second.records first.commands =
+    subst (λ n. AreRecords n second.records first.commands) (ap (λ t. t.count) starts) (subst (λ ps. AreRecords first.start.count ps first.commands) records first.are_records) in
+    let commands : first.commands ≡ second.commands = one-list second.start.count one_record second.records first.commands second.commands are_records second.are_records in
+    ok-same s end (after second.start second.commands) ((λ i. after (sym starts i) (sym commands i)) ∙ first.leads) second.leads
+
+-- bytes mean at most one state
+pub means-one : OnePieces → OneBase → OneRecord → (bytes : List ℕ) (s end : Contents) → Means bytes s → Means bytes end → s ≡ end
+means-one one_pieces one_base one_record bytes s end first second =
+    let same = (one_pieces bytes first.pieces second.pieces first.rest second.rest first.cut second.cut).0 in
+    pieces-mean-one one_base one_record second.pieces s end (subst (λ ps. PiecesMean ps s) same first.mean) second.mean
+
+-- ---- files without a rest
+
+pub whole-means : (bytes : List ℕ) (s : Contents) → IsWholeStore bytes s → length bytes ≤ store_limit → Means bytes s
+whole-means bytes s whole short = record { short = short; pieces = whole.pieces; rest = []; cut = whole.cut; mean = whole.mean }
+
+pub base-whole : (base : List ℕ) (s : Contents) → ClosesOnce base → IsBase base s → IsWholeStore base s
+base-whole base s closes is = record { pieces = base ∷ []; cut = pieces-one base closes; mean = base-means base s is }
+
+pub record-whole : (bytes piece : List ℕ) (s end : Contents) (command : Command) → IsWholeStore bytes s → ClosesOnce piece → IsRecord piece command (s.count + 1)
+    → step s command true ≡ Ok end → IsWholeStore (bytes ++ piece) end
+record-whole bytes piece s end command whole closes is done = record {
+  pieces = whole.pieces ++ piece ∷ [];
+  cut = pieces-joined bytes piece whole.pieces (piece ∷ []) [] whole.cut (pieces-one piece closes);
+  mean = record-means whole.pieces piece s end command whole.mean is done;
+}
+
+-- ---- what a crash leaves of pending records
+
+torn-length : (file : File) (bytes : List ℕ) → IsTorn file bytes → length bytes ≤ length file.synced + length file.pending
+torn-length file bytes torn =
+    let zeros : List ℕ = replicate torn.zeros 0 in
+    omega (
+      arith,
+      torn.fits,
+      ap length torn.is,
+      length-append (file.synced ++ take torn.keep file.pending) zeros,
+      length-append file.synced (take torn.keep file.pending),
+      length-replicate {A = ℕ} torn.zeros 0,
+      length-take torn.keep file.pending,
+    )
+
+pub journal-left : RecordsTear → (file : File) (flushed end : Contents) (since : List Command) (bytes : List ℕ) → IsJournal file flushed since end → IsTorn file bytes
+    → AfterPrefix flushed since (Some bytes)
+journal-left tear file flushed end since bytes journal torn =
+    let pending = records_bytes flushed.count since in
+    let tail = take torn.keep pending ++ replicate torn.zeros 0 in
+    let t : TornRecords flushed.count since tail = tear flushed.count since torn.keep torn.zeros in
+    let mid = after-front flushed end since t.whole journal.leads in
+    let zeros : List ℕ = replicate torn.zeros 0 in
+    let is : bytes ≡ file.synced ++ tail =
+    torn.is ∙ append_assoc file.synced (take torn.keep file.pending) zeros ∙ ap (λ l. file.synced ++ (take torn.keep l ++ zeros)) journal.pending in
+    record {
+      count = t.whole;
+      state = mid.0;
+      leads = mid.1;
+      means = record {
+        short = omega (arith, torn-length file bytes torn, journal.short);
+        pieces = journal.whole.pieces ++ record_pieces flushed.count (take t.whole since);
+        rest = t.rest;
+        cut = subst (λ b. Pieces b (journal.whole.pieces ++ record_pieces flushed.count (take t.whole since)) t.rest) (sym is)
+            (pieces-joined file.synced tail journal.whole.pieces (record_pieces flushed.count (take t.whole since)) t.rest journal.whole.cut t.pieces);
+        mean = pieces-mean-more journal.whole.pieces (record_pieces flushed.count (take t.whole since)) flushed mid.0 (take t.whole since)
+            journal.whole.mean (records-front flushed.count t.whole since journal.are_records) mid.1;
+      };
+    }
+
+take-none : (k : ℕ) → let none : List Command = [] in take k none ≡ none
+take-none zero = refl
+take-none (suc k) = refl
+
+pub after-done : (s end : Contents) (command : Command) → step s command true ≡ Ok end → after s (command ∷ []) ≡ Ok end
+after-done s end command done = ap (λ r. and_then r (λ t. after t [])) done
+
+-- of one pending record: the state before its command or after it
+pub after-one : (s end : Contents) (command : Command) (store : Option (List ℕ)) → step s command true ≡ Ok end → AfterPrefix s (command ∷ []) store
+    → FileMeans store s ⊎ FileMeans store end
+after-one s end command store done some = by some.count some.leads
+  where
+    by : (k : ℕ) → after s (take k (command ∷ [])) ≡ Ok some.state → FileMeans store s ⊎ FileMeans store end
+    by zero leads = inl (subst (FileMeans store) (sym (ok-same s some.state (Ok s) refl leads)) some.means)
+    by (suc k) leads =
+        let leads_one : after s (command ∷ []) ≡ Ok some.state = ap (λ cs. after s (command ∷ cs)) (sym (take-none k)) ∙ leads in
+        inr (subst (FileMeans store) (ok-same some.state end (after s (command ∷ [])) leads_one (after-done s end command done)) some.means)

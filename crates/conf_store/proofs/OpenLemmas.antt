@@ -1,0 +1,173 @@
+-- What opening finds, and that it changes no meaning.
+use Rattle.std.proofs.Common.{◌≡◌, ◌≢◌, ◌⊎◌, ◌↔◌, inl, inr, ⊎_elim, refl, sym, ◌∙◌, ap, subst, arith, ◌<◌, ◌≤◌}
+use Rattle.std.specs.Prelude.{ℕ, zero, suc, List, [], ◌∷◌, length, Option, Some, None, option_map}
+use Rattle.std.specs.Prelude.{Vec}
+use Rattle.std.specs.declared.alloc.Global.{Global}
+use Rattle.yaml_grammar.specs.Closings.{ClosesOnce, Pieces}
+use Rattle.yaml_laws.specs.Closed.{OnePieces}
+use Rattle.conf_disk.specs.Folder.{Folder, Tells, bytes_under}
+use Rattle.conf_disk.specs.Image.{Image, IsImage, image_now, synced_file}
+use Rattle.conf_disk.specs.Laws.{ReadingIsAnImage}
+use Rattle.conf_disk.specs.declared.disk.Content.TheVariants.{Missing, Bytes, TooLong}
+use Rattle.conf_disk.specs.declared.disk.Name.TheVariants.{Store}
+use Rattle.conf_journal.specs.Held.{HoldsStore, IsLeftOf, HeldIsLeft, SyncedIsLeft}
+use Rattle.conf_journal.specs.Store.{IsStoreOf, store_limit}
+use Rattle.conf_record.specs.States.{Contents}
+use Rattle.conf_pieces.specs.Documents.{IsBase, OneBase, OneRecord}
+use Rattle.conf_record.specs.BaseTexts.{base_bytes}
+use Rattle.conf_record.specs.Limits.{IsState}
+use Rattle.std.proofs.lemmas.Bool.{cases_lt}
+use Rattle.conf_disk.specs.declared.disk.DiskFault.{DiskFault}
+use Rattle.conf_disk.specs.declared.disk.DiskFault.TheVariants as disk
+use Rattle.conf_store.specs.Faults.{open_fault}
+use Rattle.conf_store.specs.Calls.{HasFailed}
+use Rattle.conf_store.specs.Meaning.{Means, FileMeans, MeanTheSame, empty_state}
+use Rattle.conf_store.specs.Durable.{IsWholeStore, IsDurable}
+use Rattle.conf_store.specs.Opens.{RecoversTo, FileRecoversTo, HasNoBase, RefusesBytes, IsFound, RefusesOpening, RefusalMeans, RefusedMeansNothing, ReadsAfterOpening, MeantAtEntry}
+use Rattle.conf_store.specs.declared.fault.OpenFault.{OpenFault}
+use Rattle.conf_store.specs.declared.fault.OpenFault.TheVariants.{NotAStore, Damaged, Device, OutOfMemory}
+use Rattle.conf_store.proofs.MeaningLemmas.{means-one, whole-means, base-whole}
+use Rattle.conf_store.proofs.RecoveryLemmas.{recovers-means, recovers-whole}
+
+-- ---- what is found
+
+pub too-long : (store : Option (List ℕ)) → Tells store store_limit TooLong → RefusesOpening NotAStore store
+too-long None tells = absurd tells
+too-long (Some bytes) tells = inl tells
+
+pub not-read : (store : Option (List ℕ)) (read : Vec ℕ Global) (fault : OpenFault) → Tells store store_limit (Bytes read) → RefusesBytes read.items fault → RefusesOpening fault store
+not-read None read fault tells unread = absurd tells
+not-read (Some bytes) read NotAStore tells unread = inr (subst HasNoBase tells.0 unread)
+not-read (Some bytes) read (Damaged number) tells unread = subst (λ b. RefusesBytes b (Damaged number)) tells.0 unread
+not-read (Some bytes) read Device tells unread = tt
+not-read (Some bytes) read OutOfMemory tells unread = tt
+
+pub found-missing : (store : Option (List ℕ)) → Tells store store_limit Missing → IsFound store empty_state 0 0 None
+found-missing (Some bytes) tells = absurd tells
+found-missing None tells = record {
+  recovers = (refl, refl, refl);
+  stays = λ n e. absurd (cc e);
+  staged = λ e. inl refl;
+  short = λ bytes e. absurd (cc e);
+}
+
+pub found-bytes : (store : Option (List ℕ)) (read : Vec ℕ Global) (s : Contents) (records dropped : ℕ) (size : Option ℕ) → Tells store store_limit (Bytes read) → RecoversTo read.items s records dropped
+    → ((n : ℕ) → size ≡ Some n → (dropped ≡ 0) × (length read.items ≡ n)) → (size ≡ None → dropped ≢ 0) → IsFound store s records dropped size
+found-bytes None read s records dropped size tells recovers stays staged = absurd tells
+found-bytes (Some bytes) read s records dropped size tells recovers stays staged = record {
+  recovers = subst (λ b. RecoversTo b s records dropped) tells.0 recovers;
+  stays = λ n e. (let is = stays n e in (is.0, bytes, refl, ap length (sym tells.0) ∙ is.1));
+  staged = λ e. inr (staged e);
+  short = λ b e. (let same : bytes ≡ b = cc e in subst (λ l. length l ≤ store_limit) same tells.1);
+}
+
+pub found-means : (store : Option (List ℕ)) (s : Contents) (records dropped : ℕ) (size : Option ℕ) → IsFound store s records dropped size → FileMeans store s
+found-means None s records dropped size found = found.recovers.0
+found-means (Some bytes) s records dropped size found = recovers-means bytes s records dropped found.recovers (found.short bytes refl)
+
+-- a file that stays as it is is durable
+pub found-durable : (folder : Folder) (store : Option (List ℕ)) (s : Contents) (records dropped n : ℕ) (size : Option ℕ) → IsFound store s records dropped size → size ≡ Some n
+    → HoldsStore folder (option_map synced_file store) → IsDurable folder s n
+found-durable folder store s records dropped n size found is holds =
+    let stays = found.stays n is in
+    let bytes = stays.1 in
+    record {
+      bytes = bytes;
+      holds = subst (λ (o : Option (List ℕ)). HoldsStore folder (option_map synced_file o)) stays.2 holds;
+      whole = recovers-whole bytes s records dropped (subst (λ o. FileRecoversTo o s records dropped) stays.2 found.recovers) stays.0;
+      long = stays.3;
+      short = subst (λ m. m ≤ store_limit) stays.3 (found.short bytes stays.2);
+    }
+
+-- ---- no meaning is changed
+
+store-one : OnePieces → OneBase → OneRecord → (store : Option (List ℕ)) (s end : Contents) → FileMeans store s → FileMeans store end → s ≡ end
+store-one one_pieces one_base one_record None s end first second = first ∙ sym second
+store-one one_pieces one_base one_record (Some bytes) s end first second = means-one one_pieces one_base one_record bytes s end first second
+
+-- two files that mean one state mean the same
+pub both-mean : OnePieces → OneBase → OneRecord → (store other : Option (List ℕ)) (s : Contents) → FileMeans store s → FileMeans other s → MeanTheSame store other
+both-mean one_pieces one_base one_record store other s first second end = (
+  λ is. subst (FileMeans other) (store-one one_pieces one_base one_record store s end first is) second,
+  λ is. subst (FileMeans store) (store-one one_pieces one_base one_record other s end second is) first,
+)
+
+same-alike : (store other : Option (List ℕ)) → store ≡ other → MeanTheSame store other
+same-alike store other e = λ s. (λ is. subst (λ o. FileMeans o s) e is, λ is. subst (λ o. FileMeans o s) (sym e) is)
+
+pub image-meant : (folder : Folder) (image : Image) → IsImage folder image → MeantAtEntry folder image.store
+image-meant folder image is = record { entry = image; is = is; alike = same-alike image.store image.store refl }
+
+-- the file that is read at entry is one of the images then
+pub read-meant : ReadingIsAnImage → (folder : Folder) (store : Option (List ℕ)) → MeanTheSame store (bytes_under folder Store) → MeantAtEntry folder store
+read-meant reading folder store alike = record { entry = image_now folder; is = reading folder; alike = alike }
+
+-- every image of a loaded folder has the file that was read
+left-same : HeldIsLeft → SyncedIsLeft → (folder : Folder) (store : Option (List ℕ)) → HoldsStore folder (option_map synced_file store) → (image : Image) → IsImage folder image → image.store ≡ store
+left-same held synced folder (Some bytes) holds image is = synced folder bytes holds image is
+left-same held synced folder None holds image is = none image.store (held folder None holds image is)
+  where
+    none : (store : Option (List ℕ)) → IsLeftOf None store → store ≡ None
+    none None left = refl
+    none (Some bytes) left = absurd left
+
+pub loaded-meant : ReadingIsAnImage → HeldIsLeft → SyncedIsLeft → (entry now : Folder) → HoldsStore now (option_map synced_file (bytes_under entry Store))
+    → (store : Option (List ℕ)) → IsStoreOf now store → MeantAtEntry entry store
+loaded-meant reading held synced entry now holds store is =
+    read-meant reading entry store
+    (same-alike store (bytes_under entry Store) (sym is.same ∙ left-same held synced now (bytes_under entry Store) holds is.image is.is))
+
+-- a file with the state that was found
+pub state-meant : OnePieces → OneBase → OneRecord → ReadingIsAnImage → (entry : Folder) (s : Contents) (records dropped : ℕ) (size : Option ℕ)
+    → IsFound (bytes_under entry Store) s records dropped size → (store : Option (List ℕ)) → FileMeans store s → MeantAtEntry entry store
+state-meant one_pieces one_base one_record reading entry s records dropped size found store own =
+    read-meant reading entry store (both-mean one_pieces one_base one_record store (bytes_under entry Store) s own (found-means (bytes_under entry Store) s records dropped size found))
+
+-- ---- a file that is refused
+
+pub refused-nothing : RefusedMeansNothing → (fault : OpenFault) (store : Option (List ℕ)) → RefusesOpening fault store → RefusalMeans fault store
+refused-nothing nothing Device store refused = tt
+refused-nothing nothing OutOfMemory store refused = tt
+refused-nothing nothing NotAStore None refused = absurd refused
+refused-nothing nothing (Damaged number) None refused = absurd refused
+refused-nothing nothing NotAStore (Some bytes) (inl long) = λ s means. (let short = means.short in omega (arith, long, short))
+refused-nothing nothing NotAStore (Some bytes) (inr none) = λ s means. (nothing bytes s means).0 none
+refused-nothing nothing (Damaged number) (Some bytes) damaged = λ s means. (nothing bytes s means).1 number damaged
+
+-- ---- failures
+
+pub failed-later : (old mid new : ℕ) → old ≤ mid → mid ≤ new → HasFailed mid new → HasFailed old new
+failed-later old mid new first second (inl rose) = inl (omega (arith, first, rose))
+failed-later old mid new first second (inr stood) = elim (cases_lt old mid) [
+  | inl less ↦ inl (omega (arith, less, second))
+  | inr more ↦ inr (omega (arith, more, first, stood))
+]
+
+-- ---- what `store.yaml` holds after opening
+
+pub reads-same : ReadingIsAnImage → HeldIsLeft → SyncedIsLeft → (folder : Folder) (store : Option (List ℕ)) → HoldsStore folder (option_map synced_file store) → bytes_under folder Store ≡ store
+reads-same reading held synced folder store holds = left-same held synced folder store holds (image_now folder) (reading folder)
+
+pub reads-stays : (store now : Option (List ℕ)) (s : Contents) (records dropped n : ℕ) (size : Option ℕ) → IsFound store s records dropped size → size ≡ Some n → now ≡ store → ReadsAfterOpening store s dropped now
+reads-stays None now s records dropped n size found is same = (let stays = found.stays n is in absurd (cc stays.2))
+reads-stays (Some bytes) now s records zero n size found is same = same
+reads-stays (Some bytes) now s records (suc dropped) n size found is same = (let none : suc dropped ≡ 0 = (found.stays n is).0 in absurd (omega (arith, none)))
+
+pub reads-staged : (store now : Option (List ℕ)) (s : Contents) (records dropped : ℕ) (size : Option ℕ) → IsFound store s records dropped size → size ≡ None → now ≡ Some (base_bytes s) → ReadsAfterOpening store s dropped now
+reads-staged None now s records dropped size found is same = same
+reads-staged (Some bytes) now s records (suc dropped) size found is same = same
+reads-staged (Some bytes) now s records zero size found is same = absurd (⊎_elim (λ e. cc e) (λ some. some refl) (found.staged is))
+
+-- ---- faults of the disk
+
+pub disk-refused : (fault : DiskFault) (told : OpenFault) (file : Option (List ℕ)) → told ≡ open_fault fault → RefusesOpening told file
+disk-refused disk.Device told file is = subst (λ f. RefusesOpening f file) (sym is) tt
+disk-refused disk.OutOfMemory told file is = subst (λ f. RefusesOpening f file) (sym is) tt
+
+pub disk-no-meaning : (fault : DiskFault) (told : OpenFault) (file : Option (List ℕ)) → told ≡ open_fault fault → RefusalMeans told file
+disk-no-meaning disk.Device told file is = subst (λ f. RefusalMeans f file) (sym is) tt
+disk-no-meaning disk.OutOfMemory told file is = subst (λ f. RefusalMeans f file) (sym is) tt
+
+pub disk-device : (fault : DiskFault) → open_fault fault ≡ Device → fault ≡ disk.Device
+disk-device disk.Device is = refl
+disk-device disk.OutOfMemory is = absurd (cc is)

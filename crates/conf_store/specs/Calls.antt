@@ -1,0 +1,66 @@
+-- What the calls of an open store return, and how they change it.
+use Rattle.std.specs.Prelude.{◌≡◌, ◌≢◌, ◌⊎◌, ℕ, ◌+◌, ◌<◌, ◌≤◌, min, Bool, true, false, nat_le, if◌then◌else◌, List, length, Result, Ok, Err}
+use Rattle.conf_disk.specs.Moments.{greatest}
+use Rattle.conf_journal.specs.Store.{store_limit}
+use Rattle.conf_record.specs.Commands.{Command}
+use Rattle.conf_record.specs.States.{Contents, config_named, count_limit}
+use Rattle.yaml_grammar.specs.Trees.{Tree}
+use Rattle.yaml_grammar.specs.Style.{style_text}
+use Rattle.tree_path.specs.Paths.{at}
+use Rattle.conf_record.specs.Names.{good_name}
+use Rattle.conf_record.specs.Steps.{step, and_then, found, by_path}
+use Rattle.conf_record.specs.declared.fault.StoreFault.{StoreFault}
+use Rattle.conf_record.specs.declared.fault.StoreFault.TheVariants.{BadName, Reopen, Device, OutOfMemory}
+use Rattle.conf_record.specs.Records.{record_bytes}
+use Rattle.conf_store.specs.View.{StoreView}
+
+-- The number of the next record. At the greatest count it is that count, which has as many digits as the number after it.
+abbrev pub next_number : Contents → ℕ
+next_number s = min (s.count + 1) count_limit
+
+-- the bytes of the next command's record
+abbrev pub next_record : Contents → Command → List ℕ
+next_record s command = record_bytes command (next_number s)
+
+-- whether a `store.yaml` of `size` bytes has room for the command's record
+abbrev pub has_room : ℕ → Contents → Command → Bool
+has_room size s command = nat_le (size + length (next_record s command)) store_limit
+
+-- the state after the command, or the first refusal that holds
+abbrev pub outcome : ℕ → Contents → Command → Result Contents StoreFault
+outcome size s command = step s command (has_room size s command)
+
+-- The command was accepted: the state is the one after it, the count rose by one, and `store.yaml` grew by the record.
+pub record Accepts {D : Type 0} (old : StoreView D) (command : Command) (new : StoreView D) : Type 0 where
+  pub step : outcome old.size old.state command ≡ Ok new.state
+  pub count : new.state.count ≡ old.state.count + 1
+  pub size : new.size ≡ old.size + length (next_record old.state command)
+  pub reopen : new.reopen ≡ false
+
+-- Why a command was refused. Under Device the state is the one after the command; a command that the state refuses never meets
+-- Device. Reopen and OutOfMemory say nothing of the command.
+abbrev pub RefusesCommand : {D : Type 0} → StoreView D → Command → StoreView D → StoreFault → Type 0
+RefusesCommand old command new Reopen = Unit {0}
+RefusesCommand old command new OutOfMemory = Unit {0}
+RefusesCommand old command new Device = outcome old.size old.state command ≡ Ok new.state
+RefusesCommand old command new fault = outcome old.size old.state command ≡ Err fault
+
+-- the device failed during the call, or its failures stood at their greatest number
+abbrev pub HasFailed : ℕ → ℕ → Type 0
+HasFailed before now = (before < now) ⊎ (before ≡ greatest)
+
+-- ---- reading
+
+-- the tree under a name, or BadName or NoConfig
+abbrev pub tree_named : Contents → List ℕ → Result Tree StoreFault
+tree_named s name = if good_name name then found (config_named s.configs name) else Err BadName
+
+-- the tree at a path in the configuration under a name
+abbrev pub tree_at : Contents → List ℕ → List (List ℕ) → Result Tree StoreFault
+tree_at s name path = and_then (tree_named s name) (λ t. by_path (at t path))
+
+-- `written` is the tree under the name in the one style
+pub record Exports (s : Contents) (name written : List ℕ) : Type 0 where
+  pub tree : Tree
+  pub is : tree_named s name ≡ Ok tree
+  pub style : written ≡ style_text tree

@@ -1,0 +1,39 @@
+-- What an import returns, and how it changes a store.
+use Rattle.std.specs.Prelude.{◌≡◌, ◌≢◌, ◌⊎◌, ℕ, true, false, List, Option}
+use Rattle.yaml_grammar.specs.Trees.{Tree}
+use Rattle.yaml_tree.specs.Reading.{IsRead, Refuses}
+use Rattle.yaml_docs.specs.declared.fault.ReadFault.TheVariants as read_faults
+use Rattle.conf_journal.specs.Store.{extended}
+use Rattle.conf_record.specs.Commands.{import_as}
+use Rattle.conf_record.specs.Names.{good_name}
+use Rattle.conf_record.specs.States.{config_limits}
+use Rattle.conf_record.specs.declared.fault.StoreFault.{StoreFault}
+use Rattle.conf_record.specs.declared.fault.StoreFault.TheVariants.{BadName, Read, Reopen, OutOfMemory}
+use Rattle.conf_store.specs.View.{StoreView}
+use Rattle.conf_store.specs.Calls.{Accepts, RefusesCommand, next_record}
+
+-- the text gives a tree, and the command that imports it was accepted
+pub record Imports {D : Type 0} (old : StoreView D) (name source : List ℕ) (new : StoreView D) : Type 0 where
+  pub tree : Tree
+  pub reads : IsRead source config_limits tree
+  pub accepts : Accepts old (import_as name tree) new
+
+-- `after` is `before` with the record of that command appended
+pub record AppendsImport {D : Type 0} (old : StoreView D) (name source : List ℕ) (before after : Option (List ℕ)) : Type 0 where
+  pub tree : Tree
+  pub reads : IsRead source config_limits tree
+  pub is : after ≡ extended before (next_record old.state (import_as name tree))
+
+-- the text gives a tree, and the command that imports it was refused
+pub record RefusesTree {D : Type 0} (old : StoreView D) (name source : List ℕ) (new : StoreView D) (fault : StoreFault) : Type 0 where
+  pub tree : Tree
+  pub reads : IsRead source config_limits tree
+  pub refuses : RefusesCommand old (import_as name tree) new fault
+
+-- Why an import was refused: for its name, then because the text gives no tree, then as the command that imports the tree.
+abbrev pub RefusesImport : {D : Type 0} → StoreView D → List ℕ → List ℕ → StoreView D → StoreFault → Type 0
+RefusesImport old name source new Reopen = Unit {0}
+RefusesImport old name source new OutOfMemory = Unit {0}
+RefusesImport old name source new BadName = good_name name ≡ false
+RefusesImport old name source new (Read fault) = (good_name name ≡ true) × (fault ≢ read_faults.OutOfMemory) × Refuses source config_limits fault
+RefusesImport old name source new fault = RefusesTree old name source new fault

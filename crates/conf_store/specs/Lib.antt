@@ -1,0 +1,9 @@
+pub mod Meaning
+pub mod Durable
+pub mod View
+pub mod Calls
+pub mod Faults
+pub mod Accepting
+pub mod Opens
+pub mod Lives
+pub mod Imports

@@ -1,0 +1,45 @@
+// Performing a command on the state, and making its record, before anything is written to the disk.
+ghost use Rattle.std.specs.Prelude.{◌≡◌, ◌⊎◌, ◌≤◌, IfOk, IfErr, OnErr, Err, string_bytes};
+ghost use Rattle.conf_journal.specs.Store.{store_limit};
+ghost use Rattle.conf_record.specs.Commands.{command_of};
+ghost use Rattle.conf_store.specs.Accepting.{IsAccepted, IsOfState};
+ghost use Rattle.conf_store.specs.Calls.{outcome};
+
+use conf_journal::STORE_LIMIT;
+use conf_pieces::{documents_are_read, documents_close, record_text};
+use conf_record::{Command, State, StoreFault, step, steps_are_counted_or_refused};
+use std::alloc::Global;
+
+/// Performs a command on the state of a store whose file has `size` bytes, and returns the command's record.
+///
+/// # Errors
+/// As [`step`], with the state unchanged.
+pub fn accept(
+    alloc: Global,
+    state: &mut State,
+    command: Command,
+    size: u64,
+) -> Result<String, StoreFault>
+    requires { size ≤ store_limit }
+    ensures ok { IfOk result (λ text.
+        IsAccepted state.old (command_of command) state.new size (string_bytes text)) }
+    ensures refused { IfErr result (λ fault.
+        (fault ≡ StoreFault.OutOfMemory) ⊎ (outcome size state.old (command_of command) ≡ Err fault)) }
+    ensures of_state { IfErr result IsOfState }
+    ensures unchanged { OnErr result (state.new ≡ state.old) }
+{
+    documents_are_read();
+    documents_close();
+    steps_are_counted_or_refused();
+    // At the greatest count the record is only measured: the command is refused.
+    let number = state.count().saturating_add(1);
+    let record = record_text(alloc, &command, number)?;
+    let fits = size + record.len() as u64 <= STORE_LIMIT;
+    match step(alloc, state, command, fits) {
+        Ok(()) => {
+            let _ = state.count();
+            Ok(record)
+        }
+        Err(fault) => Err(fault),
+    }
+}
