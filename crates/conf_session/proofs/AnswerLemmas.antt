@@ -1,0 +1,74 @@
+-- The texts of answers, and what they answer.
+use Rattle.std.proofs.Common.{◌≡◌, refl, sym, ◌∙◌, ap, arith, ◌≤◌, append_assoc}
+use Rattle.std.specs.Prelude.{ℕ, suc, List, [], ◌∷◌, ◌++◌, codes, Result, Ok, Err, String, Vec, string_bytes}
+use Rattle.std.specs.Str.{chars}
+use Rattle.std.specs.declared.alloc.Global.{Global}
+use Rattle.std.proofs.lemmas.List.{append-nil}
+use Rattle.yaml_grammar.specs.Trees.{Tree, text, sequence, Elements, no_element, element, depth, elements_depth}
+use Rattle.yaml_grammar.specs.Style.{key_lines, value_at}
+use Rattle.yaml_laws.specs.Closed.{framed_text}
+use Rattle.yaml_tree.specs.Seen.{tree_of, elements_of}
+use Rattle.yaml_tree.specs.declared.tree.Tree as code
+use Rattle.yaml_tree.proofs.SeenLemmas.{tree_of-Text, tree_of-Seq, join_elements, elements_of-append}
+use Rattle.tree_path.specs.Paths.{at, at_from, at_step, child, refusal}
+use Rattle.tree_path.specs.declared.place.Miss.{Miss}
+use Rattle.tree_path.proofs.Located.{child-within}
+use Rattle.conf_session.specs.Answers.{one, text_elements}
+
+-- ---- the text of an answer
+
+regroup : (a b c d : List ℕ) → ((a ++ b) ++ c) ++ d ≡ a ++ (((b ++ c) ++ []) ++ d)
+regroup a b c d =
+    append_assoc (a ++ b) c d ∙ append_assoc a b (c ++ d)
+    ∙ ap (λ l. a ++ l) (sym (append_assoc b c d) ∙ ap (λ l. l ++ d) (sym (append-nil (b ++ c))))
+
+pub framed-one : (key : List ℕ) (t : Tree) → ((codes "---\n" ++ key_lines 0 key) ++ value_at t 0) ++ codes "...\n" ≡ framed_text (one key t)
+framed-one key t = regroup (codes "---\n") (key_lines 0 key) (value_at t 0) (codes "...\n")
+
+-- ---- depths
+
+pub texts-shallow : (ns : List (List ℕ)) → elements_depth (text_elements ns) ≤ 1
+texts-shallow [] = omega arith
+texts-shallow (n ∷ ns) = let more = texts-shallow ns in omega (arith, more)
+
+at-within : (step : ℕ) (t v : Tree) (tokens : List (List ℕ)) → at_from step t tokens ≡ Ok v → depth v ≤ depth t
+at-within step t v [] e = let same : t ≡ v = cc in let deep = ap depth same in omega (arith, deep)
+at-within step t v (token ∷ tokens) e = by (child t token) (λ u. at-within (suc step) u v tokens) refl e
+  where
+    by : (r : Result Tree Miss) → ((u : Tree) → at_from (suc step) u tokens ≡ Ok v → depth v ≤ depth u) → child t token ≡ r
+        → at_step step r (λ u. at_from (suc step) u tokens) ≡ Ok v → depth v ≤ depth t
+    by (Ok u) rest is e = let deeper = rest u e in let here = (child-within t u token is).1 in omega (arith, deeper, here)
+    by (Err miss) rest is e = let never : Err (refusal miss step) ≡ Ok v = e in cc
+
+pub value-shallow : (t v : Tree) (tokens : List (List ℕ)) → at t tokens ≡ Ok v → depth t ≤ 66 → depth v ≤ 66
+value-shallow t v tokens e deep = let within = at-within 1 t v tokens e in omega (arith, within, deep)
+
+-- ---- names that are put into a list one after the other
+
+join-one : (a b : Elements) (t : Tree) → join_elements (join_elements a (element t no_element)) b ≡ join_elements a (element t b)
+join-one no_element b t = refl
+join-one (element u us) b t = ap (element u) (join-one us b t)
+
+join-none : (a : Elements) → join_elements a no_element ≡ a
+join-none no_element = refl
+join-none (element u us) = ap (element u) (join-none us)
+
+-- one name more is in the list, and one less is left
+pub names-more : (was now : List code.Tree) (left later : List (List ℕ)) (s : String Global) (name : List ℕ) → now ≡ was ++ code.Text s ∷ [] → left ≡ chars name ∷ later → string_bytes s ≡ name
+    → join_elements (elements_of now) (text_elements later) ≡ join_elements (elements_of was) (text_elements left)
+names-more was now left later s name pushed first bytes =
+    ap (λ ts. join_elements (elements_of ts) (text_elements later)) pushed
+    ∙ ap (λ es. join_elements es (text_elements later)) (elements_of-append was (code.Text s ∷ []))
+    ∙ join-one (elements_of was) (text_elements later) (tree_of (code.Text s))
+    ∙ ap (λ t. join_elements (elements_of was) (element t (text_elements later))) (tree_of-Text s ∙ ap (λ b. text (chars b)) bytes)
+    ∙ ap (λ l. join_elements (elements_of was) (text_elements l)) (sym first)
+
+-- none is left
+pub names-all : (names : Vec code.Tree Global) (left all : List (List ℕ)) → join_elements (elements_of names.items) (text_elements left) ≡ text_elements all → left ≡ []
+    → tree_of (code.Seq names) ≡ sequence (text_elements all)
+names-all names left all are none =
+    tree_of-Seq names
+    ∙ ap sequence (sym (join-none (elements_of names.items)) ∙ ap (λ l. join_elements (elements_of names.items) (text_elements l)) (sym none) ∙ are)
+
+pub names-shallow : (t : Tree) (all : List (List ℕ)) → t ≡ sequence (text_elements all) → depth t ≤ 66
+names-shallow t all is = let few = texts-shallow all in let same = ap depth is in omega (arith, few, same)

@@ -1,0 +1,32 @@
+-- Bytes that go out part by part.
+use Rattle.std.proofs.Common.{◌≡◌, sym, ◌∙◌, ap, subst, arith, ◌≤◌, append_assoc, take-append-drop}
+use Rattle.std.specs.Prelude.{ℕ, ◌+◌, List, [], ◌++◌, length, take, drop, Option, Some, None}
+use Rattle.std.specs.Io.KnownBytes.{Keeps, Appends}
+use Rattle.std.proofs.lemmas.List.{append-nil, take-take, drop-take, take_all}
+
+pub appends-none : (held : Option (List ℕ)) → Appends held held []
+appends-none None = tt
+appends-none (Some bytes) = sym (append-nil bytes)
+
+take-more : (bytes : List ℕ) (done n : ℕ) → take done bytes ++ take n (drop done bytes) ≡ take (done + n) bytes
+take-more bytes done n =
+    sym (sym (take-append-drop done (take (done + n) bytes))
+    ∙ ap (λ l. l ++ drop done (take (done + n) bytes)) (take-take done (done + n) bytes (omega arith))
+    ∙ ap (λ l. take done bytes ++ l) (drop-take done n bytes))
+
+pub appends-more : (held mid now : Option (List ℕ)) (bytes : List ℕ) (done n : ℕ) → Appends held mid (take done bytes) → Appends mid now (take n (drop done bytes))
+    → Appends held now (take (done + n) bytes)
+appends-more None mid now bytes done n first second = tt
+appends-more (Some xs) None now bytes done n first second = absurd first
+appends-more (Some xs) (Some ys) None bytes done n first second = absurd second
+appends-more (Some xs) (Some ys) (Some zs) bytes done n first second =
+    second ∙ ap (λ l. l ++ take n (drop done bytes)) first ∙ append_assoc xs (take done bytes) (take n (drop done bytes)) ∙ ap (λ l. xs ++ l) (take-more bytes done n)
+
+pub appends-kept : (held mid now : Option (List ℕ)) (bytes : List ℕ) → Appends held mid bytes → Keeps mid now → Appends held now bytes
+appends-kept None mid now bytes first second = tt
+appends-kept (Some xs) None now bytes first second = absurd first
+appends-kept (Some xs) (Some ys) None bytes first second = absurd second
+appends-kept (Some xs) (Some ys) (Some zs) bytes first second = second ∙ first
+
+pub appends-whole : (held now : Option (List ℕ)) (bytes : List ℕ) (done : ℕ) → length bytes ≤ done → Appends held now (take done bytes) → Appends held now bytes
+appends-whole held now bytes done le is = subst (Appends held now) (take_all done bytes le) is

@@ -1,0 +1,79 @@
+-- What is answered to requests that change nothing.
+use Rattle.std.proofs.Common.{◌≡◌, refl, sym, ◌∙◌, ap, ◌≤◌}
+use Rattle.std.specs.Prelude.{ℕ, List, codes, length, String, string_bytes, Ok, Err}
+use Rattle.std.specs.declared.alloc.Global.{Global}
+use Rattle.yaml_grammar.specs.Trees.{Tree, text, sequence}
+use Rattle.yaml_grammar.specs.Style.{style_text}
+use Rattle.yaml_laws.specs.Closed.{framed}
+use Rattle.tree_path.specs.Paths.{at}
+use Rattle.tree_path.specs.Pointers.{path_of}
+use Rattle.tree_path.specs.declared.fault.PathFault.{PathFault}
+use Rattle.conf_record.specs.States.{names_of}
+use Rattle.conf_record.specs.Steps.{and_then, by_path}
+use Rattle.conf_record.specs.declared.fault.StoreFault.{StoreFault}
+use Rattle.conf_record.specs.declared.fault.StoreFault.TheVariants.{Path}
+use Rattle.conf_store.specs.Calls.{tree_named}
+use Rattle.conf_session.specs.Requests.{getting, exporting, naming}
+use Rattle.conf_session.specs.Answers.{Stored, one, text_elements, answer_or_refusal, value_at_path, is_refused}
+use Rattle.conf_session.specs.Replies.{Replies, reply_limit}
+use Rattle.conf_session.specs.declared.reply.Reply.TheVariants.{Done, Refused}
+
+module _ (now : Stored) (name : List ℕ) where
+  value-reply : (p : List ℕ) (v : Tree) (written : String Global) → value_at_path now.state name p ≡ Ok v → string_bytes written ≡ framed (one (codes "value") v)
+      → length (string_bytes written) ≤ reply_limit → Replies now (getting name p) (Done written)
+  value-reply p v written e bytes short = record {
+    bytes = bytes ∙ ap (λ r. framed (answer_or_refusal (one (codes "value")) r)) (sym e);
+    accepted = refl;
+    refused = ap is_refused (sym e);
+    short = short;
+  }
+
+  value-refused : (p : List ℕ) (f : StoreFault) → value_at_path now.state name p ≡ Err f → Replies now (getting name p) (Refused f)
+  value-refused p f e = record {
+    bytes = ap (λ r. framed (answer_or_refusal (one (codes "value")) r)) (sym e);
+    accepted = refl;
+    refused = ap is_refused (sym e);
+    short = tt;
+  }
+
+  pub get-no_config : (p : List ℕ) (f : StoreFault) → tree_named now.state name ≡ Err f → Replies now (getting name p) (Refused f)
+  get-no_config p f e = value-refused p f (ap (λ r. and_then r (λ t. and_then (by_path (path_of p)) (λ tokens. by_path (at t tokens)))) e)
+
+  pub get-no_path : (p : List ℕ) (t : Tree) (f : PathFault) → tree_named now.state name ≡ Ok t → path_of p ≡ Err f → Replies now (getting name p) (Refused (Path f))
+  get-no_path p t f e wrong =
+      value-refused p (Path f) (ap (λ r. and_then r (λ u. and_then (by_path (path_of p)) (λ tokens. by_path (at u tokens)))) e
+      ∙ ap (λ r. and_then (by_path r) (λ tokens. by_path (at t tokens))) wrong)
+
+  module _ (p : List ℕ) (t : Tree) (tokens : List (List ℕ)) (e : tree_named now.state name ≡ Ok t) (path : path_of p ≡ Ok tokens) where
+    leads : value_at_path now.state name p ≡ by_path (at t tokens)
+    leads =
+        ap (λ r. and_then r (λ u. and_then (by_path (path_of p)) (λ ts. by_path (at u ts)))) e
+        ∙ ap (λ r. and_then (by_path r) (λ ts. by_path (at t ts))) path
+
+    pub get-value : (v : Tree) (written : String Global) → at t tokens ≡ Ok v → string_bytes written ≡ framed (one (codes "value") v)
+        → length (string_bytes written) ≤ reply_limit → Replies now (getting name p) (Done written)
+    get-value v written there = value-reply p v written (leads ∙ ap by_path there)
+
+    pub get-no_place : (f : PathFault) → at t tokens ≡ Err f → Replies now (getting name p) (Refused (Path f))
+    get-no_place f there = value-refused p (Path f) (leads ∙ ap by_path there)
+
+  pub export-text : (t : Tree) (written : String Global) → tree_named now.state name ≡ Ok t → string_bytes written ≡ framed (one (codes "text") (text (style_text t)))
+      → length (string_bytes written) ≤ reply_limit → Replies now (exporting name) (Done written)
+  export-text t written e bytes short = record {
+    bytes = bytes ∙ ap (λ r. framed (answer_or_refusal (λ u. one (codes "text") (text (style_text u))) r)) (sym e);
+    accepted = refl;
+    refused = ap is_refused (sym e);
+    short = short;
+  }
+
+  pub export-refused : (f : StoreFault) → tree_named now.state name ≡ Err f → Replies now (exporting name) (Refused f)
+  export-refused f e = record {
+    bytes = ap (λ r. framed (answer_or_refusal (λ u. one (codes "text") (text (style_text u))) r)) (sym e);
+    accepted = refl;
+    refused = ap is_refused (sym e);
+    short = tt;
+  }
+
+pub names-listed : (now : Stored) (written : String Global) → string_bytes written ≡ framed (one (codes "names") (sequence (text_elements (names_of now.state.configs))))
+    → length (string_bytes written) ≤ reply_limit → Replies now naming (Done written)
+names-listed now written bytes short = record { bytes = bytes; accepted = refl; refused = refl; short = short }

@@ -1,0 +1,397 @@
+-- The loop over the pieces of an input, and each of its exits.
+use Rattle.std.proofs.Common.{◌≡◌, refl, sym, ◌∙◌, ap, subst, arith, ◌≤◌, ◌<◌, append_assoc, length-append}
+use Rattle.std.specs.Prelude.{ℕ, ◌+◌, false, true, List, [], ◌∷◌, ◌++◌, length, take, Option, Ok, Err}
+use Rattle.std.specs.List.{concat}
+use Rattle.std.specs.Io.KnownBytes.{Appends, Keeps, Consumes}
+use Rattle.std.proofs.KnownBytes.{Appends-nil, Appends-trans, Appends-kept, Consumes-nil, Consumes-trans, Keeps-refl}
+use Rattle.std.proofs.lemmas.List.{append-nil, take-append-le, take_all}
+use Rattle.std.proofs.lemmas.List.Folds.{concat-append}
+use Rattle.std.proofs.lemmas.List.Elements.{All-nil}
+use Rattle.yaml_laws.specs.Closed.{framed}
+use Rattle.yaml_grammar.specs.Closings.{ClosesOnce}
+use Rattle.conf_disk.specs.Image.{Image, IsImage}
+use Rattle.conf_disk.specs.Folder.{Folder}
+use Rattle.conf_store.specs.Durable.{AllImagesMean}
+use Rattle.conf_store.specs.View.{StoreView}
+use Rattle.conf_session.specs.Input.{piece_limit, session_limit, ahead, held as piece_of, AdvancesToPiece, AdvancesToEnd, FailsToRead, FindsTooLong, FindsSessionLong, RunsOutOfMemory, Advances}
+use Rattle.conf_session.specs.Requests.{Request, Asks}
+use Rattle.conf_session.specs.Answers.{Stored, answer, output, stored_after_all, accepted, accepted_of, refused_of}
+use Rattle.conf_session.specs.Runs.{stored_of, ArePieces, Runs, BeginsWith}
+use Rattle.conf_session.specs.Replies.{Performs}
+use Rattle.conf_session.specs.Progress.{AreCounted, Passed, Answered, Fails}
+use Rattle.conf_session.specs.declared.fault.SessionFault.{SessionFault}
+use Rattle.conf_session.specs.declared.fault.SessionFault.TheVariants as fault
+use Rattle.conf_session.specs.declared.input.Input.{Input}
+use Rattle.conf_session.specs.declared.pieces.Counts.{Counts}
+use Rattle.conf_session.specs.declared.session.Tally.{Tally}
+use Rattle.conf_session.proofs.PassedLemmas.{pieces-last, passed-none, passed-more, moments-more, state-more, stored-more, reads-more, kept-all, kept-most, accepted-last, output-last, refusals-last, take-beyond}
+
+-- The bytes that were read are pieces, whose requests are performed and answered, and further bytes.
+pub record SoFar {D : Type 0} (honest : Type 0) (folder : D → Folder) (moment : D → ℕ) (since : D → ℕ → Image → Type 0) (given left held written : Option (List ℕ)) (old new : StoreView D)
+    (further : List ℕ) (counts : Counts) (total : ℕ) : Type 0 where
+  pub pieces : List (List ℕ)
+  pub requests : List Request
+  pub taken : Consumes given left (concat pieces ++ further)
+  pub are : ArePieces pieces requests
+  pub passed : Passed honest folder moment since held written old new requests
+  pub counted : AreCounted (stored_of old) requests counts
+  pub read : total ≡ length (concat pieces ++ further)
+
+-- more bytes were read
+taken-more : (given mid left : Option (List ℕ)) (front further more : List ℕ) → Consumes given mid (front ++ further) → Consumes mid left more → Consumes given left (front ++ (further ++ more))
+taken-more given mid left front further more one two =
+    subst (Consumes given left) (append_assoc front further more) (Consumes-trans given mid left (front ++ further) more one two)
+
+module _ {D : Type 0} (honest : Type 0) (folder : D → Folder) (moment : D → ℕ) (since : D → ℕ → Image → Type 0) where
+  pub so_far-none : (given held : Option (List ℕ)) (store : StoreView D) (further : List ℕ) (counts : Counts) (total : ℕ) → store.reopen ≡ false
+      → ((image : Image) → honest → since store.disk (moment store.disk) image → IsImage (folder store.disk) image)
+      → (honest → store.reopen ≡ false → AllImagesMean (folder store.disk) store.state) → further ≡ []
+      → counts.tally.documents ≡ 0 → counts.tally.accepted ≡ 0 → counts.tally.refused ≡ 0 → counts.written ≡ 0 → total ≡ 0
+      → SoFar honest folder moment since given given held held store store further counts total
+  so_far-none given held store further counts total off only means none d a r w t = record {
+    pieces = [];
+    requests = [];
+    taken = subst (Consumes given given) (sym none) (Consumes-nil given);
+    are = record { closed = All-nil ClosesOnce; short = All-nil (λ (p : List ℕ). length p ≤ piece_limit); ask = tt };
+    passed = passed-none honest folder moment since held store off only means;
+    counted = record { documents = d; accepted = a; refused = r; written = w };
+    read = t ∙ ap length (sym none);
+  }
+
+  module _ (given mid left held between : Option (List ℕ)) (old now : StoreView D) (was then : Input) (counts : Counts)
+      (s : SoFar honest folder moment since given mid held between old now (ahead was) counts was.total) where
+    -- ---- the exits that the input makes
+
+    pub ends-well : (tally : Tally) → AdvancesToEnd mid left was then
+        → (honest → now.reopen ≡ false → AllImagesMean (folder now.disk) now.state)
+        → tally.documents ≡ counts.tally.documents → tally.accepted ≡ counts.tally.accepted → tally.refused ≡ counts.tally.refused → tally.rest ≡ length (piece_of then)
+        → Runs honest folder moment since given left held between old now (Ok tally)
+    ends-well tally end means d a r rest = record {
+      answered = s.requests;
+      performed = s.requests;
+      ends = record {
+        bytes = concat s.pieces ++ (ahead was ++ end.more);
+        rest = piece_of then;
+        taken = taken-more given mid left (concat s.pieces) (ahead was) end.more s.taken end.taken;
+        at_end = end.at_end;
+        within = (let total = s.read in let size = length-append (concat s.pieces) (ahead was ++ end.more) in let front = length-append (concat s.pieces) (ahead was) in
+            let back = length-append (ahead was) end.more in let few = end.total in omega (arith, total, size, front, back, few));
+        input = record {
+          pieces = s.pieces;
+          cut = record { joined = ap (λ l. concat s.pieces ++ l) end.joined; closed = s.are.closed; unclosed = end.unclosed };
+          are = s.are;
+          short = end.short;
+        };
+        all = refl;
+        out = s.passed.out;
+        documents = d ∙ s.counted.documents;
+        accepted = a ∙ s.counted.accepted;
+        refused = r ∙ s.counted.refused;
+        unclosed = rest;
+      };
+      state = ap (λ (t : Stored). t.state) s.passed.stored;
+      size = λ on. ap (λ (t : Stored). t.size) s.passed.stored;
+      reads = λ h on. s.passed.reads h;
+      any_moment = λ h on. s.passed.any_moment h;
+      kept = λ h on. kept-all honest folder moment since old now s.requests (length (accepted (stored_of old) s.requests)) (omega arith) s.passed.stored s.passed.sound means h;
+    }
+
+    ends-reading : FailsToRead mid left was → (honest → now.reopen ≡ false → AllImagesMean (folder now.disk) now.state)
+        → Runs honest folder moment since given left held between old now (Err fault.Read)
+    ends-reading fails means = record {
+      answered = s.requests;
+      performed = s.requests;
+      ends = record {
+        bytes = concat s.pieces ++ (ahead was ++ fails.more);
+        taken = taken-more given mid left (concat s.pieces) (ahead was) fails.more s.taken fails.taken;
+        shows = record {
+          rest = ahead was ++ fails.more;
+          input = record { pieces = s.pieces; cut = record { joined = refl; closed = s.are.closed; unclosed = fails.unclosed }; are = s.are; short = fails.short };
+        };
+        all = refl;
+        out = s.passed.out;
+      };
+      state = ap (λ (t : Stored). t.state) s.passed.stored;
+      size = λ on. ap (λ (t : Stored). t.size) s.passed.stored;
+      reads = λ h on. s.passed.reads h;
+      any_moment = λ h on. s.passed.any_moment h;
+      kept = λ h on. kept-all honest folder moment since old now s.requests (length (accepted (stored_of old) s.requests)) (omega arith) s.passed.stored s.passed.sound means h;
+    }
+
+    ends-too_long : FindsTooLong mid left was → (honest → now.reopen ≡ false → AllImagesMean (folder now.disk) now.state)
+        → Runs honest folder moment since given left held between old now (Err fault.TooLong)
+    ends-too_long finds means = record {
+      answered = s.requests;
+      performed = s.requests;
+      ends = record {
+        bytes = concat s.pieces ++ (ahead was ++ finds.more);
+        taken = taken-more given mid left (concat s.pieces) (ahead was) finds.more s.taken finds.taken;
+        shows = record { pieces = s.pieces; further = ahead was ++ finds.more; is = refl; are = s.are; overlong = finds.overlong };
+        all = refl;
+        out = s.passed.out;
+      };
+      state = ap (λ (t : Stored). t.state) s.passed.stored;
+      size = λ on. ap (λ (t : Stored). t.size) s.passed.stored;
+      reads = λ h on. s.passed.reads h;
+      any_moment = λ h on. s.passed.any_moment h;
+      kept = λ h on. kept-all honest folder moment since old now s.requests (length (accepted (stored_of old) s.requests)) (omega arith) s.passed.stored s.passed.sound means h;
+    }
+
+    ends-session_long : FindsSessionLong mid left was → (honest → now.reopen ≡ false → AllImagesMean (folder now.disk) now.state)
+        → Runs honest folder moment since given left held between old now (Err fault.SessionLong)
+    ends-session_long finds means =
+        let rest = ahead was ++ finds.more in
+        let front = concat s.pieces ++ rest in
+        let bytes = concat s.pieces ++ (ahead was ++ (finds.more ++ finds.beyond)) in
+        let split : bytes ≡ front ++ finds.beyond = ap (λ l. concat s.pieces ++ l) (sym (append_assoc (ahead was) finds.more finds.beyond)) ∙ sym (append_assoc (concat s.pieces) rest finds.beyond) in
+        let size : length front ≡ session_limit = (let total = s.read in let full = finds.full in let one = length-append (concat s.pieces) rest in let two = length-append (concat s.pieces) (ahead was) in
+        let three = length-append (ahead was) finds.more in omega (arith, total, full, one, two, three)) in
+        let within : take session_limit bytes ≡ front =
+        ap (take session_limit) split ∙ take-append-le session_limit front finds.beyond (omega (arith, size)) ∙ take_all session_limit front (omega (arith, size)) in
+        record {
+          answered = s.requests;
+          performed = s.requests;
+          ends = record {
+            bytes = bytes;
+            taken = taken-more given mid left (concat s.pieces) (ahead was) (finds.more ++ finds.beyond) s.taken finds.taken;
+            shows = record {
+              input = record {
+                rest = rest;
+                input = record { pieces = s.pieces; cut = record { joined = within; closed = s.are.closed; unclosed = finds.unclosed }; are = s.are; short = finds.short };
+              };
+              long = (let all = ap length split in let more = length-append front finds.beyond in let some = finds.some in omega (arith, all, more, size, some));
+            };
+            all = refl;
+            out = s.passed.out;
+          };
+          state = ap (λ (t : Stored). t.state) s.passed.stored;
+          size = λ on. ap (λ (t : Stored). t.size) s.passed.stored;
+          reads = λ h on. s.passed.reads h;
+          any_moment = λ h on. s.passed.any_moment h;
+          kept = λ h on. kept-all honest folder moment since old now s.requests (length (accepted (stored_of old) s.requests)) (omega arith) s.passed.stored s.passed.sound means h;
+        }
+
+    ends-starved : RunsOutOfMemory mid left → (honest → now.reopen ≡ false → AllImagesMean (folder now.disk) now.state)
+        → Runs honest folder moment since given left held between old now (Err fault.OutOfMemory)
+    ends-starved out means = record {
+      answered = s.requests;
+      performed = s.requests;
+      ends = record {
+        bytes = concat s.pieces ++ (ahead was ++ out.more);
+        taken = taken-more given mid left (concat s.pieces) (ahead was) out.more s.taken out.taken;
+        begins = record { pieces = s.pieces; further = ahead was ++ out.more; is = refl; are = subst (ArePieces s.pieces) (sym (append-nil s.requests)) s.are };
+        all = sym (append-nil s.requests);
+        out = s.passed.out;
+      };
+      state = ap (λ (t : Stored). t.state) s.passed.stored;
+      size = λ on. ap (λ (t : Stored). t.size) s.passed.stored;
+      reads = λ h on. s.passed.reads h;
+      any_moment = λ h on. s.passed.any_moment h;
+      kept = λ h on. kept-all honest folder moment since old now s.requests (length (accepted (stored_of old) s.requests)) (omega arith) s.passed.stored s.passed.sound means h;
+    }
+
+    -- the input has no further piece for a reason
+    pub ends-in_input : (f : SessionFault) → Advances mid left was then (Err f) → (honest → now.reopen ≡ false → AllImagesMean (folder now.disk) now.state)
+        → Runs honest folder moment since given left held between old now (Err f)
+    ends-in_input fault.Read fails means = ends-reading fails means
+    ends-in_input fault.TooLong fails means = ends-too_long fails means
+    ends-in_input fault.SessionLong fails means = ends-session_long fails means
+    ends-in_input fault.OutOfMemory fails means = ends-starved fails means
+    ends-in_input fault.Device fails means = absurd fails
+    ends-in_input fault.Reopen fails means = absurd fails
+    ends-in_input (fault.Write written) fails means = absurd fails
+
+    -- ---- a piece more
+
+    module _ (advances : AdvancesToPiece mid left was then) where
+      -- what was read, with the piece behind the others
+      joined-more : concat s.pieces ++ (ahead was ++ advances.more) ≡ concat (s.pieces ++ piece_of then ∷ []) ++ ahead then
+      joined-more =
+          ap (λ l. concat s.pieces ++ l) advances.joined ∙ sym (append_assoc (concat s.pieces) (piece_of then) (ahead then))
+          ∙ ap (λ l. l ++ ahead then) (ap (λ l. concat s.pieces ++ l) (sym (append-nil (piece_of then))) ∙ sym (concat-append s.pieces (piece_of then ∷ [])))
+
+      all-taken : Consumes given left (concat (s.pieces ++ piece_of then ∷ []) ++ ahead then)
+      all-taken = subst (Consumes given left) joined-more (taken-more given mid left (concat s.pieces) (ahead was) advances.more s.taken advances.taken)
+
+      pub so_far-more : (written : Option (List ℕ)) (new : StoreView D) (after : Counts) → Answered honest folder moment since between written now new (piece_of then) counts after
+          → SoFar honest folder moment since given left held written old new (ahead then) after then.total
+      so_far-more written new after one =
+          let start = stored_of old in
+          let rs = s.requests in
+          let r = one.request in
+          let here = s.passed.stored in
+          record {
+            pieces = s.pieces ++ piece_of then ∷ [];
+            requests = rs ++ r ∷ [];
+            taken = all-taken;
+            are = pieces-last s.pieces rs (piece_of then) r s.are advances.piece advances.short one.asks;
+            passed = passed-more honest folder moment since held between old now new rs r s.passed one.performs written one.out one.sound;
+            counted = record {
+              documents = one.documents ∙ ap (λ n. n + 1) s.counted.documents ∙ sym (length-append rs (r ∷ []));
+              accepted = (let same = ap (λ t. length (accepted_of t r)) here in let last = ap length (accepted-last start rs r) in
+                  let sum = length-append (accepted start rs) (accepted_of (stored_after_all start rs) r) in
+                  omega (arith, one.accepted, s.counted.accepted, same, last, sum));
+              refused = (let same = ap (λ t. refused_of t r) here in omega (arith, one.refused, s.counted.refused, same, refusals-last start rs r));
+              written = (let same = ap (λ t. length (framed (answer t r))) here in let last = ap length (output-last start rs r) in
+                  let sum = length-append (output start rs) (framed (answer (stored_after_all start rs) r)) in
+                  omega (arith, one.sent, s.counted.written, same, last, sum));
+            };
+            read = (let all = ap length joined-more in let before = s.read in let grown = advances.total in
+                let one = length-append (concat s.pieces) (ahead was ++ advances.more) in let two = length-append (concat s.pieces) (ahead was) in
+                let three = length-append (ahead was) advances.more in omega (arith, all, before, grown, one, two, three));
+          }
+
+      -- ---- its exits
+
+      begins-more : (r : Request) → Asks (piece_of then) r → BeginsWith (concat (s.pieces ++ piece_of then ∷ []) ++ ahead then) (s.requests ++ r ∷ [])
+      begins-more r asks = record {
+        pieces = s.pieces ++ piece_of then ∷ [];
+        further = ahead then;
+        is = refl;
+        are = pieces-last s.pieces s.requests (piece_of then) r s.are advances.piece advances.short asks;
+      }
+
+      ends-memory : (written : Option (List ℕ)) (new : StoreView D) → new ≡ now → Keeps between written → (honest → new.reopen ≡ false → AllImagesMean (folder new.disk) new.state)
+          → Runs honest folder moment since given left held written old new (Err fault.OutOfMemory)
+      ends-memory written new same keeps means =
+          subst (λ (t : StoreView D). (honest → t.reopen ≡ false → AllImagesMean (folder t.disk) t.state) → Runs honest folder moment since given left held written old t (Err fault.OutOfMemory)) (sym same)
+          (λ there. record {
+            answered = s.requests;
+            performed = s.requests;
+            ends = record {
+              bytes = concat s.pieces ++ (ahead was ++ advances.more);
+              taken = taken-more given mid left (concat s.pieces) (ahead was) advances.more s.taken advances.taken;
+              begins = record { pieces = s.pieces; further = ahead was ++ advances.more; is = refl; are = subst (ArePieces s.pieces) (sym (append-nil s.requests)) s.are };
+              all = sym (append-nil s.requests);
+              out = Appends-kept held between written (output (stored_of old) s.requests) s.passed.out keeps;
+            };
+            state = ap (λ (t : Stored). t.state) s.passed.stored;
+            size = λ on. ap (λ (t : Stored). t.size) s.passed.stored;
+            reads = λ h on. s.passed.reads h;
+            any_moment = λ h on. s.passed.any_moment h;
+            kept = λ h on. kept-all honest folder moment since old now s.requests (length (accepted (stored_of old) s.requests)) (omega arith) s.passed.stored s.passed.sound there h;
+          })
+          means
+
+      ends-device : (written : Option (List ℕ)) (new : StoreView D) (r : Request) → Asks (piece_of then) r → new.reopen ≡ true → Performs honest folder moment since now new r → Keeps between written
+          → ((t : ℕ) (image : Image) → honest → t ≤ moment new.disk → IsImage (folder new.disk) image → since new.disk t image)
+          → Runs honest folder moment since given left held written old new (Err fault.Device)
+      ends-device written new r asks broken does keeps counts_now = record {
+        answered = s.requests;
+        performed = s.requests ++ r ∷ [];
+        ends = (
+          r,
+          record {
+            bytes = concat (s.pieces ++ piece_of then ∷ []) ++ ahead then;
+            taken = all-taken;
+            begins = begins-more r asks;
+            all = refl;
+            out = Appends-kept held between written (output (stored_of old) s.requests) s.passed.out keeps;
+          },
+        );
+        state = state-more honest folder moment since held between old now new s.requests r s.passed does;
+        size = λ on. absurd (cc (on, broken));
+        reads = λ h on. absurd (cc (on, broken));
+        any_moment = λ h on. moments-more honest folder moment since held between old now new s.requests r s.passed does h;
+        kept = λ h on image is.
+            (let run = does.any_moment h in
+            kept-most honest folder moment since held between old now new s.requests r s.passed does image (run.each image (counts_now (moment now.disk) image h run.later is)));
+      }
+
+      ends-write : (written : Option (List ℕ)) (new : StoreView D) (r : Request) (count total : ℕ) → Asks (piece_of then) r → new.reopen ≡ false → Performs honest folder moment since now new r
+          → total ≡ counts.written + count → count < length (framed (answer (stored_of now) r)) → Appends between written (take count (framed (answer (stored_of now) r)))
+          → (honest → new.reopen ≡ false → AllImagesMean (folder new.disk) new.state)
+          → Runs honest folder moment since given left held written old new (Err (fault.Write total))
+      ends-write written new r count total asks off does is short out means =
+          let start = stored_of old in
+          let rs = s.requests in
+          let before = output start rs in
+          let one = framed (answer (stored_of now) r) in
+          let all : output start (rs ++ r ∷ []) ≡ before ++ one = output-last start rs r ∙ ap (λ t. before ++ framed (answer t r)) (sym s.passed.stored) in
+          let long = ap length all ∙ length-append before one in
+          let sum = s.counted.written in
+          let front : take total (output start (rs ++ r ∷ [])) ≡ before ++ take count one =
+          ap (take total) all ∙ ap (λ n. take n (before ++ one)) (is ∙ ap (λ n. n + count) sum) ∙ take-beyond count before one in
+          let stored = stored-more honest folder moment since held between old now new rs r s.passed does off in
+          record {
+            answered = rs;
+            performed = rs ++ r ∷ [];
+            ends = record {
+              bytes = concat (s.pieces ++ piece_of then ∷ []) ++ ahead then;
+              taken = all-taken;
+              last = r;
+              begins = begins-more r asks;
+              all = refl;
+              out = subst (Appends held written) (sym front) (Appends-trans held between written before (take count one) s.passed.out out);
+              whole = omega (arith, is, sum);
+              cut = omega (arith, is, sum, long, short);
+            };
+            state = ap (λ (t : Stored). t.state) stored;
+            size = λ on. ap (λ (t : Stored). t.size) stored;
+            reads = λ h on. reads-more honest folder moment since held between old now new rs r s.passed does h off;
+            any_moment = λ h on. moments-more honest folder moment since held between old now new rs r s.passed does h;
+            kept = λ h on. kept-all honest folder moment since old new (rs ++ r ∷ []) (length (accepted start rs))
+                (let last = ap length (accepted-last start rs r) ∙ length-append (accepted start rs) (accepted_of (stored_after_all start rs) r) in omega (arith, last)) stored off means h;
+          }
+
+      -- the piece has no answer that was written whole
+      pub ends-failing : (written : Option (List ℕ)) (new : StoreView D) (f : SessionFault) → Fails honest folder moment since between written now new (piece_of then) counts.written f
+          → (honest → new.reopen ≡ false → AllImagesMean (folder new.disk) new.state)
+          → ((t : ℕ) (image : Image) → honest → t ≤ moment new.disk → IsImage (folder new.disk) image → since new.disk t image)
+          → Runs honest folder moment since given left held written old new (Err f)
+      ends-failing written new fault.OutOfMemory fails means counts_now = ends-memory written new fails.0 fails.1 means
+      ends-failing written new fault.Device fails means counts_now = ends-device written new fails.0 fails.1 fails.2 fails.3 fails.4 counts_now
+      ends-failing written new (fault.Write total) fails means counts_now =
+          ends-write written new fails.0 fails.4 total fails.1 fails.2 fails.3 fails.5 fails.6 fails.7 means
+      ends-failing written new fault.Read fails means counts_now = absurd fails
+      ends-failing written new fault.TooLong fails means counts_now = absurd fails
+      ends-failing written new fault.SessionLong fails means counts_now = absurd fails
+      ends-failing written new fault.Reopen fails means counts_now = absurd fails
+
+  -- ---- nothing is done
+
+  pub reopens : (given held : Option (List ℕ)) (store : StoreView D) → (store.reopen ≡ false → ⊥) → Runs honest folder moment since given given held held store store (Err fault.Reopen)
+  reopens given held store broken = record {
+    answered = [];
+    performed = [];
+    ends = (Keeps-refl given, Keeps-refl held, refl, refl);
+    state = refl;
+    size = λ on. refl;
+    reads = λ h on. refl;
+    any_moment = λ h on. absurd (broken on);
+    kept = λ h on. absurd (broken on);
+  }
+
+  pub starts-without-memory : (given held : Option (List ℕ)) (store : StoreView D) → store.reopen ≡ false
+      → ((image : Image) → honest → since store.disk (moment store.disk) image → IsImage (folder store.disk) image)
+      → (honest → store.reopen ≡ false → AllImagesMean (folder store.disk) store.state)
+      → Runs honest folder moment since given given held held store store (Err fault.OutOfMemory)
+  starts-without-memory given held store off only means =
+      let passed = passed-none honest folder moment since held store off only means in
+      record {
+        answered = [];
+        performed = [];
+        ends = record {
+          bytes = [];
+          taken = Consumes-nil given;
+          begins = record { pieces = []; further = []; is = refl; are = record { closed = All-nil ClosesOnce; short = All-nil (λ (p : List ℕ). length p ≤ piece_limit); ask = tt } };
+          all = refl;
+          out = Appends-nil held;
+        };
+        state = refl;
+        size = λ on. refl;
+        reads = λ h on. refl;
+        any_moment = λ h on. passed.any_moment h;
+        kept = λ h on. kept-all honest folder moment since store store [] 0 (omega arith) refl off means h;
+      }
+
+-- a piece has at least one byte, so less of the input is left after it
+pub longer-piece : (given left : Option (List ℕ)) (was next : Input) → AdvancesToPiece given left was next
+    → was.total + length (ahead next) + 4 ≤ next.total + length (ahead was)
+longer-piece given left was next advances =
+    let joined = ap length advances.joined in
+    let one = length-append (ahead was) advances.more in
+    let two = length-append (piece_of next) (ahead next) in
+    let piece = advances.piece.closes.ends in
+    let grown = advances.total in
+    omega (arith, joined, one, two, piece, grown)

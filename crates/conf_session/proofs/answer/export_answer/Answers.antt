@@ -1,0 +1,30 @@
+use Rattle.std.proofs.Common.{rules, ◌≡◌, ◌≢◌, ⊎_elim, refl, ap, ◌∙◌}
+use Rattle.std.specs.Prelude.{codes}
+use Rattle.std.specs.Str.{chars}
+use Rattle.yaml_grammar.specs.Style.{style_text}
+use Rattle.yaml_grammar.specs.Trees.{text}
+use Rattle.yaml_laws.specs.Closed.{framed}
+use Rattle.yaml_tree.specs.Seen.{tree_of}
+use Rattle.yaml_tree.specs.declared.tree.Tree.{Text}
+use Rattle.yaml_tree.proofs.SeenLemmas.{tree_of-Text}
+use Rattle.conf_record.specs.declared.fault.StoreFault.TheVariants.{OutOfMemory}
+use Rattle.conf_record.proofs.LineLemmas.{ascii}
+use Rattle.conf_session.specs.Answers.{one}
+use Rattle.conf_session.specs.Runs.{stored_of}
+use Rattle.conf_session.proofs.ReplyLemmas.{export-text, export-refused}
+use Rattle.conf_session.proofs.answer.export_answer.Goals as goal
+
+pub returns-in_ok-answer-in-Ok : goal.returns-in_ok-answer-in-Ok
+returns-in_ok-answer-in-Ok g c =
+    let written = c.in-Ok.text in
+    let exports = c.in-Ok.ensures.ok in
+    let spelled : tree_of (Text written) ≡ text (style_text exports.tree) = tree_of-Text written ∙ ap text exports.style in
+    export-text (stored_of c.args.store.now) (chars c.args.name.now) exports.tree c.in_ok-answer-in-Ok.field-0 exports.is
+    (c.in_ok-answer-in-Ok.ensures.bytes ∙ ap (λ k. framed (one k (tree_of (Text written)))) (ascii (codes "text") refl) ∙ ap (λ t. framed (one (codes "text") t)) spelled)
+    c.in_ok-answer-in-Ok.ensures.short
+
+pub returns-in-Err : goal.returns-in-Err
+returns-in-Err g c =
+    let some : c.in-Err.fault ≢ OutOfMemory = search rules in
+    export-refused (stored_of c.args.store.now) (chars c.args.name.now) c.in-Err.fault
+    (⊎_elim (λ memory. absurd (some memory)) (λ is. is) c.in-Err.ensures.refused)

@@ -1,0 +1,12 @@
+-- The names so far and those that are left are all names.
+use Rattle.std.proofs.Common.{◌≡◌}
+use Rattle.conf_record.specs.States.{names_of}
+use Rattle.yaml_tree.specs.Seen.{elements_of}
+use Rattle.yaml_tree.proofs.SeenLemmas.{join_elements}
+use Rattle.conf_session.specs.Answers.{text_elements}
+use Rattle.conf_session.proofs.answer.names_answer.Given as goal
+
+abbrev pub invariant-loop-name : goal.invariant-loop-name
+invariant-loop-name g l =
+    join_elements (elements_of l.names.items) (text_elements l.name-iterator)
+    ≡ text_elements (names_of l.store.state.configs)

@@ -1,0 +1,35 @@
+-- What the store did with the command.
+use Rattle.std.proofs.Common.{◌≡◌, ap, ◌∙◌, subst, true, ◌+◌}
+use Rattle.std.specs.Prelude.{min, Ok, Err}
+use Rattle.conf_record.specs.Commands.{command_of}
+use Rattle.conf_record.specs.States.{count_limit}
+use Rattle.conf_store.specs.Calls.{RefusesCommand, outcome, has_room}
+use Rattle.conf_session.specs.Runs.{stored_of}
+use Rattle.conf_session.proofs.RequestLemmas.{count-after, accepted-reply, command-performed}
+use Rattle.conf_session.proofs.reply.change.Goals as goal
+
+pub returns-in-Ok-clause-did : goal.returns-in-Ok-clause-did
+returns-in-Ok-clause-did g c off =
+    let d = g.D.Disk in
+    let old = c.args.store.now in
+    let new = c.apply.new.self in
+    let command = command_of c.args.command in
+    let ok = c.in-Ok.ensures.ok.0 in
+    let next : c.saturating_add-next.result ≡ min (old.state.count + 1) count_limit = c.saturating_add-next.ensures ∙ ap (λ n. min (n + 1) count_limit) c.count.ensures in
+    let same = count-after old.state new.state command (has_room old.size old.state command) c.saturating_add-next.result ok.step ok.count next in (
+      accepted-reply (stored_of old) new.state command c.in_ok-answer.answer c.saturating_add-next.result ok.step same c.in_ok-answer.ensures.bytes c.in_ok-answer.ensures.short,
+      ok.reopen,
+      command-performed d.honest d.folder d.moment d.left old new command ok.step (λ on. ok.size) (λ h on. c.in-Ok.ensures.reads h off) (λ h. c.in-Ok.ensures.any_moment h off),
+    )
+
+pub returns-in-Err-Device-clause-did : goal.returns-in-Err-Device-clause-did
+returns-in-Err-Device-clause-did g c off =
+    let d = g.D.Disk in
+    let old = c.args.store.now in
+    let new = c.apply.new.self in
+    let command = command_of c.args.command in
+    let broken : new.reopen ≡ true = c.in-Err-Device.ensures.device (ap Err c.in-Err-Device.field-0-is) in
+    let done : outcome old.size old.state command ≡ Ok new.state = subst (RefusesCommand old command new) c.in-Err-Device.field-0-is c.in-Err-Device.ensures.refused in (
+      broken,
+      command-performed d.honest d.folder d.moment d.left old new command done (λ on. absurd (cc (on, broken))) (λ h on. absurd (cc (on, broken))) (λ h. c.in-Err-Device.ensures.any_moment h off),
+    )

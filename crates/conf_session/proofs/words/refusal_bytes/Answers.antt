@@ -1,0 +1,8 @@
+use Rattle.std.proofs.Common.{sym, ap, ◌∙◌}
+use Rattle.yaml_laws.specs.Closed.{framed}
+use Rattle.conf_session.specs.Answers.{refusal, word}
+use Rattle.conf_session.proofs.WordLemmas.{spelled-JournalLong}
+use Rattle.conf_session.proofs.words.refusal_bytes.Goals as goal
+
+pub returns-in-JournalLong-clause-bytes : goal.returns-in-JournalLong-clause-bytes
+returns-in-JournalLong-clause-bytes c = sym (ap (λ f. framed (refusal (word f))) c.in-JournalLong.is ∙ spelled-JournalLong)

@@ -1,0 +1,168 @@
+-- What a session answers, and what is stored then. All of it is computed from the requests.
+use Rattle.std.specs.Prelude.{ℕ, ◌+◌, if◌then◌else◌, List, [], ◌∷◌, ◌++◌, length, codes, decimal, Option, Some, Result, Ok, Err}
+use Rattle.std.specs.List.{concat}
+use Rattle.yaml_grammar.specs.Trees.{Tree, text, sequence, mapping, Elements, no_element, element, no_member, member}
+use Rattle.yaml_grammar.specs.Style.{style_text}
+use Rattle.yaml_laws.specs.Closed.{framed}
+use Rattle.yaml_docs.specs.declared.fault.ReadFault.{ReadFault}
+use Rattle.yaml_docs.specs.declared.fault.ReadFault.TheVariants as read
+use Rattle.tree_path.specs.declared.fault.PathFault.{PathFault}
+use Rattle.tree_path.specs.declared.fault.PathFault.TheVariants as path
+use Rattle.tree_path.specs.Paths.{at}
+use Rattle.tree_path.specs.Pointers.{path_of}
+use Rattle.conf_journal.specs.Store.{extended}
+use Rattle.conf_record.specs.Commands.{Command}
+use Rattle.conf_record.specs.Names.{good_name}
+use Rattle.conf_record.specs.States.{Contents, names_of}
+use Rattle.conf_record.specs.Steps.{and_then, by_path}
+use Rattle.conf_record.specs.declared.fault.StoreFault.{StoreFault}
+use Rattle.conf_record.specs.declared.fault.StoreFault.TheVariants as store
+use Rattle.conf_record.specs.BaseTexts.{base_bytes}
+use Rattle.conf_store.specs.Calls.{outcome, next_record, tree_named}
+use Rattle.conf_session.specs.Requests.{Request, changing, unread, getting, exporting, naming, checkpointing, bad}
+
+-- ---- the words of refusals: the innermost fault's own name. The others are never answered.
+
+abbrev pub read_word : ReadFault → List ℕ
+read_word read.TooLong = codes "TooLong"
+read_word (read.NotUtf8 at) = codes "NotUtf8"
+read_word (read.Syntax line column why) = codes "Syntax"
+read_word (read.Documents count) = codes "Documents"
+read_word read.KeyNotText = codes "KeyNotText"
+read_word read.KeyTwice = codes "KeyTwice"
+read_word read.TooDeep = codes "TooDeep"
+read_word read.LargeInStyle = codes "LargeInStyle"
+read_word read.OutOfMemory = []
+
+abbrev pub path_word : PathFault → List ℕ
+path_word (path.BadPath at) = codes "BadPath"
+path_word (path.NoSuchPlace step) = codes "NoSuchPlace"
+path_word (path.NotIndex step) = codes "NotIndex"
+path_word path.OutOfMemory = []
+
+abbrev pub word : StoreFault → List ℕ
+word store.BadName = codes "BadName"
+word store.NoConfig = codes "NoConfig"
+word (store.Path fault) = path_word fault
+word (store.Read fault) = read_word fault
+word store.TooDeep = codes "TooDeep"
+word store.ConfigLarge = codes "ConfigLarge"
+word store.StoreFull = codes "StoreFull"
+word store.JournalLong = codes "JournalLong"
+word store.CountFull = codes "CountFull"
+word store.Reopen = []
+word store.Device = []
+word store.OutOfMemory = []
+
+-- ---- one answer: a mapping of one key
+
+abbrev pub one : List ℕ → Tree → Tree
+one key value = mapping (member key value no_member)
+
+abbrev pub refusal : List ℕ → Tree
+refusal word = one (codes "refused") (text word)
+
+abbrev pub text_elements : List (List ℕ) → Elements
+text_elements [] = no_element
+text_elements (t ∷ ts) = element (text t) (text_elements ts)
+
+abbrev pub answer_or_refusal : {A : Type 0} → (A → Tree) → Result A StoreFault → Tree
+answer_or_refusal answer (Ok x) = answer x
+answer_or_refusal answer (Err fault) = refusal (word fault)
+
+-- the tree at a path, whose text may be that of no path
+abbrev pub value_at_path : Contents → List ℕ → List ℕ → Result Tree StoreFault
+value_at_path s name p = and_then (tree_named s name) (λ t. and_then (by_path (path_of p)) (λ tokens. by_path (at t tokens)))
+
+-- the state, and how many bytes `store.yaml` has
+pub record Stored : Type 0 where
+  pub state : Contents
+  pub size : ℕ
+
+-- why an import is refused whose text is: a bad name comes first
+abbrev pub unread_fault : List ℕ → ReadFault → StoreFault
+unread_fault name fault = if good_name name then store.Read fault else store.BadName
+
+abbrev pub change_answer : Result Contents StoreFault → Tree
+change_answer r = answer_or_refusal (λ (new : Contents). one (codes "ok") (text (decimal new.count))) r
+
+abbrev pub answer : Stored → Request → Tree
+answer now (changing command) = change_answer (outcome now.size now.state command)
+answer now (unread name fault) = refusal (word (unread_fault name fault))
+answer now (getting name p) = answer_or_refusal (one (codes "value")) (value_at_path now.state name p)
+answer now (exporting name) = answer_or_refusal (λ t. one (codes "text") (text (style_text t))) (tree_named now.state name)
+answer now naming = one (codes "names") (sequence (text_elements (names_of now.state.configs)))
+answer now checkpointing = one (codes "ok") (text (decimal now.state.count))
+answer now bad = refusal (codes "BadCommand")
+
+-- ---- what is stored after a request
+
+abbrev pub changed : Stored → Command → Result Contents StoreFault → Stored
+changed now command (Ok new) = record { state = new; size = now.size + length (next_record now.state command) }
+changed now command (Err fault) = now
+
+abbrev pub stored_after : Stored → Request → Stored
+stored_after now (changing command) = changed now command (outcome now.size now.state command)
+stored_after now checkpointing = record { state = now.state; size = length (base_bytes now.state) }
+stored_after now request = now
+
+-- ---- what `store.yaml` reads as after a request
+
+abbrev pub file_changed : Option (List ℕ) → Stored → Command → Result Contents StoreFault → Option (List ℕ)
+file_changed file now command (Ok new) = extended file (next_record now.state command)
+file_changed file now command (Err fault) = file
+
+-- an accepted command appends its record, a checkpoint puts a base in the file's place, and all else leaves it
+abbrev pub file_after : Option (List ℕ) → Stored → Request → Option (List ℕ)
+file_after file now (changing command) = file_changed file now command (outcome now.size now.state command)
+file_after file now checkpointing = Some (base_bytes now.state)
+file_after file now request = file
+
+-- ---- requests, one after the other
+
+-- the bytes of each answer
+abbrev pub answers : Stored → List Request → List (List ℕ)
+answers now [] = []
+answers now (request ∷ requests) = framed (answer now request) ∷ answers (stored_after now request) requests
+
+-- the bytes of all answers
+abbrev pub output : Stored → List Request → List ℕ
+output now requests = concat (answers now requests)
+
+abbrev pub stored_after_all : Stored → List Request → Stored
+stored_after_all now [] = now
+stored_after_all now (request ∷ requests) = stored_after_all (stored_after now request) requests
+
+abbrev pub file_after_all : Option (List ℕ) → Stored → List Request → Option (List ℕ)
+file_after_all file now [] = file
+file_after_all file now (request ∷ requests) = file_after_all (file_after file now request) (stored_after now request) requests
+
+abbrev pub accepted_by : Result Contents StoreFault → Command → List Command
+accepted_by (Ok new) command = command ∷ []
+accepted_by (Err fault) command = []
+
+-- the command of a request, if it is accepted
+abbrev pub accepted_of : Stored → Request → List Command
+accepted_of now (changing command) = accepted_by (outcome now.size now.state command) command
+accepted_of now request = []
+
+abbrev pub accepted : Stored → List Request → List Command
+accepted now [] = []
+accepted now (request ∷ requests) = accepted_of now request ++ accepted (stored_after now request) requests
+
+abbrev pub is_refused : {A : Type 0} → Result A StoreFault → ℕ
+is_refused (Ok x) = 0
+is_refused (Err fault) = 1
+
+-- whether a request is answered by a refusal: 1 or 0
+abbrev pub refused_of : Stored → Request → ℕ
+refused_of now (changing command) = is_refused (outcome now.size now.state command)
+refused_of now (unread name fault) = 1
+refused_of now (getting name p) = is_refused (value_at_path now.state name p)
+refused_of now (exporting name) = is_refused (tree_named now.state name)
+refused_of now bad = 1
+refused_of now request = 0
+
+abbrev pub refusals : Stored → List Request → ℕ
+refusals now [] = 0
+refusals now (request ∷ requests) = refused_of now request + refusals (stored_after now request) requests

@@ -1,0 +1,145 @@
+-- The input of a session, cut into pieces as it is read.
+use Rattle.std.specs.Prelude.{◌≡◌, ℕ, ◌+◌, ◌<◌, ◌≤◌, Bool, true, false, List, [], ◌++◌, length, slice_range, Option, Result, Ok, Err}
+use Rattle.std.specs.Io.KnownBytes.{Consumes, IsAtEnd}
+use Rattle.yaml_grammar.specs.Closings.{ClosesAt, ClosesOnce}
+use Rattle.yaml_docs.specs.Cutting.{Unclosed}
+use Rattle.conf_session.specs.declared.input.Input.{Input}
+use Rattle.conf_session.specs.declared.fault.SessionFault.{SessionFault}
+use Rattle.conf_session.specs.declared.fault.SessionFault.TheVariants as fault
+
+-- the most bytes of a piece or of a rest, and of an input
+abbrev pub piece_limit : ℕ
+piece_limit = 4194304
+
+abbrev pub session_limit : ℕ
+session_limit = 1073741824
+
+-- the bytes that were read and are not looked at yet
+abbrev pub ahead : Input → List ℕ
+ahead input = slice_range input.chunk.items input.start input.end
+
+-- the piece, or what comes after the last one
+abbrev pub held : Input → List ℕ
+held input = input.cutter.bytes
+
+pub record IsSound (input : Input) : Type 0 where
+  pub max : input.cutter.max ≡ piece_limit
+  pub room : length input.chunk.items ≡ 65536
+  pub ordered : input.start ≤ input.end
+  pub within : input.end ≤ 65536
+  pub total : input.total ≤ session_limit
+
+-- no closing line ends in the first 4,194,304 bytes, and there are more
+pub record IsOverlong (bytes : List ℕ) : Type 0 where
+  pub unclosed : (place : ℕ) → place ≤ piece_limit → ClosesAt bytes place → ⊥
+  pub long : piece_limit < length bytes
+
+-- ---- taking in what was read
+
+pub record FeedsPiece (old new : Input) : Type 0 where
+  pub sound : IsSound new
+  pub joined : held old ++ ahead old ≡ held new ++ ahead new
+  pub piece : ClosesOnce (held new)
+  pub short : length (held new) ≤ piece_limit
+  pub total : new.total ≡ old.total
+
+pub record FeedsAll (old new : Input) : Type 0 where
+  pub sound : IsSound new
+  pub joined : held old ++ ahead old ≡ held new
+  pub used : ahead new ≡ []
+  pub unclosed : Unclosed (held new)
+  pub short : length (held new) ≤ piece_limit
+  pub total : new.total ≡ old.total
+
+abbrev pub Feeds : Input → Input → Result Bool SessionFault → Type 0
+Feeds old new (Ok true) = FeedsPiece old new
+Feeds old new (Ok false) = FeedsAll old new
+Feeds old new (Err fault.TooLong) = IsOverlong (held old ++ ahead old)
+Feeds old new (Err fault.OutOfMemory) = Unit {0}
+Feeds old new (Err fault) = ⊥
+
+-- ---- reading once
+
+pub record FillsSome (given left : Option (List ℕ)) (old new : Input) : Type 0 where
+  pub sound : IsSound new
+  pub taken : Consumes given left (ahead new)
+  pub some : 0 < length (ahead new)
+  pub held : held new ≡ held old
+  pub total : new.total ≡ old.total + length (ahead new)
+
+pub record FillsNone (given left : Option (List ℕ)) (old new : Input) : Type 0 where
+  pub sound : IsSound new
+  pub taken : Consumes given left []
+  pub at_end : IsAtEnd left
+  pub held : held new ≡ held old
+  pub used : ahead new ≡ []
+  pub total : new.total ≡ old.total
+
+-- the input is at its limit, and a byte more was read
+pub record FillsBeyond (given left : Option (List ℕ)) (old : Input) : Type 0 where
+  pub more : List ℕ
+  pub taken : Consumes given left more
+  pub some : 0 < length more
+  pub full : old.total ≡ session_limit
+
+abbrev pub Fills : Option (List ℕ) → Option (List ℕ) → Input → Input → Result Bool SessionFault → Type 0
+Fills given left old new (Ok true) = FillsSome given left old new
+Fills given left old new (Ok false) = FillsNone given left old new
+Fills given left old new (Err fault.Read) = Consumes given left []
+Fills given left old new (Err fault.SessionLong) = FillsBeyond given left old
+Fills given left old new (Err fault) = ⊥
+
+-- ---- the next piece
+
+pub record AdvancesToPiece (given left : Option (List ℕ)) (old new : Input) : Type 0 where
+  pub more : List ℕ
+  pub taken : Consumes given left more
+  pub sound : IsSound new
+  pub joined : ahead old ++ more ≡ held new ++ ahead new
+  pub piece : ClosesOnce (held new)
+  pub short : length (held new) ≤ piece_limit
+  pub total : new.total ≡ old.total + length more
+
+pub record AdvancesToEnd (given left : Option (List ℕ)) (old new : Input) : Type 0 where
+  pub more : List ℕ
+  pub taken : Consumes given left more
+  pub at_end : IsAtEnd left
+  pub joined : ahead old ++ more ≡ held new
+  pub unclosed : Unclosed (held new)
+  pub short : length (held new) ≤ piece_limit
+  pub total : old.total + length more ≤ session_limit
+
+-- a read failed behind an unclosed rest
+pub record FailsToRead (given left : Option (List ℕ)) (old : Input) : Type 0 where
+  pub more : List ℕ
+  pub taken : Consumes given left more
+  pub unclosed : Unclosed (ahead old ++ more)
+  pub short : length (ahead old ++ more) ≤ piece_limit
+
+pub record FindsTooLong (given left : Option (List ℕ)) (old : Input) : Type 0 where
+  pub more : List ℕ
+  pub taken : Consumes given left more
+  pub overlong : IsOverlong (ahead old ++ more)
+
+-- so many bytes as may be were read, and some more
+pub record FindsSessionLong (given left : Option (List ℕ)) (old : Input) : Type 0 where
+  pub more : List ℕ
+  pub beyond : List ℕ
+  pub taken : Consumes given left (more ++ beyond)
+  pub some : 0 < length beyond
+  pub unclosed : Unclosed (ahead old ++ more)
+  pub short : length (ahead old ++ more) ≤ piece_limit
+  pub full : old.total + length more ≡ session_limit
+
+pub record RunsOutOfMemory (given left : Option (List ℕ)) : Type 0 where
+  pub more : List ℕ
+  pub taken : Consumes given left more
+
+abbrev pub Advances : Option (List ℕ) → Option (List ℕ) → Input → Input → Result Bool SessionFault → Type 0
+Advances given left old new (Ok true) = AdvancesToPiece given left old new
+Advances given left old new (Ok false) = AdvancesToEnd given left old new
+Advances given left old new (Err fault.Read) = FailsToRead given left old
+Advances given left old new (Err fault.TooLong) = FindsTooLong given left old
+Advances given left old new (Err fault.SessionLong) = FindsSessionLong given left old
+Advances given left old new (Err fault.OutOfMemory) = RunsOutOfMemory given left
+Advances given left old new (Err fault) = ⊥

@@ -1,0 +1,6 @@
+pub mod Input
+pub mod Requests
+pub mod Answers
+pub mod Runs
+pub mod Replies
+pub mod Progress

@@ -1,0 +1,130 @@
+-- What the pieces of a session ask for. Each piece is one request; a piece that is no command is a bad one.
+use Rattle.std.specs.Prelude.{◌≡◌, ◌≢◌, ◌⊎◌, ℕ, Bool, false, List, [], ◌∷◌, codes, encode_utf8_all, if◌then◌else◌}
+use Rattle.yaml_grammar.specs.Texts.{same_text}
+use Rattle.yaml_grammar.specs.Trees.{Tree, text, sequence, mapping}
+use Rattle.yaml_grammar.specs.Reads.{Limits, Gives}
+use Rattle.yaml_tree.specs.Reading.{IsRead, Refuses}
+use Rattle.yaml_docs.specs.declared.fault.ReadFault.{ReadFault}
+use Rattle.yaml_docs.specs.declared.fault.ReadFault.TheVariants.{OutOfMemory}
+use Rattle.conf_record.specs.Commands.{Command, import_as, set_at, delete_at}
+use Rattle.conf_record.specs.RecordsRead.{keys_are, values}
+use Rattle.conf_record.specs.States.{config_limits}
+
+-- the limits of a command document: its bytes, its depth, and its bytes in the one style
+abbrev pub command_limits : Limits
+command_limits = record { bytes = 4194304; depth = 66; style = 16777216 }
+
+-- ---- what a document says
+
+pub data Said : Type 0 where
+  import_text : (name source : List ℕ) → Said
+  change : (command : Command) → Said
+  get_at : (name path : List ℕ) → Said
+  export_of : (name : List ℕ) → Said
+  all_names : Said
+  checkpoint_now : Said
+  nothing : Said
+
+abbrev pub import_said : List Tree → Said
+import_said (text name ∷ text source ∷ []) = import_text name source
+import_said ts = nothing
+
+abbrev pub set_said : List Tree → Said
+set_said (text name ∷ text path ∷ value ∷ []) = change (set_at name path value)
+set_said ts = nothing
+
+abbrev pub delete_said : List Tree → Said
+delete_said (text name ∷ text path ∷ []) = change (delete_at name path)
+delete_said ts = nothing
+
+abbrev pub get_said : List Tree → Said
+get_said (text name ∷ text path ∷ []) = get_at name path
+get_said ts = nothing
+
+abbrev pub export_said : List Tree → Said
+export_said (text name ∷ []) = export_of name
+export_said ts = nothing
+
+-- the one value is the empty text
+abbrev pub is_empty_text : List Tree → Bool
+is_empty_text (text value ∷ []) = same_text value []
+is_empty_text ts = false
+
+abbrev pub names_said : List Tree → Said
+names_said ts = if is_empty_text ts then all_names else nothing
+
+abbrev pub checkpoint_said : List Tree → Said
+checkpoint_said ts = if is_empty_text ts then checkpoint_now else nothing
+
+abbrev pub import_keys : List (List ℕ)
+import_keys = codes "import" ∷ codes "text" ∷ []
+
+abbrev pub set_keys : List (List ℕ)
+set_keys = codes "set" ∷ codes "path" ∷ codes "value" ∷ []
+
+abbrev pub delete_keys : List (List ℕ)
+delete_keys = codes "delete" ∷ codes "path" ∷ []
+
+abbrev pub get_keys : List (List ℕ)
+get_keys = codes "get" ∷ codes "path" ∷ []
+
+abbrev pub export_keys : List (List ℕ)
+export_keys = codes "export" ∷ []
+
+abbrev pub names_keys : List (List ℕ)
+names_keys = codes "names" ∷ []
+
+abbrev pub checkpoint_keys : List (List ℕ)
+checkpoint_keys = codes "checkpoint" ∷ []
+
+-- a command is a mapping with exactly these keys in this order
+unfoldable pub said_by : Tree → Said
+said_by (text value) = nothing
+said_by (sequence ts) = nothing
+said_by (mapping ms) =
+    if keys_are import_keys ms then import_said (values ms)
+    else if keys_are set_keys ms then set_said (values ms)
+    else if keys_are delete_keys ms then delete_said (values ms)
+    else if keys_are get_keys ms then get_said (values ms)
+    else if keys_are export_keys ms then export_said (values ms)
+    else if keys_are names_keys ms then names_said (values ms)
+    else if keys_are checkpoint_keys ms then checkpoint_said (values ms)
+    else nothing
+
+-- the piece gives a tree that says so, or gives none and says nothing
+abbrev pub Says : List ℕ → Said → Type 0
+Says piece said =
+    ((t : Tree) × IsRead piece command_limits t × (said ≡ said_by t))
+    ⊎ ((fault : ReadFault) × (fault ≢ OutOfMemory) × Refuses piece command_limits fault × (said ≡ nothing))
+
+-- ---- requests
+
+-- what a document says, with the text of an import read, or with the reason why that is refused
+pub data Request : Type 0 where
+  changing : (command : Command) → Request
+  unread : (name : List ℕ) (fault : ReadFault) → Request
+  getting : (name path : List ℕ) → Request
+  exporting : (name : List ℕ) → Request
+  naming : Request
+  checkpointing : Request
+  bad : Request
+
+abbrev pub MeansRequest : Said → Request → Type 0
+MeansRequest (import_text name source) request =
+    ((t : Tree) × Gives source config_limits t × (request ≡ changing (import_as name t)))
+    ⊎ ((fault : ReadFault) × (fault ≢ OutOfMemory) × Refuses (encode_utf8_all source) config_limits fault × (request ≡ unread name fault))
+MeansRequest (change command) request = request ≡ changing command
+MeansRequest (get_at name path) request = request ≡ getting name path
+MeansRequest (export_of name) request = request ≡ exporting name
+MeansRequest all_names request = request ≡ naming
+MeansRequest checkpoint_now request = request ≡ checkpointing
+MeansRequest nothing request = request ≡ bad
+
+abbrev pub Asks : List ℕ → Request → Type 0
+Asks piece request = (said : Said) × Says piece said × MeansRequest said request
+
+abbrev pub AllAsk : List (List ℕ) → List Request → Type 0
+AllAsk [] [] = Unit {0}
+AllAsk [] (request ∷ requests) = ⊥
+AllAsk (piece ∷ pieces) [] = ⊥
+AllAsk (piece ∷ pieces) (request ∷ requests) = Asks piece request × AllAsk pieces requests

@@ -1,0 +1,145 @@
+-- What a run of a session has read, answered and stored, for each of its results.
+use Rattle.std.specs.Prelude.{◌≡◌, ℕ, ◌<◌, ◌≤◌, false, List, [], ◌∷◌, ◌++◌, length, take, Option, Result, Ok, Err, All}
+use Rattle.std.specs.List.{concat}
+use Rattle.std.specs.Io.KnownBytes.{Consumes, IsAtEnd, Keeps, Appends}
+use Rattle.yaml_grammar.specs.Closings.{ClosesOnce, Pieces}
+use Rattle.conf_disk.specs.Folder.{Folder, bytes_under}
+use Rattle.conf_disk.specs.Image.{Image, IsImage}
+use Rattle.conf_disk.specs.Moments.{LeavesOnly}
+use Rattle.conf_disk.specs.declared.disk.Name.TheVariants.{Store}
+use Rattle.conf_record.specs.Commands.{Command}
+use Rattle.conf_record.specs.States.{Contents}
+use Rattle.conf_record.specs.Steps.{after}
+use Rattle.conf_store.specs.Meaning.{FileMeans}
+use Rattle.conf_store.specs.Durable.{AfterPrefix}
+use Rattle.conf_store.specs.View.{StoreView}
+use Rattle.conf_session.specs.Input.{piece_limit, session_limit, IsOverlong}
+use Rattle.conf_session.specs.Requests.{Request, AllAsk}
+use Rattle.conf_session.specs.Answers.{Stored, output, stored_after_all, file_after_all, accepted, refusals}
+use Rattle.conf_session.specs.declared.fault.SessionFault.{SessionFault}
+use Rattle.conf_session.specs.declared.fault.SessionFault.TheVariants as fault
+use Rattle.conf_session.specs.declared.session.Tally.{Tally}
+
+abbrev pub stored_of : {D : Type 0} → StoreView D → Stored
+stored_of seen = record { state = seen.state; size = seen.size }
+
+-- the pieces ask for these requests; each is closed once, at its end, and no longer than allowed
+pub record ArePieces (pieces : List (List ℕ)) (requests : List Request) : Type 0 where
+  pub closed : All ClosesOnce pieces
+  pub short : All (λ (piece : List ℕ). length piece ≤ piece_limit) pieces
+  pub ask : AllAsk pieces requests
+
+-- the bytes are pieces that ask for these requests, and a rest without a closing line, no longer than allowed
+pub record IsInput (bytes : List ℕ) (requests : List Request) (rest : List ℕ) : Type 0 where
+  pub pieces : List (List ℕ)
+  pub cut : Pieces bytes pieces rest
+  pub are : ArePieces pieces requests
+  pub short : length rest ≤ piece_limit
+
+-- the bytes begin with pieces that ask for these requests
+pub record BeginsWith (bytes : List ℕ) (requests : List Request) : Type 0 where
+  pub pieces : List (List ℕ)
+  pub further : List ℕ
+  pub is : bytes ≡ concat pieces ++ further
+  pub are : ArePieces pieces requests
+
+-- after pieces that ask for these requests comes a piece, or a rest, that is too long
+pub record ShowsTooLong (bytes : List ℕ) (requests : List Request) : Type 0 where
+  pub pieces : List (List ℕ)
+  pub further : List ℕ
+  pub is : bytes ≡ concat pieces ++ further
+  pub are : ArePieces pieces requests
+  pub overlong : IsOverlong further
+
+-- all closed pieces of the bytes ask for these requests
+pub record AsksAll (bytes : List ℕ) (requests : List Request) : Type 0 where
+  pub rest : List ℕ
+  pub input : IsInput bytes requests rest
+
+-- all closed pieces of the first 1,073,741,824 bytes ask for these requests, and there are more bytes
+pub record ShowsSessionLong (bytes : List ℕ) (requests : List Request) : Type 0 where
+  pub input : AsksAll (take session_limit bytes) requests
+  pub long : session_limit < length bytes
+
+-- ---- how a run ends, by the requests that were performed, and those of them whose answers were written whole
+
+-- all was read, performed and answered
+pub record EndsWell (given left held written : Option (List ℕ)) (start : Stored) (answered performed : List Request) (tally : Tally) : Type 0 where
+  pub bytes : List ℕ
+  pub rest : List ℕ
+  pub taken : Consumes given left bytes
+  pub at_end : IsAtEnd left
+  pub within : length bytes ≤ session_limit
+  pub input : IsInput bytes answered rest
+  pub all : performed ≡ answered
+  pub out : Appends held written (output start answered)
+  pub documents : tally.documents ≡ length answered
+  pub accepted : tally.accepted ≡ length (accepted start answered)
+  pub refused : tally.refused ≡ refusals start answered
+  pub unclosed : tally.rest ≡ length rest
+
+-- all pieces that were closed before the fault are performed and answered
+pub record EndsInInput (given left held written : Option (List ℕ)) (start : Stored) (answered performed : List Request) (Shows : List ℕ → List Request → Type 0) : Type 0 where
+  pub bytes : List ℕ
+  pub taken : Consumes given left bytes
+  pub shows : Shows bytes answered
+  pub all : performed ≡ answered
+  pub out : Appends held written (output start answered)
+
+-- Exactly so many bytes of the answers were written. The first piece whose answer was not written whole is performed, and none after it.
+pub record EndsInOutput (given left held written : Option (List ℕ)) (start : Stored) (answered performed : List Request) (count : ℕ) : Type 0 where
+  pub bytes : List ℕ
+  pub taken : Consumes given left bytes
+  pub last : Request
+  pub begins : BeginsWith bytes (answered ++ last ∷ [])
+  pub all : performed ≡ answered ++ last ∷ []
+  pub out : Appends held written (take count (output start performed))
+  pub whole : length (output start answered) ≤ count
+  pub cut : count < length (output start performed)
+
+-- a prefix of the pieces is performed and answered, and these are performed without an answer
+pub record EndsEarly (given left held written : Option (List ℕ)) (start : Stored) (answered performed : List Request) (unanswered : List Request) : Type 0 where
+  pub bytes : List ℕ
+  pub taken : Consumes given left bytes
+  pub begins : BeginsWith bytes (answered ++ unanswered)
+  pub all : performed ≡ answered ++ unanswered
+  pub out : Appends held written (output start answered)
+
+abbrev pub Ends : Option (List ℕ) → Option (List ℕ) → Option (List ℕ) → Option (List ℕ) → Stored → List Request → List Request → Result Tally SessionFault → Type 0
+Ends given left held written start answered performed (Ok tally) = EndsWell given left held written start answered performed tally
+Ends given left held written start answered performed (Err fault.Read) = EndsInInput given left held written start answered performed AsksAll
+Ends given left held written start answered performed (Err (fault.Write count)) = EndsInOutput given left held written start answered performed count
+Ends given left held written start answered performed (Err fault.TooLong) = EndsInInput given left held written start answered performed ShowsTooLong
+Ends given left held written start answered performed (Err fault.SessionLong) = EndsInInput given left held written start answered performed ShowsSessionLong
+Ends given left held written start answered performed (Err fault.OutOfMemory) = EndsEarly given left held written start answered performed []
+Ends given left held written start answered performed (Err fault.Device) = (last : Request) × EndsEarly given left held written start answered performed (last ∷ [])
+Ends given left held written start answered performed (Err fault.Reopen) = Keeps given left × Keeps held written × (answered ≡ []) × (performed ≡ [])
+
+-- ---- a run
+
+-- the state after a prefix of the commands that has at least so many of them
+pub record AfterAtLeast (s : Contents) (least : ℕ) (commands : List Command) (store : Option (List ℕ)) : Type 0 where
+  pub count : ℕ
+  pub enough : least ≤ count
+  pub state : Contents
+  pub leads : after s (take count commands) ≡ Ok state
+  pub means : FileMeans store state
+
+-- A run from one value of a store to the next. `given` and `left` are the bytes that the reader has before and after it, `held` and `written`
+-- those that the writer has, where they are known.
+pub record Runs {D : Type 0} (honest : Type 0) (folder : D → Folder) (moment : D → ℕ) (since : D → ℕ → Image → Type 0)
+    (given left held written : Option (List ℕ)) (old new : StoreView D) (result : Result Tally SessionFault) : Type 0 where
+  pub answered : List Request
+  pub performed : List Request
+  pub ends : Ends given left held written (stored_of old) answered performed result
+  pub state : new.state ≡ (stored_after_all (stored_of old) performed).state
+  pub size : new.reopen ≡ false → new.size ≡ (stored_after_all (stored_of old) performed).size
+  -- each accepted command appended its record to `store.yaml`, and each checkpoint put a base in its place
+  pub reads : honest → new.reopen ≡ false
+      → bytes_under (folder new.disk) Store ≡ file_after_all (bytes_under (folder old.disk) Store) (stored_of old) performed
+  -- a crash at any moment leaves the state after a prefix of the accepted commands
+  pub any_moment : honest → old.reopen ≡ false
+      → LeavesOnly moment since old.disk new.disk (λ image. AfterPrefix old.state (accepted (stored_of old) performed) image.store)
+  -- and a crash after the run leaves one that has every command that was answered
+  pub kept : honest → old.reopen ≡ false → (image : Image) → IsImage (folder new.disk) image
+      → AfterAtLeast old.state (length (accepted (stored_of old) answered)) (accepted (stored_of old) performed) image.store

@@ -1,0 +1,114 @@
+// The texts of answers.
+ghost use Rattle.std.specs.Prelude.{◌≡◌, ◌≤◌, IfOk, OnOk, length, string_bytes, decimal, codes};
+ghost use Rattle.std.specs.Str.{chars};
+ghost use Rattle.yaml_grammar.specs.Trees.{depth, text};
+ghost use Rattle.yaml_laws.specs.Closed.{framed, framed_text};
+ghost use Rattle.yaml_tree.specs.Seen.{tree_of};
+ghost use Rattle.conf_session.specs.Requests.{getting, exporting, naming};
+ghost use Rattle.conf_session.specs.Answers.{one};
+ghost use Rattle.conf_session.specs.Runs.{stored_of};
+ghost use Rattle.conf_session.specs.Replies.{Replies, reply_limit};
+
+use crate::reply::Reply;
+use crate::text_buffer::TextBuffer;
+use conf_disk::Disk;
+use conf_record::StoreFault;
+use conf_store::Store;
+use itoa::Buffer;
+use std::alloc::{AllocError, Global};
+use tree_path::{Path, PathFault, at};
+use yaml_tree::{Sink, Tree, write_key, write_value};
+
+/// The most bytes of an answer. No state has an answer that is nearly as long.
+const ANSWER_LIMIT: usize = 4_294_967_295;
+
+/// The document of a mapping with one key: a line of `---`, the mapping in the one style, and a line
+/// of `...`. A document over the limit counts as out of memory.
+fn answer(alloc: Global, key: &str, value: &Tree) -> Result<String, AllocError>
+    requires { depth (tree_of value.now) ≤ 66 }
+    ensures bytes { IfOk result (λ text.
+        string_bytes text ≡ framed (one (chars key.now) (tree_of value.now))) }
+    ensures short { IfOk result (λ text. length (string_bytes text) ≤ reply_limit) }
+{
+    let mut buffer = TextBuffer::new(alloc);
+    write_answer(key, value, &mut buffer)?;
+    let text = buffer.into_text();
+    if text.len() > ANSWER_LIMIT {
+        return Err(AllocError);
+    }
+    Ok(text)
+}
+
+/// Writes such a document.
+fn write_answer<S: Sink>(key: &str, value: &Tree, sink: &mut S) -> Result<(), S::Fault>
+    requires { depth (tree_of value.now) ≤ 66 }
+    ensures { OnOk result
+        (S.Takes sink.old (framed_text (one (chars key.now) (tree_of value.now))) sink.new) }
+{
+    sink.put_text("---\n")?;
+    write_key(key, 0, sink)?;
+    write_value(value, 0, sink)?;
+    sink.put_text("...\n")
+}
+
+/// The answer to an accepted command or a checkpoint: the count.
+pub fn count_answer(alloc: Global, count: u64) -> Result<String, AllocError>
+    ensures bytes { IfOk result (λ reply.
+        string_bytes reply ≡ framed (one (codes "ok") (text (decimal count)))) }
+    ensures short { IfOk result (λ reply. length (string_bytes reply) ≤ reply_limit) }
+{
+    let mut digits = Buffer::new();
+    let count = Tree::Text(String::from_str(alloc, digits.format(count))?);
+    answer(alloc, "ok", &count)
+}
+
+/// The answer to a `get`: the value at a path of a configuration.
+pub fn get_answer<D: Disk>(
+    alloc: Global,
+    store: &Store<D>,
+    name: &str,
+    path: &str,
+) -> Result<Reply, AllocError>
+    ensures { IfOk result
+        (Replies (stored_of store.now) (getting (chars name.now) (chars path.now))) }
+{
+    let config = match store.config(name) {
+        Ok(config) => config,
+        Err(fault) => return Ok(Reply::Refused(fault)),
+    };
+    let path = match Path::parse(alloc, path) {
+        Ok(path) => path,
+        Err(PathFault::OutOfMemory) => return Err(AllocError),
+        Err(fault) => return Ok(Reply::Refused(StoreFault::Path(fault))),
+    };
+    match at(config.tree(), &path) {
+        Ok(value) => Ok(Reply::Done(answer(alloc, "value", value)?)),
+        Err(fault) => Ok(Reply::Refused(StoreFault::Path(fault))),
+    }
+}
+
+/// The answer to an `export`: the text of a configuration.
+pub fn export_answer<D: Disk>(
+    alloc: Global,
+    store: &Store<D>,
+    name: &str,
+) -> Result<Reply, AllocError>
+    ensures { IfOk result (Replies (stored_of store.now) (exporting (chars name.now))) }
+{
+    match store.export(name) {
+        Ok(text) => Ok(Reply::Done(answer(alloc, "text", &Tree::Text(text))?)),
+        Err(StoreFault::OutOfMemory) => Err(AllocError),
+        Err(fault) => Ok(Reply::Refused(fault)),
+    }
+}
+
+/// The answer to `names`: the names of the configurations, in order.
+pub fn names_answer<D: Disk>(alloc: Global, store: &Store<D>) -> Result<Reply, AllocError>
+    ensures { IfOk result (Replies (stored_of store.now) naming) }
+{
+    let mut names = Vec::new(alloc);
+    for name in store.names() {
+        names.push(Tree::Text(String::from_str(alloc, name)?))?;
+    }
+    Ok(Reply::Done(answer(alloc, "names", &Tree::Seq(names))?))
+}

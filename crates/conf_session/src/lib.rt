@@ -1,0 +1,24 @@
+//! Sessions: a stream of command documents, each answered by one document.
+//!
+//! [`run`] reads the commands, performs them on a store, and writes the answers.
+#![tactic(auto)]
+
+mod answer;
+mod fault;
+mod fields;
+mod input;
+mod output;
+mod pieces;
+mod reply;
+mod said;
+mod session;
+mod text_buffer;
+mod words;
+
+pub use fault::SessionFault;
+pub use session::{Tally, run};
+
+#[cfg(test)]
+mod long_tests;
+#[cfg(test)]
+mod tests;
