@@ -1,6 +1,6 @@
 -- What a text that was read and one that was written say of the reader and the writer.
-use Rattle.std.proofs.Common.{◌≡◌, refl, sym, ◌∙◌, ap, subst, arith, ◌<◌, ◌≤◌, length}
-use Rattle.std.specs.Prelude.{ℕ, List, ◌++◌, Option, Some, None, encode_utf8_all}
+use Rattle.std.proofs.Common.{◌≡◌, ℕ, List, refl, sym, ◌∙◌, ap, subst, arith, ◌<◌, length}
+use Rattle.std.specs.Prelude.{Option, Some, None, encode_utf8_all}
 use Rattle.std.specs.Io.KnownBytes.{Keeps, Appends}
 use Rattle.std.specs.Str.{chars, IsUtf8}
 use Rattle.std.proofs.lemmas.Str.{encodes-chars}
@@ -11,7 +11,9 @@ use Rattle.yaml_docs.specs.declared.fault.ReadFault.{ReadFault}
 use Rattle.yaml_docs.specs.declared.fault.ReadFault.TheVariants.{TooLong, NotUtf8, Syntax, Documents, KeyNotText, KeyTwice, TooDeep, LargeInStyle, OutOfMemory}
 use Rattle.yaml_tree.proofs.ByteLemmas.{byte_len-chars}
 use Rattle.confstore.specs.declared.tools.ToolFault.TheVariants.{Read}
-use Rattle.confstore.specs.Tools.{configuration, HasRead, Formats, RefusesInput, StopsInOutput, Stops}
+use Rattle.yaml_style.specs.Checking.{IsChecked, configuration}
+use Rattle.yaml_style.specs.declared.finding.Finding.{Finding}
+use Rattle.confstore.specs.Tools.{HasRead, Formats, Checks, report, RefusesInput, StopsInOutput, Stops}
 
 keeps_itself : (held : Option (List ℕ)) → Keeps held held
 keeps_itself None = tt
@@ -41,15 +43,15 @@ pub stopped : (given left : Option (List ℕ)) (bytes : List ℕ) (t : Tree) →
 stopped given left bytes t read is_read =
     record { bytes = bytes; tree = t; taken = read.taken; at_end = read.at_end (short bytes t is_read); reads = is_read }
 
-then_kept : (held written flushed : Option (List ℕ)) (text : List ℕ) → Appends held written text → Keeps written flushed → Appends held flushed text
+pub then_kept : (held written flushed : Option (List ℕ)) (text : List ℕ) → Appends held written text → Keeps written flushed → Appends held flushed text
 then_kept None written flushed text a k = tt
 then_kept (Some xs) None flushed text a k = absurd a
 then_kept (Some xs) (Some ys) None text a k = absurd k
 then_kept (Some xs) (Some ys) (Some zs) text a k = k ∙ a
 
-pub formatted : (given left held written flushed : Option (List ℕ)) (bytes text : List ℕ) (t : Tree) → HasRead given left bytes 1048577 → IsRead bytes configuration t
-    → IsUtf8 text → chars text ≡ style_text t → Appends held written text → Keeps written flushed → Formats given left held flushed
-formatted given left held written flushed bytes text t read is_read utf8 style appends keeps =
+pub formatted : (given left held written : Option (List ℕ)) (bytes text : List ℕ) (t : Tree) → HasRead given left bytes 1048577 → IsRead bytes configuration t
+    → IsUtf8 text → chars text ≡ style_text t → Appends held written text → Formats given left held written
+formatted given left held written bytes text t read is_read utf8 style appends =
     let spelled : encode_utf8_all (style_text t) ≡ text = ap encode_utf8_all (sym style) ∙ encodes-chars text utf8 in
     record {
       bytes = bytes;
@@ -57,5 +59,17 @@ formatted given left held written flushed bytes text t read is_read utf8 style a
       taken = read.taken;
       at_end = read.at_end (short bytes t is_read);
       reads = is_read;
-      writes = subst (λ xs. Appends held flushed xs) (sym spelled) (then_kept held written flushed text appends keeps);
+      writes = subst (λ xs. Appends held written xs) (sym spelled) appends;
     }
+
+pub checks : (given left held written : Option (List ℕ)) (bytes lines : List ℕ) (found : List Finding) → HasRead given left bytes 1048577 → IsChecked bytes found
+    → lines ≡ report found → Appends held written lines → Checks given left held written (length found)
+checks given left held written bytes lines found read is_checked told appends = record {
+  bytes = bytes;
+  found = found;
+  taken = read.taken;
+  at_end = read.at_end (short bytes is_checked.tree is_checked.reads);
+  checked = is_checked;
+  counts = refl;
+  writes = subst (λ xs. Appends held written xs) told appends;
+}

@@ -1,1 +1,3 @@
 pub mod Formatting
+pub mod ReportLemmas
+pub mod StoreLemmas

@@ -1,17 +1,15 @@
 -- What a tool has read from its reader, and what it has written to its writer. Each knows its bytes, or says nothing of them.
-use Rattle.std.specs.Prelude.{◌≡◌, ℕ, ◌<◌, ◌≤◌, List, Option, length, encode_utf8_all}
+use Rattle.std.specs.Prelude.{◌≡◌, ℕ, ◌<◌, ◌≤◌, List, [], ◌∷◌, ◌++◌, Option, length, codes, decimal, encode_utf8_all}
 use Rattle.std.specs.Io.KnownBytes.{Consumes, IsAtEnd, Keeps, Appends}
-use Rattle.yaml_grammar.specs.Reads.{Limits}
 use Rattle.yaml_grammar.specs.Style.{style_text}
 use Rattle.yaml_grammar.specs.Trees.{Tree}
 use Rattle.yaml_tree.specs.Reading.{IsRead, Refuses}
 use Rattle.yaml_docs.specs.declared.fault.ReadFault.{ReadFault}
+use Rattle.yaml_style.specs.Checking.{IsChecked, configuration}
+use Rattle.yaml_style.specs.Findings.{name_of}
+use Rattle.yaml_style.specs.declared.finding.Finding.{Finding}
 use Rattle.confstore.specs.declared.tools.ToolFault.{ToolFault}
 use Rattle.confstore.specs.declared.tools.ToolFault.TheVariants.{Input, Output, Read}
-
--- the limits of a configuration
-abbrev pub configuration : Limits
-configuration = record { bytes = 1048576; depth = 64; style = 1048576 }
 
 -- the bytes that the reader gave up to its end, or the first `most` of them
 pub record HasRead (given left : Option (List ℕ)) (bytes : List ℕ) (most : ℕ) : Type 0 where
@@ -28,6 +26,24 @@ pub record Formats (given left held written : Option (List ℕ)) : Type 0 where
   pub reads : IsRead bytes configuration tree
   pub writes : Appends held written (encode_utf8_all (style_text tree))
 
+-- the line that tells a finding: the rule's name, a space, and the number of the line
+abbrev pub report_line : Finding → List ℕ
+report_line f = name_of f.rule ++ codes " " ++ decimal f.line ++ codes "\n"
+
+abbrev pub report : List Finding → List ℕ
+report [] = []
+report (f ∷ fs) = report_line f ++ report fs
+
+-- the reader's bytes, to its end, give a tree, and the lines of their findings were written, which are so many
+pub record Checks (given left held written : Option (List ℕ)) (count : ℕ) : Type 0 where
+  pub bytes : List ℕ
+  pub found : List Finding
+  pub taken : Consumes given left bytes
+  pub at_end : IsAtEnd left
+  pub checked : IsChecked bytes found
+  pub counts : count ≡ length found
+  pub writes : Appends held written (report found)
+
 -- the bytes that were read are refused, and nothing was written
 pub record RefusesInput (given left held written : Option (List ℕ)) (fault : ReadFault) : Type 0 where
   pub bytes : List ℕ
@@ -35,7 +51,7 @@ pub record RefusesInput (given left held written : Option (List ℕ)) (fault : R
   pub refuses : Refuses bytes configuration fault
   pub keeps : Keeps held written
 
--- the reader's bytes give a tree, whose text could not be written whole
+-- the reader's bytes give a tree, and what was to be written could not be written whole
 pub record StopsInOutput (given left : Option (List ℕ)) : Type 0 where
   pub bytes : List ℕ
   pub tree : Tree

@@ -3,13 +3,16 @@
 
 mod input;
 mod program;
+mod report;
+mod stores;
 mod tools;
 
 pub use program::perform;
 use program::refuse_words;
 use std::process::ExitCode;
 use std::{env, io};
-pub use tools::{ToolFault, format_text};
+pub use stores::{StoreToolFault, export_store, run_store};
+pub use tools::{ToolFault, check_text, format_text};
 
 fn main(rt: HostRuntime) -> ExitCode {
     let alloc = rt.alloc();
@@ -21,8 +24,12 @@ fn main(rt: HostRuntime) -> ExitCode {
     };
     let mut reader = rt.reader();
     let mut writer = io::writer(&rt);
-    ExitCode::from(perform(alloc, &words, &mut reader, &mut writer, &mut errors))
+    ExitCode::from(perform(&rt, alloc, &words, &mut reader, &mut writer, &mut errors))
 }
 
+#[cfg(test)]
+mod check_tests;
+#[cfg(test)]
+mod store_tests;
 #[cfg(test)]
 mod tests;

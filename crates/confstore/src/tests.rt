@@ -1,4 +1,5 @@
-// The program over readers and writers in memory. Expected output is from worked examples by hand, and clap's own texts.
+// The program over readers and writers in memory. Expected output is from worked examples by hand, and clap's own
+// texts.
 use crate::{ToolFault, format_text, perform};
 use std::alloc::Global;
 use std::io;
@@ -8,13 +9,14 @@ use yaml_tree::ReadFault;
 
 /// What the program wrote, and its status.
 #[derive(Debug, Drop)]
-struct Outcome {
-    status: u8,
-    output: Vec<u8>,
-    told: Vec<u8>,
+pub(crate) struct Outcome {
+    pub(crate) status: u8,
+    pub(crate) output: Vec<u8>,
+    pub(crate) told: Vec<u8>,
 }
 
-fn outcome_of(alloc: Global, words: &[&str], input: &[u8]) -> Result<Outcome, Fail> {
+pub(crate) fn outcome_of(rt: &HostRuntime, words: &[&str], input: &[u8]) -> Result<Outcome, Fail> {
+    let alloc = rt.alloc();
     let mut all = Vec::new(alloc);
     for word in words {
         all.push(String::from_str(alloc, word)?)?;
@@ -22,7 +24,7 @@ fn outcome_of(alloc: Global, words: &[&str], input: &[u8]) -> Result<Outcome, Fa
     let mut reader = input;
     let mut output = Vec::new(alloc);
     let mut told = Vec::new(alloc);
-    let status = perform(alloc, &all, &mut reader, &mut output, &mut told);
+    let status = perform(rt, alloc, &all, &mut reader, &mut output, &mut told);
     Ok(Outcome {
         status,
         output,
@@ -67,16 +69,31 @@ fn formats(rt: HostRuntime) -> Result<(), Fail> {
             "a:\n  - b\n  - c: \"1\"\n    d: \"null\"\n",
         ),
         ("\u{feff}%YAML 1.1\n---\na: yes\n", "a: \"yes\"\n"),
+        ("k: |2-\n   a\n", "k: \" a\"\n"),
+        ("k: |\n  a\n # c\n", "k: |\n  a\n"),
+        ("|1\n  x\n", "\" x\\n\"\n"),
+        ("--- |\nx\n", "|\n  x\n"),
+        ("---\n", "\"\"\n"),
+        ("- - a\n  - b\n- ? k\n  : v\n", "- - a\n  - b\n- k: v\n"),
+        ("[a: 1, b]\n", "- a: \"1\"\n- b\n"),
+        ("{a, b: }\n", "a: \"\"\nb: \"\"\n"),
+        ("[a,]\n", "- a\n"),
         (
             "[on, 12, \"\", é, \"\\0\", \"\\L\"]\n",
             "- \"on\"\n- \"12\"\n- \"\"\n- \"é\"\n- \"\\0\"\n- \"\\u2028\"\n",
         ),
     ];
     for (input, output) in cases {
-        let done = outcome_of(rt.alloc(), &["confstore", "format"], input.as_bytes())?;
+        let done = outcome_of(&rt, &["confstore", "format"], input.as_bytes())?;
         assert_eq!(rt; done.output.as_slice(), output.as_bytes(), "of {input:?}");
         assert_eq!(rt; done.status, 0, "of {input:?}");
         assert_eq!(rt; done.told.len(), 0, "of {input:?}");
+        let again = outcome_of(&rt, &["confstore", "format"], output.as_bytes())?;
+        assert_eq!(rt;
+            again.output.as_slice(),
+            output.as_bytes(),
+            "of {input:?} again"
+        );
     }
     Ok(())
 }
@@ -88,20 +105,23 @@ fn refuses(rt: HostRuntime) -> Result<(), Fail> {
     for _ in 0..1_048_577u32 {
         long.push(b'a')?;
     }
-    let cases: [(&[u8], &str); 10] = [
+    let cases: [(&[u8], &str); 13] = [
         (b"a: 1\na: 2\n", "confstore: KeyTwice\n"),
         (b"\xff", "confstore: NotUtf8\n"),
         (long.as_slice(), "confstore: TooLong\n"),
         (b"", "confstore: Documents\n"),
         (b"# c", "confstore: Documents\n"),
         (b"a\n---\nb\n", "confstore: Documents\n"),
+        (b"a\n%YAML 1.2\n---\nb\n", "confstore: Documents\n"),
+        (b"...\n", "confstore: Documents\n"),
+        (b"\xef\xbb\xbf", "confstore: Documents\n"),
         (b"{a: 1, a: 2}\n", "confstore: KeyTwice\n"),
         (b"[a]: b\n", "confstore: KeyNotText\n"),
         (b"{a: 1, a: 2, {b: c}: d}\n", "confstore: KeyNotText\n"),
         (b"a: b\n--- [a, {[]: b}]\n", "confstore: Documents\n"),
     ];
     for (input, told) in cases {
-        let done = outcome_of(alloc, &["confstore", "format"], input)?;
+        let done = outcome_of(&rt, &["confstore", "format"], input)?;
         assert_eq!(rt; done.told.as_slice(), told.as_bytes());
         assert_eq!(rt; done.status, 1, "{told}");
         assert_eq!(rt; done.output.len(), 0, "{told}");
@@ -127,7 +147,7 @@ fn depth_is_limited(rt: HostRuntime) -> Result<(), Fail> {
     let alloc = rt.alloc();
     let words = ["confstore", "format"];
     let text = in_brackets(alloc, 63, "x")?;
-    let done = outcome_of(alloc, &words, text.as_bytes())?;
+    let done = outcome_of(&rt, &words, text.as_bytes())?;
     // 63 times `- `, `x` and a line feed
     assert_eq!(rt; done.output.len(), 128);
     assert_eq!(rt; done.status, 0);
@@ -139,7 +159,7 @@ fn depth_is_limited(rt: HostRuntime) -> Result<(), Fail> {
     ];
     for (levels, inner, told) in cases {
         let text = in_brackets(alloc, levels, inner)?;
-        let done = outcome_of(alloc, &words, text.as_bytes())?;
+        let done = outcome_of(&rt, &words, text.as_bytes())?;
         assert_eq!(rt; done.told.as_slice(), told.as_bytes());
         assert_eq!(rt; done.status, 1, "{told}");
     }
@@ -161,7 +181,7 @@ fn length_is_limited(rt: HostRuntime) -> Result<(), Fail> {
             text.push('x')?;
         }
         text.push_str(end)?;
-        let done = outcome_of(alloc, &words, text.as_bytes())?;
+        let done = outcome_of(&rt, &words, text.as_bytes())?;
         assert_eq!(rt; done.output.len(), length);
         assert_eq!(rt; done.told.as_slice(), told.as_bytes());
     }
@@ -183,7 +203,7 @@ fn keys_have_1024_characters(rt: HostRuntime) -> Result<(), Fail> {
             text.push('k')?;
         }
         text.push_str(end)?;
-        let done = outcome_of(alloc, &words, text.as_bytes())?;
+        let done = outcome_of(&rt, &words, text.as_bytes())?;
         assert_eq!(rt; done.output.len(), length);
     }
     Ok(())
@@ -199,9 +219,16 @@ fn refuses_syntax(rt: HostRuntime) -> Result<(), Fail> {
         "k: !!str a\n",
         ": v\n",
         "[[[",
+        "[a,,b]\n",
+        "-\t- a\n",
+        "k: |\n   \n  a\n",
+        "--- a: 1\n",
+        "%YAML 1.2\na\n",
+        "%YAML 1.3\n---\n",
+        "%YAML 1.2\n%YAML 1.2\n---\n",
     ];
     for input in cases {
-        let done = outcome_of(rt.alloc(), &["confstore", "format"], input.as_bytes())?;
+        let done = outcome_of(&rt, &["confstore", "format"], input.as_bytes())?;
         assert!(rt;
             done.told.as_slice().starts_with(b"confstore: Syntax "),
             "of {input:?}"
@@ -237,7 +264,7 @@ fn reads_words(rt: HostRuntime) -> Result<(), Fail> {
         (&["confstore"], 2, "", "requires a subcommand"),
     ];
     for (words, status, output, told) in cases {
-        let done = outcome_of(rt.alloc(), words, b"a: b\n")?;
+        let done = outcome_of(&rt, words, b"a: b\n")?;
         let shown = str::from_utf8(&done.output).expect(&rt, "help is text");
         let errors = str::from_utf8(&done.told).expect(&rt, "errors are text");
         assert_eq!(rt; done.status, status, "{words:?}");
@@ -259,7 +286,7 @@ fn reads_words(rt: HostRuntime) -> Result<(), Fail> {
 
 /// Gives some bytes, and fails at the next read.
 #[derive(Drop)]
-struct Broken<'a>(&'a [u8]);
+pub(crate) struct Broken<'a>(pub(crate) &'a [u8]);
 
 impl Read for Broken<'_> {
     fn read(&mut self, buf: &mut [u8]) -> io::Result<usize> {
@@ -272,7 +299,7 @@ impl Read for Broken<'_> {
 
 /// Takes no byte.
 #[derive(Drop)]
-struct Full;
+pub(crate) struct Full;
 
 impl Write for Full {
     fn write(&mut self, _buf: &[u8]) -> io::Result<usize> {
@@ -305,6 +332,7 @@ fn tells_what_fails(rt: HostRuntime) -> Result<(), Fail> {
     words.push(String::from_str(alloc, "format")?)?;
     let mut told = Vec::new(alloc);
     let status = perform(
+        &rt,
         alloc,
         &words,
         &mut b"a: b\n".as_slice(),

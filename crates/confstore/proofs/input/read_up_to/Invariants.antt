@@ -1,5 +1,5 @@
 -- What was read so far is what the reader lost, and no more than asked for.
-use Rattle.std.proofs.Common.{ℕ, ◌≤◌, length}
+use Rattle.std.proofs.Common.{◌≤◌, length}
 use Rattle.std.specs.Io.KnownBytes.{Consumes}
 use Rattle.confstore.proofs.input.read_up_to.Given as goal
 

@@ -1,14 +1,14 @@
 -- What was read is refused, or its tree's text is written.
-use Rattle.std.proofs.Common.{◌≡◌, ℕ, List, sym, subst, ◌∙◌, ap}
-use Rattle.std.specs.Str.{chars, IsUtf8}
+use Rattle.std.proofs.Common.{◌≡◌, ℕ, List, subst}
+use Rattle.std.specs.Str.{IsUtf8}
 use Rattle.std.specs.Prelude.{string_bytes}
 use Rattle.std.specs.Io.KnownBytes.{Appends}
 use Rattle.std.proofs.lemmas.Str.{IsUtf8-string_bytes}
 use Rattle.yaml_grammar.specs.Trees.{Tree}
 use Rattle.yaml_tree.specs.Reading.{IsRead, Refuses}
 use Rattle.yaml_tree.specs.Seen.{tree_of}
-use Rattle.confstore.specs.Tools.{configuration, HasRead}
-use Rattle.confstore.proofs.Formatting.{refused, stopped, formatted}
+use Rattle.yaml_style.specs.Checking.{configuration}
+use Rattle.confstore.proofs.Formatting.{refused, formatted}
 use Rattle.confstore.proofs.tools.format_text.Goals as goal
 
 pub returns-in-Err-clause-stops : goal.returns-in-Err-clause-stops
@@ -24,6 +24,5 @@ returns-clause-ok g c =
     let text : List ℕ = string_bytes c.in_ok-text.text in
     let utf8 : IsUtf8 text = IsUtf8-string_bytes c.in_ok-text.text in
     let whole : c.as_bytes.result.now ≡ text = c.as_bytes.ensures.value in
-    formatted _ _ _ (g.W.Write.contents c.write_all.new.self) _ bytes text t c.in_ok-bytes.ensures.ok is_read utf8 c.in_ok-text.ensures
-    (subst (λ b. Appends (g.W.Write.contents c.args.writer.now) (g.W.Write.contents c.write_all.new.self) b) whole c.in-Ok-write_all.ensures.bytes)
-    c.flush.ensures.bytes
+    formatted _ _ _ _ bytes text t c.in_ok-bytes.ensures.ok is_read utf8 c.in_ok-text.ensures
+    (subst (λ b. Appends (g.W.Write.contents c.args.writer.now) (g.W.Write.contents c.write_whole.new.writer) b) whole c.in_ok-write_whole.ensures.ok)

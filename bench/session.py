@@ -1,0 +1,91 @@
+#!/usr/bin/env python3
+"""Times sessions of the built program beside a stub in C that appends and syncs as many bytes and parses nothing.
+
+Each command sets one value. They are sent all at once, and one by one, each after the answer to the one before. It does so
+in a folder of the disk that holds the temporary files, and in one in memory (/dev/shm), and prints commands a second and the
+time beside the stub's. Run it from the repository's root after the program is built; it takes about a minute:
+
+    ./confstore --version && python3 bench/session.py
+"""
+
+import os
+import subprocess
+import sys
+import tempfile
+import time
+
+TOP = os.path.dirname(os.path.dirname(os.path.abspath(__file__)))
+PROGRAM = os.path.join(TOP, "crates", "confstore", "out", "confstore")
+RUNS = 3
+FIRST = b'import: app\ntext: "n: v0\\n"\n...\n'
+
+
+def command(number):
+    return f"set: app\npath: /n\nvalue: v{number:09}\n...\n".encode()
+
+
+def record_bytes(number):
+    """What the stub appends: as many bytes as the record of that command has."""
+    return f'---\nat: "{number}"\nset: app\npath: /n\nvalue: v{number:09}\n...\n'.encode()
+
+
+def all_at_once(words, pieces):
+    start = time.perf_counter()
+    done = subprocess.run(words, input=b"".join(pieces), stdout=subprocess.PIPE, check=True)
+    seconds = time.perf_counter() - start
+    if done.stdout.count(b"...\n") != len(pieces):
+        sys.exit(f"{words} gave {done.stdout[-80:]!r}")
+    return seconds
+
+
+def one_by_one(words, pieces):
+    process = subprocess.Popen(words, stdin=subprocess.PIPE, stdout=subprocess.PIPE, bufsize=0)
+    source, target = process.stdout.fileno(), process.stdin.fileno()
+    start = time.perf_counter()
+    for piece in pieces:
+        os.write(target, piece)
+        answer = b""
+        while not answer.endswith(b"...\n"):
+            part = os.read(source, 4096)
+            if not part:
+                sys.exit(f"{words} ended early")
+            answer += part
+    seconds = time.perf_counter() - start
+    process.stdin.close()
+    process.wait()
+    return seconds
+
+
+def compare(name, measure, top, stub, count):
+    """Prints the least time of a session and of the stub."""
+    times = {"session": [], "stub": []}
+    for run in range(RUNS):
+        folder = os.path.join(top, f"{name}-{run}".replace(" ", "-"))
+        os.mkdir(folder)
+        subprocess.run([PROGRAM, "run", folder], input=FIRST, stdout=subprocess.DEVNULL, check=True)
+        times["session"].append(measure([PROGRAM, "run", folder], [command(number) for number in range(count)]))
+        times["stub"].append(measure([stub, os.path.join(folder, "stub")], [record_bytes(number) for number in range(count)]))
+    session, stubbed = min(times["session"]), min(times["stub"])
+    print(
+        f"  {name}: {count / session:9.0f} commands a second, stub {count / stubbed:9.0f}; an answer takes"
+        f" {session / count * 1e6:7.1f} us, {session / stubbed:4.2f} times the stub's"
+    )
+
+
+def main():
+    if not os.access(PROGRAM, os.X_OK):
+        sys.exit("the program is not built: run ./confstore --version first")
+    with tempfile.TemporaryDirectory() as tools:
+        stub = os.path.join(tools, "append")
+        source = os.path.join(TOP, "bench", "peers", "append.c")
+        subprocess.run(["cc", "-O2", "-o", stub, source], check=True)
+        for place, count in (("/dev/shm", 20_000), (tempfile.gettempdir(), 2_000)):
+            with tempfile.TemporaryDirectory(dir=place) as top:
+                print(place)
+                compare("all at once", all_at_once, top, stub, count)
+                compare("one by one", one_by_one, top, stub, count)
+    return 0
+
+
+if __name__ == "__main__":
+    sys.exit(main())

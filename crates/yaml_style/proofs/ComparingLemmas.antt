@@ -1,0 +1,130 @@
+-- A text and what is written, one character after another.
+use Rattle.std.proofs.Common.{◌≡◌, ◌≢◌, ℕ, ◌-◌, ◌<◌, ◌≤◌, suc, Some, None, Bool, true, false, ◌==◌, List, [], ◌∷◌, ◌++◌, refl, sym, ap, ◌∙◌, subst, arith, take, drop, length, length-append, inl, inr}
+use lib.Utf8.{encodes}
+use Rattle.std.specs.Str.{chars, IsUtf8, IsCharBoundary}
+use Rattle.std.proofs.lemmas.Bool.{eq-eqb, eqb-true, false≢true, and_parts, cases_lt, cases_Bool}
+use Rattle.std.proofs.lemmas.List.{take_at, append_cancel_right}
+use Rattle.std.proofs.lemmas.Str.{chars-append, encodes-append, encodes-chars, IsUtf8-take, IsCharBoundary-at_seam}
+use Rattle.yaml_chars.specs.Places.{rest}
+use Rattle.yaml_chars.proofs.Places.{rest-end}
+use Rattle.yaml_grammar.specs.Texts.{same_text}
+use Rattle.yaml_style.specs.Findings.{common, style_line}
+use Rattle.yaml_style.specs.Lines.{breaks}
+use Rattle.yaml_style.specs.Comparing.{compared}
+
+-- ---- one character
+
+pub same_char : (c d : ℕ) (xs ys : List ℕ) → c ≡ d → compared (c ∷ xs) true (d ∷ ys) ≡ compared xs true ys
+same_char c d xs ys e = rw (eq-eqb c d e) refl
+
+pub other_char : (c d : ℕ) (xs ys : List ℕ) → (c == d) ≡ false → compared (c ∷ xs) true (d ∷ ys) ≡ (c ∷ xs, false)
+other_char c d xs ys e = rw e refl
+
+pub nothing_left : (ys : List ℕ) → (compared [] true ys).0 ≡ []
+nothing_left [] = refl
+nothing_left (y ∷ ys) = refl
+
+-- ---- a prefix
+
+pub prefix : (xs left : List ℕ) → compared (xs ++ left) true xs ≡ (left, true)
+prefix [] left = refl
+prefix (x ∷ xs) left = same_char x x (xs ++ left) xs refl ∙ prefix xs left
+
+pub is_prefix : (text written left : List ℕ) → compared text true written ≡ (left, true) → text ≡ written ++ left
+is_prefix text [] left e = ap (λ (s : List ℕ × Bool). s.0) e
+is_prefix [] (c ∷ cs) left e = absurd (false≢true (ap (λ (s : List ℕ × Bool). s.1) e))
+is_prefix (d ∷ ds) (c ∷ cs) left e = by_test (d == c) refl (λ later. is_prefix ds cs left later)
+  where
+    by_test : (b : Bool) → (d == c) ≡ b → (compared ds true cs ≡ (left, true) → ds ≡ cs ++ left) → d ∷ ds ≡ c ∷ cs ++ left
+    by_test true same later =
+        let e2 : compared ds true cs ≡ (left, true) = sym (same_char d c ds cs (eqb-true d c same)) ∙ e in
+        ap (λ x. x ∷ ds) (eqb-true d c same) ∙ ap (λ xs. c ∷ xs) (later e2)
+    by_test false other later = absurd (false≢true (ap (λ (s : List ℕ × Bool). s.1) (sym (other_char d c ds cs other) ∙ e)))
+
+-- ---- all of it
+
+-- what is left of a text comes after the prefix that it shares with the other
+pub shares : (text written : List ℕ) → common text written ++ (compared text true written).0 ≡ text
+shares [] [] = refl
+shares [] (c ∷ cs) = refl
+shares (d ∷ ds) [] = refl
+shares (d ∷ ds) (c ∷ cs) = by_test (d == c) refl (shares ds cs)
+  where
+    by_test : (b : Bool) → (d == c) ≡ b → common ds cs ++ (compared ds true cs).0 ≡ ds → common (d ∷ ds) (c ∷ cs) ++ (compared (d ∷ ds) true (c ∷ cs)).0 ≡ d ∷ ds
+    by_test true e later = rw e (ap (λ xs. d ∷ xs) later)
+    by_test false e later = rw e refl
+
+pub same_where : (text written : List ℕ) → (compared text true written).1 ≡ true → (compared text true written).0 ≡ [] → same_text text written ≡ true
+same_where [] [] agrees none = refl
+same_where [] (c ∷ cs) agrees none = absurd (false≢true agrees)
+same_where (d ∷ ds) [] agrees none = cc
+same_where (d ∷ ds) (c ∷ cs) agrees none = by_test (d == c) refl (same_where ds cs)
+  where
+    by_test : (b : Bool) → (d == c) ≡ b → ((compared ds true cs).1 ≡ true → (compared ds true cs).0 ≡ [] → same_text ds cs ≡ true) → same_text (d ∷ ds) (c ∷ cs) ≡ true
+    by_test true e later =
+        let step = same_char d c ds cs (eqb-true d c e) in
+        rw e (later (ap (λ (s : List ℕ × Bool). s.1) (sym step) ∙ agrees) (ap (λ (s : List ℕ × Bool). s.0) (sym step) ∙ none))
+    by_test false e later = absurd (false≢true (ap (λ (s : List ℕ × Bool). s.1) (sym (other_char d c ds cs e)) ∙ agrees))
+
+pub agrees_where_same : (text written : List ℕ) → same_text text written ≡ true → compared text true written ≡ ([], true)
+agrees_where_same [] [] e = refl
+agrees_where_same [] (c ∷ cs) e = absurd (false≢true e)
+agrees_where_same (d ∷ ds) [] e = absurd (false≢true e)
+agrees_where_same (d ∷ ds) (c ∷ cs) e =
+    let both = and_parts (d == c) (same_text ds cs) e in
+    same_char d c ds cs (eqb-true d c both.0) ∙ agrees_where_same ds cs both.1
+
+-- ---- bytes
+
+-- no character is there
+pub at_the_end : (bytes : List ℕ) (at : ℕ) → (at < length bytes → ⊥) → rest bytes at ≡ []
+at_the_end bytes at none = elim (cases_lt at (length bytes)) [ inl l ↦ absurd (none l) | inr l ↦ rest-end bytes at l ]
+
+-- a text in bytes that begins with another
+pub strips : (bytes piece : List ℕ) (n : ℕ) → IsUtf8 piece → bytes ≡ piece ++ drop n bytes → compared (chars bytes) true (chars piece) ≡ (chars (drop n bytes), true)
+strips bytes piece n utf8 e =
+    let parts : chars bytes ≡ chars piece ++ chars (drop n bytes) = ap chars e ∙ chars-append piece (drop n bytes) utf8 in
+    rw parts (prefix (chars piece) (chars (drop n bytes)))
+
+-- a text in bytes that does not
+pub no_prefix : (bytes piece : List ℕ) → IsUtf8 bytes → IsUtf8 piece → ((after : List ℕ) → bytes ≢ piece ++ after) → (compared (chars bytes) true (chars piece)).1 ≡ false
+no_prefix bytes piece utf8 piece_utf8 lacks = by_test (compared (chars bytes) true (chars piece)) refl
+  where
+    by_test : (s : List ℕ × Bool) → compared (chars bytes) true (chars piece) ≡ s → s.1 ≡ false
+    by_test (left, false) e = refl
+    by_test (left, true) e =
+        let parts : chars bytes ≡ chars piece ++ left = is_prefix (chars bytes) (chars piece) left e in
+        absurd (lacks (encodes left) (sym (encodes-chars bytes utf8) ∙ ap encodes parts ∙ encodes-append (chars piece) left ∙ ap (λ xs. xs ++ encodes left) (encodes-chars piece piece_utf8)))
+
+-- ---- the line on which a text first differs
+
+pub in_style : (text written left : List ℕ) (agrees : Bool) → (left, agrees) ≡ compared text true written → agrees ≡ true → left ≡ [] → style_line text written ≡ None
+in_style text written left agrees e held none =
+    let same = same_where text written (ap (λ (s : List ℕ × Bool). s.1) (sym e) ∙ held) (ap (λ (s : List ℕ × Bool). s.0) (sym e) ∙ none) in
+    rw same refl
+
+pub not_in_style : (text written left : List ℕ) (agrees : Bool) → (left, agrees) ≡ compared text true written → (agrees ≡ true → left ≡ [] → ⊥)
+    → style_line text written ≡ Some (suc (breaks (common text written)))
+not_in_style text written left agrees e differs = elim (cases_Bool (same_text text written)) [
+  | inl same ↦ (let all = agrees_where_same text written same in
+      absurd (differs (ap (λ (s : List ℕ × Bool). s.1) (e ∙ all)) (ap (λ (s : List ℕ × Bool). s.0) (e ∙ all))))
+  | inr other ↦ rw other refl
+]
+
+-- ---- a text that ends with another
+
+pub record EndsWith (bytes front rest : List ℕ) : Type 0 where
+  pub cut : IsCharBoundary bytes (length bytes - length rest)
+  pub within : length rest ≤ length bytes
+  pub before : chars (take (length bytes - length rest) bytes) ≡ front
+
+pub ends_with : (bytes front rest : List ℕ) → IsUtf8 bytes → IsUtf8 rest → chars bytes ≡ front ++ chars rest → EndsWith bytes front rest
+ends_with bytes front rest utf8 rest_utf8 e =
+    let parts : bytes ≡ encodes front ++ rest = sym (encodes-chars bytes utf8) ∙ ap encodes e ∙ encodes-append front (chars rest) ∙ ap (λ x. encodes front ++ x) (encodes-chars rest rest_utf8) in
+    let size : length bytes - length rest ≡ length (encodes front) = omega (arith, ap length parts, length-append (encodes front) rest) in
+    let boundary : IsCharBoundary bytes (length bytes - length rest) = subst (λ n. IsCharBoundary bytes n) (sym size) (IsCharBoundary-at_seam bytes (encodes front) rest parts rest_utf8) in
+    let taken : take (length bytes - length rest) bytes ≡ encodes front = ap (λ n. take n bytes) size ∙ ap (take (length (encodes front))) parts ∙ take_at (encodes front) rest (length (encodes front)) refl in
+    let whole : chars (take (length bytes - length rest) bytes) ++ chars rest ≡ front ++ chars rest =
+    sym (chars-append (take (length bytes - length rest) bytes) rest (IsUtf8-take bytes (length bytes - length rest) utf8 boundary))
+    ∙ ap chars (ap (λ x. x ++ rest) taken ∙ sym parts) ∙ e in
+    record { cut = boundary; within = omega (arith, ap length parts, length-append (encodes front) rest); before = append_cancel_right _ front (chars rest) whole }

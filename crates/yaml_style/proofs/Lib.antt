@@ -1,0 +1,6 @@
+pub mod LineLemmas
+pub mod SplitLemmas
+pub mod RuleLemmas
+pub mod ComparingLemmas
+pub mod PlaceLemmas
+pub mod Examples

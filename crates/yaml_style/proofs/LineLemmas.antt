@@ -1,0 +1,118 @@
+-- Where the first line of a text ends.
+use Rattle.std.proofs.Common.{◌≡◌, ◌≢◌, ℕ, suc, ◌<◌, inl, inr, Bool, true, false, not, ◌&&◌, ◌||◌, ◌==◌, List, [], ◌∷◌, ◌++◌, Some, length, slice_get, refl, ap, sym, ◌∙◌, arith, append-nil}
+use Rattle.std.specs.List.{list_all}
+use Rattle.std.proofs.lemmas.Bool.{and_parts, eqb-true, cases_Bool}
+use Rattle.std.proofs.lemmas.List.Sums.{list_all-from_AllPass}
+use Rattle.yaml_chars.specs.Classes.{line_break}
+use Rattle.yaml_chars.specs.Breaks.{StartsWithBreak, cr_lf, lf, cr, no_break, NoBreak}
+use Rattle.yaml_grammar.specs.Texts.{first}
+use Rattle.yaml_style.specs.Lines.{ends_break, lines, content, line_end, breaks}
+
+-- ---- one character
+
+no_break_ends : (a b x : Bool) → not (a || b) ≡ true → (a || (b && x)) ≡ false
+no_break_ends true b x h = cc
+no_break_ends false true x h = cc
+no_break_ends false false x h = refl
+
+ends_no_break : (c : ℕ) (cs : List ℕ) → no_break c ≡ true → ends_break c cs ≡ false
+ends_no_break c cs h = no_break_ends (c == 10) (c == 13) (not (first (λ d. d == 10) cs)) h
+
+is_no_break : (c : ℕ) → no_break c ≡ true → line_break c ≡ false
+is_no_break c h = elim (cases_Bool (line_break c)) [ inl e ↦ (let f : not (line_break c) ≡ false = ap not e in cc) | inr e ↦ e ]
+
+-- ---- a break in front
+
+-- LF doesn't come next
+no_feed : (cs : List ℕ) → slice_get cs 0 ≢ Some 10 → first (λ d. d == 10) cs ≡ false
+no_feed [] h = refl
+no_feed (c ∷ cs) h = elim (cases_Bool (c == 10)) [ inl e ↦ absurd (h (ap (λ x. Some x) (eqb-true c 10 e))) | inr e ↦ e ]
+
+-- the break in front of a text, and what its lines are
+pub record HasBreak (tail brk after : List ℕ) : Type 0 where
+  pub text : tail ≡ brk ++ after
+  pub lines : lines tail ≡ brk ∷ lines after
+  pub breaks : breaks tail ≡ suc (breaks after)
+  pub content : content brk ≡ []
+  pub whole : line_end brk ≡ brk
+
+pub has_break : (tail : List ℕ) (len : ℕ) (after : List ℕ) → StartsWithBreak tail len after → (brk : List ℕ) × HasBreak tail brk after
+has_break tail len after (cr_lf e size) =
+    (13 ∷ 10 ∷ [], record { text = e; lines = ap lines e; breaks = ap breaks e; content = refl; whole = refl })
+has_break tail len after (lf e size) =
+    (10 ∷ [], record { text = e; lines = ap lines e; breaks = ap breaks e; content = refl; whole = refl })
+has_break tail len after (cr e alone size) =
+    let ends : ends_break 13 after ≡ true = ap not (no_feed after alone) in
+    let cut : lines (13 ∷ after) ≡ (13 ∷ []) ∷ lines after = rw ends refl in
+    let count : breaks (13 ∷ after) ≡ suc (breaks after) = rw ends refl in
+    (13 ∷ [], record { text = e; lines = ap lines e ∙ cut; breaks = ap breaks e ∙ count; content = refl; whole = refl })
+
+-- ---- a line without a break in front
+
+lines_after : (front tail l : List ℕ) (ls : List (List ℕ)) → list_all no_break front ≡ true → lines tail ≡ l ∷ ls → lines (front ++ tail) ≡ (front ++ l) ∷ ls
+lines_after [] tail l ls h e = e
+lines_after (c ∷ cs) tail l ls h e =
+    let both = and_parts (no_break c) (list_all no_break cs) h in
+    let later : lines (cs ++ tail) ≡ (cs ++ l) ∷ ls = lines_after cs tail l ls both.1 e in
+    rw (ends_no_break c (cs ++ tail) both.0, later) refl
+
+breaks_after : (front tail : List ℕ) → list_all no_break front ≡ true → breaks (front ++ tail) ≡ breaks tail
+breaks_after [] tail h = refl
+breaks_after (c ∷ cs) tail h =
+    let both = and_parts (no_break c) (list_all no_break cs) h in
+    rw (ends_no_break c (cs ++ tail) both.0) (breaks_after cs tail both.1)
+
+content_in_front : (front tail : List ℕ) → list_all no_break front ≡ true → content (front ++ tail) ≡ front ++ content tail
+content_in_front [] tail h = refl
+content_in_front (c ∷ cs) tail h =
+    let both = and_parts (no_break c) (list_all no_break cs) h in
+    rw (is_no_break c both.0) (ap (λ x. c ∷ x) (content_in_front cs tail both.1))
+
+end_after : (front tail : List ℕ) → list_all no_break front ≡ true → line_end (front ++ tail) ≡ line_end tail
+end_after [] tail h = refl
+end_after (c ∷ cs) tail h =
+    let both = and_parts (no_break c) (list_all no_break cs) h in
+    rw (is_no_break c both.0) (end_after cs tail both.1)
+
+one_line : (text : List ℕ) → list_all no_break text ≡ true → 0 < length text → lines text ≡ text ∷ []
+one_line [] h l = absurd (omega (arith, l))
+one_line (c ∷ []) h l =
+    let both = and_parts (no_break c) true h in
+    rw (ends_no_break c [] both.0) refl
+one_line (c ∷ d ∷ cs) h l =
+    let both = and_parts (no_break c) (list_all no_break (d ∷ cs)) h in
+    let later : lines (d ∷ cs) ≡ (d ∷ cs) ∷ [] = one_line (d ∷ cs) both.1 (omega arith) in
+    rw (ends_no_break c (d ∷ cs) both.0, later) refl
+
+-- ---- the first line of a text
+
+-- its content and its break, and the text after them
+pub record IsFirstLine (text front brk after : List ℕ) : Type 0 where
+  pub cut : lines text ≡ (front ++ brk) ∷ lines after
+  pub content : content (front ++ brk) ≡ front
+  pub ending : line_end (front ++ brk) ≡ brk
+
+pub first_line : (front tail brk after : List ℕ) → NoBreak front → HasBreak tail brk after → IsFirstLine (front ++ tail) front brk after
+first_line front tail brk after none is =
+    let h : list_all no_break front ≡ true = list_all-from_AllPass no_break front none in
+    record {
+      cut = lines_after front tail brk (lines after) h is.lines;
+      content = content_in_front front brk h ∙ ap (λ x. front ++ x) is.content ∙ append-nil front;
+      ending = end_after front brk h ∙ is.whole;
+    }
+
+pub last_line : (text : List ℕ) → NoBreak text → 0 < length text → IsFirstLine text text [] []
+last_line text none some =
+    let h : list_all no_break text ≡ true = list_all-from_AllPass no_break text none in
+    record {
+      cut = one_line text h some ∙ ap (λ x. x ∷ []) (sym (append-nil text));
+      content = content_in_front text [] h ∙ append-nil text;
+      ending = end_after text [] h;
+    }
+
+pub one_more_break : (front tail brk after : List ℕ) → NoBreak front → HasBreak tail brk after → breaks (front ++ tail) ≡ suc (breaks after)
+one_more_break front tail brk after none is = breaks_after front tail (list_all-from_AllPass no_break front none) ∙ is.breaks
+
+pub no_more_breaks : (text : List ℕ) → NoBreak text → breaks text ≡ 0
+no_more_breaks text none =
+    ap breaks (sym (append-nil text)) ∙ breaks_after text [] (list_all-from_AllPass no_break text none)

@@ -1,0 +1,15 @@
+use Rattle.std.proofs.Common.{ap, ◌∙◌, ◌∷◌, []}
+use Rattle.std.specs.Str.{chars}
+use Rattle.std.proofs.lemmas.List.{replicate-append-replicate}
+use Rattle.yaml_grammar.specs.Texts.{spaces}
+use Rattle.yaml_style.specs.Comparing.{compared}
+use Rattle.yaml_style.specs.ComparingLaws.{compared-both}
+use Rattle.yaml_style.proofs.comparison.ComparisonSink.put_spaces.Goals as goal
+
+pub loop-preserved : goal.loop-preserved
+loop-preserved c =
+    let a = c.args.self.now in
+    let b = c.loop.self in
+    let d = c.put_char.new.self in
+    compared-both (chars a.rest.now) a.agrees (chars b.rest.now) b.agrees (chars d.rest.now, d.agrees) (spaces c.loop.counter) (32 ∷ []) c.loop.invariant c.in_ok-put_char.ensures
+    ∙ ap (compared (chars a.rest.now) a.agrees) (replicate-append-replicate c.loop.counter 1 32)

@@ -1,0 +1,9 @@
+-- So many spaces were compared.
+use Rattle.std.proofs.Common.{◌≡◌, List, ℕ, Bool}
+use Rattle.std.specs.Str.{chars}
+use Rattle.yaml_grammar.specs.Texts.{spaces}
+use Rattle.yaml_style.specs.Comparing.{compared}
+use Rattle.yaml_style.proofs.comparison.ComparisonSink.put_spaces.Given as goal
+
+abbrev pub invariant-loop : goal.invariant-loop
+invariant-loop l = ◌≡◌ {A = List ℕ × Bool} (chars l.self.rest.now, l.self.agrees) (compared (chars l.initial.self.rest.now) l.initial.self.agrees (spaces l.counter))

@@ -1,0 +1,15 @@
+-- At the end nothing is left.
+use Rattle.std.proofs.Common.{◌++◌, ap, sym, ◌∙◌, suc, append-nil}
+use Rattle.std.specs.Str.{chars}
+use Rattle.std.proofs.lemmas.Str.{chars-nil}
+use Rattle.yaml_style.specs.Lines.{lines}
+use Rattle.yaml_style.specs.Findings.{line_findings}
+use Rattle.yaml_style.proofs.SplitLemmas.{no_bytes}
+use Rattle.yaml_style.proofs.lines.line_findings.Goals as goal
+
+pub returns : goal.returns
+returns c =
+    let left = no_bytes c.loop-rest.rest.now (sym c.is_empty.ensures ∙ c.loop-rest-test.false) in
+    sym (append-nil c.loop-rest.findings.items)
+    ∙ ap (λ cs. c.loop-rest.findings.items ++ line_findings (suc c.loop-rest.number) (lines cs)) (sym (ap chars left ∙ chars-nil))
+    ∙ c.loop-rest.invariant.found

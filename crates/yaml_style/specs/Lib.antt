@@ -1,0 +1,6 @@
+pub mod Lines
+pub mod Findings
+pub mod Seen
+pub mod Comparing
+pub mod ComparingLaws
+pub mod Checking

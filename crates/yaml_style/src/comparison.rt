@@ -1,0 +1,131 @@
+// A text compared with one that is written piece by piece.
+ghost use Rattle.std.specs.Prelude.{◌≡◌, ◌+◌, ◌<◌, false, true, [], ◌∷◌, IfNone, IfSome};
+ghost use Rattle.std.specs.Str.{IsCharBoundary, chars};
+ghost use Rattle.yaml_chars.specs.Places.{rest};
+ghost use Rattle.yaml_style.specs.Comparing.{compared};
+
+use std::convert::Infallible;
+use yaml_chars::next_char;
+use yaml_tree::Sink;
+
+/// A text, as far as it is not found in what is written.
+#[derive(Drop)]
+pub(crate) struct Comparison<'a> {
+    /// What is left of the text after the longest prefix that it shares with what is written.
+    pub(crate) rest: &'a str,
+    /// Whether all that is written is that prefix.
+    pub(crate) agrees: bool,
+}
+
+impl<'a> Comparison<'a> {
+    /// Nothing is written yet.
+    pub(crate) fn new(text: &'a str) -> Comparison<'a>
+        ensures rest { result.rest.now ≡ text.now }
+        ensures agrees { result.agrees ≡ true }
+    {
+        Comparison {
+            rest: text,
+            agrees: true,
+        }
+    }
+}
+
+impl Sink for Comparison<'_> {
+    ghost use Rattle.std.specs.Prelude.{◌≡◌};
+    ghost use Rattle.std.specs.Str.{chars};
+    ghost use Rattle.yaml_style.specs.Comparing.{compared};
+    ghost use Rattle.yaml_style.specs.ComparingLaws.{compared-none, compared-both};
+
+    type Fault = Infallible;
+
+    ghost Takes = { λ a cs b. (chars b.rest.now, b.agrees) ≡ compared (chars a.rest.now) a.agrees cs };
+
+    ghost takes_none = { λ s. compared-none (chars s.rest.now) s.agrees };
+
+    ghost takes_both = { λ a b c xs ys first second. compared-both (chars a.rest.now) a.agrees (chars b.rest.now) b.agrees
+        (chars c.rest.now, c.agrees) xs ys first second };
+
+    fn put_text(&mut self, text: &str) -> Result<(), Infallible> {
+        if self.agrees {
+            let (rest, agrees) = compare(self.rest, text);
+            self.rest = rest;
+            self.agrees = agrees;
+        }
+        Ok(())
+    }
+
+    fn put_char(&mut self, c: char) -> Result<(), Infallible> {
+        if self.agrees {
+            match strip_char(self.rest, c) {
+                Some(rest) => self.rest = rest,
+                None => self.agrees = false,
+            }
+        }
+        Ok(())
+    }
+
+    fn put_spaces(&mut self, count: u64) -> Result<(), Infallible> {
+        for _ in 0..count {
+            self.put_char(' ')?;
+        }
+        Ok(())
+    }
+}
+
+/// What is left of a text after the longest prefix that it shares with what is written, and whether that is all of it.
+fn compare<'a>(text: &'a str, written: &str) -> (&'a str, bool)
+    ensures { (chars result.0.now, result.1) ≡ compared (chars text.now) true (chars written.now) }
+{
+    match text.strip_prefix(written) {
+        Some(rest) => (rest, true),
+        None => (after_common(text, written), false),
+    }
+}
+
+/// What is left of a text that begins with this character.
+fn strip_char(text: &str, c: char) -> Option<&str>
+    ensures found { IfSome result (λ left. compared (chars text.now) true (c ∷ []) ≡ (chars left.now, true)) }
+    ensures none { IfNone result (compared (chars text.now) true (c ∷ []) ≡ (chars text.now, false)) }
+{
+    let Some((first, len)) = next_char(text, 0) else {
+        return None;
+    };
+    if first != c {
+        return None;
+    }
+    Some(&text[len..])
+}
+
+/// What is left of a text after the longest prefix that it shares with another.
+fn after_common<'a>(text: &'a str, other: &str) -> &'a str
+    ensures { chars result.now ≡ (compared (chars text.now) true (chars other.now)).0 }
+{
+    let mut at = 0;
+    while let Some(len) = common_char(text, other, at) {
+        at += len;
+    }
+    &text[at..]
+}
+
+/// The length in bytes of the character that both texts have at a place; None where they differ there, or one ends.
+fn common_char(text: &str, other: &str, at: usize) -> Option<usize>
+    requires here { IsCharBoundary text.now at }
+    requires there { IsCharBoundary other.now at }
+    ensures same { IfSome result (λ len. compared (rest text.now at) true (rest other.now at)
+        ≡ compared (rest text.now (at + len)) true (rest other.now (at + len))) }
+    ensures here { IfSome result (λ len. IsCharBoundary text.now (at + len)) }
+    ensures there { IfSome result (λ len. IsCharBoundary other.now (at + len)) }
+    ensures some { IfSome result (λ len. 0 < len) }
+    ensures none { IfNone result ((compared (rest text.now at) true (rest other.now at)).0 ≡ rest text.now at) }
+{
+    let Some((c, len)) = next_char(text, at) else {
+        return None;
+    };
+    let Some((d, _)) = next_char(other, at) else {
+        return None;
+    };
+    if c != d {
+        return None;
+    }
+    Some(len)
+}

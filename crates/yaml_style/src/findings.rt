@@ -1,0 +1,111 @@
+// The findings of a text.
+ghost use Rattle.std.specs.Prelude.{◌≡◌, ℕ, ◌≤◌, ◌<◌, ◌↔◌, List, ◌++◌, Err, IfOk, IfErr, OnOk, length, nat_lt};
+ghost use Rattle.std.specs.List.{position_or_len};
+ghost use Rattle.std.specs.Str.{chars};
+ghost use Rattle.yaml_grammar.specs.Style.{style_text};
+ghost use Rattle.yaml_grammar.specs.Texts.{is_empty};
+ghost use Rattle.yaml_style.specs.Checking.{IsChecked, configuration};
+ghost use Rattle.yaml_style.specs.Findings.{style_line, with_style};
+ghost use Rattle.yaml_tree.specs.Reading.{Refuses};
+ghost use Rattle.yaml_tree.specs.Seen.{tree_of};
+
+use crate::comparison::Comparison;
+use crate::lines::{break_count, line_findings};
+use crate::{Finding, Rule};
+use std::alloc::{AllocError, Global};
+use yaml_chars::checked;
+use yaml_tree::{Config, Limits, ReadFault, read_one, write_style};
+
+/// The limits of a configuration: bytes of its text, depth, and bytes in the one style.
+pub const CONFIGURATION: Limits = Limits {
+    bytes: 1_048_576,
+    depth: 64,
+    style: 1_048_576,
+};
+
+/// The findings of a text, ordered by line, and on one line by rule.
+///
+/// The text is read as [`read_one`] reads it, within the limits of a configuration ([`CONFIGURATION`]). Its lines
+/// are looked at once, and the text of its tree in the one style is compared with it as it is written, and never
+/// held. A byte order mark counts as a character of the first line. Breaks are LF, CR LF and CR (YAML 1.2.2, 5.4).
+///
+/// # Errors
+///
+/// Those of [`read_one`], within those limits; a text that is refused has no findings.
+pub fn check(alloc: Global, bytes: &[u8]) -> Result<Vec<Finding>, ReadFault>
+    ensures found { IfOk result (λ findings. IsChecked bytes.now findings.items) }
+    ensures too_long { (result ≡ Err ReadFault.TooLong) ↔ (1048576 < length bytes.now) }
+    ensures refused { IfErr result (Refuses bytes.now configuration) }
+{
+    let config = read_one(alloc, bytes, &CONFIGURATION)?;
+    let text = checked(bytes).unwrap();
+    let mut findings = line_findings(alloc, text)?;
+    insert_style(&mut findings, style_line(text, &config))?;
+    Ok(findings)
+}
+
+/// The line on which a text first differs from its tree's in the one style; None where it doesn't.
+fn style_line(text: &str, config: &Config) -> Option<u64>
+    requires { length text.now ≤ 1048576 }
+    ensures { result ≡ style_line (chars text.now) (style_text (tree_of config.now)) }
+{
+    let mut written = Comparison::new(text);
+    match write_style(config.tree(), &mut written) {
+        Ok(()) => {}
+        Err(never) => match never {},
+    }
+    if written.agrees && is_empty_text(written.rest) {
+        return None;
+    }
+    Some(break_count(before(text, written.rest)) + 1)
+}
+
+/// Whether a text has no characters.
+fn is_empty_text(text: &str) -> bool
+    ensures { result ≡ is_empty (chars text.now) }
+{
+    text.is_empty()
+}
+
+/// The part of a text before the rest that it ends with.
+fn before<'a>(text: &'a str, rest: &str) -> &'a str
+    requires { (front : List ℕ) × (chars text.now ≡ front ++ chars rest.now) }
+    ensures parts { chars text.now ≡ chars result.now ++ chars rest.now }
+    ensures within { length result.now ≤ length text.now }
+{
+    &text[..text.len() - rest.len()]
+}
+
+/// Inserts the finding of a line that is not in the one style, if there is one, before the first finding on a later
+/// line.
+fn insert_style(findings: &mut Vec<Finding>, line: Option<u64>) -> Result<(), AllocError>
+    ensures { OnOk result (findings.new.items ≡ with_style line findings.old.items) }
+{
+    let Some(line) = line else {
+        return Ok(());
+    };
+    let at = place_after(findings, line);
+    findings.insert(
+        at,
+        Finding {
+            rule: Rule::NotInStyle,
+            line,
+        },
+    )?;
+    Ok(())
+}
+
+/// The place of the first finding on a later line, or the number of findings.
+fn place_after(findings: &[Finding], line: u64) -> usize
+    ensures place { result ≡ position_or_len (λ f. nat_lt line f.line) findings.now }
+    ensures within { result ≤ length findings.now }
+{
+    let mut at = 0;
+    for finding in findings {
+        if finding.line > line {
+            return at;
+        }
+        at += 1;
+    }
+    at
+}

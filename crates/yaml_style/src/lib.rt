@@ -1,0 +1,13 @@
+//! Where a text departs from the one style: a list of findings, each with its rule and its line.
+#![tactic(auto)]
+
+mod comparison;
+mod finding;
+mod findings;
+mod lines;
+
+pub use finding::{Finding, Rule};
+pub use findings::{CONFIGURATION, check};
+
+#[cfg(test)]
+mod tests;
