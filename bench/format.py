@@ -1,10 +1,10 @@
 #!/usr/bin/env python3
-"""Times `confstore format` on inputs of several sizes, beside `wc -c` on the same file.
+"""Times `confstore format` and `confstore check` on inputs of several sizes, beside `wc -c` on the same file.
 
 For each form of text that is read, and each size, it prints the least processor time of fifteen runs, the speed without the
-start of the program, and the greatest memory.
-It says at the end whether the time a byte grew by more than a quarter from the smallest size to the largest, and whether the
-memory stayed below 12 times the input. Run it from the repository's root after the program is built:
+start of the program, and the greatest memory; and the time and the memory of `check` over those of `format`.
+It says at the end whether the time a byte grew by more than a quarter from the smallest size to the largest, whether the
+memory stayed below 12 times the input, and whether `check` took at most 1.3 times the time of `format` at the largest size. Run it from the repository's root after the program is built:
 
     python3 bench/format.py
 """
@@ -22,6 +22,8 @@ FORMS = {
     "plain words": lambda i: f"key-{i:07}: value/of.{i:07}\n",
     "double quotes": lambda i: f'key-{i:07}: "the value of key {i}, as text"\n',
     "long values": lambda i: f'k{i:06}: "' + "lorem ipsum dolor " * 20 + '"\n',
+    # a finding on each line
+    "single quotes": lambda i: f"key-{i:07}: 'the value of key {i}, as text' \n",
 }
 
 
@@ -41,17 +43,16 @@ def processor_seconds(words, path):
     with open(path, "rb") as source:
         process = subprocess.Popen(words, stdin=source, stdout=subprocess.DEVNULL)
         _, status, usage = os.wait4(process.pid, 0)
-    if status != 0:
-        sys.exit(f"{words[0]} failed on {path}")
+    # `check` ends with 1 where it found something
+    if status != 0 and not (words[-1] == "check" and os.waitstatus_to_exitcode(status) == 1):
+        sys.exit(f"{words} failed on {path}")
     return usage.ru_utime + usage.ru_stime
 
 
 def greatest_memory(words, path):
     """The greatest memory of one run in bytes, as `time` tells it."""
     with open(path, "rb") as source:
-        told = subprocess.run(
-            ["/usr/bin/time", "-f", "%M", *words], stdin=source, stdout=subprocess.DEVNULL, stderr=subprocess.PIPE, text=True, check=True
-        )
+        told = subprocess.run(["/usr/bin/time", "-f", "%M", *words], stdin=source, stdout=subprocess.DEVNULL, stderr=subprocess.PIPE, text=True)
     return int(told.stderr.split()[-1]) * 1024
 
 
@@ -79,6 +80,9 @@ def main():
                 length = os.path.getsize(path)
                 seconds = best([PROGRAM, "format"], path)
                 memory = greatest_memory([PROGRAM, "format"], path)
+                checked = best([PROGRAM, "check"], path)
+                check_memory = greatest_memory([PROGRAM, "check"], path)
+                ratio = max(checked - start, 1e-6) / max(seconds - start, 1e-6)
                 peer = best(["wc", "-c"], path)
                 work = max(seconds - start, 1e-6)
                 costs.append(work / length)
@@ -87,11 +91,12 @@ def main():
                 print(
                     f"{form:14} {length:8} bytes  {seconds * 1000:7.2f} ms  {length / work / 1e6:7.1f} MB/s"
                     f"  wc -c {peer * 1000:5.2f} ms  {memory / 2**20:6.1f} MiB ({(memory - floor) / length:4.1f} times the input)"
+                    f"  check {checked * 1000:7.2f} ms ({ratio:4.2f} times)  {check_memory / 2**20:6.1f} MiB"
                 )
             growth = costs[-1] / costs[0]
-            sound = sound and growth <= 1.25
+            sound = sound and growth <= 1.25 and ratio <= 1.3
             print(f"{form:14} the time a byte at the largest size is {growth:.2f} times that at the smallest")
-    print("linear, and within 12 times the input" if sound else "NOT within the bounds")
+    print("linear, within 12 times the input, and `check` within 1.3 times the time of `format`" if sound else "NOT within the bounds")
     return 0 if sound else 1
 
 

@@ -1,0 +1,149 @@
+"""The texts that bench/read.py reads: six corpora inside the profile, and hostile texts. The same size gives the same text."""
+
+import random
+
+WORDS = (
+    "alpha beta gamma delta config server proxy cache queue worker storage network region backup metrics gateway ingress "
+    "token secret volume memory limit policy default internal external primary replica"
+).split()
+SENTENCE = (
+    "The store keeps what was written before the crash, and a reader finds either the old state or the new one; nothing "
+    "between them is ever seen by anybody who opens the folder again."
+).split()
+
+
+def until(size, part):
+    """The parts 0, 1, 2 .. in a row, as many as fit into the size."""
+    parts, length, number = [], 0, 0
+    while True:
+        text = part(number)
+        if length + len(text) > size:
+            return "".join(parts)
+        parts.append(text)
+        length += len(text)
+        number += 1
+
+
+def services(size):
+    """Service files: short keys and words."""
+    chance = random.Random(1)
+
+    def service(number):
+        names = [chance.choice(WORDS) for _ in range(4)]
+        return (
+            f"{names[0]}-{number:06}:\n  image: {names[1]}/{names[2]}\n  restart: always\n  port: {8000 + number % 999}\n"
+            f"  user: {names[3]}\n  env: production\n"
+        )
+
+    return until(size, service)
+
+
+def kubernetes(size):
+    """Mappings and sequences in one another, as Kubernetes' files have them."""
+    chance = random.Random(2)
+
+    def deployment(number):
+        name = f"{chance.choice(WORDS)}-{number}"
+        return (
+            f"- apiVersion: apps/v1\n  kind: Deployment\n  metadata:\n    name: {name}\n    labels:\n      app: {name}\n"
+            f"      tier: {chance.choice(WORDS)}\n  spec:\n    replicas: {number % 9}\n    template:\n      spec:\n"
+            f"        containers:\n          - name: {name}\n            image: registry/{name}:1.{number % 50}\n"
+            f"            args: [\"--port\", '80{number % 90}']\n            ports:\n              - containerPort: 8080\n"
+            f"            env:\n              - name: {chance.choice(WORDS).upper()}\n                value: \"{number}\"\n"
+            "              # set by the chart\n              - name: MODE\n                value: production\n"
+        )
+
+    return until(size, deployment)
+
+
+def literals(size):
+    """Long literal scalars."""
+    chance = random.Random(3)
+
+    def literal(number):
+        lines = [" ".join(chance.choice(WORDS) for _ in range(chance.randrange(4, 12))) for _ in range(40)]
+        return f"file-{number}: |\n" + "".join(f"  {line}\n" for line in lines)
+
+    return until(size, literal)
+
+
+def brackets(size):
+    """Flow collections, as JSON has them."""
+    chance = random.Random(4)
+
+    def record(number):
+        names = [chance.choice(WORDS) for _ in range(5)]
+        return (
+            f' {{"id": {number}, "name": "{names[0]} {names[1]}", "tags": ["{names[2]}", "{names[3]}"], '
+            f'"nested": {{"x": {number % 77}.5, "ok": true, "list": [1, 2, 3]}}, "owner": "{names[4]}"}},\n'
+        )
+
+    return "[\n" + until(size - 4, record) + " ]\n"
+
+
+def nests(size):
+    """Collections of 40 levels, one after the other."""
+
+    def nest(number):
+        lines = [f"nest-{number}:\n"]
+        for level in range(1, 40):
+            indent = "  " * level
+            lines.append(f"{indent}left-{level}: a\n{indent}down:\n" if level < 39 else f"{indent}- end\n{indent}- here\n")
+        return "".join(lines)
+
+    return until(size, nest)
+
+
+def prose(size):
+    """Folded and quoted scalars over lines, and plain ones."""
+    chance = random.Random(5)
+
+    def paragraph(indent):
+        lines = []
+        for _ in range(chance.randrange(3, 7)):
+            start = chance.randrange(len(SENTENCE) - 12)
+            lines.append(" ".join(SENTENCE[start : start + 12]).replace(":", ""))
+        return ("\n" + indent).join(lines)
+
+    def chapter(number):
+        return (
+            f"folded-{number}: >\n  {paragraph('  ')}\n\n  {paragraph('  ')}\n"
+            f"quoted-{number}: \"{paragraph('  ')}\\\n  {paragraph('  ')}\"\n"
+            f"single-{number}: '{paragraph('  ')}\n\n  it''s said'\n"
+            f"plain-{number}:\n  {paragraph('  ')}\n"
+        )
+
+    return until(size, chapter)
+
+
+CORPORA = {
+    "services": services,
+    "kubernetes": kubernetes,
+    "literals": literals,
+    "brackets": brackets,
+    "nests": nests,
+    "prose": prose,
+}
+
+# Texts that a careless reader takes more than linear time for. Some of them are refused.
+HOSTILE = {
+    "[ alone": lambda size: "[" * size,
+    "[ and ]": lambda size: "[" * (size // 2) + "]" * (size // 2),
+    "{a: {a:": lambda size: "{a: " * (size // 5) + "}" * (size // 5),
+    "- - - x": lambda size: "- " * (size // 2 - 1) + "x\n",
+    "? ? ? x": lambda size: "? " * (size // 2 - 1) + "x\n",
+    "long keys": lambda size: until(size, lambda number: f"{number:07}{'k' * 1016}: v\n"),
+    "many keys": lambda size: until(size, lambda number: f"k{number}:\n"),
+    "near keys": lambda size: until(size, lambda number: f"- {'k' * 1022}\n"),
+    "collections as keys": lambda size: until(size, lambda number: "- " + "[" * 200 + "a" + "]: b" * 200 + "\n"),
+    "white space": lambda size: "a:" + " " * (size - 4) + "b\n",
+    "empty lines": lambda size: "a: b\n" + "\n" * (size - 5),
+    "empty lines in a plain": lambda size: "a\n" + "\n" * (size - 4) + "b\n",
+    "escapes": lambda size: '"' + "\\x41" * (size // 4 - 1) + '"\n',
+    "rising literals": lambda size: until(size, lambda number: "- |\n" + "".join(" " * (k + 1) + "x\n" for k in range(60))),
+    "stairs": lambda size: until(
+        size, lambda number: "- " * 99 + "a\n" + "".join("  " * level + "- b\n" for level in range(98, 0, -1))
+    ),
+    "comments": lambda size: "a: b\n" + until(size - 5, lambda number: f"# {number}\n"),
+    "documents": lambda size: until(size, lambda number: "---\n"),
+}

@@ -1,0 +1,210 @@
+#!/usr/bin/env python3
+"""Times the reading of texts, beside libyaml and libfyaml.
+
+It makes six corpora of 1 MiB each, and reads them to events and to a tree in a loop inside one process, as the peers do, and
+once by `confstore format` beside what libyaml takes to read and write the same text. It prints MB/s, the ratio to the best
+peer, the greatest memory, and with `-i` instructions a byte as valgrind counts them. Then it reads the corpora, and hostile
+texts, at 64 KiB, 1 MiB and 16 MiB, and says where the time a byte grew by more than a quarter. A text of signs alone has an event
+of 48 bytes for each byte or two, and above some 64 KiB half of its time goes into fresh memory; with `-i` the instructions
+a byte at 64 KiB and 1 MiB stand beside it.
+
+A time is the least processor time of several runs, less that of a run with fewer rounds. Run it on a quiet machine from the
+repository's root, after the programs are built:
+
+    ./confstore --version && (cd crates/read_probe && rt run) && python3 bench/read.py [-i] [corpora|growth]
+
+The peers are left out where they are not there: `apt-get install libyaml-dev libfyaml-dev` installs them, and `valgrind`.
+"""
+
+import math
+import os
+import re
+import shutil
+import subprocess
+import sys
+import tempfile
+
+from corpora import CORPORA, HOSTILE
+
+TOP = os.path.dirname(os.path.dirname(os.path.abspath(__file__)))
+PROGRAM = os.path.join(TOP, "crates", "confstore", "out", "confstore")
+PROBE = os.path.join(TOP, "crates", "read_probe", "out", "read_probe")
+MIB = 1024 * 1024
+SIZES = [64 * 1024, MIB, 16 * MIB]
+# The peers, with what each is linked to and the package that has it.
+PEERS = {"libyaml": ("-lyaml", "libyaml-dev"), "libfyaml": ("-lfyaml", "libfyaml-dev")}
+# How long the rounds of one measurement take together, in seconds, and how many runs the least is taken of.
+ENOUGH = 0.1
+RUNS = 3
+
+
+def run(words, source=os.devnull):
+    """The processor time of a run in seconds, and what it printed."""
+    with tempfile.TemporaryFile() as output, open(source, "rb") as text:
+        process = subprocess.Popen(words, stdin=text, stdout=output, stderr=subprocess.DEVNULL)
+        _, process.returncode, usage = os.wait4(process.pid, 0)
+        output.seek(0)
+        return usage.ru_utime + usage.ru_stime, output.read()
+
+
+def greatest_memory(words, source=os.devnull):
+    """The greatest memory of a run in bytes, as `time` reports it."""
+    with open(source, "rb") as text:
+        measured = subprocess.run(
+            ["/usr/bin/time", "-f", "%M", *words], stdin=text, stdout=subprocess.DEVNULL, stderr=subprocess.PIPE, text=True, check=False
+        )
+    return int(measured.stderr.split()[-1]) * 1024
+
+
+def rounds_of(words):
+    """How many rounds take long enough to be measured."""
+    rounds = 1
+    while run([*words, str(rounds + 1)])[0] - run([*words, "1"])[0] < ENOUGH and rounds < 100_000:
+        rounds *= 4
+    return rounds
+
+
+def round_seconds(words):
+    """The processor time of one round."""
+    rounds = rounds_of(words)
+    return min(run([*words, str(rounds + 1)])[0] - run([*words, "1"])[0] for _ in range(RUNS)) / rounds
+
+
+def round_instructions(words):
+    """How many instructions one round takes, as callgrind counts them."""
+
+    def collected(rounds):
+        tool = ["valgrind", "--tool=callgrind", "--callgrind-out-file=/dev/null"]
+        done = subprocess.run([*tool, *words, str(rounds)], capture_output=True, text=True, check=True)
+        return int(re.search(r"Collected : (\d+)", done.stderr)[1])
+
+    return collected(2) - collected(1)
+
+
+def built_peers(folder):
+    """The peers' drivers that can be built here."""
+    built = {}
+    for peer, (library, package) in PEERS.items():
+        program = os.path.join(folder, peer)
+        source = os.path.join(TOP, "bench", "peers", f"{peer}.c")
+        done = subprocess.run(["cc", "-O2", "-o", program, source, library], capture_output=True, check=False)
+        if done.returncode == 0:
+            built[peer] = program
+        else:
+            print(f"{peer} is left out: install {package} to compare with it")
+    return built
+
+
+def written(folder, text):
+    """A file with a text."""
+    path = os.path.join(folder, "input.yaml")
+    with open(path, "w", encoding="utf-8") as target:
+        target.write(text)
+    return path
+
+
+def megabytes(length, seconds):
+    return length / max(seconds, 1e-9) / 1e6
+
+
+def compare(work, path, peers, counts_instructions):
+    """Prints how fast a file is read, beside the peers, and returns the ratio to the best of them."""
+    length = os.path.getsize(path)
+    programs = {"confstore": PROBE, **peers}
+    speeds, parts = {}, []
+    for name, program in programs.items():
+        words = [program, work, path]
+        speeds[name] = megabytes(length, round_seconds(words))
+        part = f"{name} {speeds[name]:6.1f} MB/s {greatest_memory([*words, '1']) / MIB:5.1f} MiB"
+        if counts_instructions:
+            part += f" {round_instructions(words) / length:6.1f} a byte"
+        parts.append(part)
+    best = max((speeds[name] for name in peers), default=math.nan)
+    ratio = speeds["confstore"] / best
+    print(f"  {work:6} {' | '.join(parts)} | {ratio:4.2f} times the best peer")
+    return ratio
+
+
+def style_limited(folder, make):
+    """A file with a text of a corpus whose text in the one style is within the limit of 1 MiB."""
+    size = MIB
+    while True:
+        path = written(folder, make(size))
+        length = int(run([PROBE, "tree", path, "1"])[1])
+        if length <= MIB:
+            return path
+        size = int(size * MIB / length * 0.99)
+
+
+def compare_format(path, peers):
+    """Prints how fast `format` is as a program, beside libyaml's reading and writing as one, and returns the ratio."""
+    length = os.path.getsize(path)
+    least = min(run([PROGRAM, "format"], path)[0] for _ in range(3 * RUNS))
+    memory = greatest_memory([PROGRAM, "format"], path)
+    print(f"  format confstore {megabytes(length, least):6.1f} MB/s, {memory / length:4.1f} times the input in memory", end="")
+    ratio = math.nan
+    if "libyaml" in peers:
+        peer = min(run([peers["libyaml"], "copy", path, "1"])[0] for _ in range(3 * RUNS))
+        ratio = peer / max(least, 1e-9)
+        print(f" | libyaml {megabytes(length, peer):6.1f} MB/s | {ratio:4.2f} times libyaml", end="")
+    print()
+    return ratio
+
+
+def event_bytes(path, floor):
+    """How much memory an event takes: what a run takes more than on a short text, without the text itself."""
+    words = [PROBE, "events", path, "1"]
+    return (greatest_memory(words) - floor - os.path.getsize(path)) / int(run(words)[1])
+
+
+def mean(ratios):
+    return math.exp(sum(map(math.log, ratios)) / len(ratios))
+
+
+def corpora(folder, peers, counts_instructions):
+    """Reads the corpora beside the peers."""
+    ratios = {"events": [], "tree": [], "format": []}
+    floor = greatest_memory([PROBE, "events", written(folder, "a: b\n"), "1"])
+    for name, make in CORPORA.items():
+        path = written(folder, make(MIB))
+        print(f"{name}: {event_bytes(path, floor):.0f} bytes an event")
+        for work in ("events", "tree"):
+            ratios[work].append(compare(work, path, peers, counts_instructions))
+        ratios["format"].append(compare_format(style_limited(folder, make), peers))
+    for work, all_ratios in ratios.items():
+        print(f"{work}: {mean(all_ratios):.2f} times the peer, in the geometric mean")
+
+
+def growth(folder, counts_instructions):
+    """Reads texts of three sizes, and says where the time a byte grows."""
+    for name, make in {**CORPORA, **HOSTILE}.items():
+        costs, counts = [], []
+        for size in SIZES:
+            path = written(folder, make(size))
+            words, length = [PROBE, "events", path], os.path.getsize(path)
+            costs.append(round_seconds(words) / length * 1e9)
+            if counts_instructions and size <= MIB:
+                counts.append(f"{round_instructions(words) / length:.1f}")
+        answer = run([PROBE, "events", path, "1"])[1].decode().strip()
+        shown = ", ".join(f"{cost:6.2f}" for cost in costs)
+        grew = max(costs) / costs[0]
+        more = f", {' and '.join(counts)} instructions" if counts else ""
+        print(f"{name:22} {shown} ns a byte, {grew:4.2f} times{' GROWS' if grew > 1.25 else ''}{more}  ({answer})")
+
+
+def main():
+    for program in (PROGRAM, PROBE):
+        if not os.access(program, os.X_OK):
+            sys.exit(f"{program} is not built")
+    words = sys.argv[1:]
+    counts_instructions = "-i" in words and shutil.which("valgrind") is not None
+    with tempfile.TemporaryDirectory() as folder:
+        if "growth" not in words:
+            corpora(folder, built_peers(folder), counts_instructions)
+        if "corpora" not in words:
+            growth(folder, counts_instructions)
+    return 0
+
+
+if __name__ == "__main__":
+    sys.exit(main())

@@ -1,0 +1,142 @@
+#!/usr/bin/env python3
+"""Runs the built programs on the texts of checks/cases, and compares what they answer with what is expected.
+
+A case is some lines, and an empty line ends it. Each begins with a word:
+
+    text      the text. `\\n`, `\\r`, `\\t`, `\\\\` and `\\xHH` stand for bytes, and `\\{k*9}` for k nine times
+    events    its events, as `read_probe show` prints them; without this line the text is refused when it is read
+    format    what `confstore format` prints, escaped as a text is
+    fault     or the fault that it names
+    check     what `confstore check` prints, its lines joined by commas; it is left out where the program has no `check`
+
+What `format` prints is formatted once more, and has to stay as it is. The expected answers come from an independent reader of
+the grammar and from hand, never from these programs, which have to be built first:
+
+    ./confstore --version && (cd crates/read_probe && rt run) && python3 checks/cases.py
+
+The last line is 'N passed, M failed', of cases; the status is 0 where M is 0.
+"""
+
+import os
+import re
+import subprocess
+import sys
+
+TOP = os.path.dirname(os.path.dirname(os.path.abspath(__file__)))
+PROGRAM = os.path.join(TOP, "crates", "confstore", "out", "confstore")
+PROBE = os.path.join(TOP, "crates", "read_probe", "out", "read_probe")
+CASES = os.path.join(TOP, "checks", "cases")
+ESCAPES = {"n": "\n", "r": "\r", "t": "\t", "\\": "\\"}
+
+
+def long_runs(line):
+    """The line with what is repeated written out."""
+    return re.sub(r"\\\{(.+?)\*(\d+)\}", lambda found: found[1] * int(found[2]), line)
+
+
+def bytes_of(line):
+    """The bytes that a line stands for."""
+
+    def byte(found):
+        word = found[1].decode()
+        return ESCAPES[word].encode() if word in ESCAPES else bytes([int(word[1:], 16)])
+
+    return re.sub(rb"\\(n|r|t|\\|x..)", byte, line.encode())
+
+
+def read_cases(path):
+    """The cases of a file: of each the number of its first line, and what follows each word."""
+    cases, case = [], {}
+    with open(path, encoding="utf-8") as source:
+        for number, line in enumerate(source, 1):
+            line = line.rstrip("\n")
+            if line.startswith("#"):
+                continue
+            if not line:
+                cases.append(case)
+                case = {}
+                continue
+            case.setdefault("line", number)
+            word, _, rest = line.partition(" ")
+            case[word] = long_runs(rest)
+    cases.append(case)
+    return [case for case in cases if case]
+
+
+def run(words, text):
+    """The status of a program, what it prints, and its line on standard error."""
+    done = subprocess.run(words, input=text, capture_output=True, check=False)
+    return done.returncode, done.stdout, done.stderr.decode()
+
+
+def shown_events(cases):
+    """What `read_probe show` prints for the text of each case."""
+    lines = "".join(case["text"] + "\n" for case in cases)
+    status, shown, errors = run([PROBE, "show"], lines.encode())
+    if status != 0:
+        sys.exit(f"read_probe failed: {errors}")
+    return shown.decode().split("\n")
+
+
+def reading_faults(case, shown):
+    """What is wrong with the events, or the refusal, that `show` printed."""
+    if "events" in case:
+        expected = f"events {case['events']}".strip()
+        return [] if shown == expected else [f"events: {shown}"]
+    word = shown.split(" ")[0]
+    return [] if word == case["fault"] else [f"not refused by {case['fault']}: {shown}"]
+
+
+def refusal_faults(case, subcommand):
+    """What is wrong with how a subcommand refuses the text."""
+    status, output, errors = run([PROGRAM, subcommand], bytes_of(case["text"]))
+    words = errors.split()
+    named = words[:1] == ["confstore:"] and words[1:2] == [case["fault"]] and errors.count("\n") == 1
+    return [] if status == 1 and not output and named else [f"{subcommand}: status {status}, {output}, {errors}"]
+
+
+def format_faults(case):
+    """What is wrong with the text that `format` prints."""
+    expected = bytes_of(case["format"])
+    answers = [run([PROGRAM, "format"], text) for text in (bytes_of(case["text"]), expected)]
+    return [f"format: {answer}" for answer in answers if answer != (0, expected, "")]
+
+
+def check_faults(case):
+    """What is wrong with the findings that `check` prints."""
+    findings = [finding for finding in case["check"].split(", ") if finding]
+    status, output, errors = run([PROGRAM, "check"], bytes_of(case["text"]))
+    good = output.decode().splitlines() == findings and status == (1 if findings else 0) and not errors
+    return [] if good else [f"check: status {status}, {output}, {errors}"]
+
+
+def faults_of(case, shown, has_check):
+    """What is wrong with the answers to a case."""
+    faults = reading_faults(case, shown)
+    if "fault" in case:
+        subcommands = ["format", "check"] if has_check else ["format"]
+        return faults + [fault for word in subcommands for fault in refusal_faults(case, word)]
+    return faults + format_faults(case) + (check_faults(case) if has_check else [])
+
+
+def main():
+    for program in (PROGRAM, PROBE):
+        if not os.access(program, os.X_OK):
+            sys.exit(f"{program} is not built")
+    has_check = run([PROGRAM, "check", "--help"], b"")[0] == 0
+    passed = failed = 0
+    for name in sorted(os.listdir(CASES)):
+        cases = read_cases(os.path.join(CASES, name))
+        for case, shown in zip(cases, shown_events(cases)):
+            faults = faults_of(case, shown, has_check)
+            for fault in faults:
+                print(f"{name}:{case['line']}: {fault}")
+            passed, failed = (passed, failed + 1) if faults else (passed + 1, failed)
+    if not has_check:
+        print("confstore has no `check`: its findings were not compared")
+    print(f"{passed} passed, {failed} failed")
+    return 0 if failed == 0 else 1
+
+
+if __name__ == "__main__":
+    sys.exit(main())
