@@ -24,7 +24,7 @@ for crate in "$@"; do
     [ -d "$edits/$crate" ] || { echo "$crate has no wrong bodies here" >&2; exit 1; }
     cp -a "$edits/$crate" "$work/crates/$crate/must-fail" || exit 1
     log=$work/$crate.log
-    (cd "$work" && rt must-fail "$crate") >"$log" 2>&1
+    (cd "$work" && PYTHONUNBUFFERED=1 rt must-fail "$crate") >"$log" 2>&1
     grep -E '\.edit: ' "$log" || cat "$log"
     tried=$(find "$edits/$crate" -name '*.edit' | wc -l)
     good=$(grep -c '\.edit: refused, as it must be' "$log")

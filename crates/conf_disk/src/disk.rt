@@ -1,4 +1,4 @@
-// The trait: what a call answers, what it makes of the folder, and when a stop within it comes.
+// The trait: what a call returns, what it changes in the folder, and which moments a crash within it may come at.
 ghost use Rattle.std.specs.Prelude.{◌≡◌, ◌≢◌, ◌≤◌, ℕ, None, IsSome, IfOk, Result, Err};
 ghost use Rattle.conf_disk.specs.Folder.{Folder, Step, CreateNext, Append, Sync, RenameNext, RemoveNext, SyncFolder, under, Performs, Reads};
 ghost use Rattle.conf_disk.specs.Image.{Image, IsImage, IsWhole};
@@ -19,12 +19,12 @@ pub enum Name {
     Next,
 }
 
-/// What stands under a name.
+/// What is under a name.
 #[derive(Debug, Drop)]
 pub enum Content {
     /// There is no file.
     Missing,
-    /// The whole of the file's bytes.
+    /// The file, whole: all of its bytes.
     Bytes(Vec<u8>),
     /// The file has more bytes than were asked for.
     TooLong,
@@ -33,22 +33,23 @@ pub enum Content {
 /// Why a call failed.
 #[derive(Clone, Copy, Debug, PartialEq, Eq, Error)]
 pub enum DiskFault {
-    /// The device failed. What a call that changes something had done by then may have been done or not.
+    /// The device failed. A call that changes something may have taken effect or not.
     #[error("Device")]
     Device,
-    /// There was no memory for the bytes that were read. Only a read answers this.
+    /// There was no memory for the bytes that were read. Only a read returns this.
     #[error("OutOfMemory")]
     OutOfMemory,
 }
 
 /// A folder of two names.
 ///
-/// A file has synced bytes, which a stop leaves, and pending ones behind them, of which it leaves some first ones and
-/// perhaps zeros. The folder has stages, one for each change of its names since its last sync, and a stop leaves one of them.
+/// A file has synced bytes, which a crash leaves, and pending bytes after them, of which it leaves a prefix and then
+/// perhaps zeros. The folder has stages, one for each change of its names since its last sync, and a crash leaves one
+/// of them.
 ///
 /// The clauses on what the disk holds, reads and leaves have the premise that the disk is `honest`, and so have the
-/// callers' conditions. A disk that isn't, as one over a real folder, answers [`DiskFault::Device`] where such a condition
-/// does not hold. The clauses on faults have no premise.
+/// conditions on callers. A disk that isn't, as one over a real folder, returns [`DiskFault::Device`] where such a
+/// condition does not hold. The clauses on faults have no premise.
 pub trait Disk {
     /// Whether the disk is one that the clauses below speak of. It does not depend on the value, so no call changes it.
     ghost honest: { Type 0 };
@@ -59,13 +60,14 @@ pub trait Disk {
     /// The moment, as a number that never falls.
     ghost moment: { Self → ℕ };
 
-    /// The images that a stop at some moment from that one to now might have left, moments inside calls included.
+    /// The images that a crash at some moment from that one to now might have left, moments inside calls included.
     ghost left: { Self → ℕ → Image → Type 0 };
 
     /// How often the device has failed.
     ghost failure_count: { Self → ℕ };
 
-    /// What a disk promises of a changing call beside the clauses below: the disk before, the call, its answer, the disk then.
+    /// What a disk promises of a changing call beside the clauses below: the disk before, the call, its result, the
+    /// disk after.
     ghost also_changes: { Self → Step → Result (Unit {0}) DiskFault → Self → Type 0 } = { λ _ _ _ _. Unit {0} };
 
     /// The same of a read of a name with a limit.
@@ -90,29 +92,30 @@ pub trait Disk {
         ensures goes { IsChange honest folder moment left failure_count CreateNext self.old result self.new }
         ensures also { also_changes self.old CreateNext result self.new };
 
-    /// Puts bytes behind those of the file under a name. They are pending until the file is synced.
+    /// Appends bytes to the file under a name. They are pending until the file is synced.
     fn append(&mut self, name: Name, bytes: &[u8]) -> Result<(), DiskFault>
         requires { honest → IsSome (under (folder self.old).now name) }
         ensures goes { IsChange honest folder moment left failure_count (Append name bytes.now) self.old result self.new }
         ensures also { also_changes self.old (Append name bytes.now) result self.new };
 
-    /// From its `Ok` on, a stop leaves all bytes of the file under a name. Where there is none it does nothing.
+    /// Syncs the file under a name: after `Ok`, a crash leaves all of its bytes. Where there is no file it does
+    /// nothing.
     fn sync(&mut self, name: Name) -> Result<(), DiskFault>
         ensures goes { IsChange honest folder moment left failure_count (Sync name) self.old result self.new }
         ensures also { also_changes self.old (Sync name) result self.new };
 
-    /// Puts the file under `Next` under `Store`, in the place of the one that is there.
+    /// Renames `Next` to `Store`, and so replaces the file that is there.
     fn rename_next(&mut self) -> Result<(), DiskFault>
         requires { honest → IsSome (folder self.old).now.next }
         ensures goes { IsChange honest folder moment left failure_count RenameNext self.old result self.new }
         ensures also { also_changes self.old RenameNext result self.new };
 
-    /// Takes the file under `Next` away. Where there is none it does nothing.
+    /// Removes the file under `Next`. Where there is none it does nothing.
     fn remove_next(&mut self) -> Result<(), DiskFault>
         ensures goes { IsChange honest folder moment left failure_count RemoveNext self.old result self.new }
         ensures also { also_changes self.old RemoveNext result self.new };
 
-    /// From its `Ok` on, a stop leaves the names as they are.
+    /// Syncs the folder: after `Ok`, a crash leaves the names as they are.
     fn sync_folder(&mut self) -> Result<(), DiskFault>
         ensures goes { IsChange honest folder moment left failure_count SyncFolder self.old result self.new }
         ensures also { also_changes self.old SyncFolder result self.new };
@@ -123,6 +126,6 @@ pub trait Disk {
     /// Since this moment there is no other.
     ghost only_now: { (disk : Self) (image : Image) → honest → left disk (moment disk) image → IsImage (folder disk) image };
 
-    /// Each file that stands under a name is one of the folder's, and the staged one was never the live one.
+    /// Each file under a name is one of the folder's, and the staged one was never the live one.
     ghost whole: { (disk : Self) → honest → IsWhole (folder disk) };
 }

@@ -7,7 +7,7 @@ ghost use Rattle.conf_disk.specs.Replay.{file_of, files_of, stage_of, folder_of,
 use crate::Name;
 use std::alloc::{AllocError, Global};
 
-// The files, by their places among the folder's files, that stand under the two names.
+// The files under the two names, by their places among the folder's files.
 #[derive(Clone, Copy, Debug, PartialEq, Eq)]
 pub(crate) struct StageData {
     pub(crate) store: Option<usize>,

@@ -133,8 +133,8 @@ impl<D: Disk> FusedDisk<D> {
         }
     }
 
-    /// How many calls the fuse let pass to the disk below, whatever that answered. A call that the fuse failed is not among them, even
-    /// where it had its effect. At 18,446,744,073,709,551,615 the number stays there.
+    /// How many calls the fuse let pass to the disk below, whatever that returned. A call that the fuse failed is not
+    /// among them, even where it had its effect. The number stays at 18,446,744,073,709,551,615 once it is reached.
     pub fn passed(&self) -> u64
         ensures { result ≡ passed_count self.now }
     {

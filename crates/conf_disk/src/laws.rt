@@ -5,29 +5,29 @@ ghost use Rattle.conf_disk.specs.Laws.{ImagesAreCuts, ImagesRead, ImagesAreStabl
 
 use crate::Disk;
 
-/// A law: the choices that [`MemoryDisk::image`](crate::MemoryDisk::image) takes give every image that a stop may leave,
-/// and nothing else.
+/// A law: the choices that [`MemoryDisk::image`](crate::MemoryDisk::image) takes give every image that a crash may
+/// leave, and nothing else.
 pub fn images_are_cuts()
     ensures { ImagesAreCuts }
 {}
 
-/// A law: what a stop leaves reads so, and every later stop leaves it.
+/// A law: what a crash leaves is what is then read, and every later crash leaves it.
 pub fn images_are_stable()
     ensures reads { ImagesRead }
     ensures stays { ImagesAreStable }
 {}
 
-/// A law: what reads is one of the images that a stop may leave.
+/// A law: what is read is one of the images that a crash may leave.
 pub fn reading_is_an_image()
     ensures { ReadingIsAnImage }
 {}
 
-/// A law: a stop within a call leaves nothing that a stop before it or after it doesn't.
+/// A law: a crash within a call leaves nothing that a crash before or after the call doesn't.
 pub fn calls_leave_no_other_image()
     ensures { CallsLeaveNoOther }
 {}
 
-/// A law of an honest disk: what it reads is what a stop since any moment might have left.
+/// A law of an honest disk: what is read is what a crash since any moment might have left.
 pub fn what_reads_may_be_left<D: Disk>(_disk: &D)
     ensures { D.honest → (t : ℕ) → t ≤ D.moment _disk.now →
         D.left _disk.now t (image_now (D.folder _disk.now)) }

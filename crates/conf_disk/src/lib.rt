@@ -1,6 +1,6 @@
-//! A folder with two files as the store sees it: what reads, and what a stop of the machine may leave.
+//! A folder with two files as the store sees it: what is read, and what a crash of the machine may leave.
 //!
-//! [`Disk`] states the model. [`MemoryDisk`] is such a disk in memory, of which each image that a stop may leave can be made;
+//! [`Disk`] states the model. [`MemoryDisk`] is such a disk in memory, and makes each image that a crash may leave;
 //! [`FusedDisk`] lets a disk fail at a chosen call. Both are for tests and for proofs.
 #![tactic(auto)]
 

@@ -1,4 +1,4 @@
-// A folder in memory. It keeps each change, so that what a stop at an earlier moment left is known.
+// A folder in memory. It keeps each change, so that what a crash at an earlier moment left is known.
 ghost use Rattle.std.specs.Prelude.{◌≡◌, ◌≢◌, ◌≤◌, ◌+◌, ℕ, min, [], ◌∷◌, ◌++◌, length, None, option_map, OnOk, OnErr, IfOk, IfSome, Err};
 ghost use Rattle.conf_disk.specs.Folder.{Folder, empty_folder, Performs, Reads};
 ghost use Rattle.conf_disk.specs.Image.{IsImage, folder_with_files, folder_of_image, image_at};
@@ -21,7 +21,7 @@ pub struct Cuts {
 }
 
 /// A disk in memory, for tests. It keeps a record of the changes that were made, in its allocator's memory; where there
-/// is none for a change it counts a failure, answers [`DiskFault::Device`] and changes nothing.
+/// is none for a change it counts a failure, returns [`DiskFault::Device`] and changes nothing.
 #[derive(Drop)]
 pub struct MemoryDisk {
     alloc: Global,
@@ -44,7 +44,7 @@ impl MemoryDisk {
         }
     }
 
-    /// A folder of these files. Nothing of them is pending, and a stop leaves them.
+    /// A folder of these files. None of their bytes are pending: a crash leaves them.
     pub fn with_files(
         alloc: Global,
         store: Option<Vec<u8>>,
@@ -69,8 +69,8 @@ impl MemoryDisk {
         })
     }
 
-    /// The disk that a stop leaves which finds this stage, counted from 0 for the first one after the last sync of the
-    /// folder, and these cuts. `None` where a stop cannot leave that. Nothing of it is pending, and it has one stage.
+    /// Returns the disk that a crash would leave at stage `stage` (0 is the first since the last folder sync), with the
+    /// files torn as `cuts` says, or `None` if no crash can leave that. It has no pending bytes, and one stage.
     pub fn image(&self, stage: usize, cuts: Cuts) -> Result<Option<MemoryDisk>, AllocError>
         ensures folder { IfOk result
             (λ image. option_map memory_folder image ≡ option_map folder_of_image
@@ -106,7 +106,7 @@ impl MemoryDisk {
         Ok(Content::Bytes(bytes))
     }
 
-    // The folder after the changes. It takes time in their number, which is fine for tests.
+    // The folder after the changes. Its time is linear in their number, which is fine for tests.
     fn replay(&self, alloc: Global) -> Result<FolderData, AllocError>
         ensures { IfOk result (λ folder. folder_of folder ≡ memory_folder self.now) }
     {
@@ -117,7 +117,7 @@ impl MemoryDisk {
         Ok(folder)
     }
 
-    // Keeps one change more, or counts a failure.
+    // Keeps one more change, or counts a failure.
     fn note(&mut self, change: Change) -> Result<(), DiskFault>
         ensures change { Performs (step_of change) (memory_folder self.old) (memory_folder self.new) result }
         ensures spent { memory_failures self.old ≡ u64.MAX → memory_folder self.new ≡ memory_folder self.old }

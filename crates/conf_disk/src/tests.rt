@@ -3,7 +3,7 @@ use std::alloc::Global;
 use std::process::Abort;
 use std::test::Fail;
 
-// An image that a stop leaves: its stage, its cuts, and what reads under the two names.
+// An image that a crash leaves: its stage, its cuts, and what reads under the two names.
 #[derive(Clone, Copy)]
 struct Row {
     stage: usize,

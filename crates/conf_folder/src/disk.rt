@@ -11,8 +11,8 @@ use std::io::{ErrorKind, Read, Write};
 use std::rt::Files;
 use std::{fs, io};
 
-/// The disk of a real folder: `store.yaml` and `next.yaml` in it. It holds a lock on `store.lock`, and a handle for appending to each
-/// file that it appended to, until it is dropped.
+/// The disk of a real folder: `store.yaml` and `next.yaml` in it. It holds a lock on `store.lock`, and a handle for
+/// appending to each file that it appended to, until it is dropped.
 #[derive(Drop)]
 pub struct FolderDisk<'r, R: Files<File = File>> {
     rt: &'r R,
@@ -49,11 +49,12 @@ fn is_folder<R: Files<File = File>>(rt: &R, folder: &str) -> bool {
 }
 
 impl<'r, R: Files<File = File>> FolderDisk<'r, R> {
-    /// The disk of the folder at a path. It looks for the folder first, then takes the lock on its `store.lock`, which it makes where it
-    /// is missing.
+    /// The disk of the folder at a path. It looks for the folder first, then takes the lock on its `store.lock`,
+    /// which it makes where it is missing.
     ///
     /// # Errors
-    /// `Device` if there is no such folder or a call of the system fails, `Locked` if another run holds the lock, `OutOfMemory`.
+    /// `Device` if there is no such folder or a call of the system fails, `Locked` if another run holds the lock,
+    /// `OutOfMemory`.
     pub fn new(rt: &'r R, alloc: Global, folder: &str) -> Result<Self, FolderFault> {
         if !is_folder(rt, folder) {
             return Err(FolderFault::Device);
@@ -83,7 +84,7 @@ impl<'r, R: Files<File = File>> FolderDisk<'r, R> {
         }
     }
 
-    /// Takes the handle for appending to a file, which is opened where there is none.
+    /// Takes the handle for appending to a file, and opens the file if there is no handle.
     fn take_handle(&mut self, name: Name) -> io::Result<File>
         ensures { self.new.failures ≡ self.old.failures }
     {

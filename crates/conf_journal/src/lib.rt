@@ -1,7 +1,7 @@
-//! The few-call procedures by which a store changes its folder.
+//! The procedures, of one to three disk calls each, by which a store changes its folder.
 //!
-//! Each says what reads when it answers `Ok`, and what a stop at any moment since its start leaves under `store.yaml`,
-//! whatever it answered.
+//! The contract of each says what is read after `Ok`, and what a crash at any moment since its start leaves under
+//! `store.yaml`, whatever it returned.
 #![tactic(auto)]
 
 mod laws;

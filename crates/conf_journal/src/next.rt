@@ -1,4 +1,4 @@
-// The procedures that put a new file in the live one's place.
+// The procedures that replace the live file by a new one.
 ghost use Rattle.std.specs.Prelude.{◌≡◌, ◌≢◌, ◌⊎◌, ℕ, List, [], ◌∷◌, Option, IsSome, OnOk, Some, None, Err};
 ghost use Rattle.conf_disk.specs.Folder.{File, CreateNext, Append, Sync, RenameNext, RemoveNext, SyncFolder, after, bytes_under};
 ghost use Rattle.conf_disk.specs.Image.{IsImage, synced_file};
@@ -9,7 +9,7 @@ ghost use Rattle.conf_journal.specs.Held.{HoldsStore};
 
 use conf_disk::{Disk, DiskFault, Name};
 
-/// Makes `next.yaml` anew, with no bytes. `store.yaml` is left alone.
+/// Makes a new `next.yaml` with no bytes. `store.yaml` is unchanged.
 ///
 /// # Errors
 /// `Device`: there may be no `next.yaml`.
@@ -27,10 +27,10 @@ pub fn begin_next<D: Disk>(disk: &mut D) -> Result<(), DiskFault>
     ensures reads { D.honest →
         OnOk result
         (ReadsAs (D.folder disk.new) (bytes_under (D.folder disk.old) Name.Store) (Some [])) }
-    // Whatever it answers, `store.yaml` reads as before.
+    // Whatever it returns, `store.yaml` is read as before.
     ensures left_alone { D.honest →
         bytes_under (D.folder disk.new) Name.Store ≡ bytes_under (D.folder disk.old) Name.Store }
-    // A stop leaves an old store.
+    // A crash leaves an old store.
     ensures store { D.honest →
         LeavesOnly D.moment D.left disk.old disk.new
         (λ image. IsStoreOf (D.folder disk.old) image.store) }
@@ -41,10 +41,10 @@ pub fn begin_next<D: Disk>(disk: &mut D) -> Result<(), DiskFault>
     disk.create_next()
 }
 
-/// Puts bytes behind those of `next.yaml`. They are pending until the file is synced. `store.yaml` is left alone.
+/// Appends bytes to `next.yaml`. They are pending until the file is synced. `store.yaml` is unchanged.
 ///
 /// # Errors
-/// `Device`: some first ones of the bytes may stand there.
+/// `Device`: a prefix of the bytes may be there.
 pub fn append_next<D: Disk>(disk: &mut D, bytes: &[u8]) -> Result<(), DiskFault>
     requires { D.honest → IsSome (D.folder disk.old).now.next }
     ensures folder { D.honest →
@@ -60,10 +60,10 @@ pub fn append_next<D: Disk>(disk: &mut D, bytes: &[u8]) -> Result<(), DiskFault>
         OnOk result
         (ReadsAs (D.folder disk.new) (bytes_under (D.folder disk.old) Name.Store)
         (extended (bytes_under (D.folder disk.old) Name.Next) bytes.now)) }
-    // Whatever it answers, `store.yaml` reads as before.
+    // Whatever it returns, `store.yaml` is read as before.
     ensures left_alone { D.honest →
         bytes_under (D.folder disk.new) Name.Store ≡ bytes_under (D.folder disk.old) Name.Store }
-    // A stop leaves an old store.
+    // A crash leaves an old store.
     ensures store { D.honest →
         LeavesOnly D.moment D.left disk.old disk.new
         (λ image. IsStoreOf (D.folder disk.old) image.store) }
@@ -73,10 +73,10 @@ pub fn append_next<D: Disk>(disk: &mut D, bytes: &[u8]) -> Result<(), DiskFault>
     disk.append(Name::Next, bytes)
 }
 
-/// Makes `next.yaml` anew of these bytes, and syncs them. `store.yaml` is left alone. It is what [`swap_next`] asks for.
+/// Makes a new `next.yaml` of these bytes, and syncs them, as [`swap_next`] requires. `store.yaml` is unchanged.
 ///
 /// # Errors
-/// `Device`: there may be no `next.yaml`, or one with some first ones of the bytes.
+/// `Device`: there may be no `next.yaml`, or one with a prefix of the bytes.
 pub fn stage_next<D: Disk>(disk: &mut D, bytes: &[u8]) -> Result<(), DiskFault>
     ensures folder { D.honest →
         OnOk result
@@ -97,10 +97,10 @@ pub fn stage_next<D: Disk>(disk: &mut D, bytes: &[u8]) -> Result<(), DiskFault>
         (ReadsAs (D.folder disk.new) (bytes_under (D.folder disk.old) Name.Store)
         (Some bytes.now)) }
     ensures synced { D.honest → OnOk result (IsSynced (D.folder disk.new) Name.Next) }
-    // Whatever it answers, `store.yaml` reads as before.
+    // Whatever it returns, `store.yaml` is read as before.
     ensures left_alone { D.honest →
         bytes_under (D.folder disk.new) Name.Store ≡ bytes_under (D.folder disk.old) Name.Store }
-    // A stop leaves an old store.
+    // A crash leaves an old store.
     ensures store { D.honest →
         LeavesOnly D.moment D.left disk.old disk.new
         (λ image. IsStoreOf (D.folder disk.old) image.store) }
@@ -112,10 +112,10 @@ pub fn stage_next<D: Disk>(disk: &mut D, bytes: &[u8]) -> Result<(), DiskFault>
     disk.sync(Name::Next)
 }
 
-/// Puts the staged file in the place of `store.yaml`. From its `Ok` on, a stop leaves it there.
+/// Replaces `store.yaml` by the staged file: after `Ok`, a crash leaves it there.
 ///
 /// # Errors
-/// `Device`: the staged file may stand in the place or not.
+/// `Device`: the staged file may be in its place or not.
 pub fn swap_next<D: Disk>(disk: &mut D) -> Result<(), DiskFault>
     requires { D.honest → IsSynced (D.folder disk.old) Name.Next }
     ensures folder { D.honest →
@@ -130,7 +130,7 @@ pub fn swap_next<D: Disk>(disk: &mut D) -> Result<(), DiskFault>
 
     ensures reads { D.honest →
         OnOk result (ReadsAs (D.folder disk.new) (bytes_under (D.folder disk.old) Name.Next) None) }
-    // A stop leaves an old store, or the whole staged file.
+    // A crash leaves an old store, or the whole staged file.
     ensures store { D.honest →
         LeavesOnly D.moment D.left disk.old disk.new
         (λ image. IsStoreOf (D.folder disk.old) image.store
@@ -142,10 +142,10 @@ pub fn swap_next<D: Disk>(disk: &mut D) -> Result<(), DiskFault>
     disk.sync_folder()
 }
 
-/// Syncs `next.yaml`, and puts it in the place of `store.yaml`. From its `Ok` on, a stop leaves it there.
+/// Syncs `next.yaml`, and replaces `store.yaml` by it: after `Ok`, a crash leaves it there.
 ///
 /// # Errors
-/// `Device`: the staged file may stand in the place or not.
+/// `Device`: the staged file may be in its place or not.
 pub fn finish_next<D: Disk>(disk: &mut D) -> Result<(), DiskFault>
     requires { D.honest → IsSome (D.folder disk.old).now.next }
     ensures folder { D.honest →
@@ -163,7 +163,7 @@ pub fn finish_next<D: Disk>(disk: &mut D) -> Result<(), DiskFault>
 
     ensures reads { D.honest →
         OnOk result (ReadsAs (D.folder disk.new) (bytes_under (D.folder disk.old) Name.Next) None) }
-    // A stop leaves an old store, or the whole staged file.
+    // A crash leaves an old store, or the whole staged file.
     ensures store { D.honest →
         LeavesOnly D.moment D.left disk.old disk.new
         (λ image. IsStoreOf (D.folder disk.old) image.store

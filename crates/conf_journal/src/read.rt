@@ -13,10 +13,10 @@ use std::alloc::Global;
 /// The greatest length of `store.yaml`, in bytes.
 pub const STORE_LIMIT: u64 = 1_073_741_824;
 
-/// Reads `store.yaml`, when the names and its bytes are synced: after `Ok` a stop leaves just what was read.
+/// Syncs the names and the bytes of `store.yaml`, and reads it: after `Ok` a crash leaves exactly what was read.
 ///
 /// # Errors
-/// `Device`: what reads is as it was. `OutOfMemory`: all is synced, and the bytes were not read.
+/// `Device`: what is read is unchanged. `OutOfMemory`: all is synced, and the bytes were not read.
 pub fn load<D: Disk>(alloc: Global, disk: &mut D) -> Result<Content, DiskFault>
     ensures content { D.honest → IfOk result (λ content. Reads (D.folder disk.old) Name.Store store_limit content) }
     ensures folder { D.honest →

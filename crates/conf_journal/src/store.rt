@@ -1,4 +1,4 @@
-// The procedures that put bytes behind those of the live file.
+// The procedures that append to the live file.
 ghost use Rattle.std.specs.Prelude.{◌≡◌, ◌≢◌, ◌⊎◌, [], ◌∷◌, Option, IsSome, OnOk, Err, option_map};
 ghost use Rattle.conf_disk.specs.Folder.{File, Append, Sync, after, appended, synced_whole, bytes_under};
 ghost use Rattle.conf_disk.specs.Image.{IsImage, image_now};
@@ -9,10 +9,10 @@ ghost use Rattle.conf_journal.specs.Held.{HoldsStore, IsLeftOf};
 
 use conf_disk::{Disk, DiskFault, Name};
 
-/// Puts bytes behind those of `store.yaml`. They are pending until [`sync_store`] answers `Ok`.
+/// Appends bytes to `store.yaml`. They are pending until [`sync_store`] returns `Ok`.
 ///
 /// # Errors
-/// `Device`: some first ones of the bytes may stand there.
+/// `Device`: a prefix of the bytes may be there.
 pub fn append_store<D: Disk>(disk: &mut D, bytes: &[u8]) -> Result<(), DiskFault>
     requires { D.honest → IsSome (D.folder disk.old).now.store }
     ensures folder { D.honest →
@@ -29,12 +29,12 @@ pub fn append_store<D: Disk>(disk: &mut D, bytes: &[u8]) -> Result<(), DiskFault
         (ReadsAs (D.folder disk.new)
         (extended (bytes_under (D.folder disk.old) Name.Store) bytes.now)
         (bytes_under (D.folder disk.old) Name.Next)) }
-    // Where nothing was pending, a stop leaves an old store, or the old bytes with some of the new.
+    // Where nothing was pending, a crash leaves an old store, or the old bytes with some of the new.
     ensures store { D.honest → IsSynced (D.folder disk.old) Name.Store →
         LeavesOnly D.moment D.left disk.old disk.new
         (λ image. IsStoreOf (D.folder disk.old) image.store
         ⊎ IsTail (bytes_under (D.folder disk.old) Name.Store) bytes.now image.store) }
-    // Where every stage has the one file there, a stop leaves of that file with the bytes behind it.
+    // Where every stage has the same file there, a crash leaves what it leaves of that file with the bytes after it.
     ensures held { D.honest → (file : Option File) → HoldsStore (D.folder disk.old) file →
         LeavesOnly D.moment D.left disk.old disk.new
         (λ image. IsLeftOf (option_map (appended bytes.now) file) image.store) }
@@ -44,10 +44,10 @@ pub fn append_store<D: Disk>(disk: &mut D, bytes: &[u8]) -> Result<(), DiskFault
     disk.append(Name::Store, bytes)
 }
 
-/// From its `Ok` on, a stop leaves all bytes of `store.yaml`.
+/// Syncs `store.yaml`: after `Ok`, a crash leaves all of its bytes.
 ///
 /// # Errors
-/// `Device`: what reads is as it was.
+/// `Device`: what is read is unchanged.
 pub fn sync_store<D: Disk>(disk: &mut D) -> Result<(), DiskFault>
     ensures folder { D.honest → OnOk result (D.folder disk.new ≡ after (Sync Name.Store) (D.folder disk.old)) }
     ensures any_moment { D.honest → LeavesOnly D.moment D.left disk.old disk.new (IsImage (D.folder disk.old)) }
@@ -62,10 +62,10 @@ pub fn sync_store<D: Disk>(disk: &mut D) -> Result<(), DiskFault>
     disk.sync(Name::Store)
 }
 
-/// Puts bytes behind those of `store.yaml` and syncs them. From its `Ok` on, a stop leaves them.
+/// Appends bytes to `store.yaml` and syncs them: after `Ok`, a crash leaves them.
 ///
 /// # Errors
-/// `Device`: some first ones of the bytes may stand there.
+/// `Device`: a prefix of the bytes may be there.
 pub fn append_closed<D: Disk>(disk: &mut D, bytes: &[u8]) -> Result<(), DiskFault>
     requires { D.honest → IsSome (D.folder disk.old).now.store }
     ensures folder { D.honest →
@@ -84,12 +84,12 @@ pub fn append_closed<D: Disk>(disk: &mut D, bytes: &[u8]) -> Result<(), DiskFaul
         (ReadsAs (D.folder disk.new)
         (extended (bytes_under (D.folder disk.old) Name.Store) bytes.now)
         (bytes_under (D.folder disk.old) Name.Next)) }
-    // Where nothing was pending, a stop leaves an old store, or the old bytes with some of the new.
+    // Where nothing was pending, a crash leaves an old store, or the old bytes with some of the new.
     ensures store { D.honest → IsSynced (D.folder disk.old) Name.Store →
         LeavesOnly D.moment D.left disk.old disk.new
         (λ image. IsStoreOf (D.folder disk.old) image.store
         ⊎ IsTail (bytes_under (D.folder disk.old) Name.Store) bytes.now image.store) }
-    // Where every stage has the one file there, a stop leaves of that file with the bytes behind it.
+    // Where every stage has the same file there, a crash leaves what it leaves of that file with the bytes after it.
     ensures held { D.honest → (file : Option File) → HoldsStore (D.folder disk.old) file →
         LeavesOnly D.moment D.left disk.old disk.new
         (λ image. IsLeftOf (option_map (appended bytes.now) file) image.store) }

@@ -1,5 +1,5 @@
-// Each procedure is stopped at each of its disk calls, before the call and behind it, and every image is opened that a
-// stop there may leave.
+// Each procedure is stopped at each of its disk calls, before the call and after it, and every image that a crash there
+// may leave is opened.
 ghost use Rattle.std.specs.Prelude.{IsSome, IfOk};
 ghost use Rattle.conf_disk.specs.Memory.{memory_folder};
 ghost use Rattle.conf_journal.specs.Store.{IsSynced};
@@ -35,7 +35,7 @@ const PROCEDURES: [Procedure; 9] = [
     Procedure::FinishNext,
 ];
 
-// The tests begin with `old` under `store.yaml` and `new` under `next.yaml`, both synced, and put `xy` behind or anew.
+// The tests begin with `old` under `store.yaml` and `new` under `next.yaml`, both synced, and append `xy` or stage it.
 const TAILS: [&[u8]; 6] = [b"old", b"old\0", b"old\0\0", b"oldx", b"oldx\0", b"oldxy"];
 
 // More stages than any procedure makes, and one more byte than any has pending.

@@ -7,7 +7,7 @@ use thiserror::Error;
 use tree_path::{Path, PathFault, delete, set};
 use yaml_tree::{Config, ReadFault, Tree, style_len};
 
-/// The greatest depth of a tree whose length is told.
+/// The greatest depth of a tree whose length is printed.
 const DEEPEST: u8 = 66;
 
 /// Something was refused.

@@ -1,9 +1,10 @@
-//! Makes edits at the end of a path, so that their time can be measured: it builds a tree, edits it as often as is asked, and
-//! tells the tree's length.
+//! Makes edits at the end of a path, so that their time can be measured: it builds a tree, edits it as often as is
+//! asked, and prints the tree's length.
 //!
-//! Its words are what is edited (`tree`, or `state`: a configuration of a store, by commands), the tree's shape (`wide`, one
-//! mapping, or `deep`, mappings in mappings), its size (pairs, or how deep it is) and how often a pair is set at the end and
-//! deleted again. It ends with 0, with 1 where something was refused, and with 2 for wrong words.
+//! Its words are what is edited (`tree`, or `state`: a configuration of a store, by commands), the tree's shape
+//! (`wide`, one mapping, or `deep`, mappings in mappings), its size (pairs, or how deep it is) and how often a pair
+//! is set at the end and deleted again. It ends with 0, with 1 where something was refused, and with 2 for wrong
+//! words.
 #![tactic(auto)]
 
 mod edits;
@@ -30,7 +31,7 @@ fn main(rt: HostRuntime) -> ExitCode {
     }
 }
 
-/// Makes the edits, and tells how long the tree is in the one style.
+/// Makes the edits, and returns how long the tree is in the one style.
 fn told(alloc: Global, rt: &HostRuntime, order: &Order) -> Result<(), Refused> {
     let length = length_in_style(alloc, order)?;
     run(alloc, order)?;

@@ -15,8 +15,8 @@ const EMPTY: Size = Size { bytes: 3, lines: 0 };
 
 const NOTHING: Size = Size { bytes: 0, lines: 0 };
 
-/// What an edit takes out of a tree's text in the one style, and what it puts in. Both stand at the indentation of the whole
-/// tree: 0 for a tree by itself, and two more than its key's for the value of a key.
+/// What an edit takes out of a tree's text in the one style, and what it puts in. Both are at the indentation of the
+/// whole tree: 0 for a tree by itself, and two more than its key's for the value of a key.
 #[derive(Clone, Copy, Debug, PartialEq, Eq)]
 pub struct Change {
     /// What is taken out.
@@ -26,7 +26,7 @@ pub struct Change {
 }
 
 impl Change {
-    /// The length after the change of a text that has `before` bytes, where the tree stands at `indent`.
+    /// The length after the change of a text that has `before` bytes, where the tree is at `indent`.
     pub fn length_after(self, before: u64, indent: u64) -> u128
         requires bytes { self.added.bytes < 2 ^ 100 }
         requires lines { self.added.lines < 2 ^ 100 }
@@ -71,7 +71,7 @@ fn shifted_size(size: Size, by: u128) -> Size
     }
 }
 
-/// Where a node stands. A whole tree counts as a value.
+/// The context of a node. A whole tree counts as a value.
 #[derive(Clone, Copy, Debug, PartialEq, Eq)]
 pub enum Slot {
     /// After the `:` of a key.
@@ -81,7 +81,7 @@ pub enum Slot {
 }
 
 impl Slot {
-    /// Where the values in a collection stand.
+    /// The context of the values in a collection.
     pub(crate) fn in_collection(tree: &Tree) -> Slot
         ensures { result ≡ slot_in (tree_of tree.now) }
     {
@@ -91,7 +91,7 @@ impl Slot {
         }
     }
 
-    /// The size of a value that stands there.
+    /// The size of a value that is there.
     pub(crate) fn size_of(self, tree: &Tree) -> Size
         requires deep { depth (tree_of tree.now) ≤ 66 }
         requires long { byte_len (style_text (tree_of tree.now)) ≤ 67108864 }
@@ -151,7 +151,7 @@ pub(crate) fn growth(count: usize, row: Size, slot: Slot) -> Change
     }
 }
 
-/// A row where it is the first: in a collection that stands after a `- ` no spaces are before it.
+/// A row where it is the first: in a collection after a `- ` no spaces are before it.
 fn first_row(slot: Slot, row: Size) -> Size
     requires { 0 < row.lines }
     ensures { result ≡ first_row slot row }

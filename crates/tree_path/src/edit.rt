@@ -1,5 +1,6 @@
-// The value at a path, and the edits of a tree there. An edit goes down to the parent of its place and back up in loops:
-// on the way down each value is taken out of its parent, and what is above it is kept in the place that so comes free.
+// The value at a path, and the edits of a tree there. An edit goes down to the parent of its place and back up in
+// loops: on the way down each value is taken out of its parent, and what is above it is kept in the place that so
+// comes free.
 ghost use Rattle.std.specs.Prelude.{◌≡◌, ◌⊎◌, ◌<◌, IfOk, IfErr, OnOk, OnErr, Ok, Err, length};
 ghost use Rattle.std.specs.Str.{chars};
 ghost use Rattle.yaml_grammar.specs.Trees.{Tree as Meant, sequence, mapping};
@@ -14,8 +15,8 @@ use std::alloc::Global;
 use std::mem;
 use yaml_tree::Tree;
 
-/// The value at a path (RFC 6901, 4). Refused are a step that leads to nothing (`NoSuchPlace`), and one into a sequence that
-/// is no index (`NotIndex`).
+/// The value at a path (RFC 6901, 4). Refused are a step that leads to nothing (`NoSuchPlace`), and one into a
+/// sequence that is no index (`NotIndex`).
 pub fn at<'t>(tree: &'t Tree, path: &Path) -> Result<&'t Tree, PathFault>
     ensures ok { IfOk result (λ value. at (tree_of tree.now) path.now ≡ Ok (tree_of value.now)) }
     ensures refused { IfErr result (λ fault. at (tree_of tree.now) path.now ≡ Err fault) }
@@ -23,10 +24,10 @@ pub fn at<'t>(tree: &'t Tree, path: &Path) -> Result<&'t Tree, PathFault>
     value_at(tree, &path.tokens)
 }
 
-/// Puts a value at a path, where the tree stands. Every step but the last leads to a value that is there, as in [`at`]. At
-/// the last one a key that is there keeps its place in the mapping, and a new key goes last; an index replaces its element,
-/// and `-` stands for a new element behind the last one. The empty path replaces the whole tree. A refusal, and want of
-/// memory, hands the value back and leaves the tree as it was.
+/// Puts a value at a path, in place. Every step but the last leads to a value that is there, as in [`at`]. At the
+/// last one a key that is there keeps its place in the mapping, and a new key goes last; an index replaces its
+/// element, and `-` means a new element after the last one. The empty path replaces the whole tree. A refusal, and
+/// running out of memory, hands the value back and leaves the tree as it was.
 pub fn set(
     alloc: Global,
     tree: &mut Tree,
@@ -43,8 +44,8 @@ pub fn set(
     set_at(alloc, tree, &path.tokens, value)
 }
 
-/// Takes the value at a path out of the tree: the pair with its key, or the element, whose followers close up. The path is
-/// not empty. Steps lead on as in [`at`]. A refusal leaves the tree as it was.
+/// Takes the value at a path out of the tree: the pair with its key, or the element, whose followers close up. The
+/// path is not empty. Steps lead on as in [`at`]. A refusal leaves the tree as it was.
 pub fn delete(tree: &mut Tree, path: &Path) -> Result<Tree, PathFault>
     requires { 0 < length path.now }
     ensures ok { OnOk result (delete (tree_of tree.old) path.now ≡ Ok (tree_of tree.new)) }
@@ -113,8 +114,8 @@ fn delete_at(alloc: Global, tree: &mut Tree, tokens: &[String]) -> Result<Tree, 
     }
 }
 
-/// Goes down a tree by each token: the tree becomes the value that they lead to, and what is above it goes into `above`,
-/// together with what was there. A refusal changes neither.
+/// Goes down a tree by each token: the tree becomes the value that they lead to, and what is above it goes into
+/// `above`, together with what was there. A refusal changes neither.
 fn descend(tree: &mut Tree, above: &mut Tree, tokens: &[String]) -> Result<(), PathFault>
     ensures ok { OnOk result
         (Lowered (texts tokens.now) (tree_of tree.old) (tree_of above.old) (tree_of tree.new) (tree_of above.new)) }
@@ -169,7 +170,7 @@ fn put(
     }
 }
 
-/// Puts an element at an index, or behind the last one.
+/// Puts an element at an index, or after the last one.
 fn put_element(
     items: &mut Vec<Tree>,
     token: &str,
@@ -201,7 +202,7 @@ fn put_element(
     }
 }
 
-/// Puts a value in the place of the first pair with the key, or behind the last pair.
+/// Puts a value in the place of the first pair with the key, or after the last pair.
 fn put_pair(
     alloc: Global,
     pairs: &mut Vec<(String, Tree)>,

@@ -1,12 +1,12 @@
-// Why a path is none, or leads to no place.
+// Why a pointer is not a path, or leads to no place.
 use std::alloc::{AllocError, AllocFailed};
 use thiserror::Error;
 
 /// Why a text is no path, or a path leads to no place in a tree. Steps count from 1.
 #[derive(Clone, Copy, Debug, PartialEq, Eq, Error)]
 pub enum PathFault {
-    /// The text is no pointer (RFC 6901, 3). `at` counts bytes: 0 where the text begins with something else than `/`, else
-    /// the place of the first `~` that isn't before `0` or `1`.
+    /// The text is no pointer (RFC 6901, 3). `at` counts bytes: 0 where the text begins with something else than
+    /// `/`, else the place of the first `~` that isn't before `0` or `1`.
     #[error("BadPath")]
     BadPath { at: usize },
     /// The step leads to nothing: into a text, to a key that isn't there, or to an index that has no element.

@@ -1,4 +1,5 @@
-//! Paths into trees of texts, as JSON Pointer (RFC 6901) writes them: the value at a path, and the edits of a tree there.
+//! Paths into trees of texts, as JSON Pointer (RFC 6901) writes them: the value at a path, and the edits of a tree
+//! there.
 #![tactic(auto)]
 
 mod change;

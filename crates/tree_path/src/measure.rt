@@ -16,16 +16,16 @@ use crate::path::Path;
 use crate::place::{self, Miss};
 use yaml_tree::{Config, Tree, style_len};
 
-/// The node that an edit changes, and where it stands.
+/// The node that an edit changes, and its context.
 #[derive(Clone, Copy)]
 struct Parent<'t> {
     node: &'t Tree,
     slot: Slot,
 }
 
-/// What [`set`](crate::set) changes in the length of a configuration, without setting anything. The path is not empty, and the
-/// value is the tree of a configuration. It takes no memory, and costs what the path, the value and what it replaces cost, not
-/// what the configuration does; to find a key among many it compares them one by one.
+/// What [`set`](crate::set) changes in the length of a configuration, without setting anything. The path is not
+/// empty, and the value is the tree of a configuration. It takes no memory, and costs what the path, the value and
+/// what it replaces cost, not what the configuration does; to find a key among many it compares them one by one.
 pub fn set_change(config: &Config, path: &Path, value: &Tree) -> Result<Change, PathFault>
     requires steps { 0 < length path.now }
     requires kept { IsKept (tree_of value.now) }
@@ -37,9 +37,9 @@ pub fn set_change(config: &Config, path: &Path, value: &Tree) -> Result<Change, 
     set_change_at(tree, &path.tokens, value)
 }
 
-/// What [`delete`](crate::delete) changes in the length of a configuration, without deleting anything. The path is not empty. It
-/// takes no memory, and costs what the path and what is deleted cost, not what the configuration does; to find a key among many
-/// it compares them one by one.
+/// What [`delete`](crate::delete) changes in the length of a configuration, without deleting anything. The path is
+/// not empty. It takes no memory, and costs what the path and what is deleted cost, not what the configuration does;
+/// to find a key among many it compares them one by one.
 pub fn delete_change(config: &Config, path: &Path) -> Result<Change, PathFault>
     requires { 0 < length path.now }
     ensures ok { IfOk result (λ change. (new : Meant)
@@ -50,8 +50,9 @@ pub fn delete_change(config: &Config, path: &Path) -> Result<Change, PathFault>
     delete_change_at(tree, &path.tokens)
 }
 
-/// How many bytes a configuration has in the one style after [`set`](crate::set), without setting anything. The value is the
-/// tree of a configuration. It takes no memory; what it costs is said at [`set_change`]. The faults are those of `set`.
+/// How many bytes a configuration has in the one style after [`set`](crate::set), without setting anything. The
+/// value is the tree of a configuration. It takes no memory; what it costs is said at [`set_change`]. The faults are
+/// those of `set`.
 pub fn set_len(config: &Config, path: &Path, value: &Tree) -> Result<u128, PathFault>
     requires { IsKept (tree_of value.now) }
     ensures ok { IfOk result (λ bytes. (new : Meant)
@@ -65,8 +66,9 @@ pub fn set_len(config: &Config, path: &Path, value: &Tree) -> Result<u128, PathF
     Ok(change.length_after(config.style_length(), 0))
 }
 
-/// How many bytes a configuration has in the one style after [`delete`](crate::delete), without deleting anything. The path is
-/// not empty. It takes no memory; what it costs is said at [`delete_change`]. The faults are those of `delete`.
+/// How many bytes a configuration has in the one style after [`delete`](crate::delete), without deleting anything.
+/// The path is not empty. It takes no memory; what it costs is said at [`delete_change`]. The faults are those of
+/// `delete`.
 pub fn delete_len(config: &Config, path: &Path) -> Result<u128, PathFault>
     requires { 0 < length path.now }
     ensures ok { IfOk result (λ bytes. (new : Meant)
@@ -108,7 +110,7 @@ fn delete_change_at(tree: &Tree, tokens: &[String]) -> Result<Change, PathFault>
     }
 }
 
-/// The node to which the tokens lead, and where it stands.
+/// The node to which the tokens lead, and its context.
 fn parent_at<'t>(tree: &'t Tree, tokens: &[String]) -> Result<Parent<'t>, PathFault>
     ensures ok { IfOk result (λ parent.
         Located (texts tokens.now) Slot.Value (tree_of tree.now) parent.slot (tree_of parent.node.now)) }

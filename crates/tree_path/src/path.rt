@@ -24,8 +24,8 @@ impl Model for Path {
 }
 
 impl Path {
-    /// Reads a pointer (RFC 6901, 3 and 4): empty, or tokens each led by `/`, in which `~1` stands for `/` and `~0` for `~`.
-    /// Any other text is refused by `BadPath`, which says where it is wrong.
+    /// Reads a pointer (RFC 6901, 3 and 4): empty, or tokens each led by `/`, in which `~1` means `/` and `~0` means
+    /// `~`. Any other text is refused by `BadPath`, which says where it is wrong.
     pub fn parse(alloc: Global, text: &str) -> Result<Path, PathFault>
         ensures met { (result ≡ Err PathFault.OutOfMemory) ⊎ (result ≡ path_of (chars text.now)) }
         ensures ok { IfOk result (λ path. chars text.now ≡ pointer_text path) }
@@ -63,7 +63,7 @@ impl Path {
     }
 }
 
-/// The character that a `~` before this one stands for.
+/// The character that a `~` before this one means.
 fn escaped(digit: Option<char>) -> Option<char>
     ensures { result ≡ escaped_by digit }
 {

@@ -31,8 +31,8 @@ impl Miss {
     }
 }
 
-/// The number that an index is: `0`, or digits without a leading zero (RFC 6901, 4). Beyond what a `usize` holds it is the
-/// greatest `usize`, which is past the end of each sequence.
+/// The number that an index is: `0`, or digits without a leading zero (RFC 6901, 4). Beyond what a `usize` holds it
+/// is the greatest `usize`, which is past the end of each sequence.
 fn number(token: &str) -> Option<usize>
     ensures { result ≡ option_map saturated (number_of (chars token.now)) }
 {

@@ -1,9 +1,9 @@
 // Paths as texts, the examples of RFC 6901, and edits.
-use crate::{Path, PathFault, at, delete, set};
+use crate::{Path, PathFault, at, delete, delete_len, set, set_len};
 use std::alloc::{AllocError, Global};
 use std::process::Abort;
 use std::test::Fail;
-use yaml_tree::Tree;
+use yaml_tree::{Config, Limits, Tree, read_one};
 
 fn text(alloc: Global, value: &str) -> Result<Tree, AllocError> {
     Ok(Tree::Text(String::from_str(alloc, value)?))
@@ -206,4 +206,72 @@ fn edits(rt: HostRuntime) -> Result<(), Fail> {
     );
     assert_eq!(rt; show(alloc, &tree)?.as_str(), "{c: 1;}");
     check_set(&rt, &mut tree, "", "whole", None, "whole")
+}
+
+/// The configuration that a text gives.
+fn config(alloc: Global, text: &str) -> Result<Config, Fail> {
+    let limits = Limits {
+        bytes: 100,
+        depth: 9,
+        style: 100,
+    };
+    read_one(alloc, text.as_bytes(), &limits).map_err(Fail::from)
+}
+
+/// The length after a value is set in `a/b: [x]`, which is written as `a/b:` and `  - x`.
+fn length_with(alloc: Global, pointer: &str, value: &str) -> Result<Result<u128, PathFault>, Fail> {
+    let whole = config(alloc, "a/b: [x]")?;
+    let value = config(alloc, value)?;
+    let path = Path::parse(alloc, pointer)?;
+    Ok(set_len(&whole, &path, value.tree()))
+}
+
+/// The length after what is at a path of `a/b: [x]` is deleted.
+fn length_without(alloc: Global, pointer: &str) -> Result<Result<u128, PathFault>, Fail> {
+    let whole = config(alloc, "a/b: [x]")?;
+    let path = Path::parse(alloc, pointer)?;
+    if path.steps() == 0 {
+        return Err(Fail::from("no step"));
+    }
+    Ok(delete_len(&whole, &path))
+}
+
+#[test]
+fn lengths_after_sets(rt: HostRuntime) -> Result<(), Fail> {
+    let missing = Err(PathFault::NoSuchPlace { step: 2 });
+    let no_index = Err(PathFault::NotIndex { step: 2 });
+    for (pointer, value, length) in [
+        // `  - z` more, another text, `a/b: []`, and a line `new: v` more
+        ("/a~1b/-", "z", Ok(17)),
+        ("/a~1b/0", "word", Ok(14)),
+        ("/a~1b", "[]", Ok(8)),
+        ("/new", "v", Ok(18)),
+        // `a/b:`, `  - |-`, `    p`, an empty line and `    q`
+        ("/a~1b/0", "\"p\\n\\nq\"", Ok(25)),
+        // the whole: `|-`, `  p` and `  q`
+        ("", "\"p\\nq\"", Ok(11)),
+        ("/a~1b/1", "z", missing),
+        ("/a~1b/k", "z", no_index),
+    ] {
+        assert_eq!(rt;
+            length_with(rt.alloc(), pointer, value)?,
+            length,
+            "{pointer}"
+        );
+    }
+    Ok(())
+}
+
+#[test]
+fn lengths_after_deletes(rt: HostRuntime) -> Result<(), Fail> {
+    for (pointer, length) in [
+        // `{}` and `a/b: []`
+        ("/a~1b", Ok(3)),
+        ("/a~1b/0", Ok(8)),
+        ("/a~1b/1", Err(PathFault::NoSuchPlace { step: 2 })),
+        ("/a~1b/01", Err(PathFault::NotIndex { step: 2 })),
+    ] {
+        assert_eq!(rt; length_without(rt.alloc(), pointer)?, length, "{pointer}");
+    }
+    Ok(())
 }

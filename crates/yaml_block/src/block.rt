@@ -102,8 +102,9 @@ fn body_at<'a>(
     })
 }
 
-/// Returns the line after a block scalar whose lines end at `at`. A comment line belongs to the scalar where no TAB is
-/// before its `#`, and then all lines of comments after it do. Other lines of white space or comments end all collections.
+/// Returns the line after a block scalar whose lines end at `at`. A comment line belongs to the scalar where no TAB
+/// is before its `#`, and then all lines of comments after it do. Other lines of white space or comments end all
+/// collections.
 fn line_after_scalar(text: &str, at: usize) -> NextLine
     requires at { IsCharBoundary text.now at }
     requires starts { IsLineStart text.now at }

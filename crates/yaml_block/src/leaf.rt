@@ -107,8 +107,9 @@ fn begins_block_scalar(text: &str, at: usize) -> bool
     stands_at(text, at, b'|') || stands_at(text, at, b'>')
 }
 
-/// Returns the indentation of the mapping whose first key is the flow node of the leaf, which ends at `end` and has its `:`
-/// at `colon`. Returns an error where no mapping may begin there, and where the node has a further line or is too long.
+/// Returns the indentation of the mapping whose first key is the flow node of the leaf, which ends at `end` and has
+/// its `:` at `colon`. Returns an error where no mapping may begin there, and where the node has a further line or
+/// is too long.
 fn key_indent(text: &str, leaf: Leaf, end: usize, colon: usize) -> Result<usize, ScanFault>
     requires at { IsCharBoundary text.now leaf.at }
     requires end { IsCharBoundary text.now end }

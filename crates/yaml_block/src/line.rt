@@ -34,7 +34,7 @@ impl Indentation {
 }
 
 impl<'a> Reader<'a> {
-    /// Reads the front of a node at the start of a line. Returns what is read next.
+    /// Reads the start of a node at the start of a line. Returns what is read next.
     pub(crate) fn on_line(
         &mut self,
         text: &'a str,

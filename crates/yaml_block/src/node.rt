@@ -15,7 +15,7 @@ use yaml_events::{BlockContext, Events, ScanFault, Why};
 use yaml_scan::{line_starts, rest_of_line_end, solid_line, white_end};
 
 impl<'a> Reader<'a> {
-    /// Reads the front of the outermost node. Returns what is read next.
+    /// Reads the start of the outermost node. Returns what is read next.
     fn front(
         &mut self,
         text: &'a str,
@@ -64,7 +64,7 @@ impl<'a> Reader<'a> {
         )
     }
 
-    /// Reads the front of the outermost node where a line starts at `at`.
+    /// Reads the start of the outermost node where a line starts at `at`.
     fn front_line(
         &mut self,
         text: &'a str,
@@ -141,14 +141,14 @@ fn least_indent(n: i64) -> usize
 
 /// Reads the block node at `at`, appends its events, and returns the place after it (YAML 1.2.2, 8.2).
 ///
-/// `at` counts bytes from 0 and is on a boundary of a character. The node is below an indentation of `n`, which is -1 at the
-/// top of a document; in the context `Bout` it may also be a sequence as deep as `n`. The place that is returned is after the
-/// comments that belong to the node: a line starts there, or the text ends.
+/// `at` counts bytes from 0 and is on a boundary of a character. The node is below an indentation of `n`, which is
+/// -1 at the top of a document; in the context `Bout` it may also be a sequence as deep as `n`. The place that is
+/// returned is after the comments that belong to the node: a line starts there, or the text ends.
 ///
 /// # Errors
 ///
-/// [`ScanFault::At`] where no block node is at `at`, and [`ScanFault::OutOfMemory`] where there is no memory for events, for
-/// values or for the stack of open collections. The events are then as they were.
+/// [`ScanFault::At`] where no block node is at `at`, and [`ScanFault::OutOfMemory`] where there is no memory for
+/// events, for values or for the stack of open collections. The events are then as they were.
 pub fn block_node<'a>(
     alloc: Global,
     events: &mut Events<'a>,

@@ -10,8 +10,8 @@ use yaml_flow::{KEY_LIMIT, flow_node};
 use yaml_scan::{at_most_chars, sign_at, white_end};
 
 impl<'a> Reader<'a> {
-    /// Reads the front of a further pair of a mapping: its key on one line with the `:`, or its `?`. Returns what is read
-    /// next.
+    /// Reads the start of a further pair of a mapping: its key on one line with the `:`, or its `?`. Returns what is
+    /// read next.
     pub(crate) fn pair(
         &mut self,
         text: &'a str,

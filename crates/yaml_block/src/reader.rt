@@ -36,6 +36,7 @@ impl<'a> Reader<'a> {
     }
 
     /// Puts an event after all others.
+    #[inline(always)]
     pub(crate) fn put(&mut self, event: Event<'a>) -> Result<(), ScanFault>
         ensures events { OnOk result (self.new.events ≡ self.old.events ++ event.entry ∷ []) }
         ensures collections { self.new.collections ≡ self.old.collections }

@@ -1,4 +1,4 @@
-// Why no block node stands at a place.
+// Why no block node is at a place.
 ghost use Rattle.std.specs.Prelude.{◌≡◌};
 ghost use Rattle.std.specs.Str.{IsCharBoundary};
 

@@ -37,8 +37,8 @@ impl Sign {
     }
 }
 
-/// Returns whether the part after a sign of a collection at `indent` is left out, where this line follows the sign's. The
-/// end of the text and a marker need no test: they have no spaces and no `-` before white space.
+/// Returns whether the part after a sign of a collection at `indent` is left out, where this line follows the
+/// sign's. The end of the text and a marker need no test: they have no spaces and no `-` before white space.
 fn is_omitted(text: &str, line: Line, indent: usize, context: BlockContext) -> bool
     requires line { IsLine text.now line }
     requires solid { is_line_end (rest text.now line.start) ≡ false }
@@ -55,7 +55,7 @@ fn is_omitted(text: &str, line: Line, indent: usize, context: BlockContext) -> b
 }
 
 impl<'a> Reader<'a> {
-    /// Reads the front of the part after a sign: on its line, on a later one, or left out. Returns what is read next.
+    /// Reads the start of the part after a sign: on its line, on a later one, or left out. Returns what is read next.
     pub(crate) fn after_sign(
         &mut self,
         text: &'a str,
@@ -76,7 +76,7 @@ impl<'a> Reader<'a> {
         }
     }
 
-    /// Reads the front of the part after a sign whose line holds no more: on the next line that does, or left out.
+    /// Reads the start of the part after a sign whose line holds no more: on the next line that does, or left out.
     fn on_later_line(
         &mut self,
         text: &'a str,
@@ -115,7 +115,7 @@ impl<'a> Reader<'a> {
         self.on_line(text, line, node)
     }
 
-    /// Reads the front of the part after a sign on the sign's line.
+    /// Reads the start of the part after a sign on the sign's line.
     fn on_sign_line(
         &mut self,
         text: &'a str,

@@ -6,45 +6,10 @@ use super::*;
 use std::alloc::Global;
 use std::test::Fail;
 use yaml_events::BlockContext::{Bin, Bout};
-use yaml_events::{BlockContext, Event, Events, ScanFault, Style, Why};
+use yaml_events::{BlockContext, Event, Events, ScanFault, Why};
 use yaml_scan::solid_line;
 
-fn letter(style: Style) -> &'static str {
-    match style {
-        Style::Plain => "P",
-        Style::Single => "S",
-        Style::Double => "D",
-        Style::Literal => "L",
-        Style::Folded => "F",
-        Style::Omitted => "O",
-    }
-}
-
-/// The events as `+S`, `-S`, `+M` and `-M`, and a scalar as `=`, its style, its range and its value.
-fn shown(alloc: Global, events: &Events<'_>) -> Result<String, Fail> {
-    let mut text = String::new(alloc);
-    for event in events.as_slice() {
-        match event {
-            Event::DocStart => text.push_str("+D ")?,
-            Event::DocEnd => text.push_str("-D ")?,
-            Event::SeqStart => text.push_str("+S ")?,
-            Event::SeqEnd => text.push_str("-S ")?,
-            Event::MapStart => text.push_str("+M ")?,
-            Event::MapEnd => text.push_str("-M ")?,
-            Event::Scalar { style, span, value } => {
-                let style = letter(*style);
-                let start = span.start;
-                let end = span.end;
-                let value = value.as_str();
-                let scalar = format!(in alloc; "={style}[{start},{end}]{value} ")?;
-                text.push_str(scalar.as_str())?;
-            }
-        }
-    }
-    Ok(text)
-}
-
-/// Reads the block node at the front of a text, below an indentation of `n`.
+/// Reads the block node at the start of a text, below an indentation of `n`.
 fn read<'a>(
     alloc: Global,
     events: &mut Events<'a>,
@@ -60,7 +25,7 @@ fn read<'a>(
     block_node(alloc, events, text, 0, n, context)
 }
 
-/// Where the block node at the front of a text ends, below an indentation of `n`, or why there is none.
+/// Where the block node at the start of a text ends, below an indentation of `n`, or why there is none.
 fn end_of(alloc: Global, text: &str, n: i64, context: BlockContext) -> Result<usize, ScanFault> {
     let mut events = Events::new(alloc);
     read(alloc, &mut events, text, n, context)
@@ -74,12 +39,12 @@ fn refusal(alloc: Global, text: &str) -> Option<(usize, Why)> {
     }
 }
 
-/// The events of the block node that is a document's whole text, but for lines of white space and comments after it; none
-/// where more follows.
+/// The events of the block node that is a document's whole text, but for lines of white space and comments after it;
+/// none where more follows.
 fn meaning(alloc: Global, text: &str) -> Result<String, Fail> {
     let mut events = Events::new(alloc);
     match read(alloc, &mut events, text, -1, Bin) {
-        Ok(end) if solid_line(text, end).start == text.len() => shown(alloc, &events),
+        Ok(end) if solid_line(text, end).start == text.len() => Ok(format!(in alloc; "{events}")?),
         _ => Ok(String::new(alloc)),
     }
 }
@@ -96,27 +61,36 @@ fn repeated(alloc: Global, text: &str, count: usize) -> Result<String, Fail> {
 #[test]
 fn block_nodes(rt: HostRuntime) -> Result<(), Fail> {
     for (text, wanted) in [
-        ("? - a\n  -\n", "+M +S =P[4,5]a =O[9,9] -S =O[9,9] -M "),
-        ("a:\n- b\n", "+M =P[0,1]a +S =P[5,6]b -S -M "),
-        ("-\n- b\n", "+S =O[1,1] =P[4,5]b -S "),
-        ("|\n a\n\t\n", "=L[0,5]a\n "),
-        ("- |\n a\n # c\n- b", "+S =L[2,12]a\n# c\n =P[14,15]b -S "),
-        ("|", "=L[0,1] "),
-        ("k: a\n  #c", "+M =P[0,1]k =P[3,4]a -M "),
-        ("- |\n  a\n# c\n\t\n- b\n", "+S =L[2,8]a\n =P[16,17]b -S "),
+        (
+            "? - a\n  -\n",
+            "+M +S =P[4,5]\"a\" =O[9,9]\"\" -S =O[9,9]\"\" -M",
+        ),
+        ("a:\n- b\n", "+M =P[0,1]\"a\" +S =P[5,6]\"b\" -S -M"),
+        ("-\n- b\n", "+S =O[1,1]\"\" =P[4,5]\"b\" -S"),
+        ("|\n a\n\t\n", "=L[0,5]\"a\\n\""),
+        (
+            "- |\n a\n # c\n- b",
+            "+S =L[2,12]\"a\\n# c\\n\" =P[14,15]\"b\" -S",
+        ),
+        ("|", "=L[0,1]\"\""),
+        ("k: a\n  #c", "+M =P[0,1]\"k\" =P[3,4]\"a\" -M"),
+        (
+            "- |\n  a\n# c\n\t\n- b\n",
+            "+S =L[2,8]\"a\\n\" =P[16,17]\"b\" -S",
+        ),
         (
             "? [a]\n? {b: c}\n: - d\n",
-            "+M +S =P[3,4]a -S =O[5,5] +M =P[9,10]b =P[12,13]c -M +S =P[19,20]d -S -M ",
+            "+M +S =P[3,4]\"a\" -S =O[5,5]\"\" +M =P[9,10]\"b\" =P[12,13]\"c\" -M +S =P[19,20]\"d\" -S -M",
         ),
         (
             "- [a]: b\n  c: d\n",
-            "+S +M +S =P[3,4]a -S =P[7,8]b =P[11,12]c =P[14,15]d -M -S ",
+            "+S +M +S =P[3,4]\"a\" -S =P[7,8]\"b\" =P[11,12]\"c\" =P[14,15]\"d\" -M -S",
         ),
         (
             "[a: b]: c\n",
-            "+M +S +M =P[1,2]a =P[4,5]b -M -S =P[8,9]c -M ",
+            "+M +S +M =P[1,2]\"a\" =P[4,5]\"b\" -M -S =P[8,9]\"c\" -M",
         ),
-        ("'a' : b\n", "+M =S[0,3]a =P[6,7]b -M "),
+        ("'a' : b\n", "+M =S[0,3]\"a\" =P[6,7]\"b\" -M"),
     ] {
         let found = meaning(rt.alloc(), text)?;
         assert_eq!(rt; found.as_str(), wanted);
@@ -129,36 +103,39 @@ fn nested_block_nodes(rt: HostRuntime) -> Result<(), Fail> {
     for (text, wanted) in [
         (
             "- - a: b\n    c: d\n  - e\n",
-            "+S +S +M =P[4,5]a =P[7,8]b =P[13,14]c =P[16,17]d -M =P[22,23]e -S -S ",
+            "+S +S +M =P[4,5]\"a\" =P[7,8]\"b\" =P[13,14]\"c\" =P[16,17]\"d\" -M =P[22,23]\"e\" -S -S",
         ),
         (
             "? ? a\n  : b\n: c\n",
-            "+M +M =P[4,5]a =P[10,11]b -M =P[14,15]c -M ",
+            "+M +M =P[4,5]\"a\" =P[10,11]\"b\" -M =P[14,15]\"c\" -M",
         ),
-        ("a: [\n  b\n ]\n", "+M =P[0,1]a +S =P[7,8]b -S -M "),
-        ("a: |\n b\n\t\n", "+M =P[0,1]a =L[3,8]b\n -M "),
-        ("a: |\n b\n\t# c\n", "+M =P[0,1]a =L[3,8]b\n -M "),
-        ("a:\n  'b\n c'\n", "+M =P[0,1]a =S[5,11]b c -M "),
+        ("a: [\n  b\n ]\n", "+M =P[0,1]\"a\" +S =P[7,8]\"b\" -S -M"),
+        ("a: |\n b\n\t\n", "+M =P[0,1]\"a\" =L[3,8]\"b\\n\" -M"),
+        ("a: |\n b\n\t# c\n", "+M =P[0,1]\"a\" =L[3,8]\"b\\n\" -M"),
+        ("a:\n  'b\n c'\n", "+M =P[0,1]\"a\" =S[5,11]\"b c\" -M"),
         (
             "a:\n b\nc: d\n",
-            "+M =P[0,1]a =P[4,5]b =P[6,7]c =P[9,10]d -M ",
+            "+M =P[0,1]\"a\" =P[4,5]\"b\" =P[6,7]\"c\" =P[9,10]\"d\" -M",
         ),
         (
             "- - - a\n  - b\n- c\n",
-            "+S +S +S =P[6,7]a -S =P[12,13]b -S =P[16,17]c -S ",
+            "+S +S +S =P[6,7]\"a\" -S =P[12,13]\"b\" -S =P[16,17]\"c\" -S",
         ),
         (
             "a: # c\n- b\nc:\n  - d\n",
-            "+M =P[0,1]a +S =P[9,10]b -S =P[11,12]c +S =P[18,19]d -S -M ",
+            "+M =P[0,1]\"a\" +S =P[9,10]\"b\" -S =P[11,12]\"c\" +S =P[18,19]\"d\" -S -M",
         ),
         (
             "- a: b\n  ? c\n  : d\n-\n",
-            "+S +M =P[2,3]a =P[5,6]b =P[11,12]c =P[17,18]d -M =O[20,20] -S ",
+            "+S +M =P[2,3]\"a\" =P[5,6]\"b\" =P[11,12]\"c\" =P[17,18]\"d\" -M =O[20,20]\"\" -S",
         ),
-        ("? |\n  a\n: |\n  b\n", "+M =L[2,8]a\n =L[10,16]b\n -M "),
+        (
+            "? |\n  a\n: |\n  b\n",
+            "+M =L[2,8]\"a\\n\" =L[10,16]\"b\\n\" -M",
+        ),
         (
             "- ? a\n  : - b\n    - c\n",
-            "+S +M =P[4,5]a +S =P[12,13]b =P[20,21]c -S -M -S ",
+            "+S +M =P[4,5]\"a\" +S =P[12,13]\"b\" =P[20,21]\"c\" -S -M -S",
         ),
     ] {
         let found = meaning(rt.alloc(), text)?;

@@ -7,7 +7,7 @@ use std::borrow::CowStr;
 use std::test::Fail;
 use yaml_events::{ScanFault, Why};
 
-/// What stands at the text's front.
+/// What is at the text's start.
 #[derive(Drop)]
 enum Found<'a> {
     NoHeader,
@@ -15,7 +15,7 @@ enum Found<'a> {
     Scalar(CowStr<'a>, usize),
 }
 
-/// The scalar at the text's front, below an indentation of `n`.
+/// The scalar at the text's start, below an indentation of `n`.
 fn scan<'a>(alloc: Global, text: &'a str, n: i64) -> Result<Found<'a>, Fail>
     requires { negsuc 0 ≤ℤ n }
 {

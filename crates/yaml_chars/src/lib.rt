@@ -1,9 +1,10 @@
 //! Characters of YAML 1.2.2, their classes, and the breaks of a text.
 //!
-//! A text is UTF-8, and a place in it counts bytes from 0. Classes are over code points, as `specs/Classes.antt` writes them.
-//! Breaks are told over bytes and over characters, since LF and CR are bytes of their own in UTF-8. No call takes memory.
+//! A text is UTF-8, and a place in it counts bytes from 0. Classes are over code points, as `specs/Classes.antt`
+//! writes them. Line breaks are defined over bytes and over characters, since LF and CR are bytes of their own in
+//! UTF-8. No call allocates.
 //!
-//! What scanners need to go from bytes to characters stands in `specs/Places.antt` and, as lemmas, in `proofs/`.
+//! What scanners need to go from bytes to characters is in `specs/Places.antt` and, as lemmas, in `proofs/`.
 #![tactic(auto)]
 
 ghost use Rattle.std.specs.Prelude.{◌≡◌, ◌+◌, ◌<◌, ◌↔◌, ◌∷◌, IsTrue, IsOk, IfOk, IfErr, IsSome, IfSome, IfNone, length, drop, slice_index};
@@ -22,14 +23,15 @@ pub enum CharFault {
     /// The bytes are not UTF-8.
     #[error("NotUtf8")]
     NotUtf8 {
-        /// How many bytes the longest front of them has that is UTF-8.
+        /// The length in bytes of the longest prefix that is UTF-8.
         at: usize,
     },
 }
 
 /// The bytes as a text. Of the encodings of YAML 1.2.2, 5.2, UTF-8 alone is read.
 ///
-/// Answers [`CharFault::NotUtf8`] exactly where the bytes are not UTF-8, with the length in bytes of the longest front that is.
+/// Returns [`CharFault::NotUtf8`] exactly if the bytes are not UTF-8, with the length in bytes of the longest prefix
+/// that is.
 pub fn checked(bytes: &[u8]) -> Result<&str, CharFault>
     ensures valid { IsOk result ↔ IsUtf8 bytes.now }
     ensures text { IfOk result (λ text. text.now ≡ bytes.now) }
@@ -40,7 +42,8 @@ pub fn checked(bytes: &[u8]) -> Result<&str, CharFault>
     })
 }
 
-/// Whether a character is printable (5.1, `c-printable`): TAB, LF, CR, NEL, or one that is no control, U+FFFE or U+FFFF.
+/// Whether a character is printable (5.1, `c-printable`): TAB, LF, CR, NEL, or one that is no control, U+FFFE or
+/// U+FFFF.
 pub fn printable(character: char) -> bool
     ensures { result ≡ printable character }
 {
@@ -56,7 +59,7 @@ pub fn printable(character: char) -> bool
     )
 }
 
-/// Whether a character may stand between quotes on one line: TAB, and all from the space on (5.1, `nb-json`).
+/// Returns whether a character may be between quotes on one line: TAB, and all from the space on (5.1, `nb-json`).
 pub fn nb_json(character: char) -> bool
     ensures { result ≡ nb_json character }
 {
@@ -118,10 +121,10 @@ pub fn flow_indicator(character: char) -> bool
     matches!(character, ',' | '[' | ']' | '{' | '}')
 }
 
-/// The first break at or behind `at`: where it starts, and its length, both in bytes.
+/// Returns the first line break at or after `at`: where it starts, and its length, both in bytes.
 ///
-/// A break is CR LF, LF, or a CR that no LF follows (5.4, `b-break`); between CR and LF, the LF is the first. Answers None where
-/// none stands there. `at` is on a boundary of a character, the end of the text included.
+/// A break is CR LF, LF, or a CR that no LF follows (5.4, `b-break`); between CR and LF, the LF is the first.
+/// Answers None where there is none. `at` is on a boundary of a character, the end of the text included.
 pub fn next_break(text: &str, at: usize) -> Option<(usize, usize)>
     requires { IsCharBoundary text.now at }
 
@@ -138,7 +141,7 @@ pub fn next_break(text: &str, at: usize) -> Option<(usize, usize)>
     Some((start, break_len(&bytes[start..])))
 }
 
-/// How many bytes the break at the front takes.
+/// The length in bytes of the break at the start.
 fn break_len(text: &[u8]) -> usize
     requires { IsTrue (line_break (slice_index text.now 0)) }
     ensures { StartsWithBreak text.now result (drop result text.now) }

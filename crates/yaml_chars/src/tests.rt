@@ -42,7 +42,8 @@ fn fault_in(bytes: &[u8]) -> Option<CharFault> {
 
 #[test]
 fn faults_name_the_longest_front(rt: HostRuntime) {
-    // Unicode's examples of malformed UTF-8: forms that are too long, surrogates, numbers past the last character, and cut ones.
+    // Unicode's examples of malformed UTF-8: forms that are too long, surrogates, numbers past the last character,
+    // and cut ones.
     assert_eq!(rt; fault_in(b"\xff"), Some(CharFault::NotUtf8 { at: 0 }));
     assert_eq!(rt;
         fault_in(b"a\xc0\xaf\xe0\x80\xbf\xf0\x81\x82\x41"),

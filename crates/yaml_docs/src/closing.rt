@@ -7,14 +7,15 @@ use memchr::memmem;
 /// The line that closes a text: three dots and a line feed.
 pub(crate) const CLOSING_LINE: &[u8] = b"...\n";
 
-/// The same behind the end of another line.
+/// The same after the end of another line.
 pub(crate) const LINE_AND_CLOSING_LINE: &[u8] = b"\n...\n";
 
-/// The first place behind `at` that stands just behind a closing line: a line of exactly `...` and a line feed. Places count
-/// bytes from 0. A line has to start at `at`, as at 0 and behind each closing line, so that the next one can be looked for from there.
+/// Returns the first place after `at` that is just past a closing line: a line of exactly `...` and a line feed.
+/// Places count bytes from 0. A line has to start at `at`, as at 0 and after each closing line, so that the next one
+/// can be searched from there.
 ///
-/// A `...` with CR and LF, or with a comment, ends a document (9.1.4) and closes nothing: so of a text that was cut short no
-/// front is closed that it doesn't hold whole.
+/// A `...` with CR and LF, or with a comment, ends a document (9.1.4) and closes nothing: so of a text that was cut
+/// short no prefix is closed that it doesn't contain whole.
 pub fn next_close(bytes: &[u8], at: usize) -> Option<usize>
     requires { StartsLine bytes.now at }
     ensures found { IfSome result (IsNextClosing bytes.now at) }

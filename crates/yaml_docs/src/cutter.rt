@@ -1,4 +1,4 @@
-// Cutting bytes that come in parts behind each closing line.
+// Cutting bytes that come in parts after each closing line.
 ghost use Rattle.std.specs.Prelude.{◌≡◌, ◌≤◌, ◌+◌, ℕ, true, [], IfOk, IfErr, IfSome, IfNone, Err, length};
 ghost use Rattle.yaml_grammar.specs.Closings.{ends_line};
 ghost use Rattle.yaml_docs.specs.Cutting.{Held, Unclosed, Takes, Feeds, Overfeeds};
@@ -40,8 +40,9 @@ impl From<AllocError> for CutFault {
     }
 }
 
-/// Holds the bytes after the last closing line of a stream that comes in parts. A closing line is a line of exactly `...` and a
-/// line feed, as [`next_close`](crate::next_close) finds it. Contracts see the bytes and the most that it may hold.
+/// Holds the bytes after the last closing line of a stream that comes in parts. A closing line is a line of exactly
+/// `...` and a line feed, as [`next_close`](crate::next_close) finds it. Contracts see the bytes and the most that
+/// it may hold.
 #[derive(Debug, Drop)]
 pub struct Cutter {
     held: Vec<u8>,
@@ -73,8 +74,8 @@ impl Cutter {
         }
     }
 
-    /// Takes bytes up to and including the first closing line, or all of them if there is none. A closed piece has to be
-    /// [cleared](Cutter::clear) before. It looks at each byte once, and copies it once.
+    /// Takes bytes up to and including the first closing line, or all of them if there is none. A closed piece has
+    /// to be [cleared](Cutter::clear) before. It looks at each byte once, and copies it once.
     ///
     /// # Errors
     /// `TooLong` if what is held and what would be taken have more than the most bytes together; `OutOfMemory`. In both

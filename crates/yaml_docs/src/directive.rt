@@ -7,8 +7,8 @@ ghost use Rattle.yaml_docs.specs.Directives.{IsDirective, NoDirective, IsVersion
 
 use yaml_scan::{Line, line_after, white_end};
 
-/// Returns the first line after the `%YAML` directive at `at` that holds more than white space and a comment. Returns None
-/// if no such directive stands there, or its version is neither 1.1 nor 1.2.
+/// Returns the first line after the `%YAML` directive at `at` that holds more than white space and a comment.
+/// Returns None if there is no such directive there, or its version is neither 1.1 nor 1.2.
 pub(crate) fn directive_end(text: &str, at: usize) -> Option<Line>
     requires { IsCharBoundary text.now at }
     ensures found { IfSome result (IsDirective text.now at) }
@@ -42,7 +42,7 @@ fn version_end(text: &str, at: usize) -> Option<usize>
     None
 }
 
-/// Returns whether these ASCII characters stand at `at`.
+/// Returns whether these ASCII characters are at `at`.
 fn begins_at(text: &str, at: usize, word: &[u8]) -> bool
     requires at { IsCharBoundary text.now at }
     requires ascii { every (λ character. nat_lt character 128) word.now ≡ true }

@@ -43,7 +43,7 @@ pub(crate) fn stream<'a>(alloc: Global, text: &'a str) -> Result<Events<'a>, Sca
     ensures borrowed { IfOk result (λ events. All (BorrowsPlain text.now) events) }
 {
     let mut events = Events::new(alloc);
-    // Whether a bare document or a directive may stand at `at`.
+    // Whether a bare document or a directive may begin at `at`.
     let mut opened = true;
     let mut at = mark_end(text);
     'pieces: loop {
@@ -74,7 +74,7 @@ fn mark_end(text: &str) -> usize
     if character == '\u{feff}' { len } else { 0 }
 }
 
-/// Returns what begins at a solid line. A bare document or a directive may stand there only if `opened` says so.
+/// Returns what begins at a solid line. A bare document or a directive may begin there only if `opened` says so.
 fn piece_at(text: &str, line: Line, opened: bool) -> Result<Piece, ScanFault>
     requires at { IsCharBoundary text.now line.start }
     requires first { IsCharBoundary text.now line.first }
@@ -100,7 +100,7 @@ fn piece_at(text: &str, line: Line, opened: bool) -> Result<Piece, ScanFault>
     Ok(Piece::Bare)
 }
 
-/// Why neither a bare document nor a directive may stand at a line after a document.
+/// Why neither a bare document nor a directive may begin at a line after a document.
 fn why_not_opened(text: &str, line: Line) -> Why
     requires { IsCharBoundary text.now line.first }
 {
@@ -167,7 +167,7 @@ fn bare_end<'a>(
     Ok(end)
 }
 
-/// Appends the events of the document whose `---` stands at `at`, and returns its end (9.1.4, `l-explicit-document`).
+/// Appends the events of the document whose `---` is at `at`, and returns its end (9.1.4, `l-explicit-document`).
 fn explicit_end<'a>(
     alloc: Global,
     events: &mut Events<'a>,
@@ -222,7 +222,7 @@ fn omitted_end(text: &str, at: usize) -> Option<usize>
     Some(line.start)
 }
 
-/// Appends the events of the document whose directive stands at `at`, and returns its end (9.1.5,
+/// Appends the events of the document whose directive is at `at`, and returns its end (9.1.5,
 /// `l-directive-document`).
 fn directed_end<'a>(
     alloc: Global,

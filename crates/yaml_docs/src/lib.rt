@@ -21,6 +21,4 @@ mod cutter_tests;
 #[cfg(test)]
 mod read_tests;
 #[cfg(test)]
-mod rows_tests;
-#[cfg(test)]
 mod tests;

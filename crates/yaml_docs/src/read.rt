@@ -13,9 +13,9 @@ use yaml_events::{Events, ScanFault, Why};
 
 /// The events of all documents of a text, in order.
 ///
-/// `bytes` are UTF-8 (YAML 1.2.2, 5.2), with at most `max` bytes; a byte order mark at their start is skipped. A stream
-/// holds any number of documents (9.2). The ranges of scalars count bytes from 0, and a plain scalar on one line borrows
-/// its value.
+/// `bytes` are UTF-8 (YAML 1.2.2, 5.2), with at most `max` bytes; a byte order mark at their start is skipped. A
+/// stream holds any number of documents (9.2). The ranges of scalars count bytes from 0, and a plain scalar on one
+/// line borrows its value.
 ///
 /// # Errors
 ///

@@ -1,4 +1,4 @@
-// Rows of texts, and the places behind their closing lines.
+// Rows of texts, and the places after their closing lines.
 use super::*;
 use std::process::Abort;
 

@@ -8,8 +8,8 @@ ghost use Rattle.yaml_tree.specs.Seen.{tree_of};
 use std::alloc::{AllocError, Global};
 use yaml_tree::{Config, Sink, style_len, write_style};
 
-/// The text of a configuration in the one style, through the end of its last line. It is linear in the text's length, and
-/// takes memory once, for the text. Only want of memory can fail.
+/// The text of a configuration in the one style, through the end of its last line. It is linear in the text's
+/// length, and allocates once, for the text. It fails only if out of memory.
 pub fn style_text(alloc: Global, config: &Config) -> Result<String, AllocError>
     ensures { IfOk result (λ text. chars (string_bytes text) ≡ style_text (tree_of config.now)) }
 {

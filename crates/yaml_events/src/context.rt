@@ -1,7 +1,7 @@
-// In what place a node stands.
+// The context of a node.
 
-/// Where a flow node stands (YAML 1.2.2, 7.1): it says which characters end a plain scalar, and whether the node may run
-/// over lines.
+/// The context of a flow node (YAML 1.2.2, 7.1): it says which characters end a plain scalar, and whether the node
+/// may run over lines.
 #[derive(Clone, Copy, Debug, PartialEq, Eq)]
 pub enum FlowContext {
     /// Outside of brackets (`flow-out`).
@@ -14,11 +14,11 @@ pub enum FlowContext {
     FlowKey,
 }
 
-/// Where a block node stands (YAML 1.2.2, 8.2): it says how far a sequence in it is indented at least.
+/// The context of a block node (YAML 1.2.2, 8.2): it says how far a sequence in it is indented at least.
 #[derive(Clone, Copy, Debug, PartialEq, Eq)]
 pub enum BlockContext {
     /// In a sequence, or at a document's top (`block-in`).
     Bin,
-    /// In a mapping (`block-out`), where a sequence may stand as deep as its key.
+    /// In a mapping (`block-out`), where a sequence may be as deep as its key.
     Bout,
 }

@@ -11,11 +11,12 @@ pub enum Style {
     Double,
     Literal,
     Folded,
-    /// Not at all: the empty text stands where nothing is written.
+    /// Not at all: an omitted value is the empty text.
     Omitted,
 }
 
-/// Which bytes of a text a scalar is written in: from `start` on, up to `end`, which is not among them. Both count from 0.
+/// Which bytes of a text a scalar is written in: from `start` on, up to `end`, which is not among them. Both count
+/// from 0.
 #[derive(Clone, Copy, Debug, PartialEq, Eq)]
 pub struct Span {
     pub start: usize,

@@ -26,7 +26,7 @@ pub enum Why {
     /// A byte order mark that is not at the text's start.
     #[error("ByteOrderMark")]
     ByteOrderMark,
-    /// A character that may not stand there.
+    /// A character that is not allowed there.
     #[error("Character")]
     Character,
     /// An unknown escape.

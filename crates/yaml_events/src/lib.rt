@@ -1,10 +1,11 @@
 //! Events of a text, as a scanner finds them, with styles and byte ranges (YAML 1.2.2, 3.1 and 3.2.3).
 //!
-//! An [`Event`] borrows its value from the text where the text has it as it is. [`Events`] is a list of them that grows,
-//! and the other types say in what place a scanner stands and why it stopped.
+//! An [`Event`] borrows its value from the text where the text has it as it is. [`Events`] is a list of them that
+//! grows, and the other types say in which context a scanner is and why it stopped.
 #![tactic(auto)]
 
 mod context;
+mod display;
 mod event;
 mod fault;
 mod list;

@@ -46,6 +46,7 @@ impl<'a> Events<'a> {
     }
 
     /// Appends an event. If there is no memory for it, it is handed back, and the list is unchanged.
+    #[inline(always)]
     pub fn push(&mut self, event: Event<'a>) -> Result<(), AllocFailed<Event<'a>>>
         ensures ok { OnOk result (self.new ≡ self.old ++ event.entry ∷ []) }
         ensures back { IfErr result (λ e. (e.value ≡ event.entry) × (self.new ≡ self.old)) }

@@ -56,3 +56,34 @@ fn faults_by_name(rt: HostRuntime) -> Result<(), Fail> {
     assert_eq!(rt; text.as_str(), "At 3 Indent");
     Ok(())
 }
+
+#[test]
+fn events_in_words(rt: HostRuntime) -> Result<(), Fail> {
+    let alloc = rt.alloc();
+    let mut events = Events::new(alloc);
+    for event in [
+        Event::DocStart,
+        Event::MapStart,
+        scalar("a"),
+        Event::SeqStart,
+        Event::SeqEnd,
+        Event::MapEnd,
+        Event::DocEnd,
+    ] {
+        events.push(event)?;
+    }
+    let shown = format!(in alloc; "{events}")?;
+    assert_eq!(rt; shown.as_str(), "+D +M =P[0,1]\"a\" +S -S -M -D");
+    let mut letters = String::new(alloc);
+    for style in [
+        Style::Single,
+        Style::Double,
+        Style::Literal,
+        Style::Folded,
+        Style::Omitted,
+    ] {
+        letters = format!(in alloc; "{letters}{style}")?;
+    }
+    assert_eq!(rt; letters.as_str(), "SDLFO");
+    Ok(())
+}

@@ -37,7 +37,7 @@ pub(crate) struct Open {
     /// Whether it is a sequence's.
     pub(crate) in_seq: bool,
     pub(crate) part: Part,
-    /// Where that node starts, and how many events stand before it.
+    /// Where that node starts, and how many events are before it.
     pub(crate) start: usize,
     pub(crate) before: usize,
 }
@@ -58,7 +58,7 @@ pub(crate) enum NodeEnd {
     Delimited,
 }
 
-/// Where the reader stands.
+/// Where the reader is.
 #[derive(Clone, Copy)]
 pub(crate) enum Next {
     /// The closing bracket, or an entry, may start here.
@@ -137,7 +137,7 @@ fn pass(text: &str, at: usize, setting: Setting, line: &mut usize) -> Result<Nex
     Ok(Next::Entry { at: end })
 }
 
-/// Reads the closing bracket, or the front of an entry.
+/// Reads the closing bracket, or the start of an entry.
 fn entry(
     events: &mut Events<'_>,
     text: &str,
@@ -168,7 +168,7 @@ fn entry(
     asked(events, text, at + 1, setting, top, line)
 }
 
-/// Reads what stands between the `?` of an entry and its key.
+/// Reads what is between the `?` of an entry and its key.
 fn asked(
     events: &mut Events<'_>,
     text: &str,
@@ -379,6 +379,7 @@ fn node_end(style: Style) -> NodeEnd
 }
 
 /// Reads the collection whose bracket opens at a place: appends its events, and returns the place after it.
+#[inline(never)]
 pub(crate) fn collection<'a>(
     alloc: Global,
     events: &mut Events<'a>,
@@ -400,7 +401,7 @@ pub(crate) fn collection<'a>(
     };
     // The brackets around the innermost one, the outermost first.
     let mut outer: Vec<Open> = Vec::new(alloc);
-    // No break stands between this place and the reader, and in each node that started before it there is one.
+    // No break is between this place and the reader, and in each node that started before it there is one.
     let mut line = at;
     let mut top = begin(events, at, in_seq)?;
     let mut next = pass(text, at + 1, setting, &mut line)?;

@@ -19,7 +19,7 @@ use yaml_recognizers::flow_nodes::flow_node_stands;
 /// place after it.
 ///
 /// Places count bytes from 0. Further lines of the node are indented by `n` spaces or more; in a key there are
-/// none. It fails with [`ScanFault::At`] exactly where no flow node stands there, and with
+/// none. It fails with [`ScanFault::At`] exactly if there is no flow node, and with
 /// [`ScanFault::OutOfMemory`] where there is no memory for the events, a value or the open brackets; the events
 /// are then as they were.
 pub fn flow_node<'a>(
@@ -50,6 +50,7 @@ pub fn flow_node<'a>(
 }
 
 /// Reads the flow node at a place; where it fails, events may have been appended.
+#[inline(always)]
 fn read_node<'a>(
     alloc: Global,
     events: &mut Events<'a>,

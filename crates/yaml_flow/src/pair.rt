@@ -18,7 +18,7 @@ use crate::push::{insert, omitted, push};
 use yaml_events::{Event, Events, FlowContext, ScanFault, Why};
 use yaml_scan::{at_most_chars, safe_at, stands_at};
 
-/// How many characters may stand between the start of a key on one line and its `:` (YAML 1.2.2, 7.4.2 and
+/// How many characters may be between the start of a key on one line and its `:` (YAML 1.2.2, 7.4.2 and
 /// 8.2.2).
 pub const KEY_LIMIT: usize = 1024;
 
@@ -74,7 +74,7 @@ fn is_value(part: Part) -> bool
     }
 }
 
-/// Returns whether the `:` of a pair stands at a place after its key.
+/// Returns whether the `:` of a pair is at a place after its key.
 fn colon_at(text: &str, at: usize, key_end: NodeEnd, context: FlowContext) -> bool
     requires { IsCharBoundary text.now at }
     ensures { result ≡ is_colon (context_of context) (ends_plain key_end) (rest text.now at) }
@@ -132,7 +132,7 @@ fn without_value(
     close_pair(events, top, after)
 }
 
-/// Begins the mapping of a pair in a sequence, once its `:` is seen: the key stands on one line with it, and is
+/// Begins the mapping of a pair in a sequence, once its `:` is seen: the key is on one line with it, and is
 /// short.
 fn begin_pair(
     events: &mut Events<'_>,
@@ -158,7 +158,7 @@ fn begin_pair(
     insert(events, top.before, Event::MapStart)
 }
 
-/// Reads what stands after the `:` of a pair.
+/// Reads what follows the `:` of a pair.
 fn value(
     events: &mut Events<'_>,
     text: &str,
@@ -190,7 +190,7 @@ fn value(
 }
 
 /// Returns whether the value is left out after a `:` and the gap from `start` to `at`: the entry ends there, or
-/// no gap stands after a plain key's `:`.
+/// there is no gap after a plain key's `:`.
 fn is_left_out(text: &str, start: usize, at: usize, key_end: NodeEnd) -> bool
     requires { IsCharBoundary text.now at }
     ensures { result ≡ (ends_entry (rest text.now at) || (ends_plain key_end && not (nat_lt start at))) }

@@ -10,6 +10,7 @@ use std::borrow::CowStr;
 use yaml_events::{Event, Events, ScanFault, Span, Style};
 
 /// Puts an event after all others.
+#[inline(always)]
 pub(crate) fn push<'a>(events: &mut Events<'a>, event: Event<'a>) -> Result<(), ScanFault>
     ensures ok { OnOk result (events.new ≡ events.old ++ event.entry ∷ []) }
     ensures none { IfErr result (λ fault. Refuses fault ⊥) }

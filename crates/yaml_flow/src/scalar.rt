@@ -26,6 +26,7 @@ pub struct FlowScalar<'a> {
 
 impl<'a> FlowScalar<'a> {
     /// Returns the event of the scalar, which starts at `start`.
+    #[inline(always)]
     pub fn into_event(self, start: usize) -> Event<'a>
         ensures { result ≡ scalar_event_at start self.entry }
     {
@@ -59,8 +60,9 @@ impl<'a> FlowScalar<'a> {
 /// else a plain one.
 ///
 /// Further lines are indented by `n` spaces or more; in a key there are none. It fails with [`ScanFault::At`]
-/// exactly where no flow scalar stands there, and with [`ScanFault::OutOfMemory`] where there is no memory for
+/// exactly if there is no flow scalar, and with [`ScanFault::OutOfMemory`] where there is no memory for
 /// the value.
+#[inline(always)]
 pub fn scalar_at<'a>(
     alloc: Global,
     text: &'a str,

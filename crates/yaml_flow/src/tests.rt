@@ -3,42 +3,7 @@ use super::*;
 use std::alloc::Global;
 use std::test::Fail;
 use yaml_events::FlowContext::Outer;
-use yaml_events::{Event, Events, FlowContext, ScanFault, Style, Why};
-
-fn letter(style: Style) -> &'static str {
-    match style {
-        Style::Plain => "P",
-        Style::Single => "S",
-        Style::Double => "D",
-        Style::Literal => "L",
-        Style::Folded => "F",
-        Style::Omitted => "O",
-    }
-}
-
-/// The events as `+S`, `-S`, `+M` and `-M`, and a scalar as `=`, its style, its range and its value.
-fn shown(alloc: Global, events: &Events<'_>) -> Result<String, Fail> {
-    let mut text = String::new(alloc);
-    for event in events.as_slice() {
-        match event {
-            Event::DocStart => text.push_str("+D ")?,
-            Event::DocEnd => text.push_str("-D ")?,
-            Event::SeqStart => text.push_str("+S ")?,
-            Event::SeqEnd => text.push_str("-S ")?,
-            Event::MapStart => text.push_str("+M ")?,
-            Event::MapEnd => text.push_str("-M ")?,
-            Event::Scalar { style, span, value } => {
-                let style = letter(*style);
-                let start = span.start;
-                let end = span.end;
-                let value = value.as_str();
-                let scalar = format!(in alloc; "={style}[{start},{end}]{value} ")?;
-                text.push_str(scalar.as_str())?;
-            }
-        }
-    }
-    Ok(text)
-}
+use yaml_events::{Event, Events, FlowContext, ScanFault, Why};
 
 /// Where the flow node at a place ends, or why there is none.
 fn end_of(alloc: Global, text: &str, at: usize, n: u64) -> Result<usize, ScanFault> {
@@ -56,7 +21,7 @@ fn meaning(alloc: Global, text: &str) -> Result<String, Fail> {
         return Ok(String::new(alloc));
     }
     match flow_node(alloc, &mut events, text, 0, 0, Outer) {
-        Ok(end) if end == text.len() => shown(alloc, &events),
+        Ok(end) if end == text.len() => Ok(format!(in alloc; "{events}")?),
         _ => Ok(String::new(alloc)),
     }
 }
@@ -64,29 +29,32 @@ fn meaning(alloc: Global, text: &str) -> Result<String, Fail> {
 #[test]
 fn flow_nodes(rt: HostRuntime) -> Result<(), Fail> {
     for (text, wanted) in [
-        ("{a\n: b}", "+M =P[1,2]a =P[5,6]b -M "),
-        ("[{a\n: b}]", "+S +M =P[2,3]a =P[6,7]b -M -S "),
-        ("[a :b]", "+S =P[1,5]a :b -S "),
-        ("[a:]", "+S +M =P[1,2]a =O[3,3] -M -S "),
-        ("[\"a\":b]", "+S +M =D[1,4]a =P[5,6]b -M -S "),
-        ("['a': b]", "+S +M =S[1,4]a =P[6,7]b -M -S "),
-        ("{a:b}", "+M =P[1,4]a:b =O[4,4] -M "),
-        ("[? a]", "+S +M =P[3,4]a =O[4,4] -M -S "),
-        ("[?a]", "+S =P[1,3]?a -S "),
-        ("{a, b: }", "+M =P[1,2]a =O[2,2] =P[4,5]b =O[6,6] -M "),
+        ("{a\n: b}", "+M =P[1,2]\"a\" =P[5,6]\"b\" -M"),
+        ("[{a\n: b}]", "+S +M =P[2,3]\"a\" =P[6,7]\"b\" -M -S"),
+        ("[a :b]", "+S =P[1,5]\"a :b\" -S"),
+        ("[a:]", "+S +M =P[1,2]\"a\" =O[3,3]\"\" -M -S"),
+        ("[\"a\":b]", "+S +M =D[1,4]\"a\" =P[5,6]\"b\" -M -S"),
+        ("['a': b]", "+S +M =S[1,4]\"a\" =P[6,7]\"b\" -M -S"),
+        ("{a:b}", "+M =P[1,4]\"a:b\" =O[4,4]\"\" -M"),
+        ("[? a]", "+S +M =P[3,4]\"a\" =O[4,4]\"\" -M -S"),
+        ("[?a]", "+S =P[1,3]\"?a\" -S"),
+        (
+            "{a, b: }",
+            "+M =P[1,2]\"a\" =O[2,2]\"\" =P[4,5]\"b\" =O[6,6]\"\" -M",
+        ),
         (
             "[[[a]: b]: c]",
-            "+S +M +S +M +S =P[3,4]a -S =P[7,8]b -M -S =P[11,12]c -M -S ",
+            "+S +M +S +M +S =P[3,4]\"a\" -S =P[7,8]\"b\" -M -S =P[11,12]\"c\" -M -S",
         ),
         (
             "[a, [b]: c, {d}: e]",
-            "+S =P[1,2]a +M +S =P[5,6]b -S =P[9,10]c -M +M +M =P[13,14]d =O[14,14] -M =P[17,18]e -M -S ",
+            "+S =P[1,2]\"a\" +M +S =P[5,6]\"b\" -S =P[9,10]\"c\" -M +M +M =P[13,14]\"d\" =O[14,14]\"\" -M =P[17,18]\"e\" -M -S",
         ),
-        ("[? [a]: b]", "+S +M +S =P[4,5]a -S =P[8,9]b -M -S "),
-        ("[a,]", "+S =P[1,2]a -S "),
+        ("[? [a]: b]", "+S +M +S =P[4,5]\"a\" -S =P[8,9]\"b\" -M -S"),
+        ("[a,]", "+S =P[1,2]\"a\" -S"),
         (
             "{ ? a : b, ? c, \"d\":e, f }",
-            "+M =P[4,5]a =P[8,9]b =P[13,14]c =O[14,14] =D[16,19]d =P[20,21]e =P[23,24]f =O[24,24] -M ",
+            "+M =P[4,5]\"a\" =P[8,9]\"b\" =P[13,14]\"c\" =O[14,14]\"\" =D[16,19]\"d\" =P[20,21]\"e\" =P[23,24]\"f\" =O[24,24]\"\" -M",
         ),
     ] {
         let found = meaning(rt.alloc(), text)?;
@@ -226,8 +194,8 @@ fn events_stay_after_a_refusal(rt: HostRuntime) -> Result<(), Fail> {
         FlowContext::Outer,
     );
     assert!(rt; refused.is_err());
-    let found = shown(rt.alloc(), &events)?;
-    assert_eq!(rt; found.as_str(), "+D ");
+    let found = format!(in rt.alloc(); "{events}")?;
+    assert_eq!(rt; found.as_str(), "+D");
     Ok(())
 }
 
@@ -235,8 +203,8 @@ fn events_stay_after_a_refusal(rt: HostRuntime) -> Result<(), Fail> {
 fn a_value_that_is_left_out(rt: HostRuntime) -> Result<(), Fail> {
     let mut events = Events::new(rt.alloc());
     events.push(omitted(7))?;
-    let found = shown(rt.alloc(), &events)?;
-    assert_eq!(rt; found.as_str(), "=O[7,7] ");
+    let found = format!(in rt.alloc(); "{events}")?;
+    assert_eq!(rt; found.as_str(), "=O[7,7]\"\"");
     Ok(())
 }
 

@@ -37,6 +37,7 @@ struct Escape {
 /// unknown escape, at a control character, at a break in a key, and at a line that is indented too little
 /// or is a document marker. [`ScanFault::OutOfMemory`] if there is no memory for a value that is not
 /// borrowed.
+#[inline(never)]
 pub fn double<'a>(
     alloc: Global,
     text: &'a str,

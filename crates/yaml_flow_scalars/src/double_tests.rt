@@ -43,70 +43,66 @@ fn double_borrowed(alloc: Global, text: &str) -> bool {
 
 #[test]
 fn double_escapes(rt: HostRuntime) -> Result<(), Fail> {
-    let alloc = rt.alloc();
-    assert!(rt; double_is(alloc, "\"\"", 0, "", 2)?);
-    assert!(rt; double_is(alloc, "\"é # a\": b", 0, "é # a", 8)?);
-    assert!(rt;
-        double_is(
-            alloc,
-            "\"\\u00e9\\x41\\U0001F600\\/\\\"\\\\\"",
-            0,
-            "éA😀/\"\\",
-            28
-        )?
-    );
-    assert!(rt;
-        double_is(
-            alloc,
+    for (text, n, value, end) in [
+        ("\"\"", 0, "", 2),
+        ("\"é # a\": b", 0, "é # a", 8),
+        ("\"\\u00e9\\x41\\U0001F600\\/\\\"\\\\\"", 0, "éA😀/\"\\", 28),
+        (
             "\"\\0\\a\\b\\t\\n\\v\\f\\r\\e\\ \\N\\_\\L\\P\\\t\"",
             0,
             "\0\u{7}\u{8}\t\n\u{b}\u{c}\r\u{1b} \u{85}\u{a0}\u{2028}\u{2029}\t",
-            32
-        )?
-    );
-    assert!(rt; double_is(alloc, "\"\\uaBcD\\U0010fFfF\"", 0, "\u{abcd}\u{10ffff}", 18)?);
-    Ok(())
-}
-
-#[test]
-fn double_refusals(rt: HostRuntime) -> Result<(), Fail> {
-    let alloc = rt.alloc();
-    let outer = FlowContext::Outer;
-    assert!(rt; double_refused(alloc, "", 0, outer)?);
-    assert!(rt; double_refused(alloc, "a", 0, outer)?);
-    assert!(rt; double_refused(alloc, "\"a", 0, outer)?);
-    assert!(rt; double_refused(alloc, "\"a\\", 0, outer)?);
-    assert!(rt; double_refused(alloc, "\"a\\\"", 0, outer)?);
-    assert!(rt; double_refused(alloc, "\"\\uD800\"", 0, outer)?);
-    assert!(rt; double_refused(alloc, "\"\\U00110000\"", 0, outer)?);
-    assert!(rt; double_refused(alloc, "\"\\Uffffffff\"", 0, outer)?);
-    assert!(rt; double_refused(alloc, "\"\\x4\"", 0, outer)?);
-    assert!(rt; double_refused(alloc, "\"\\x4é\"", 0, outer)?);
-    assert!(rt; double_refused(alloc, "\"\\q\"", 0, outer)?);
-    assert!(rt; double_refused(alloc, "\"\\é\"", 0, outer)?);
-    assert!(rt; double_refused(alloc, "\"\u{1}\"", 0, outer)?);
+            32,
+        ),
+        ("\"\\uaBcD\\U0010fFfF\"", 0, "\u{abcd}\u{10ffff}", 18),
+    ] {
+        assert!(rt; double_is(rt.alloc(), text, n, value, end)?, "{text:?}");
+    }
     Ok(())
 }
 
 #[test]
 fn double_lines(rt: HostRuntime) -> Result<(), Fail> {
-    let alloc = rt.alloc();
-    assert!(rt; double_is(alloc, "\"a \\\n   b\"", 0, "a b", 10)?);
-    assert!(rt; double_is(alloc, "\"a\n\nb\"", 0, "a\nb", 6)?);
-    assert!(rt; double_is(alloc, "\"a\\\n\n b\"", 0, "a\nb", 8)?);
-    assert!(rt; double_is(alloc, "\"\n\n\"", 0, "\n", 4)?);
-    assert!(rt; double_is(alloc, "\" a \t\r\n \t b \"", 1, " a b ", 13)?);
-    assert!(rt; double_is(alloc, "\"a\\ \n b\"", 0, "a  b", 8)?);
-    assert!(rt; double_is(alloc, "\"a\\t \n b\"", 0, "a\t b", 9)?);
-    assert!(rt; double_is(alloc, "\"a\n---b\"", 0, "a ---b", 8)?);
-    let outer = FlowContext::Outer;
-    assert!(rt; double_refused(alloc, "\"\\\n\\\n\"", 0, outer)?);
-    assert!(rt; double_refused(alloc, "\"a\n \\\nb\"", 0, outer)?);
-    assert!(rt; double_refused(alloc, "\"a\n--- b\"", 0, outer)?);
-    assert!(rt; double_refused(alloc, "\"a\nb\"", 1, outer)?);
-    assert!(rt; double_refused(alloc, "\"a\n\tb\"", 1, outer)?);
-    assert!(rt; double_refused(alloc, "\"a\nb\"", 0, FlowContext::BlockKey)?);
-    assert!(rt; double_refused(alloc, "\"a\\\nb\"", 0, FlowContext::FlowKey)?);
+    for (text, n, value, end) in [
+        ("\"a \\\n   b\"", 0, "a b", 10),
+        ("\"a\n\nb\"", 0, "a\nb", 6),
+        ("\"a\\\n\n b\"", 0, "a\nb", 8),
+        ("\"\n\n\"", 0, "\n", 4),
+        ("\" a \t\r\n \t b \"", 1, " a b ", 13),
+        ("\"a\\ \n b\"", 0, "a  b", 8),
+        ("\"a\\t \n b\"", 0, "a\t b", 9),
+        ("\"a\n---b\"", 0, "a ---b", 8),
+    ] {
+        assert!(rt; double_is(rt.alloc(), text, n, value, end)?, "{text:?}");
+    }
+    Ok(())
+}
+
+#[test]
+fn double_refusals(rt: HostRuntime) -> Result<(), Fail> {
+    for (text, n, context) in [
+        ("", 0, FlowContext::Outer),
+        ("a", 0, FlowContext::Outer),
+        ("\"a", 0, FlowContext::Outer),
+        ("\"a\\", 0, FlowContext::Outer),
+        ("\"a\\\"", 0, FlowContext::Outer),
+        ("\"\\uD800\"", 0, FlowContext::Outer),
+        ("\"\\U00110000\"", 0, FlowContext::Outer),
+        ("\"\\Uffffffff\"", 0, FlowContext::Outer),
+        ("\"\\x4\"", 0, FlowContext::Outer),
+        ("\"\\x4é\"", 0, FlowContext::Outer),
+        ("\"\\q\"", 0, FlowContext::Outer),
+        ("\"\\é\"", 0, FlowContext::Outer),
+        ("\"\u{1}\"", 0, FlowContext::Outer),
+        ("\"\\\n\\\n\"", 0, FlowContext::Outer),
+        ("\"a\n \\\nb\"", 0, FlowContext::Outer),
+        ("\"a\n--- b\"", 0, FlowContext::Outer),
+        ("\"a\nb\"", 1, FlowContext::Outer),
+        ("\"a\n\tb\"", 1, FlowContext::Outer),
+        ("\"a\nb\"", 0, FlowContext::BlockKey),
+        ("\"a\\\nb\"", 0, FlowContext::FlowKey),
+    ] {
+        assert!(rt; double_refused(rt.alloc(), text, n, context)?, "{text:?}");
+    }
     Ok(())
 }
 

@@ -10,7 +10,7 @@ use std::alloc::AllocError;
 use yaml_events::{FlowContext, ScanFault, Why};
 use yaml_scan::{break_end, is_marker, is_white, push_line_feeds, white_end};
 
-/// A break inside a scalar, with the empty lines after it and the white space at the front of the
+/// A break inside a scalar, with the empty lines after it and the white space at the start of the
 /// next line.
 #[derive(Clone, Copy)]
 pub(crate) struct Fold {
@@ -23,6 +23,7 @@ pub(crate) struct Fold {
 /// Returns the fold whose break is at `at`: empty lines follow the break, and then a line that is
 /// indented by `indent` spaces or more and is no document marker. Returns None where no break is at
 /// `at`, or no such line follows.
+#[inline(always)]
 pub(crate) fn fold_at(text: &str, at: usize, indent: u64) -> Option<Fold>
     requires { IsCharBoundary text.now at }
     ensures found { IfSome result (λ fold. IsFold indent text.now at fold.empties fold.next) }
@@ -50,7 +51,7 @@ pub(crate) fn fold_at(text: &str, at: usize, indent: u64) -> Option<Fold>
     }
 }
 
-/// The white space at the front of a line.
+/// The white space at the start of a line.
 #[derive(Clone, Copy)]
 struct Front {
     /// Where it ends. In a line that is indented too little, where its spaces end.
@@ -59,7 +60,7 @@ struct Front {
     indented: bool,
 }
 
-/// Returns the white space at the front of the line that starts at `at`.
+/// Returns the white space at the start of the line that starts at `at`.
 fn line_front(text: &str, at: usize, indent: u64) -> Front
     requires { IsCharBoundary text.now at }
     ensures { IsFront indent text.now at result.end result.indented }

@@ -42,6 +42,7 @@ struct PlainLine {
 /// [`ScanFault::At`] exactly where no plain scalar is at `at`, with that place and the reason as far as
 /// the first character shows it. [`ScanFault::OutOfMemory`] if there is no memory for a value that goes
 /// over lines.
+#[inline(always)]
 pub fn plain<'a>(
     alloc: Global,
     text: &'a str,
@@ -67,6 +68,7 @@ pub fn plain<'a>(
 }
 
 /// Returns the place after the first character of a plain scalar.
+#[inline(always)]
 fn first_end(text: &str, at: usize, context: FlowContext) -> Result<usize, ScanFault>
     requires { IsCharBoundary text.now at }
     ensures found { IfOk result (BeginsPlain (context_of context) text.now at) }
@@ -220,6 +222,7 @@ fn is_plain(
 
 /// Returns the end of the plain characters from `from` on that are on its line, with the white space
 /// between them; `from` where there is none.
+#[inline(always)]
 fn plain_run_end(text: &str, from: usize, before: Before, context: FlowContext) -> usize
     requires { IsCharBoundary text.now from }
     ensures { IsPlainRun (context_of context) (is_content before) text.now from result }

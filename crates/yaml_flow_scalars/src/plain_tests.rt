@@ -7,7 +7,7 @@ use std::borrow::CowStr;
 use yaml_events::FlowContext::{self, BlockKey, FlowKey, Inner, Outer};
 use yaml_events::{ScanFault, Why};
 
-/// Whether a plain scalar of this value stands at the place and goes to the end.
+/// Whether a plain scalar of this value begins at the place and goes to the end.
 fn finds_plain(
     alloc: Global,
     text: &str,
@@ -25,7 +25,7 @@ fn finds_plain(
     }
 }
 
-/// Why no plain scalar stands at the place, if none does.
+/// Why no plain scalar begins at the place, if none does.
 fn refuses_plain(
     alloc: Global,
     text: &str,

@@ -29,6 +29,7 @@ use yaml_scan::{Class, break_end, run_end, stands_at};
 /// promise: `Quote` where no quote opens or closes it, `Character` at a control character, `Key` where a
 /// key goes over lines, `Indent` or `Marker` where a further line is indented too little or is a document
 /// marker. [`ScanFault::OutOfMemory`] if there is no memory for the value.
+#[inline(never)]
 pub fn single<'a>(
     alloc: Global,
     text: &'a str,

@@ -7,7 +7,7 @@ use yaml_events::{FlowContext, ScanFault, Why};
 
 // ---- scalars in single quotes
 
-/// What `single` answers at a place of a text; none where nothing stands there.
+/// What `single` returns at a place of a text; `None` if there is no scalar.
 fn single_at(
     alloc: Global,
     text: &str,
@@ -25,7 +25,7 @@ fn single_at(
     }
 }
 
-/// Whether the text's front is a scalar with this value and end.
+/// Whether the text starts with a scalar of this value and end.
 fn is_single(alloc: Global, text: &str, n: u64, value: &str, end: usize) -> Result<bool, Fail> {
     Ok(match single_at(alloc, text, 0, n, FlowContext::Outer)? {
         Some((found, behind)) => found.as_str() == value && behind == end,
@@ -33,87 +33,70 @@ fn is_single(alloc: Global, text: &str, n: u64, value: &str, end: usize) -> Resu
     })
 }
 
-/// Whether no scalar stands at the text's front.
+/// Whether no scalar is at the text's start.
 fn no_single(alloc: Global, text: &str, n: u64, context: FlowContext) -> Result<bool, Fail> {
     Ok(single_at(alloc, text, 0, n, context)?.is_none())
 }
 
 #[test]
 fn single_on_one_line(rt: HostRuntime) -> Result<(), Fail> {
-    assert!(rt; is_single(rt.alloc(), "'it''s'", 0, "it's", 7)?);
-    assert!(rt; is_single(rt.alloc(), "''", 0, "", 2)?);
-    assert!(rt; is_single(rt.alloc(), "''''", 0, "'", 4)?);
-    assert!(rt; is_single(rt.alloc(), "' a\t' # b", 0, " a\t", 5)?);
-    assert!(rt; is_single(rt.alloc(), "'é\u{1f600}', x", 0, "é\u{1f600}", 8)?);
-    assert!(rt;
-        is_single(
-            rt.alloc(),
+    for (text, value, end) in [
+        ("'it''s'", "it's", 7),
+        ("''", "", 2),
+        ("''''", "'", 4),
+        ("' a\t' # b", " a\t", 5),
+        ("'é\u{1f600}', x", "é\u{1f600}", 8),
+        (
             "'a\\n\"\u{feff}\u{7f}\u{85}'",
-            0,
             "a\\n\"\u{feff}\u{7f}\u{85}",
-            12
-        )?
-    );
-    let inner = single_at(rt.alloc(), "k: 'v' ", 3, 0, FlowContext::BlockKey)?;
-    match inner {
-        Some((value, end)) => {
-            assert_eq!(rt; value.as_str(), "v");
-            assert_eq!(rt; end, 6);
-        }
-        None => assert!(rt; false, "a scalar"),
+            12,
+        ),
+    ] {
+        assert!(rt; is_single(rt.alloc(), text, 0, value, end)?, "{text:?}");
     }
+    let inner = single_at(rt.alloc(), "k: 'v' ", 3, 0, FlowContext::BlockKey)?;
+    assert!(rt; inner.is_some_and(|(value, end)| value.as_str() == "v" && end == 6));
     Ok(())
 }
 
 #[test]
 fn single_over_lines(rt: HostRuntime) -> Result<(), Fail> {
-    assert!(rt; is_single(rt.alloc(), "'a\n\n  b'", 1, "a\nb", 8)?);
-    assert!(rt; is_single(rt.alloc(), "'a\nb'", 0, "a b", 5)?);
-    assert!(rt; is_single(rt.alloc(), "'a\n---b'", 0, "a ---b", 8)?);
-    assert!(rt;
-        is_single(
-            rt.alloc(),
-            "' a \n  b\t\r\n\r\n\n c ' ",
-            1,
-            " a b\n\nc ",
-            18
-        )?
-    );
-    assert!(rt; is_single(rt.alloc(), "'\n'", 0, " ", 3)?);
-    assert!(rt;
-        is_single(
-            rt.alloc(),
-            "'a\r\r \r  ''b''\r\n \n c'",
-            1,
-            "a\n\n'b'\nc",
-            20
-        )?
-    );
-    // Example 7.9 of YAML 1.2.2.
-    assert!(rt;
-        is_single(
-            rt.alloc(),
+    for (text, n, value, end) in [
+        ("'a\n\n  b'", 1, "a\nb", 8),
+        ("'a\nb'", 0, "a b", 5),
+        ("'a\n---b'", 0, "a ---b", 8),
+        ("' a \n  b\t\r\n\r\n\n c ' ", 1, " a b\n\nc ", 18),
+        ("'\n'", 0, " ", 3),
+        ("'a\r\r \r  ''b''\r\n \n c'", 1, "a\n\n'b'\nc", 20),
+        // Example 7.9 of YAML 1.2.2.
+        (
             "' 1st non-empty\n\n 2nd non-empty \n\t3rd non-empty '",
             0,
             " 1st non-empty\n2nd non-empty 3rd non-empty ",
-            49
-        )?
-    );
+            49,
+        ),
+    ] {
+        assert!(rt; is_single(rt.alloc(), text, n, value, end)?, "{text:?}");
+    }
     Ok(())
 }
 
 #[test]
 fn single_refused(rt: HostRuntime) -> Result<(), Fail> {
-    assert!(rt; no_single(rt.alloc(), "'it''abc", 0, FlowContext::Outer)?);
-    assert!(rt; no_single(rt.alloc(), "it", 0, FlowContext::Outer)?);
-    assert!(rt; no_single(rt.alloc(), "", 0, FlowContext::Outer)?);
-    assert!(rt; no_single(rt.alloc(), "'a\nb'", 1, FlowContext::Outer)?);
-    assert!(rt; no_single(rt.alloc(), "'a\n\tb'", 1, FlowContext::Outer)?);
-    assert!(rt; no_single(rt.alloc(), "'a\n--- b'", 0, FlowContext::Outer)?);
-    assert!(rt; no_single(rt.alloc(), "'a\n...\n", 0, FlowContext::Inner)?);
-    assert!(rt; no_single(rt.alloc(), "'a\n b'", 0, FlowContext::BlockKey)?);
-    assert!(rt; no_single(rt.alloc(), "'a\n b'", 0, FlowContext::FlowKey)?);
-    assert!(rt; no_single(rt.alloc(), "'a\u{1}'", 0, FlowContext::Outer)?);
+    for (text, n, context) in [
+        ("'it''abc", 0, FlowContext::Outer),
+        ("it", 0, FlowContext::Outer),
+        ("", 0, FlowContext::Outer),
+        ("'a\nb'", 1, FlowContext::Outer),
+        ("'a\n\tb'", 1, FlowContext::Outer),
+        ("'a\n--- b'", 0, FlowContext::Outer),
+        ("'a\n...\n", 0, FlowContext::Inner),
+        ("'a\n b'", 0, FlowContext::BlockKey),
+        ("'a\n b'", 0, FlowContext::FlowKey),
+        ("'a\u{1}'", 0, FlowContext::Outer),
+    ] {
+        assert!(rt; no_single(rt.alloc(), text, n, context)?, "{text:?}");
+    }
     Ok(())
 }
 

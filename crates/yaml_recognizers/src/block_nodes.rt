@@ -15,29 +15,29 @@ ghost use Rattle.yaml_recognizers.specs.Reading.{on};
 ghost use Rattle.yaml_recognizers.specs.BlockNodes.{node_behind, more_items, more_pairs, asked_key, key_value, opens_pair, indented_node};
 ghost use Rattle.yaml_recognizers.specs.Recognizers.{block_key_in, flow_leaf_at, block_node_at, block_items_at, block_pairs_at, block_pair_at, block_indented_at};
 
-/// Each block node that is canonical is found, where what stands behind it ends it.
+/// Finds each canonical block node, if the text after it ends it.
 pub fn block_node_found()
     ensures { (node : Node) (m : ℕ) (shallow bol : Bool) (behind : List ℕ) → canonical_node node m shallow bol behind ≡ true → ended m shallow behind ≡ true
         → block_node_at m shallow bol (node_text node ++ behind) ≡ Some (node, behind) }
 {}
 
-/// What is found as a block node stands at the front of the text, and is canonical before what is left.
+/// What is found as a block node is a prefix of the text, and is canonical before the rest.
 pub fn block_node_fits()
     ensures { (m : ℕ) (shallow bol : Bool) (text : List ℕ) (node : Node) (rest : List ℕ) → block_node_at m shallow bol text ≡ Some (node, rest)
         → (text ≡ node_text node ++ rest) × (canonical_node node m shallow bol rest ≡ true) }
 {}
 
-/// A text has at most one canonical block node at its front with something behind it that ends it.
+/// A text has at most one canonical block node as a prefix, followed by something that ends it.
 pub fn block_node_once()
     ensures { (one other : Node) (m : ℕ) (shallow bol : Bool) (rest behind : List ℕ) → node_text one ++ rest ≡ node_text other ++ behind
         → canonical_node one m shallow bol rest ≡ true → canonical_node other m shallow bol behind ≡ true → ended m shallow rest ≡ true
         → ended m shallow behind ≡ true → (one ≡ other) × (rest ≡ behind) }
 {}
 
-/// For each block node that stands at the front of a text, in whatever form, one that means the same is found. What is left is what
-/// stands behind the lines of comments behind the node, or these lines too: those behind a block scalar that can't have them.
-/// All that stand there mean the same, and have the same behind the lines of comments behind them. What is found fits as the grammar
-/// says, and is the only one but for its form. Where none is found none stands.
+/// For each block node at the start of a text, in whatever form, one that means the same is found. The rest is what
+/// comes after the comment lines that follow the node, or these lines too, if they follow a block scalar that can't
+/// have them. All block nodes there mean the same, and have the same rest after the comment lines. What is found
+/// fits as the grammar says, and is the only one but for its form. If none is found, there is none.
 pub fn block_node_stands()
     ensures found { (m : ℕ) (shallow bol : Bool) (text : List ℕ) (node : Node) (rest : List ℕ) (stands : BlockNodeStands m shallow bol text node rest)
         → (found : Node) × (left : List ℕ) × (block_node_at m shallow bol text ≡ Some (found, left)) × SameBlockNode found node

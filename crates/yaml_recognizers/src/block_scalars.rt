@@ -6,23 +6,24 @@ ghost use Rattle.yaml_recognizers.specs.CanonicalBlockScalars.{canonical_block};
 ghost use Rattle.yaml_recognizers.specs.BlockScalars.{Body, digit_fits, read_header, read_body, read_block};
 ghost use Rattle.yaml_recognizers.specs.BlockScalarFacts.{IsHeader, NoHeader, IsBody, NoBody, BlockStands, SameBlock, NoBlock};
 
-/// Each block scalar that is canonical is found, and what stands behind it is left.
+/// Finds each canonical block scalar, and leaves what comes after it.
 pub fn block_scalar_found()
     ensures { (b : BlockScalar) (m : ℕ) (behind : List ℕ) → canonical_block m b behind ≡ true → read_block m (block_text b ++ behind) ≡ Some (b, behind) }
 {}
 
-/// What is found as a block scalar stands at the front of the text, and is canonical before what is left.
+/// What is found as a block scalar is a prefix of the text, and is canonical before the rest.
 pub fn block_scalar_fits()
     ensures { (m : ℕ) (text : List ℕ) (b : BlockScalar) (rest : List ℕ) → read_block m text ≡ Some (b, rest)
         → (text ≡ block_text b ++ rest) × (canonical_block m b rest ≡ true) }
 {}
 
-/// All block scalars that fit at the front of a text have the same text but for the comments behind them, and mean the same.
+/// All block scalars that fit at the start of a text have the same text but for the comments after them, and mean
+/// the same.
 pub fn block_scalar_once()
     ensures { (m : ℕ) (text : List ℕ) (b c : BlockScalar) (rest behind : List ℕ) → BlockStands m text b rest → BlockStands m text c behind → SameBlock b c }
 {}
 
-/// Where no block scalar is found none stands.
+/// If no block scalar is found, there is none.
 pub fn block_scalar_missing()
     ensures { (m : ℕ) (text : List ℕ) → read_block m text ≡ None → NoBlock m text }
 {}
@@ -32,18 +33,18 @@ pub fn header_found()
     ensures { (text : List ℕ) (h : Header) (rest : List ℕ) → read_header text ≡ Some (h, rest) → IsHeader text h.folded h.digit h.chomping rest }
 {}
 
-/// Where no header is found none stands.
+/// If no header is found, there is none.
 pub fn header_missing()
     ensures { (text : List ℕ) → read_header text ≡ None → NoHeader text }
 {}
 
-/// The body that is found behind a header is the only one, and its value is that of each presentation.
+/// The body that is found after a header is the only one, and its value is that of each presentation.
 pub fn body_found()
     ensures { (digit : Option ℕ) (m : ℕ) (folded : Bool) (chomping : Chomping) (text : List ℕ) (b : Body) (rest : List ℕ) → digit_fits digit ≡ true
         → read_body digit m text ≡ Some (b, rest) → IsBody digit m folded chomping text (block_value folded chomping b.gaps b.texts) rest }
 {}
 
-/// Where no body is found none stands.
+/// If no body is found, there is none.
 pub fn body_missing()
     ensures { (digit : Option ℕ) (m : ℕ) (text : List ℕ) → read_body digit m text ≡ None → NoBody digit m text }
 {}

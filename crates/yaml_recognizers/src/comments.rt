@@ -10,14 +10,14 @@ ghost use Rattle.yaml_recognizers.specs.Comments.{read_line_end, more_comments, 
 ghost use Rattle.yaml_recognizers.specs.Gaps.{inline_gap, gap_behind, read_gap};
 ghost use Rattle.yaml_recognizers.specs.Fronts.{taken, dropped};
 
-/// Comments that are all the lines of comments at the front of a text are found, and what stands behind them is left.
+/// Finds all comment lines at the start of a text, and leaves what comes after them.
 pub fn comments_found()
     ensures { (bol : Bool) (comments : List LineEnd) (behind : List ℕ) → canonical_comments bol comments behind ≡ true
         → all_comments bol (comments_text comments ++ behind) ≡ (comments, behind) }
 {}
 
-/// The comments that are found stand at the front of the text. They fit, where a line starts at the front of the text or at least
-/// one is found, and no further line of comments is left.
+/// The comments that are found are a prefix of the text. They fit, if a line starts at the start of the text or at
+/// least one is found, and no further line of comments is left.
 pub fn comments_fit()
     ensures spells { (bol : Bool) (text : List ℕ) → text ≡ comments_text (all_comments bol text).0 ++ (all_comments bol text).1 }
     ensures fit { (bol : Bool) (text : List ℕ) → bol || not (is_empty (all_comments bol text).0) ≡ true → is_line_end (all_comments bol text).1 ≡ false
@@ -25,13 +25,13 @@ pub fn comments_fit()
     ensures whole { (text : List ℕ) → is_line_end (all_comments true text).1 ≡ false }
 {}
 
-/// A gap that fits is found, where something solid stands behind it.
+/// Finds a gap that fits, if something solid follows it.
 pub fn gap_found()
     ensures { (n : ℕ) (key : Bool) (gap : Option Sep) (behind : List ℕ) → canonical_gap n key gap behind ≡ true → first solid behind ≡ true
         → read_gap n key (gap_text gap ++ behind) ≡ (gap, behind) }
 {}
 
-/// The gap that is found, perhaps none, stands at the front of the text, and fits before what is left.
+/// The gap that is found, perhaps none, is a prefix of the text, and fits before the rest.
 pub fn gap_fits()
     ensures spells { (n : ℕ) (key : Bool) (text : List ℕ) → text ≡ gap_text (read_gap n key text).0 ++ (read_gap n key text).1 }
     ensures fits { (n : ℕ) (key : Bool) (text : List ℕ) → canonical_gap n key (read_gap n key text).0 (read_gap n key text).1 ≡ true }

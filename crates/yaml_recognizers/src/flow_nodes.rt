@@ -19,36 +19,37 @@ ghost use Rattle.yaml_recognizers.specs.Reading.{on};
 ghost use Rattle.yaml_recognizers.specs.FlowNodes.{in_brackets, next_entry, is_asked, asked_entry, keyed_entry, made, some_value, read_flow};
 ghost use Rattle.yaml_recognizers.specs.Recognizers.{flow_node_at, flow_entries_at, flow_entry_at, flow_value_at, flow_node_stops, StandsFlow, block_key_in, IsBlockKey};
 
-/// Each flow node that is canonical, and that ends before what stands behind it, is found.
+/// Finds each canonical flow node that ends before the text after it.
 pub fn flow_node_found()
     ensures { (n : ℕ) (c : FlowContext) (bol : Bool) (text : List ℕ) (f : Flow) (rest : List ℕ) → StandsFlow n c bol text f rest
         → flow_node_at n c bol text ≡ Some (f, rest) }
 {}
 
-/// What may stand behind a flow node in another node, between brackets, before a `:` or before comments, ends it.
+/// What may follow a flow node in another node, between brackets, before a `:` or before comments, ends it.
 pub fn flow_node_ends()
     ensures { (n : ℕ) (c : FlowContext) (f : Flow) (behind : List ℕ) → Stops n c (is_plain f) behind → flow_node_stops n c f behind ≡ true }
 {}
 
-/// What is found as a flow node stands at the front of the text, is canonical, and ends before what is left.
+/// What is found as a flow node is a prefix of the text, is canonical, and ends before the rest.
 pub fn flow_node_fits()
     ensures { (n : ℕ) (c : FlowContext) (bol : Bool) (text : List ℕ) (f : Flow) (rest : List ℕ) → flow_node_at n c bol text ≡ Some (f, rest)
         → StandsFlow n c bol text f rest }
 {}
 
-/// A text has at most one canonical flow node at its front that ends before the rest.
+/// A text has at most one canonical flow node as a prefix that ends before the rest.
 pub fn flow_node_once()
     ensures { (n : ℕ) (c : FlowContext) (bol : Bool) (text : List ℕ) (one other : Flow) (rest behind : List ℕ) → StandsFlow n c bol text one rest
         → StandsFlow n c bol text other behind → (one ≡ other) × (rest ≡ behind) }
 {}
 
-/// Where no flow node is found none stands.
+/// If no flow node is found, there is none.
 pub fn flow_node_missing()
     ensures { (n : ℕ) (c : FlowContext) (bol : Bool) (text : List ℕ) (f : Flow) (rest : List ℕ) → flow_node_at n c bol text ≡ None → StandsFlow n c bol text f rest → ⊥ }
 {}
 
-/// The flow nodes that stand at the front of a text, in whatever form, are decided. For each there is found one with the same text
-/// and meaning and the same rest. What is found stands there, and is the only one but for its form. Where none is found none stands.
+/// Decides the flow nodes at the start of a text, in whatever form. For each, one is found with the same text and
+/// meaning and the same rest. What is found is there, and is the only one but for its form. If none is found, there
+/// is none.
 pub fn flow_node_stands()
     ensures found { (n : ℕ) (c : FlowContext) (bol : Bool) (text : List ℕ) (f : Flow) (rest : List ℕ) → FlowNodeStands n c bol text f rest
         → (found : Flow) × (flow_node_at n c bol text ≡ Some (found, rest)) × SameFlowNode found f }
@@ -83,7 +84,7 @@ pub fn flow_node_steps()
         ≡ some_value d after_plain (read_gap n (one_line d)) (λ gap rest. flow_node_at n d (starts_line false (gap_text gap)) rest) text (read_gap n (one_line d) text) }
 {}
 
-/// A flow node that fits as a key, and only such a one, fits in the wider context and stands on one line. The indentations may differ.
+/// A flow node fits as a key exactly if it fits in the wider context and is on one line. The indentations may differ.
 pub fn flow_node_as_key()
     ensures wider { (f : Flow) (n m : ℕ) (c d : FlowContext) (bol : Bool) (behind : List ℕ) → widens c d ≡ true → canonical_flow f n c bol behind ≡ true
         → canonical_flow f m d bol behind ≡ true }
@@ -93,19 +94,20 @@ pub fn flow_node_as_key()
         → on_one_line f ≡ true }
 {}
 
-/// The key of a pair of a block mapping, with the white behind it, is found before its `:`, behind which stands no ns.
+/// Finds the key of a pair of a block mapping, with the whitespace after it, before its `:`, if no ns character
+/// follows that.
 pub fn block_key_found()
     ensures { (key : Flow) (gap : List ℕ) (bol : Bool) (rest : List ℕ) → canonical_flow key 0 block_key bol (gap ++ codes ":" ++ rest) ≡ true
         → every white gap ≡ true → short_key key gap ≡ true → first ns rest ≡ false
         → block_key_in bol (flow_text key ++ gap ++ codes ":" ++ rest) ≡ Some ((key, gap), rest) }
 {}
 
-/// What is found as a key stands at the front of the text, with white and a `:` behind it, fits, and is short.
+/// What is found as a key is a prefix of the text, followed by whitespace and a `:`. It fits, and is short.
 pub fn block_key_fits()
     ensures { (bol : Bool) (text : List ℕ) (key : Flow) (gap rest : List ℕ) → block_key_in bol text ≡ Some ((key, gap), rest) → IsBlockKey bol text key gap rest }
 {}
 
-/// A flow node before comments, with a line less deep behind them, is no key.
+/// A flow node before comments, with a line less deep after them, is no key.
 pub fn block_key_missing()
     ensures { (f : Flow) (m : ℕ) (bol start : Bool) (comments : List LineEnd) (behind : List ℕ) → canonical_flow f m outer bol (comments_text comments ++ behind) ≡ true
         → canonical_comments false comments behind ≡ true → less_deep m behind ≡ true → block_key_in start (flow_text f ++ (comments_text comments ++ behind)) ≡ None }

@@ -7,31 +7,32 @@ ghost use Rattle.yaml_recognizers.specs.Ends.{Stops};
 ghost use Rattle.yaml_recognizers.specs.FlowScalars.{read_scalar, scalar_ends, Stands};
 ghost use Rattle.yaml_recognizers.specs.WholeScalars.{StandsWhole, IsScalar, NoScalar, stands_on_one_line};
 
-/// Each flow scalar that fits, and that ends before what stands behind it, is found.
+/// Finds each flow scalar that fits and ends before the text after it.
 pub fn flow_scalar_found()
     ensures { (n : ℕ) (c : FlowContext) (bol : Bool) (s : Scalar) (behind : List ℕ) → scalar_fits n c bol s behind ≡ true
         → scalar_ends n c s behind ≡ true → read_scalar n c bol (scalar_text s ++ behind) ≡ Some (s, behind) }
 {}
 
-/// What may stand behind a flow scalar in a node, between brackets, before a `:` or before comments, ends it.
+/// What may follow a flow scalar in a node, between brackets, before a `:` or before comments, ends it.
 pub fn flow_scalar_ends()
     ensures { (n : ℕ) (c : FlowContext) (s : Scalar) (behind : List ℕ) → Stops n c (is_plain (scalar s)) behind → scalar_ends n c s behind ≡ true }
 {}
 
-/// What is found as a flow scalar stands at the front of the text, fits, and ends before what is left.
+/// What is found as a flow scalar is a prefix of the text, fits, and ends before the rest.
 pub fn flow_scalar_fits()
     ensures { (n : ℕ) (c : FlowContext) (bol : Bool) (text : List ℕ) (s : Scalar) (rest : List ℕ) → read_scalar n c bol text ≡ Some (s, rest)
         → Stands n c bol text s rest }
 {}
 
-/// Of the flow scalars that fit at the front of a text at most one stands whole there: the longest plain one, or one whose
+/// Of the flow scalars that fit at the start of a text, at most one is whole: the longest plain one, or one whose
 /// closing quote no other follows.
 pub fn flow_scalar_once()
     ensures { (n : ℕ) (c : FlowContext) (bol : Bool) (text : List ℕ) (one other : Scalar) (rest behind : List ℕ) → StandsWhole n c bol text one rest
         → StandsWhole n c bol text other behind → (one ≡ other) × (rest ≡ behind) }
 {}
 
-/// The recognizer decides whether a flow scalar stands whole at the front of a text, and finds its style, its value and its end.
+/// The recognizer decides whether a whole flow scalar is at the start of a text, and finds its style, its value and
+/// its end.
 pub fn flow_scalar_decided()
     ensures found { (n : ℕ) (c : FlowContext) (bol : Bool) (text : List ℕ) (s : Scalar) (rest : List ℕ) → read_scalar n c bol text ≡ Some (s, rest)
         → IsScalar n c bol text (style_of s) (scalar_value s) rest }

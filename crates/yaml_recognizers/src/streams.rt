@@ -38,7 +38,7 @@ pub fn stream_steps()
         ≡ (if is_empty text then Some [] else more_pieces (λ p rest. pieces_at (opens opened p) (starts_line bol (piece_text p)) rest) (piece_at opened bol text)) }
 {}
 
-/// A canonical stream stands for a presentation in the grammar's own form, which has the same text and means the same.
+/// For a canonical stream there is a presentation in the grammar's own form, with the same text and meaning.
 pub fn stream_presents()
     ensures presents { (stream : FlatStream) → canonical_stream stream ≡ true → Presents (nested stream) (flat_text stream) }
     ensures means { (stream : FlatStream) → canonical_stream stream ≡ true → meant (nested stream) ≡ flat_meant stream }
@@ -49,7 +49,7 @@ pub fn stream_can_be_read()
     ensures { (text : List ℕ) (stream : FlatStream) → stream_at text ≡ Some stream → CanRead text (flat_meant stream) }
 {}
 
-/// In a stream that fits, what stands behind its first document, or behind any of its parts, ends the node of a document: lines of
+/// In a stream that fits, what follows its first document, or any of its parts, ends the node of a document: lines of
 /// white or comments, and then the end of the text or a marker.
 pub fn document_node_ends()
     ensures { (stream : Stream) (before behind : List Part) → fits stream ≡ true → stream.parts ≡ before ++ behind → EndsNode 0 false (parts_text behind) }

@@ -21,9 +21,9 @@ pub fn ranges_in_order()
     ensures { (presentation : Stream) → RangesInOrder 0 (meant presentation) (byte_len (spelled presentation)) }
 {}
 
-/// The nodes of a presentation, each with its place in the text, are spelled there. If the presentation fits, a line starts at each of
-/// them where this is said of it, each fits at its place, and what comes after it ends it. So the laws of what is found where a node
-/// stands speak of each node of a whole text.
+/// The nodes of a presentation, each with its place in the text, are spelled there. If the presentation fits, a line
+/// starts at each of them where this is said of it, each fits at its place, and what comes after it ends it. So the
+/// laws of what is found where a node stands speak of each node of a whole text.
 pub fn nodes_stand()
     ensures spelled { (presentation : Stream) → All (NodeSpelled (spelled presentation)) (stream_places presentation) }
     ensures starts { (presentation : Stream) → fits presentation ≡ true → All (NodeStarts presentation.mark (spelled presentation)) (stream_places presentation) }

@@ -1,4 +1,4 @@
-// Breaks, the starts of lines, and what stands between two places.
+// Line breaks, the starts of lines, and what is between two places.
 ghost use Rattle.std.specs.Prelude.{◌≡◌, ◌≤◌, ◌↔◌, not, nat_le, None, IsTrue, IfSome, IfNone, length};
 ghost use Rattle.std.specs.Str.{IsCharBoundary, chars};
 ghost use Rattle.yaml_chars.specs.Classes.{line_break};
@@ -8,7 +8,7 @@ ghost use Rattle.yaml_recognizers.specs.Comments.{read_break, read_stop};
 ghost use Rattle.yaml_scan.specs.Places.{IsBreak, IsStop, byte_order_mark, unbroken_between};
 
 /// Returns the end of the break at `at`: a line feed, a carriage return, or both in this order
-/// (5.4, `b-break`). Returns None where no break stands.
+/// (5.4, `b-break`). Returns None if there is no line break.
 pub fn break_end(text: &str, at: usize) -> Option<usize>
     requires { IsCharBoundary text.now at }
     ensures found { IfSome result (IsBreak text.now at) }
@@ -71,7 +71,7 @@ fn is_break(byte: u8) -> bool
     matches!(byte, b'\n' | b'\r')
 }
 
-/// Returns whether a line starts at `at`: at the front of the text, after a byte order mark there,
+/// Returns whether a line starts at `at`: at the start of the text, after a byte order mark there,
 /// or after a break.
 pub fn line_starts(text: &str, at: usize) -> bool
     requires { IsCharBoundary text.now at }
@@ -93,7 +93,7 @@ fn is_byte_order_mark(text: &str) -> bool
     text == "\u{feff}"
 }
 
-/// Returns whether a break stands between two places. Each byte between them is looked at once, up
+/// Returns whether there is a line break between two places. Each byte between them is looked at once, up
 /// to the first break.
 pub fn has_break(text: &str, from: usize, to: usize) -> bool
     requires order { from ≤ to }
@@ -110,7 +110,7 @@ pub fn has_break(text: &str, from: usize, to: usize) -> bool
     false
 }
 
-/// Returns whether at most `limit` characters stand between two places. They are counted only where
+/// Returns whether at most `limit` characters are between two places. They are counted only where
 /// the number of bytes does not decide.
 pub fn at_most_chars(text: &str, from: usize, to: usize, limit: usize) -> bool
     requires order { from ≤ to }

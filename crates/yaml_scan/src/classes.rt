@@ -4,17 +4,17 @@ ghost use Rattle.std.specs.Str.{IsCharBoundary};
 ghost use Rattle.yaml_chars.specs.Places.{IsRun};
 ghost use Rattle.yaml_scan.specs.Classes.{test_of, bit_of, ArePassed};
 
-/// A class of characters. Their bytes tell them: the characters from U+0080 on are all in the class or all outside of it.
+/// A class of characters. A byte decides it: the characters from U+0080 on are all in the class or all outside of it.
 #[derive(Clone, Copy, Debug, PartialEq, Eq)]
 pub enum Class {
-    /// White space, and the ASCII characters that are plain wherever they stand after the first of a plain scalar outside of
-    /// brackets (7.3.3).
+    /// White space, and the ASCII characters that are plain anywhere after the first character of a plain scalar
+    /// outside of brackets (7.3.3).
     Words,
     /// The same between brackets.
     WordsInside,
-    /// The characters that stand for themselves on a line in single quotes (7.3.2).
+    /// The characters that are themselves on a line in single quotes (7.3.2).
     SingleQuoted,
-    /// The characters that stand for themselves on a line in double quotes (7.3.1).
+    /// The characters that are themselves on a line in double quotes (7.3.1).
     DoubleQuoted,
     /// The ASCII characters that a line may hold (5.4, `nb-char`).
     Line,

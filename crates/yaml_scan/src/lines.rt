@@ -18,7 +18,7 @@ pub struct Line {
     pub first: usize,
 }
 
-/// Returns the end of the comment at `at`, its break not included, or `at` where no `#` stands.
+/// Returns the end of the comment at `at`, its break not included, or `at` if there is no `#`.
 fn comment_end(text: &str, at: usize) -> usize
     requires { IsCharBoundary text.now at }
     ensures { IsCommentEnd text.now at result }
@@ -59,7 +59,7 @@ pub fn rest_of_line_end(text: &str, at: usize) -> Option<usize>
 }
 
 /// Returns the place after the break at `content`, or the end of the text, unless this is `at`.
-/// Returns None where neither stands there.
+/// Returns None if neither is there.
 fn after_content(text: &str, at: usize, content: usize) -> Option<usize>
     requires at { IsCharBoundary text.now at }
     requires content { IsCharBoundary text.now content }
@@ -79,6 +79,7 @@ fn after_content(text: &str, at: usize, content: usize) -> Option<usize>
 /// Returns the first line from the line at `at` on that holds more than white space and a comment,
 /// or the end of the text (6.7, `s-l-comments`). A line starts at `at`, or the text ends there.
 /// Each line before it is read once.
+#[inline(always)]
 pub fn solid_line(text: &str, at: usize) -> Line
     requires { IsCharBoundary text.now at }
     ensures found { IsSolidLine true text.now at result }
@@ -100,6 +101,7 @@ pub fn solid_line(text: &str, at: usize) -> Line
 /// Returns the first line after a part that ends at `at` that holds more than white space and a
 /// comment, or the end of the text (6.7, `s-l-comments`). Returns None where anything but white
 /// space and a comment follows the part on its line.
+#[inline(always)]
 pub fn line_after(text: &str, at: usize) -> Option<Line>
     requires { IsCharBoundary text.now at }
     ensures found { IfSome result (IsSolidLine false text.now at) }

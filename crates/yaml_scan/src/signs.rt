@@ -16,7 +16,7 @@ use crate::runs::is_white;
 use yaml_chars::{flow_indicator, next_char};
 use yaml_events::FlowContext;
 
-/// Returns whether this ASCII character stands at `at`.
+/// Returns whether this ASCII character is at `at`.
 pub fn stands_at(text: &str, at: usize, character: u8) -> bool
     requires at { IsCharBoundary text.now at }
     requires ascii { character < 128 }
@@ -26,7 +26,7 @@ pub fn stands_at(text: &str, at: usize, character: u8) -> bool
     at < bytes.len() && bytes[at] == character
 }
 
-/// Returns whether white space stands at `at` (5.5, `s-white`).
+/// Returns whether white space is at `at` (5.5, `s-white`).
 pub fn white_at(text: &str, at: usize) -> bool
     requires { IsCharBoundary text.now at }
     ensures { result ≡ first white (rest text.now at) }
@@ -41,7 +41,7 @@ fn is_solid(byte: u8) -> bool
     !matches!(byte, b' ' | b'\t' | b'\n' | b'\r' | b'#')
 }
 
-/// Returns whether a character stands at `at` that is neither white space, a break nor `#`.
+/// Returns whether a character is at `at` that is neither white space, a break nor `#`.
 pub fn solid_at(text: &str, at: usize) -> bool
     requires { IsCharBoundary text.now at }
     ensures { result ≡ first solid (rest text.now at) }
@@ -50,8 +50,9 @@ pub fn solid_at(text: &str, at: usize) -> bool
     at < bytes.len() && is_solid(bytes[at])
 }
 
-/// Returns whether a character stands at `at` that is printable, no white space and no break (5.5,
+/// Returns whether a character is at `at` that is printable, no white space and no break (5.5,
 /// `ns-char`).
+#[inline(always)]
 pub fn ns_at(text: &str, at: usize) -> bool
     requires { IsCharBoundary text.now at }
     ensures { result ≡ first ns (rest text.now at) }
@@ -62,8 +63,9 @@ pub fn ns_at(text: &str, at: usize) -> bool
     }
 }
 
-/// Returns whether this sign stands at `at`, and no `ns-char` after it: `-`, `?` and `:` of a block
+/// Returns whether this sign is at `at`, and no `ns-char` after it: `-`, `?` and `:` of a block
 /// collection (8.2).
+#[inline(always)]
 pub fn sign_at(text: &str, at: usize, character: u8) -> bool
     requires at { IsCharBoundary text.now at }
     requires ascii { character < 128 }
@@ -75,7 +77,7 @@ pub fn sign_at(text: &str, at: usize, character: u8) -> bool
     !ns_at(text, at + 1)
 }
 
-/// Returns whether a character stands at `at` that is safe in a plain scalar in this context
+/// Returns whether a character is at `at` that is safe in a plain scalar in this context
 /// (7.3.3, `ns-plain-safe`).
 pub fn safe_at(text: &str, at: usize, context: FlowContext) -> bool
     requires { IsCharBoundary text.now at }

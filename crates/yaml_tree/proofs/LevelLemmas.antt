@@ -1,5 +1,5 @@
 -- A walk over the levels of a tree that looks at the keys of each mapping.
-use Rattle.std.proofs.Common.{◌≡◌, ℕ, ◌+◌, Bool, true, false, ◌&&◌, List, [], ◌∷◌, ◌++◌, refl, sym, ap, ◌∙◌, arith}
+use Rattle.std.proofs.Common.{◌≡◌, ◌+◌, Bool, true, false, ◌&&◌, List, [], ◌∷◌, ◌++◌, refl, sym, ap, ◌∙◌, arith}
 use Rattle.yaml_grammar.specs.Trees.{Tree, text, sequence, mapping, distinct}
 use Rattle.yaml_tree.specs.Keys.{own_keys_differ, values_distinct, level_distinct, levels_distinct, level_nodes, steps_left}
 use Rattle.yaml_tree.specs.declared.keys.Level.{Level}

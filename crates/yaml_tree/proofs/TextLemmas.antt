@@ -1,8 +1,8 @@
 -- Tests of a text's characters, and texts that are ASCII.
-use Rattle.std.proofs.Common.{◌≡◌, ℕ, zero, suc, ◌<◌, Bool, true, ◌&&◌, ◌||◌, ◌==◌, List, [], ◌∷◌, ◌++◌, length, drop, encode_utf8, encode_utf8_all, IsUtf8, IsAscii, zero-add, subst, refl, sym, ap, ap₂, ◌∙◌, arith}
+use Rattle.std.proofs.Common.{◌≡◌, ℕ, zero, suc, ◌<◌, Bool, true, false, ◌&&◌, ◌||◌, ◌==◌, List, [], ◌∷◌, ◌++◌, length, drop, encode_utf8, encode_utf8_all, IsUtf8, IsAscii, zero-add, subst, refl, sym, ap, ap₂, ◌∙◌, arith}
 use Rattle.std.proofs.lemmas.Bool.{and_parts, and_from, eqb-true, eq-eqb}
 use Rattle.std.proofs.lemmas.Bool.Decides.{nat_tests}
-use Rattle.std.proofs.lemmas.Str.{chars-nil, encodes-chars, encodes-IsAscii, IsCharBoundary-past_char, drop_past_char}
+use Rattle.std.proofs.lemmas.Str.{chars-IsAscii, chars-nil, encodes-chars, encodes-IsAscii, IsCharBoundary-past_char, drop_past_char}
 use Rattle.std.specs.Char.{len_utf8}
 use Rattle.std.specs.Bool.{Decides}
 use Rattle.std.specs.List.{list_all, list_any}
@@ -50,6 +50,18 @@ every-IsAscii p below (c ∷ cs) e (suc i) = every-IsAscii p below cs (and_parts
 
 pub chars-same : (bs : List ℕ) → IsUtf8 bs → IsAscii (chars bs) → chars bs ≡ bs
 chars-same bs utf8 ascii = sym (encodes-IsAscii (chars bs) ascii) ∙ encodes-chars bs utf8
+
+-- a test that ASCII alone passes says the same of the bytes and of the characters
+pub every-bytes : (p : ℕ → Bool) → ((c : ℕ) → p c ≡ true → c < 128) → (bs : List ℕ) → IsUtf8 bs → every p bs ≡ every p (chars bs)
+every-bytes p below bs utf8 =
+    same_truth (every p bs) (every p (chars bs))
+    (λ e. ap (every p) (chars-IsAscii bs (every-IsAscii p below bs e)) ∙ e)
+    (λ e. ap (every p) (sym (chars-same bs utf8 (every-IsAscii p below (chars bs) e))) ∙ e)
+  where
+    same_truth : (a b : Bool) → (a ≡ true → b ≡ true) → (b ≡ true → a ≡ true) → a ≡ b
+    same_truth true b f g = sym (f refl)
+    same_truth false true f g = g refl
+    same_truth false false f g = refl
 
 -- a text behind its first character
 pub boundary_past_char : (bs rest : List ℕ) (c : ℕ) → IsUtf8 bs → bs ≡ encode_utf8 c ++ rest → IsCharBoundary bs (len_utf8 c)

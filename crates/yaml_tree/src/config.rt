@@ -22,7 +22,7 @@ const OWN_LIMITS: Limits = Limits {
 /// The bytes of the empty text in the one style, `""` and a line feed.
 const EMPTY_LENGTH: u64 = 3;
 
-/// A tree in whose mappings no key stands twice, which is at most 66 deep and has at most 67,108,864 bytes in the one
+/// A tree in whose mappings no key comes twice, which is at most 66 deep and has at most 67,108,864 bytes in the one
 /// style. It keeps how many these are. Contracts see the tree.
 #[derive(Debug, Drop)]
 pub struct Config {
@@ -50,10 +50,10 @@ impl Model for Config {
 }
 
 impl Config {
-    /// The configuration that a tree is. A tree that is none comes back with the first of these faults: a mapping holds a
+    /// The configuration that a tree is. Any other tree comes back with the first of these faults: a mapping holds a
     /// key twice ([`ReadFault::KeyTwice`]), the tree is more than 66 deep ([`ReadFault::TooDeep`]), it has more than
-    /// 67,108,864 bytes in the one style ([`ReadFault::LargeInStyle`]); or with [`ReadFault::OutOfMemory`], where there is no
-    /// memory to look keys up. The tree may have any depth.
+    /// 67,108,864 bytes in the one style ([`ReadFault::LargeInStyle`]); or with [`ReadFault::OutOfMemory`], if there
+    /// is no memory to look keys up. The tree may have any depth.
     pub fn new(alloc: Global, tree: Tree) -> Result<Config, (Tree, ReadFault)>
         ensures ok { IfOk result (λ config. (config ≡ tree) × IsKept (tree_of tree)) }
         ensures refused { IfErr result (λ refused. (refused.0 ≡ tree)
@@ -80,8 +80,8 @@ impl Config {
         }
     }
 
-    /// The configuration that a tree is, by a tree that a configuration may hold and its length in the one style. It takes no
-    /// memory and counts nothing.
+    /// The configuration that a tree is, by a tree that a configuration may hold and its length in the one style. It
+    /// takes no memory and counts nothing.
     pub fn from_parts(tree: Tree, length: u64) -> Config
         requires kept { IsKept (tree_of tree) }
         requires length { length ≡ byte_len (style_text (tree_of tree)) }
@@ -131,7 +131,7 @@ impl Config {
         self.tree.depth()
     }
 
-    /// A copy: a configuration of the same texts in the same order. Only want of memory can fail.
+    /// A copy: a configuration of the same texts in the same order. It fails only if memory runs out.
     pub fn try_copy(&self, alloc: Global) -> Result<Config, AllocError>
         ensures { IfOk result (λ copy. tree_of copy ≡ tree_of self.now) }
     {

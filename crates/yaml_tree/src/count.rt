@@ -12,7 +12,7 @@ use crate::style::{write_key_text, write_style};
 use crate::{Sink, Tree};
 use std::convert::Infallible;
 
-/// A count of characters, which stands still at the greatest `u64`.
+/// A count of characters, which stays at the greatest `u64`.
 #[derive(Drop)]
 struct CharCount {
     count: u64,
@@ -162,8 +162,8 @@ impl Sink for ByteBudget {
     }
 }
 
-/// How many bytes a tree has in the one style; None where these are more than `max`. It takes no memory. The call stack grows
-/// with the depth, which therefore is at most 66; [`is_deeper_than`](Tree::is_deeper_than) tests that.
+/// How many bytes a tree has in the one style; None where these are more than `max`. It takes no memory. The call
+/// stack grows with the depth, which therefore is at most 66; [`is_deeper_than`](Tree::is_deeper_than) tests that.
 pub fn style_len(tree: &Tree, max: u64) -> Option<u64>
     requires { depth (tree_of tree.now) ≤ 66 }
     ensures { SomeIff result

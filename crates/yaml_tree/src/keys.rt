@@ -8,8 +8,8 @@ use crate::Tree;
 use std::alloc::{AllocError, Global};
 use std::collections::BTreeSet;
 
-/// Whether in each mapping of a tree the keys differ from one another. The walk keeps its way on a stack of its own, so the tree
-/// may have any depth.
+/// Whether in each mapping of a tree the keys differ from one another. The walk keeps its way on a stack of its own,
+/// so the tree may have any depth.
 pub(crate) fn has_distinct_keys(alloc: Global, tree: &Tree) -> Result<bool, AllocError>
     ensures { IfOk result (λ answer. answer ≡ distinct (tree_of tree.now)) }
 {
@@ -83,7 +83,7 @@ fn have_own_keys_distinct(alloc: Global, tree: &Tree) -> Result<bool, AllocError
     }
 }
 
-/// Whether the keys of one mapping differ. Each is looked up among those before it, which stand in order.
+/// Whether the keys of one mapping differ. Each is looked up among those before it, which are in order.
 pub(crate) fn keys_differ(alloc: Global, pairs: &[(String, Tree)]) -> Result<bool, AllocError>
     ensures { IfOk result (λ answer. answer ≡ keys_differ (members_of pairs.now)) }
 {

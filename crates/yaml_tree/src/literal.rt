@@ -6,7 +6,7 @@ ghost use Rattle.yaml_tree.specs.Lines.{line_text};
 
 use crate::Sink;
 
-/// Writes a literal's lines behind `indent` spaces, an empty line with none.
+/// Writes a literal's lines after `indent` spaces, an empty line with none.
 pub(crate) fn write_literal_lines<S: Sink>(
     text: &str,
     indent: u64,

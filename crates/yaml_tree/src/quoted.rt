@@ -18,7 +18,7 @@ pub(crate) fn write_quoted<S: Sink>(text: &str, sink: &mut S) -> Result<(), S::F
     sink.put_char('"')
 }
 
-/// Writes what stands between the quotes: runs of ASCII that stand for themselves at once, other characters one by one.
+/// Writes what is between the quotes: runs of ASCII that need no escape at once, other characters one by one.
 fn write_quoted_chars<S: Sink>(text: &str, sink: &mut S) -> Result<(), S::Fault>
     ensures { OnOk result (S.Takes sink.old (quoted_chars (chars text.now)) sink.new) }
 {
@@ -36,7 +36,7 @@ fn write_quoted_chars<S: Sink>(text: &str, sink: &mut S) -> Result<(), S::Fault>
     Ok(())
 }
 
-/// How many bytes at the front are ASCII characters that stand for themselves.
+/// How many bytes at the start are ASCII characters that need no escape.
 fn run_len(text: &str) -> usize
     ensures within { result ≤ length text.now }
     ensures alone { every stands_alone (take result text.now) ≡ true }
@@ -78,7 +78,7 @@ fn write_escape<S: Sink>(c: char, sink: &mut S) -> Result<(), S::Fault>
     sink.put_char(c)
 }
 
-/// The letter that stands for a control character behind a backslash, where there is one.
+/// The letter that means a control character after a backslash, if there is one.
 fn escape_letter(c: char) -> Option<char>
     ensures { MatchOption result
         ((c == 0) || between 7 13 c || (c == 27) ≡ false)

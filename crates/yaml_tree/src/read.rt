@@ -16,9 +16,9 @@ use yaml_events::Events;
 
 /// The tree of a text that is one document, within limits.
 ///
-/// `bytes` are UTF-8 (YAML 1.2.2, 5.2), read by the failsafe schema (10.1) without aliases, anchors and tags. The limits
-/// of depth and style are at most those of a [`Config`]. No tree deeper than the limit is built, and the call stack
-/// doesn't grow with the text.
+/// `bytes` are UTF-8 (YAML 1.2.2, 5.2), read by the failsafe schema (10.1) without aliases, anchors and tags. The
+/// limits of depth and style are at most those of a [`Config`]. No tree deeper than the limit is built, and the call
+/// stack doesn't grow with the text.
 ///
 /// # Errors
 ///

@@ -43,13 +43,16 @@ fn is_letter(c: char) -> bool
     matches!(c, 'A'..='Z' | 'a'..='z')
 }
 
-fn is_word_char(c: char) -> bool
-    ensures { result ≡ word_char c }
+/// Whether a byte is an ASCII letter or digit, or one of `_`, `-`, `.` and `/`.
+fn is_word_byte(byte: u8) -> bool
+    ensures { result ≡ word_char byte }
 {
-    matches!(c, 'A'..='Z' | 'a'..='z' | '0'..='9' | '_' | '-' | '.' | '/')
+    // lowercase letters, which most are, take one test
+    matches!(byte, b'a'..=b'z')
+        || matches!(byte, b'A'..=b'Z' | b'0'..=b'9' | b'_' | b'-' | b'.' | b'/')
 }
 
-/// Whether a character stands for itself between double quotes and in a literal.
+/// Whether a character is written as itself between double quotes and in a literal.
 pub(crate) fn is_shown(c: char) -> bool
     ensures { result ≡ shown c }
 {
@@ -63,7 +66,7 @@ fn is_plain(text: &str) -> bool
     is_word(text) && text.len() <= 128 && !is_special(text)
 }
 
-/// Whether a text is a letter and word characters behind it, all of them ASCII.
+/// Whether a text is a letter and then word characters, all of them ASCII.
 fn is_word(text: &str) -> bool
     ensures word { result ≡ first letter (chars text.now) && every word_char (chars text.now) }
     ensures ascii { IsTrue result → chars text.now ≡ text.now }
@@ -81,29 +84,26 @@ fn has_word_chars(text: &str) -> bool
     ensures word { result ≡ every word_char (chars text.now) }
     ensures ascii { IsTrue result → chars text.now ≡ text.now }
 {
-    text.chars().all(is_word_char)
+    text.bytes().all(is_word_byte)
 }
-
-/// The most bytes of a special word.
-const LONGEST_SPECIAL: usize = 5;
 
 /// Whether a word is special in any letter case.
 fn is_special(text: &str) -> bool
     requires { chars text.now ≡ text.now }
     ensures { result ≡ is_among (lower (chars text.now)) special_words }
 {
-    if text.len() > LONGEST_SPECIAL {
-        return false;
+    let length = text.len();
+    if length == 1 {
+        is_same_word(text, "y") || is_same_word(text, "n")
+    } else if length == 2 {
+        is_same_word(text, "no") || is_same_word(text, "on")
+    } else if length == 3 {
+        is_same_word(text, "yes") || is_same_word(text, "off")
+    } else if length == 4 {
+        is_same_word(text, "null") || is_same_word(text, "true")
+    } else {
+        length == 5 && is_same_word(text, "false")
     }
-    is_same_word(text, "null")
-        || is_same_word(text, "true")
-        || is_same_word(text, "false")
-        || is_same_word(text, "yes")
-        || is_same_word(text, "no")
-        || is_same_word(text, "on")
-        || is_same_word(text, "off")
-        || is_same_word(text, "y")
-        || is_same_word(text, "n")
 }
 
 /// Whether two words are the same but for the case of their letters.

@@ -22,7 +22,7 @@ pub struct Size {
 }
 
 impl Size {
-    /// The size of an element after its `- `, which stands at the indentation. The tree is within the limits of a
+    /// The size of an element after its `- `, which is at the indentation. The tree is within the limits of a
     /// [`Config`](crate::Config).
     pub fn of_element(tree: &Tree) -> Size
         requires deep { depth (tree_of tree.now) ≤ 66 }
@@ -37,7 +37,7 @@ impl Size {
         }
     }
 
-    /// The size of a value after the `:` of its key, which stands at the indentation. The tree is within the limits of a
+    /// The size of a value after the `:` of its key, which is at the indentation. The tree is within the limits of a
     /// [`Config`](crate::Config).
     pub fn of_value(tree: &Tree) -> Size
         requires deep { depth (tree_of tree.now) ≤ 66 }
@@ -52,7 +52,7 @@ impl Size {
         }
     }
 
-    /// The size of a key through its `:`, where it stands at the indentation.
+    /// The size of a key through its `:`, where it is at the indentation.
     pub fn of_key(key: &str) -> Size
         ensures size { result ≡ key_size (chars key.now) }
         ensures small { (result.bytes < 2 ^ 70) × (result.lines ≤ 1) }

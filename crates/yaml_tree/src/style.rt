@@ -11,8 +11,8 @@ use crate::literal::write_literal_lines;
 use crate::quoted::write_quoted;
 use crate::{ScalarStyle, Sink, Tree, scalar_style};
 
-/// Writes a tree in the one style: the text, with the end of its last line. The call stack grows with the depth, which therefore
-/// is at most 66; [`is_deeper_than`](Tree::is_deeper_than) tests that.
+/// Writes a tree in the one style: the text, with the end of its last line. The call stack grows with the depth,
+/// which therefore is at most 66; [`is_deeper_than`](Tree::is_deeper_than) tests that.
 pub fn write_style<S: Sink>(tree: &Tree, sink: &mut S) -> Result<(), S::Fault>
     requires { depth (tree_of tree.now) ≤ 66 }
     ensures { OnOk result (S.Takes sink.old (style_text (tree_of tree.now)) sink.new) }
@@ -24,7 +24,7 @@ pub fn write_style<S: Sink>(tree: &Tree, sink: &mut S) -> Result<(), S::Fault>
     }
 }
 
-/// Writes a value with the end of its last line; a literal's lines stand after `indent` spaces.
+/// Writes a value with the end of its last line; a literal's lines come after `indent` spaces.
 fn write_scalar<S: Sink>(text: &str, indent: u64, sink: &mut S) -> Result<(), S::Fault>
     ensures { OnOk result (S.Takes sink.old (scalar_lines indent (chars text.now)) sink.new) }
 {
@@ -143,8 +143,8 @@ fn write_members<S: Sink>(
     Ok(())
 }
 
-/// Writes a value after the `:` of its key at `indent`. The call stack grows with the depth, which therefore is at most 66;
-/// [`is_deeper_than`](Tree::is_deeper_than) tests that.
+/// Writes a value after the `:` of its key at `indent`. The call stack grows with the depth, which therefore is at
+/// most 66; [`is_deeper_than`](Tree::is_deeper_than) tests that.
 pub fn write_value<S: Sink>(tree: &Tree, indent: u64, sink: &mut S) -> Result<(), S::Fault>
     requires deep { depth (tree_of tree.now) ≤ 66 }
     requires room { indent + 132 < 2 ^ 64 }

@@ -106,7 +106,7 @@ fn depth_is_at_most_66(rt: HostRuntime) -> Result<(), Fail> {
 #[test]
 fn the_style_has_at_most_67108864_bytes(rt: HostRuntime) -> Result<(), Fail> {
     let alloc = rt.alloc();
-    // 65 times `- `, a header of 2 bytes, and lines of `a` behind 130 spaces, of 132 bytes each
+    // 65 times `- `, a header of 2 bytes, and lines of `a` after 130 spaces, of 132 bytes each
     let most = in_sequences(alloc, repeated(alloc, "a\n", 508_399)?, 65)?;
     let Ok(most) = Config::new(alloc, most) else {
         assert!(rt; false, "as long as a configuration may be");
@@ -204,7 +204,7 @@ fn the_empty_configuration(rt: HostRuntime) {
     assert_eq!(rt; config.depth(), 1);
 }
 
-// `a b` and `c` in a literal, behind `- ` and behind `k:`
+// `a b` and `c` in a literal, after `- ` and after `k:`
 #[test]
 fn sizes_of_parts(rt: HostRuntime) -> Result<(), Fail> {
     let alloc = rt.alloc();

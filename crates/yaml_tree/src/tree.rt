@@ -7,8 +7,8 @@ use std::alloc::{AllocError, Global};
 
 /// A tree of texts (YAML 1.2.2, 3.2.1).
 ///
-/// Dropping a tree grows the call stack with its depth. The owner of a tree that may be tens of thousands of levels deep takes it
-/// apart from the outside, level by level.
+/// Dropping a tree grows the call stack with its depth. The owner of a tree that may be tens of thousands of levels
+/// deep takes it apart from the outside, level by level.
 #[derive(Debug, Drop)]
 pub enum Tree {
     /// A text.
@@ -20,7 +20,8 @@ pub enum Tree {
 }
 
 impl Tree {
-    /// Whether the tree is more than `limit` deep. It looks no deeper than that, so the call stack stays small for every tree.
+    /// Whether the tree is more than `limit` deep. It looks no deeper than that, so the call stack stays small for
+    /// every tree.
     #[cycle(deeper)]
     pub fn is_deeper_than(&self, limit: u8) -> bool
         ensures { result ≡ nat_lt limit (depth (tree_of self.now)) }
@@ -35,9 +36,9 @@ impl Tree {
         }
     }
 
-    /// How deep the tree is: a text has 1, a collection 1 more than its deepest value, or 1 where it is empty. Keys don't
-    /// count. The call stack grows with the depth, which therefore is at most 66; [`is_deeper_than`](Tree::is_deeper_than) tests
-    /// that.
+    /// How deep the tree is: a text has 1, a collection 1 more than its deepest value, or 1 where it is empty. Keys
+    /// don't count. The call stack grows with the depth, which therefore is at most 66;
+    /// [`is_deeper_than`](Tree::is_deeper_than) tests that.
     pub fn depth(&self) -> u64
         requires { depth (tree_of self.now) ≤ 66 }
         ensures { result ≡ depth (tree_of self.now) }
@@ -45,8 +46,8 @@ impl Tree {
         depth_of(self)
     }
 
-    /// A copy: a tree of the same texts in the same order. Only running out of memory can fail. The call stack grows with the
-    /// depth, which therefore is at most 66; [`is_deeper_than`](Tree::is_deeper_than) tests that.
+    /// A copy: a tree of the same texts in the same order. Only running out of memory can fail. The call stack grows
+    /// with the depth, which therefore is at most 66; [`is_deeper_than`](Tree::is_deeper_than) tests that.
     pub fn try_copy(&self, alloc: Global) -> Result<Tree, AllocError>
         requires { depth (tree_of self.now) ≤ 66 }
         ensures { IfOk result (λ copy. tree_of copy ≡ tree_of self.now) }

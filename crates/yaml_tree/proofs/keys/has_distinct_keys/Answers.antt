@@ -1,4 +1,4 @@
-use Rattle.std.proofs.Common.{◌≡◌, ◌&&◌, ◌<◌, true, sym, ap, ◌∙◌, arith}
+use Rattle.std.proofs.Common.{◌&&◌, ◌<◌, sym, ap, ◌∙◌, arith}
 use Rattle.yaml_grammar.specs.Trees.{distinct}
 use Rattle.yaml_tree.specs.Keys.{level_distinct, levels_distinct, steps_left}
 use Rattle.yaml_tree.specs.Seen.{tree_of}

@@ -1,4 +1,4 @@
-use Rattle.std.proofs.Common.{◌≡◌, [], string_bytes, refl, sym, ap, subst, ◌∙◌, arith}
+use Rattle.std.proofs.Common.{◌≡◌, [], refl, sym, ap, subst, ◌∙◌, arith}
 use Rattle.std.specs.Str.{chars}
 use Rattle.yaml_grammar.specs.Reads.{Good}
 use Rattle.yaml_grammar.specs.Style.{style_text}

@@ -1,6 +1,6 @@
 use Rattle.std.proofs.Common.{◌&&◌, ap, sym, ◌∙◌}
 use Rattle.yaml_grammar.specs.Trees.{distinct}
-use Rattle.yaml_tree.specs.Keys.{own_keys_differ, keys_differ, values_distinct}
+use Rattle.yaml_tree.specs.Keys.{own_keys_differ, values_distinct}
 use Rattle.yaml_tree.specs.Seen.{tree_of, members_of}
 use Rattle.yaml_tree.proofs.KeyLemmas.{members_distinct-parts}
 use Rattle.yaml_tree.proofs.SeenLemmas.{tree_of-Map}

@@ -1,0 +1,94 @@
+#!/usr/bin/env python3
+"""Looks up each name that docs/RULES.md and README.md give, and fails if one is gone.
+
+In RULES.md `File.name` is a definition, `crate::name` a function or a test, `crate/name` a must-fail edit, and a bare name a law
+(a public function) or a crate. In the tables of claims in README.md each name is looked for in the sources of the crates of
+its row. It takes less than a second.
+"""
+
+import glob
+import os
+import re
+import sys
+
+TOP = os.path.dirname(os.path.dirname(os.path.abspath(__file__)))
+CODE = re.compile(r"`([^`]+)`")
+
+
+def text_of(pattern):
+    texts = []
+    for path in sorted(glob.glob(os.path.join(TOP, "crates", pattern), recursive=True)):
+        with open(path, encoding="utf-8") as file:
+            texts.append(file.read())
+    return "\n".join(texts)
+
+
+def has_word(name, text):
+    return re.search(rf"(?<![\w-]){re.escape(name)}(?![\w-])", text) is not None
+
+
+def is_definition(file, name):
+    return has_word(name, text_of(f"*/specs/{file}.antt"))
+
+
+def is_function(crate, name):
+    return re.search(rf"\bfn {re.escape(name)}\b", text_of(f"{crate}/src/**/*.rt")) is not None
+
+
+def is_edit(crate, name):
+    places = (f"crates/{crate}/must-fail", f"checks/wrong_bodies/{crate}")
+    return any(os.path.exists(os.path.join(TOP, place, f"{name}.edit")) for place in places)
+
+
+def is_law(name):
+    return re.search(rf"\bpub fn {re.escape(name)}\b", text_of("*/src/**/*.rt")) is not None
+
+
+def rows_of(path):
+    """The cells of each row of the page's tables."""
+    with open(os.path.join(TOP, path), encoding="utf-8") as file:
+        for line in file:
+            if line.startswith("|") and not line.startswith("|---"):
+                yield [cell.strip() for cell in line.strip().strip("|").split(" | ")]
+
+
+def missing_in_rules():
+    for row in rows_of("docs/RULES.md"):
+        for token in CODE.findall(" | ".join(row[1:])):
+            if re.fullmatch(r"\w+::\w+", token):
+                found = is_function(*token.split("::"))
+            elif re.fullmatch(r"[A-Z]\w+\.\w+", token):
+                found = is_definition(*token.split("."))
+            elif re.fullmatch(r"[a-z_]+/\w+", token):
+                found = is_edit(*token.split("/"))
+            elif re.fullmatch(r"[a-z]+(_[a-z]+)+", token):
+                found = is_law(token) or os.path.isdir(os.path.join(TOP, "crates", token))
+            else:
+                continue
+            if not found:
+                yield f"docs/RULES.md: `{token}`"
+
+
+def missing_in_readme():
+    crates = set(os.listdir(os.path.join(TOP, "crates")))
+    for row in rows_of("README.md"):
+        named = [name for name in CODE.findall(row[-1]) if name in crates]
+        if not named:
+            continue
+        sources = "\n".join(text_of(f"{crate}/src/**/*.rt") for crate in named)
+        for token in CODE.findall(row[1]):
+            for name in token.split("::"):
+                if re.fullmatch(r"\w+", name) and not has_word(name, sources):
+                    yield f"README.md: `{token}` is not in {', '.join(named)}"
+
+
+def main():
+    missing = [*missing_in_rules(), *missing_in_readme()]
+    for line in missing:
+        print(line)
+    print(f"{len(missing)} names are gone" if missing else "every name is there")
+    return 1 if missing else 0
+
+
+if __name__ == "__main__":
+    sys.exit(main())

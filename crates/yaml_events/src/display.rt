@@ -1,0 +1,53 @@
+// Events in words, as tests and messages show them.
+use crate::{Event, Events, Style};
+use std::fmt;
+
+/// A letter: `P` plain, `S` in single quotes, `D` in double quotes, `L` literal, `F` folded, `O` omitted.
+impl fmt::Display for Style {
+    fn fmt<W: fmt::Write>(&self, f: &mut fmt::Formatter<W>) -> fmt::Result {
+        f.write_str(match self {
+            Style::Plain => "P",
+            Style::Single => "S",
+            Style::Double => "D",
+            Style::Literal => "L",
+            Style::Folded => "F",
+            Style::Omitted => "O",
+        })
+    }
+}
+
+/// `+` for a start and `-` for an end, of a document (`D`), a sequence (`S`) or a mapping (`M`). A scalar is `=`,
+/// its style, the range of its bytes and its value, as in `=P[0,1]"a"`.
+impl fmt::Display for Event<'_> {
+    fn fmt<W: fmt::Write>(&self, f: &mut fmt::Formatter<W>) -> fmt::Result {
+        match self {
+            Event::DocStart => f.write_str("+D"),
+            Event::DocEnd => f.write_str("-D"),
+            Event::SeqStart => f.write_str("+S"),
+            Event::SeqEnd => f.write_str("-S"),
+            Event::MapStart => f.write_str("+M"),
+            Event::MapEnd => f.write_str("-M"),
+            Event::Scalar { style, span, value } => {
+                let start = span.start;
+                let end = span.end;
+                let value = value.as_str();
+                write!(f, "={style}[{start},{end}]{value:?}")
+            }
+        }
+    }
+}
+
+/// The events in order, with a space between each and the next.
+impl fmt::Display for Events<'_> {
+    fn fmt<W: fmt::Write>(&self, f: &mut fmt::Formatter<W>) -> fmt::Result {
+        let mut is_first = true;
+        for event in self.as_slice() {
+            if !is_first {
+                f.write_str(" ")?;
+            }
+            is_first = false;
+            write!(f, "{event}")?;
+        }
+        Ok(())
+    }
+}
