@@ -53,7 +53,7 @@ FindsSome given left held written = (count : ℕ) × (0 < count) × Checks given
 abbrev pub AnswersAll : Option (List ℕ) → Option (List ℕ) → Option (List ℕ) → Option (List ℕ) → Type 0
 AnswersAll given left held written = (start : Stored) × (tally : Tally) × Answers given left held written start (Ok tally)
 
--- a session on some store was refused for its input, or for memory: the answers before that were written
+-- a session on some store ended with a fault, and wrote what `Ends` says of that fault
 abbrev pub AnswersSome : Option (List ℕ) → Option (List ℕ) → Option (List ℕ) → Option (List ℕ) → Type 0
 AnswersSome given left held written = (start : Stored) × (fault : SessionFault) × Answers given left held written start (Err fault)
 
