@@ -33,7 +33,7 @@ IsImage-into less more into among image is = record {
 TearInto-same : (files : List File) → TearInto files files
 TearInto-same files place bytes is = is
 
--- a file that is put at a place stands there, unless there is no such place
+-- a file that is put at a place is found there, unless there is no such place
 pub get_or-set_cases : (files : List File) (id place : ℕ) (file : File) → (get_or (set files id file) place empty_file ≡ get_or files place empty_file) ⊎ ((place ≡ id) × (get_or (set files id file) place empty_file ≡ file))
 get_or-set_cases files id place file = elim (cases_eq place id) [
   | inl same ↦ elim (cases_lt id (length files)) [
@@ -70,7 +70,7 @@ TearInto-set_both files id a b more place bytes is = elim (cases_eq place id) [
   | inr other ↦ subst (λ (x : File). IsTorn x bytes) (get_or-set_other files id place a empty_file other ∙ sym (get_or-set_other files id place b empty_file other)) is
 ]
 
--- with more bytes behind it
+-- with more bytes after it
 TearsInto-appended : (bytes : List ℕ) (file : File) → TearsInto file (appended bytes file)
 TearsInto-appended bytes file torn is = record {
   keep = is.keep;
@@ -92,7 +92,7 @@ TearsInto-appended_first k bytes file torn is = record {
     same = sym (take-append-le is.keep (file.pending ++ take k bytes) (drop k bytes) (omega (arith, is.fits)))
         ∙ ap (λ (l : List ℕ). take is.keep l) (append_assoc file.pending (take k bytes) (drop k bytes) ∙ ap (λ (l : List ℕ). file.pending ++ l) (take-append-drop k bytes))
 
--- the first k, and n of those behind them
+-- the first k, and n of those after them
 take-append-take_drop : (k n m : ℕ) (xs : List ℕ) → m ≡ length (take k xs) + n → take k xs ++ take n (drop k xs) ≡ take m xs
 take-append-take_drop zero n m xs is = let same : n ≡ m = omega arith in ap (λ (j : ℕ). take j xs) same
 take-append-take_drop (suc k) n m [] is = let same : n ≡ m = omega arith in ap (λ (j : ℕ). take j []) same
@@ -236,7 +236,7 @@ after-partly RenameNext folder = (1, refl)
 after-partly RemoveNext folder = (1, refl)
 after-partly SyncFolder folder = (suc (length folder.earlier), ap (λ (l : List Stage). record { files = folder.files; earlier = l; now = folder.now }) (sym (drop_all (suc (length folder.earlier)) folder.earlier (omega arith))))
 
--- A call whose answer is told as a failure.
+-- A call whose result is a failure.
 pub Performs-failed : {T : Type 0} (step : Step) (old new : Folder) (result : Result T DiskFault) → Performs step old new result → (k : ℕ) × (new ≡ partly k step old)
 Performs-failed step old new (Ok x) is = let whole = after-partly step old in (whole.0, is ∙ whole.1)
 Performs-failed step old new (Err x) is = is

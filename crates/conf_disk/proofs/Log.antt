@@ -1,4 +1,4 @@
--- One step more behind a list of them.
+-- One step more after a list of them.
 use Rattle.std.proofs.Common.{◌≡◌, ◌⊎◌, inl, inr, ⊎_elim, ℕ, zero, suc, ◌+◌, ◌≤◌, ◌<◌, List, [], ◌∷◌, ◌++◌, length, take, slice_get, Option, Some, refl, sym, ◌∙◌, ap, subst, arith, length-append}
 use Rattle.std.proofs.lemmas.List.{take_all, take-append-le}
 use Rattle.std.proofs.lemmas.Bool.{cases_lt, cases_eq}
@@ -13,6 +13,7 @@ folder_after-push : (steps : List Step) (step : Step) (folder : Folder) → fold
 folder_after-push [] step folder = refl
 folder_after-push (first ∷ steps) step folder = folder_after-push steps step (after first folder)
 
+-- the folder after one step more
 pub folder_after-pushed : (old new : List Step) (step : Step) → new ≡ old ++ step ∷ [] → folder_after new empty_folder ≡ after step (folder_after old empty_folder)
 folder_after-pushed old new step is = ap (λ (steps : List Step). folder_after steps empty_folder) is ∙ folder_after-push old step empty_folder
 
@@ -37,6 +38,7 @@ folder_at-within steps step part =
     ap (λ (at : Option Step). folder_within at part (folder_after (take (length steps) (steps ++ step ∷ [])) empty_folder)) (slice_get-push_at steps step)
     ∙ ap (λ (l : List Step). partly part step (folder_after l empty_folder)) (take-append-le (length steps) steps (step ∷ []) (omega arith) ∙ take_all (length steps) steps (omega arith))
 
+-- time goes on when no step is done
 pub Elapses-same : (steps : List Step) → Elapses (length steps) (length steps) (IsLeftSince steps) (IsLeftSince steps) (IsImage (folder_after steps empty_folder))
 Elapses-same steps = record { later = omega arith; nothing_else = λ t image le left. inl left; keeps = λ t image le left. left }
 
@@ -81,6 +83,7 @@ module _ (steps : List Step) (step : Step) where
   Elapses-push : Elapses n (length more) (IsLeftSince steps) (IsLeftSince more) Now
   Elapses-push = record { later = omega (arith, longer); nothing_else = nothing_else; keeps = keeps }
 
+-- time goes on when one step is done
 pub Elapses-pushed : (old new : List Step) (step : Step) → new ≡ old ++ step ∷ [] → Elapses (length old) (length new) (IsLeftSince old) (IsLeftSince new) (IsImage (folder_after new empty_folder))
 Elapses-pushed old new step is =
     subst (λ (steps : List Step). Elapses (length old) (length steps) (IsLeftSince old) (IsLeftSince steps) (IsImage (folder_after steps empty_folder))) (sym is) (Elapses-push old step)

@@ -21,7 +21,7 @@ LeavesOnly-call moment left old new may_leave P time only here = record {
   before = λ t image le is. ⊎_elim (λ past. inl past) (λ now. inr (here image now)) (time.nothing_else t image le is);
 }
 
--- one run of calls behind another
+-- one run of calls after another
 pub LeavesOnly-joined : {D : Type 0} (moment : D → ℕ) (left : D → ℕ → Image → Type 0) (old mid new : D) (P Q R : Image → Type 0)
     → LeavesOnly moment left old mid P → LeavesOnly moment left mid new Q → ((image : Image) → P image → R image) → ((image : Image) → Q image → R image)
     → LeavesOnly moment left old new R
@@ -34,6 +34,7 @@ LeavesOnly-joined moment left old mid new P Q R first second p q = record {
       (second.before t image (omega (arith, le, first.later)) is);
 }
 
+-- a crash leaves only images that have P, so also only such that have anything weaker
 pub LeavesOnly-weaker : {D : Type 0} (moment : D → ℕ) (left : D → ℕ → Image → Type 0) (old new : D) (P R : Image → Type 0)
     → LeavesOnly moment left old new P → ((image : Image) → P image → R image) → LeavesOnly moment left old new R
 LeavesOnly-weaker moment left old new P R run p = record {

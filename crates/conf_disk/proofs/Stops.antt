@@ -1,4 +1,4 @@
--- The cuts of a stage and its images; what a stop leaves.
+-- The cuts of a stage and its images; what a crash leaves.
 use Rattle.std.proofs.Common.{◌≡◌, ◌↔◌, ℕ, zero, suc, ◌+◌, List, [], ◌∷◌, ◌++◌, length, get_or, take, replicate, Option, Some, None, Contains, slice_get, Bool, true, false, nat_le, ◌==◌, ◌&&◌, if◌then◌else◌, refl, sym, ◌∙◌, ap, subst, arith}
 use Rattle.std.proofs.lemmas.List.{append-nil, take_all}
 use Rattle.std.proofs.lemmas.List.Elements.{Contains-append_right}
@@ -68,6 +68,7 @@ image-cuts folder image is =
       ),
     )
 
+-- the images of a folder are exactly those of its stages and cuts
 pub images-cuts : (folder : Folder) (image : Image) → IsImage folder image ↔ ((stage : ℕ) × ((cuts : Cuts) × (image_at folder stage cuts ≡ Some image)))
 images-cuts folder image = (image-cuts folder image, λ found. image_at-stage folder found.0 found.1.0 image (slice_get (stages folder) found.0) refl found.1.1)
 
@@ -80,10 +81,12 @@ IsTorn-whole file = record {
   is = ap (λ (l : List ℕ). file.synced ++ l) (sym (take_all (length file.pending) file.pending (omega arith))) ∙ sym (append-nil (file.synced ++ take (length file.pending) file.pending));
 }
 
+-- the whole bytes of a file are one of its torn forms
 pub IsTornAt-whole : (files : List File) (place : Option ℕ) → IsTornAt files place (bytes_at files place)
 IsTornAt-whole files None = tt
 IsTornAt-whole files (Some id) = IsTorn-whole (get_or files id empty_file)
 
+-- what reads now is an image that a crash may leave
 pub reading-image : (folder : Folder) → IsImage folder (image_now folder)
 reading-image folder = record {
   stage = folder.now;
@@ -118,6 +121,7 @@ IsTornAt-synced files None (Some bytes) synced torn = absurd torn
 IsTornAt-synced files (Some id) None synced torn = absurd torn
 IsTornAt-synced files (Some id) (Some bytes) synced torn = ap Some (IsTorn-synced (get_or files id empty_file) bytes synced torn)
 
+-- a list of one stage contains no other
 pub only_stage : (stage last : Stage) → Contains (last ∷ []) stage → stage ≡ last
 only_stage stage last (zero, lt, is) = sym is
 only_stage stage last (suc k, lt, is) = absurd (omega arith)
@@ -131,6 +135,7 @@ one_stage files now store next later is =
     let n = IsTornAt-synced files now.next later.next next (subst (λ (stage : Stage). IsTornAt files stage.next later.next) same is.next) in
     λ i. record { store = s i; next = n i }
 
+-- a folder that has just these files reads as they are
 pub image-reads : (store next : Option (List ℕ)) → image_now (folder_with_files store next) ≡ record { store = store; next = next }
 image-reads None None = refl
 image-reads (Some s) None = ap (λ (l : List ℕ). record { store = Some l; next = None }) (append-nil s)
@@ -144,6 +149,7 @@ image-left (Some s) None later is = one_stage _ _ refl tt later is
 image-left None (Some n) later is = one_stage _ _ tt refl later is
 image-left (Some s) (Some n) later is = one_stage _ _ refl refl later is
 
+-- a folder that a crash left has one image, itself
 pub image-stays : (image later : Image) → IsImage (folder_of_image image) later ↔ (later ≡ image)
 image-stays image later = (
   λ is. image-left image.store image.next later is ∙ image-reads image.store image.next,

@@ -6,29 +6,32 @@ use Rattle.conf_disk.specs.declared.disk.Content.{Content}
 use Rattle.conf_disk.specs.declared.disk.Content.TheVariants.{Missing, Bytes, TooLong}
 use Rattle.conf_disk.specs.declared.disk.DiskFault.{DiskFault}
 
--- A file's bytes: those that a stop leaves, then those that were appended since the last sync.
+-- A file's bytes: those that a crash leaves, then those that were appended since the last sync (pending).
 pub record File : Type 0 where
   pub synced : List ℕ
   pub pending : List ℕ
 
+-- a file without bytes
 abbrev pub empty_file : File
 empty_file = record { synced = []; pending = [] }
 
+-- what the file reads as
 abbrev pub file_bytes : File → List ℕ
 file_bytes file = file.synced ++ file.pending
 
--- which file stands under each name, by its place among the folder's files
+-- which file has each name, by its place among the folder's files
 pub record Stage : Type 0 where
   pub store : Option ℕ
   pub next : Option ℕ
 
--- Each file that was ever made, the stages since the last sync of the folder but for the last one, oldest first, and the
--- stage now.
+-- Each file that was ever made, the stages since the last sync of the folder but for the last one, oldest first, and
+-- the stage now.
 pub record Folder : Type 0 where
   pub files : List File
   pub earlier : List Stage
   pub now : Stage
 
+-- a folder without files, which was just synced
 abbrev pub empty_folder : Folder
 empty_folder = record { files = []; earlier = []; now = record { store = None; next = None } }
 
@@ -36,6 +39,7 @@ empty_folder = record { files = []; earlier = []; now = record { store = None; n
 abbrev pub stages : Folder → List Stage
 stages folder = folder.earlier ++ folder.now ∷ []
 
+-- the file that has a name in a stage
 abbrev pub under : Stage → Name → Option ℕ
 under stage Store = stage.store
 under stage Next = stage.next
@@ -49,7 +53,8 @@ pub data Step : Type 0 where
   RemoveNext : Step
   SyncFolder : Step
 
--- what a caller sees to before a call: no file is made where there is one, and none is appended to or renamed that isn't there
+-- what a caller ensures before a call: a file is created only if there is none, and appended to or renamed only if it
+-- is there
 abbrev pub MayBeMade : Step → Folder → Type 0
 MayBeMade CreateNext folder = folder.now.next ≡ None
 MayBeMade (Append name bytes) folder = IsSome (under folder.now name)
@@ -71,9 +76,11 @@ with_file folder (Some id) change = record {
 abbrev pub with_stage : Folder → Stage → Folder
 with_stage folder stage = record { files = folder.files; earlier = stages folder; now = stage }
 
+-- the file with more pending bytes
 abbrev pub appended : List ℕ → File → File
 appended bytes file = record { synced = file.synced; pending = file.pending ++ bytes }
 
+-- the file with all bytes synced
 abbrev pub synced_whole : File → File
 synced_whole file = record { synced = file.synced ++ file.pending; pending = [] }
 
@@ -81,6 +88,7 @@ synced_whole file = record { synced = file.synced ++ file.pending; pending = [] 
 abbrev pub synced_first : ℕ → File → File
 synced_first count file = record { synced = file.synced ++ take count file.pending; pending = drop count file.pending }
 
+-- the folder with a new, empty `next.yaml`
 abbrev pub created : Folder → Folder
 created folder = record {
   files = folder.files ++ empty_file ∷ [];
@@ -93,11 +101,12 @@ abbrev pub renamed : Folder → Option ℕ → Folder
 renamed folder None = folder
 renamed folder (Some id) = with_stage folder (record { store = Some id; next = None })
 
+-- the folder without `next.yaml`
 abbrev pub removed : Folder → Option ℕ → Folder
 removed folder None = folder
 removed folder (Some id) = with_stage folder (record { store = folder.now.store; next = None })
 
--- the folder after a call that answers Ok
+-- the folder after a call that returned Ok
 abbrev pub after : Step → Folder → Folder
 after CreateNext folder = created folder
 after (Append name bytes) folder = with_file folder (under folder.now name) (appended bytes)
@@ -106,8 +115,8 @@ after RenameNext folder = renamed folder folder.now.next
 after RemoveNext folder = removed folder folder.now.next
 after SyncFolder folder = record { files = folder.files; earlier = []; now = folder.now }
 
--- The folder after a call that failed when it had come so far: nowhere at 0, and else to its end, or to a part of it: of an
--- append some first bytes, of a sync some first bytes or some oldest stages.
+-- The folder after a call that failed when it had come so far: nowhere at 0, and else to its end, or to a part of it:
+-- of an append a prefix of the bytes, of a sync a prefix of the bytes or of the stages.
 abbrev pub partly : ℕ → Step → Folder → Folder
 partly zero step folder = folder
 partly (suc k) CreateNext folder = after CreateNext folder
@@ -130,7 +139,7 @@ bytes_at files (Some id) = Some (file_bytes (get_or files id empty_file))
 abbrev pub bytes_under : Folder → Name → Option (List ℕ)
 bytes_under folder name = bytes_at folder.files (under folder.now name)
 
--- what a read of at most so many bytes answers
+-- what a read of at most so many bytes returns
 abbrev pub Tells : Option (List ℕ) → ℕ → Content → Type 0
 Tells None max Missing = Unit {0}
 Tells None max (Bytes read) = ⊥
@@ -139,5 +148,6 @@ Tells (Some bytes) max Missing = ⊥
 Tells (Some bytes) max (Bytes read) = (read.items ≡ bytes) × (length bytes ≤ max)
 Tells (Some bytes) max TooLong = max < length bytes
 
+-- what a read of a name may return
 abbrev pub Reads : Folder → Name → ℕ → Content → Type 0
 Reads folder name max content = Tells (bytes_under folder name) max content

@@ -24,8 +24,8 @@ call_step call.RenameNext = RenameNext
 call_step call.RemoveNext = RemoveNext
 call_step call.SyncFolder = SyncFolder
 
--- How many calls are still to pass before it is the fuse's turn; the fuse, unless it failed its one call; how many calls
--- passed, and how many the fuse failed.
+-- How many calls are still to pass before it is the fuse's turn; the fuse, unless it failed its one call; how many
+-- calls passed, and how many the fuse failed.
 pub record FuseState : Type 0 where
   pub calls : ℕ
   pub fuse : Option Fuse
@@ -45,6 +45,7 @@ trip_of_fuse (Some Stop) = Fails
 trip_of_fuse (Some (FailOnce false)) = Fails
 trip_of_fuse (Some (FailOnce true)) = FailsDone
 
+-- the fuse after its turn
 abbrev pub fuse_left : Option Fuse → Option Fuse
 fuse_left None = None
 fuse_left (Some Stop) = Some Stop
@@ -55,8 +56,8 @@ abbrev pub trip_of_calls : ℕ → Option Fuse → Trip
 trip_of_calls calls fuse = if calls == 0 then trip_of_fuse fuse else Passes
 
 -- one call less passes before it, or it had its turn
-abbrev pub turned : FuseState → FuseState
-turned state = record {
+abbrev pub next_turn : FuseState → FuseState
+next_turn state = record {
   calls = state.calls - 1;
   fuse = if state.calls == 0 then fuse_left state.fuse else state.fuse;
   passed = state.passed;
@@ -64,17 +65,18 @@ turned state = record {
 }
 
 -- the call is counted among those that passed, or among the fuse's own failures
-abbrev pub counted : Trip → FuseState → FuseState
-counted Passes state = record state { passed = min (state.passed + 1) greatest }
-counted Fails state = record state { blown = min (state.blown + 1) greatest }
-counted FailsDone state = record state { blown = min (state.blown + 1) greatest }
+abbrev pub with_trip : Trip → FuseState → FuseState
+with_trip Passes state = record state { passed = min (state.passed + 1) greatest }
+with_trip Fails state = record state { blown = min (state.blown + 1) greatest }
+with_trip FailsDone state = record state { blown = min (state.blown + 1) greatest }
 
--- a disk whose failures stand at the greatest number does nothing more
+-- a disk that has failed the greatest number of times does nothing more
 abbrev pub trip_of : ℕ → FuseState → Trip
 trip_of failures state = if failures == greatest then Fails else trip_of_calls state.calls state.fuse
 
+-- the fuse's state after a call
 abbrev pub state_after : ℕ → FuseState → FuseState
-state_after failures state = if failures == greatest then state else counted (trip_of_calls state.calls state.fuse) (turned state)
+state_after failures state = if failures == greatest then state else with_trip (trip_of_calls state.calls state.fuse) (next_turn state)
 
 -- what the trait's clauses say of a call of the disk below that changes something
 pub record IsCall {D : Type 0} (honest : Type 0) (folder : D → Folder) (failure_count : D → ℕ)
@@ -85,26 +87,31 @@ pub record IsCall {D : Type 0} (honest : Type 0) (folder : D → Folder) (failur
   pub fault : result ≢ Err OutOfMemory
   pub also : also_changes old step result new
 
--- A call that passes is one of the disk below. One that fails answers Device, and the disk below is as it was, or has had
+-- A call that passes is one of the disk below. One that fails returns Device, and the disk below is as it was, or has
+-- had
 -- the call.
 abbrev pub Trips : {T : Type 0} → Trip → (Result T DiskFault → Type 0) → Type 0 → Result T DiskFault → Type 0
 Trips Passes Calls Unchanged result = Calls result
 Trips Fails Calls Unchanged result = (result ≡ Err Device) × Unchanged
 Trips {T = T} FailsDone Calls Unchanged result = (result ≡ Err Device) × ((answer : Result T DiskFault) × Calls answer)
 
+-- the disk below
 abbrev pub fused_inner : {D : Type 0} → FusedDisk D → D
 fused_inner disk = disk.inner
 
+-- the state of a fuse, from the code's counter
 abbrev pub counter_state : FuseCounter → FuseState
 counter_state counter = record { calls = counter.calls; fuse = counter.fuse; passed = counter.passed; blown = counter.blown }
 
+-- the state of a disk's fuse
 abbrev pub fuse_of : {D : Type 0} → FusedDisk D → FuseState
 fuse_of disk = counter_state disk.counter
 
-abbrev pub trip_told : Outcome → Trip
-trip_told outcome.Passes = Passes
-trip_told outcome.Fails = Fails
-trip_told outcome.FailsDone = FailsDone
+-- the trip that the code's outcome means
+abbrev pub trip_of_outcome : Outcome → Trip
+trip_of_outcome outcome.Passes = Passes
+trip_of_outcome outcome.Fails = Fails
+trip_of_outcome outcome.FailsDone = FailsDone
 
 -- how many calls went through to the disk below, up to the greatest number
 abbrev pub passed_count : {D : Type 0} → FusedDisk D → ℕ

@@ -1,10 +1,10 @@
--- What a stop may leave of a folder.
+-- What a crash may leave of a folder.
 use Rattle.std.specs.Prelude.{◌≡◌, ◌≢◌, ℕ, ◌+◌, ◌≤◌, ◌<◌, List, [], ◌∷◌, ◌++◌, length, get_or, slice_get, take, replicate, Contains, All, Option, Some, None, if◌then◌else◌, ◌&&◌, ◌==◌, nat_le}
 use Rattle.conf_disk.specs.declared.disk.Name.TheVariants.{Store, Next}
 use Rattle.conf_disk.specs.declared.memory.Cuts.{Cuts}
 use Rattle.conf_disk.specs.Folder.{Stage, File, empty_file, Folder, stages, bytes_under}
 
--- the bytes that stand under the two names after a stop
+-- the bytes of the two files after a crash
 pub record Image : Type 0 where
   pub store : Option (List ℕ)
   pub next : Option (List ℕ)
@@ -20,13 +20,14 @@ pub record IsTorn (file : File) (bytes : List ℕ) : Type 0 where
   pub fits : keep + zeros ≤ length file.pending
   pub is : bytes ≡ torn_bytes file keep zeros
 
+-- the same of a file that may be missing
 abbrev pub IsTornAt : List File → Option ℕ → Option (List ℕ) → Type 0
 IsTornAt files None None = Unit {0}
 IsTornAt files None (Some bytes) = ⊥
 IsTornAt files (Some id) None = ⊥
 IsTornAt files (Some id) (Some bytes) = IsTorn (get_or files id empty_file) bytes
 
--- a stop leaves one of the stages, with each of its files torn
+-- a crash leaves one of the stages, with each of its files torn
 pub record IsImage (folder : Folder) (image : Image) : Type 0 where
   pub stage : Stage
   pub among : Contains (stages folder) stage
@@ -37,16 +38,18 @@ pub record IsImage (folder : Folder) (image : Image) : Type 0 where
 abbrev pub image_now : Folder → Image
 image_now folder = record { store = bytes_under folder Store; next = bytes_under folder Next }
 
+-- a file of these bytes, all synced
 abbrev pub synced_file : List ℕ → File
 synced_file bytes = record { synced = bytes; pending = [] }
 
+-- a folder of these files, all synced
 abbrev pub folder_with_files : Option (List ℕ) → Option (List ℕ) → Folder
 folder_with_files None None = record { files = []; earlier = []; now = record { store = None; next = None } }
 folder_with_files (Some s) None = record { files = synced_file s ∷ []; earlier = []; now = record { store = Some 0; next = None } }
 folder_with_files None (Some n) = record { files = synced_file n ∷ []; earlier = []; now = record { store = None; next = Some 0 } }
 folder_with_files (Some s) (Some n) = record { files = synced_file s ∷ synced_file n ∷ []; earlier = []; now = record { store = Some 0; next = Some 1 } }
 
--- the folder that a stop leaves behind: these files, one stage and nothing pending
+-- the folder that a crash leaves: these files, one stage and nothing pending
 abbrev pub folder_of_image : Image → Folder
 folder_of_image image = folder_with_files image.store image.next
 
@@ -59,11 +62,13 @@ abbrev pub cut_at : List File → Option ℕ → ℕ → ℕ → Option (Option 
 cut_at files None keep zeros = if (keep == 0) && (zeros == 0) then Some None else None
 cut_at files (Some id) keep zeros = cut_file (get_or files id empty_file) keep zeros
 
+-- an image, if both cuts are possible
 abbrev pub both_cut : Option (Option (List ℕ)) → Option (Option (List ℕ)) → Option Image
 both_cut None next = None
 both_cut (Some store) None = None
 both_cut (Some store) (Some next) = Some (record { store = store; next = next })
 
+-- the image of a stage under these cuts
 abbrev pub image_of_stage : List File → Option Stage → Cuts → Option Image
 image_of_stage files None cuts = None
 image_of_stage files (Some stage) cuts =
@@ -73,20 +78,22 @@ image_of_stage files (Some stage) cuts =
 abbrev pub image_at : Folder → ℕ → Cuts → Option Image
 image_at folder stage cuts = image_of_stage folder.files (slice_get (stages folder) stage) cuts
 
--- a file that stands under a name is one of so many
+-- a file that has a name is one of so many
 abbrev pub IsMade : ℕ → Option ℕ → Type 0
 IsMade count None = Unit {0}
 IsMade count (Some id) = id < count
 
+-- the staged file is not the store
 abbrev pub IsApartFrom : Option ℕ → Option ℕ → Type 0
 IsApartFrom None store = Unit {0}
 IsApartFrom (Some id) store = store ≢ Some id
 
+-- a stage names files of the folder, and its store is not the file that is staged now
 pub record IsStage (count : ℕ) (staged : Option ℕ) (stage : Stage) : Type 0 where
   pub store : IsMade count stage.store
   pub next : IsMade count stage.next
   pub apart : IsApartFrom staged stage.store
 
--- Each file that stands under a name is one of the folder's, and the file that is `next.yaml` now was never `store.yaml`.
+-- Each file that has a name is one of the folder's, and the file that is `next.yaml` now was never `store.yaml`.
 abbrev pub IsWhole : Folder → Type 0
 IsWhole folder = All (IsStage (length folder.files) folder.now.next) (stages folder)

@@ -8,11 +8,11 @@ use Rattle.conf_disk.specs.declared.memory.Cuts.{Cuts}
 abbrev pub ImagesAreCuts : Type 0
 ImagesAreCuts = (folder : Folder) (image : Image) → IsImage folder image ↔ ((stage : ℕ) × ((cuts : Cuts) × (image_at folder stage cuts ≡ Some image)))
 
--- what a stop leaves reads so
+-- what a crash leaves reads so
 abbrev pub ImagesRead : Type 0
 ImagesRead = (image : Image) → image_now (folder_of_image image) ≡ image
 
--- and every later stop leaves it
+-- and every later crash leaves it
 abbrev pub ImagesAreStable : Type 0
 ImagesAreStable = (image later : Image) → IsImage (folder_of_image image) later ↔ (later ≡ image)
 
@@ -20,6 +20,6 @@ ImagesAreStable = (image later : Image) → IsImage (folder_of_image image) late
 abbrev pub ReadingIsAnImage : Type 0
 ReadingIsAnImage = (folder : Folder) → IsImage folder (image_now folder)
 
--- a stop within a call, however far it has come, leaves nothing that a stop before it or after it doesn't
+-- a crash within a call, however far it has come, leaves nothing that a crash before or after the call wouldn't
 abbrev pub CallsLeaveNoOther : Type 0
 CallsLeaveNoOther = (k : ℕ) (step : Step) (folder : Folder) (image : Image) → IsImage (partly k step folder) image → IsImage folder image ⊎ IsImage (after step folder) image

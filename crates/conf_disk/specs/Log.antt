@@ -1,4 +1,4 @@
--- The folder after a list of steps, and what a stop on the way leaves.
+-- The folder after a list of steps, and what a crash on the way leaves.
 use Rattle.std.specs.Prelude.{ℕ, ◌≤◌, List, [], ◌∷◌, length, slice_get, take, Option, Some, None}
 use Rattle.conf_disk.specs.Folder.{Folder, empty_folder, Step, after, partly}
 use Rattle.conf_disk.specs.Image.{Image, IsImage}
@@ -8,15 +8,16 @@ abbrev pub folder_after : List Step → Folder → Folder
 folder_after [] folder = folder
 folder_after (step ∷ steps) folder = folder_after steps (after step folder)
 
+-- the folder when a step has come so far, if there is one
 abbrev pub folder_within : Option Step → ℕ → Folder → Folder
 folder_within None part folder = folder
 folder_within (Some step) part folder = partly part step folder
 
--- the folder when so many of the steps are done, and the one behind them has come so far
+-- the folder when so many of the steps are done, and the one after them has come so far
 abbrev pub folder_at : List Step → ℕ → ℕ → Folder
 folder_at steps done part = folder_within (slice_get steps done) part (folder_after (take done steps) empty_folder)
 
--- a stop leaves this image at some moment from the one when t of the steps were done, between two steps or within one
+-- a crash leaves this image at some moment since t of the steps were done, between two steps or within one
 pub record IsLeftSince (steps : List Step) (t : ℕ) (image : Image) : Type 0 where
   pub done : ℕ
   pub part : ℕ

@@ -14,6 +14,7 @@ folder_at-length steps part =
     ap (λ (step : Option Step). folder_within step part (folder_after (take (length steps) steps) empty_folder)) (slice_get_past steps (length steps) (omega arith))
     ∙ ap (λ (done : List Step). folder_after done empty_folder) (take_all (length steps) steps (omega arith))
 
+-- an image of the folder now is left at some moment since t
 pub left_now : (steps : List Step) (t : ℕ) (image : Image) → t ≤ length steps → IsImage (folder_after steps empty_folder) image → IsLeftSince steps t image
 left_now steps t image le is = record {
   done = length steps;
@@ -23,6 +24,7 @@ left_now steps t image le is = record {
   is = subst (λ (folder : Folder). IsImage folder image) (sym (folder_at-length steps 0)) is;
 }
 
+-- since now, only images of the folder now are left
 pub left_only_now : (steps : List Step) (image : Image) → IsLeftSince steps (length steps) image → IsImage (folder_after steps empty_folder) image
 left_only_now steps image left =
     let all : left.done ≡ length steps = omega (arith, left.since, left.until) in
@@ -41,6 +43,7 @@ IsStage-more m n next le stage is = record {
   apart = is.apart;
 }
 
+-- the stage of a whole folder is one of its stages
 pub now_staged : (folder : Folder) → IsWhole folder → IsStage (length folder.files) folder.now.next folder.now
 now_staged folder whole =
     All-contains (IsStage (length folder.files) folder.now.next) (stages folder) folder.now whole
@@ -93,6 +96,7 @@ created-whole folder whole =
     (All-weaker (IsStage n folder.now.next) (IsStage m (Some n)) (IsStage-made n m folder.now.next le) (stages folder) whole)
     (record { store = IsMade-more n m folder.now.store le here.store; next = omega (arith, longer); apart = made_apart n folder.now.store here.store })
 
+-- a step leaves a folder whole
 pub after-whole : (step : Step) (folder : Folder) → IsWhole folder → IsWhole (after step folder)
 after-whole CreateNext folder whole = created-whole folder whole
 after-whole (Append name bytes) folder whole = with_file-whole folder (under folder.now name) _ whole
@@ -106,6 +110,7 @@ steps-whole : (steps : List Step) (folder : Folder) → IsWhole folder → IsWho
 steps-whole [] folder whole = whole
 steps-whole (step ∷ steps) folder whole = steps-whole steps (after step folder) (after-whole step folder whole)
 
+-- so do all steps
 pub folder_after-whole : (steps : List Step) → IsWhole (folder_after steps empty_folder)
 folder_after-whole steps =
     steps-whole steps empty_folder (All-push (IsStage 0 None) [] empty_folder.now (All-nil (IsStage 0 None)) (record { store = tt; next = tt; apart = tt }))

@@ -11,13 +11,15 @@ use Rattle.conf_disk.specs.declared.memory.MemoryDisk.{MemoryDisk}
 abbrev pub steps_of : MemoryDisk → List Step
 steps_of disk = map step_of disk.changes.items
 
+-- the folder that the disk has
 abbrev pub memory_folder : MemoryDisk → Folder
 memory_folder disk = folder_after (steps_of disk) empty_folder
 
+-- the number of its failures
 abbrev pub memory_failures : MemoryDisk → ℕ
 memory_failures disk = disk.failures
 
--- A call that answers Ok is one step more and no failure. One that fails, for want of memory, is a failure and no step.
+-- A call that returns Ok is one step more and no failure. One that runs out of memory is a failure and no step.
 pub record Notes {T : Type 0} (old : MemoryDisk) (step : Step) (result : Result T DiskFault) (new : MemoryDisk) : Type 0 where
   pub done : OnOk result (steps_of new ≡ steps_of old ++ step ∷ [])
   pub no_failure : OnOk result (memory_failures new ≡ memory_failures old)

@@ -1,4 +1,4 @@
--- What the calls of a disk do to the moments at which it may stop, and to the number of its failures.
+-- What the calls of a disk do to the moments at which it may crash, and to the number of its failures.
 use Rattle.std.specs.Prelude.{◌≡◌, ◌≢◌, ◌⊎◌, ℕ, ◌≤◌, ◌<◌, Result, Err, IsErrOf, OnOk}
 use Rattle.conf_disk.specs.Folder.{Folder, Step, Performs}
 use Rattle.conf_disk.specs.Image.{Image, IsImage}
@@ -9,7 +9,7 @@ use Rattle.conf_disk.specs.declared.disk.DiskFault.TheVariants.{Device, OutOfMem
 abbrev pub greatest : ℕ
 greatest = 18446744073709551615
 
--- Time goes on: a stop since t might have left what it might have left before the call, or what it may leave now.
+-- Time goes on: a crash since t may leave what it could leave before the call, or what it may leave now.
 pub record Elapses (before now : ℕ) (past since : ℕ → Image → Type 0) (may_leave : Image → Type 0) : Type 0 where
   pub later : before ≤ now
   pub nothing_else : (t : ℕ) (image : Image) → t ≤ before → since t image → past t image ⊎ may_leave image
@@ -19,7 +19,7 @@ pub record Elapses (before now : ℕ) (past since : ℕ → Image → Type 0) (m
 abbrev pub TimeGoesOn : {D : Type 0} → (D → Folder) → (D → ℕ) → (D → ℕ → Image → Type 0) → D → D → Type 0
 TimeGoesOn folder moment left old new = Elapses (moment old) (moment new) (left old) (left new) (IsImage (folder new))
 
--- A device's failures are counted, up to the greatest number. Where they are at it every call fails, and a call that answers Ok
+-- A device's failures are counted, up to the greatest number. There every call fails, and a call that returns Ok
 -- leaves them as they were.
 pub record CountsFailures {T : Type 0} (before now : ℕ) (result : Result T DiskFault) : Type 0 where
   pub never_falls : before ≤ now
@@ -28,8 +28,9 @@ pub record CountsFailures {T : Type 0} (before now : ℕ) (result : Result T Dis
   pub device : IsErrOf result Device → (before < now) ⊎ (before ≡ greatest)
   pub spent : before ≡ greatest → IsErrOf result Device
 
--- How a call that changes something goes, whatever it answers: what it makes of the folder, which is nothing where the failures are at
--- their greatest number; which moments lie within it; and when it fails, which is never for memory.
+-- How a call that changes something goes, whatever it returns: what it makes of the folder, which is nothing once the
+-- failures are at
+-- their greatest number; which moments lie within it; and when it fails, which is never for lack of memory.
 pub record IsChange {D : Type 0} (honest : Type 0) (folder : D → Folder) (moment : D → ℕ) (left : D → ℕ → Image → Type 0) (failure_count : D → ℕ)
     (step : Step) (old : D) (result : Result (Unit {0}) DiskFault) (new : D) : Type 0 where
   pub change : honest → Performs step (folder old) (folder new) result
@@ -38,7 +39,7 @@ pub record IsChange {D : Type 0} (honest : Type 0) (folder : D → Folder) (mome
   pub failures : CountsFailures (failure_count old) (failure_count new) result
   pub fault : result ≢ Err OutOfMemory
 
--- A stop at any moment since `old` leaves an image that has P.
+-- A crash at any moment since `old` leaves an image that has P.
 pub record LeavesOnly {D : Type 0} (moment : D → ℕ) (left : D → ℕ → Image → Type 0) (old new : D) (P : Image → Type 0) : Type 0 where
   pub later : moment old ≤ moment new
   pub each : (image : Image) → left new (moment old) image → P image

@@ -8,18 +8,23 @@ use Rattle.conf_disk.specs.declared.folder.StageData.{StageData}
 use Rattle.conf_disk.specs.declared.folder.Change.{Change}
 use Rattle.conf_disk.specs.declared.folder.Change.TheVariants as change
 
+-- a file of the code
 abbrev pub file_of : FileData → File
 file_of file = record { synced = file.synced.items; pending = file.pending.items }
 
+-- the files of the code
 abbrev pub files_of : Vec FileData Global → List File
 files_of files = map file_of files.items
 
+-- a stage of the code
 abbrev pub stage_of : StageData → Stage
 stage_of stage = record { store = stage.store; next = stage.next }
 
+-- a folder of the code
 abbrev pub folder_of : FolderData → Folder
 folder_of folder = record { files = files_of folder.files; earlier = map stage_of folder.earlier.items; now = stage_of folder.current }
 
+-- a change of the code
 abbrev pub step_of : Change → Step
 step_of change.CreateNext = CreateNext
 step_of (change.Append name bytes) = Append name bytes.items
@@ -33,5 +38,6 @@ abbrev pub items_of : Option (Vec ℕ Global) → Option (List ℕ)
 items_of None = None
 items_of (Some bytes) = Some bytes.items
 
+-- the bytes of a cut, if it is possible
 abbrev pub bytes_of_cut : Option (Option (Vec ℕ Global)) → Option (Option (List ℕ))
 bytes_of_cut bytes = option_map items_of bytes

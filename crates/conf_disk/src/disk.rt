@@ -80,7 +80,8 @@ pub trait Disk {
 
     /// The bytes under a name, if they are at most `max`. A read changes nothing, whatever it answers.
     fn read(&mut self, alloc: Global, name: Name, max: u64) -> Result<Content, DiskFault>
-        ensures content { honest → IfOk result (λ content. Reads (folder self.old) name max content) }
+        ensures content { honest → IfOk result (λ content.
+            Reads (folder self.old) name max content) }
         ensures same { honest → folder self.new ≡ folder self.old }
         ensures time { honest → TimeGoesOn folder moment left self.old self.new }
         ensures failures { CountsFailures (failure_count self.old) (failure_count self.new) result }
@@ -89,42 +90,50 @@ pub trait Disk {
     /// Makes an empty file under the name `Next`, where there is none.
     fn create_next(&mut self) -> Result<(), DiskFault>
         requires { honest → (folder self.old).now.next ≡ None }
-        ensures goes { IsChange honest folder moment left failure_count CreateNext self.old result self.new }
+        ensures goes { IsChange honest folder moment left failure_count
+            CreateNext self.old result self.new }
         ensures also { also_changes self.old CreateNext result self.new };
 
     /// Appends bytes to the file under a name. They are pending until the file is synced.
     fn append(&mut self, name: Name, bytes: &[u8]) -> Result<(), DiskFault>
         requires { honest → IsSome (under (folder self.old).now name) }
-        ensures goes { IsChange honest folder moment left failure_count (Append name bytes.now) self.old result self.new }
+        ensures goes { IsChange honest folder moment left failure_count
+            (Append name bytes.now) self.old result self.new }
         ensures also { also_changes self.old (Append name bytes.now) result self.new };
 
     /// Syncs the file under a name: after `Ok`, a crash leaves all of its bytes. Where there is no file it does
     /// nothing.
     fn sync(&mut self, name: Name) -> Result<(), DiskFault>
-        ensures goes { IsChange honest folder moment left failure_count (Sync name) self.old result self.new }
+        ensures goes { IsChange honest folder moment left failure_count
+            (Sync name) self.old result self.new }
         ensures also { also_changes self.old (Sync name) result self.new };
 
     /// Renames `Next` to `Store`, and so replaces the file that is there.
     fn rename_next(&mut self) -> Result<(), DiskFault>
         requires { honest → IsSome (folder self.old).now.next }
-        ensures goes { IsChange honest folder moment left failure_count RenameNext self.old result self.new }
+        ensures goes { IsChange honest folder moment left failure_count
+            RenameNext self.old result self.new }
         ensures also { also_changes self.old RenameNext result self.new };
 
     /// Removes the file under `Next`. Where there is none it does nothing.
     fn remove_next(&mut self) -> Result<(), DiskFault>
-        ensures goes { IsChange honest folder moment left failure_count RemoveNext self.old result self.new }
+        ensures goes { IsChange honest folder moment left failure_count
+            RemoveNext self.old result self.new }
         ensures also { also_changes self.old RemoveNext result self.new };
 
     /// Syncs the folder: after `Ok`, a crash leaves the names as they are.
     fn sync_folder(&mut self) -> Result<(), DiskFault>
-        ensures goes { IsChange honest folder moment left failure_count SyncFolder self.old result self.new }
+        ensures goes { IsChange honest folder moment left failure_count
+            SyncFolder self.old result self.new }
         ensures also { also_changes self.old SyncFolder result self.new };
 
     /// This moment is one of those since an earlier one.
-    ghost counts_now: { (disk : Self) (t : ℕ) (image : Image) → honest → t ≤ moment disk → IsImage (folder disk) image → left disk t image };
+    ghost counts_now: { (disk : Self) (t : ℕ) (image : Image) → honest → t ≤ moment disk
+        → IsImage (folder disk) image → left disk t image };
 
     /// Since this moment there is no other.
-    ghost only_now: { (disk : Self) (image : Image) → honest → left disk (moment disk) image → IsImage (folder disk) image };
+    ghost only_now: { (disk : Self) (image : Image) → honest → left disk (moment disk) image
+        → IsImage (folder disk) image };
 
     /// Each file under a name is one of the folder's, and the staged one was never the live one.
     ghost whole: { (disk : Self) → honest → IsWhole (folder disk) };

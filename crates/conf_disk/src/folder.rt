@@ -64,7 +64,8 @@ impl FolderData {
     }
 
     pub(crate) fn apply(&mut self, alloc: Global, change: &Change) -> Result<(), AllocError>
-        ensures { OnOk result (folder_of self.new ≡ after (step_of change.now) (folder_of self.old)) }
+        ensures { OnOk result (folder_of self.new ≡ after (step_of change.now)
+            (folder_of self.old)) }
     {
         match change {
             Change::CreateNext => self.create_next(alloc),
@@ -103,8 +104,10 @@ impl FolderData {
     }
 
     fn restage(&mut self, store: Option<usize>, next: Option<usize>) -> Result<(), AllocError>
-        ensures stages { OnOk result (self.new.earlier.items ≡ self.old.earlier.items ++ self.old.current ∷ []) }
-        ensures now { OnOk result (stage_of self.new.current ≡ record { store = store; next = next }) }
+        ensures stages { OnOk result (self.new.earlier.items
+            ≡ self.old.earlier.items ++ self.old.current ∷ []) }
+        ensures now { OnOk result (stage_of self.new.current
+            ≡ record { store = store; next = next }) }
         ensures files { OnOk result (self.new.files ≡ self.old.files) }
     {
         self.earlier.push(self.current)?;
@@ -139,7 +142,7 @@ impl FolderData {
         Ok(bytes)
     }
 
-    // What a stop leaves of a file, where one stands there: its synced bytes, so many pending ones and so many zeros.
+    // What a crash leaves of a file, if there is one: its synced bytes, so many pending ones and so many zeros.
     pub(crate) fn torn_bytes(
         &self,
         alloc: Global,

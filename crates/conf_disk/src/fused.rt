@@ -1,7 +1,7 @@
 // A disk that fails from a call on, or once.
 ghost use Rattle.std.specs.Prelude.{◌≡◌, ℕ, Some};
 ghost use Rattle.conf_disk.specs.Folder.{MayBeMade};
-ghost use Rattle.conf_disk.specs.Fused.{trip_of, state_after, trip_of_calls, turned, trip_told, counter_state, call_step};
+ghost use Rattle.conf_disk.specs.Fused.{trip_of, state_after, trip_of_calls, next_turn, trip_of_outcome, counter_state, call_step};
 ghost use Rattle.conf_disk.specs.Moments.{IsChange};
 
 use crate::{Content, Disk, DiskFault, Name};
@@ -59,7 +59,8 @@ pub(crate) enum Call<'a> {
 impl Call<'_> {
     fn make<D: Disk>(self, disk: &mut D) -> Result<(), DiskFault>
         requires { D.honest → MayBeMade (call_step self) (D.folder disk.old) }
-        ensures goes { IsChange D.honest D.folder D.moment D.left D.failure_count (call_step self.entry) disk.old result disk.new }
+        ensures goes { IsChange D.honest D.folder D.moment D.left D.failure_count
+            (call_step self.entry) disk.old result disk.new }
         ensures also { D.also_changes disk.old (call_step self.entry) result disk.new }
     {
         match self {
@@ -76,7 +77,7 @@ impl Call<'_> {
 impl FuseCounter {
     // What becomes of the next call of a disk that failed so often. At the greatest number it does nothing more.
     fn next_outcome(&mut self, failures: u64) -> Outcome
-        ensures outcome { trip_told result ≡ trip_of failures (counter_state self.old) }
+        ensures outcome { trip_of_outcome result ≡ trip_of failures (counter_state self.old) }
         ensures state { counter_state self.new ≡ state_after failures (counter_state self.old) }
     {
         if failures == u64::MAX {
@@ -92,8 +93,8 @@ impl FuseCounter {
 
     // What the calls that are still to pass, and then the fuse, make of the next call.
     fn turn(&mut self) -> Outcome
-        ensures outcome { trip_told result ≡ trip_of_calls self.old.calls self.old.fuse }
-        ensures state { counter_state self.new ≡ turned (counter_state self.old) }
+        ensures outcome { trip_of_outcome result ≡ trip_of_calls self.old.calls self.old.fuse }
+        ensures state { counter_state self.new ≡ next_turn (counter_state self.old) }
     {
         if self.calls > 0 {
             self.calls -= 1;
@@ -120,7 +121,8 @@ impl<D: Disk> FusedDisk<D> {
     /// A disk whose first `calls` calls pass to `inner`. Then it is the fuse's turn.
     pub fn new(inner: D, calls: u64, fuse: Fuse) -> Self
         ensures inner { fused_inner result ≡ inner }
-        ensures fuse { fuse_of result ≡ record { calls = calls; fuse = Some fuse; passed = 0; blown = 0 } }
+        ensures fuse { fuse_of result ≡ record
+            { calls = calls; fuse = Some fuse; passed = 0; blown = 0 } }
     {
         FusedDisk {
             inner,
@@ -150,7 +152,8 @@ impl<D: Disk> FusedDisk<D> {
     }
 
     fn next_outcome(&mut self) -> Outcome
-        ensures outcome { trip_told result ≡ trip_of (fused_failures D.failure_count self.old) (fuse_of self.old) }
+        ensures outcome { trip_of_outcome result ≡ trip_of (fused_failures D.failure_count self.old)
+            (fuse_of self.old) }
         ensures state { fuse_of self.new ≡ state_after (fused_failures D.failure_count self.old)
             (fuse_of self.old) }
         ensures inner { fused_inner self.new ≡ fused_inner self.old }
@@ -162,9 +165,12 @@ impl<D: Disk> FusedDisk<D> {
     // Makes a call, or lets it fail.
     fn fuse(&mut self, call: Call<'_>) -> Result<(), DiskFault>
         requires { D.honest → MayBeMade (call_step call) (D.folder (fused_inner self.old)) }
-        ensures goes { IsChange D.honest (λ disk. D.folder (fused_inner disk)) (λ disk. D.moment (fused_inner disk))
-            (λ disk. D.left (fused_inner disk)) (fused_failures D.failure_count) (call_step call.entry) self.old result self.new }
-        ensures fuses { FusesChange D.honest D.folder D.failure_count D.also_changes self.old (call_step call.entry) result self.new }
+        ensures goes { IsChange D.honest (λ disk. D.folder (fused_inner disk)) (λ disk.
+            D.moment (fused_inner disk))
+            (λ disk. D.left (fused_inner disk)) (fused_failures D.failure_count)
+            (call_step call.entry) self.old result self.new }
+        ensures fuses { FusesChange D.honest D.folder D.failure_count D.also_changes self.old
+            (call_step call.entry) result self.new }
     {
         match self.next_outcome() {
             Outcome::Passes => call.make(&mut self.inner),

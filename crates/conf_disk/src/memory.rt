@@ -119,12 +119,15 @@ impl MemoryDisk {
 
     // Keeps one more change, or counts a failure.
     fn note(&mut self, change: Change) -> Result<(), DiskFault>
-        ensures change { Performs (step_of change) (memory_folder self.old) (memory_folder self.new) result }
-        ensures spent { memory_failures self.old ≡ u64.MAX → memory_folder self.new ≡ memory_folder self.old }
+        ensures change { Performs (step_of change) (memory_folder self.old)
+            (memory_folder self.new) result }
+        ensures spent { memory_failures self.old ≡ u64.MAX
+            → memory_folder self.new ≡ memory_folder self.old }
         ensures time { Elapses (length (steps_of self.old)) (length (steps_of self.new))
             (IsLeftSince (steps_of self.old)) (IsLeftSince (steps_of self.new))
             (IsImage (memory_folder self.new)) }
-        ensures failures { CountsFailures (memory_failures self.old) (memory_failures self.new) result }
+        ensures failures { CountsFailures (memory_failures self.old)
+            (memory_failures self.new) result }
         ensures fault { result ≢ Err DiskFault.OutOfMemory }
         ensures notes { Notes self.old (step_of change) result self.new }
     {
@@ -139,7 +142,8 @@ impl MemoryDisk {
         ensures fails { result ≡ Err DiskFault.Device }
         ensures steps { self.new.changes ≡ self.old.changes }
         ensures count { memory_failures self.new ≡ min (memory_failures self.old + 1) u64.MAX }
-        ensures failures { CountsFailures (memory_failures self.old) (memory_failures self.new) result }
+        ensures failures { CountsFailures (memory_failures self.old)
+            (memory_failures self.new) result }
     {
         self.failures = self.failures.saturating_add(1);
         Err(DiskFault::Device)

@@ -9,25 +9,25 @@ use Rattle.yaml_grammar.specs.FlowScalars.{block_key, outer}
 use Rattle.yaml_grammar.specs.Separation.{LineEnd, Sep}
 use Rattle.yaml_grammar.specs.Texts.{first}
 use Rattle.yaml_recognizers.specs.BlockFrames.{Sits, close_pairs, key_on_line, keyed_part, plug, waits_key, waits_value}
-use Rattle.yaml_recognizers.specs.BlockNodes.{bar, flow_with, key_behind, opens_pair}
+use Rattle.yaml_recognizers.specs.BlockNodes.{bar, flow_with, key_after, opens_pair}
 use Rattle.yaml_recognizers.specs.BlockScalars.{read_block}
 use Rattle.yaml_recognizers.specs.Comments.{all_comments, closes_line}
 use Rattle.yaml_recognizers.specs.Ends.{solid}
-use Rattle.yaml_recognizers.specs.Fronts.{dropped, past, sign, taken}
+use Rattle.yaml_recognizers.specs.Prefixes.{dropped, past, sign, taken}
 use Rattle.yaml_recognizers.specs.OneLine.{on_one_line}
 use Rattle.yaml_recognizers.specs.Reading.{Read, on}
 use Rattle.yaml_recognizers.specs.Recognizers.{StandsFlow, block_indented_at, block_key_in, block_pairs_at, flow_leaf_at, flow_node_at}
-use Rattle.yaml_recognizers.proofs.BlockFrames.{asked_opens, key_opens, no_key}
-use Rattle.yaml_recognizers.proofs.CommentsComplete.{no_comments}
-use Rattle.yaml_recognizers.proofs.FlowNodesBegin.{Opens, flow_opens}
-use Rattle.yaml_recognizers.proofs.FlowNodesFound.{stands}
-use Rattle.yaml_recognizers.proofs.Fronts.{taken_every, taken_split}
-use Rattle.yaml_recognizers.proofs.KeyLeaves.{is_key, leaf_is_key, leaf_no_key, no_leaf_no_key}
-use Rattle.yaml_recognizers.proofs.OneLineText.{flow_one_line, unbroken}
-use Rattle.yaml_recognizers.proofs.Solid.{head_of}
+use Rattle.yaml_recognizers.proofs.Block.BlockFrames.{asked_opens, key_opens, no_key}
+use Rattle.yaml_recognizers.proofs.Separation.CommentsComplete.{no_comments}
+use Rattle.yaml_recognizers.proofs.Flow.FlowNodesBegin.{Opens, flow_opens}
+use Rattle.yaml_recognizers.proofs.Flow.FlowNodesFound.{stands}
+use Rattle.yaml_recognizers.proofs.Basics.Prefixes.{taken_every, taken_split}
+use Rattle.yaml_recognizers.proofs.Block.KeyLeaves.{is_key, leaf_is_key, leaf_no_key, no_leaf_no_key}
+use Rattle.yaml_recognizers.proofs.Flow.OneLineText.{flow_one_line, unbroken}
+use Rattle.yaml_recognizers.proofs.Basics.Solid.{head_of}
 use Rattle.yaml_block.specs.BlockParts.{as_part, leaf_part, part_at}
 
--- ---- where no leaf stands
+-- ---- where there is no leaf
 
 unread : {A : Type 0} (r : Read A) → ((a : A) (rest : List ℕ) → r ≡ Some (a, rest) → ⊥) → r ≡ None
 unread None g = refl
@@ -45,19 +45,22 @@ pub leaf_spells : (m : ℕ) (bol : Bool) (text : List ℕ) (f : Flow) (rest : Li
     → flow_leaf_at m bol text ≡ Some (f, rest) → text ≡ flow_text f ++ rest
 leaf_spells m bol text f rest e = (stands m outer bol text f rest e).spells
 
--- it stands on one line where its text has no break
+-- it is on one line where its text has no break
 pub leaf_one_line : (m : ℕ) (bol : Bool) (text : List ℕ) (f : Flow) (rest : List ℕ)
     → flow_leaf_at m bol text ≡ Some (f, rest) → on_one_line f ≡ unbroken (flow_text f)
 leaf_one_line m bol text f rest e = flow_one_line f m outer bol rest (stands m outer bol text f rest e).canonical
 
+-- no flow node starts with `|` or `>`
 pub no_leaf_bar : (m : ℕ) (bol : Bool) (text : List ℕ) → first bar text ≡ true → flow_leaf_at m bol text ≡ None
 no_leaf_bar m bol text h = unread (flow_leaf_at m bol text)
     (λ f rest e. false≢true (sym (leaf_opens m bol text f rest e).1 ∙ h))
 
+-- nor with the `:` of a value
 pub no_leaf_colon : (m : ℕ) (bol : Bool) (text : List ℕ) → sign 58 text ≡ true → flow_leaf_at m bol text ≡ None
 no_leaf_colon m bol text h = unread (flow_leaf_at m bol text)
     (λ f rest e. false≢true (sym ((leaf_opens m bol text f rest e).0).no_colon ∙ h))
 
+-- nor with the `?` of a key
 pub no_leaf_question : (m : ℕ) (bol : Bool) (text : List ℕ) → sign 63 text ≡ true → flow_leaf_at m bol text ≡ None
 no_leaf_question m bol text h = unread (flow_leaf_at m bol text)
     (λ f rest e. false≢true (sym ((leaf_opens m bol text f rest e).0).no_ask ∙ h))
@@ -67,7 +70,7 @@ pub no_leaf_unsolid : (m : ℕ) (bol : Bool) (text : List ℕ) → first solid t
 no_leaf_unsolid m bol text h = unread (flow_leaf_at m bol text)
     (λ f rest e. false≢true (sym h ∙ ((leaf_opens m bol text f rest e).0).solid_first))
 
--- ---- what tells them apart
+-- ---- what distinguishes them
 
 bar_no_question : (text : List ℕ) → first bar text ≡ true → sign 63 text ≡ false
 bar_no_question [] h = refl
@@ -108,6 +111,7 @@ as_part_on (Some r) g = refl
 
 -- ---- a block scalar
 
+-- at `|` or `>` the part is a block scalar
 pub bar_part : (p : Option (Sits × ℕ)) (m : ℕ) (bol : Bool) (sep : Sep) (text : List ℕ) → first bar text ≡ true
     → part_at p m bol sep text ≡ on (read_block m text) (λ b rest. Some (node (block sep b), rest))
 bar_part p m bol sep text h =
@@ -122,6 +126,7 @@ bar_part p m bol sep text h =
 
 -- ---- a `?`
 
+-- at `?` a mapping is opened
 pub question_opens : (sits : Sits) (k m : ℕ) (bol : Bool) (sep : Sep) (text : List ℕ) → sign 63 text ≡ true
     → part_at (Some (sits, k)) m bol sep text ≡ on (block_indented_at k true (past text))
     (λ i rest. plug (waits_key sits k []) i rest)
@@ -191,7 +196,7 @@ leaf_no_mapping p m bol sep text f rest e n =
         (all_comments false rest)
     choose r = rw ((leaf_opens m bol text f rest e).1, e) refl
 
--- a `:` stands after it, and no line is closed
+-- a `:` comes after it, and no line is closed
 colon_unclosed : (rest : List ℕ) → sign 58 (dropped white rest) ≡ true → closes_line (all_comments false rest) ≡ false
 colon_unclosed rest h =
     let i : rest ≡ taken white rest ++ (58 ∷ past (dropped white rest)) = taken_split white rest
@@ -229,6 +234,7 @@ pub leaf_closes : (p : Option (Sits × ℕ)) (m : ℕ) (bol : Bool) (sep : Sep) 
 leaf_closes p m bol sep text f rest e h c = leaf_no_mapping p m bol sep text f rest e
     (unmapped p _ (no_key_without f rest h)) ∙ flow_closed sep f (all_comments false rest) c
 
+-- a flow node and what follows it are the part, if it is no key
 pub leaf_goes_on : (p : Option (Sits × ℕ)) (m : ℕ) (bol : Bool) (sep : Sep) (text : List ℕ) (f : Flow) (rest : List ℕ)
     → flow_leaf_at m bol text ≡ Some (f, rest)
     → sign 58 (dropped white rest) ≡ false → closes_line (all_comments false rest) ≡ false
@@ -245,6 +251,7 @@ key_node_opens bol text f rest e =
     subst (λ (t : List ℕ). Opens t × (first bar t ≡ false)) (sym s.spells)
     (flow_opens f 0 block_key bol rest refl s.canonical)
 
+-- a key of a further pair is read, and its value is awaited
 pub next_key_opens : (sits : Sits) (k : ℕ) (bol : Bool) (done : List Pair) (text : List ℕ) (f : Flow) (rest : List ℕ)
     → flow_node_at 0 block_key bol text ≡ Some (f, rest)
     → sign 58 (dropped white rest) ≡ true → short_key f (taken white rest) ≡ true
@@ -254,23 +261,26 @@ pub next_key_opens : (sits : Sits) (k : ℕ) (bol : Bool) (done : List Pair) (te
 next_key_opens sits k bol done text f rest e c s =
     key_opens sits k bol done text f (taken white rest) (past (dropped white rest))
     ((key_node_opens bol text f rest e).0).no_ask
-    (ap (λ r. on r (λ key rest'. key_behind key (taken white rest') (dropped white rest'))) e ∙ rw (c, s) refl)
+    (ap (λ r. on r (λ key rest'. key_after key (taken white rest') (dropped white rest'))) e ∙ rw (c, s) refl)
 
+-- a flow node that is no key starts no further pair
 pub next_key_unfit : (sits : Sits) (k : ℕ) (bol : Bool) (done : List Pair) (text : List ℕ) (f : Flow) (rest : List ℕ)
     → flow_node_at 0 block_key bol text ≡ Some (f, rest)
     → sign 58 (dropped white rest) && short_key f (taken white rest) ≡ false
     → close_pairs sits done (block_pairs_at k bol text) ≡ None
 next_key_unfit sits k bol done text f rest e h =
     no_key sits k bol done text ((key_node_opens bol text f rest e).0).no_ask
-    (ap (λ r. on r (λ key rest'. key_behind key (taken white rest') (dropped white rest'))) e ∙ rw h refl)
+    (ap (λ r. on r (λ key rest'. key_after key (taken white rest') (dropped white rest'))) e ∙ rw h refl)
 
+-- without a flow node there is no further pair
 pub next_key_missing : (sits : Sits) (k : ℕ) (bol : Bool) (done : List Pair) (text : List ℕ) → sign 63 text ≡ false
     → flow_node_at 0 block_key bol text ≡ None
     → close_pairs sits done (block_pairs_at k bol text) ≡ None
 next_key_missing sits k bol done text h e =
     no_key sits k bol done text h
-    (ap (λ r. on r (λ key rest'. key_behind key (taken white rest') (dropped white rest'))) e)
+    (ap (λ r. on r (λ key rest'. key_after key (taken white rest') (dropped white rest'))) e)
 
+-- nor with a `:` alone
 pub next_colon_refused : (sits : Sits) (k : ℕ) (bol : Bool) (done : List Pair) (text : List ℕ) → sign 58 text ≡ true
     → close_pairs sits done (block_pairs_at k bol text) ≡ None
 next_colon_refused sits k bol done text h = no_key sits k bol done text (colon_no_question text h)

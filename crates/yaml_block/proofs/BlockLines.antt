@@ -1,4 +1,4 @@
--- What stands at the front of a line, after comments or at the start of a line.
+-- What starts a line of a block, after comments or at the start of a line.
 use Rattle.std.proofs.Common.{ap, arith, inl, inr, length-append, refl, sym, ◌<◌, ◌∙◌, ◌≡◌, ◌≤◌, ◌⊎◌}
 use Rattle.std.specs.Prelude.{Bool, List, None, Option, Some, [], false, if◌then◌else◌, length, nat_le, not, suc, true, zero, ℕ, ◌&&◌, ◌++◌, ◌==◌, ◌||◌, ◌∷◌}
 use Rattle.std.proofs.lemmas.Bool.{and_cases, and_from, and_left, and_right, cases_Bool, false≢true, le-leb, leb-true, not-false, or_cases}
@@ -9,27 +9,27 @@ use Rattle.yaml_grammar.specs.BlockScalars.{past_spaces, spaces_before}
 use Rattle.yaml_grammar.specs.Separation.{LineEnd, Sep, comments_text, indents, sep_text}
 use Rattle.yaml_grammar.specs.Texts.{begins, every, first, is_empty, spaces, starts_line}
 use Rattle.yaml_recognizers.specs.BlockFrames.{close_items, close_pairs, on_lines, plug, waits_item}
-use Rattle.yaml_recognizers.specs.BlockNodes.{flow_with, leaf_at, node_behind, opens_pair, sep_at}
+use Rattle.yaml_recognizers.specs.BlockNodes.{flow_with, leaf_at, node_below, opens_pair, sep_at}
 use Rattle.yaml_recognizers.specs.BlockScalars.{read_block}
 use Rattle.yaml_recognizers.specs.Comments.{all_comments, more_comments, read_line_end}
 use Rattle.yaml_recognizers.specs.Ends.{solid}
-use Rattle.yaml_recognizers.specs.Fronts.{dropped, past, sign, taken}
+use Rattle.yaml_recognizers.specs.Prefixes.{dropped, past, sign, taken}
 use Rattle.yaml_recognizers.specs.Reading.{Read, on}
 use Rattle.yaml_recognizers.specs.Recognizers.{block_indented_at, block_items_at, block_key_in, block_pairs_at, flow_leaf_at}
-use Rattle.yaml_recognizers.proofs.BlockFrames.{items_open}
-use Rattle.yaml_recognizers.proofs.BlockNodesBegin.{lead_deep}
-use Rattle.yaml_recognizers.proofs.CommentsDepth.{comments_step}
-use Rattle.yaml_recognizers.proofs.CommentsSound.{LineOf, all_sound, line_sound, shorter}
-use Rattle.yaml_recognizers.proofs.Fronts.{taken_every, taken_split}
-use Rattle.yaml_recognizers.proofs.LineStarts.{starts_joined}
-use Rattle.yaml_recognizers.proofs.Reading.{Sound}
+use Rattle.yaml_recognizers.proofs.Block.BlockFrames.{items_open}
+use Rattle.yaml_recognizers.proofs.Block.BlockNodesBegin.{lead_deep}
+use Rattle.yaml_recognizers.proofs.Separation.CommentsDepth.{comments_step}
+use Rattle.yaml_recognizers.proofs.Separation.CommentsSound.{LineOf, all_sound, line_sound, shorter}
+use Rattle.yaml_recognizers.proofs.Basics.Prefixes.{taken_every, taken_split}
+use Rattle.yaml_recognizers.proofs.Basics.LineStarts.{starts_joined}
+use Rattle.yaml_recognizers.proofs.Basics.Reading.{Sound}
 use Rattle.yaml_block.specs.BlockParts.{as_part, leaf_part, part_at, sep_after}
 use Rattle.yaml_block.proofs.BlockLeaves.{no_leaf_unsolid}
-use Rattle.yaml_block.proofs.BlockSigns.{white_behind_spaces, no_pair_there, untabbed, untabbed_taken, white_starts, white_unsolid_first}
+use Rattle.yaml_block.proofs.BlockSigns.{white_after_spaces, no_pair_there, untabbed, untabbed_taken, white_starts, white_unsolid_first}
 
 -- a node after these comments
 abbrev pub node_after : ℕ → Bool → Bool → List LineEnd → List ℕ → Read Node
-node_after m shallow bol comments text = node_behind block_key_in flow_leaf_at read_block (λ k t. block_items_at k t)
+node_after m shallow bol comments text = node_below block_key_in flow_leaf_at read_block (λ k t. block_items_at k t)
     (λ k b t. block_pairs_at k b t) m shallow bol (comments, text)
 
 -- whether a sequence here is deep enough
@@ -48,6 +48,7 @@ pairs_as_part : (comments : List LineEnd) (k : ℕ) (r : Read Pairs)
 pairs_as_part comments k None = refl
 pairs_as_part comments k (Some r) = refl
 
+-- after comments, a `-` opens a sequence
 pub sequence_after : (m : ℕ) (shallow bol : Bool) (comments : List LineEnd) (text : List ℕ)
     → bol || not (is_empty comments) ≡ true → sign 45 (past_spaces text) ≡ true
     → is_deep m shallow (spaces_before text) ≡ true
@@ -172,12 +173,13 @@ too_shallow_sep m bol (c ∷ cs) text e d = elim (cases_Bool (begins (spaces m) 
   | inr b ↦ (let i : indents m (taken white text) ≡ false = and_right _ _ b in rw i refl)
 ]
 
+-- the text of comments and the whitespace after them
 pub sep_after_text : (comments : List LineEnd) (lead : List ℕ)
     → sep_text (sep_after comments lead) ≡ comments_text comments ++ lead
 sep_after_text [] lead = refl
 sep_after_text (c ∷ cs) lead = refl
 
--- where a leaf stands, by whether a line starts after the comments
+-- where there is a leaf, by whether a line starts after the comments
 sep_starts : (bol here there : Bool) (comments : List LineEnd) (lead : List ℕ)
     → starts_line bol (comments_text comments) ≡ here → starts_line here lead ≡ there
     → starts_line bol (sep_text (sep_after comments lead)) ≡ there
@@ -192,8 +194,9 @@ leaf_with m bol there sep found text e b =
     ap (λ s. as_part (leaf_at block_key_in flow_leaf_at read_block m bol s text)) e
     ∙ ap (λ x. leaf_part m x sep text) b
 
--- ---- what begins at the front of a line
+-- ---- what begins at the start of a line
 
+-- a line starts after no space, and after none else
 pub spaces_start : (s : ℕ) → starts_line true (spaces s) ≡ (s == 0)
 spaces_start zero = refl
 spaces_start (suc s) = white_starts (spaces s) (all_white s)
@@ -203,7 +206,7 @@ spaces_start (suc s) = white_starts (spaces s) (all_white s)
     all_white zero = refl
     all_white (suc s) = all_white s
 
--- here: whether a line starts after the comments; there: whether one starts where the leaf may stand
+-- here: whether a line starts after the comments; there: whether one starts where the leaf may be
 pub mapping_or_leaf_after : (m : ℕ) (shallow bol here there : Bool) (comments : List LineEnd) (text : List ℕ)
     → bol || not (is_empty comments) ≡ true
     → sign 45 (past_spaces text) && is_deep m shallow (spaces_before text) ≡ false
@@ -246,7 +249,7 @@ mapping_or_leaf_after m shallow bol here there comments text a s d w h t f =
         rw (no_pair_there (spaces_before text == 0) (past_spaces text) u, no_pair_there there (past_spaces text) u)
         refl
 
--- a leaf after a TAB, or where its line is less deep and no comments stand before it
+-- a leaf after a TAB, or where its line is less deep and no comments come before it
 pub leaf_alone_after : (m : ℕ) (shallow bol here there : Bool) (comments : List LineEnd) (text : List ℕ)
     → bol || not (is_empty comments) ≡ true
     → sign 45 (past_spaces text) && is_deep m shallow (spaces_before text) ≡ false
@@ -309,13 +312,13 @@ no_comments bol text e =
 
 -- ---- at the end of the text
 
--- no node stands there
+-- no node is there
 pub nothing_after : (m : ℕ) (shallow bol : Bool) (comments : List LineEnd) (text : List ℕ)
     → bol || not (is_empty comments) ≡ true → past_spaces text ≡ []
     → node_after m shallow bol comments text ≡ None
 nothing_after m shallow bol comments text a e =
     let u : first solid (past_spaces text) ≡ false = ap (first solid) e in
-    let drops : dropped white text ≡ [] = sym (white_behind_spaces text) ∙ ap (dropped white) e in
+    let drops : dropped white text ≡ [] = sym (white_after_spaces text) ∙ ap (dropped white) e in
     leaf_after m shallow bol comments text a (and_left _ _ (ap (sign 45) e))
     (and_right _ _ (no_pair_there (spaces_before text == 0) (past_spaces text) u))
     ∙ (ap (leaf_at block_key_in flow_leaf_at read_block m bol (sep_at m bol comments (taken white text))) drops

@@ -12,35 +12,37 @@ use Rattle.yaml_recognizers.specs.BlockScalars.{Body, block_of, digit_fits, read
 use Rattle.yaml_recognizers.specs.CanonicalComments.{hash, is_line_end}
 use Rattle.yaml_recognizers.specs.Comments.{all_comments}
 use Rattle.yaml_recognizers.specs.Reading.{Read}
-use Rattle.yaml_recognizers.proofs.BlockScalarFacts.{blocks_read, body_found, body_is, digit_first, header_found, header_is}
-use Rattle.yaml_recognizers.proofs.Solid.{marker_first}
-use Rattle.yaml_recognizers.proofs.Spaces.{Ended, ended_parts, none_spaced, spaced_unmarked}
-use Rattle.yaml_recognizers.proofs.Trails.{trail_sound}
+use Rattle.yaml_recognizers.proofs.BlockScalars.BlockScalarFacts.{blocks_read, body_found, body_is, digit_first, header_found, header_is}
+use Rattle.yaml_recognizers.proofs.Basics.Solid.{marker_first}
+use Rattle.yaml_recognizers.proofs.Basics.Spaces.{Ended, ended_parts, none_spaced, spaced_unmarked}
+use Rattle.yaml_recognizers.proofs.BlockScalars.Trails.{trail_sound}
 
 -- ---- the scalar
 
-pub record BlockReads (m : ℕ) (text behind value : List ℕ) (folded : Bool) : Type 0 where
+-- a block scalar is read, with this value and rest
+pub record BlockReads (m : ℕ) (text after value : List ℕ) (folded : Bool) : Type 0 where
   pub scalar : List LineEnd → BlockScalar
   pub indent : ℕ
-  pub stops : goes_on indent behind ≡ false
-  pub reads : read_block m text ≡ Some (scalar (read_trail indent behind).0, (read_trail indent behind).1)
+  pub stops : goes_on indent after ≡ false
+  pub reads : read_block m text ≡ Some (scalar (read_trail indent after).0, (read_trail indent after).1)
   pub text_is : (comments : List LineEnd) → block_text (scalar comments) ≡ block_body_text (scalar [])
       ++ comments_text comments
   pub body_is : (comments : List LineEnd) → block_body_text (scalar comments) ≡ block_body_text (scalar [])
   pub means : (comments : List LineEnd) (at : ℕ)
       → block_events at (scalar comments) ≡ scalar_event (if folded then folded_style else literal_style) at
       (at + byte_len (block_body_text (scalar []))) value ∷ []
-  pub spells : text ≡ block_body_text (scalar []) ++ behind
+  pub spells : text ≡ block_body_text (scalar []) ++ after
 
-pub block_reads : (m : ℕ) (text lines behind value : List ℕ) (folded : Bool) (digit : Option ℕ) (chomping : Chomping)
+-- its header, body and comments make the whole scalar
+pub block_reads : (m : ℕ) (text lines after value : List ℕ) (folded : Bool) (digit : Option ℕ) (chomping : Chomping)
     → IsHeader text folded digit chomping lines
-    → IsBody digit m folded chomping lines value behind → BlockReads m text behind value folded
-block_reads m text lines behind value folded digit chomping h b =
+    → IsBody digit m folded chomping lines value after → BlockReads m text after value folded
+block_reads m text lines after value folded digit chomping h b =
     let header : Header = digit_first h.header in
     let found : read_header text ≡ Some (header, lines) = header_found text h.header lines h.stands in
-    let body : read_body (h.header).digit m lines ≡ Some (b.body, behind) =
-    ap (λ d. read_body d m lines) (h.means).indentation ∙ body_found digit m lines b.body behind b.stands in
-    let trail : List LineEnd × List ℕ = read_trail (b.body).indent behind in
+    let body : read_body (h.header).digit m lines ≡ Some (b.body, after) =
+    ap (λ d. read_body d m lines) (h.means).indentation ∙ body_found digit m lines b.body after b.stands in
+    let trail : List LineEnd × List ℕ = read_trail (b.body).indent after in
     let reads : read_block m text ≡ Some (block_of header b.body trail.0, trail.1) = rw (found, body) refl in
     record {
       scalar = λ comments. block_of header b.body comments;
@@ -60,9 +62,10 @@ block_reads m text lines behind value folded digit chomping h b =
           (at + byte_len (block_body_text (block_of header b.body []))) v ∷ []) (sym b.means));
       spells = (blocks_read.sound m text (block_of header b.body trail.0) trail.1 reads).0
           ∙ (append_assoc (block_body_text (block_of header b.body [])) (comments_text trail.0) trail.1
-          ∙ ap (λ t. block_body_text (block_of header b.body []) ++ t) (sym (trail_sound (b.body).indent behind).0));
+          ∙ ap (λ t. block_body_text (block_of header b.body []) ++ t) (sym (trail_sound (b.body).indent after).0));
     }
 
+-- without a header there is none
 pub block_no_header : (m : ℕ) (text : List ℕ) → NoHeader text → read_block m text ≡ None
 block_no_header m text n = by_cases (read_header text) refl
   where
@@ -71,6 +74,7 @@ block_no_header m text n = by_cases (read_header text) refl
     by_cases (Some r) e = absurd (let i : IsHeader text (r.0).folded (r.0).digit (r.0).chomping r.1 =
         header_is text r.0 r.1 e in n i.header r.1 i.stands)
 
+-- without a body there is none
 pub block_no_body : (m : ℕ) (text lines : List ℕ) (folded : Bool) (digit : Option ℕ) (chomping : Chomping)
     → IsHeader text folded digit chomping lines → NoBody digit m lines → read_block m text ≡ None
 block_no_body m text lines folded digit chomping h n =
@@ -121,6 +125,7 @@ stopped_before q text g h =
       ]
     ]
 
+-- the comments after a scalar are those that the scanner passes
 pub trail_is : (q : ℕ) (text : List ℕ) → goes_on q text ≡ false
     → first hash (past_spaces text) && is_line_end text ≡ true → read_trail q text ≡ all_comments true text
 trail_is q text g h =
@@ -132,6 +137,7 @@ trail_is q text g h =
         → (r : List LineEnd × List ℕ) → (if trail_here q text then r else ([], text)) ≡ r
     choose l c e r = rw (l, c, e) refl
 
+-- without a comment line there are none
 pub no_trail : (q : ℕ) (text : List ℕ) → first hash (past_spaces text) && is_line_end text ≡ false
     → read_trail q text ≡ ([], text)
 no_trail q text h = choose (nothing (nat_lt (spaces_before text) q) (first hash (past_spaces text)) (is_line_end text)

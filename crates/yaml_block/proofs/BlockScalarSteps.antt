@@ -17,7 +17,7 @@ use Rattle.yaml_recognizers.specs.BlockScalars.{read_block, read_trail}
 use Rattle.yaml_recognizers.specs.CanonicalComments.{hash, is_line_end}
 use Rattle.yaml_recognizers.specs.Comments.{read_line_end}
 use Rattle.yaml_recognizers.specs.Reading.{Read}
-use Rattle.yaml_recognizers.proofs.BlockScalarFacts.{blocks_read}
+use Rattle.yaml_recognizers.proofs.BlockScalars.BlockScalarFacts.{blocks_read}
 use Rattle.yaml_events.specs.Borrowed.{BorrowsPlain}
 use Rattle.yaml_events.specs.Meant.{event_of, style_of}
 use Rattle.yaml_events.specs.declared.event.Event.{Event}
@@ -25,7 +25,7 @@ use Rattle.yaml_events.specs.declared.event.Event.TheVariants.{Scalar}
 use Rattle.yaml_events.specs.declared.event.Span.{Span}
 use Rattle.yaml_events.specs.declared.event.Style.{Style}
 use Rattle.yaml_scan.specs.Lines.{IsLineStart, IsSolidLine}
-use Rattle.yaml_scan.specs.Places.{AreSpaces}
+use Rattle.yaml_scan.specs.ScanPlaces.{AreSpaces}
 use Rattle.yaml_scan.specs.declared.lines.Line.{Line}
 use Rattle.yaml_block_scalars.specs.Found.{IsBodyAt, IsHeaderAt}
 use Rattle.yaml_block_scalars.specs.Meant.{chomping_of}
@@ -76,7 +76,7 @@ after_no_comment text at spaces s e b l =
       trail = λ q g. ap (λ (t : List LineEnd × List ℕ). t.1) (no_trail q (rest text at) (and_right _ _ solid));
     }
 
--- a line of white space, or a comment behind a TAB
+-- a line of white space, or a comment after a TAB
 pub after_blank : (text : List ℕ) (at spaces : ℕ) (r : Read LineEnd) → AreSpaces text at spaces
     → first hash (rest text spaces) ≡ false → read_line_end true (rest text at) ≡ r → is_some r ≡ true
     → IsCharBoundary text at → IsLineStart text at
@@ -94,6 +94,7 @@ after_blank text at spaces r s h e o b l = record {
 
 -- ---- its event
 
+-- the event that is pushed is that of the scalar
 pub scalar_event_is : (folded : Bool) (style : Style) (start end : ℕ) (value : CowStr Global)
     → IsBlockStyle folded style
     → event_of (Scalar style (record { start = start; end = end }) value) ≡ grammar.scalar_event
@@ -103,6 +104,7 @@ scalar_event_is true style start end value h = ap (λ s.
 scalar_event_is false style start end value h = ap
     (λ s. grammar.scalar_event (style_of s) start end (chars (cow_str_bytes value))) h
 
+-- a value that is borrowed lies in the text
 pub scalar_borrows : (text : List ℕ) (folded : Bool) (style : Style) (span : Span) (value : CowStr Global)
     → IsBlockStyle folded style → BorrowsPlain text (Scalar style span value)
 scalar_borrows text true style span value h = subst (λ (s : Style). BorrowsPlain text (Scalar s span value))
@@ -122,6 +124,7 @@ header_long h = by_cases h.folded
     by_cases true = omega arith
     by_cases false = omega arith
 
+-- the next step is further on
 pub scalar_onward : (text : List ℕ) (at lines end least : ℕ) (header : Header) (bytes : List ℕ) (after : NextLine)
     → IsUtf8 text → IsCharBoundary text at → IsHeaderAt text at header lines
     → IsBodyAt least header.folded header text lines bytes end → IsAfterScalar text end after
@@ -142,12 +145,14 @@ scalar_onward text at lines end least header bytes after u b head body line =
 -- ---- the step
 
 module _ (text : List ℕ) (u : IsUtf8 text) where
+  -- without a header the leaf is refused
   pub no_header_there : (leaf : Leaf) (old : Reader) → first bar (rest text leaf.at) ≡ true
       → NoHeader (rest text leaf.at) → Fails text (BeforeLeaf text leaf) old
   no_header_there leaf old h n = λ W from base fs evs held here.
       no_block W text from fs evs leaf.least leaf.pairs leaf.at here h
       (block_no_header leaf.least (rest text leaf.at) n)
 
+  -- without a body the leaf is refused
   pub no_body_there : (leaf : Leaf) (header : Header) (lines : ℕ) (old : Reader)
       → first bar (rest text leaf.at) ≡ true → IsHeaderAt text leaf.at header lines
       → NoBody header.digit leaf.least (rest text lines) → Fails text (BeforeLeaf text leaf) old
@@ -156,6 +161,7 @@ module _ (text : List ℕ) (u : IsUtf8 text) where
       (block_no_body leaf.least (rest text leaf.at) (rest text lines) header.folded header.digit
       (chomping_of header.chomping) s.says n)
 
+  -- with both, the scalar is read and a line follows
   pub block_scalar_read : (leaf : Leaf) (header : Header) (lines end : ℕ) (bytes : List ℕ) (after : NextLine)
       (e : Event) (old new : Reader) → IsCharBoundary text leaf.at
       → first bar (rest text leaf.at) ≡ true → IsHeaderAt text leaf.at header lines

@@ -1,4 +1,4 @@
--- What stands after a sign: on its line, or on a later one, or nothing.
+-- What comes after a sign: on its line, or on a later one, or nothing.
 use Rattle.std.proofs.Common.{ap, arith, inl, inr, refl, sym, ◌∙◌, ◌≡◌}
 use Rattle.std.specs.Prelude.{Bool, List, None, Some, [], false, if◌then◌else◌, is_some, length, nat_le, nat_lt, not, suc, true, ℕ, ◌&&◌, ◌+◌, ◌==◌, ◌||◌, ◌∷◌}
 use Rattle.std.proofs.lemmas.Bool.{and_from, and_left, and_parts, and_right, cases_Bool, cases_eq, cases_lt, eqb-true, false≢true, lt-ltb, le-ltb, not-false, not_from_false, or_from, or_parts}
@@ -9,31 +9,31 @@ use Rattle.yaml_grammar.specs.BlockScalars.{past_spaces, spaces_before}
 use Rattle.yaml_grammar.specs.Separation.{LineEnd, inline}
 use Rattle.yaml_grammar.specs.Texts.{every, first, is_empty, marker, spaces, starts_line}
 use Rattle.yaml_recognizers.specs.BlockFrames.{close_pairs, on_sign_line, plug, waits_item}
-use Rattle.yaml_recognizers.specs.BlockNodes.{indented_node, leaf_at, node_behind, omits, opens_pair, sep_at}
+use Rattle.yaml_recognizers.specs.BlockNodes.{indented_node, leaf_at, node_below, omits, opens_pair, sep_at}
 use Rattle.yaml_recognizers.specs.BlockScalars.{read_block}
 use Rattle.yaml_recognizers.specs.CanonicalComments.{is_line_end}
 use Rattle.yaml_recognizers.specs.Comments.{all_comments, closes_line, more_comments, read_line_end}
 use Rattle.yaml_recognizers.specs.Ends.{ended, solid}
-use Rattle.yaml_recognizers.specs.Fronts.{dropped, past, sign, taken}
+use Rattle.yaml_recognizers.specs.Prefixes.{dropped, past, sign, taken}
 use Rattle.yaml_recognizers.specs.Reading.{Read, on}
 use Rattle.yaml_recognizers.specs.Recognizers.{block_indented_at, block_items_at, block_key_in, block_node_at, block_pairs_at, flow_leaf_at}
-use Rattle.yaml_recognizers.proofs.BlockFrames.{items_open, node_behind_sign, sequence_on_sign_line}
-use Rattle.yaml_recognizers.proofs.BlockNodesBegin.{comments_closed}
-use Rattle.yaml_recognizers.proofs.BlockNodesSound.{tail_fit}
-use Rattle.yaml_recognizers.proofs.CommentsComplete.{no_comments}
-use Rattle.yaml_recognizers.proofs.CommentsDepth.{comments_step}
-use Rattle.yaml_recognizers.proofs.CommentsSound.{CommentsOf, all_sound, comments_end}
-use Rattle.yaml_recognizers.proofs.Fronts.{every_space, spaces_split, taken_every}
-use Rattle.yaml_recognizers.proofs.KeyLeaves.{no_leaf_no_key}
-use Rattle.yaml_recognizers.proofs.Solid.{dash_unmarked, unsolid_sign, white_unsolid}
-use Rattle.yaml_recognizers.proofs.Spaces.{marker_unspaced, none_spaced}
-use Rattle.yaml_recognizers.proofs.Steps.{indented_steps, node_steps}
-use Rattle.yaml_block.specs.BlockParts.{LineGoesOn, as_part, leaf_part, part_at, part_behind}
+use Rattle.yaml_recognizers.proofs.Block.BlockFrames.{items_open, node_after_sign, sequence_on_sign_line}
+use Rattle.yaml_recognizers.proofs.Block.BlockNodesBegin.{comments_closed}
+use Rattle.yaml_recognizers.proofs.Block.BlockNodesSound.{tail_fit}
+use Rattle.yaml_recognizers.proofs.Separation.CommentsComplete.{no_comments}
+use Rattle.yaml_recognizers.proofs.Separation.CommentsDepth.{comments_step}
+use Rattle.yaml_recognizers.proofs.Separation.CommentsSound.{CommentsOf, all_sound, comments_end}
+use Rattle.yaml_recognizers.proofs.Basics.Prefixes.{every_space, spaces_split, taken_every}
+use Rattle.yaml_recognizers.proofs.Block.KeyLeaves.{no_leaf_no_key}
+use Rattle.yaml_recognizers.proofs.Basics.Solid.{dash_unmarked, unsolid_sign, white_unsolid}
+use Rattle.yaml_recognizers.proofs.Basics.Spaces.{marker_unspaced, none_spaced}
+use Rattle.yaml_recognizers.proofs.Meanings.Steps.{indented_steps, node_steps}
+use Rattle.yaml_block.specs.BlockParts.{LineGoesOn, as_part, leaf_part, part_at, part_after_sign}
 use Rattle.yaml_block.proofs.BlockLeaves.{no_leaf_unsolid}
 
 -- ---- white and spaces
 
--- spaces alone stand before what is no TAB
+-- spaces alone come before what is no TAB
 pub untabbed : (text : List ℕ) → first white (past_spaces text) ≡ false → dropped white text ≡ past_spaces text
 untabbed [] h = refl
 untabbed (c ∷ cs) h = elim (cases_Bool (c == 32)) [
@@ -41,6 +41,7 @@ untabbed (c ∷ cs) h = elim (cases_Bool (c == 32)) [
   | inr e ↦ (let w : (c == 32) || (c == 9) ≡ false = rw e at h in rw (e, (or_parts (c == 32) (c == 9) w).1) refl)
 ]
 
+-- if no TAB follows the spaces, the whitespace is spaces
 pub untabbed_taken : (text : List ℕ) → first white (past_spaces text) ≡ false
     → taken white text ≡ spaces (spaces_before text)
 untabbed_taken [] h = refl
@@ -51,11 +52,11 @@ untabbed_taken (c ∷ cs) h = elim (cases_Bool (c == 32)) [
   | inr e ↦ (let w : (c == 32) || (c == 9) ≡ false = rw e at h in rw (e, (or_parts (c == 32) (c == 9) w).1) refl)
 ]
 
--- white is passed alike from the front and from behind the spaces
-pub white_behind_spaces : (text : List ℕ) → dropped white (past_spaces text) ≡ dropped white text
-white_behind_spaces [] = refl
-white_behind_spaces (c ∷ cs) = elim (cases_Bool (c == 32)) [
-  | inl e ↦ rw e (white_behind_spaces cs)
+-- whitespace is passed in the same way from the start and from the end of the spaces
+pub white_after_spaces : (text : List ℕ) → dropped white (past_spaces text) ≡ dropped white text
+white_after_spaces [] = refl
+white_after_spaces (c ∷ cs) = elim (cases_Bool (c == 32)) [
+  | inl e ↦ rw e (white_after_spaces cs)
   | inr e ↦ ap
       (dropped white) (kept e)
 ]
@@ -79,7 +80,7 @@ some_spaces text h t = elim (cases_eq (spaces_before text) 0) [
   | inr n ↦ grind (arith, nat_tests)
 ]
 
--- no line starts behind white
+-- no line starts after white
 pub white_starts : (xs : List ℕ) → every white xs ≡ true → starts_line false xs ≡ false
 white_starts [] h = refl
 white_starts (x ∷ xs) h =
@@ -89,11 +90,12 @@ white_starts (x ∷ xs) h =
     unbroken : (x : ℕ) → white x ≡ true → line_break x ≡ false
     unbroken x h = grind (arith, nat_tests)
 
+-- whitespace is not solid
 pub white_unsolid_first : (text : List ℕ) → first white text ≡ true → first solid text ≡ false
 white_unsolid_first [] h = refl
 white_unsolid_first (c ∷ cs) h = white_unsolid c h
 
--- ---- whether comments stand there
+-- ---- whether comments are there
 
 all_end : (text : List ℕ) → is_line_end (all_comments true text).1 ≡ false
 all_end text = comments_end (suc (length text)) text (omega arith)
@@ -131,7 +133,7 @@ pub solid_unclosed : (text : List ℕ) → first solid (past_spaces text) ≡ tr
     → closes_line (all_comments false text) ≡ false
 solid_unclosed text h = let g : LineGoesOn text = solid_goes_on text h in ap closes_line g.none ∙ and_left _ _ g.some
 
--- where comments close the line, nothing solid stands behind its spaces
+-- where comments close the line, nothing solid comes after its spaces
 closed_unsolid : (text : List ℕ) → closes_line (all_comments false text) ≡ true
     → first solid (past_spaces text) ≡ false
 closed_unsolid text h =
@@ -152,9 +154,9 @@ inline_node : (m : ℕ) (shallow : Bool) (text : List ℕ) → all_comments fals
     → block_node_at m shallow false text ≡ leaf_at block_key_in flow_leaf_at read_block m false
     (sep_at m false [] (taken white text)) (dropped white text)
 inline_node m shallow text e = node_steps m shallow false text
-    ∙ ap (node_behind block_key_in flow_leaf_at read_block block_items_at block_pairs_at m shallow false) e
+    ∙ ap (node_below block_key_in flow_leaf_at read_block block_items_at block_pairs_at m shallow false) e
 
--- a node on a line that goes on is a leaf behind white
+-- a node on a line that goes on is a leaf after white
 pub leaf_on_line : (m : ℕ) (shallow : Bool) (text : List ℕ) → all_comments false text ≡ ([], text)
     → is_empty (taken white text) ≡ false
     → as_part (block_node_at m shallow false text) ≡ part_at None m false (inline (taken white text))
@@ -168,6 +170,7 @@ leaf_on_line m shallow text e w =
     some : (lead : List ℕ) → is_empty lead ≡ false → sep_at m false [] lead ≡ Some (inline lead)
     some lead h = rw h refl
 
+-- a line that goes on has no comments to pass
 pub nothing_on_line : (m : ℕ) (shallow : Bool) (text : List ℕ) → all_comments false text ≡ ([], text)
     → is_empty (taken white text) ≡ true
     → block_node_at m shallow false text ≡ None
@@ -189,30 +192,30 @@ indented_on_line k shallow text g =
         else on r (λ n rest. Some (node n, rest))) ≡ as_part r
     on_line r = rw g.some refl
 
--- no compact collection, where no spaces stand or something other than a sign or a key behind them
+-- no compact collection, if there are no spaces, or if neither a sign nor a key comes after them
 not_compact : (compact shallow : Bool) (k : ℕ) (text : List ℕ)
     → nat_le 1 (spaces_before text) && sign 45 (past_spaces text) ≡ false
     → nat_le 1 (spaces_before text) && opens_pair block_key_in flow_leaf_at read_block false (past_spaces text)
     ≡ false
-    → part_behind compact shallow k text ≡ indented_node k shallow (λ t. block_node_at (suc k) shallow false t) text
+    → part_after_sign compact shallow k text ≡ indented_node k shallow (λ t. block_node_at (suc k) shallow false t) text
     (all_comments false text)
 not_compact false shallow k text d o = refl
-not_compact true shallow k text d o = node_behind_sign k shallow text d o
+not_compact true shallow k text d o = node_after_sign k shallow text d o
 
 -- a compact sequence
 pub compact_sequence_opens : (k : ℕ) (shallow : Bool) (text : List ℕ) → is_empty (taken white text) ≡ false
     → first white (past_spaces text) ≡ false → sign 45 (past_spaces text) ≡ true
-    → part_behind true shallow k text
+    → part_after_sign true shallow k text
     ≡ on (block_indented_at (k + 1 + spaces_before text) false (past (past_spaces text)))
     (λ i rest. plug (waits_item (on_sign_line (spaces_before text)) (k + 1 + spaces_before text) []) i rest)
 compact_sequence_opens k shallow text w t s =
     sequence_on_sign_line k shallow text (and_from _ _ (some_spaces text w t) s)
     ∙ items_open (on_sign_line (spaces_before text)) (k + 1 + spaces_before text) [] (past_spaces text) s
 
--- a compact mapping or a leaf: spaces alone stand before it
+-- a compact mapping or a leaf: spaces alone come before it
 pub compact_or_leaf : (k : ℕ) (shallow : Bool) (text : List ℕ) → LineGoesOn text → is_empty (taken white text) ≡ false
     → first white (past_spaces text) ≡ false → sign 45 (past_spaces text) ≡ false
-    → part_behind true shallow k text
+    → part_after_sign true shallow k text
     ≡ part_at (Some (on_sign_line (spaces_before text), k + 1 + spaces_before text)) (suc k) false
     (inline (taken white text)) (dropped white text)
 compact_or_leaf k shallow text g w t s =
@@ -238,10 +241,10 @@ compact_or_leaf k shallow text g w t s =
         ≡ (if opens_pair block_key_in flow_leaf_at read_block false (past_spaces text) then y else z)
     choose x y z = rw (s, some_spaces text w t) refl
 
--- a leaf where no compact collection may stand, or behind a TAB
+-- a leaf where no compact collection may be, or after a TAB
 pub leaf_on_sign_line : (compact shallow : Bool) (k : ℕ) (text : List ℕ) → LineGoesOn text
     → is_empty (taken white text) ≡ false → compact && not (first white (past_spaces text)) ≡ false
-    → part_behind compact shallow k text ≡ part_at None (suc k) false (inline (taken white text)) (dropped white text)
+    → part_after_sign compact shallow k text ≡ part_at None (suc k) false (inline (taken white text)) (dropped white text)
 leaf_on_sign_line false shallow k text g w t = indented_on_line k shallow text g
     ∙ leaf_on_line (suc k) shallow text g.none w
 leaf_on_sign_line true shallow k text g w t =
@@ -250,29 +253,29 @@ leaf_on_sign_line true shallow k text g w t =
     (and_right _ _ (no_pair_there false (past_spaces text) u))
     ∙ (indented_on_line k shallow text g ∙ leaf_on_line (suc k) shallow text g.none w)
 
--- no white, so nothing stands there
+-- no whitespace, so nothing is there
 pub nothing_on_sign_line : (compact shallow : Bool) (k : ℕ) (text : List ℕ) → LineGoesOn text
-    → is_empty (taken white text) ≡ true → part_behind compact shallow k text ≡ None
+    → is_empty (taken white text) ≡ true → part_after_sign compact shallow k text ≡ None
 nothing_on_sign_line compact shallow k text g w =
     let z : nat_le 1 (spaces_before text) ≡ false = ap (nat_le 1) (none_taken text w) in
     not_compact compact shallow k text (and_left _ _ z) (and_left _ _ z)
     ∙ (indented_on_line k shallow text g ∙ ap as_part (nothing_on_line (suc k) shallow text g.none w))
 
--- ---- behind comments
+-- ---- after comments
 
-behind_comments : (compact shallow : Bool) (k : ℕ) (text : List ℕ) → closes_line (all_comments false text) ≡ true
-    → part_behind compact shallow k text ≡ indented_node k shallow (λ t. block_node_at (suc k) shallow false t) text
+after_comments : (compact shallow : Bool) (k : ℕ) (text : List ℕ) → closes_line (all_comments false text) ≡ true
+    → part_after_sign compact shallow k text ≡ indented_node k shallow (λ t. block_node_at (suc k) shallow false t) text
     (all_comments false text)
-behind_comments compact shallow k text h =
+after_comments compact shallow k text h =
     let u : first solid (past_spaces text) ≡ false = closed_unsolid text h in
     not_compact compact shallow k text (and_right _ _ (unsolid_sign 45 (past_spaces text) refl u))
     (and_right _ _ (no_pair_there false (past_spaces text) u))
 
--- nothing of the part stands there: it is left out
-pub omitted_behind : (compact shallow : Bool) (k : ℕ) (text : List ℕ) → closes_line (all_comments false text) ≡ true
+-- nothing of the part is there: it is left out
+pub omitted_after : (compact shallow : Bool) (k : ℕ) (text : List ℕ) → closes_line (all_comments false text) ≡ true
     → ended (suc k) shallow (all_comments false text).1 ≡ true
-    → part_behind compact shallow k text ≡ Some (omitted (all_comments false text).0, (all_comments false text).1)
-omitted_behind compact shallow k text h e = behind_comments compact shallow k text h
+    → part_after_sign compact shallow k text ≡ Some (omitted (all_comments false text).0, (all_comments false text).1)
+omitted_after compact shallow k text h e = after_comments compact shallow k text h
     ∙ left_out (all_comments false text) (block_node_at (suc k) shallow false text) h e
   where
     left_out : (c : List LineEnd × List ℕ) (r : Read Node) → closes_line c ≡ true → ended (suc k) shallow c.1 ≡ true
@@ -280,11 +283,11 @@ omitted_behind compact shallow k text h e = behind_comments compact shallow k te
         ≡ Some (omitted c.0, c.1)
     left_out c r h e = rw (h, e) refl
 
--- a node stands on a later line
+-- a node is on a later line
 pub node_on_lines : (compact shallow : Bool) (k : ℕ) (text : List ℕ) → closes_line (all_comments false text) ≡ true
     → ended (suc k) shallow (all_comments false text).1 ≡ false
-    → part_behind compact shallow k text ≡ as_part (block_node_at (suc k) shallow false text)
-node_on_lines compact shallow k text h e = behind_comments compact shallow k text h
+    → part_after_sign compact shallow k text ≡ as_part (block_node_at (suc k) shallow false text)
+node_on_lines compact shallow k text h e = after_comments compact shallow k text h
     ∙ there (all_comments false text) (block_node_at (suc k) shallow false text) h e
   where
     there : (c : List LineEnd × List ℕ) (r : Read Node) → closes_line c ≡ true → ended (suc k) shallow c.1 ≡ false
@@ -312,6 +315,7 @@ marker_dash text h = elim (cases_Bool (sign 45 (past_spaces text))) [
   | inr e ↦ e
 ]
 
+-- what ends a part is what ends a node
 pub ended_is : (k : ℕ) (shallow : Bool) (text : List ℕ) → is_line_end text ≡ false
     → ended (suc k) shallow text ≡ nat_lt (spaces_before text) (suc k)
     && not (shallow && (spaces_before text == k) && sign 45 (past_spaces text))

@@ -1,4 +1,4 @@
--- What is read is each block node that stands there.
+-- What is read is each block node that is there.
 use Rattle.std.proofs.Common.{◌≡◌, refl, sym, ◌∙◌, ap, subst, ℕ, inl, inr}
 use Rattle.std.specs.Prelude.{Bool, List, ◌++◌, ◌⊎◌}
 use Rattle.std.proofs.lemmas.List.{map-append}
@@ -7,18 +7,19 @@ use Rattle.yaml_grammar.specs.Events as grammar
 use Rattle.yaml_grammar.specs.BlockNodes.{Node, node_events}
 use Rattle.yaml_recognizers.specs.Recognizers.{block_node_at}
 use Rattle.yaml_recognizers.specs.StandingNodes.{BlockNodeStands}
-use Rattle.yaml_recognizers.proofs.Reading.{some_parts}
-use Rattle.yaml_recognizers.proofs.StandingNodes.{block_found}
+use Rattle.yaml_recognizers.proofs.Basics.Reading.{some_parts}
+use Rattle.yaml_recognizers.proofs.Meanings.StandingNodes.{block_found}
 use Rattle.yaml_events.specs.Meant.{event_of, events_of}
-use Rattle.yaml_events.specs.Places.{line_starts}
+use Rattle.yaml_events.specs.EventPlaces.{line_starts}
 use Rattle.yaml_events.specs.declared.event.Event.{Event}
 use Rattle.yaml_flow.specs.FlowNodes.{Appended}
 use Rattle.yaml_block.specs.Found.{BlockNodeRead, IsEachBlockNode}
 
+-- a node that is read is each node there
 pub each_node : (m : ℕ) (shallow : Bool) (text : List ℕ) (at : ℕ) (old new : List Event) (end : ℕ)
     → BlockNodeRead m shallow text at old new end → IsEachBlockNode m shallow text at old new end
-each_node m shallow text at old new end r node behind stands =
-    let g = block_found m shallow (line_starts text at) (rest text at) node behind stands in
+each_node m shallow text at old new end r node after stands =
+    let g = block_found m shallow (line_starts text at) (rest text at) node after stands in
     let same : (r.node ≡ g.0) × (rest text end ≡ g.1) = some_parts r.node g.0 (rest text end) g.1 (sym r.found
     ∙ g.2) in
     let means : events_of (r.appended).more ≡ node_events node at = (r.appended).means

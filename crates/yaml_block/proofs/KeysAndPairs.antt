@@ -14,18 +14,18 @@ use Rattle.yaml_grammar.specs.Texts.{byte_len, every, first}
 use Rattle.yaml_recognizers.specs.BlockFrames.{BlockFrame, key_on_line, waits_key, waits_value}
 use Rattle.yaml_recognizers.specs.BlockNodes.{bar}
 use Rattle.yaml_recognizers.specs.Comments.{all_comments, closes_line}
-use Rattle.yaml_recognizers.specs.Fronts.{sign, taken}
+use Rattle.yaml_recognizers.specs.Prefixes.{sign, taken}
 use Rattle.yaml_recognizers.specs.Reading.{Read}
 use Rattle.yaml_recognizers.specs.Recognizers.{flow_node_at}
-use Rattle.yaml_recognizers.proofs.OneLineText.{unbroken}
-use Rattle.yaml_recognizers.proofs.Reading.{none_some}
-use Rattle.yaml_events.specs.Places.{Refuses, line_starts}
+use Rattle.yaml_recognizers.proofs.Flow.OneLineText.{unbroken}
+use Rattle.yaml_recognizers.proofs.Basics.Reading.{none_some}
+use Rattle.yaml_events.specs.EventPlaces.{Refuses, line_starts}
 use Rattle.yaml_events.specs.declared.event.Event.{Event}
 use Rattle.yaml_events.specs.declared.event.Event.TheVariants.{MapStart}
 use Rattle.yaml_events.specs.declared.fault.ScanFault.{ScanFault}
 use Rattle.yaml_events.specs.declared.fault.ScanFault.TheVariants.{At, OutOfMemory}
 use Rattle.yaml_scan.specs.Lines.{IsSolidLine}
-use Rattle.yaml_scan.specs.Places.{AreTaken}
+use Rattle.yaml_scan.specs.ScanPlaces.{AreTaken}
 use Rattle.yaml_scan.specs.declared.lines.Line.{Line}
 use Rattle.yaml_scan.proofs.Outcomes.{refuses}
 use Rattle.yaml_flow.specs.FlowNodes.{Appended, FlowNodeRead}
@@ -43,7 +43,7 @@ use Rattle.yaml_block.proofs.LeafSteps.{asked_pair, first_key, leaf_goes_on, lea
 use Rattle.yaml_block.proofs.PlaceSteps.{WhiteTo, comments_to, flow_to, short_is, unbroken_is, white_to}
 use Rattle.yaml_block.proofs.TextPlaces.{IsPastSign, past_sign}
 
--- a fault that is told in other words
+-- a fault that is reported in other words
 pub fault_kept : (fault other : ScanFault) (P Q : Type 0) → (fault ≡ OutOfMemory → other ≡ OutOfMemory) → (P → Q)
     → Refuses fault P → Refuses other Q
 fault_kept (At at why) other P Q k f h = refuses other Q (f h)
@@ -69,6 +69,7 @@ kept text base old new evs a e = subst (λ (es : List Event). Appended text base
 module _ (text : List ℕ) (u : IsUtf8 text) where
   -- ---- a further pair
 
+  -- a further pair starts with `?`
   pub pair_asked : (at k : ℕ) (old new : Reader) → IsCharBoundary text at → sign 63 (rest text at) ≡ true
       → new.collections.items ≡ old.collections.items ++ (record { waits = Key; indent = k }) ∷ []
       → new.events ≡ old.events → Leads text (BeforePair text k at) old new (next.After (at + 1) k Asked)
@@ -83,6 +84,7 @@ module _ (text : List ℕ) (u : IsUtf8 text) where
         stands = p.2;
       }
 
+  -- a further pair starts with a key on one line
   pub pair_key : (at k end colon : ℕ) (old new : Reader) (mid : List Event) → IsCharBoundary text at
       → FlowNodeRead 0 block_key text at end old.events mid → AreTaken white text end colon
       → sign 58 (rest text colon) ≡ true → nat_le (length (between text at colon)) 1024 ≡ true
@@ -109,6 +111,7 @@ module _ (text : List ℕ) (u : IsUtf8 text) where
         stands = p.4;
       }
 
+  -- a flow node that is no key is refused
   pub pair_unkeyed : (at k end colon : ℕ) (old : Reader) (mid : List Event) → IsCharBoundary text at
       → FlowNodeRead 0 block_key text at end old.events mid → AreTaken white text end colon
       → (sign 58 (rest text colon) ≡ false) ⊎ (nat_le (length (between text at colon)) 1024 ≡ false)
@@ -120,12 +123,14 @@ module _ (text : List ℕ) (u : IsUtf8 text) where
       (short_is text at end colon f.node 0 block_key (line_starts text at) u b f.boundary f.found t))
       ∙ either (sign 58 (rest text colon)) (nat_le (length (between text at colon)) 1024) n)
 
+  -- without a flow node the pair is refused
   pub pair_missing : (at k : ℕ) (old : Reader) → sign 63 (rest text at) ≡ false
       → flow_node_at 0 block_key (line_starts text at) (rest text at) ≡ None → Fails text (BeforePair text k at) old
   pair_missing at k old q n = λ W from base fs evs held pair. no_next_node W text from fs evs k at pair q n
 
   -- ---- a leaf
 
+  -- the first pair of a mapping starts with `?`
   pub leaf_asked : (leaf : Leaf) (k : ℕ) (old new : Reader) → leaf.pairs ≡ Some k → IsCharBoundary text leaf.at
       → sign 63 (rest text leaf.at) ≡ true
       → new.collections.items ≡ old.collections.items ++ (record { waits = Key; indent = k }) ∷ []
@@ -145,6 +150,7 @@ module _ (text : List ℕ) (u : IsUtf8 text) where
         stands = p.1;
       }
 
+  -- the first pair of a mapping starts with a key on one line
   pub leaf_key : (leaf : Leaf) (k end colon : ℕ) (old new : Reader) (mid : List Event) → leaf.pairs ≡ Some k
       → IsCharBoundary text leaf.at → FlowNodeRead leaf.least outer text leaf.at end old.events mid
       → AreTaken white text end colon → sign 58 (rest text colon) ≡ true
@@ -180,6 +186,7 @@ module _ (text : List ℕ) (u : IsUtf8 text) where
         stands = p.1;
       }
 
+  -- a flow node before a `:` that is no key is refused
   pub leaf_unkeyed : (leaf : Leaf) (end colon : ℕ) (old : Reader) (mid : List Event) → IsCharBoundary text leaf.at
       → FlowNodeRead leaf.least outer text leaf.at end old.events mid
       → AreTaken white text end colon → sign 58 (rest text colon) ≡ true
@@ -214,6 +221,7 @@ module _ (text : List ℕ) (u : IsUtf8 text) where
           (subst (λ (x : Option ℕ). AtLeaf W text from fs evs leaf.least x leaf.at) e here) f.found w.drops c
           (sym tests ∙ n)
 
+  -- a flow node before the end of its line is a leaf
   pub leaf_line : (leaf : Leaf) (end colon : ℕ) (line : Line) (old new : Reader) (mid : List Event)
       → IsCharBoundary text leaf.at → FlowNodeRead leaf.least outer text leaf.at end old.events mid
       → AreTaken white text end colon → sign 58 (rest text colon) ≡ false → IsSolidLine false text end line
@@ -238,6 +246,7 @@ module _ (text : List ℕ) (u : IsUtf8 text) where
         stands = subst (λ (x : ℕ). AtLine W text from fs (evs ++ flow_events f.node at) line.start x) (sym d) read;
       }
 
+  -- a flow node on a line that goes on is refused
   pub leaf_unclosed : (leaf : Leaf) (end colon : ℕ) (old : Reader) (mid : List Event)
       → FlowNodeRead leaf.least outer text leaf.at end old.events mid → AreTaken white text end colon
       → sign 58 (rest text colon) ≡ false → closes_line (all_comments false (rest text end)) ≡ false
@@ -245,6 +254,7 @@ module _ (text : List ℕ) (u : IsUtf8 text) where
   leaf_unclosed leaf end colon old mid f t c n = λ W from base fs evs held here.
       leaf_goes_on W text from fs evs leaf.least leaf.pairs leaf.at f.node end colon here f.found t.leaves c n
 
+  -- without a flow node the leaf is refused
   pub leaf_nothing : (leaf : Leaf) (old : Reader) → first bar (rest text leaf.at) ≡ false
       → IfSome leaf.pairs (λ indent. sign 63 (rest text leaf.at) ≡ false)
       → flow_node_at leaf.least outer (line_starts text leaf.at) (rest text leaf.at) ≡ None

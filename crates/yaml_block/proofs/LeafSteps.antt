@@ -15,15 +15,15 @@ use Rattle.yaml_recognizers.specs.BlockFrames.{BlockFrame, PairKey, Sits, key_as
 use Rattle.yaml_recognizers.specs.BlockNodes.{bar}
 use Rattle.yaml_recognizers.specs.BlockScalars.{read_block}
 use Rattle.yaml_recognizers.specs.Comments.{all_comments, closes_line}
-use Rattle.yaml_recognizers.specs.Fronts.{dropped, past, sign, taken}
+use Rattle.yaml_recognizers.specs.Prefixes.{dropped, past, sign, taken}
 use Rattle.yaml_recognizers.specs.Reading.{Read, on}
 use Rattle.yaml_recognizers.specs.Recognizers.{block_indented_at, flow_leaf_at, flow_node_at}
-use Rattle.yaml_recognizers.proofs.BlockFrames.{asked_opens, unwind_none}
-use Rattle.yaml_recognizers.proofs.EventFronts.{done_pairs_events}
-use Rattle.yaml_recognizers.proofs.KeyLeaves.{is_key}
-use Rattle.yaml_recognizers.proofs.LineStarts.{byte_len_joined}
-use Rattle.yaml_recognizers.proofs.OneLineText.{unbroken}
-use Rattle.yaml_events.specs.Places.{line_starts}
+use Rattle.yaml_recognizers.proofs.Block.BlockFrames.{asked_opens, unwind_none}
+use Rattle.yaml_recognizers.proofs.Meanings.EventPrefixes.{done_pairs_events}
+use Rattle.yaml_recognizers.proofs.Block.KeyLeaves.{is_key}
+use Rattle.yaml_recognizers.proofs.Basics.LineStarts.{byte_len_joined}
+use Rattle.yaml_recognizers.proofs.Flow.OneLineText.{unbroken}
+use Rattle.yaml_events.specs.EventPlaces.{line_starts}
 use Rattle.yaml_block.specs.declared.frame.Sign.TheVariants.{Asked, Colon}
 use Rattle.yaml_block.specs.BlockParts.{part_at}
 use Rattle.yaml_block.specs.Frames.{AfterSign, AtLeaf, AtLine, AtPair, MaySit, Seated, events_in, fits_frames, pairs_of, place_in, sign_after, sits_place}
@@ -54,12 +54,13 @@ node_fits_frames (waits_value sits k done (key_asked key) ∷ fs) n = refl
 node_fits_frames (waits_value sits k done (key_on_line key gap) ∷ fs) n = refl
 
 -- whether a leaf is a key, by its text
-key_test : (m : ℕ) (bol : Bool) (text : List ℕ) (f : Flow) (behind : List ℕ)
-    → flow_leaf_at m bol text ≡ Some (f, behind) → sign 58 (dropped white behind) ≡ true
-    → is_key f behind ≡ unbroken (flow_text f) && short_key f (taken white behind)
-key_test m bol text f behind e c = rw (leaf_one_line m bol text f behind e, c) refl
+key_test : (m : ℕ) (bol : Bool) (text : List ℕ) (f : Flow) (after : List ℕ)
+    → flow_leaf_at m bol text ≡ Some (f, after) → sign 58 (dropped white after) ≡ true
+    → is_key f after ≡ unbroken (flow_text f) && short_key f (taken white after)
+key_test m bol text f after e c = rw (leaf_one_line m bol text f after e, c) refl
 
 module _ (W : Read Indented) (text : List ℕ) (from : ℕ) where
+  -- a mapping opens at `?`
   pub asked_pair : (fs : List BlockFrame) (evs : List Event) (m k at : ℕ) → AtLeaf W text from fs evs m (Some k) at
       → sign 63 (rest text at) ≡ true
       → past (rest text at) ≡ rest text (at + 1) → (sits : Sits) × AfterSign W text from (waits_key sits k [] ∷ fs)
@@ -73,7 +74,7 @@ module _ (W : Read Indented) (text : List ℕ) (from : ℕ) where
           reads = h.reads ∙ ap (unwind fs)
               (ap (λ mapping. part_at mapping m (line_starts text at) h.sep (rest text at)) s.1
               ∙ (question_opens s.0 k m (line_starts text at) h.sep (rest text at) q
-              ∙ ap (λ u. on (block_indented_at k true u) (λ i behind. plug (waits_key s.0 k []) i behind)) p));
+              ∙ ap (λ u. on (block_indented_at k true u) (λ i after. plug (waits_key s.0 k []) i after)) p));
           nested = (may.0, h.nested);
           awaits = (refl, refl);
           place = ap (λ x. x + 1) may.1;
@@ -81,6 +82,7 @@ module _ (W : Read Indented) (text : List ℕ) (from : ℕ) where
         },
       )
 
+  -- a mapping opens at a key
   pub first_key : (fs : List BlockFrame) (evs : List Event) (m k at : ℕ) (f : Flow) (end colon : ℕ)
       → AtLeaf W text from fs evs m (Some k) at
       → flow_leaf_at m (line_starts text at) (rest text at) ≡ Some (f, rest text end)
@@ -103,8 +105,8 @@ module _ (W : Read Indented) (text : List ℕ) (from : ℕ) where
           reads = h.reads ∙ ap (unwind fs)
               (ap (λ mapping. part_at mapping m (line_starts text at) h.sep (rest text at)) s.1
               ∙ (first_key_opens s.0 k m (line_starts text at) h.sep (rest text at) f (rest text end) e key
-              ∙ ap (λ v. on (keyed_part k v) (λ i behind.
-              plug (waits_value s.0 k [] (key_on_line f white_gap)) i behind)) (ap past d ∙ p)));
+              ∙ ap (λ v. on (keyed_part k v) (λ i after.
+              plug (waits_value s.0 k [] (key_on_line f white_gap)) i after)) (ap past d ∙ p)));
           nested = (may.0, h.nested);
           awaits = (refl, refl);
           place = ap (λ x. x + byte_len (flow_text f) + byte_len white_gap + 1) may.1
@@ -127,6 +129,7 @@ module _ (W : Read Indented) (text : List ℕ) (from : ℕ) where
       ∙ c) refl)
       ∙ unwind_none fs)
 
+  -- a flow node before a `:` that is no key leads nowhere
   pub no_first_key : (fs : List BlockFrame) (evs : List Event) (m k at : ℕ) (f : Flow) (end colon : ℕ)
       → AtLeaf W text from fs evs m (Some k) at
       → flow_leaf_at m (line_starts text at) (rest text at) ≡ Some (f, rest text end)
@@ -140,6 +143,7 @@ module _ (W : Read Indented) (text : List ℕ) (from : ℕ) where
       ∙ n)))
       ∙ unwind_none fs)
 
+  -- a leaf is read, and a line follows
   pub leaf_read : (fs : List BlockFrame) (evs : List Event) (m : ℕ) (pairs : Option ℕ) (at : ℕ) (f : Flow)
       (end colon start : ℕ) → AtLeaf W text from fs evs m pairs at
       → flow_leaf_at m (line_starts text at) (rest text at) ≡ Some (f, rest text end)
@@ -170,6 +174,7 @@ module _ (W : Read Indented) (text : List ℕ) (from : ℕ) where
             ∙ ap (λ x. events_in fs from ++ flow_events f x) (sym h.place);
       }
 
+  -- a leaf whose line goes on leads nowhere
   pub leaf_goes_on : (fs : List BlockFrame) (evs : List Event) (m : ℕ) (pairs : Option ℕ) (at : ℕ) (f : Flow)
       (end colon : ℕ) → AtLeaf W text from fs evs m pairs at
       → flow_leaf_at m (line_starts text at) (rest text at) ≡ Some (f, rest text end)
@@ -179,6 +184,7 @@ module _ (W : Read Indented) (text : List ℕ) (from : ℕ) where
       h.reads ∙ (ap (unwind fs) (leaf_unclosed h.mapping m (line_starts text at) h.sep (rest text at) f
       (rest text end) e (ap (sign 58) d ∙ c) close) ∙ unwind_none fs)
 
+  -- without a leaf nothing is read
   pub no_leaf : (fs : List BlockFrame) (evs : List Event) (m : ℕ) (pairs : Option ℕ) (at : ℕ)
       → AtLeaf W text from fs evs m pairs at → first bar (rest text at) ≡ false
       → is_some pairs && sign 63 (rest text at) ≡ false → flow_leaf_at m (line_starts text at) (rest text at) ≡ None
@@ -189,6 +195,7 @@ module _ (W : Read Indented) (text : List ℕ) (from : ℕ) where
       (ap (λ x. x && sign 63 (rest text at)) (mapping_is h.mapping pairs h.pairs_is) ∙ q) e)
       ∙ unwind_none fs)
 
+  -- a block scalar is read, and a line follows
   pub block_read : (fs : List BlockFrame) (evs : List Event) (m : ℕ) (pairs : Option ℕ) (at : ℕ) (b : BlockScalar)
       (start : ℕ) → AtLeaf W text from fs evs m pairs at
       → first bar (rest text at) ≡ true → read_block m (rest text at) ≡ Some (b, rest text start)
@@ -201,7 +208,7 @@ module _ (W : Read Indented) (text : List ℕ) (from : ℕ) where
         part = node (block h.sep b);
         reads = h.reads ∙ ap (unwind fs)
             (bar_part h.mapping m (line_starts text at) h.sep (rest text at) bars
-            ∙ ap (λ r. on r (λ c behind. Some (node (block h.sep c), behind))) e);
+            ∙ ap (λ r. on r (λ c after. Some (node (block h.sep c), after))) e);
         nested = h.nested;
         fits = node_fits_frames fs (block h.sep b);
         place = omega (arith, spelled, h.place, len);
@@ -210,17 +217,19 @@ module _ (W : Read Indented) (text : List ℕ) (from : ℕ) where
             ∙ ap (λ x. events_in fs from ++ block_events x b) (sym h.place);
       }
 
+  -- without a block scalar nothing is read
   pub no_block : (fs : List BlockFrame) (evs : List Event) (m : ℕ) (pairs : Option ℕ) (at : ℕ)
       → AtLeaf W text from fs evs m pairs at → first bar (rest text at) ≡ true
       → read_block m (rest text at) ≡ None → W ≡ None
   no_block fs evs m pairs at h bars e =
       h.reads ∙ (ap (unwind fs)
       (bar_part h.mapping m (line_starts text at) h.sep (rest text at) bars
-      ∙ ap (λ r. on r (λ c behind. Some (node (block h.sep c), behind))) e)
+      ∙ ap (λ r. on r (λ c after. Some (node (block h.sep c), after))) e)
       ∙ unwind_none fs)
 
   -- ---- a further pair
 
+  -- a further pair starts with `?`
   pub next_asked : (fs : List BlockFrame) (evs : List Event) (k at : ℕ) → AtPair W text from fs evs k at
       → sign 63 (rest text at) ≡ true → past (rest text at) ≡ rest text (at + 1)
       → (sits : Sits) × (done : List Pair) × AfterSign W text from (waits_key sits k done ∷ fs) evs Asked k (at + 1)
@@ -230,7 +239,7 @@ module _ (W : Read Indented) (text : List ℕ) (from : ℕ) where
     record {
       reads = h.reads ∙ ap (unwind fs)
           (asked_opens h.sits k (k == 0) h.done (rest text at) q
-          ∙ ap (λ u. on (block_indented_at k true u) (λ i behind. plug (waits_key h.sits k h.done) i behind)) p);
+          ∙ ap (λ u. on (block_indented_at k true u) (λ i after. plug (waits_key h.sits k h.done) i after)) p);
       nested = (h.seated, h.nested);
       awaits = (refl, refl);
       place = ap (λ x. x + 1) h.place;
@@ -238,6 +247,7 @@ module _ (W : Read Indented) (text : List ℕ) (from : ℕ) where
     },
   )
 
+  -- a further pair starts with a key
   pub next_key : (fs : List BlockFrame) (evs : List Event) (k at : ℕ) (f : Flow) (end colon : ℕ)
       → AtPair W text from fs evs k at
       → flow_node_at 0 block_key (line_starts text at) (rest text at) ≡ Some (f, rest text end)
@@ -259,8 +269,8 @@ module _ (W : Read Indented) (text : List ℕ) (from : ℕ) where
           reads = h.reads ∙ ap (unwind fs)
               (next_key_opens h.sits k (k == 0) h.done (rest text at) f (rest text end) here (ap (sign 58) d
               ∙ c) short
-              ∙ ap (λ v. on (keyed_part k v) (λ i behind.
-              plug (waits_value h.sits k h.done (key_on_line f white_gap)) i behind)) (ap past d ∙ p));
+              ∙ ap (λ v. on (keyed_part k v) (λ i after.
+              plug (waits_value h.sits k h.done (key_on_line f white_gap)) i after)) (ap past d ∙ p));
           nested = (h.seated, h.nested);
           awaits = (refl, refl);
           place = ap (λ x. x + byte_len (flow_text f) + byte_len white_gap + 1) h.place
@@ -274,6 +284,7 @@ module _ (W : Read Indented) (text : List ℕ) (from : ℕ) where
         },
       )
 
+  -- a flow node that is no key leads nowhere
   pub no_next_key : (fs : List BlockFrame) (evs : List Event) (k at : ℕ) (f : Flow) (end colon : ℕ)
       → AtPair W text from fs evs k at
       → flow_node_at 0 block_key (line_starts text at) (rest text at) ≡ Some (f, rest text end)
@@ -286,6 +297,7 @@ module _ (W : Read Indented) (text : List ℕ) (from : ℕ) where
       (ap (λ t. sign 58 t && short_key f (taken white (rest text end))) d ∙ n))
       ∙ unwind_none fs)
 
+  -- without a flow node nothing is read
   pub no_next_node : (fs : List BlockFrame) (evs : List Event) (k at : ℕ) → AtPair W text from fs evs k at
       → sign 63 (rest text at) ≡ false
       → flow_node_at 0 block_key (line_starts text at) (rest text at) ≡ None → W ≡ None

@@ -7,17 +7,19 @@ use Rattle.yaml_grammar.specs.BlockScalars.{past_spaces, spaces_before}
 use Rattle.yaml_grammar.specs.Texts.{is_empty, marker}
 use Rattle.yaml_recognizers.specs.CanonicalComments.{is_line_end}
 use Rattle.yaml_recognizers.specs.Ends.{ended}
-use Rattle.yaml_recognizers.specs.Fronts.{sign}
-use Rattle.yaml_recognizers.proofs.BlockNodesEnd.{colon_stop, items_stop}
+use Rattle.yaml_recognizers.specs.Prefixes.{sign}
+use Rattle.yaml_recognizers.proofs.Block.BlockNodesEnd.{colon_stop, items_stop}
 
 -- nothing goes on at the text's end, at a marker, or at a line of white space or a comment
 abbrev pub stops_all : List ℕ → Bool
 stops_all text = is_empty text || marker text || is_line_end text
 
+-- a line that ends all collections has no further item
 pub no_item : (k : ℕ) (text : List ℕ) → stops_all text ≡ true
     → (spaces_before text == k) && sign 45 (past_spaces text) ≡ false
 no_item k text h = items_stop k text (or_left _ _ h)
 
+-- nor a value
 pub no_value : (k : ℕ) (text : List ℕ) → stops_all text ≡ true
     → (spaces_before text == k) && sign 58 (past_spaces text) ≡ false
 no_value k text h = colon_stop k text (or_left _ _ h)

@@ -7,7 +7,7 @@ use Rattle.yaml_grammar.specs.Events as grammar
 use Rattle.yaml_grammar.specs.BlockNodes.{Node, Indented, node_events}
 use Rattle.yaml_recognizers.specs.Reading.{Read}
 use Rattle.yaml_recognizers.specs.Recognizers.{block_node_at}
-use Rattle.yaml_events.specs.Places.{line_starts}
+use Rattle.yaml_events.specs.EventPlaces.{line_starts}
 use Rattle.yaml_events.specs.declared.event.Event.{Event}
 use Rattle.yaml_block.specs.BlockParts.{as_part}
 use Rattle.yaml_flow.specs.FlowNodes.{Appended}
@@ -39,16 +39,19 @@ module _ (text : List ℕ) (m at : ℕ) (shallow : Bool) where
     first_state : BeforeNode text m shallow at all at [] []
     first_state = record { reads = refl; nested = tt; place = refl; wrote = refl }
 
-    pub front_leads : (new : Reader) (to : Next) → Leads text (BeforeNode text m shallow at) first new to
+    -- the start of the node leads to the first step
+    pub prefix_leads : (new : Reader) (to : Next) → Leads text (BeforeNode text m shallow at) first new to
         → GoesOn all text at first.events new to
-    front_leads new to l = l all at first.events [] [] first_holds first_state
+    prefix_leads new to l = l all at first.events [] [] first_holds first_state
 
-    pub front_fails : Fails text (BeforeNode text m shallow at) first
+    -- if it fails, there is no node
+    pub prefix_fails : Fails text (BeforeNode text m shallow at) first
         → block_node_at m shallow (line_starts text at) (rest text at) ≡ None
-    front_fails f = none_part (block_node_at m shallow (line_starts text at) (rest text at))
+    prefix_fails f = none_part (block_node_at m shallow (line_starts text at) (rest text at))
         (f all at first.events [] [] first_holds first_state)
 
   module _ (base : List Event) (now : Reader) (here : Next) (g : GoesOn all text at base now here) where
+    -- a part after a sign leads to the next step
     pub part_leads : (sg : Sign) (k place : ℕ) (new : Reader) (to : Next) → here ≡ next.After place k sg
         → Leads text (BeforePart text sg k place) now new to → GoesOn all text at base new to
     part_leads sg k place new to e l =
@@ -56,6 +59,7 @@ module _ (text : List ℕ) (m at : ℕ) (shallow : Bool) where
         subst (λ n. GoesOn all text at base now n) e g in
         l all at base p.fs p.evs p.holds p.stands
 
+    -- if it fails, there is no node
     pub part_fails : (sg : Sign) (k place : ℕ) → here ≡ next.After place k sg
         → Fails text (BeforePart text sg k place) now
         → block_node_at m shallow (line_starts text at) (rest text at) ≡ None
@@ -65,12 +69,14 @@ module _ (text : List ℕ) (m at : ℕ) (shallow : Bool) where
         none_part (block_node_at m shallow (line_starts text at) (rest text at))
         (f all at base p.fs p.evs p.holds p.stands)
 
+    -- a pair leads to the next step
     pub pair_leads : (k place : ℕ) (new : Reader) (to : Next) → here ≡ next.Pair place k
         → Leads text (BeforePair text k place) now new to → GoesOn all text at base new to
     pair_leads k place new to e l =
         let p : GoesOn all text at base now (next.Pair place k) = subst (λ n. GoesOn all text at base now n) e g in
         l all at base p.fs p.evs p.holds p.stands
 
+    -- if it fails, there is no node
     pub pair_fails : (k place : ℕ) → here ≡ next.Pair place k → Fails text (BeforePair text k place) now
         → block_node_at m shallow (line_starts text at) (rest text at) ≡ None
     pair_fails k place e f =
@@ -78,6 +84,7 @@ module _ (text : List ℕ) (m at : ℕ) (shallow : Bool) where
         none_part (block_node_at m shallow (line_starts text at) (rest text at))
         (f all at base p.fs p.evs p.holds p.stands)
 
+    -- a line after a part leads to the next step
     pub line_leads : (after : NextLine) (new : Reader) (turn : Option Next) (to : Next) → here ≡ next.Line after
         → Unwinds text after now new turn → turn ≡ Some to → GoesOn all text at base new to
     line_leads after new turn to e t s =
@@ -85,6 +92,7 @@ module _ (text : List ℕ) (m at : ℕ) (shallow : Bool) where
         let u : Unwinds text after now new (Some to) = subst (λ o. Unwinds text after now new o) s t in
         u all at base p.fs p.evs p.holds p.stands
 
+    -- or it ends the node
     pub line_ends : (after : NextLine) (new : Reader) (turn : Option Next) → here ≡ next.Line after
         → Unwinds text after now new turn → turn ≡ None → at ≤ after.line.start → IsLine text after.line
         → BlockNodeRead m shallow text at base new.events after.line.start

@@ -1,4 +1,4 @@
--- The steps of the scanner before a node: at the front of a line, and on a line that goes on.
+-- The steps of the scanner before a node: at the start of a line, and on a line that goes on.
 use Rattle.std.proofs.Common.{ap, arith, refl, sym, ◌∙◌, ◌≡◌, ◌⊎◌}
 use Rattle.std.specs.Prelude.{Bool, List, None, Some, [], false, if◌then◌else◌, nat_le, not, suc, true, ℕ, ◌&&◌, ◌++◌, ◌+◌, ◌||◌, ◌∷◌}
 use Rattle.std.proofs.lemmas.Bool.{and_left, and_right, not_from_true, or_left, or_right}
@@ -10,16 +10,16 @@ use Rattle.yaml_grammar.specs.Events.{Event, seq_start}
 use Rattle.yaml_grammar.specs.Separation.{LineEnd, comments_text, inline, sep_text}
 use Rattle.yaml_grammar.specs.Texts.{byte_len, first, is_empty, starts_line}
 use Rattle.yaml_recognizers.specs.BlockFrames.{BlockFrame, Sits, on_lines, plug, unwind, waits_item}
-use Rattle.yaml_recognizers.specs.BlockNodes.{node_behind}
+use Rattle.yaml_recognizers.specs.BlockNodes.{node_below}
 use Rattle.yaml_recognizers.specs.BlockScalars.{read_block}
 use Rattle.yaml_recognizers.specs.Comments.{all_comments}
-use Rattle.yaml_recognizers.specs.Fronts.{dropped, past, sign, taken}
+use Rattle.yaml_recognizers.specs.Prefixes.{dropped, past, sign, taken}
 use Rattle.yaml_recognizers.specs.Reading.{Read, on}
 use Rattle.yaml_recognizers.specs.Recognizers.{block_indented_at, block_items_at, block_key_in, block_pairs_at, flow_leaf_at}
-use Rattle.yaml_recognizers.proofs.BlockFrames.{unwind_none}
-use Rattle.yaml_recognizers.proofs.LineStarts.{byte_len_joined}
-use Rattle.yaml_recognizers.proofs.Steps.{node_steps}
-use Rattle.yaml_events.specs.Places.{line_starts}
+use Rattle.yaml_recognizers.proofs.Block.BlockFrames.{unwind_none}
+use Rattle.yaml_recognizers.proofs.Basics.LineStarts.{byte_len_joined}
+use Rattle.yaml_recognizers.proofs.Meanings.Steps.{node_steps}
+use Rattle.yaml_events.specs.EventPlaces.{line_starts}
 use Rattle.yaml_block.specs.declared.frame.Sign.TheVariants.{Dash}
 use Rattle.yaml_block.specs.BlockParts.{as_part, part_at, sep_after}
 use Rattle.yaml_block.specs.Frames.{AfterSign, AtLeaf, AtNode, AtNodeLine, place_in}
@@ -37,6 +37,7 @@ sep_end from start lead comments blank p q =
     omega (arith, t, p, q)
 
 module _ (W : Read Indented) (text : List ℕ) (from : ℕ) where
+  -- after the end of a line, a node is at the start of the next solid one
   pub node_line : (fs : List BlockFrame) (evs : List Event) (m : ℕ) (shallow bol : Bool) (at : ℕ)
       (comments : List LineEnd) (start : ℕ) → AtNode W text from fs evs m shallow bol at
       → all_comments bol (rest text at) ≡ (comments, rest text start) → bol || not (is_empty comments) ≡ true
@@ -48,7 +49,7 @@ module _ (W : Read Indented) (text : List ℕ) (from : ℕ) where
     comments = comments;
     reads = h.reads ∙ ap (λ r. unwind fs (as_part r))
         (node_steps m shallow bol (rest text at) ∙ ap
-        (node_behind block_key_in flow_leaf_at read_block block_items_at block_pairs_at m shallow bol) c);
+        (node_below block_key_in flow_leaf_at read_block block_items_at block_pairs_at m shallow bol) c);
     nested = h.nested;
     starts = s;
     alone_is = refl;
@@ -57,22 +58,23 @@ module _ (W : Read Indented) (text : List ℕ) (from : ℕ) where
     wrote = h.wrote;
   }
 
-  pub sequence_opens : (fs : List BlockFrame) (evs : List Event) (m : ℕ) (shallow alone : Bool) (start s front : ℕ)
+  -- a sequence opens at the start of a line
+  pub sequence_opens : (fs : List BlockFrame) (evs : List Event) (m : ℕ) (shallow alone : Bool) (start s prefix : ℕ)
       → AtNodeLine W text from fs evs m shallow alone start
-      → spaces_before (rest text start) ≡ s → past_spaces (rest text start) ≡ rest text front → start + s ≡ front
-      → sign 45 (rest text front) ≡ true
-      → nat_le m (if shallow then suc s else s) ≡ true → past (rest text front) ≡ rest text (front + 1)
-      → (sits : Sits) × AfterSign W text from (waits_item sits s [] ∷ fs) (evs ++ seq_start ∷ []) Dash s (front + 1)
-  sequence_opens fs evs m shallow alone start s front h c e p d l q = (
+      → spaces_before (rest text start) ≡ s → past_spaces (rest text start) ≡ rest text prefix → start + s ≡ prefix
+      → sign 45 (rest text prefix) ≡ true
+      → nat_le m (if shallow then suc s else s) ≡ true → past (rest text prefix) ≡ rest text (prefix + 1)
+      → (sits : Sits) × AfterSign W text from (waits_item sits s [] ∷ fs) (evs ++ seq_start ∷ []) Dash s (prefix + 1)
+  sequence_opens fs evs m shallow alone start s prefix h c e p d l q = (
     on_lines h.comments s,
     record {
       reads = h.reads ∙ ap (unwind fs)
           (sequence_after m shallow h.bol h.comments (rest text start) h.starts (ap (sign 45) e
           ∙ d) (ap (is_deep m shallow) c ∙ l)
           ∙ (ap (λ j. on (block_indented_at j false (past (past_spaces (rest text start))))
-          (λ i behind. plug (waits_item (on_lines h.comments j) j []) i behind)) c
+          (λ i after. plug (waits_item (on_lines h.comments j) j []) i after)) c
           ∙ ap (λ u. on (block_indented_at s false u)
-          (λ i behind. plug (waits_item (on_lines h.comments s) s []) i behind)) (ap past e ∙ q)));
+          (λ i after. plug (waits_item (on_lines h.comments s) s []) i after)) (ap past e ∙ q)));
       nested = (refl, h.nested);
       awaits = (refl, refl);
       place = ap (λ x. x + s + 1) h.place ∙ ap (λ x. x + 1) p;
@@ -80,15 +82,16 @@ module _ (W : Read Indented) (text : List ℕ) (from : ℕ) where
     },
   )
 
-  pub line_leaf : (fs : List BlockFrame) (evs : List Event) (m : ℕ) (shallow alone : Bool) (start s front : ℕ)
+  -- a leaf, or the first pair of a mapping, at the start of a line
+  pub line_leaf : (fs : List BlockFrame) (evs : List Event) (m : ℕ) (shallow alone : Bool) (start s prefix : ℕ)
       → AtNodeLine W text from fs evs m shallow alone start
-      → spaces_before (rest text start) ≡ s → past_spaces (rest text start) ≡ rest text front → start + s ≡ front
-      → sign 45 (rest text front) && nat_le m (if shallow then suc s else s) ≡ false → nat_le m s ≡ true
-      → first white (rest text front) ≡ false
+      → spaces_before (rest text start) ≡ s → past_spaces (rest text start) ≡ rest text prefix → start + s ≡ prefix
+      → sign 45 (rest text prefix) && nat_le m (if shallow then suc s else s) ≡ false → nat_le m s ≡ true
+      → first white (rest text prefix) ≡ false
       → (line_starts text start ≡ true) ⊎ (rest text start ≡ [])
-      → starts_line (line_starts text start) (taken white (rest text start)) ≡ line_starts text front
-      → AtLeaf W text from fs evs m (Some s) front
-  line_leaf fs evs m shallow alone start s front h c e p d l w f b =
+      → starts_line (line_starts text start) (taken white (rest text start)) ≡ line_starts text prefix
+      → AtLeaf W text from fs evs m (Some s) prefix
+  line_leaf fs evs m shallow alone start s prefix h c e p d l w f b =
       let t : List ℕ = rest text start in
       let plain : first white (past_spaces t) ≡ false = ap (first white) e ∙ w in
       let blank : List ℕ = taken white t in
@@ -98,31 +101,32 @@ module _ (W : Read Indented) (text : List ℕ) (from : ℕ) where
         sep = sep_after h.comments blank;
         mapping = Some (on_lines h.comments s, s);
         reads = h.reads ∙ ap (unwind fs)
-            (mapping_or_leaf_after m shallow h.bol (line_starts text start) (line_starts text front) h.comments t
+            (mapping_or_leaf_after m shallow h.bol (line_starts text start) (line_starts text prefix) h.comments t
             h.starts
             (ap (λ u. sign 45 u && is_deep m shallow (spaces_before t)) e
-            ∙ (ap (λ j. sign 45 (rest text front) && is_deep m shallow j) c ∙ d)) (ap (nat_le m) c
+            ∙ (ap (λ j. sign 45 (rest text prefix) && is_deep m shallow j) c ∙ d)) (ap (nat_le m) c
             ∙ l) plain h.lines b f
-            ∙ (ap (λ j. part_at (Some (on_lines h.comments j, j)) m (line_starts text front)
+            ∙ (ap (λ j. part_at (Some (on_lines h.comments j, j)) m (line_starts text prefix)
             (sep_after h.comments blank) (past_spaces t)) c
-            ∙ ap (part_at (Some (on_lines h.comments s, s)) m (line_starts text front) (sep_after h.comments blank))
+            ∙ ap (part_at (Some (on_lines h.comments s, s)) m (line_starts text prefix) (sep_after h.comments blank))
             e));
         nested = h.nested;
         pairs_is = refl;
         may_sit = (refl, ap (λ x. x + s) h.place ∙ p);
-        place = sep_end (place_in fs from) start front h.comments blank h.place (ap (λ x. start + x) long ∙ p);
+        place = sep_end (place_in fs from) start prefix h.comments blank h.place (ap (λ x. start + x) long ∙ p);
         wrote = h.wrote;
       }
 
+  -- after a TAB only a leaf may come
   pub line_leaf_after_tab : (fs : List BlockFrame) (evs : List Event) (m : ℕ) (shallow alone : Bool)
-      (start s front lead : ℕ) → AtNodeLine W text from fs evs m shallow alone start
-      → spaces_before (rest text start) ≡ s → past_spaces (rest text start) ≡ rest text front
-      → sign 45 (rest text front) && nat_le m (if shallow then suc s else s) ≡ false → nat_le m s ≡ true
-      → first white (rest text front) ≡ true
+      (start s prefix lead : ℕ) → AtNodeLine W text from fs evs m shallow alone start
+      → spaces_before (rest text start) ≡ s → past_spaces (rest text start) ≡ rest text prefix
+      → sign 45 (rest text prefix) && nat_le m (if shallow then suc s else s) ≡ false → nat_le m s ≡ true
+      → first white (rest text prefix) ≡ true
       → dropped white (rest text start) ≡ rest text lead → start + byte_len (taken white (rest text start)) ≡ lead
       → starts_line (line_starts text start) (taken white (rest text start)) ≡ line_starts text lead
       → AtLeaf W text from fs evs m None lead
-  line_leaf_after_tab fs evs m shallow alone start s front lead h c e d l w drops p b =
+  line_leaf_after_tab fs evs m shallow alone start s prefix lead h c e d l w drops p b =
       let t : List ℕ = rest text start in
       let deep : nat_le m (spaces_before t) ≡ true = ap (nat_le m) c ∙ l in
       let blank : List ℕ = taken white t in
@@ -132,7 +136,7 @@ module _ (W : Read Indented) (text : List ℕ) (from : ℕ) where
         reads = h.reads ∙ ap (unwind fs)
             (leaf_alone_after m shallow h.bol (line_starts text start) (line_starts text lead) h.comments t h.starts
             (ap (λ u. sign 45 u && is_deep m shallow (spaces_before t)) e
-            ∙ (ap (λ j. sign 45 (rest text front) && is_deep m shallow j) c ∙ d))
+            ∙ (ap (λ j. sign 45 (rest text prefix) && is_deep m shallow j) c ∙ d))
             (and_right _ _ (not_from_true _ (ap (first white) e ∙ w))) (or_right _ _ deep) h.lines b
             ∙ ap (part_at None m (line_starts text lead) (sep_after h.comments blank)) drops);
         nested = h.nested;
@@ -142,15 +146,16 @@ module _ (W : Read Indented) (text : List ℕ) (from : ℕ) where
         wrote = h.wrote;
       }
 
+  -- on a line that is less deep only a leaf may come
   pub line_leaf_alone : (fs : List BlockFrame) (evs : List Event) (m : ℕ) (shallow alone : Bool)
-      (start s front lead : ℕ) → AtNodeLine W text from fs evs m shallow alone start
-      → spaces_before (rest text start) ≡ s → past_spaces (rest text start) ≡ rest text front
-      → sign 45 (rest text front) && nat_le m (if shallow then suc s else s) ≡ false → nat_le m s ≡ false
+      (start s prefix lead : ℕ) → AtNodeLine W text from fs evs m shallow alone start
+      → spaces_before (rest text start) ≡ s → past_spaces (rest text start) ≡ rest text prefix
+      → sign 45 (rest text prefix) && nat_le m (if shallow then suc s else s) ≡ false → nat_le m s ≡ false
       → alone ≡ true
       → dropped white (rest text start) ≡ rest text lead → start + byte_len (taken white (rest text start)) ≡ lead
       → starts_line (line_starts text start) (taken white (rest text start)) ≡ line_starts text lead
       → AtLeaf W text from fs evs m None lead
-  line_leaf_alone fs evs m shallow alone start s front lead h c e d l a drops p b =
+  line_leaf_alone fs evs m shallow alone start s prefix lead h c e d l a drops p b =
       let t : List ℕ = rest text start in
       let deep : nat_le m (spaces_before t) ≡ false = ap (nat_le m) c ∙ l in
       let blank : List ℕ = taken white t in
@@ -160,7 +165,7 @@ module _ (W : Read Indented) (text : List ℕ) (from : ℕ) where
         reads = h.reads ∙ ap (unwind fs)
             (leaf_alone_after m shallow h.bol (line_starts text start) (line_starts text lead) h.comments t h.starts
             (ap (λ u. sign 45 u && is_deep m shallow (spaces_before t)) e
-            ∙ (ap (λ j. sign 45 (rest text front) && is_deep m shallow j) c ∙ d))
+            ∙ (ap (λ j. sign 45 (rest text prefix) && is_deep m shallow j) c ∙ d))
             (and_left _ _ deep) (or_left _ _ (h.alone_is ∙ a)) h.lines b
             ∙ ap (part_at None m (line_starts text lead) (sep_after h.comments blank)) drops);
         nested = h.nested;
@@ -170,29 +175,32 @@ module _ (W : Read Indented) (text : List ℕ) (from : ℕ) where
         wrote = h.wrote;
       }
 
-  pub line_too_shallow : (fs : List BlockFrame) (evs : List Event) (m : ℕ) (shallow alone : Bool) (start s front : ℕ)
+  -- a line with too few spaces has no node
+  pub line_too_shallow : (fs : List BlockFrame) (evs : List Event) (m : ℕ) (shallow alone : Bool) (start s prefix : ℕ)
       → AtNodeLine W text from fs evs m shallow alone start
-      → spaces_before (rest text start) ≡ s → past_spaces (rest text start) ≡ rest text front
-      → sign 45 (rest text front) && nat_le m (if shallow then suc s else s) ≡ false → nat_le m s ≡ false
+      → spaces_before (rest text start) ≡ s → past_spaces (rest text start) ≡ rest text prefix
+      → sign 45 (rest text prefix) && nat_le m (if shallow then suc s else s) ≡ false → nat_le m s ≡ false
       → alone ≡ false → W ≡ None
-  line_too_shallow fs evs m shallow alone start s front h c e d l a =
+  line_too_shallow fs evs m shallow alone start s prefix h c e d l a =
       let t : List ℕ = rest text start in
       h.reads ∙ (ap (unwind fs)
       (too_shallow_after m shallow h.bol h.comments t h.starts
       (ap (λ u. sign 45 u && is_deep m shallow (spaces_before t)) e
-      ∙ (ap (λ j. sign 45 (rest text front) && is_deep m shallow j) c ∙ d)) (ap (nat_le m) c ∙ l) (h.alone_is
+      ∙ (ap (λ j. sign 45 (rest text prefix) && is_deep m shallow j) c ∙ d)) (ap (nat_le m) c ∙ l) (h.alone_is
       ∙ a))
       ∙ unwind_none fs)
 
-  pub line_at_end : (fs : List BlockFrame) (evs : List Event) (m : ℕ) (shallow alone : Bool) (start front : ℕ)
+  -- nor has the end of the text
+  pub line_at_end : (fs : List BlockFrame) (evs : List Event) (m : ℕ) (shallow alone : Bool) (start prefix : ℕ)
       → AtNodeLine W text from fs evs m shallow alone start
-      → past_spaces (rest text start) ≡ rest text front → rest text front ≡ [] → W ≡ None
-  line_at_end fs evs m shallow alone start front h e n =
+      → past_spaces (rest text start) ≡ rest text prefix → rest text prefix ≡ [] → W ≡ None
+  line_at_end fs evs m shallow alone start prefix h e n =
       h.reads ∙ (ap (λ r. unwind fs (as_part r)) (nothing_after m shallow h.bol h.comments (rest text start) h.starts
       (e ∙ n)) ∙ unwind_none fs)
 
   -- ---- on a line that goes on
 
+  -- on a line that goes on a leaf comes after whitespace
   pub node_on_line : (fs : List BlockFrame) (evs : List Event) (m : ℕ) (shallow : Bool) (at lead : ℕ)
       → AtNode W text from fs evs m shallow false at
       → all_comments false (rest text at) ≡ ([], rest text at) → is_empty (taken white (rest text at)) ≡ false
@@ -214,6 +222,7 @@ module _ (W : Read Indented) (text : List ℕ) (from : ℕ) where
         wrote = h.wrote;
       }
 
+  -- without whitespace there is no node
   pub node_no_white : (fs : List BlockFrame) (evs : List Event) (m : ℕ) (shallow : Bool) (at : ℕ)
       → AtNode W text from fs evs m shallow false at
       → all_comments false (rest text at) ≡ ([], rest text at) → first white (rest text at) ≡ false → W ≡ None

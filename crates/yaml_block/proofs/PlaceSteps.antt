@@ -15,16 +15,16 @@ use Rattle.yaml_grammar.specs.Separation.{LineEnd, comments_text}
 use Rattle.yaml_grammar.specs.Texts.{byte_len, every, first, is_empty, starts_line}
 use Rattle.yaml_recognizers.specs.CanonicalComments.{is_line_end}
 use Rattle.yaml_recognizers.specs.Comments.{all_comments, read_line_end}
-use Rattle.yaml_recognizers.specs.Fronts.{dropped, taken}
+use Rattle.yaml_recognizers.specs.Prefixes.{dropped, taken}
 use Rattle.yaml_recognizers.specs.Reading.{Read}
 use Rattle.yaml_recognizers.specs.Recognizers.{flow_node_at}
-use Rattle.yaml_recognizers.proofs.CommentsComplete.{no_line}
-use Rattle.yaml_recognizers.proofs.CommentsSound.{all_sound, no_line_end}
-use Rattle.yaml_recognizers.proofs.FlowNodesFound.{stands}
-use Rattle.yaml_recognizers.proofs.Fronts.{taken_every}
-use Rattle.yaml_recognizers.proofs.OneLineText.{unbroken}
-use Rattle.yaml_events.specs.Places.{line_starts}
-use Rattle.yaml_scan.specs.Places.{AreSpaces, AreTaken}
+use Rattle.yaml_recognizers.proofs.Separation.CommentsComplete.{no_line}
+use Rattle.yaml_recognizers.proofs.Separation.CommentsSound.{all_sound, no_line_end}
+use Rattle.yaml_recognizers.proofs.Flow.FlowNodesFound.{stands}
+use Rattle.yaml_recognizers.proofs.Basics.Prefixes.{taken_every}
+use Rattle.yaml_recognizers.proofs.Flow.OneLineText.{unbroken}
+use Rattle.yaml_events.specs.EventPlaces.{line_starts}
+use Rattle.yaml_scan.specs.ScanPlaces.{AreSpaces, AreTaken}
 use Rattle.yaml_block.proofs.BlockSigns.{untabbed, white_starts}
 use Rattle.yaml_block.proofs.TextPlaces.{between_is, comments_unmarked, spelled, starts_over, white_inside, white_spelled}
 
@@ -60,6 +60,7 @@ some_last bol (x ∷ xs) h n =
     unbroken_white : (x : ℕ) → white x ≡ true → line_break x ≡ false
     unbroken_white x h = grind (arith, nat_tests)
 
+-- whitespace up to a place, over the characters
 pub white_to : (bs : List ℕ) (at end : ℕ) → IsUtf8 bs → IsCharBoundary bs at → AreTaken white bs at end
     → WhiteTo bs at end
 white_to bs at end u b t =
@@ -88,6 +89,7 @@ white_to bs at end u b t =
 
 -- ---- comments
 
+-- comments up to the next solid line, over the characters
 pub comments_to : (bs : List ℕ) (at start : ℕ) (bol : Bool) → IsUtf8 bs → IsCharBoundary bs at
     → IsCharBoundary bs start → (all_comments bol (rest bs at)).1 ≡ rest bs start
     → (at + byte_len (comments_text (all_comments bol (rest bs at)).0) ≡ start)
@@ -103,13 +105,16 @@ comments_to bs at start bol u b d e =
 
 -- ---- spaces
 
+-- spaces up to a place are counted
 pub spaces_to : (bs : List ℕ) (at end : ℕ) → AreSpaces bs at end → at + spaces_before (rest bs at) ≡ end
 spaces_to bs at end s = omega (arith, s.counts, s.above)
 
+-- if the whitespace ends where the spaces do, there is no TAB
 pub no_tab : (bs : List ℕ) (at sp lead : ℕ) → AreSpaces bs at sp → WhiteTo bs at lead → sp ≡ lead
     → first white (rest bs sp) ≡ false
 no_tab bs at sp lead s w e = ap (λ i. first white (rest bs i)) e ∙ w.stop
 
+-- else there is one
 pub tab : (bs : List ℕ) (at sp lead : ℕ) → IsUtf8 bs → IsCharBoundary bs at → AreSpaces bs at sp
     → AreTaken white bs at lead → sp < lead → first white (rest bs sp) ≡ true
 tab bs at sp lead u b s t l = by_cases (first white (rest bs sp)) refl
@@ -124,6 +129,7 @@ tab bs at sp lead u b s t l = by_cases (first white (rest bs sp)) refl
 
 -- ---- flow nodes
 
+-- a flow node up to a place, over the characters
 pub flow_to : (bs : List ℕ) (at end : ℕ) (f : Flow) (n : ℕ) (c : FlowContext) (bol : Bool) → IsUtf8 bs
     → IsCharBoundary bs at → IsCharBoundary bs end
     → flow_node_at n c bol (rest bs at) ≡ Some (f, rest bs end)
@@ -132,6 +138,7 @@ flow_to bs at end f n c bol u b d e =
     let t : rest bs at ≡ flow_text f ++ rest bs end = (stands n c bol (rest bs at) f (rest bs end) e).spells in
     (spelled bs at end (flow_text f) u b d t, between_is bs at end (flow_text f) u b d t)
 
+-- the test of bytes says whether the key is short
 pub short_is : (bs : List ℕ) (at end colon : ℕ) (f : Flow) (n : ℕ) (c : FlowContext) (bol : Bool) → IsUtf8 bs
     → IsCharBoundary bs at → IsCharBoundary bs end
     → flow_node_at n c bol (rest bs at) ≡ Some (f, rest bs end) → AreTaken white bs end colon
@@ -144,6 +151,7 @@ short_is bs at end colon f n c bol u b d e t =
     ∙ (ap (λ x. x ++ between bs end colon) p.1 ∙ ap (λ x. flow_text f ++ x) (sym t.takes)) in
     ap (λ x. nat_le (length x) 1024) whole
 
+-- the test of bytes says whether the node is on one line
 pub unbroken_is : (bs : List ℕ) (at end : ℕ) (f : Flow) (n : ℕ) (c : FlowContext) (bol : Bool) → IsUtf8 bs
     → IsCharBoundary bs at → IsCharBoundary bs end
     → flow_node_at n c bol (rest bs at) ≡ Some (f, rest bs end)
@@ -152,6 +160,7 @@ unbroken_is bs at end f n c bol u b d e = ap (every no_break) (flow_to bs at end
 
 -- ---- a line of white space or a comment
 
+-- a comment line starts where the end of a line is read
 pub line_end_read : (text : List ℕ) → is_line_end text ≡ is_some (read_line_end true text)
 line_end_read text = by_cases (is_line_end text) (read_line_end true text) refl refl
   where

@@ -11,32 +11,32 @@ use Rattle.yaml_grammar.specs.Events.{Event, omitted_at, seq_start}
 use Rattle.yaml_grammar.specs.Separation.{LineEnd, comments_text, inline}
 use Rattle.yaml_grammar.specs.Texts.{byte_len, first, is_empty, spaces, starts_line}
 use Rattle.yaml_recognizers.specs.BlockFrames.{BlockFrame, key_asked, key_on_line, on_sign_line, plug, unwind, waits_item, waits_key, waits_value}
-use Rattle.yaml_recognizers.specs.BlockNodes.{node_behind}
+use Rattle.yaml_recognizers.specs.BlockNodes.{node_below}
 use Rattle.yaml_recognizers.specs.BlockScalars.{read_block}
 use Rattle.yaml_recognizers.specs.Comments.{all_comments, closes_line}
 use Rattle.yaml_recognizers.specs.Ends.{ended}
-use Rattle.yaml_recognizers.specs.Fronts.{dropped, past, sign, taken}
+use Rattle.yaml_recognizers.specs.Prefixes.{dropped, past, sign, taken}
 use Rattle.yaml_recognizers.specs.Reading.{Read, on}
 use Rattle.yaml_recognizers.specs.Recognizers.{block_indented_at, block_items_at, block_key_in, block_pairs_at, flow_leaf_at}
-use Rattle.yaml_recognizers.proofs.BlockFrames.{asked_for_nothing, items_open, sequence_on_sign_line, unwind_none}
-use Rattle.yaml_recognizers.proofs.Steps.{node_steps}
-use Rattle.yaml_events.specs.Places.{line_starts}
+use Rattle.yaml_recognizers.proofs.Block.BlockFrames.{asked_for_nothing, items_open, sequence_on_sign_line, unwind_none}
+use Rattle.yaml_recognizers.proofs.Meanings.Steps.{node_steps}
+use Rattle.yaml_events.specs.EventPlaces.{line_starts}
 use Rattle.yaml_block.specs.declared.frame.Sign.{Sign}
 use Rattle.yaml_block.specs.declared.frame.Sign.TheVariants.{Asked, Colon, Dash}
 use Rattle.yaml_block.specs.declared.frame.Waits.TheVariants.{Key}
-use Rattle.yaml_block.specs.BlockParts.{as_part, part_at, part_behind}
+use Rattle.yaml_block.specs.BlockParts.{as_part, part_at, part_after_sign}
 use Rattle.yaml_block.specs.Frames.{AfterSign, AtLeaf, AtLine, AtNodeLine, Awaits, Seated, events_in, fits_frame, is_colon, is_shallow, part_after, waits_of}
-use Rattle.yaml_block.proofs.BlockSigns.{compact_or_leaf, leaf_on_sign_line, node_on_lines as node_behind_lines, nothing_on_sign_line, omitted_behind, unclosed_goes_on, untabbed, untabbed_taken}
+use Rattle.yaml_block.proofs.BlockSigns.{compact_or_leaf, leaf_on_sign_line, node_on_lines as node_after_lines, nothing_on_sign_line, omitted_after, unclosed_goes_on, untabbed, untabbed_taken}
 
--- after a sign, by what may stand there
-after_is : (before : Sign) (k : ℕ) (t : List ℕ) → part_after before k t ≡ part_behind (not (is_colon before))
+-- after a sign, by what may be there
+after_is : (before : Sign) (k : ℕ) (t : List ℕ) → part_after before k t ≡ part_after_sign (not (is_colon before))
     (is_shallow before) k t
 after_is Dash k t = refl
 after_is Asked k t = refl
 after_is Colon k t = refl
 
 after_compact : (before : Sign) (k : ℕ) (t : List ℕ) → is_colon before ≡ false
-    → part_after before k t ≡ part_behind true (is_shallow before) k t
+    → part_after before k t ≡ part_after_sign true (is_shallow before) k t
 after_compact Dash k t h = refl
 after_compact Asked k t h = refl
 after_compact Colon k t h = absurd (false≢true (sym h))
@@ -62,6 +62,7 @@ key_left_out (waits_key sits k done) gs comments t h =
     ap (unwind gs) (asked_for_nothing sits k done (omitted comments) t refl) ∙ unwind_none gs
 key_left_out (waits_value sits k done key) gs comments t h = absurd (let e : ⊥ = cc in e)
 
+-- n spaces have n bytes
 pub byte_len_spaces : (n : ℕ) → byte_len (spaces n) ≡ n
 byte_len_spaces zero = refl
 byte_len_spaces (suc n) = let more : byte_len (spaces n) ≡ n = byte_len_spaces n in omega arith
@@ -70,11 +71,12 @@ spaces_some : (s : ℕ) → 1 ≤ s → is_empty (spaces s) ≡ false
 spaces_some zero l = absurd (omega arith)
 spaces_some (suc s) l = refl
 
+-- without whitespace none is taken
 pub untaken : (t : List ℕ) → first white t ≡ false → is_empty (taken white t) ≡ true
 untaken [] h = refl
 untaken (c ∷ cs) h = rw h refl
 
--- a node on a later line stands behind some comments
+-- a node on a later line comes after some comments
 some_comments : (k : ℕ) (shallow : Bool) (c : List LineEnd × List ℕ) → closes_line c ≡ true
     → ended (suc k) shallow c.1 ≡ false → is_empty c.0 ≡ false
 some_comments k shallow c h e = by_cases c.0 c.1 h e
@@ -86,6 +88,7 @@ some_comments k shallow c h e = by_cases c.0 c.1 h e
     by_cases (l ∷ ls) t h e = refl
 
 module _ (W : Read Indented) (text : List ℕ) (from : ℕ) where
+  -- the part is left out
   pub omits_value : (fs : List BlockFrame) (evs : List Event) (before : Sign) (k at start : ℕ)
       → AfterSign W text from fs evs before k at
       → closes_line (all_comments false (rest text at)) ≡ true
@@ -97,12 +100,12 @@ module _ (W : Read Indented) (text : List ℕ) (from : ℕ) where
   omits_value [] evs before k at start h c t e p = absurd h.awaits
   omits_value (f ∷ gs) evs before k at start h c t e p =
       let comments : List LineEnd = (all_comments false (rest text at)).0 in
-      let behind : part_after before k (rest text at) ≡ Some (omitted comments, rest text start) =
+      let after : part_after before k (rest text at) ≡ Some (omitted comments, rest text start) =
       after_is before k (rest text at)
-      ∙ (omitted_behind (not (is_colon before)) (is_shallow before) k (rest text at) c
+      ∙ (omitted_after (not (is_colon before)) (is_shallow before) k (rest text at) c
       (ap (ended (suc k) (is_shallow before)) t ∙ e) ∙ ap (λ u. Some (omitted comments, u)) t) in
       let reads : W ≡ unwind (f ∷ gs) (Some (omitted comments, rest text start)) = h.reads
-      ∙ ap (unwind (f ∷ gs)) behind in (
+      ∙ ap (unwind (f ∷ gs)) after in (
         f,
         gs,
         refl,
@@ -119,6 +122,7 @@ module _ (W : Read Indented) (text : List ℕ) (from : ℕ) where
         },
       )
 
+  -- the part is a node on a later line
   pub node_on_lines : (fs : List BlockFrame) (evs : List Event) (before : Sign) (k at start : ℕ)
       → AfterSign W text from fs evs before k at
       → closes_line (all_comments false (rest text at)) ≡ true
@@ -138,10 +142,10 @@ module _ (W : Read Indented) (text : List ℕ) (from : ℕ) where
         comments = comments;
         reads = h.reads ∙ ap (unwind fs)
             (after_is before k (rest text at)
-            ∙ (node_behind_lines (not (is_colon before)) (is_shallow before) k (rest text at) c
+            ∙ (node_after_lines (not (is_colon before)) (is_shallow before) k (rest text at) c
             (ap (ended (suc k) (is_shallow before)) t ∙ e)
             ∙ ap as_part (node_steps (suc k) (is_shallow before) false (rest text at)
-            ∙ ap (node_behind block_key_in flow_leaf_at read_block block_items_at block_pairs_at (suc k)
+            ∙ ap (node_below block_key_in flow_leaf_at read_block block_items_at block_pairs_at (suc k)
             (is_shallow before) false) whole)));
         nested = h.nested;
         starts = not_from_false _ some;
@@ -153,14 +157,15 @@ module _ (W : Read Indented) (text : List ℕ) (from : ℕ) where
 
   -- ---- on the line of the sign
 
-  pub compact_sequence : (fs : List BlockFrame) (evs : List Event) (before : Sign) (k at s front : ℕ)
+  -- the part is a compact sequence
+  pub compact_sequence : (fs : List BlockFrame) (evs : List Event) (before : Sign) (k at s prefix : ℕ)
       → AfterSign W text from fs evs before k at → is_colon before ≡ false
-      → spaces_before (rest text at) ≡ s → 1 ≤ s → past_spaces (rest text at) ≡ rest text front → at + s ≡ front
-      → sign 45 (rest text front) ≡ true
-      → past (rest text front) ≡ rest text (front + 1)
+      → spaces_before (rest text at) ≡ s → 1 ≤ s → past_spaces (rest text at) ≡ rest text prefix → at + s ≡ prefix
+      → sign 45 (rest text prefix) ≡ true
+      → past (rest text prefix) ≡ rest text (prefix + 1)
       → AfterSign W text from (waits_item (on_sign_line s) (k + 1 + s) [] ∷ fs) (evs ++ seq_start ∷ []) Dash
-      (k + 1 + s) (front + 1)
-  compact_sequence fs evs before k at s front h n c l e p d q =
+      (k + 1 + s) (prefix + 1)
+  compact_sequence fs evs before k at s prefix h n c l e p d q =
       let t : List ℕ = rest text at in
       let dash : sign 45 (past_spaces t) ≡ true = ap (sign 45) e ∙ d in
       let one : nat_le 1 (spaces_before t) ≡ true = ap (nat_le 1) c ∙ le-leb 1 s l in
@@ -178,19 +183,20 @@ module _ (W : Read Indented) (text : List ℕ) (from : ℕ) where
     where
       opened : ℕ → List ℕ → Read Indented
       opened j u = on (block_indented_at (k + 1 + j) false u)
-          (λ i behind. plug (waits_item (on_sign_line j) (k + 1 + j) []) i behind)
+          (λ i after. plug (waits_item (on_sign_line j) (k + 1 + j) []) i after)
 
-  pub compact_leaf : (fs : List BlockFrame) (evs : List Event) (before : Sign) (k at s front : ℕ)
+  -- the part is a compact mapping or a leaf
+  pub compact_leaf : (fs : List BlockFrame) (evs : List Event) (before : Sign) (k at s prefix : ℕ)
       → AfterSign W text from fs evs before k at → is_colon before ≡ false
       → closes_line (all_comments false (rest text at)) ≡ false → spaces_before (rest text at) ≡ s → 1 ≤ s
-      → past_spaces (rest text at) ≡ rest text front → at + s ≡ front
-      → sign 45 (rest text front) ≡ false → first white (rest text front) ≡ false → line_starts text front ≡ false
-      → AtLeaf W text from fs evs (suc k) (Some (k + 1 + s)) front
-  compact_leaf fs evs before k at s front h n g c l e p d w b =
+      → past_spaces (rest text at) ≡ rest text prefix → at + s ≡ prefix
+      → sign 45 (rest text prefix) ≡ false → first white (rest text prefix) ≡ false → line_starts text prefix ≡ false
+      → AtLeaf W text from fs evs (suc k) (Some (k + 1 + s)) prefix
+  compact_leaf fs evs before k at s prefix h n g c l e p d w b =
       let t : List ℕ = rest text at in
       let plain : first white (past_spaces t) ≡ false = ap (first white) e ∙ w in
       let lead : taken white t ≡ spaces s = untabbed_taken t plain ∙ ap spaces c in
-      let drops : dropped white t ≡ rest text front = untabbed t plain ∙ e in
+      let drops : dropped white t ≡ rest text prefix = untabbed t plain ∙ e in
       record {
         sep = inline (spaces s);
         mapping = Some (on_sign_line s, k + 1 + s);
@@ -202,7 +208,7 @@ module _ (W : Read Indented) (text : List ℕ) (from : ℕ) where
             (dropped white t)) c
             ∙ (ap (λ xs. part_at (Some (on_sign_line s, k + 1 + s)) (suc k) false (inline xs) (dropped white t)) lead
             ∙ (ap (part_at (Some (on_sign_line s, k + 1 + s)) (suc k) false (inline (spaces s))) drops
-            ∙ ap (λ x. part_at (Some (on_sign_line s, k + 1 + s)) (suc k) x (inline (spaces s)) (rest text front))
+            ∙ ap (λ x. part_at (Some (on_sign_line s, k + 1 + s)) (suc k) x (inline (spaces s)) (rest text prefix))
             (sym b))))));
         nested = h.nested;
         pairs_is = refl;
@@ -211,6 +217,7 @@ module _ (W : Read Indented) (text : List ℕ) (from : ℕ) where
         wrote = h.wrote;
       }
 
+  -- the part is a leaf
   pub sign_leaf : (fs : List BlockFrame) (evs : List Event) (before : Sign) (k at lead : ℕ)
       → AfterSign W text from fs evs before k at
       → (is_colon before ≡ true) ⊎ (first white (past_spaces (rest text at)) ≡ true)
@@ -241,6 +248,7 @@ module _ (W : Read Indented) (text : List ℕ) (from : ℕ) where
       no_compact (inl e) = and_left _ _ (not_from_true _ e)
       no_compact (inr e) = and_right _ _ (not_from_true _ e)
 
+  -- without whitespace there is no part
   pub no_white : (fs : List BlockFrame) (evs : List Event) (before : Sign) (k at : ℕ)
       → AfterSign W text from fs evs before k at
       → closes_line (all_comments false (rest text at)) ≡ false → first white (rest text at) ≡ false → W ≡ None

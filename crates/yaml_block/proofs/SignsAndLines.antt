@@ -15,23 +15,23 @@ use Rattle.yaml_recognizers.specs.BlockNodes.{flow_with, leaf_at, opens_pair, se
 use Rattle.yaml_recognizers.specs.BlockScalars.{read_block}
 use Rattle.yaml_recognizers.specs.Comments.{all_comments, closes_line, more_comments, read_line_end}
 use Rattle.yaml_recognizers.specs.Recognizers.{block_items_at, block_key_in, block_node_at, block_pairs_at, flow_leaf_at}
-use Rattle.yaml_recognizers.proofs.BlockFrames.{unwind_none}
-use Rattle.yaml_recognizers.proofs.CommentsDepth.{comments_step}
-use Rattle.yaml_recognizers.proofs.Steps.{node_steps}
+use Rattle.yaml_recognizers.proofs.Block.BlockFrames.{unwind_none}
+use Rattle.yaml_recognizers.proofs.Separation.CommentsDepth.{comments_step}
+use Rattle.yaml_recognizers.proofs.Meanings.Steps.{node_steps}
 use Rattle.yaml_chars.proofs.Places.{rest-end}
 use Rattle.yaml_recognizers.specs.Ends.{ended}
-use Rattle.yaml_recognizers.specs.Fronts.{dropped, past, sign, taken}
+use Rattle.yaml_recognizers.specs.Prefixes.{dropped, past, sign, taken}
 use Rattle.yaml_recognizers.specs.Reading.{Read, on}
 use Rattle.yaml_grammar.specs.BlockNodes.{Indented}
 use Rattle.yaml_recognizers.specs.BlockFrames.{Sits, on_sign_line, BlockFrame, waits_item, waits_key, waits_value, unwind}
 use Rattle.yaml_events.specs.Borrowed.{BorrowsPlain}
 use Rattle.yaml_events.specs.Meant.{event_of}
-use Rattle.yaml_events.specs.Places.{line_starts}
+use Rattle.yaml_events.specs.EventPlaces.{line_starts}
 use Rattle.yaml_events.specs.declared.context.BlockContext.{BlockContext}
 use Rattle.yaml_events.specs.declared.event.Event.{Event}
 use Rattle.yaml_events.specs.declared.event.Event.TheVariants.{SeqStart, MapStart}
 use Rattle.yaml_events.specs.declared.fault.ScanFault.{ScanFault}
-use Rattle.yaml_scan.specs.Places.{AreSpaces, AreTaken}
+use Rattle.yaml_scan.specs.ScanPlaces.{AreSpaces, AreTaken}
 use Rattle.yaml_scan.specs.Lines.{IsLineEnd, IsLineStart, IsSolidLine}
 use Rattle.yaml_scan.specs.declared.lines.Line.{Line}
 use Rattle.yaml_block.specs.BlockParts.{as_part}
@@ -55,7 +55,7 @@ use Rattle.yaml_block.proofs.PlaceSteps.{WhiteTo, white_to, comments_to, no_tab,
 use Rattle.yaml_block.proofs.TextPlaces.{IsPastSign, past_sign, white_spelled}
 use Rattle.yaml_block.proofs.BlockLeaves.{no_leaf_unsolid}
 use Rattle.yaml_block.proofs.BlockLines.{no_comments}
-use Rattle.yaml_block.proofs.BlockSigns.{no_pair_there, white_behind_spaces}
+use Rattle.yaml_block.proofs.BlockSigns.{no_pair_there, white_after_spaces}
 use Rattle.yaml_block.proofs.UnwindSteps.{left_out}
 use Rattle.yaml_block.proofs.SignSteps.{compact_leaf, compact_sequence, no_white, node_on_lines, omits_value, sign_leaf}
 use Rattle.yaml_block.proofs.LeafSteps.{asked_pair}
@@ -63,23 +63,27 @@ use Rattle.yaml_block.proofs.NodeSteps.{line_leaf, line_leaf_after_tab, line_lea
 
 -- ---- what a callee leads to, from another state
 
+-- a step that leads on from a state leads on from an equal one
 pub leads_so : (text : List ℕ) (A B : Before) (old new : Reader) (to : Next)
     → ((W : Read Indented) (from : ℕ) (fs : List BlockFrame) (evs : List grammar.Event) → B W from fs evs
     → A W from fs evs)
     → Leads text A old new to → Leads text B old new to
 leads_so text A B old new to f l W from base fs evs h b = l W from base fs evs h (f W from fs evs b)
 
+-- a step that fails from a state fails from an equal one
 pub fails_so : (text : List ℕ) (A B : Before) (old : Reader)
     → ((W : Read Indented) (from : ℕ) (fs : List BlockFrame) (evs : List grammar.Event) → B W from fs evs
     → A W from fs evs)
     → Fails text A old → Fails text B old
 fails_so text A B old f l W from base fs evs h b = l W from base fs evs h (f W from fs evs b)
 
+-- a result that is Ok leads on
 pub ok_opens : {E : Type 0} (r : Result Next E) (to : Next) (A B : Type 0) (P : Next → Type 0)
     → IfOk r (λ next. next ≡ to) → OnOk r A → OnOk r B → (A → B → P to) → IfOk r P
 ok_opens (Ok x) to A B P e a b f = subst P (sym e) (f a b)
 ok_opens (Err y) to A B P e a b f = e
 
+-- the next step is further on
 pub onward_from : (text : List ℕ) (at further least bound : ℕ) (to : Next) → at ≤ further → least ≤ bound
     → Onward text further least to → Onward text at bound to
 onward_from text at further least bound to l k o =
@@ -89,6 +93,7 @@ onward_from text at further least bound to l k o =
 
 -- ---- a sequence that opens
 
+-- a sequence is pushed on the stack
 pub sequence_opened : (W : Read Indented) (text : List ℕ) (from : ℕ) (base : List Event) (fs : List BlockFrame)
     (evs : List grammar.Event) (old new : Reader) (sits : Sits) (k at : ℕ) → Holds text base fs evs old
     → new.collections.items ≡ old.collections.items ++ (record { waits = Item; indent = k }) ∷ []
@@ -104,6 +109,7 @@ sequence_opened W text from base fs evs old new sits k at h c e a = record {
   stands = a;
 }
 
+-- after the `-` the next step is further on
 pub dash_onward : (bs : List ℕ) (at dash k : ℕ) → at ≤ dash → k ≤ dash → IsPastSign bs dash
     → Onward bs at (3 * (length bs - at)) (next.After (dash + 1) k Dash)
 dash_onward bs at dash k l m s =
@@ -132,9 +138,11 @@ module _ (text : List ℕ) (sg : Sign) (k at : ℕ) (u : IsUtf8 text) (placed : 
     to : WhiteTo text at lead
     to = white_to text at lead u placed.boundary w
 
+    -- without whitespace after a sign nothing is there
     pub nothing_there : lead ≡ at → (old : Reader) → Fails text (BeforePart text sg k at) old
     nothing_there e old W from base fs evs h a = no_white W text from fs evs sg k at a unclosed (to.none e)
 
+    -- after `:`, or after a TAB, a leaf may come
     pub leaf_there : at < lead → (is_colon sg ≡ true) ⊎ (first white (past_spaces (rest text at)) ≡ true)
         → (W : Read Indented) (from : ℕ) (fs : List BlockFrame) (evs : List grammar.Event)
         → BeforePart text sg k at W from fs evs
@@ -158,6 +166,7 @@ module _ (text : List ℕ) (sg : Sign) (k at : ℕ) (u : IsUtf8 text) (placed : 
         one : 1 ≤ lead - at
         one = omega (arith, some)
 
+        -- else a compact mapping or a leaf may come
         pub compact_leaf_there : sign 45 (rest text lead) ≡ false
             → (W : Read Indented) (from : ℕ) (fs : List BlockFrame) (evs : List grammar.Event)
             → BeforePart text sg k at W from fs evs
@@ -167,6 +176,7 @@ module _ (text : List ℕ) (sg : Sign) (k at : ℕ) (u : IsUtf8 text) (placed : 
             (compact_leaf W text from fs evs sg k at (lead - at) lead a open_to unclosed count one leaves place d to.stop
             (to.inside placed.inside_line))
 
+        -- or a compact sequence
         pub compact_sequence_there : sign 45 (rest text lead) ≡ true → IsPastSign text lead → (old new : Reader)
             → new.collections.items ≡ old.collections.items ++ (record { waits = Item; indent = k + 1 + (lead - at) })
             ∷ [] → new.events ≡ old.events ++ SeqStart ∷ []
@@ -186,6 +196,7 @@ module _ (text : List ℕ) (sg : Sign) (k at : ℕ) (u : IsUtf8 text) (placed : 
       ≡ line_starts text line.start)
   comments = comments_to text at line.start false u placed.boundary s.boundary s.leaves
 
+  -- the key after `?` may not be left out
   pub left_out_key : ended (suc k) (is_shallow_after sg) (rest text line.start) ≡ true → (old : Reader)
       → ((f : BlockFrame) (fs : List BlockFrame) → Stack (f ∷ fs) old.collections.items → waits_of f ≡ Key)
       → Fails text (BeforePart text sg k at) old
@@ -193,6 +204,7 @@ module _ (text : List ℕ) (sg : Sign) (k at : ℕ) (u : IsUtf8 text) (placed : 
       let o = omits_value W text from fs evs sg k at line.start a closed s.leaves e comments.0 in
       o.3 (key o.0 o.1 (subst (λ gs. Stack gs old.collections.items) o.2 h.stack))
 
+  -- an item or a value may be left out
   pub left_out_value : ended (suc k) (is_shallow_after sg) (rest text line.start) ≡ true
       → (old new : Reader) (e : Event)
       → ((f : BlockFrame) (fs : List BlockFrame) → Stack (f ∷ fs) old.collections.items → waits_of f ≡ Key → ⊥)
@@ -209,6 +221,7 @@ module _ (text : List ℕ) (sg : Sign) (k at : ℕ) (u : IsUtf8 text) (placed : 
             (o.4 (no_key o.0 o.1 (subst (λ gs. Stack gs old.collections.items) o.2 h.stack)));
       }
 
+  -- a node is on a later line
   pub node_there : (node : Indentation) → node.least ≡ k + 1 → node.margin ≡ k + 1
       → is_shallow node.context ≡ is_shallow_after sg
       → ended (suc k) (is_shallow_after sg) (rest text line.start) ≡ false
@@ -243,6 +256,7 @@ module _ (text : List ℕ) (node : Indentation) (line : Line) (u : IsUtf8 text) 
   start_place : line.start + (line.first - line.start) ≡ line.first
   start_place = let above = (l.spaces).above in omega arith
 
+  -- the line starts a sequence
   pub line_sequence : sign 45 (rest text line.first) ≡ true
       → nat_le node.least (if is_shallow node.context then suc (line.first - line.start)
       else (line.first - line.start)) ≡ true → IsPastSign text line.first
@@ -258,6 +272,7 @@ module _ (text : List ℕ) (node : Indentation) (line : Line) (u : IsUtf8 text) 
 
   module _ (no_sequence : sign 45 (rest text line.first) && nat_le node.least (if is_shallow node.context
       then suc (line.first - line.start) else (line.first - line.start)) ≡ false) where
+    -- the line is less deep than the node may be
     pub line_refused : line.first - line.start < node.margin → (old : Reader)
         → Fails text (BeforeNodeLine text node line.start) old
     line_refused m old W from base fs evs h a = by_cases a.0 a.1 a.2
@@ -273,7 +288,7 @@ module _ (text : List ℕ) (node : Indentation) (line : Line) (u : IsUtf8 text) 
 
     module _ (lead : ℕ) (w : AreTaken white text line.first lead) where
       drops : dropped white (rest text line.start) ≡ rest text lead
-      drops = sym (white_behind_spaces (rest text line.start)) ∙ (ap (dropped white) (l.spaces).leaves ∙ w.leaves)
+      drops = sym (white_after_spaces (rest text line.start)) ∙ (ap (dropped white) (l.spaces).leaves ∙ w.leaves)
 
       spelled : (line.start + byte_len (taken white (rest text line.start)) ≡ lead)
           × (starts_line (line_starts text line.start) (taken white (rest text line.start)) ≡ line_starts text lead)
@@ -282,6 +297,7 @@ module _ (text : List ℕ) (node : Indentation) (line : Line) (u : IsUtf8 text) 
       to_lead : WhiteTo text line.first lead
       to_lead = white_to text line.first lead u (l.spaces).boundary w
 
+      -- the line may have only a leaf
       pub line_leaf_only : (line.first - line.start < node.least) ⊎ (line.first < lead)
           → node.margin ≤ line.first - line.start
           → (W : Read Indented) (from : ℕ) (fs : List BlockFrame) (evs : List grammar.Event)
@@ -313,6 +329,7 @@ module _ (text : List ℕ) (node : Indentation) (line : Line) (u : IsUtf8 text) 
               (line.first - line.start) line.first lead a.2 (l.spaces).counts (l.spaces).leaves no_sequence deep
               (taken_some (rest text line.first) (to_lead.some far)) drops spelled.0 spelled.1
 
+      -- the line has a leaf or the first pair of a mapping
       pub line_leaf_or_pairs : node.least ≤ line.first - line.start → lead ≡ line.first
           → (W : Read Indented) (from : ℕ) (fs : List BlockFrame) (evs : List grammar.Event)
           → BeforeNodeLine text node line.start W from fs evs
@@ -327,6 +344,7 @@ module _ (text : List ℕ) (node : Indentation) (line : Line) (u : IsUtf8 text) 
 
 -- ---- the first key of a mapping, after `?`
 
+-- after the `?` the next step is further on
 pub asked_onward : (bs : List ℕ) (at k : ℕ) → k ≤ at → IsPastSign bs at
     → Onward bs at (3 * (length bs - at)) (next.After (at + 1) k Asked)
 asked_onward bs at k m s =
@@ -338,6 +356,7 @@ asked_onward bs at k m s =
           record { boundary = s.boundary; deeper = omega arith; inside_line = s.inside_line };
     }
 
+-- the first key comes after a `?`
 pub asked_first : (text : List ℕ) (leaf : Leaf) (k : ℕ) → leaf.pairs ≡ Some k → sign 63 (rest text leaf.at) ≡ true
     → IsPastSign text leaf.at → (old new : Reader)
     → new.collections.items ≡ old.collections.items ++ (record { waits = Key; indent = k }) ∷ []
@@ -355,19 +374,22 @@ asked_first text leaf k e q p old new c n W from base fs evs h a =
       stands = o.1;
     }
 
+-- one of two, without what else is known
 pub either : {A N B : Type 0} → A ⊎ (N × B) → A ⊎ B
 either (inl a) = inl a
 either (inr b) = inr b.1
 
+-- a test that fails is the opposite that holds
 pub not_allowed : (a b : Bool) → a ≡ not b → a ≡ false → b ≡ true
 not_allowed a true e h = refl
 not_allowed a false e h = absurd (false≢true (sym h ∙ e))
 
+-- a test that holds is the opposite that fails
 pub allowed : (a b : Bool) → a ≡ not b → a ≡ true → b ≡ false
 allowed a false e h = refl
 allowed a true e h = absurd (false≢true (sym e ∙ h))
 
--- ---- the front of the outermost node
+-- ---- the start of the outermost node
 
 no_flow_at_end : (m : ℕ) (bol : Bool) → flow_leaf_at m bol [] ≡ None
 no_flow_at_end m bol = no_leaf_unsolid m bol [] refl
@@ -396,6 +418,7 @@ no_node_at_end m shallow bol =
     (and_right ((bol || false) && nat_le m 0) _ (no_pair_there true [] refl))
     (no_leaf_at_end m bol (sep_at m bol [] []))
 
+-- at the end of the text no node is there
 pub nothing_at_end : (text : List ℕ) (m at : ℕ) (shallow : Bool) → at ≡ length text → (old : Reader)
     → Fails text (BeforeNode text m shallow at) old
 nothing_at_end text m at shallow e old W from base fs evs h a =
@@ -424,12 +447,13 @@ module _ (text : List ℕ) (least at : ℕ) (context : BlockContext) (u : IsUtf8
       node_line W text from fs evs least (is_shallow context) bol at comments start (at_bol bol e W from fs evs a)
       whole some to.0 (ap (λ x. starts_line x (comments_text comments)) (sym e) ∙ to.1)
 
-  pub front_line_there : (line : Line) (margin : ℕ) → line_starts text at ≡ true → IsSolidLine true text at line
+  -- the outermost node at the start of a line
+  pub prefix_line_there : (line : Line) (margin : ℕ) → line_starts text at ≡ true → IsSolidLine true text at line
       → ((line.start ≡ at) × (margin ≡ 0)) ⊎ ((line.start ≡ at → ⊥) × (margin ≡ least))
       → (W : Read Indented) (from : ℕ) (fs : List BlockFrame) (evs : List grammar.Event)
       → BeforeNode text least (is_shallow context) at W from fs evs
       → BeforeNodeLine text (record { least = least; margin = margin; context = context }) line.start W from fs evs
-  front_line_there line margin e s m W from fs evs a = (
+  prefix_line_there line margin e s m W from fs evs a = (
     is_empty (all_comments true (rest text at)).0,
     by_margin m,
     lined true line.start e s.boundary s.leaves refl W
@@ -450,11 +474,12 @@ module _ (text : List ℕ) (least at : ℕ) (context : BlockContext) (u : IsUtf8
           by_comments (x ∷ xs) q = refl
 
   module _ (inside : line_starts text at ≡ false) where
-    pub front_rest_there : (end : ℕ) (line : Line) → IsLineEnd false text at end → IsSolidLine true text end line
+    -- the outermost node after the end of a line
+    pub prefix_rest_there : (end : ℕ) (line : Line) → IsLineEnd false text at end → IsSolidLine true text end line
         → (W : Read Indented) (from : ℕ) (fs : List BlockFrame) (evs : List grammar.Event)
         → BeforeNode text least (is_shallow context) at W from fs evs
         → BeforeNodeLine text (record { least = least; margin = least; context = context }) line.start W from fs evs
-    front_rest_there end line r s W from fs evs a =
+    prefix_rest_there end line r s W from fs evs a =
         let step : all_comments false (rest text at)
         ≡ (r.line_end ∷ (all_comments true (rest text end)).0, (all_comments true (rest text end)).1) =
         comments_step false (rest text at) ∙ ap (more_comments (rest text at) (λ t. all_comments true t)) r.reads in
@@ -471,17 +496,19 @@ module _ (text : List ℕ) (least at : ℕ) (context : BlockContext) (u : IsUtf8
       goes_on : all_comments false (rest text at) ≡ ([], rest text at)
       goes_on = comments_step false (rest text at) ∙ ap (more_comments (rest text at) (λ t. all_comments true t)) none
 
-      pub front_leaf_there : at < lead → (W : Read Indented) (from : ℕ) (fs : List BlockFrame)
+      -- the outermost node on its line, after whitespace
+      pub prefix_leaf_there : at < lead → (W : Read Indented) (from : ℕ) (fs : List BlockFrame)
           (evs : List grammar.Event) → BeforeNode text least (is_shallow context) at W from fs evs
           → BeforeLeaf text (record { at = lead; least = least; pairs = None }) W from fs evs
-      front_leaf_there l W from fs evs a =
+      prefix_leaf_there l W from fs evs a =
           let to = white_to text at lead u b w in
           node_on_line W text from fs evs least (is_shallow context) at lead (at_bol false inside W from fs evs a)
           goes_on (to.some l) to.drops to.place (to.inside inside)
 
-      pub front_nothing_there : lead ≡ at → (old : Reader)
+      -- without whitespace there is none
+      pub prefix_nothing_there : lead ≡ at → (old : Reader)
           → Fails text (BeforeNode text least (is_shallow context) at) old
-      front_nothing_there e old W from base fs evs h a =
+      prefix_nothing_there e old W from base fs evs h a =
           let to = white_to text at lead u b w in
           node_no_white W text from fs evs least (is_shallow context) at (at_bol false inside W from fs evs a) goes_on
           (to.none e)

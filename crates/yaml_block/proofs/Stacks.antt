@@ -23,6 +23,7 @@ one : (text : List ℕ) (e : Event) → BorrowsPlain text e → All (BorrowsPlai
 one text e b k d l = let z : k ≡ 0 = omega arith in subst (λ (j : ℕ). BorrowsPlain text (slice_index_or (e ∷ []) j d))
     (sym z) b
 
+-- no event is appended yet
 pub appended_none : (text : List ℕ) (base : List Event) → Appended text base base []
 appended_none text base = record {
   more = [];
@@ -32,6 +33,7 @@ appended_none text base = record {
       All-nil (BorrowsPlain text);
 }
 
+-- further events are appended
 pub appended_more : (text : List ℕ) (base old new : List Event) (evs more : List grammar.Event)
     → Appended text base old evs → Appended text old new more → Appended text base new (evs ++ more)
 appended_more text base old new evs more a b = record {
@@ -46,6 +48,7 @@ single : (text : List ℕ) (old new : List Event) (e : Event) → new ≡ old ++
     → Appended text old new (event_of e ∷ [])
 single text old new e n b = record { more = e ∷ []; is = n; means = refl; borrows = one text e b }
 
+-- one event more is appended
 pub appended_one : (text : List ℕ) (base old new : List Event) (evs : List grammar.Event) (e : Event)
     → Appended text base old evs → new ≡ old ++ e ∷ [] → BorrowsPlain text e
     → Appended text base new (evs ++ event_of e ∷ [])
@@ -66,12 +69,14 @@ before text old mid new more a n = record {
   borrows = All-append (BorrowsPlain text) (MapStart ∷ []) a.more (one text MapStart tt) a.borrows;
 }
 
+-- events are appended before others
 pub appended_before : (text : List ℕ) (base old mid new : List Event) (evs more : List grammar.Event)
     → Appended text base old evs → Appended text old mid more
     → new ≡ insert mid (length old) MapStart → Appended text base new (evs ++ grammar.map_start ∷ more)
 appended_before text base old mid new evs more a b n = appended_more text base old new evs (grammar.map_start ∷ more)
     a (before text old mid new more b n)
 
+-- events inserted before others make the list longer
 pub grown_before : (text : List ℕ) (old mid new : List Event) (more : List grammar.Event) → Appended text old mid more
     → new ≡ insert mid (length old) MapStart → Grown old new
 grown_before text old mid new more a n = let b = before text old mid new more a n in record {
@@ -80,10 +85,12 @@ grown_before text old mid new more a n = let b = before text old mid new more a 
       b.is;
 }
 
+-- appended events make the list longer
 pub grown_appended : (text : List ℕ) (old new : List Event) (more : List grammar.Event) → Appended text old new more
     → Grown old new
 grown_appended text old new more a = record { more = a.more; is = a.is }
 
+-- a list that grows twice has grown
 pub grown_grown : (a b c : List Event) → Grown a b → Grown b c → Grown a c
 grown_grown a b c g h = record {
   more = g.more ++ h.more;
@@ -93,6 +100,7 @@ grown_grown a b c g h = record {
 
 -- ---- the stack
 
+-- a collection is pushed on the stack
 pub opened : (text : List ℕ) (base : List Event) (fs : List BlockFrame) (evs evs' : List grammar.Event)
     (old new : Reader) (f : BlockFrame) (c : Collection) → Holds text base fs evs old
     → new.collections.items ≡ old.collections.items ++ c ∷ [] → Keeps c f → Appended text base new.events evs'
@@ -118,6 +126,7 @@ pub record Popped (fs : List BlockFrame) (around : List Collection) (innermost :
   pub keeps : Keeps innermost frame
   pub stack : Stack others around
 
+-- the innermost collection is taken from the stack
 pub popped : (fs : List BlockFrame) (items around : List Collection) (innermost : Collection) → Stack fs items
     → items ≡ around ++ innermost ∷ [] → Popped fs around innermost
 popped [] items around innermost s e =
@@ -133,6 +142,7 @@ popped (f ∷ fs) items around innermost s e =
           subst (λ cs. Stack fs cs) both.0 s.4;
     }
 
+-- an empty stack has no open collection
 pub emptied : (fs : List BlockFrame) (items : List Collection) → Stack fs items → length items ≡ 0 → fs ≡ []
 emptied [] items s l = refl
 emptied (f ∷ fs) items s l = absurd (omega (arith, ap length s.2, length-append s.0 (s.1 ∷ []), l))

@@ -1,4 +1,4 @@
--- Places of a text, from the characters that stand between two of them.
+-- Places of a text, from the characters that are between two of them.
 use Rattle.std.proofs.Common.{ap, arith, get_or, inl, inr, length, length-append, length-drop, refl, sym, ◌<◌, ◌∙◌, ◌≡◌, ◌⊎◌}
 use Rattle.std.specs.Prelude.{Bool, List, None, [], drop, false, suc, true, zero, ℕ, ◌++◌, ◌+◌, ◌==◌, ◌∷◌}
 use Rattle.std.specs.Str.{IsCharBoundary, IsUtf8}
@@ -15,13 +15,13 @@ use Rattle.yaml_grammar.specs.BlockScalars.{past_spaces, spaces_before}
 use Rattle.yaml_grammar.specs.Separation.{LineEnd, comments_text}
 use Rattle.yaml_grammar.specs.Texts.{byte_len, every, first, is_empty, spaces, starts_line}
 use Rattle.yaml_recognizers.specs.Comments.{all_comments, more_comments, read_line_end}
-use Rattle.yaml_recognizers.specs.Fronts.{dropped, past, sign, taken}
-use Rattle.yaml_recognizers.proofs.CommentsDepth.{comments_step}
-use Rattle.yaml_recognizers.proofs.CommentsSound.{all_sound}
-use Rattle.yaml_recognizers.proofs.Fronts.{spaces_split, taken_every, taken_split}
-use Rattle.yaml_recognizers.proofs.LineStarts.{starts_joined}
-use Rattle.yaml_recognizers.proofs.Solid.{sign_head}
-use Rattle.yaml_events.specs.Places.{line_starts, without_mark}
+use Rattle.yaml_recognizers.specs.Prefixes.{dropped, past, sign, taken}
+use Rattle.yaml_recognizers.proofs.Separation.CommentsDepth.{comments_step}
+use Rattle.yaml_recognizers.proofs.Separation.CommentsSound.{all_sound}
+use Rattle.yaml_recognizers.proofs.Basics.Prefixes.{spaces_split, taken_every, taken_split}
+use Rattle.yaml_recognizers.proofs.Basics.LineStarts.{starts_joined}
+use Rattle.yaml_recognizers.proofs.Basics.Solid.{sign_head}
+use Rattle.yaml_events.specs.EventPlaces.{line_starts, without_mark}
 use Rattle.yaml_block.proofs.BlockLines.{spaces_start}
 use Rattle.yaml_block.proofs.BlockSigns.{white_starts}
 
@@ -71,6 +71,7 @@ unmarked_joined (x ∷ xs) ys h = elim (cases_Bool (x == 0xfeff)) [
   | inr e ↦ rw e (starts_joined (line_break x) xs ys)
 ]
 
+-- whether a line starts after the characters between two places
 pub starts_over : (bs : List ℕ) (i j : ℕ) (xs : List ℕ) → IsUtf8 bs → IsCharBoundary bs i → IsCharBoundary bs j
     → rest bs i ≡ xs ++ rest bs j → first order_mark xs ≡ false
     → starts_line (line_starts bs i) xs ≡ line_starts bs j
@@ -87,6 +88,7 @@ white_unmarked : (xs : List ℕ) → every white xs ≡ true → first order_mar
 white_unmarked [] h = refl
 white_unmarked (x ∷ xs) h = let w : white x ≡ true = (and_parts _ _ h).0 in grind (arith, nat_tests, w)
 
+-- whitespace between two places, as characters
 pub white_spelled : (bs : List ℕ) (i j : ℕ) → IsUtf8 bs → IsCharBoundary bs i → IsCharBoundary bs j
     → dropped white (rest bs i) ≡ rest bs j
     → (i + byte_len (taken white (rest bs i)) ≡ j)
@@ -112,6 +114,7 @@ spaces_unmarked : (s : ℕ) → first order_mark (spaces s) ≡ false
 spaces_unmarked zero = refl
 spaces_unmarked (suc s) = refl
 
+-- spaces between two places, as characters
 pub spaces_spelled : (bs : List ℕ) (i j : ℕ) → IsUtf8 bs → IsCharBoundary bs i → IsCharBoundary bs j
     → past_spaces (rest bs i) ≡ rest bs j
     → starts_line (line_starts bs i) (spaces (spaces_before (rest bs i))) ≡ line_starts bs j
@@ -119,7 +122,7 @@ spaces_spelled bs i j u b d e =
     starts_over bs i j (spaces (spaces_before (rest bs i))) u b d (spaces_split (rest bs i)
     ∙ ap (λ t. spaces (spaces_before (rest bs i)) ++ t) e) (spaces_unmarked (spaces_before (rest bs i)))
 
--- behind the spaces of a line that is not the text's end
+-- after the spaces of a line that is not the text's end
 pub pair_starts : (bs : List ℕ) (i j k : ℕ) → IsUtf8 bs → IsCharBoundary bs i → IsCharBoundary bs j
     → (line_starts bs i ≡ true) ⊎ (rest bs i ≡ []) → is_empty (rest bs i) ≡ false
     → spaces_before (rest bs i) ≡ k → past_spaces (rest bs i) ≡ rest bs j → line_starts bs j ≡ (k == 0)
@@ -142,6 +145,7 @@ first_kept : (xs ys : List ℕ) → first order_mark (xs ++ ys) ≡ false → fi
 first_kept [] ys h = refl
 first_kept (x ∷ xs) ys h = h
 
+-- comments contain no byte order mark at their start
 pub comments_unmarked : (bol : Bool) (text : List ℕ)
     → first order_mark (comments_text (all_comments bol text).0) ≡ false
 comments_unmarked bol text = elim (cases_Bool (first order_mark text)) [
@@ -155,6 +159,7 @@ comments_unmarked bol text = elim (cases_Bool (first order_mark text)) [
     none (c ∷ cs) h = comments_step bol (c ∷ cs) ∙ ap (more_comments (c ∷ cs) (λ rest'. all_comments true rest'))
         (mark_no_line bol c cs h)
 
+-- comments between two places, as characters
 pub comments_spelled : (bs : List ℕ) (bol : Bool) (i j : ℕ) → IsUtf8 bs → IsCharBoundary bs i → IsCharBoundary bs j
     → line_starts bs i ≡ bol → (all_comments bol (rest bs i)).1 ≡ rest bs j
     → (i + byte_len (comments_text (all_comments bol (rest bs i)).0) ≡ j)
@@ -177,6 +182,7 @@ pub record IsPastSign (bs : List ℕ) (at : ℕ) : Type 0 where
   pub past_is : past (rest bs at) ≡ rest bs (at + 1)
   pub inside_line : line_starts bs (at + 1) ≡ false
 
+-- the place after a sign
 pub past_sign : (bs : List ℕ) (at x : ℕ) → IsUtf8 bs → IsCharBoundary bs at → x < 128 → line_break x ≡ false
     → sign x (rest bs at) ≡ true → IsPastSign bs at
 past_sign bs at x u b a n h = elim (cases_lt at (length bs)) [

@@ -16,11 +16,11 @@ use Rattle.yaml_grammar.specs.BlockScalars.{past_spaces, spaces_before}
 use Rattle.yaml_grammar.specs.Events as grammar
 use Rattle.yaml_grammar.specs.BlockNodes.{Indented, Pair}
 use Rattle.yaml_recognizers.specs.Ends.{ended}
-use Rattle.yaml_recognizers.specs.Fronts.{past, sign}
+use Rattle.yaml_recognizers.specs.Prefixes.{past, sign}
 use Rattle.yaml_recognizers.specs.Reading.{Read}
 use Rattle.yaml_recognizers.specs.BlockFrames.{Sits, BlockFrame, waits_item, waits_key, waits_value, PairKey, key_asked}
 use Rattle.yaml_events.specs.Meant.{event_of}
-use Rattle.yaml_events.specs.Places.{line_starts}
+use Rattle.yaml_events.specs.EventPlaces.{line_starts}
 use Rattle.yaml_events.specs.Borrowed.{BorrowsPlain}
 use Rattle.yaml_events.specs.declared.event.Event.{Event}
 use Rattle.yaml_events.specs.declared.event.Event.TheVariants.{SeqEnd, MapEnd}
@@ -42,7 +42,7 @@ use Rattle.yaml_block.proofs.Stacks.{Popped, appended_one, emptied, opened, popp
 use Rattle.yaml_block.proofs.TextPlaces.{IsPastSign, past_sign}
 use Rattle.yaml_block.proofs.Unwinding.{item_goes_on, sequence_ends, value_opens, key_alone, value_read, pair_goes_on, mapping_ends}
 
--- a sign stands on the line, after as many spaces
+-- a sign is on the line, after as many spaces
 pub record SignHere (bs : List ℕ) (line : Line) (k x : ℕ) : Type 0 where
   pub count : spaces_before (rest bs line.start) ≡ k
   pub place : line.start + k ≡ line.first
@@ -50,6 +50,7 @@ pub record SignHere (bs : List ℕ) (line : Line) (k x : ℕ) : Type 0 where
   pub here : sign x (rest bs line.first) ≡ true
   pub past_it : IsPastSign bs line.first
 
+-- a byte of a sign is the sign there
 pub sign_here : (bs : List ℕ) (line : Line) (k x : ℕ) → IsUtf8 bs → IsLine bs line → x < 128 → line_break x ≡ false
     → (spaces_before (rest bs line.start) == k) && sign x (past_spaces (rest bs line.start)) ≡ true
     → SignHere bs line k x
@@ -68,6 +69,7 @@ sign_here bs line k x u l a b h =
       past_it = past_sign bs line.first x u (l.spaces).boundary a b s;
     }
 
+-- after the sign the next step is further on
 pub sign_onward : (bs : List ℕ) (line : Line) (k x : ℕ) (sg : Sign) → SignHere bs line k x
     → Onward bs line.start (3 * (length bs - line.start) + 1) (next.After (line.first + 1) k sg)
 sign_onward bs line k x sg s =
@@ -101,6 +103,7 @@ module _ (W : Read Indented) (text : List ℕ) (from : ℕ) (base : List Event) 
     stands = a;
   }
 
+  -- a sequence goes on with a `-`
   pub item_next : (indent : ℕ) (line : Line) (end : ℕ) → ItemRead indent W text from fs evs line.start end
       → SignHere text line indent 45
       → new.collections.items ≡ old.collections.items ++ (record { waits = Item; indent = indent }) ∷ []
@@ -123,6 +126,7 @@ module _ (W : Read Indented) (text : List ℕ) (from : ℕ) (base : List Event) 
       by_frame (waits_key sits k done) w i a = absurd (let e : ⊥ = cc in e)
       by_frame (waits_value sits k done key) w i a = absurd (let e : ⊥ = cc in e)
 
+  -- a mapping goes on with the `:` of an asked key
   pub value_next : (indent : ℕ) (line : Line) (end : ℕ) → KeyRead indent W text from fs evs line.start end
       → SignHere text line indent 58
       → new.collections.items ≡ old.collections.items ++ (record { waits = Value; indent = indent }) ∷ []
@@ -159,6 +163,7 @@ module _ (W : Read Indented) (text : List ℕ) (from : ℕ) (base : List Event) 
     stands = subst (λ j. AtLine W text from fs (evs ++ event_of e ∷ []) start j) (sym q) a;
   }
 
+  -- a sequence ends
   pub item_ends : (indent start end : ℕ) → ItemRead indent W text from fs evs start end
       → (spaces_before (rest text start) == indent) && sign 45 (past_spaces (rest text start)) ≡ false
       → new.collections ≡ old.collections → new.events ≡ old.events ++ SeqEnd ∷ [] → new.end ≡ end
@@ -175,6 +180,7 @@ module _ (W : Read Indented) (text : List ℕ) (from : ℕ) (base : List Event) 
       by_frame (waits_key sits k done) w i a = absurd (let e : ⊥ = cc in e)
       by_frame (waits_value sits k done key) w i a = absurd (let e : ⊥ = cc in e)
 
+  -- a mapping ends
   pub pair_ends : (indent start end : ℕ) → AfterPair W text from fs evs indent start end
       → (spaces_before (rest text start) == indent) && not (ended indent false (rest text start)) ≡ false
       → new.collections ≡ old.collections → new.events ≡ old.events ++ MapEnd ∷ [] → new.end ≡ end
@@ -205,11 +211,13 @@ pub item_of : (W : Read Indented) (text : List ℕ) (from : ℕ) (fs : List Bloc
     → PartRead c W text from fs evs start end → ItemRead c.indent W text from fs evs start end
 item_of W text from fs evs c start end w p = (p.0, (p.1).waits ∙ w, (p.1).indent, p.2)
 
+-- the open collection that waits for a key
 pub key_of : (W : Read Indented) (text : List ℕ) (from : ℕ) (fs : List BlockFrame) (evs : List grammar.Event)
     (c : Collection) (start end : ℕ) → c.waits ≡ Key
     → PartRead c W text from fs evs start end → KeyRead c.indent W text from fs evs start end
 key_of W text from fs evs c start end w p = (p.0, (p.1).waits ∙ w, (p.1).indent, p.2)
 
+-- the open collection that waits for a value
 pub pair_of : (W : Read Indented) (text : List ℕ) (from : ℕ) (fs : List BlockFrame) (evs : List grammar.Event)
     (c : Collection) (start end : ℕ) → c.waits ≡ Value
     → PartRead c W text from fs evs start end → PairRead c.indent W text from fs evs start end
@@ -224,10 +232,12 @@ pair_of W text from fs evs c start end w p = by_frame p.0 ((p.1).waits ∙ w) (p
 
 -- ---- whether a pair goes on
 
+-- a line of another depth doesn't go on with the collection
 pub not_as_deep : (k : ℕ) (text : List ℕ) (b : Bool) → (spaces_before text ≡ k → ⊥)
     → false ≡ (spaces_before text == k) && b
 not_as_deep k text b n = sym (and_left _ b (ne_eqb (spaces_before text) k n))
 
+-- a line that ends all collections has no further pair
 pub pair_stops : (k : ℕ) (text : List ℕ) → stops_all text ≡ true
     → false ≡ (spaces_before text == k) && not (ended k false text)
 pair_stops k text s = sym (pair_test k text ∙ and_right (spaces_before text == k) _ (ap not s))
@@ -238,15 +248,18 @@ stops_at_line_end text h = or_right (is_empty text || marker text) (is_line_end 
 stops_at_end : (text : List ℕ) → text ≡ [] → stops_all text ≡ true
 stops_at_end text e = ap stops_all e
 
+-- nor has a comment line
 pub no_pair_at_line_end : (k : ℕ) (text : List ℕ) → is_line_end text ≡ true
     → false ≡ (spaces_before text == k) && not (ended k false text)
 no_pair_at_line_end k text h = pair_stops k text (stops_at_line_end text h)
 
+-- nor has the end of the text
 pub no_pair_at_end : (bs : List ℕ) (k start : ℕ) → start ≡ length bs
     → false ≡ (spaces_before (rest bs start) == k) && not (ended k false (rest bs start))
 no_pair_at_end bs k start e = pair_stops k (rest bs start)
     (stops_at_end (rest bs start) (rest-end bs start (omega (arith, e))))
 
+-- a marker is no further pair
 pub pair_by_marker : (k : ℕ) (text : List ℕ) → spaces_before text ≡ k → is_line_end text ≡ false
     → is_empty text ≡ false
     → not (marker text) ≡ (spaces_before text == k) && not (ended k false text)
@@ -271,6 +284,7 @@ not_empty : (k : ℕ) (text : List ℕ) → not (ended k false text) ≡ true �
 not_empty k [] h = absurd (false≢true h)
 not_empty k (c ∷ cs) h = refl
 
+-- a further pair is on the line
 pub pair_here : (bs : List ℕ) (line : Line) (k : ℕ) → IsUtf8 bs → IsLine bs line
     → (spaces_before (rest bs line.start) == k) && not (ended k false (rest bs line.start)) ≡ true
     → PairHere bs line k
@@ -287,6 +301,7 @@ pair_here bs line k u l h =
           (not_empty k (rest bs line.start) p.1) count (l.spaces).leaves;
     }
 
+-- at the pair the next step is further on
 pub pair_onward : (bs : List ℕ) (line : Line) (k : ℕ) → IsLine bs line → PairHere bs line k
     → Onward bs line.start (3 * (length bs - line.start) + 1) (next.Pair line.first k)
 pair_onward bs line k l p =
@@ -297,6 +312,7 @@ pair_onward bs line k l p =
       placed = record { boundary = (l.spaces).boundary; deep = omega arith };
     }
 
+-- a mapping goes on with a further pair
 pub pair_next : (W : Read Indented) (text : List ℕ) (from : ℕ) (base : List Event) (fs : List BlockFrame)
     (evs : List grammar.Event) (reader : Reader) (k : ℕ) (line : Line) (end : ℕ)
     → Holds text base fs evs reader → AfterPair W text from fs evs k line.start end
@@ -321,6 +337,7 @@ left_out text base fs evs old new e end h c n m b = record {
       (appended_one text base old.events new.events evs e h.appended n b);
 }
 
+-- before the end of the text there is a character
 pub filled_there : (bs : List ℕ) (at : ℕ) → IsUtf8 bs → IsCharBoundary bs at → at < length bs
     → is_empty (rest bs at) ≡ false
 filled_there bs at u b l = ap is_empty (char_at bs at u b l).1.splits
@@ -351,6 +368,7 @@ turned W text from base start now mid c i e q p =
       ),
     )
 
+-- a collection that goes on leads to the next step
 pub unwinds_on : (text : List ℕ) (after : NextLine) (first now mid new : Reader) (c : Collection) (next : Option Next)
     (to : Next) → StillPart text after.line.start first now
     → now.collections.items ≡ mid.collections.items ++ c ∷ [] → mid.events ≡ now.events → mid.end ≡ now.end
@@ -364,6 +382,7 @@ unwinds_on text after first now mid new c next to s i e q t n W from base fs evs
     subst (λ x. Turns (PartRead c) text after mid new x) n t in
     all W from base p.0 p.1 p.2 p.3
 
+-- a collection that ends is the part of the one around it
 pub unwinds_more : (text : List ℕ) (after : NextLine) (first now mid new : Reader) (c : Collection)
     (next : Option Next) → StillPart text after.line.start first now
     → now.collections.items ≡ mid.collections.items ++ c ∷ [] → mid.events ≡ now.events → mid.end ≡ now.end
@@ -374,6 +393,7 @@ unwinds_more text after first now mid new c next s i e q t n W from base fs evs 
     let all : Turns (PartRead c) text after mid new None = subst (λ x. Turns (PartRead c) text after mid new x) n t in
     record { fs = p.0; part = all W from base p.0 p.1 p.2 p.3 }
 
+-- when all have ended, the node is read
 pub unwinds_all : (text : List ℕ) (start : ℕ) (first now mid : Reader) → StillPart text start first now
     → length now.collections.items ≡ 0
     → mid.collections.items ≡ [] → mid.events ≡ now.events → mid.end ≡ now.end
@@ -395,10 +415,12 @@ unwinds_all text start first now mid s l i e q W from base fs evs h a =
           (subst (λ gs. AtLine W text from gs part.evs start now.end) none part.stands);
     }
 
+-- before the first step the reader has read its part
 pub still_first : (text : List ℕ) (start : ℕ) (first : Reader) → StillPart text start first first
 still_first text start first W from base fs evs h a =
     record { fs = fs; part = record { evs = evs; holds = h; stands = a } }
 
+-- a list of length 0 is empty
 pub no_items : {A : Type 0} (xs : List A) → length xs ≡ 0 → xs ≡ []
 no_items [] l = refl
 no_items (x ∷ xs) l = absurd (omega (arith, l))

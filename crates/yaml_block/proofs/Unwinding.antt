@@ -12,14 +12,14 @@ use Rattle.yaml_grammar.specs.Separation.{comments_text}
 use Rattle.yaml_grammar.specs.Texts.{byte_len, spaces}
 use Rattle.yaml_recognizers.specs.BlockFrames.{BlockFrame, PairKey, Sits, close_pairs, items_part, joined_items, joined_pairs, key_asked, key_on_line, on_lines, on_sign_line, pair_with, pairs_after, pairs_part, plug, unwind, waits_item, waits_key, waits_value}
 use Rattle.yaml_recognizers.specs.Ends.{ended}
-use Rattle.yaml_recognizers.specs.Fronts.{past, sign}
+use Rattle.yaml_recognizers.specs.Prefixes.{past, sign}
 use Rattle.yaml_recognizers.specs.Reading.{Read, on}
 use Rattle.yaml_recognizers.specs.Recognizers.{block_indented_at, block_node_at, block_pairs_at}
-use Rattle.yaml_recognizers.proofs.BlockFrames.{asked_for_alone, item_last, item_next, pair_last, pair_next, value_opens as value_next}
-use Rattle.yaml_recognizers.proofs.EventFronts.{done_items_end, done_items_events, done_pairs_end, done_pairs_events, item_place, items_end_last, items_front, pair_place, pairs_end_last, pairs_front}
-use Rattle.yaml_recognizers.proofs.LineStarts.{byte_len_joined}
-use Rattle.yaml_recognizers.proofs.Reading.{on_parts, some_parts}
-use Rattle.yaml_events.specs.Places.{line_starts}
+use Rattle.yaml_recognizers.proofs.Block.BlockFrames.{asked_for_alone, item_last, item_next, pair_last, pair_next, value_opens as value_next}
+use Rattle.yaml_recognizers.proofs.Meanings.EventPrefixes.{done_items_end, done_items_events, done_pairs_end, done_pairs_events, item_place, items_end_last, items_prefix, pair_place, pairs_end_last, pairs_prefix}
+use Rattle.yaml_recognizers.proofs.Basics.LineStarts.{byte_len_joined}
+use Rattle.yaml_recognizers.proofs.Basics.Reading.{on_parts, some_parts}
+use Rattle.yaml_events.specs.EventPlaces.{line_starts}
 use Rattle.yaml_block.specs.declared.frame.Sign.TheVariants.{Asked, Dash}
 use Rattle.yaml_block.specs.BlockParts.{as_part}
 use Rattle.yaml_block.specs.Frames.{AfterPair, AfterSign, AtLine, AtPair, Seated, events_in, fits_frame, fits_frames, indent_of, inner_indent, key_events, place_in, sits_place, value_place}
@@ -228,13 +228,14 @@ pair_of sits k done (key_on_line key gap) (omitted comments) h = record {
 -- ---- steps
 
 module _ (W : Read Indented) (text : List ℕ) (from : ℕ) where
+  -- a `-` at the same depth goes on with the sequence
   pub item_goes_on : (fs : List BlockFrame) (evs : List Event) (sits : Sits) (k : ℕ) (done : List Indented)
-      (start end front : ℕ) (h : AtLine W text from (waits_item sits k done ∷ fs) evs start end)
-      → spaces_before (rest text start) ≡ k → start + k ≡ front → past_spaces (rest text start) ≡ rest text front
-      → sign 45 (rest text front) ≡ true
-      → past (rest text front) ≡ rest text (front + 1)
-      → AfterSign W text from (waits_item sits k (done ++ h.part ∷ []) ∷ fs) evs Dash k (front + 1)
-  item_goes_on fs evs sits k done start end front h c p e d q =
+      (start end prefix : ℕ) (h : AtLine W text from (waits_item sits k done ∷ fs) evs start end)
+      → spaces_before (rest text start) ≡ k → start + k ≡ prefix → past_spaces (rest text start) ≡ rest text prefix
+      → sign 45 (rest text prefix) ≡ true
+      → past (rest text prefix) ≡ rest text (prefix + 1)
+      → AfterSign W text from (waits_item sits k (done ++ h.part ∷ []) ∷ fs) evs Dash k (prefix + 1)
+  item_goes_on fs evs sits k done start end prefix h c p e d q =
       let i : Indented = h.part in
       let at : ℕ = sits_place sits (place_in fs from) in
       let E : ℕ = done_items_end k done at in
@@ -244,7 +245,7 @@ module _ (W : Read Indented) (text : List ℕ) (from : ℕ) where
             (item_next sits k done i (rest text start) (eq-eqb (spaces_before (rest text start)) k c) (ap (sign 45) e
             ∙ d)
             ∙ ap (λ u. on (block_indented_at k false u)
-            (λ j behind. plug (waits_item sits k (done ++ i ∷ [])) j behind)) (ap past e ∙ q));
+            (λ j after. plug (waits_item sits k (done ++ i ∷ [])) j after)) (ap past e ∙ q));
         nested = h.nested;
         awaits = (refl, refl);
         place = ap (λ x. x + 1) (items_end_more k done i at ∙ (ap (λ x. x + k) place ∙ p));
@@ -254,6 +255,7 @@ module _ (W : Read Indented) (text : List ℕ) (from : ℕ) where
             ∙ ap (λ es. events_in fs from ++ seq_start ∷ es) (sym (items_events_more k done i at)));
       }
 
+  -- else the sequence ends
   pub sequence_ends : (fs : List BlockFrame) (evs : List Event) (sits : Sits) (k : ℕ) (done : List Indented)
       (start end : ℕ) → AtLine W text from (waits_item sits k done ∷ fs) evs start end
       → (spaces_before (rest text start) == k) && sign 45 (past_spaces (rest text start)) ≡ false
@@ -281,16 +283,17 @@ module _ (W : Read Indented) (text : List ℕ) (from : ℕ) where
             (seq_start ∷ done_items_events k done at) (indented_events i k (E + 1)))
             ∙ (append_assoc (events_in fs from) (seq_start ∷ (done_items_events k done at ++ indented_events i k
             (E + 1))) (seq_end ∷ [])
-            ∙ ap (λ es. events_in fs from ++ es) (ap as_seq (sym (items_front k done (item i) at)) ∙ sym s.events)));
+            ∙ ap (λ es. events_in fs from ++ es) (ap as_seq (sym (items_prefix k done (item i) at)) ∙ sym s.events)));
       }
 
+  -- a `:` at the same depth goes on with the asked key
   pub value_opens : (fs : List BlockFrame) (evs : List Event) (sits : Sits) (k : ℕ) (done : List Pair)
-      (start end front : ℕ) (h : AtLine W text from (waits_key sits k done ∷ fs) evs start end)
-      → spaces_before (rest text start) ≡ k → start + k ≡ front → past_spaces (rest text start) ≡ rest text front
-      → sign 58 (rest text front) ≡ true
-      → past (rest text front) ≡ rest text (front + 1)
-      → AfterSign W text from (waits_value sits k done (key_asked h.part) ∷ fs) evs Asked k (front + 1)
-  value_opens fs evs sits k done start end front h c p e d q =
+      (start end prefix : ℕ) (h : AtLine W text from (waits_key sits k done ∷ fs) evs start end)
+      → spaces_before (rest text start) ≡ k → start + k ≡ prefix → past_spaces (rest text start) ≡ rest text prefix
+      → sign 58 (rest text prefix) ≡ true
+      → past (rest text prefix) ≡ rest text (prefix + 1)
+      → AfterSign W text from (waits_value sits k done (key_asked h.part) ∷ fs) evs Asked k (prefix + 1)
+  value_opens fs evs sits k done start end prefix h c p e d q =
       let i : Indented = h.part in
       let at : ℕ = sits_place sits (place_in fs from) in
       let P : ℕ = done_pairs_end k done at in
@@ -300,7 +303,7 @@ module _ (W : Read Indented) (text : List ℕ) (from : ℕ) where
             (value_next sits k done i (rest text start) (not-true _ h.fits)
             (eq-eqb (spaces_before (rest text start)) k c) (ap (sign 58) e ∙ d)
             ∙ ap (λ u. on (block_indented_at k true u)
-            (λ j behind. plug (waits_value sits k done (key_asked i)) j behind)) (ap past e ∙ q));
+            (λ j after. plug (waits_value sits k done (key_asked i)) j after)) (ap past e ∙ q));
         nested = h.nested;
         awaits = (refl, refl);
         place = ap (λ x. x + k + 1) place ∙ ap (λ x. x + 1) p;
@@ -308,6 +311,7 @@ module _ (W : Read Indented) (text : List ℕ) (from : ℕ) where
             (indented_events i k (P + 1));
       }
 
+  -- else the key is alone
   pub key_alone : (fs : List BlockFrame) (evs : List Event) (sits : Sits) (k : ℕ) (done : List Pair) (start end : ℕ)
       → AtLine W text from (waits_key sits k done ∷ fs) evs start end
       → (spaces_before (rest text start) == k) && sign 58 (past_spaces (rest text start)) ≡ false
@@ -338,6 +342,7 @@ module _ (W : Read Indented) (text : List ℕ) (from : ℕ) where
             ∷ (done_pairs_events k done at ++ (indented_events i k (P + 1) ++ omitted_at x))) (sym h.ends))));
       }
 
+  -- with its value a pair is read
   pub value_read : (fs : List BlockFrame) (evs : List Event) (sits : Sits) (k : ℕ) (done : List Pair) (key : PairKey)
       (start end : ℕ)
       → AtLine W text from (waits_value sits k done key ∷ fs) evs start end → AfterPair W text from fs evs k start end
@@ -350,7 +355,7 @@ module _ (W : Read Indented) (text : List ℕ) (from : ℕ) where
         sits = sits;
         done = done;
         last = p.made;
-        reads = h.reads ∙ ap (λ r. unwind fs (on r (λ q behind. pairs_after sits k done q behind)))
+        reads = h.reads ∙ ap (λ r. unwind fs (on r (λ q after. pairs_after sits k done q after)))
             (p.reads (rest text start));
         nested = h.nested.1;
         seated = h.nested.0;
@@ -365,12 +370,13 @@ module _ (W : Read Indented) (text : List ℕ) (from : ℕ) where
             ∙ ap (λ es. done_pairs_events k done at ++ es) (sym (p.events P))));
       }
 
-  pub pair_goes_on : (fs : List BlockFrame) (evs : List Event) (k start end front : ℕ)
+  -- a key at the same depth goes on with the mapping
+  pub pair_goes_on : (fs : List BlockFrame) (evs : List Event) (k start end prefix : ℕ)
       → AfterPair W text from fs evs k start end
-      → (spaces_before (rest text start) == k) && not (ended k false (rest text start)) ≡ true → start + k ≡ front
-      → past_spaces (rest text start) ≡ rest text front
-      → line_starts text front ≡ (k == 0) → AtPair W text from fs evs k front
-  pair_goes_on fs evs k start end front h n p e b =
+      → (spaces_before (rest text start) == k) && not (ended k false (rest text start)) ≡ true → start + k ≡ prefix
+      → past_spaces (rest text start) ≡ rest text prefix
+      → line_starts text prefix ≡ (k == 0) → AtPair W text from fs evs k prefix
+  pair_goes_on fs evs k start end prefix h n p e b =
       let at : ℕ = sits_place h.sits (place_in fs from) in
       record {
         sits = h.sits;
@@ -384,6 +390,7 @@ module _ (W : Read Indented) (text : List ℕ) (from : ℕ) where
         wrote = h.wrote ∙ ap (λ es. events_in fs from ++ map_start ∷ es) (sym (pairs_events_more k h.done h.last at));
       }
 
+  -- else the mapping ends
   pub mapping_ends : (fs : List BlockFrame) (evs : List Event) (k start end : ℕ)
       → AfterPair W text from fs evs k start end
       → (spaces_before (rest text start) == k) && not (ended k false (rest text start)) ≡ false
@@ -406,7 +413,7 @@ module _ (W : Read Indented) (text : List ℕ) (from : ℕ) where
         wrote = ap (λ es. es ++ map_end ∷ []) h.wrote
             ∙ (append_assoc (events_in fs from) (map_start
             ∷ (done_pairs_events k h.done at ++ pair_events h.last k P)) (map_end ∷ [])
-            ∙ ap (λ es. events_in fs from ++ es) (ap as_map (sym (pairs_front k h.done (pair h.last) at))
+            ∙ ap (λ es. events_in fs from ++ es) (ap as_map (sym (pairs_prefix k h.done (pair h.last) at))
             ∙ sym s.events));
       }
 
@@ -416,7 +423,7 @@ pub whole : (text : List ℕ) (from m : ℕ) (shallow bol : Bool) (evs : List Ev
     → (n : Node) × (block_node_at m shallow bol (rest text from) ≡ Some (n, rest text start))
     × (evs ≡ node_events n from)
 whole text from m shallow bol evs start end h =
-    let p = on_parts (block_node_at m shallow bol (rest text from)) (λ n behind. Some (node n, behind))
+    let p = on_parts (block_node_at m shallow bol (rest text from)) (λ n after. Some (node n, after))
     (h.part, rest text start) h.reads in
     let q : (node p.0 ≡ h.part) × (p.1 ≡ rest text start) = some_parts (node p.0) h.part p.1 (rest text start) p.3 in
     (p.0, p.2 ∙ ap (λ t. Some (p.0, t)) q.1, h.wrote ∙ ap (λ (i : Indented). indented_events i 0 from) (sym q.0))

@@ -8,6 +8,7 @@ use Rattle.yaml_events.specs.declared.event.Style.TheVariants.{Literal, Folded}
 use Rattle.yaml_block.specs.States.{IsNextLine}
 use Rattle.yaml_block.specs.declared.frame.NextLine.{NextLine}
 
+-- literal or folded
 abbrev pub IsBlockStyle : Bool → Style → Type 0
 IsBlockStyle folded style = style ≡ (if folded then Folded else Literal)
 

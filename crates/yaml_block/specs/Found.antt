@@ -7,7 +7,7 @@ use Rattle.yaml_grammar.specs.BlockNodes.{Node, node_events}
 use Rattle.yaml_recognizers.specs.Recognizers.{block_node_at}
 use Rattle.yaml_recognizers.specs.StandingNodes.{BlockNodeStands, NoBlockNode}
 use Rattle.yaml_events.specs.Meant.{events_of}
-use Rattle.yaml_events.specs.Places.{line_starts}
+use Rattle.yaml_events.specs.EventPlaces.{line_starts}
 use Rattle.yaml_events.specs.declared.event.Event.{Event}
 use Rattle.yaml_scan.specs.Lines.{IsLineStart}
 use Rattle.yaml_flow.specs.FlowNodes.{Appended}
@@ -24,20 +24,20 @@ pub record BlockNodeRead (m : ℕ) (shallow : Bool) (text : List ℕ) (at : ℕ)
     pub found : block_node_at m shallow (line_starts text at) (rest text at) ≡ Some (node, rest text end)
     pub appended : Appended text old new (node_events node at)
 
--- Each block node that stands at the place, in whatever form it is presented, has these events. The
+-- Each block node that is at the place, in whatever form it is presented, has these events. The
 -- end is after the lines of white
 -- space and comments that follow it, or before them.
 abbrev pub IsEachBlockNode : ℕ → Bool → List ℕ → ℕ → List Event → List Event → ℕ → Type 0
 IsEachBlockNode m shallow text at old new end =
-    (node : Node) (behind : List ℕ) (stands : BlockNodeStands m shallow (line_starts text at) (rest text at) node
-    behind)
+    (node : Node) (after : List ℕ) (stands : BlockNodeStands m shallow (line_starts text at) (rest text at) node
+    after)
     → (events_of new ≡ events_of old ++ node_events node at)
-    × ((rest text end ≡ stands.behind.behind) ⊎ (rest text end ≡ behind))
+    × ((rest text end ≡ stands.after.after) ⊎ (rest text end ≡ after))
 
 -- the recognizer finds no block node at the place
 abbrev pub NoBlockNodeFound : ℕ → Bool → List ℕ → ℕ → Type 0
 NoBlockNodeFound m shallow text at = block_node_at m shallow (line_starts text at) (rest text at) ≡ None
 
--- none stands there, in whatever form
+-- there is none, in whatever form
 abbrev pub NoBlockNodeAt : ℕ → Bool → List ℕ → ℕ → Type 0
 NoBlockNodeAt m shallow text at = NoBlockNode m shallow (line_starts text at) (rest text at)

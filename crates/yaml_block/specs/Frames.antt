@@ -8,12 +8,12 @@ use Rattle.yaml_grammar.specs.FlowNodes.{flow_text, flow_events}
 use Rattle.yaml_grammar.specs.BlockNodes.{Pair, Indented, compact_items, compact_pairs, node, omitted, is_omitted, indented_text, indented_end, indented_events, pair_text, pair_end, pair_events}
 use Rattle.yaml_grammar.specs.Events.{Event, seq_start, map_start}
 use Rattle.yaml_recognizers.specs.Reading.{Read}
-use Rattle.yaml_recognizers.specs.BlockNodes.{node_behind}
+use Rattle.yaml_recognizers.specs.BlockNodes.{node_below}
 use Rattle.yaml_recognizers.specs.BlockScalars.{read_block}
 use Rattle.yaml_recognizers.specs.Recognizers.{block_key_in, flow_leaf_at, block_node_at, block_items_at, block_pairs_at, block_indented_at}
 use Rattle.yaml_recognizers.specs.BlockFrames.{Sits, on_sign_line, on_lines, PairKey, key_asked, key_on_line, BlockFrame, waits_item, waits_key, waits_value, close_pairs, pairs_after, keyed_part, unwind}
-use Rattle.yaml_recognizers.proofs.EventFronts.{done_items_end, done_items_events, done_pairs_end, done_pairs_events}
-use Rattle.yaml_events.specs.Places.{line_starts}
+use Rattle.yaml_recognizers.proofs.Meanings.EventPrefixes.{done_items_end, done_items_events, done_pairs_end, done_pairs_events}
+use Rattle.yaml_events.specs.EventPlaces.{line_starts}
 use Rattle.yaml_block.specs.BlockParts.{as_part, part_at}
 use Rattle.yaml_block.specs.declared.frame.Waits.{Waits}
 use Rattle.yaml_block.specs.declared.frame.Waits.TheVariants.{Item, Key, Value}
@@ -22,31 +22,36 @@ use Rattle.yaml_block.specs.declared.frame.Sign.TheVariants.{Dash, Asked, Colon}
 
 -- ---- frames
 
+-- where the open collection is in its part
 abbrev pub sits_of : BlockFrame → Sits
 sits_of (waits_item sits k done) = sits
 sits_of (waits_key sits k done) = sits
 sits_of (waits_value sits k done key) = sits
 
+-- the indentation of the open collection
 abbrev pub indent_of : BlockFrame → ℕ
 indent_of (waits_item sits k done) = k
 indent_of (waits_key sits k done) = k
 indent_of (waits_value sits k done key) = k
 
+-- what the open collection waits for
 abbrev pub waits_of : BlockFrame → Waits
 waits_of (waits_item sits k done) = Item
 waits_of (waits_key sits k done) = Key
 waits_of (waits_value sits k done key) = Value
 
--- the sign after which the part stands
+-- the sign after which the part is
 abbrev pub sign_after : PairKey → Sign
 sign_after (key_asked key) = Asked
 sign_after (key_on_line key gap) = Colon
 
+-- the sign before the part that it waits for
 abbrev pub sign_of : BlockFrame → Sign
 sign_of (waits_item sits k done) = Dash
 sign_of (waits_key sits k done) = Asked
 sign_of (waits_value sits k done key) = sign_after key
 
+-- the sign is `:`
 abbrev pub is_colon : Sign → Bool
 is_colon Dash = false
 is_colon Asked = false
@@ -60,6 +65,7 @@ Seated (on_lines comments j) k fs = j ≡ k
 Seated (on_sign_line s) k [] = ⊥
 Seated (on_sign_line s) k (g ∷ fs) = (is_colon (sign_of g) ≡ false) × (k ≡ indent_of g + 1 + s)
 
+-- each open collection is where it may be in the ones around it
 abbrev pub Nested : List BlockFrame → Type 0
 Nested [] = Unit {0}
 Nested (f ∷ fs) = Seated (sits_of f) (indent_of f) fs × Nested fs
@@ -76,24 +82,26 @@ is_compact (compact_pairs s ps) = true
 is_compact (node n) = false
 is_compact (omitted comments) = false
 
+-- the part may be the one that the collection waits for
 abbrev pub fits_frame : BlockFrame → Indented → Bool
 fits_frame (waits_item sits k done) i = true
 fits_frame (waits_key sits k done) i = not (is_omitted i)
 fits_frame (waits_value sits k done (key_asked key)) i = true
 fits_frame (waits_value sits k done (key_on_line key gap)) i = not (is_compact i)
 
+-- the same of the innermost collection
 abbrev pub fits_frames : List BlockFrame → Indented → Bool
 fits_frames [] i = true
 fits_frames (f ∷ fs) i = fits_frame f i
 
 -- ---- places and events
 
--- the indentation that a part's text and events are told by
+-- the indentation that a part's text and events take
 abbrev pub inner_indent : List BlockFrame → ℕ
 inner_indent [] = 0
 inner_indent (f ∷ fs) = indent_of f
 
--- where the first sign or key of a collection stands, from where its part begins
+-- where the first sign or key of a collection is, from where its part begins
 abbrev pub sits_place : Sits → ℕ → ℕ
 sits_place (on_sign_line s) at = at + s
 sits_place (on_lines comments k) at = at + byte_len (comments_text comments) + k
@@ -103,6 +111,7 @@ abbrev pub key_events : ℕ → PairKey → ℕ → List Event
 key_events k (key_asked key) at = indented_events key k (at + 1)
 key_events k (key_on_line key gap) at = flow_events key at
 
+-- the place of a pair's value, from that of its key
 abbrev pub value_place : ℕ → PairKey → ℕ → ℕ
 value_place k (key_asked key) at = at + 1 + byte_len (indented_text key k) + k + 1
 value_place k (key_on_line key gap) at = at + byte_len (flow_text key) + byte_len gap + 1
@@ -114,10 +123,10 @@ part_place (waits_key sits k done) at = done_pairs_end k done (sits_place sits a
 part_place (waits_value sits k done key) at = value_place k key (done_pairs_end k done (sits_place sits at))
 
 -- its events so far
-abbrev pub front_events : BlockFrame → ℕ → List Event
-front_events (waits_item sits k done) at = seq_start ∷ done_items_events k done (sits_place sits at)
-front_events (waits_key sits k done) at = map_start ∷ done_pairs_events k done (sits_place sits at)
-front_events (waits_value sits k done key) at =
+abbrev pub prefix_events : BlockFrame → ℕ → List Event
+prefix_events (waits_item sits k done) at = seq_start ∷ done_items_events k done (sits_place sits at)
+prefix_events (waits_key sits k done) at = map_start ∷ done_pairs_events k done (sits_place sits at)
+prefix_events (waits_value sits k done key) at =
     map_start ∷ (done_pairs_events k done (sits_place sits at) ++ key_events k key
     (done_pairs_end k done (sits_place sits at)))
 
@@ -126,22 +135,26 @@ abbrev pub place_in : List BlockFrame → ℕ → ℕ
 place_in [] from = from
 place_in (f ∷ fs) from = part_place f (place_in fs from)
 
+-- the events so far of the open collections
 abbrev pub events_in : List BlockFrame → ℕ → List Event
 events_in [] from = []
-events_in (f ∷ fs) from = events_in fs from ++ front_events f (place_in fs from)
+events_in (f ∷ fs) from = events_in fs from ++ prefix_events f (place_in fs from)
 
 -- ---- what the call reads, W, by what is still to be read
 
+-- the part after a sign, as the recognizer reads it
 abbrev pub part_after : Sign → ℕ → List ℕ → Read Indented
 part_after Dash k text = block_indented_at k false text
 part_after Asked k text = block_indented_at k true text
 part_after Colon k text = keyed_part k text
 
+-- after this sign a sequence may be as deep as the sign
 abbrev pub is_shallow : Sign → Bool
 is_shallow Dash = false
 is_shallow Asked = true
 is_shallow Colon = true
 
+-- the indentation of the pairs that may start here
 abbrev pub pairs_of : Option (Sits × ℕ) → Option ℕ
 pairs_of None = None
 pairs_of (Some (sits, k)) = Some k
@@ -196,7 +209,7 @@ module _ (W : Read Indented) (text : List ℕ) (from : ℕ) (fs : List BlockFram
     pub ends : indented_end part (inner_indent fs) (place_in fs from) ≡ end
     pub wrote : evs ≡ events_in fs from ++ indented_events part (inner_indent fs) (place_in fs from)
 
-  -- a node at m, with its separation, stands at the place
+  -- a node at m, with its separation, is at the place
   pub record AtNode (m : ℕ) (shallow bol : Bool) (at : ℕ) : Type 0 where
     pub reads : W ≡ unwind fs (as_part (block_node_at m shallow bol (rest text at)))
     pub nested : Nested fs
@@ -208,7 +221,7 @@ module _ (W : Read Indented) (text : List ℕ) (from : ℕ) (fs : List BlockFram
   pub record AtNodeLine (m : ℕ) (shallow alone : Bool) (start : ℕ) : Type 0 where
     pub bol : Bool
     pub comments : List LineEnd
-    pub reads : W ≡ unwind fs (as_part (node_behind block_key_in flow_leaf_at read_block (λ k t. block_items_at k t)
+    pub reads : W ≡ unwind fs (as_part (node_below block_key_in flow_leaf_at read_block (λ k t. block_items_at k t)
         (λ k b t. block_pairs_at k b t) m shallow bol (comments, rest text start)))
     pub nested : Nested fs
     pub starts : bol || not (is_empty comments) ≡ true
@@ -217,7 +230,7 @@ module _ (W : Read Indented) (text : List ℕ) (from : ℕ) (fs : List BlockFram
     pub place : place_in fs from + byte_len (comments_text comments) ≡ start
     pub wrote : evs ≡ events_in fs from
 
-  -- A leaf stands at the place after its separation; or the first pair of a mapping at k, where one may begin there.
+  -- A leaf is at the place after its separation; or the first pair of a mapping at k, where one may begin there.
   pub record AtLeaf (m : ℕ) (pairs : Option ℕ) (at : ℕ) : Type 0 where
     pub sep : Sep
     pub mapping : Option (Sits × ℕ)

@@ -7,12 +7,12 @@ use Rattle.yaml_grammar.specs.BlockNodes.{Indented}
 use Rattle.yaml_recognizers.specs.CanonicalComments.{is_line_end}
 use Rattle.yaml_recognizers.specs.Reading.{Read}
 use Rattle.yaml_recognizers.specs.BlockFrames.{BlockFrame}
-use Rattle.yaml_events.specs.Places.{line_starts, Refuses}
+use Rattle.yaml_events.specs.EventPlaces.{line_starts, Refuses}
 use Rattle.yaml_events.specs.declared.fault.ScanFault.{ScanFault}
 use Rattle.yaml_events.specs.declared.event.Event.{Event}
 use Rattle.yaml_events.specs.declared.context.BlockContext.{BlockContext}
 use Rattle.yaml_events.specs.declared.context.BlockContext.TheVariants.{Bin, Bout}
-use Rattle.yaml_scan.specs.Places.{AreSpaces, unbroken_between}
+use Rattle.yaml_scan.specs.ScanPlaces.{AreSpaces, unbroken_between}
 use Rattle.yaml_scan.specs.Lines.{IsLineStart}
 use Rattle.yaml_scan.specs.declared.lines.Line.{Line}
 use Rattle.yaml_flow.specs.FlowNodes.{Appended}
@@ -27,7 +27,7 @@ use Rattle.yaml_block.specs.declared.frame.Next.{Next}
 use Rattle.yaml_block.specs.declared.frame.Next.TheVariants as next
 use Rattle.yaml_block.specs.declared.reader.Reader.{Reader}
 
--- whether a sequence may stand as deep as its parent
+-- whether a sequence may be as deep as its parent
 abbrev pub is_shallow : BlockContext → Bool
 is_shallow Bin = false
 is_shallow Bout = true
@@ -36,8 +36,8 @@ is_shallow Bout = true
 abbrev pub is_deep : ℕ → BlockContext → ℕ → Bool
 is_deep m context s = nat_le m (if is_shallow context then suc s else s)
 
--- The node from `at` to `end`, with its `:` at `colon`, is on one line, and short enough for a key (8.2.2): the `:` follows after at
--- most 1,024 characters.
+-- The node from `at` to `end`, with its `:` at `colon`, is on one line, and short enough for a key (8.2.2): the `:`
+-- follows after at most 1,024 characters.
 abbrev pub fits_as_key : List ℕ → ℕ → ℕ → ℕ → Bool
 fits_as_key text at end colon = unbroken_between text at end && nat_le (length (between text at colon)) 1024
 
@@ -72,6 +72,7 @@ pub record Holds (text : List ℕ) (base : List Event) (fs : List BlockFrame) (e
 
 -- ---- places
 
+-- where the next step starts
 abbrev pub place_of : Next → ℕ
 place_of (next.After at indent sign) = at
 place_of (next.Pair at indent) = at
@@ -89,7 +90,7 @@ pub record IsAfterSign (text : List ℕ) (indent at : ℕ) : Type 0 where
   pub deeper : indent < at
   pub inside_line : line_starts text at ≡ false
 
--- a place where a pair at this indentation may stand
+-- a place where a pair at this indentation may be
 pub record IsPairPlace (text : List ℕ) (indent at : ℕ) : Type 0 where
   pub boundary : IsCharBoundary text at
   pub deep : indent ≤ at
@@ -100,10 +101,12 @@ pub record IsLine (text : List ℕ) (line : Line) : Type 0 where
   pub spaces : AreSpaces text line.start line.first
   pub starts : IsLineStart text line.start
 
+-- the line after a part, and whether something solid is on it
 pub record IsNextLine (text : List ℕ) (after : NextLine) : Type 0 where
   pub line : IsLine text after.line
   pub solid : is_line_end (rest text after.line.start) ≡ not after.is_solid
 
+-- the next step is at a place of the text that it may be at
 abbrev pub IsPlaced : List ℕ → Next → Type 0
 IsPlaced text (next.After at indent sign) = IsAfterSign text indent at
 IsPlaced text (next.Pair at indent) = IsPairPlace text indent at
@@ -135,20 +138,25 @@ pub record GoesOn (W : Read Indented) (text : List ℕ) (from : ℕ) (base : Lis
 abbrev pub Before : Type 1
 Before = Read Indented → ℕ → List BlockFrame → List grammar.Event → Type 0
 
+-- before the part after a sign
 abbrev pub BeforePart : List ℕ → Sign → ℕ → ℕ → Before
 BeforePart text sign k at W from fs evs = AfterSign W text from fs evs sign k at
 
+-- before a pair
 abbrev pub BeforePair : List ℕ → ℕ → ℕ → Before
 BeforePair text k at W from fs evs = AtPair W text from fs evs k at
 
+-- before a node
 abbrev pub BeforeNode : List ℕ → ℕ → Bool → ℕ → Before
 BeforeNode text m shallow at W from fs evs = AtNode W text from fs evs m shallow (line_starts text at) at
 
+-- before a node on its line
 abbrev pub BeforeNodeLine : List ℕ → Indentation → ℕ → Before
 BeforeNodeLine text node start W from fs evs =
     (alone : Bool) × (node.margin ≡ (if alone then 0 else node.least)) × AtNodeLine W text from fs evs node.least
     (is_shallow node.context) alone start
 
+-- before a leaf
 abbrev pub BeforeLeaf : List ℕ → Leaf → Before
 BeforeLeaf text leaf W from fs evs = AtLeaf W text from fs evs leaf.least leaf.pairs leaf.at
 

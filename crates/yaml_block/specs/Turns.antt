@@ -27,10 +27,12 @@ abbrev pub ItemRead : ℕ → Part
 ItemRead indent W text from fs evs start end = (f : BlockFrame) × (waits_of f ≡ Item) × (indent_of f ≡ indent)
     × AtLine W text from (f ∷ fs) evs start end
 
+-- a key after `?` was read
 abbrev pub KeyRead : ℕ → Part
 KeyRead indent W text from fs evs start end = (f : BlockFrame) × (waits_of f ≡ Key) × (indent_of f ≡ indent)
     × AtLine W text from (f ∷ fs) evs start end
 
+-- a pair was read
 abbrev pub PairRead : ℕ → Part
 PairRead indent W text from fs evs start end = AfterPair W text from fs evs indent start end
 
@@ -55,6 +57,7 @@ pub record Unwound (W : Read Indented) (text : List ℕ) (from : ℕ) (base : Li
   pub fs : List BlockFrame
   pub part : IsPart W text from base fs reader start
 
+-- the reader has read the same part as before
 abbrev pub StillPart : List ℕ → ℕ → Reader → Reader → Type 0
 StillPart text start old now =
     (W : Read Indented) (from : ℕ) (base : List Event) (fs : List BlockFrame) (evs : List grammar.Event)

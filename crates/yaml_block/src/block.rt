@@ -7,7 +7,7 @@ ghost use Rattle.yaml_grammar.specs.Texts.{first};
 ghost use Rattle.yaml_recognizers.specs.BlockNodes.{bar};
 ghost use Rattle.yaml_recognizers.specs.BlockScalars.{digit_fits};
 ghost use Rattle.yaml_recognizers.specs.BlockScalarFacts.{NoBody};
-ghost use Rattle.yaml_events.specs.Places.{Refuses};
+ghost use Rattle.yaml_events.specs.EventPlaces.{Refuses};
 ghost use Rattle.yaml_block_scalars.specs.Found.{IsBodyAt};
 ghost use Rattle.yaml_block_scalars.specs.Meant.{least_indent};
 ghost use Rattle.yaml_scan.specs.Lines.{IsLineStart};
@@ -83,7 +83,8 @@ fn body_at<'a>(
         IsBodyAt least head.now.folded head.now text.now at (cow_str_bytes body.value) body.end) }
     ensures style { IfOk result (λ body. IsBlockStyle head.now.folded body.style) }
     ensures line { IfOk result (λ body. IsLineStart text.now body.end) }
-    ensures none { IfErr result (λ fault. Refuses fault (NoBody head.now.digit least (rest text.now at))) }
+    ensures none { IfErr result (λ fault.
+        Refuses fault (NoBody head.now.digit least (rest text.now at))) }
 {
     let below = indentation_below(least);
     if head.folded {

@@ -4,8 +4,8 @@ ghost use Rattle.std.specs.Str.{IsCharBoundary};
 ghost use Rattle.yaml_chars.specs.Places.{rest};
 ghost use Rattle.yaml_grammar.specs.Texts.{first};
 ghost use Rattle.yaml_recognizers.specs.BlockNodes.{bar};
-ghost use Rattle.yaml_recognizers.specs.Fronts.{sign};
-ghost use Rattle.yaml_events.specs.Places.{Refuses};
+ghost use Rattle.yaml_recognizers.specs.Prefixes.{sign};
+ghost use Rattle.yaml_events.specs.EventPlaces.{Refuses};
 ghost use Rattle.yaml_block.specs.States.{fits_as_key, IsOpened, Grown, Onward, Leads, FailsBy, BeforeLeaf};
 
 use crate::frame::{Leaf, Next, NextLine, Sign, Waits};
@@ -118,7 +118,8 @@ fn key_indent(text: &str, leaf: Leaf, end: usize, colon: usize) -> Result<usize,
     requires gap { end ≤ colon }
     ensures pairs { IfOk result (λ indent. leaf.pairs ≡ Some indent) }
     ensures fits { OnOk result (fits_as_key text.now leaf.at end colon ≡ true) }
-    ensures none { IfErr result (λ _. (leaf.pairs ≡ None) ⊎ (fits_as_key text.now leaf.at end colon ≡ false)) }
+    ensures none { IfErr result (λ _. (leaf.pairs ≡ None)
+        ⊎ (fits_as_key text.now leaf.at end colon ≡ false)) }
 {
     let Some(indent) = leaf.pairs else {
         return Err(refusal(colon, Why::Key));

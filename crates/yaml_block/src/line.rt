@@ -2,8 +2,8 @@
 ghost use Rattle.std.specs.Prelude.{◌≡◌, ◌*◌, ◌+◌, ◌-◌, ◌^◌, ◌<◌, ◌≤◌, false, [], ◌∷◌, ◌++◌, ◌&&◌, IfOk, IfErr, OnOk, length};
 ghost use Rattle.yaml_chars.specs.Places.{rest};
 ghost use Rattle.yaml_recognizers.specs.CanonicalComments.{is_line_end};
-ghost use Rattle.yaml_recognizers.specs.Fronts.{sign};
-ghost use Rattle.yaml_events.specs.Places.{Refuses};
+ghost use Rattle.yaml_recognizers.specs.Prefixes.{sign};
+ghost use Rattle.yaml_events.specs.EventPlaces.{Refuses};
 ghost use Rattle.yaml_recognizers.specs.Signs.{dash};
 ghost use Rattle.yaml_block.specs.States.{is_deep, IsOpened, Grown, IsLine, Onward, Leads, FailsBy, BeforeNodeLine};
 
@@ -27,7 +27,8 @@ impl Indentation {
     /// Returns whether the line begins with the `-` of a sequence.
     fn begins_sequence(self, text: &str, line: Line) -> bool
         requires { IsLine text.now line }
-        ensures { result ≡ sign dash (rest text.now line.first) && is_deep self.least self.context (line.first - line.start) }
+        ensures { result ≡ sign dash (rest text.now line.first)
+            && is_deep self.least self.context (line.first - line.start) }
     {
         sign_at(text, line.first, b'-') && self.fits_sequence(line.first - line.start)
     }
@@ -45,10 +46,13 @@ impl<'a> Reader<'a> {
         requires solid { is_line_end (rest text.now line.start) ≡ false }
         requires fits { length text.now < 2 ^ 63 }
         requires least { node.least ≤ 2 ^ 63 }
-        ensures onward { IfOk result (Onward text.now line.start (3 * (length text.now - line.start))) }
-        ensures leads { IfOk result (Leads text.now (BeforeNodeLine text.now node line.start) self.old self.new) }
+        ensures onward { IfOk result (Onward text.now line.start
+            (3 * (length text.now - line.start))) }
+        ensures leads { IfOk result (Leads text.now
+            (BeforeNodeLine text.now node line.start) self.old self.new) }
         ensures grown { Grown self.old.events self.new.events }
-        ensures none { IfErr result (FailsBy text.now (BeforeNodeLine text.now node line.start) self.old) }
+        ensures none { IfErr result (FailsBy text.now
+            (BeforeNodeLine text.now node line.start) self.old) }
     {
         let spaces = line.first - line.start;
         if node.begins_sequence(text, line) {

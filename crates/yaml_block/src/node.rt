@@ -1,7 +1,7 @@
 // A whole block node.
 ghost use Rattle.std.specs.Prelude.{◌≡◌, ◌*◌, ◌-◌, ◌^◌, ◌<◌, ◌≤◌, ◌≤ℤ◌, negsuc, [], true, IfOk, IfErr, length};
 ghost use Rattle.std.specs.Str.{IsCharBoundary};
-ghost use Rattle.yaml_events.specs.Places.{Refuses, line_starts};
+ghost use Rattle.yaml_events.specs.EventPlaces.{Refuses, line_starts};
 ghost use Rattle.yaml_block_scalars.specs.Meant.{least_indent};
 ghost use Rattle.yaml_block.specs.Found.{NoBlockNodeFound, NoBlockNodeAt, BlockNodeRead, IsEachBlockNode};
 ghost use Rattle.yaml_block.specs.States.{Grown, Onward, Leads, FailsBy, BeforeNode, is_shallow};
@@ -16,7 +16,7 @@ use yaml_scan::{line_starts, rest_of_line_end, solid_line, white_end};
 
 impl<'a> Reader<'a> {
     /// Reads the start of the outermost node. Returns what is read next.
-    fn front(
+    fn prefix(
         &mut self,
         text: &'a str,
         at: usize,
@@ -27,16 +27,18 @@ impl<'a> Reader<'a> {
         requires least { least ≤ 2 ^ 63 }
         ensures fits { length text.now < 2 ^ 63 }
         ensures onward { IfOk result (Onward text.now at (3 * (length text.now - at))) }
-        ensures leads { IfOk result (Leads text.now (BeforeNode text.now least (is_shallow context) at)
+        ensures leads { IfOk result (Leads text.now
+            (BeforeNode text.now least (is_shallow context) at)
             self.old self.new) }
         ensures grown { Grown self.old.events self.new.events }
-        ensures none { IfErr result (FailsBy text.now (BeforeNode text.now least (is_shallow context) at) self.old) }
+        ensures none { IfErr result (FailsBy text.now
+            (BeforeNode text.now least (is_shallow context) at) self.old) }
     {
         if at == text.len() {
             return Err(refusal(at, Why::Other));
         }
         if line_starts(text, at) {
-            return self.front_line(text, at, least, context);
+            return self.prefix_line(text, at, least, context);
         }
         if let Some(next) = rest_of_line_end(text, at) {
             let line = solid_line(text, next);
@@ -65,7 +67,7 @@ impl<'a> Reader<'a> {
     }
 
     /// Reads the start of the outermost node where a line starts at `at`.
-    fn front_line(
+    fn prefix_line(
         &mut self,
         text: &'a str,
         at: usize,
@@ -77,10 +79,12 @@ impl<'a> Reader<'a> {
         requires fits { length text.now < 2 ^ 63 }
         requires starts { line_starts text.now at ≡ true }
         ensures onward { IfOk result (Onward text.now at (3 * (length text.now - at))) }
-        ensures leads { IfOk result (Leads text.now (BeforeNode text.now least (is_shallow context) at)
+        ensures leads { IfOk result (Leads text.now
+            (BeforeNode text.now least (is_shallow context) at)
             self.old self.new) }
         ensures grown { Grown self.old.events self.new.events }
-        ensures none { IfErr result (FailsBy text.now (BeforeNode text.now least (is_shallow context) at) self.old) }
+        ensures none { IfErr result (FailsBy text.now
+            (BeforeNode text.now least (is_shallow context) at) self.old) }
     {
         let line = solid_line(text, at);
         // With no line of comments before it, a leaf needs no spaces.
@@ -114,9 +118,10 @@ impl<'a> Reader<'a> {
         ensures grown { Grown self.old.events self.new.events }
         ensures missing { IfErr result (λ fault.
             Refuses fault (NoBlockNodeFound least (is_shallow context) text.now at)) }
-        ensures none { IfErr result (λ fault. Refuses fault (NoBlockNodeAt least (is_shallow context) text.now at)) }
+        ensures none { IfErr result (λ fault.
+            Refuses fault (NoBlockNodeAt least (is_shallow context) text.now at)) }
     {
-        let mut next = self.front(text, at, least, context)?;
+        let mut next = self.prefix(text, at, least, context)?;
         'parts: loop {
             next = match next {
                 Next::After { at, indent, sign } => self.after_sign(text, at, indent, sign)?,

@@ -20,7 +20,8 @@ impl<'a> Reader<'a> {
     ) -> Result<Next, ScanFault>
         requires placed { IsPairPlace text.now indent at }
         ensures onward { IfOk result (Onward text.now at (3 * (length text.now - at))) }
-        ensures leads { IfOk result (Leads text.now (BeforePair text.now indent at) self.old self.new) }
+        ensures leads { IfOk result (Leads text.now
+            (BeforePair text.now indent at) self.old self.new) }
         ensures grown { Grown self.old.events self.new.events }
         ensures none { IfErr result (FailsBy text.now (BeforePair text.now indent at) self.old) }
     {

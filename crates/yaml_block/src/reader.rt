@@ -1,6 +1,6 @@
 // A block node that is being read.
 ghost use Rattle.std.specs.Prelude.{◌≡◌, ◌≤◌, List, ◌++◌, [], ◌∷◌, length, insert, IfErr, OnErr, OnOk, MatchBool};
-ghost use Rattle.yaml_events.specs.Places.{Refuses};
+ghost use Rattle.yaml_events.specs.EventPlaces.{Refuses};
 ghost use Rattle.yaml_recognizers.specs.BlockFrames.{BlockFrame};
 ghost use Rattle.yaml_block.specs.Frames.{waits_of};
 ghost use Rattle.yaml_block.specs.States.{IsOpened, Grown, Stack};
@@ -97,7 +97,8 @@ impl<'a> Reader<'a> {
 
     /// Returns whether the innermost collection waits for a key.
     pub(crate) fn waits_for_key(&self) -> bool
-        ensures { (f : BlockFrame) (fs : List BlockFrame) → Stack (f ∷ fs) self.now.collections.items
+        ensures { (f : BlockFrame) (fs : List BlockFrame)
+            → Stack (f ∷ fs) self.now.collections.items
             → MatchBool result (waits_of f ≡ Waits.Key) (waits_of f ≡ Waits.Key → ⊥) }
     {
         match self.collections.as_slice().last() {

@@ -66,9 +66,11 @@ impl<'a> Reader<'a> {
         requires placed { IsAfterSign text.now indent at }
         requires fits { length text.now < 2 ^ 63 }
         ensures onward { IfOk result (Onward text.now at (3 * (length text.now - at) + 2)) }
-        ensures leads { IfOk result (Leads text.now (BeforePart text.now sign indent at) self.old self.new) }
+        ensures leads { IfOk result (Leads text.now
+            (BeforePart text.now sign indent at) self.old self.new) }
         ensures grown { Grown self.old.events self.new.events }
-        ensures none { IfErr result (FailsBy text.now (BeforePart text.now sign indent at) self.old) }
+        ensures none { IfErr result (FailsBy text.now
+            (BeforePart text.now sign indent at) self.old) }
     {
         match line_after(text, at) {
             Some(line) => self.on_later_line(text, at, line, indent, sign),
@@ -91,9 +93,11 @@ impl<'a> Reader<'a> {
         requires line { IsSolidLine false text.now at line }
         requires starts { IsLineStart text.now line.start }
         ensures onward { IfOk result (Onward text.now at (3 * (length text.now - at) + 2)) }
-        ensures leads { IfOk result (Leads text.now (BeforePart text.now sign indent at) self.old self.new) }
+        ensures leads { IfOk result (Leads text.now
+            (BeforePart text.now sign indent at) self.old self.new) }
         ensures grown { Grown self.old.events self.new.events }
-        ensures none { IfErr result (FailsBy text.now (BeforePart text.now sign indent at) self.old) }
+        ensures none { IfErr result (FailsBy text.now
+            (BeforePart text.now sign indent at) self.old) }
     {
         let context = sign.context();
         if is_omitted(text, line, indent, context) {
@@ -127,9 +131,11 @@ impl<'a> Reader<'a> {
         requires fits { length text.now < 2 ^ 63 }
         requires goes_on { closes_line (all_comments false (rest text.now at)) ≡ false }
         ensures onward { IfOk result (Onward text.now at (3 * (length text.now - at) + 2)) }
-        ensures leads { IfOk result (Leads text.now (BeforePart text.now sign indent at) self.old self.new) }
+        ensures leads { IfOk result (Leads text.now
+            (BeforePart text.now sign indent at) self.old self.new) }
         ensures grown { Grown self.old.events self.new.events }
-        ensures none { IfErr result (FailsBy text.now (BeforePart text.now sign indent at) self.old) }
+        ensures none { IfErr result (FailsBy text.now
+            (BeforePart text.now sign indent at) self.old) }
     {
         let first = white_end(text, at);
         if first == at {

@@ -2,9 +2,9 @@
 ghost use Rattle.std.specs.Prelude.{◌≡◌, ◌<◌, IfOk, IfErr, ◌==◌, ◌&&◌, not, false};
 ghost use Rattle.yaml_chars.specs.Places.{rest};
 ghost use Rattle.yaml_grammar.specs.BlockScalars.{past_spaces, spaces_before};
-ghost use Rattle.yaml_recognizers.specs.Fronts as fronts;
+ghost use Rattle.yaml_recognizers.specs.Prefixes as prefixes;
 ghost use Rattle.yaml_recognizers.specs.Ends.{ended};
-ghost use Rattle.yaml_events.specs.Places.{Refuses};
+ghost use Rattle.yaml_events.specs.EventPlaces.{Refuses};
 ghost use Rattle.yaml_block.specs.States.{Grown, IsLine, IsNextLine};
 ghost use Rattle.yaml_block.specs.Turns.{MayGoOn, EndsAlone, Unwinds, Turns, ItemRead, KeyRead, PairRead, PartRead};
 
@@ -138,7 +138,7 @@ fn goes_on_with(text: &str, line: Line, indent: usize, sign: u8) -> bool
     requires line { IsLine text.now line }
     requires ascii { sign < 128 }
     ensures { result ≡ (spaces_before (rest text.now line.start) == indent)
-        && fronts.sign sign (past_spaces (rest text.now line.start)) }
+        && prefixes.sign sign (past_spaces (rest text.now line.start)) }
 {
     line.first - line.start == indent && sign_at(text, line.first, sign)
 }

@@ -9,16 +9,16 @@ use Rattle.yaml_chars.proofs.Places.{between-append}
 use Rattle.yaml_grammar.specs.BlockScalars.{Chomping, strip, clip, keep, Gap, TextLine, block_value, chomped, goes_on, kept, text_value}
 use Rattle.yaml_grammar.specs.FlowScalars.{line_feeds}
 use Rattle.yaml_grammar.specs.Texts.{begins, is_empty}
-use Rattle.yaml_recognizers.proofs.BlockScalarFacts.{body_found, body_is, no_body}
-use Rattle.yaml_recognizers.proofs.BlockScalarSteps.{lines_step}
-use Rattle.yaml_recognizers.proofs.Reading.{on_parts, some_parts}
+use Rattle.yaml_recognizers.proofs.BlockScalars.BlockScalarFacts.{body_found, body_is, no_body}
+use Rattle.yaml_recognizers.proofs.BlockScalars.BlockScalarSteps.{lines_step}
+use Rattle.yaml_recognizers.proofs.Basics.Reading.{on_parts, some_parts}
 use Rattle.yaml_recognizers.specs.BlockScalars.{Body, body_at, digit_fits, find_indent, gaps_at, lines_at, read_body, read_text_line}
 use Rattle.yaml_recognizers.specs.BlockScalarFacts.{BodyStands, IsBody, NoBody}
 use Rattle.yaml_recognizers.specs.Reading.{Read, on}
 use Rattle.yaml_block_scalars.specs.declared.line.Line.{Line}
 use Rattle.yaml_block_scalars.specs.Found.{AreLines, ArePiece}
 use Rattle.yaml_block_scalars.specs.Lines.{AreGaps, ArePushed, IsLine, IsNoPiece, IsPastGaps, IsPiece, value_from}
-use Rattle.yaml_block_scalars.specs.Pieces.{is_one_piece, text_behind}
+use Rattle.yaml_block_scalars.specs.Pieces.{is_one_piece, text_after}
 use Rattle.yaml_block_scalars.proofs.Values.{chars_feeds}
 
 -- ---- one piece
@@ -32,29 +32,30 @@ begins_longer (x ∷ xs) (y ∷ ys) zs h = by_cases (y == x) (begins xs (ys ++ z
     by_cases true a b f h = f h
     by_cases false a b f h = h
 
--- behind the line's text stand other characters than the line feeds of the value
-pub piece_unfed : (chomping : Chomping) (gs : List Gap) (l : TextLine) (ls : List TextLine) (feeds : ℕ) (text behind : List ℕ) → begins (line_feeds feeds) text ≡ false
-    → line_feeds feeds ≡ chomped chomping l → text ≡ text_behind l ++ behind → is_one_piece chomping gs (l ∷ ls) ≡ false
-piece_unfed chomping gs l [] feeds text behind h c e =
-    and_right (is_empty gs) _ (begins_longer (chomped chomping l) (text_behind l) behind (ap (begins (chomped chomping l)) (sym e) ∙ (ap (λ xs. begins xs text) (sym c) ∙ h)))
-piece_unfed chomping gs l (m ∷ ms) feeds text behind h c e = refl
+-- after the line's text are other characters than the line feeds of the value
+pub piece_unfed : (chomping : Chomping) (gs : List Gap) (l : TextLine) (ls : List TextLine) (feeds : ℕ) (text after : List ℕ) → begins (line_feeds feeds) text ≡ false
+    → line_feeds feeds ≡ chomped chomping l → text ≡ text_after l ++ after → is_one_piece chomping gs (l ∷ ls) ≡ false
+piece_unfed chomping gs l [] feeds text after h c e =
+    and_right (is_empty gs) _ (begins_longer (chomped chomping l) (text_after l) after (ap (begins (chomped chomping l)) (sym e) ∙ (ap (λ xs. begins xs text) (sym c) ∙ h)))
+piece_unfed chomping gs l (m ∷ ms) feeds text after h c e = refl
 
 piece_longer : (chomping : Chomping) (gs : List Gap) (l : TextLine) (ls : List TextLine) → (ls ≡ [] → ⊥) → is_one_piece chomping gs (l ∷ ls) ≡ false
 piece_longer chomping gs l [] n = absurd (n refl)
 piece_longer chomping gs l (m ∷ ms) n = refl
 
-some_lines : (q : ℕ) (text behind : List ℕ) → goes_on q text ≡ true → IsPastGaps q text → lines_at q text ≡ Some ([], behind) → ⊥
-some_lines q text behind g past e =
-    let one = on_parts (read_text_line q (drop q text)) (λ l rest. on (lines_at q rest) (λ ls behind. Some (l ∷ ls, behind))) ([], behind) (sym (lines_step q text g past) ∙ e) in
-    let more = on_parts (lines_at q one.1) (λ ls behind. Some (one.0 ∷ ls, behind)) ([], behind) one.3 in
-    let parts = some_parts (one.0 ∷ more.0) [] more.1 behind more.3 in
+some_lines : (q : ℕ) (text after : List ℕ) → goes_on q text ≡ true → IsPastGaps q text → lines_at q text ≡ Some ([], after) → ⊥
+some_lines q text after g past e =
+    let one = on_parts (read_text_line q (drop q text)) (λ l rest. on (lines_at q rest) (λ ls after. Some (l ∷ ls, after))) ([], after) (sym (lines_step q text g past) ∙ e) in
+    let more = on_parts (lines_at q one.1) (λ ls after. Some (one.0 ∷ ls, after)) ([], after) one.3 in
+    let parts = some_parts (one.0 ∷ more.0) [] more.1 after more.3 in
     let none : one.0 ∷ more.0 ≡ [] = parts.0 in
     cc
 
-pub piece_ended : (q : ℕ) (chomping : Chomping) (text behind : List ℕ) (gs : List Gap) (l : TextLine) (ls : List TextLine) → goes_on q text ≡ true → IsPastGaps q text
-    → lines_at q text ≡ Some (ls, behind) → is_one_piece chomping gs (l ∷ ls) ≡ false
-piece_ended q chomping text behind gs l ls g past e =
-    piece_longer chomping gs l ls (λ n. some_lines q text behind g past (e ∙ ap (λ x. Some (x, behind)) n))
+-- a value in one piece ends where its last line does
+pub piece_ended : (q : ℕ) (chomping : Chomping) (text after : List ℕ) (gs : List Gap) (l : TextLine) (ls : List TextLine) → goes_on q text ≡ true → IsPastGaps q text
+    → lines_at q text ≡ Some (ls, after) → is_one_piece chomping gs (l ∷ ls) ≡ false
+piece_ended q chomping text after gs l ls g past e =
+    piece_longer chomping gs l ls (λ n. some_lines q text after g past (e ∙ ap (λ x. Some (x, after)) n))
 
 -- ---- the lines
 
@@ -68,15 +69,15 @@ chars_kept clip n = chars-nil
 chars_kept keep n = chars_feeds n
 
 module _ (q : ℕ) (folded : Bool) (chomping : Chomping) (bs : List ℕ) (i gaps j : ℕ) (g : AreGaps q bs i gaps j) where
-  -- what is read of them, by what is read behind the empty lines
+  -- what is read of them, by what is read after the empty lines
   read_as : (r : Read (List TextLine)) → lines_at q (rest bs j) ≡ r
-      → on (lines_at q (gaps_at q (rest bs i)).1) (λ ls behind. Some (block_value folded chomping (gaps_at q (rest bs i)).0 ls, behind))
-      ≡ on r (λ ls behind. Some (block_value folded chomping (gaps_at q (rest bs i)).0 ls, behind))
-  read_as r e = ap (λ (x : Read (List TextLine)). on x (λ ls behind. Some (block_value folded chomping (gaps_at q (rest bs i)).0 ls, behind))) (ap (lines_at q) g.leaves ∙ e)
+      → on (lines_at q (gaps_at q (rest bs i)).1) (λ ls after. Some (block_value folded chomping (gaps_at q (rest bs i)).0 ls, after))
+      ≡ on r (λ ls after. Some (block_value folded chomping (gaps_at q (rest bs i)).0 ls, after))
+  read_as r e = ap (λ (x : Read (List TextLine)). on x (λ ls after. Some (block_value folded chomping (gaps_at q (rest bs i)).0 ls, after))) (ap (lines_at q) g.leaves ∙ e)
 
-  -- what a piece says of the lines behind the empty lines
+  -- what a piece says of the lines after the empty lines
   piece_lines : (r : Read (List TextLine)) → lines_at q (rest bs j) ≡ r → ArePiece q chomping (rest bs i)
-      → (ls : List TextLine) × (behind : List ℕ) × (r ≡ Some (ls, behind)) × (is_one_piece chomping (gaps_at q (rest bs i)).0 ls ≡ true)
+      → (ls : List TextLine) × (after : List ℕ) × (r ≡ Some (ls, after)) × (is_one_piece chomping (gaps_at q (rest bs i)).0 ls ≡ true)
   piece_lines r e p = (p.0, p.1, sym e ∙ ap (lines_at q) (sym g.leaves) ∙ p.2, p.3)
 
   -- no text line
@@ -90,24 +91,25 @@ module _ (q : ℕ) (folded : Bool) (chomping : Chomping) (bs : List ℕ) (i gaps
       }
 
   module _ (line : Line) (n : IsLine q bs j line) where
-    -- the first line is put in front of those behind it
-    in_front : (r : Read (List TextLine))
-        → on (on r (λ ls behind. Some (n.read ∷ ls, behind))) (λ ls behind. Some (block_value folded chomping (gaps_at q (rest bs i)).0 ls, behind))
-        ≡ on r (λ ls behind. Some (line_feeds (length (gaps_at q (rest bs i)).0) ++ text_value folded chomping n.read ls, behind))
-    in_front None = refl
-    in_front (Some r) = refl
+    -- the first line is put before those after it
+    in_prefix : (r : Read (List TextLine))
+        → on (on r (λ ls after. Some (n.read ∷ ls, after))) (λ ls after. Some (block_value folded chomping (gaps_at q (rest bs i)).0 ls, after))
+        ≡ on r (λ ls after. Some (line_feeds (length (gaps_at q (rest bs i)).0) ++ text_value folded chomping n.read ls, after))
+    in_prefix None = refl
+    in_prefix (Some r) = refl
 
-    pub lines_pushed : (front value : List ℕ) (end : ℕ) → front ≡ [] ++ line_feeds gaps → ArePushed q folded chomping bs line front value end → AreLines q folded chomping bs i value end
-    lines_pushed front value end f p =
-        let fed : chars front ≡ line_feeds (length (gaps_at q (rest bs i)).0) = ap chars f ∙ chars_feeds gaps ∙ ap line_feeds (sym g.counts) in
+    -- the lines are read, with the value that was pushed
+    pub lines_pushed : (prefix value : List ℕ) (end : ℕ) → prefix ≡ [] ++ line_feeds gaps → ArePushed q folded chomping bs line prefix value end → AreLines q folded chomping bs i value end
+    lines_pushed prefix value end f p =
+        let fed : chars prefix ≡ line_feeds (length (gaps_at q (rest bs i)).0) = ap chars f ∙ chars_feeds gaps ∙ ap line_feeds (sym g.counts) in
         record {
-          above = let above = g.above in let after = n.after in let within = n.placed.above in let behind = n.placed.behind in let further = p.above in omega arith;
+          above = let above = g.above in let gap_after = n.after in let within = n.placed.above in let gaps_fit = n.placed.gaps_fit in let further = p.above in omega arith;
           boundary = p.boundary;
-          reads = read_as (on (lines_at q (rest bs line.next)) (λ ls behind. Some (n.read ∷ ls, behind))) n.reads ∙ in_front (lines_at q (rest bs line.next))
+          reads = read_as (on (lines_at q (rest bs line.next)) (λ ls after. Some (n.read ∷ ls, after))) n.reads ∙ in_prefix (lines_at q (rest bs line.next))
               ∙ ap (λ x. value_from q folded chomping x n.read (rest bs line.next)) (sym fed) ∙ p.reads n.read n.described n.spells;
         }
 
-    -- the value stands in the text
+    -- the value is in the text
     pub lines_piece : IsUtf8 bs → (value : List ℕ) (end : ℕ) → IsPiece q chomping bs gaps line end → value ≡ slice_range bs line.start end → AreLines q folded chomping bs i value line.next
     lines_piece u value end p v =
         let none : (gaps_at q (rest bs i)).0 ≡ [] = empty_list (gaps_at q (rest bs i)).0 (g.counts ∙ p.none_before) in
@@ -119,16 +121,17 @@ module _ (q : ℕ) (folded : Bool) (chomping : Chomping) (bs : List ℕ) (i gaps
         ∙ (ap (λ t. between bs line.start line.end ++ t) (sym (p.spells n.read n.described))
         ∙ (sym (between-append bs line.start line.end end u (omega arith) p.above placed.start_boundary placed.end_boundary p.boundary) ∙ ap chars (sym v)))) in
         record {
-          above = let above = g.above in let after = n.after in let behind = placed.behind in omega arith;
+          above = let above = g.above in let gap_after = n.after in let gaps_fit = placed.gaps_fit in omega arith;
           boundary = placed.next_boundary;
-          reads = read_as (Some (n.read ∷ [], rest bs line.next)) (n.reads ∙ ap (λ (r : Read (List TextLine)). on r (λ ls behind. Some (n.read ∷ ls, behind))) p.last)
+          reads = read_as (Some (n.read ∷ [], rest bs line.next)) (n.reads ∙ ap (λ (r : Read (List TextLine)). on r (λ ls after. Some (n.read ∷ ls, after))) p.last)
               ∙ ap (λ t. Some (t, rest bs line.next)) whole;
         }
 
+    -- what is no piece here is none at all
     pub piece_more : IsNoPiece q chomping bs gaps line → ArePiece q chomping (rest bs i) → ⊥
     piece_more a p =
-        let found = piece_lines (on (lines_at q (rest bs line.next)) (λ ls behind. Some (n.read ∷ ls, behind))) n.reads p in
-        let more = on_parts (lines_at q (rest bs line.next)) (λ ls behind. Some (n.read ∷ ls, behind)) (found.0, found.1) found.2 in
+        let found = piece_lines (on (lines_at q (rest bs line.next)) (λ ls after. Some (n.read ∷ ls, after))) n.reads p in
+        let more = on_parts (lines_at q (rest bs line.next)) (λ ls after. Some (n.read ∷ ls, after)) (found.0, found.1) found.2 in
         let same = (some_parts (n.read ∷ more.0) found.0 more.1 found.1 more.3).0 in
         false≢true (sym (a n.read (gaps_at q (rest bs i)).0 more.0 more.1 n.described n.follows g.counts more.2) ∙ ap (is_one_piece chomping (gaps_at q (rest bs i)).0) same ∙ found.3)
 
@@ -139,28 +142,32 @@ module _ (digit : Option ℕ) (m : ℕ) (folded : Bool) (chomping : Chomping) (q
   with_lines : List TextLine → Body
   with_lines ls = record { indent = q; gaps = (gaps_at q (rest bs i)).0; texts = ls }
 
-  body_read_as : read_body digit m (rest bs i) ≡ on (lines_at q (gaps_at q (rest bs i)).1) (λ ls behind. Some (with_lines ls, behind))
+  body_read_as : read_body digit m (rest bs i) ≡ on (lines_at q (gaps_at q (rest bs i)).1) (λ ls after. Some (with_lines ls, after))
   unfolding with_lines
   body_read_as = ap (body_at (rest bs i)) f
 
+  -- without text lines that fit there is no body
   pub no_body_lines : lines_at q (gaps_at q (rest bs i)).1 ≡ None → NoBody digit m (rest bs i)
-  no_body_lines e = no_body digit m (rest bs i) (body_read_as ∙ ap (λ (r : Read (List TextLine)). on r (λ ls behind. Some (with_lines ls, behind))) e)
+  no_body_lines e = no_body digit m (rest bs i) (body_read_as ∙ ap (λ (r : Read (List TextLine)). on r (λ ls after. Some (with_lines ls, after))) e)
 
+  -- with them there is one
   pub body_there : (value : List ℕ) (end : ℕ) → digit_fits digit ≡ true → AreLines q folded chomping bs i value end → IsBody digit m folded chomping (rest bs i) (chars value) (rest bs end)
   unfolding with_lines
   body_there value end d h =
-      let found = on_parts (lines_at q (gaps_at q (rest bs i)).1) (λ ls behind. Some (block_value folded chomping (gaps_at q (rest bs i)).0 ls, behind)) (chars value, rest bs end) h.reads in
+      let found = on_parts (lines_at q (gaps_at q (rest bs i)).1) (λ ls after. Some (block_value folded chomping (gaps_at q (rest bs i)).0 ls, after)) (chars value, rest bs end) h.reads in
       let same = some_parts (block_value folded chomping (gaps_at q (rest bs i)).0 found.0) (chars value) found.1 (rest bs end) found.3 in
       let reads : read_body digit m (rest bs i) ≡ Some (with_lines found.0, rest bs end) =
-      body_read_as ∙ ap (λ (r : Read (List TextLine)). on r (λ ls behind. Some (with_lines ls, behind))) found.2 ∙ ap (λ x. Some (with_lines found.0, x)) same.1 in
+      body_read_as ∙ ap (λ (r : Read (List TextLine)). on r (λ ls after. Some (with_lines ls, after))) found.2 ∙ ap (λ x. Some (with_lines found.0, x)) same.1 in
       subst (λ x. IsBody digit m folded chomping (rest bs i) x (rest bs end)) same.0 (body_is digit m folded chomping (rest bs i) (with_lines found.0) (rest bs end) d reads)
 
-  pub piece_there : (body : Body) (behind : List ℕ) → BodyStands digit m (rest bs i) body behind → is_one_piece chomping body.gaps body.texts ≡ true → ArePiece q chomping (rest bs i)
+  -- a body with its value in one piece is one here
+  pub piece_there : (body : Body) (after : List ℕ) → BodyStands digit m (rest bs i) body after → is_one_piece chomping body.gaps body.texts ≡ true → ArePiece q chomping (rest bs i)
   unfolding with_lines
-  piece_there body behind s p =
-      let found = on_parts (lines_at q (gaps_at q (rest bs i)).1) (λ ls behind. Some (with_lines ls, behind)) (body, behind) (sym body_read_as ∙ body_found digit m (rest bs i) body behind s) in
-      let same : with_lines found.0 ≡ body = (some_parts (with_lines found.0) body found.1 behind found.3).0 in
+  piece_there body after s p =
+      let found = on_parts (lines_at q (gaps_at q (rest bs i)).1) (λ ls after. Some (with_lines ls, after)) (body, after) (sym body_read_as ∙ body_found digit m (rest bs i) body after s) in
+      let same : with_lines found.0 ≡ body = (some_parts (with_lines found.0) body found.1 after found.3).0 in
       (found.0, found.1, found.2, ap (λ (b : Body). is_one_piece chomping b.gaps b.texts) same ∙ p)
 
+-- without an indentation there is no body
 pub no_body_indent : (digit : Option ℕ) (m : ℕ) (bs : List ℕ) (i : ℕ) → find_indent digit m (rest bs i) ≡ None → NoBody digit m (rest bs i)
 no_body_indent digit m bs i e = no_body digit m (rest bs i) (ap (body_at (rest bs i)) e)

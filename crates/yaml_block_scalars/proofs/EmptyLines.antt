@@ -7,14 +7,14 @@ use Rattle.yaml_chars.specs.Classes.{line_break}
 use Rattle.yaml_chars.specs.Places.{rest}
 use Rattle.yaml_grammar.specs.BlockScalars.{Gap, spaces_before, widest}
 use Rattle.yaml_grammar.specs.Texts.{first}
-use Rattle.yaml_recognizers.proofs.BlockScalarSteps.{gaps_step, gaps_stop}
-use Rattle.yaml_recognizers.proofs.Breaks.{break_some}
-use Rattle.yaml_recognizers.proofs.EmptyLines.{gaps_of_sound}
-use Rattle.yaml_recognizers.proofs.Spaces.{at_most}
+use Rattle.yaml_recognizers.proofs.BlockScalars.BlockScalarSteps.{gaps_step, gaps_stop}
+use Rattle.yaml_recognizers.proofs.Basics.Breaks.{break_some}
+use Rattle.yaml_recognizers.proofs.BlockScalars.EmptyLines.{gaps_of_sound}
+use Rattle.yaml_recognizers.proofs.Basics.Spaces.{at_most}
 use Rattle.yaml_recognizers.specs.BlockScalars.{all_gaps, gaps_at, gaps_of}
 use Rattle.yaml_recognizers.specs.Comments.{read_break}
 use Rattle.yaml_block_scalars.specs.Lines.{AreGaps, AreLeading, IsPastGaps}
-use Rattle.yaml_scan.specs.Places.{AreSpaces, IsBreak}
+use Rattle.yaml_scan.specs.ScanPlaces.{AreSpaces, IsBreak}
 
 -- ---- one of them
 
@@ -44,16 +44,18 @@ pub record AreGapsSoFar (q : ℕ) (bs : List ℕ) (i count j : ℕ) : Type 0 whe
   pub counts : length (gaps_at q (rest bs i)).0 ≡ count + length (gaps_at q (rest bs j)).0
   pub leaves : (gaps_at q (rest bs i)).1 ≡ (gaps_at q (rest bs j)).1
 
+-- no empty line is passed yet
 pub gaps_none : (q : ℕ) (bs : List ℕ) (i : ℕ) → IsCharBoundary bs i → AreGapsSoFar q bs i 0 i
 gaps_none q bs i b = record { above = omega arith; boundary = b; counts = omega arith; leaves = refl }
 
+-- one empty line more is passed
 pub gaps_more : (q : ℕ) (bs : List ℕ) (i count j k m : ℕ) → IsUtf8 bs → AreGapsSoFar q bs i count j → AreSpaces bs j k → k - j ≤ q → IsBreak bs k m → AreGapsSoFar q bs i (count + 1) m
 gaps_more q bs i count j k m u h s w n =
     let step = gap_step (at_most q) bs j k m u h.boundary s (le-leb (k - j) q w) n in
     let one : length (gaps_at q (rest bs j)).0 ≡ suc (length (gaps_at q (rest bs m)).0) = ap (λ (g : List Gap × List ℕ). length g.0) step in
     let above = h.above in
     let further = s.above in
-    let behind = n.above in
+    let after = n.above in
     let counts = h.counts in
     record { above = omega arith; boundary = n.boundary; counts = omega arith; leaves = h.leaves ∙ ap (λ (g : List Gap × List ℕ). g.1) step }
 
@@ -63,34 +65,39 @@ gaps_end q bs i count j h e =
     let counts = h.counts in
     record { above = h.above; boundary = h.boundary; counts = omega arith; leaves = h.leaves ∙ ap (λ (g : List Gap × List ℕ). g.1) e }
 
+-- a line with too many spaces is no empty line
 pub gaps_wide : (q : ℕ) (bs : List ℕ) (i count j k : ℕ) → IsUtf8 bs → AreGapsSoFar q bs i count j → AreSpaces bs j k → q < k - j → AreGaps q bs i count j
 gaps_wide q bs i count j k u h s w = gaps_end q bs i count j h (gap_wide (at_most q) bs j k u h.boundary s (lt-leb (k - j) q w))
 
+-- nor is a line with something after its spaces
 pub gaps_unbroken : (q : ℕ) (bs : List ℕ) (i count j k : ℕ) → IsUtf8 bs → AreGapsSoFar q bs i count j → AreSpaces bs j k → read_break (rest bs k) ≡ None → AreGaps q bs i count j
 gaps_unbroken q bs i count j k u h s e = gaps_end q bs i count j h (gap_unbroken (at_most q) bs j k u h.boundary s e)
 
--- none stands behind them
+-- none comes after them
 pub gaps_past : (q : ℕ) (bs : List ℕ) (i count j : ℕ) → AreGaps q bs i count j → IsPastGaps q (rest bs j)
 gaps_past q bs i count j h = subst (IsPastGaps q) h.leaves (gaps_of_sound (at_most q) (rest bs i)).2
 
 -- ---- all lines of spaces
 
+-- so far there are lines of spaces, of which the widest has so many
 pub record AreLeadingSoFar (bs : List ℕ) (i width j : ℕ) : Type 0 where
   pub above : i ≤ j
   pub boundary : IsCharBoundary bs j
   pub widest_is : widest (all_gaps (rest bs i)).0 ≡ max width (widest (all_gaps (rest bs j)).0)
   pub leaves : (all_gaps (rest bs i)).1 ≡ (all_gaps (rest bs j)).1
 
+-- one line of spaces more is passed
 pub leading_more : (bs : List ℕ) (i width j k m : ℕ) → IsUtf8 bs → AreLeadingSoFar bs i width j → AreSpaces bs j k → IsBreak bs k m → AreLeadingSoFar bs i (max width (k - j)) m
 leading_more bs i width j k m u h s n =
     let step = gap_step (λ _. true) bs j k m u h.boundary s refl n in
     let one : widest (all_gaps (rest bs j)).0 ≡ max (k - j) (widest (all_gaps (rest bs m)).0) = ap (λ (g : List Gap × List ℕ). widest g.0) step in
     let above = h.above in
     let further = s.above in
-    let behind = n.above in
+    let after = n.above in
     let width_is = h.widest_is in
     record { above = omega arith; boundary = n.boundary; widest_is = omega arith; leaves = h.leaves ∙ ap (λ (g : List Gap × List ℕ). g.1) step }
 
+-- a line with something after its spaces ends them
 pub leading_end : (bs : List ℕ) (i width j k : ℕ) → IsUtf8 bs → AreLeadingSoFar bs i width j → AreSpaces bs j k → read_break (rest bs k) ≡ None → AreLeading bs i width j
 leading_end bs i width j k u h s e =
     let stop = gap_unbroken (λ _. true) bs j k u h.boundary s e in

@@ -10,9 +10,9 @@ use Rattle.yaml_grammar.specs.BlockScalars.{last_spaces, past_spaces, sets_none,
 use Rattle.yaml_grammar.specs.Texts.{first, is_empty, marker}
 use Rattle.yaml_recognizers.specs.BlockScalars.{all_gaps, find_indent}
 use Rattle.yaml_block_scalars.specs.Lines.{AreLeading}
-use Rattle.yaml_scan.specs.Places.{AreSpaces, IsNb}
+use Rattle.yaml_scan.specs.ScanPlaces.{AreSpaces, IsNb}
 
--- by the widest line of spaces and what stands behind all of them
+-- by the widest line of spaces and what comes after all of them
 indent_by : ℕ → ℕ → List ℕ → Option ℕ
 indent_by m width text =
     if sets_none m text then Some (max m (max width (last_spaces text)))
@@ -30,6 +30,7 @@ module _ (m : ℕ) (bs : List ℕ) (i width j k : ℕ) (u : IsUtf8 bs) (h : AreL
   set_none q n l =
       found_by m bs i width j h ∙ cond-true (sets_none m (rest bs j)) _ _ n ∙ ap (λ x. Some (max m (max width x))) l
 
+  -- spaces up to the end of the text set the indentation
   pub indent_at_end : length bs ≤ k → find_indent None m (rest bs i) ≡ Some (max m (max width (k - j)))
   indent_at_end l =
       let none : is_empty (past_spaces (rest bs j)) ≡ true = ap is_empty (s.leaves ∙ rest-end bs k l) in
@@ -43,10 +44,12 @@ module _ (m : ℕ) (bs : List ℕ) (i width j k : ℕ) (u : IsUtf8 bs) (h : AreL
       set_none 0 n (cond-false (is_empty (past_spaces (rest bs j))) (spaces_before (rest bs j)) 0 (filled l))
       ∙ ap (λ x. Some (max m x)) (let e : max width 0 ≡ width = omega arith in e)
 
+  -- a line with too few spaces sets none, so the widest does
   pub indent_narrow : k < length bs → k - j < m → find_indent None m (rest bs i) ≡ Some (max m width)
   indent_narrow l w =
       least 0 (or_left _ _ (or_right (is_empty (past_spaces (rest bs j))) _ (ap (λ x. nat_lt x m) s.counts ∙ lt-ltb (k - j) m w))) l
 
+  -- so does a marker
   pub indent_marked : k < length bs → marker (rest bs j) ≡ true → find_indent None m (rest bs i) ≡ Some (max m width)
   indent_marked l e =
       least 0 (or_right (is_empty (past_spaces (rest bs j)) || nat_lt (spaces_before (rest bs j)) m) _ (ap (λ x. not (not x)) e)) l
@@ -58,19 +61,23 @@ module _ (m : ℕ) (bs : List ℕ) (i width j k : ℕ) (u : IsUtf8 bs) (h : AreL
       found_by m bs i width j h
       ∙ cond-false (sets_none m (rest bs j)) _ _ (or_from _ _ (or_from _ _ (filled l) (ap (λ x. nat_lt x m) s.counts ∙ le-ltb (k - j) m w)) (ap (λ x. not (not x)) e))
 
+  -- a line of spaces wider than the first text line is refused
   pub indent_too_wide : k < length bs → m ≤ k - j → marker (rest bs j) ≡ false → k - j < width → find_indent None m (rest bs i) ≡ None
   indent_too_wide l w e x =
       set_here l w e ∙ cond-false _ _ None (and_left (nat_le width (spaces_before (rest bs j))) _ (ap (nat_le width) s.counts ∙ lt-leb width (k - j) x))
 
+  -- so is a first line with a character that isn't allowed
   pub indent_no_text : k < length bs → m ≤ k - j → marker (rest bs j) ≡ false → first nb (rest bs k) ≡ false → find_indent None m (rest bs i) ≡ None
   indent_no_text l w e x =
       set_here l w e ∙ cond-false _ _ None (and_right (nat_le width (spaces_before (rest bs j))) _ (ap (first nb) s.leaves ∙ x))
 
+  -- else the first text line sets the indentation
   pub indent_set : k < length bs → m ≤ k - j → marker (rest bs j) ≡ false → width ≤ k - j → first nb (rest bs k) ≡ true → find_indent None m (rest bs i) ≡ Some (k - j)
   indent_set l w e x n =
       set_here l w e
       ∙ cond-true _ _ None (and_from _ _ (ap (nat_le width) s.counts ∙ le-leb width (k - j) x) (ap (first nb) s.leaves ∙ n))
       ∙ ap (λ (y : ℕ). Some y) s.counts
 
+-- a character that is nb is there
 pub nb_there : (bs : List ℕ) (i j : ℕ) → IsNb bs i j → first nb (rest bs i) ≡ true
 nb_there bs i j h = ap (first nb) h.splits ∙ h.fits

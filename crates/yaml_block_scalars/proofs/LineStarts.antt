@@ -8,21 +8,22 @@ use Rattle.std.proofs.lemmas.Str.{IsCharBoundary-start}
 use Rattle.yaml_chars.specs.Classes.{line_break}
 use Rattle.yaml_chars.specs.Places.{rest, between}
 use Rattle.yaml_chars.proofs.Places.{between-append, rest-between}
-use Rattle.yaml_events.specs.Places.{line_starts, without_mark}
+use Rattle.yaml_events.specs.EventPlaces.{line_starts, without_mark}
 use Rattle.yaml_grammar.specs.BlockScalars.{Chomping, Gap, Header, TextLine, chomping_text, digit_text, gap_line_text, gaps_text, goes_on, header_text, text_line_fits, text_line_text, text_lines_fit, text_lines_text}
 use Rattle.yaml_grammar.specs.Separation.{Break, LineEnd, break_text, comment_text, cr, cr_lf, lf, line_end_text, stop_fits}
 use Rattle.yaml_grammar.specs.Texts.{is_empty, optional, spaces, starts_line}
 use Rattle.yaml_recognizers.specs.BlockScalars.{Body, body_text}
 use Rattle.yaml_recognizers.specs.BlockScalarFacts.{BodyStands, HeaderStands, IsBody}
-use Rattle.yaml_recognizers.proofs.LineStarts.{starts_joined}
+use Rattle.yaml_recognizers.proofs.Basics.LineStarts.{starts_joined}
 use Rattle.yaml_block_scalars.specs.declared.parts.Header.{Header as ScannedHeader}
 use Rattle.yaml_block_scalars.specs.Found.{IsBodyAt, IsHeaderAt}
 use Rattle.yaml_scan.specs.Lines.{IsLineStart}
 
--- ---- texts: a line starts after xs, or nothing stands behind it
+-- ---- texts: a line starts after xs, or nothing comes after it
 
+-- a line starts after the text, or nothing comes after it
 abbrev pub Ends : Bool → List ℕ → List ℕ → Type 0
-Ends bol xs behind = (starts_line bol xs ≡ true) ⊎ (behind ≡ [])
+Ends bol xs after = (starts_line bol xs ≡ true) ⊎ (after ≡ [])
 
 break_starts : (bol : Bool) (b : Break) → starts_line bol (break_text b) ≡ true
 break_starts bol lf = refl
@@ -33,13 +34,13 @@ none_left : (xs : List ℕ) → is_empty xs ≡ true → xs ≡ []
 none_left [] h = refl
 none_left (x ∷ xs) h = absurd (false≢true h)
 
-nil_behind : (xs ys : List ℕ) → xs ++ ys ≡ [] → ys ≡ []
-nil_behind [] ys h = h
-nil_behind (x ∷ xs) ys h = cc
+nil_after : (xs ys : List ℕ) → xs ++ ys ≡ [] → ys ≡ []
+nil_after [] ys h = h
+nil_after (x ∷ xs) ys h = cc
 
-stop_ends : (bol : Bool) (xs : List ℕ) (stop : Option Break) (behind : List ℕ) → stop_fits stop behind ≡ true → Ends bol (xs ++ optional break_text stop) behind
-stop_ends bol xs None behind h = inr (none_left behind h)
-stop_ends bol xs (Some b) behind h = inl (starts_joined bol xs (break_text b) ∙ break_starts (starts_line bol xs) b)
+stop_ends : (bol : Bool) (xs : List ℕ) (stop : Option Break) (after : List ℕ) → stop_fits stop after ≡ true → Ends bol (xs ++ optional break_text stop) after
+stop_ends bol xs None after h = inr (none_left after h)
+stop_ends bol xs (Some b) after h = inl (starts_joined bol xs (break_text b) ∙ break_starts (starts_line bol xs) b)
 
 gaps_start : (gs : List Gap) → starts_line true (gaps_text gs) ≡ true
 gaps_start [] = refl
@@ -47,19 +48,19 @@ gaps_start (g ∷ gs) =
     starts_joined true (gap_line_text g) (gaps_text gs)
     ∙ (ap (λ b. starts_line b (gaps_text gs)) (starts_joined true (spaces g.width) (break_text g.stop) ∙ break_starts (starts_line true (spaces g.width)) g.stop) ∙ gaps_start gs)
 
-lines_end : (q : ℕ) (ls : List TextLine) (behind : List ℕ) → text_lines_fit q ls behind ≡ true → Ends true (text_lines_text q ls) behind
-lines_end q [] behind h = inl refl
-lines_end q (l ∷ ls) behind h =
-    let p = and_parts (text_line_fits q l (text_lines_text q ls ++ behind)) (text_lines_fit q ls behind) h in
-    let stop : stop_fits l.stop (gaps_text l.gaps ++ (text_lines_text q ls ++ behind)) ≡ true = (and_parts _ _ (and_parts _ _ p.0).0).1 in
-    elim (stop_ends true (spaces q ++ l.text) l.stop (gaps_text l.gaps ++ (text_lines_text q ls ++ behind)) stop) [
+lines_end : (q : ℕ) (ls : List TextLine) (after : List ℕ) → text_lines_fit q ls after ≡ true → Ends true (text_lines_text q ls) after
+lines_end q [] after h = inl refl
+lines_end q (l ∷ ls) after h =
+    let p = and_parts (text_line_fits q l (text_lines_text q ls ++ after)) (text_lines_fit q ls after) h in
+    let stop : stop_fits l.stop (gaps_text l.gaps ++ (text_lines_text q ls ++ after)) ≡ true = (and_parts _ _ (and_parts _ _ p.0).0).1 in
+    elim (stop_ends true (spaces q ++ l.text) l.stop (gaps_text l.gaps ++ (text_lines_text q ls ++ after)) stop) [
       | inl starts ↦ (let line : starts_line true (text_line_text q l) ≡ true =
           starts_joined true (spaces q ++ l.text ++ optional break_text l.stop) (gaps_text l.gaps) ∙ (ap (λ b. starts_line b (gaps_text l.gaps)) starts ∙ gaps_start l.gaps) in
-          elim (lines_end q ls behind p.1) [
+          elim (lines_end q ls after p.1) [
             | inl more ↦ inl (starts_joined true (text_line_text q l) (text_lines_text q ls) ∙ (ap (λ b. starts_line b (text_lines_text q ls)) line ∙ more))
             | inr none ↦ inr none
           ])
-      | inr none ↦ inr (nil_behind (text_lines_text q ls) behind (nil_behind (gaps_text l.gaps) (text_lines_text q ls ++ behind) none))
+      | inr none ↦ inr (nil_after (text_lines_text q ls) after (nil_after (gaps_text l.gaps) (text_lines_text q ls ++ after) none))
     ]
 
 -- ---- places
@@ -83,6 +84,7 @@ starts_at text at end xs u l b d spells h =
     let whole : between text 0 end ≡ between text 0 at ++ xs = between-append text 0 at end u (omega arith) l (IsCharBoundary-start text u) b d ∙ ap (λ t. between text 0 at ++ t) same in
     ap (λ t. starts_line true (without_mark t)) whole ∙ starts_marked xs (between text 0 at) h
 
+-- so it is after a body
 pub body_ends : (m : ℕ) (folded : Bool) (header : ScannedHeader) (text : List ℕ) (at : ℕ) (value : List ℕ) (end : ℕ) → IsUtf8 text → IsCharBoundary text at
     → IsBodyAt m folded header text at value end → IsLineStart text at → IsLineStart text end
 body_ends m folded header text at value end u b h (inl line) =
@@ -95,10 +97,10 @@ body_ends m folded header text at value end u b h (inl line) =
           (starts_joined (line_starts text at) (gaps_text body.gaps) (text_lines_text body.indent body.texts) ∙ (ap (λ b. starts_line b (text_lines_text body.indent body.texts)) gaps ∙ starts))))
       | inr none ↦ inr none
     ]
-body_ends m folded header text at value end u b h (inr none) = inr (nil_behind (body_text h.means.body) (rest text end) (sym h.means.stands.spells ∙ none))
+body_ends m folded header text at value end u b h (inr none) = inr (nil_after (body_text h.means.body) (rest text end) (sym h.means.stands.spells ∙ none))
 
--- ---- what stands behind the body
+-- ---- what comes after the body
 
--- the line behind a body is neither a text line of its indentation nor an empty one
-pub body_stops : (digit : Option ℕ) (m : ℕ) (text : List ℕ) (body : Body) (behind : List ℕ) → BodyStands digit m text body behind → goes_on body.indent behind ≡ false
-body_stops digit m text body behind stands = not-true (goes_on body.indent behind) (and_parts _ _ stands.fits).1
+-- the line after a body is neither a text line of its indentation nor an empty one
+pub body_stops : (digit : Option ℕ) (m : ℕ) (text : List ℕ) (body : Body) (after : List ℕ) → BodyStands digit m text body after → goes_on body.indent after ≡ false
+body_stops digit m text body after stands = not-true (goes_on body.indent after) (and_parts _ _ stands.fits).1

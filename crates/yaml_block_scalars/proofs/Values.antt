@@ -31,43 +31,48 @@ between_ascii folded l m =
     cond_both (not folded || first white l.text || first white m.text) (line_feeds (suc (length l.gaps))) (folded_break (length l.gaps)) IsAscii
     (λ _. feeds_ascii (suc (length l.gaps))) (λ _. folded_ascii (length l.gaps))
 
+-- line feeds are characters
 pub chars_feeds : (n : ℕ) → chars (line_feeds n) ≡ line_feeds n
 chars_feeds n = chars-IsAscii (line_feeds n) (feeds_ascii n)
 
 -- ---- one line more
 
-module _ (folded : Bool) (chomping : Chomping) (front : List ℕ) (l k : TextLine) where
+module _ (folded : Bool) (chomping : Chomping) (prefix : List ℕ) (l k : TextLine) where
   joined : (r : Read (List TextLine))
-      → on (on r (λ ls behind. Some (k ∷ ls, behind))) (λ ls behind. Some (front ++ text_value folded chomping l ls, behind))
-      ≡ on r (λ ls behind. Some ((front ++ l.text ++ between_lines folded l k) ++ text_value folded chomping k ls, behind))
+      → on (on r (λ ls after. Some (k ∷ ls, after))) (λ ls after. Some (prefix ++ text_value folded chomping l ls, after))
+      ≡ on r (λ ls after. Some ((prefix ++ l.text ++ between_lines folded l k) ++ text_value folded chomping k ls, after))
   joined None = refl
-  joined (Some r) = ap (λ t. Some (t, r.1)) (regroup front l.text (between_lines folded l k) (text_value folded chomping k r.0))
+  joined (Some r) = ap (λ t. Some (t, r.1)) (regroup prefix l.text (between_lines folded l k) (text_value folded chomping k r.0))
     where
       regroup : (a b c d : List ℕ) → a ++ ((b ++ c) ++ d) ≡ ((a ++ b) ++ c) ++ d
       regroup a b c d = simp append_assoc
 
-  pub value_step : (q : ℕ) (text more : List ℕ) → lines_at q text ≡ on (lines_at q more) (λ ls behind. Some (k ∷ ls, behind))
-      → value_from q folded chomping front l text ≡ value_from q folded chomping (front ++ l.text ++ between_lines folded l k) k more
-  value_step q text more e = ap (λ (r : Read (List TextLine)). on r (λ ls behind. Some (front ++ text_value folded chomping l ls, behind))) e ∙ joined (lines_at q more)
+  -- the value of a line and of those after it
+  pub value_step : (q : ℕ) (text more : List ℕ) → lines_at q text ≡ on (lines_at q more) (λ ls after. Some (k ∷ ls, after))
+      → value_from q folded chomping prefix l text ≡ value_from q folded chomping (prefix ++ l.text ++ between_lines folded l k) k more
+  value_step q text more e = ap (λ (r : Read (List TextLine)). on r (λ ls after. Some (prefix ++ text_value folded chomping l ls, after))) e ∙ joined (lines_at q more)
 
-pub value_end : (q : ℕ) (folded : Bool) (chomping : Chomping) (front : List ℕ) (l : TextLine) (text : List ℕ) → lines_at q text ≡ Some ([], text)
-    → value_from q folded chomping front l text ≡ Some (front ++ l.text ++ chomped chomping l, text)
-value_end q folded chomping front l text e =
-    ap (λ (r : Read (List TextLine)). on r (λ ls behind. Some (front ++ text_value folded chomping l ls, behind))) e ∙ ap (λ t. Some (t, text)) (sym (append_assoc front l.text (chomped chomping l)))
+-- the value of the last line
+pub value_end : (q : ℕ) (folded : Bool) (chomping : Chomping) (prefix : List ℕ) (l : TextLine) (text : List ℕ) → lines_at q text ≡ Some ([], text)
+    → value_from q folded chomping prefix l text ≡ Some (prefix ++ l.text ++ chomped chomping l, text)
+value_end q folded chomping prefix l text e =
+    ap (λ (r : Read (List TextLine)). on r (λ ls after. Some (prefix ++ text_value folded chomping l ls, after))) e ∙ ap (λ t. Some (t, text)) (sym (append_assoc prefix l.text (chomped chomping l)))
 
 -- ---- what the value's bytes come to
 
 -- the line's text
-pub chars_text : (bs front value : List ℕ) (i j : ℕ) → IsUtf8 front → value ≡ front ++ slice_range bs i j → chars value ≡ chars front ++ between bs i j
-chars_text bs front value i j u e = ap chars e ∙ chars-append front (slice_range bs i j) u
+pub chars_text : (bs prefix value : List ℕ) (i j : ℕ) → IsUtf8 prefix → value ≡ prefix ++ slice_range bs i j → chars value ≡ chars prefix ++ between bs i j
+chars_text bs prefix value i j u e = ap chars e ∙ chars-append prefix (slice_range bs i j) u
 
-pub chars_between : (folded : Bool) (l m : TextLine) (front value : List ℕ) → IsUtf8 front → value ≡ front ++ between_lines folded l m → chars value ≡ chars front ++ between_lines folded l m
-chars_between folded l m front value u e =
-    ap chars e ∙ chars-append front (between_lines folded l m) u ∙ ap (λ x. chars front ++ x) (chars-IsAscii (between_lines folded l m) (between_ascii folded l m))
+-- the characters of what is pushed between two lines
+pub chars_between : (folded : Bool) (l m : TextLine) (prefix value : List ℕ) → IsUtf8 prefix → value ≡ prefix ++ between_lines folded l m → chars value ≡ chars prefix ++ between_lines folded l m
+chars_between folded l m prefix value u e =
+    ap chars e ∙ chars-append prefix (between_lines folded l m) u ∙ ap (λ x. chars prefix ++ x) (chars-IsAscii (between_lines folded l m) (between_ascii folded l m))
 
-pub chars_behind : (chomping : Chomping) (l : TextLine) (n : ℕ) (front value : List ℕ) → IsUtf8 front → line_feeds n ≡ chomped chomping l → value ≡ front ++ line_feeds n → chars value ≡ chars front ++ chomped chomping l
-chars_behind chomping l n front value u c e =
-    ap chars e ∙ chars-append front (line_feeds n) u ∙ ap (λ x. chars front ++ x) (chars_feeds n ∙ c)
+-- the characters of what is pushed after the last line
+pub chars_after : (chomping : Chomping) (l : TextLine) (n : ℕ) (prefix value : List ℕ) → IsUtf8 prefix → line_feeds n ≡ chomped chomping l → value ≡ prefix ++ line_feeds n → chars value ≡ chars prefix ++ chomped chomping l
+chars_after chomping l n prefix value u c e =
+    ap chars e ∙ chars-append prefix (line_feeds n) u ∙ ap (λ x. chars prefix ++ x) (chars_feeds n ∙ c)
 
 -- ---- the lines so far
 
@@ -81,13 +86,13 @@ pub record ArePushedSoFar (q : ℕ) (folded : Bool) (chomping : Chomping) (bs : 
   pub none : lines_at q (rest bs line.next) ≡ None → lines_at q (rest bs opening.next) ≡ None
 
 module _ (q : ℕ) (folded : Bool) (chomping : Chomping) (bs : List ℕ) (opening : Line) (start : List ℕ) where
-  -- the line's text, what stands between, and the next line
+  -- the line's text, what is between, and the next line
   pub pushed_more : (line next_line : Line) (value texted more : List ℕ) → IsUtf8 value → IsUtf8 texted → ArePushedSoFar q folded chomping bs opening start line value
       → IsLine q bs line.next next_line → texted ≡ value ++ slice_range bs line.start line.end
       → ((l m : TextLine) → Describes line l → Describes next_line m → more ≡ texted ++ between_lines folded l m) → ArePushedSoFar q folded chomping bs opening start next_line more
   pushed_more line next_line value texted more u v h n t b =
       record {
-        above = let above = h.above in let after = n.after in let within = n.placed.above in let behind = n.placed.behind in omega arith;
+        above = let above = h.above in let gap_after = n.after in let within = n.placed.above in let gaps_fit = n.placed.gaps_fit in omega arith;
         placed = n.placed;
         reads = λ l d s.
             (let k = h.reads l d s in
@@ -100,7 +105,7 @@ module _ (q : ℕ) (folded : Bool) (chomping : Chomping) (bs : List ℕ) (openin
               k.3 ∙ value_step folded chomping (chars value) k.0 n.read q (rest bs line.next) (rest bs next_line.next) n.reads
                   ∙ ap (λ x. value_from q folded chomping x n.read (rest bs next_line.next)) (sym whole),
             ));
-        none = λ e. h.none (n.reads ∙ ap (λ (r : Read (List TextLine)). on r (λ ls behind. Some (n.read ∷ ls, behind))) e);
+        none = λ e. h.none (n.reads ∙ ap (λ (r : Read (List TextLine)). on r (λ ls after. Some (n.read ∷ ls, after))) e);
       }
 
   -- the last line
@@ -114,7 +119,7 @@ module _ (q : ℕ) (folded : Bool) (chomping : Chomping) (bs : List ℕ) (openin
         reads = λ l d s.
             (let k = h.reads l d s in
             let whole : chars all ≡ chars value ++ k.0.text ++ chomped chomping k.0 =
-            chars_behind chomping k.0 feeds texted all v (c k.0 k.1) e
+            chars_after chomping k.0 feeds texted all v (c k.0 k.1) e
             ∙ ap (λ x. x ++ chomped chomping k.0) (chars_text bs value texted line.start line.end u t ∙ ap (λ x. chars value ++ x) (sym k.2)) in
             k.3 ∙ value_end q folded chomping (chars value) k.0 (rest bs line.next) n ∙ ap (λ x. Some (x, rest bs line.next)) (sym whole));
       }

@@ -17,7 +17,7 @@ pub record IsHeaderAt (text : List ℕ) (at : ℕ) (header : Header) (end : ℕ)
   pub boundary : IsCharBoundary text end
   pub says : IsHeader (rest text at) header.folded header.digit (chomping_of header.chomping) (rest text end)
 
--- the body behind a header, literal or folded, of a scalar whose least indentation is m
+-- the body after a header, literal or folded, of a scalar whose least indentation is m
 pub record IsBodyAt (m : ℕ) (folded : Bool) (header : Header) (text : List ℕ) (at : ℕ) (value : List ℕ) (end : ℕ) : Type 0 where
   pub above : at ≤ end
   pub boundary : IsCharBoundary text end
@@ -33,10 +33,10 @@ pub record IsPieceAt (m : ℕ) (header : Header) (text : List ℕ) (at end : ℕ
 pub record AreLines (q : ℕ) (folded : Bool) (chomping : grammar.Chomping) (text : List ℕ) (at : ℕ) (value : List ℕ) (end : ℕ) : Type 0 where
   pub above : at ≤ end
   pub boundary : IsCharBoundary text end
-  pub reads : on (lines_at q (gaps_at q (rest text at)).1) (λ ls behind. Some (block_value folded chomping (gaps_at q (rest text at)).0 ls, behind))
+  pub reads : on (lines_at q (gaps_at q (rest text at)).1) (λ ls after. Some (block_value folded chomping (gaps_at q (rest text at)).0 ls, after))
       ≡ Some (chars value, rest text end)
 
 -- what they are where their value is in one piece
 abbrev pub ArePiece : ℕ → grammar.Chomping → List ℕ → Type 0
 ArePiece q chomping text =
-    (ls : List TextLine) × (behind : List ℕ) × (lines_at q (gaps_at q text).1 ≡ Some (ls, behind)) × (is_one_piece chomping (gaps_at q text).0 ls ≡ true)
+    (ls : List TextLine) × (after : List ℕ) × (lines_at q (gaps_at q text).1 ≡ Some (ls, after)) × (is_one_piece chomping (gaps_at q text).0 ls ≡ true)

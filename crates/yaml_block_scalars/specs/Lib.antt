@@ -1,5 +1,5 @@
 pub mod Meant
 pub mod Pieces
-pub mod Places
+pub mod HeaderPlaces
 pub mod Lines
 pub mod Found

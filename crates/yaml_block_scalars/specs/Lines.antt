@@ -8,10 +8,10 @@ use Rattle.yaml_grammar.specs.FlowScalars.{line_feeds}
 use Rattle.yaml_grammar.specs.Texts.{first}
 use Rattle.yaml_recognizers.specs.BlockScalars.{all_gaps, gaps_at, lines_at}
 use Rattle.yaml_recognizers.specs.Reading.{Read, on}
-use Rattle.yaml_block_scalars.specs.Pieces.{is_one_piece, text_behind}
+use Rattle.yaml_block_scalars.specs.Pieces.{is_one_piece, text_after}
 use Rattle.yaml_block_scalars.specs.declared.line.Line.{Line}
 
--- no empty line of the indentation q stands at the front
+-- no empty line of the indentation q is at the start
 abbrev pub IsPastGaps : ℕ → List ℕ → Type 0
 IsPastGaps q text = nat_le (spaces_before text) q && first line_break (past_spaces text) ≡ false
 
@@ -39,7 +39,7 @@ pub record IsTextStart (q : ℕ) (text : List ℕ) (at start : ℕ) : Type 0 whe
 -- the places of a text line
 pub record IsPlaced (q : ℕ) (text : List ℕ) (line : Line) : Type 0 where
   pub above : line.start < line.end
-  pub behind : line.end + line.gaps ≤ line.next
+  pub gaps_fit : line.end + line.gaps ≤ line.next
   pub start_boundary : IsCharBoundary text line.start
   pub end_boundary : IsCharBoundary text line.end
   pub next_boundary : IsCharBoundary text line.next
@@ -58,19 +58,20 @@ pub record IsLine (q : ℕ) (text : List ℕ) (at : ℕ) (line : Line) : Type 0 
   pub read : TextLine
   pub described : Describes line read
   pub spells : read.text ≡ between text line.start line.end
-  pub follows : rest text line.end ≡ text_behind read ++ rest text line.next
-  pub reads : lines_at q (rest text at) ≡ on (lines_at q (rest text line.next)) (λ ls behind. Some (read ∷ ls, behind))
+  pub follows : rest text line.end ≡ text_after read ++ rest text line.next
+  pub reads : lines_at q (rest text at) ≡ on (lines_at q (rest text line.next)) (λ ls after. Some (read ∷ ls, after))
 
--- the value of the text line l and of the lines behind it, which stand at the front of the text; behind what stands in front
+-- the value of the text line l and of the lines after it, which are at the start of the text; `prefix` is the value
+-- before them
 abbrev pub value_from : ℕ → Bool → Chomping → List ℕ → TextLine → List ℕ → Read (List ℕ)
-value_from q folded chomping front l text = on (lines_at q text) (λ ls behind. Some (front ++ text_value folded chomping l ls, behind))
+value_from q folded chomping prefix l text = on (lines_at q text) (λ ls after. Some (prefix ++ text_value folded chomping l ls, after))
 
--- the value with the text line first and all lines behind it
-pub record ArePushed (q : ℕ) (folded : Bool) (chomping : Chomping) (text : List ℕ) (first_line : Line) (front value : List ℕ) (end : ℕ) : Type 0 where
+-- the value with the text line first and all lines after it
+pub record ArePushed (q : ℕ) (folded : Bool) (chomping : Chomping) (text : List ℕ) (first_line : Line) (prefix value : List ℕ) (end : ℕ) : Type 0 where
   pub above : first_line.next ≤ end
   pub boundary : IsCharBoundary text end
   pub reads : (l : TextLine) → Describes first_line l → l.text ≡ between text first_line.start first_line.end
-      → value_from q folded chomping (chars front) l (rest text first_line.next) ≡ Some (chars value, rest text end)
+      → value_from q folded chomping (chars prefix) l (rest text first_line.next) ≡ Some (chars value, rest text end)
 
 -- so many line feeds from a place on
 pub record AreFeeds (text : List ℕ) (at count end : ℕ) : Type 0 where
@@ -78,8 +79,8 @@ pub record AreFeeds (text : List ℕ) (at count end : ℕ) : Type 0 where
   pub boundary : IsCharBoundary text end
   pub spells : between text at end ≡ line_feeds count
 
--- No line stands behind the text line, no empty line before it, and the line feeds that the value has behind its text stand there,
--- up to the end.
+-- No line comes after the text line, no empty line before it, and the line feeds that the value has after its text are
+-- there, up to the end.
 pub record IsPiece (q : ℕ) (chomping : Chomping) (text : List ℕ) (gaps : ℕ) (line : Line) (end : ℕ) : Type 0 where
   pub last : lines_at q (rest text line.next) ≡ Some ([], rest text line.next)
   pub none_before : gaps ≡ 0
@@ -90,5 +91,5 @@ pub record IsPiece (q : ℕ) (chomping : Chomping) (text : List ℕ) (gaps : ℕ
 -- one of these fails
 abbrev pub IsNoPiece : ℕ → Chomping → List ℕ → ℕ → Line → Type 0
 IsNoPiece q chomping text gaps line =
-    (l : TextLine) (gs : List Gap) (ls : List TextLine) (behind : List ℕ) → Describes line l → rest text line.end ≡ text_behind l ++ rest text line.next
-    → length gs ≡ gaps → lines_at q (rest text line.next) ≡ Some (ls, behind) → is_one_piece chomping gs (l ∷ ls) ≡ false
+    (l : TextLine) (gs : List Gap) (ls : List TextLine) (after : List ℕ) → Describes line l → rest text line.end ≡ text_after l ++ rest text line.next
+    → length gs ≡ gaps → lines_at q (rest text line.next) ≡ Some (ls, after) → is_one_piece chomping gs (l ∷ ls) ≡ false

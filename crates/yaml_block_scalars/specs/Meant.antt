@@ -6,6 +6,7 @@ use Rattle.yaml_block_scalars.specs.declared.parts.Chomping.TheVariants.{Strip, 
 use Rattle.yaml_block_scalars.specs.declared.scalar.Form.{Form}
 use Rattle.yaml_block_scalars.specs.declared.scalar.Form.TheVariants.{Literal, Folded}
 
+-- the chomping that the code's value means
 abbrev pub chomping_of : Chomping → grammar.Chomping
 chomping_of Strip = grammar.strip
 chomping_of Clip = grammar.clip
@@ -16,6 +17,7 @@ abbrev pub least_indent : ℤ → ℕ
 least_indent (pos n) = n + 1
 least_indent (negsuc n) = 0
 
+-- the form is folded
 abbrev pub is_folded : Form → Bool
 is_folded Literal = false
 is_folded Folded = true

@@ -2,13 +2,13 @@
 ghost use Rattle.std.specs.Prelude.{◌≡◌, ◌≢◌, ◌≤◌, None, IsTrue, IfOk, IfErr, MatchOption};
 ghost use Rattle.std.specs.Str.{IsCharBoundary};
 ghost use Rattle.yaml_chars.specs.Places.{rest};
-ghost use Rattle.yaml_events.specs.Places.{Refuses};
+ghost use Rattle.yaml_events.specs.EventPlaces.{Refuses};
 ghost use Rattle.yaml_recognizers.specs.BlockScalars.{digit_fits, read_digit, read_mark, read_header_end};
 ghost use Rattle.yaml_recognizers.specs.BlockScalarFacts.{NoHeader};
 ghost use Rattle.yaml_block_scalars.specs.Found.{IsHeaderAt};
 ghost use Rattle.yaml_block_scalars.specs.Meant.{chomping_of};
 ghost use Rattle.yaml_scan.specs.Lines.{IsLineStart};
-ghost use Rattle.yaml_block_scalars.specs.Places.{IsDigit, IsMark, AreSigns, IsHeaderEnd};
+ghost use Rattle.yaml_block_scalars.specs.HeaderPlaces.{IsDigit, IsMark, AreSigns, IsHeaderEnd};
 
 use crate::parts::{Chomping, Header};
 use yaml_events::{ScanFault, Why};
@@ -54,14 +54,14 @@ fn signs_at(text: &str, at: usize) -> (Option<u8>, Chomping, usize)
     ensures { AreSigns text.now at result.0 (chomping_of result.1) result.2 }
 {
     let (first_digit, place) = digit_at(text, at);
-    let (chomping, behind) = chomping_at(text, place);
+    let (chomping, after) = chomping_at(text, place);
     if first_digit.is_some() {
-        return (first_digit, chomping, behind);
+        return (first_digit, chomping, after);
     }
     match chomping {
-        Chomping::Clip => (None, chomping, behind),
+        Chomping::Clip => (None, chomping, after),
         Chomping::Strip | Chomping::Keep => {
-            let (digit, end) = digit_at(text, behind);
+            let (digit, end) = digit_at(text, after);
             (digit, chomping, end)
         }
     }
@@ -71,7 +71,8 @@ fn signs_at(text: &str, at: usize) -> (Option<u8>, Chomping, usize)
 /// space, and a break or the end of the text. Returns None where anything else is there.
 fn header_end(text: &str, at: usize) -> Option<usize>
     requires { IsCharBoundary text.now at }
-    ensures { MatchOption result (read_header_end (rest text.now at) ≡ None) (IsHeaderEnd text.now at) }
+    ensures { MatchOption result (read_header_end (rest text.now at)
+        ≡ None) (IsHeaderEnd text.now at) }
 {
     if at == text.len() {
         return Some(at);

@@ -2,7 +2,7 @@
 ghost use Rattle.std.specs.Prelude.{◌≡◌, None, Some, IfOk, IfErr};
 ghost use Rattle.std.specs.Str.{IsCharBoundary};
 ghost use Rattle.yaml_chars.specs.Places.{rest};
-ghost use Rattle.yaml_events.specs.Places.{Refuses};
+ghost use Rattle.yaml_events.specs.EventPlaces.{Refuses};
 ghost use Rattle.yaml_recognizers.specs.BlockScalars.{find_indent};
 ghost use Rattle.yaml_block_scalars.specs.Lines.{AreLeading};
 
@@ -31,8 +31,10 @@ fn leading_lines(text: &str, at: usize) -> (usize, usize)
 /// that holds anything but spaces.
 pub(crate) fn detected(text: &str, at: usize, least: usize) -> Result<usize, ScanFault>
     requires { IsCharBoundary text.now at }
-    ensures found { IfOk result (λ indent. find_indent None least (rest text.now at) ≡ Some indent) }
-    ensures none { IfErr result (λ fault. Refuses fault (find_indent None least (rest text.now at) ≡ None)) }
+    ensures found { IfOk result (λ indent. find_indent None least (rest text.now at)
+        ≡ Some indent) }
+    ensures none { IfErr result (λ fault.
+        Refuses fault (find_indent None least (rest text.now at) ≡ None)) }
 {
     let (widest, place) = leading_lines(text, at);
     let end = spaces_end(text, place);

@@ -2,7 +2,7 @@
 ghost use Rattle.std.specs.Prelude.{◌≡◌, false, [], None, Some, MatchOption, IfOk, IfErr};
 ghost use Rattle.std.specs.Str.{IsCharBoundary};
 ghost use Rattle.yaml_chars.specs.Places.{rest};
-ghost use Rattle.yaml_events.specs.Places.{Refuses};
+ghost use Rattle.yaml_events.specs.EventPlaces.{Refuses};
 ghost use Rattle.yaml_grammar.specs.BlockScalars.{goes_on};
 ghost use Rattle.yaml_recognizers.specs.BlockScalars.{lines_at};
 ghost use Rattle.yaml_block_scalars.specs.Lines.{IsPastGaps, AreGaps, IsTextStart, IsLine};
@@ -52,7 +52,8 @@ pub(crate) fn empty_lines(text: &str, at: usize, indent: usize) -> (usize, usize
 pub(crate) fn text_start(text: &str, at: usize, indent: usize) -> Option<usize>
     requires boundary { IsCharBoundary text.now at }
     requires past { IsPastGaps indent (rest text.now at) }
-    ensures { MatchOption result (goes_on indent (rest text.now at) ≡ false) (IsTextStart indent text.now at) }
+    ensures { MatchOption result (goes_on indent (rest text.now at)
+        ≡ false) (IsTextStart indent text.now at) }
 {
     let end = spaces_end(text, at);
     let width = end - at;
@@ -78,8 +79,11 @@ pub(crate) fn text_start(text: &str, at: usize, indent: usize) -> Option<usize>
 pub(crate) fn text_line(text: &str, at: usize, indent: usize) -> Result<Option<Line>, ScanFault>
     requires boundary { IsCharBoundary text.now at }
     requires past { IsPastGaps indent (rest text.now at) }
-    ensures found { IfOk result (λ found. MatchOption found (lines_at indent (rest text.now at) ≡ Some ([], rest text.now at)) (IsLine indent text.now at)) }
-    ensures none { IfErr result (λ fault. Refuses fault (lines_at indent (rest text.now at) ≡ None)) }
+    ensures found { IfOk result (λ found.
+        MatchOption found (lines_at indent (rest text.now at) ≡ Some ([], rest text.now at))
+        (IsLine indent text.now at)) }
+    ensures none { IfErr result (λ fault.
+        Refuses fault (lines_at indent (rest text.now at) ≡ None)) }
 {
     let Some(start) = text_start(text, at, indent) else {
         return Ok(None);

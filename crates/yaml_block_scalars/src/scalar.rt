@@ -3,7 +3,7 @@ ghost use Rattle.std.specs.Prelude.{◌≡◌, ◌≤◌, ◌^◌, ◌≤ℤ◌,
 ghost use Rattle.std.specs.Cow.{cow_str_bytes, IsBorrowedStr};
 ghost use Rattle.std.specs.Str.{IsCharBoundary, chars};
 ghost use Rattle.yaml_chars.specs.Places.{rest};
-ghost use Rattle.yaml_events.specs.Places.{Refuses};
+ghost use Rattle.yaml_events.specs.EventPlaces.{Refuses};
 ghost use Rattle.yaml_grammar.specs.FlowScalars.{line_feeds};
 ghost use Rattle.yaml_grammar.specs.Texts.{begins};
 ghost use Rattle.yaml_recognizers.specs.BlockScalars.{digit_fits, find_indent, gaps_at, lines_at};
@@ -16,7 +16,7 @@ ghost use Rattle.yaml_block_scalars.specs.Meant.{chomping_of, is_folded, least_i
 use crate::indent::detected;
 use crate::line::{Line, empty_lines, text_line, text_start};
 use crate::parts::{Chomping, Header};
-use crate::value::{feeds_behind, no_lines, push_between};
+use crate::value::{feeds_after, no_lines, push_between};
 use std::alloc::Global;
 use std::borrow::CowStr;
 use yaml_events::ScanFault;
@@ -38,14 +38,17 @@ fn push_lines(
     style: Style,
 ) -> Result<usize, ScanFault>
     requires { IsPlaced indent text.now first }
-    ensures found { IfOk result (ArePushed indent style.folded (chomping_of style.chomping) text.now first (string_bytes value.old) (string_bytes value.new)) }
-    ensures none { IfErr result (λ fault. Refuses fault (lines_at indent (rest text.now first.next) ≡ None)) }
+    ensures found { IfOk result (ArePushed indent style.folded
+        (chomping_of style.chomping) text.now first (string_bytes value.old)
+        (string_bytes value.new)) }
+    ensures none { IfErr result (λ fault.
+        Refuses fault (lines_at indent (rest text.now first.next) ≡ None)) }
 {
     let mut line = first;
     'lines: loop {
         value.push_str(&text[line.start..line.end])?;
         let Some(next) = text_line(text, line.next, indent)? else {
-            push_line_feeds(value, feeds_behind(style.chomping, line))?;
+            push_line_feeds(value, feeds_after(style.chomping, line))?;
             return Ok(line.next);
         };
         push_between(value, style.folded, line, next)?;
@@ -56,7 +59,8 @@ fn push_lines(
 /// Returns the end of `count` line feeds at `at`. Returns None where anything else is there.
 fn feeds_end(text: &str, at: usize, count: usize) -> Option<usize>
     requires { IsCharBoundary text.now at }
-    ensures { MatchOption result (begins (line_feeds count) (rest text.now at) ≡ false) (AreFeeds text.now at count) }
+    ensures { MatchOption result (begins (line_feeds count) (rest text.now at)
+        ≡ false) (AreFeeds text.now at count) }
 {
     let bytes = text.as_bytes();
     let mut end = at;
@@ -83,12 +87,13 @@ fn piece_end(
     chomping: Chomping,
 ) -> Option<usize>
     requires { IsPlaced indent text.now line }
-    ensures { MatchOption result (IsNoPiece indent (chomping_of chomping) text.now gaps line) (IsPiece indent (chomping_of chomping) text.now gaps line) }
+    ensures { MatchOption result (IsNoPiece indent (chomping_of chomping) text.now gaps line)
+        (IsPiece indent (chomping_of chomping) text.now gaps line) }
 {
     if gaps > 0 {
         return None;
     }
-    let Some(end) = feeds_end(text, line.end, feeds_behind(chomping, line)) else {
+    let Some(end) = feeds_end(text, line.end, feeds_after(chomping, line)) else {
         return None;
     };
     match text_start(text, line.next, indent) {
@@ -117,9 +122,13 @@ fn lines<'a>(
     style: Style,
 ) -> Result<(CowStr<'a>, usize), ScanFault>
     requires { IsCharBoundary text.now at }
-    ensures found { IfOk result (λ found. AreLines indent style.folded (chomping_of style.chomping) text.now at (cow_str_bytes found.0) found.1) }
-    ensures borrowed { IfOk result (λ found. ArePiece indent (chomping_of style.chomping) (rest text.now at) → IsBorrowedStr found.0) }
-    ensures none { IfErr result (λ fault. Refuses fault (lines_at indent (gaps_at indent (rest text.now at)).1 ≡ None)) }
+    ensures found { IfOk result (λ found.
+        AreLines indent style.folded (chomping_of style.chomping) text.now at
+        (cow_str_bytes found.0) found.1) }
+    ensures borrowed { IfOk result (λ found.
+        ArePiece indent (chomping_of style.chomping) (rest text.now at) → IsBorrowedStr found.0) }
+    ensures none { IfErr result (λ fault.
+        Refuses fault (lines_at indent (gaps_at indent (rest text.now at)).1 ≡ None)) }
 {
     let (gaps, place) = empty_lines(text, at, indent);
     let Some(line) = text_line(text, place, indent)? else {
@@ -146,8 +155,10 @@ fn least_indent(n: i64) -> usize
 fn indent_at(text: &str, at: usize, least: usize, digit: Option<u8>) -> Result<usize, ScanFault>
     requires boundary { IsCharBoundary text.now at }
     requires fits { least ≤ 2 ^ 63 }
-    ensures found { IfOk result (λ indent. find_indent digit least (rest text.now at) ≡ Some indent) }
-    ensures none { IfErr result (λ fault. Refuses fault (find_indent digit least (rest text.now at) ≡ None)) }
+    ensures found { IfOk result (λ indent. find_indent digit least (rest text.now at)
+        ≡ Some indent) }
+    ensures none { IfErr result (λ fault.
+        Refuses fault (find_indent digit least (rest text.now at) ≡ None)) }
 {
     match digit {
         Some(digit) => Ok(least.saturating_sub(1) + digit as usize),
@@ -185,10 +196,14 @@ fn body<'a>(
     requires boundary { IsCharBoundary text.now at }
     requires below { negsuc 0 ≤ℤ n }
     requires digit { IsTrue (digit_fits header.now.digit) }
-    ensures found { IfOk result (λ found. IsBodyAt (least_indent n) (is_folded form) header.now text.now at (cow_str_bytes found.0) found.1) }
+    ensures found { IfOk result (λ found.
+        IsBodyAt (least_indent n) (is_folded form) header.now text.now at
+        (cow_str_bytes found.0) found.1) }
     ensures line { IsLineStart text.now at → IfOk result (λ found. IsLineStart text.now found.1) }
-    ensures borrowed { IfOk result (λ found. IsPieceAt (least_indent n) header.now text.now at found.1 → IsBorrowedStr found.0) }
-    ensures none { IfErr result (λ fault. Refuses fault (NoBody header.now.digit (least_indent n) (rest text.now at))) }
+    ensures borrowed { IfOk result (λ found.
+        IsPieceAt (least_indent n) header.now text.now at found.1 → IsBorrowedStr found.0) }
+    ensures none { IfErr result (λ fault.
+        Refuses fault (NoBody header.now.digit (least_indent n) (rest text.now at))) }
 {
     let indent = indent_at(text, at, least_indent(n), header.digit)?;
     let style = Style {
@@ -222,10 +237,13 @@ pub fn literal<'a>(
     requires boundary { IsCharBoundary text.now at }
     requires below { negsuc 0 ≤ℤ n }
     requires digit { IsTrue (digit_fits header.now.digit) }
-    ensures found { IfOk result (λ found. IsBodyAt (least_indent n) false header.now text.now at (cow_str_bytes found.0) found.1) }
+    ensures found { IfOk result (λ found.
+        IsBodyAt (least_indent n) false header.now text.now at (cow_str_bytes found.0) found.1) }
     ensures line { IsLineStart text.now at → IfOk result (λ found. IsLineStart text.now found.1) }
-    ensures borrowed { IfOk result (λ found. IsPieceAt (least_indent n) header.now text.now at found.1 → IsBorrowedStr found.0) }
-    ensures none { IfErr result (λ fault. Refuses fault (NoBody header.now.digit (least_indent n) (rest text.now at))) }
+    ensures borrowed { IfOk result (λ found.
+        IsPieceAt (least_indent n) header.now text.now at found.1 → IsBorrowedStr found.0) }
+    ensures none { IfErr result (λ fault.
+        Refuses fault (NoBody header.now.digit (least_indent n) (rest text.now at))) }
 {
     body(alloc, text, at, n, header, Form::Literal)
 }
@@ -245,10 +263,13 @@ pub fn folded<'a>(
     requires boundary { IsCharBoundary text.now at }
     requires below { negsuc 0 ≤ℤ n }
     requires digit { IsTrue (digit_fits header.now.digit) }
-    ensures found { IfOk result (λ found. IsBodyAt (least_indent n) true header.now text.now at (cow_str_bytes found.0) found.1) }
+    ensures found { IfOk result (λ found.
+        IsBodyAt (least_indent n) true header.now text.now at (cow_str_bytes found.0) found.1) }
     ensures line { IsLineStart text.now at → IfOk result (λ found. IsLineStart text.now found.1) }
-    ensures borrowed { IfOk result (λ found. IsPieceAt (least_indent n) header.now text.now at found.1 → IsBorrowedStr found.0) }
-    ensures none { IfErr result (λ fault. Refuses fault (NoBody header.now.digit (least_indent n) (rest text.now at))) }
+    ensures borrowed { IfOk result (λ found.
+        IsPieceAt (least_indent n) header.now text.now at found.1 → IsBorrowedStr found.0) }
+    ensures none { IfErr result (λ fault.
+        Refuses fault (NoBody header.now.digit (least_indent n) (rest text.now at))) }
 {
     body(alloc, text, at, n, header, Form::Folded)
 }

@@ -14,9 +14,10 @@ use std::borrow::CowStr;
 use yaml_scan::push_line_feeds;
 
 /// Returns how many line feeds follow the last text line in the value.
-pub(crate) fn feeds_behind(chomping: Chomping, line: Line) -> usize
+pub(crate) fn feeds_after(chomping: Chomping, line: Line) -> usize
     requires { line.gaps < usize.MAX }
-    ensures { (l : TextLine) → Describes line l → line_feeds result ≡ chomped (chomping_of chomping) l }
+    ensures { (l : TextLine) → Describes line l → line_feeds result
+        ≡ chomped (chomping_of chomping) l }
 {
     let of_break = if line.has_break { 1 } else { 0 };
     match chomping {
@@ -44,7 +45,8 @@ pub(crate) fn push_between(
     next: Line,
 ) -> Result<(), AllocError>
     requires { line.gaps < usize.MAX }
-    ensures { OnOk result ((l m : TextLine) → Describes line l → Describes next m → string_bytes value.new ≡ string_bytes value.old ++ between_lines folded l m) }
+    ensures { OnOk result ((l m : TextLine) → Describes line l → Describes next m
+        → string_bytes value.new ≡ string_bytes value.old ++ between_lines folded l m) }
 {
     if !folded || line.white || next.white {
         return push_line_feeds(value, line.gaps + 1);
@@ -62,7 +64,8 @@ pub(crate) fn no_lines<'a>(
     gaps: usize,
 ) -> Result<CowStr<'a>, AllocError>
     ensures value { IfOk result (λ value. cow_str_bytes value ≡ kept (chomping_of chomping) gaps) }
-    ensures borrowed { is_empty (kept (chomping_of chomping) gaps) ≡ true → IfOk result IsBorrowedStr }
+    ensures borrowed { is_empty (kept (chomping_of chomping) gaps) ≡ true
+        → IfOk result IsBorrowedStr }
 {
     let feeds = kept_feeds(chomping, gaps);
     if feeds == 0 {

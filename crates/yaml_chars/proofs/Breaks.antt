@@ -1,4 +1,4 @@
--- A break that stands in the bytes of a text stands in its characters.
+-- A break in the bytes of a text is one in its characters.
 use Rattle.std.proofs.Common.{◌≡◌, ℕ, ◌+◌, ◌-◌, ◌<◌, ◌≤◌, true, List, ◌∷◌, Some, None, refl, ap, sym, ◌∙◌, subst, arith, length, inl, inr, get_or, take, drop, drop-drop, length-drop, slice_range, slice_index, slice_get}
 use Rattle.std.specs.Str.{IsUtf8, IsCharBoundary, chars}
 use Rattle.std.proofs.lemmas.Bool.{cases_lt, not_from_false, not-true, false_from_ne_true, false≢true}
@@ -13,9 +13,11 @@ use Rattle.yaml_chars.proofs.Runs.{blind-no_break, AllPass-chars}
 
 -- ---- no break
 
+-- bytes without a break are characters without one
 pub NoBreak-chars : (bs : List ℕ) → IsUtf8 bs → NoBreak bs → NoBreak (chars bs)
 NoBreak-chars bs u h = AllPass-chars no_break bs blind-no_break u h
 
+-- the same from a place on
 pub NoBreak-rest : (bs : List ℕ) (at : ℕ) → IsUtf8 bs → IsCharBoundary bs at → NoBreak (drop at bs) → NoBreak (rest bs at)
 NoBreak-rest bs at u b h = NoBreak-chars (drop at bs) (IsUtf8-drop bs at u b) h
 
@@ -25,7 +27,7 @@ no_break_is piece h = λ j d l. ap no_break (get_or_default piece j d 0 l) ∙ n
 
 -- ---- a break
 
--- an ASCII byte in front, read in the characters
+-- an ASCII byte before it, read in the characters
 byte_there : (bs ds : List ℕ) (i c : ℕ) → drop i bs ≡ c ∷ ds → (i < length bs) × (get_or bs i 0 ≡ c)
 byte_there bs ds i c e =
     let first : get_or (drop i bs) 0 0 ≡ get_or bs i 0 = get_or-drop i bs 0 0 ∙ ap (λ x. get_or bs x 0) (let z : i + 0 ≡ i = omega arith in z) in
@@ -42,11 +44,11 @@ char_there bs ds i c u a e =
       sym (drop-drop 1 i bs) ∙ ap (λ (x : List ℕ). drop 1 x) e,
     )
 
--- an ASCII character in front is a byte there
+-- an ASCII character before it is a byte there
 first_is_byte : (bs : List ℕ) (i c : ℕ) → IsUtf8 bs → IsCharBoundary bs i → c < 128 → slice_get (rest bs i) 0 ≡ Some c → slice_get (drop i bs) 0 ≡ Some c
 first_is_byte bs i c u b a e = elim (cases_lt i (length bs)) [
   | inl l ↦ (let there = char_at bs i u b l in
-      let front : Some there.0 ≡ Some c = sym (ap (λ (x : List ℕ). slice_get x 0) there.1.splits) ∙ e in
+      let prefix : Some there.0 ≡ Some c = sym (ap (λ (x : List ℕ). slice_get x 0) there.1.splits) ∙ e in
       let same : there.0 ≡ c = cc in
       let byte : get_or bs i 0 ≡ c = elim (cases_lt (get_or bs i 0) 128) [
         | inl low ↦ sym (there.1.low low) ∙ same
@@ -62,6 +64,7 @@ pub record IsBreakAt (bs : List ℕ) (i n : ℕ) : Type 0 where
   pub end : IsCharBoundary bs (i + n)
   pub break : StartsWithBreak (rest bs i) n (rest bs (i + n))
 
+-- a break in the bytes at a place is one in the characters there
 pub break_at : (bs : List ℕ) (i n : ℕ) → IsUtf8 bs → StartsWithBreak (drop i bs) n (drop (i + n) bs) → IsBreakAt bs i n
 break_at bs i n u (cr_lf e size) =
     let first = char_there bs (10 ∷ drop (i + n) bs) i 13 u (omega arith) e in
@@ -92,6 +95,7 @@ break_at bs i n u (cr e alone size) =
 
 -- ---- the next break
 
+-- the next break over the bytes ends the line over the characters
 pub ends_line : (text : List ℕ) (at start len : ℕ) → IsUtf8 text → IsCharBoundary text at → IsNextBreak text at start len → EndsLine text at start len
 ends_line text at start len u b h =
     let there = break_at text start len u h.break in
@@ -103,18 +107,18 @@ ends_line text at start len u b h =
     }
 
 -- The first byte of a break in the bytes from `at` on is at place k of those, and the break there takes so many bytes.
-pub next_break_is : (text piece behind : List ℕ) (at k len : ℕ) → piece ≡ drop at text → behind ≡ drop (at + k) text
-    → ((j : ℕ) → 0 ≤ j → j < k → line_break (slice_index piece j) ≡ true → ⊥) → StartsWithBreak behind len (drop len behind) → IsNextBreak text at (at + k) len
-next_break_is text piece behind at k len is_piece is_behind before stands =
+pub next_break_is : (text piece after : List ℕ) (at k len : ℕ) → piece ≡ drop at text → after ≡ drop (at + k) text
+    → ((j : ℕ) → 0 ≤ j → j < k → line_break (slice_index piece j) ≡ true → ⊥) → StartsWithBreak after len (drop len after) → IsNextBreak text at (at + k) len
+next_break_is text piece after at k len is_piece is_after before stands =
     let size : (at + k) - at ≡ k = omega arith in
     let none : NoBreak (take k piece) = no_break_is (take k piece) (λ j low l is_break.
     (let inside : j < k = omega (arith, length-take k piece) in
     before j low inside (sym (ap line_break (get_or-take k piece j 0 inside)) ∙ is_break))) in
-    let later : drop len behind ≡ drop (at + k + len) text = ap (drop len) is_behind ∙ drop-drop len (at + k) text in
+    let later : drop len after ≡ drop (at + k + len) text = ap (drop len) is_after ∙ drop-drop len (at + k) text in
     record {
       above = omega arith;
       none_before = subst NoBreak (ap (take k) is_piece ∙ ap (λ x. take x (drop at text)) (sym size)) none;
-      break = subst (λ x. StartsWithBreak x len (drop (at + k + len) text)) is_behind (subst (λ x. StartsWithBreak behind len x) later stands);
+      break = subst (λ x. StartsWithBreak x len (drop (at + k + len) text)) is_after (subst (λ x. StartsWithBreak after len x) later stands);
     }
 
 -- the bytes of a text from a place on, as a slice of them reads
@@ -124,35 +128,35 @@ bytes_from text bytes i e = take_rest bytes i ∙ ap (drop i) e
 -- ---- there is one answer
 
 -- a break begins with one of its bytes
-pub break_begins : (text : List ℕ) (len : ℕ) (behind : List ℕ) → StartsWithBreak text len behind → (c : ℕ) × (cs : List ℕ) × (text ≡ c ∷ cs) × (line_break c ≡ true)
-break_begins text len behind (cr_lf e size) = (13, 10 ∷ behind, e, refl)
-break_begins text len behind (lf e size) = (10, behind, e, refl)
-break_begins text len behind (cr e alone size) = (13, behind, e, refl)
+pub break_begins : (text : List ℕ) (len : ℕ) (after : List ℕ) → StartsWithBreak text len after → (c : ℕ) × (cs : List ℕ) × (text ≡ c ∷ cs) × (line_break c ≡ true)
+break_begins text len after (cr_lf e size) = (13, 10 ∷ after, e, refl)
+break_begins text len after (lf e size) = (10, after, e, refl)
+break_begins text len after (cr e alone size) = (13, after, e, refl)
 
 cr_is_no_lf : ◌≡◌ {A = ℕ} 13 10 → ⊥
 cr_is_no_lf h = omega (arith, h)
 
--- one break alone stands in front of a text
-pub same_break : (text : List ℕ) (len other : ℕ) (behind rest : List ℕ) → StartsWithBreak text len behind → StartsWithBreak text other rest → (len ≡ other) × (behind ≡ rest)
-same_break text len other behind rest (cr_lf e m) (cr_lf f n) = (m ∙ sym n, cc)
-same_break text len other behind rest (cr_lf e m) (lf f n) = absurd (cr_is_no_lf cc)
-same_break text len other behind rest (cr_lf e m) (cr f alone n) =
-    absurd (alone (let h : rest ≡ 10 ∷ behind = cc in ap (λ (x : List ℕ). slice_get x 0) h))
-same_break text len other behind rest (lf e m) (cr_lf f n) = absurd (cr_is_no_lf cc)
-same_break text len other behind rest (lf e m) (lf f n) = (m ∙ sym n, cc)
-same_break text len other behind rest (lf e m) (cr f alone n) = absurd (cr_is_no_lf cc)
-same_break text len other behind rest (cr e alone m) (cr_lf f n) =
-    absurd (alone (let h : behind ≡ 10 ∷ rest = cc in ap (λ (x : List ℕ). slice_get x 0) h))
-same_break text len other behind rest (cr e alone m) (lf f n) = absurd (cr_is_no_lf cc)
-same_break text len other behind rest (cr e alone m) (cr f also n) = (m ∙ sym n, cc)
+-- one break alone comes before a text
+pub same_break : (text : List ℕ) (len other : ℕ) (after rest : List ℕ) → StartsWithBreak text len after → StartsWithBreak text other rest → (len ≡ other) × (after ≡ rest)
+same_break text len other after rest (cr_lf e m) (cr_lf f n) = (m ∙ sym n, cc)
+same_break text len other after rest (cr_lf e m) (lf f n) = absurd (cr_is_no_lf cc)
+same_break text len other after rest (cr_lf e m) (cr f alone n) =
+    absurd (alone (let h : rest ≡ 10 ∷ after = cc in ap (λ (x : List ℕ). slice_get x 0) h))
+same_break text len other after rest (lf e m) (cr_lf f n) = absurd (cr_is_no_lf cc)
+same_break text len other after rest (lf e m) (lf f n) = (m ∙ sym n, cc)
+same_break text len other after rest (lf e m) (cr f alone n) = absurd (cr_is_no_lf cc)
+same_break text len other after rest (cr e alone m) (cr_lf f n) =
+    absurd (alone (let h : after ≡ 10 ∷ rest = cc in ap (λ (x : List ℕ). slice_get x 0) h))
+same_break text len other after rest (cr e alone m) (lf f n) = absurd (cr_is_no_lf cc)
+same_break text len other after rest (cr e alone m) (cr f also n) = (m ∙ sym n, cc)
 
--- a byte of a break at the place itself is where the next break starts, and no next break starts behind one
+-- a byte of a break at the place itself is where the next break starts, and no next break starts after one
 pub starts_by : (text : List ℕ) (at start len k : ℕ) → IsNextBreak text at start len → at ≤ k → k < length text → line_break (slice_index text k) ≡ true → start ≤ k
 starts_by text at start len k h above within is_break = elim (cases_lt k start) [
   | inl before ↦ (let size : k - at < length (slice_range text at start) = omega (arith, length-take (start - at) (drop at text), length-drop at text) in
       let there : get_or (slice_range text at start) (k - at) 0 ≡ get_or text k 0 = get_or-take (start - at) (drop at text) (k - at) 0 (omega arith) ∙ get_or-drop at text (k - at) 0 ∙ ap (λ x. get_or text x 0) (let e : at + (k - at) ≡ k = omega arith in e) in
       absurd (false≢true (sym (not-true _ (h.none_before (k - at) 0 size)) ∙ ap line_break there ∙ is_break)))
-  | inr behind ↦ behind
+  | inr after ↦ after
 ]
 
 break_byte : (text : List ℕ) (at start len : ℕ) → IsNextBreak text at start len → (start < length text) × (line_break (slice_index text start) ≡ true)

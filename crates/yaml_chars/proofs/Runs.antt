@@ -18,33 +18,43 @@ use Rattle.yaml_chars.proofs.Places.{IsCharAt, char_at, rest-end}
 abbrev pub IsBlind : (ℕ → Bool) → Type 0
 IsBlind test = (c : ℕ) → 128 ≤ c → c < 0x110000 → test c ≡ test 128
 
+-- the test for whitespace doesn't distinguish characters from 128 on
 pub blind-white : IsBlind white
 blind-white c h l = grind (arith, nat_tests)
 
+-- nor does that for spaces
 pub blind-space : IsBlind space
 blind-space c h l = grind (arith, nat_tests)
 
+-- nor that for breaks
 pub blind-line_break : IsBlind line_break
 blind-line_break c h l = grind (arith, nat_tests)
 
+-- nor that for all but breaks
 pub blind-no_break : IsBlind no_break
 blind-no_break c h l = grind (arith, nat_tests)
 
+-- nor that for nb-json
 pub blind-nb_json : IsBlind nb_json
 blind-nb_json c h l = grind (arith, nat_tests)
 
+-- nor that for indicators
 pub blind-indicator : IsBlind indicator
 blind-indicator c h l = grind (arith, nat_tests)
 
+-- nor that for flow indicators
 pub blind-flow_indicator : IsBlind flow_indicator
 blind-flow_indicator c h l = grind (arith, nat_tests)
 
+-- nor does the negation of such a test
 pub blind-not : (test : ℕ → Bool) → IsBlind test → IsBlind (λ c. not (test c))
 blind-not test h c high fits = ap not (h c high fits)
 
+-- nor do two such tests together
 pub blind-and : (one other : ℕ → Bool) → IsBlind one → IsBlind other → IsBlind (λ c. one c && other c)
 blind-and one other h g c high fits = ap (λ x. x && other c) (h c high fits) ∙ ap (λ x. one 128 && x) (g c high fits)
 
+-- nor does one of two such tests
 pub blind-or : (one other : ℕ → Bool) → IsBlind one → IsBlind other → IsBlind (λ c. one c || other c)
 blind-or one other h g c high fits = ap (λ x. x || other c) (h c high fits) ∙ ap (λ x. one 128 || x) (g c high fits)
 
@@ -84,6 +94,7 @@ bytes-encodes (c ∷ cs) s =
     let both = and_parts (scalar c) (scalars cs) s in
     bytes-append (encode c) (encodes cs) (bytes-encode c (scalar_fits c both.0)) (bytes-encodes cs both.1)
 
+-- each byte of a text is below 256
 pub byte_fits : (bs : List ℕ) (k : ℕ) → IsUtf8 bs → get_or bs k 0 < 256
 unfolding AreBytes
 byte_fits bs k u = subst AreBytes u.1.1 (bytes-encodes u.0 u.1.0) k
@@ -97,6 +108,7 @@ blind_both test c b blind fits byte low high = elim (cases_lt b 128) [
   | inr h ↦ blind c (high h) fits ∙ sym (blind b h (omega arith))
 ]
 
+-- such a test of the character at a place is that of the byte there
 pub test-char_at : (test : ℕ → Bool) (bs : List ℕ) (i c : ℕ) → IsBlind test → IsUtf8 bs → IsCharAt bs i c → test c ≡ test (get_or bs i 0)
 test-char_at test bs i c blind u at = blind_both test c (get_or bs i 0) blind (scalar_fits c at.scalar) (byte_fits bs i u) at.low at.high
 
@@ -127,9 +139,11 @@ pub test-chars : (test : ℕ → Bool) (bs : List ℕ) → IsBlind test → IsUt
 unfolding AllBytesPass
 test-chars test bs blind u h = test-encodes test (chars bs) blind (scalars-chars bs u) (subst (AllBytesPass test) (sym (encodes-chars bs u)) h)
 
+-- if all bytes pass such a test, all characters do
 pub AllPass-chars : (test : ℕ → Bool) (bs : List ℕ) → IsBlind test → IsUtf8 bs → AllPass test bs → AllPass test (chars bs)
 AllPass-chars test bs blind u h = AllPass-from_list_all test (chars bs) (test-chars test bs blind u (λ k l. h k 0 l))
 
+-- the same between two places
 pub test-between : (test : ℕ → Bool) (bs : List ℕ) (i j : ℕ) → IsBlind test → IsUtf8 bs → i ≤ j → IsCharBoundary bs i → IsCharBoundary bs j
     → ((k : ℕ) → i ≤ k → k < j → test (get_or bs k 0) ≡ true) → list_all test (between bs i j) ≡ true
 test-between test bs i j blind u l b d h =
@@ -139,9 +153,9 @@ test-between test bs i j blind u l b d h =
 
 -- ---- the last character
 
--- c stands in front of the place j, behind the others from i on; what the last byte says of it
-pub record IsLastChar (bs : List ℕ) (i j : ℕ) (front : List ℕ) (c : ℕ) : Type 0 where
-  pub splits : between bs i j ≡ front ++ c ∷ []
+-- c comes before the place j, after the others from i on; what the last byte says of it
+pub record IsLastChar (bs : List ℕ) (i j : ℕ) (prefix : List ℕ) (c : ℕ) : Type 0 where
+  pub splits : between bs i j ≡ prefix ++ c ∷ []
   pub fits : c < 0x110000
   pub low : get_or bs (j - 1) 0 < 128 → c ≡ get_or bs (j - 1) 0
   pub high : 128 ≤ get_or bs (j - 1) 0 → 128 ≤ c
@@ -162,13 +176,13 @@ last-append xs ys h =
     let e : length (xs ++ ys) - 1 ≡ length xs + (length ys - 1) = omega (arith, length-append xs ys) in
     ap (λ x. get_or (xs ++ ys) x 0) e ∙ get_or-append-add xs ys (length ys - 1) 0
 
-record Ends (cs front : List ℕ) (c : ℕ) : Type 0 where
-  splits : cs ≡ front ++ c ∷ []
+record Ends (cs prefix : List ℕ) (c : ℕ) : Type 0 where
+  splits : cs ≡ prefix ++ c ∷ []
   fits : c < 0x110000
   low : last_byte (encodes cs) < 128 → c ≡ last_byte (encodes cs)
   high : 128 ≤ last_byte (encodes cs) → 128 ≤ c
 
-last_of : (c : ℕ) (cs : List ℕ) → scalars (c ∷ cs) ≡ true → (front : List ℕ) × (d : ℕ) × Ends (c ∷ cs) front d
+last_of : (c : ℕ) (cs : List ℕ) → scalars (c ∷ cs) ≡ true → (prefix : List ℕ) × (d : ℕ) × Ends (c ∷ cs) prefix d
 unfolding last_byte
 last_of c [] s =
     let one : encode c ++ [] ≡ encode c = append-nil (encode c) in
@@ -204,7 +218,8 @@ last_of c (d ∷ cs) s =
       },
     )
 
-pub last_char : (bs : List ℕ) (i j : ℕ) → IsUtf8 bs → i < j → IsCharBoundary bs i → IsCharBoundary bs j → (front : List ℕ) × (c : ℕ) × IsLastChar bs i j front c
+-- between two places there is a last character
+pub last_char : (bs : List ℕ) (i j : ℕ) → IsUtf8 bs → i < j → IsCharBoundary bs i → IsCharBoundary bs j → (prefix : List ℕ) × (c : ℕ) × IsLastChar bs i j prefix c
 unfolding last_byte
 last_char bs i j u l b d =
     let cut = slice_range bs i j in
@@ -213,7 +228,7 @@ last_char bs i j u l b d =
     let last : last_byte cut ≡ get_or bs (j - 1) 0 = ap (λ x. get_or cut x 0) (ap (λ x. x - 1) size) ∙ get_or-take (j - i) (drop i bs) (j - i - 1) 0 (omega arith) ∙ get_or-drop i bs (j - i - 1) 0 ∙ ap (λ x. get_or bs x 0) (let e : i + (j - i - 1) ≡ j - 1 = omega arith in e) in
     go (chars cut) (scalars-chars cut v) (encodes-chars cut v) size last
   where
-    go : (cs : List ℕ) → scalars cs ≡ true → encodes cs ≡ slice_range bs i j → length (slice_range bs i j) ≡ j - i → last_byte (slice_range bs i j) ≡ get_or bs (j - 1) 0 → (front : List ℕ) × (c : ℕ) × IsLastChar bs i j front c
+    go : (cs : List ℕ) → scalars cs ≡ true → encodes cs ≡ slice_range bs i j → length (slice_range bs i j) ≡ j - i → last_byte (slice_range bs i j) ≡ get_or bs (j - 1) 0 → (prefix : List ℕ) × (c : ℕ) × IsLastChar bs i j prefix c
     go [] s e size last = absurd (omega (arith, ap (λ (x : List ℕ). length x) e))
     go (c ∷ cs) s e size last =
         let found = last_of c cs s in
@@ -229,8 +244,9 @@ last_char bs i j u l b d =
           },
         )
 
-pub test-last_char : (test : ℕ → Bool) (bs : List ℕ) (i j : ℕ) (front : List ℕ) (c : ℕ) → IsBlind test → IsUtf8 bs → IsLastChar bs i j front c → test c ≡ test (get_or bs (j - 1) 0)
-test-last_char test bs i j front c blind u last = blind_both test c (get_or bs (j - 1) 0) blind last.fits (byte_fits bs (j - 1) u) last.low last.high
+-- such a test of the last character is that of the last byte
+pub test-last_char : (test : ℕ → Bool) (bs : List ℕ) (i j : ℕ) (prefix : List ℕ) (c : ℕ) → IsBlind test → IsUtf8 bs → IsLastChar bs i j prefix c → test c ≡ test (get_or bs (j - 1) 0)
+test-last_char test bs i j prefix c blind u last = blind_both test c (get_or bs (j - 1) 0) blind last.fits (byte_fits bs (j - 1) u) last.low last.high
 
 -- ---- runs
 
@@ -244,10 +260,10 @@ boundary_at_stop test bs j blind high u l stop = elim (cases_lt j (length bs)) [
   | inr past ↦ (let e : length bs ≡ j = omega arith in subst (λ x. IsCharBoundary bs x) e (IsCharBoundary-end bs))
 ]
 
--- so is one behind what passes a test that no character from 128 on passes
-boundary_behind : (test : ℕ → Bool) (bs : List ℕ) (i j : ℕ) → IsBlind test → test 128 ≡ false → IsUtf8 bs → IsCharBoundary bs i → i ≤ j → j ≤ length bs
+-- the same of what comes after characters that pass a test which no character from 128 on passes
+boundary_after : (test : ℕ → Bool) (bs : List ℕ) (i j : ℕ) → IsBlind test → test 128 ≡ false → IsUtf8 bs → IsCharBoundary bs i → i ≤ j → j ≤ length bs
     → ((k : ℕ) → i ≤ k → k < j → test (slice_index bs k) ≡ true) → IsCharBoundary bs j
-boundary_behind test bs i j blind high u b l within passes = elim (cases_lt i j) [
+boundary_after test bs i j blind high u b l within passes = elim (cases_lt i j) [
   | inl more ↦ (let last = passes (j - 1) (omega arith) (omega arith) in
       let ascii : get_or bs (j - 1) 0 < 128 = elim (cases_lt (get_or bs (j - 1) 0) 128) [
         | inl a ↦ a
@@ -264,7 +280,7 @@ pub run_is : (test : ℕ → Bool) (bs : List ℕ) (i j : ℕ) → IsBlind test 
 run_is test bs i j blind u b l within passes stop =
     let d : IsCharBoundary bs j = elim (cases_Bool (test 128)) [
       | inl high ↦ boundary_at_stop test bs j blind high u within stop
-      | inr high ↦ boundary_behind test bs i j blind high u b l within passes
+      | inr high ↦ boundary_after test bs i j blind high u b l within passes
     ] in
     record {
       above = l;
@@ -273,11 +289,11 @@ run_is test bs i j blind u b l within passes stop =
       stop = stop;
     }
 
--- The characters behind a run do not begin with one that passes.
+-- The characters after a run do not begin with one that passes.
 pub run_stops : (test : ℕ → Bool) (bs : List ℕ) (i j c : ℕ) (cs : List ℕ) → IsBlind test → IsUtf8 bs → IsRun test bs i j → rest bs j ≡ c ∷ cs → test c ≡ false
 run_stops test bs i j c cs blind u run e = elim (cases_lt j (length bs)) [
   | inl l ↦ (let there = char_at bs j u run.boundary l in
-      let front : c ∷ cs ≡ there.0 ∷ rest bs (j + len_utf8 there.0) = sym e ∙ there.1.splits in
+      let prefix : c ∷ cs ≡ there.0 ∷ rest bs (j + len_utf8 there.0) = sym e ∙ there.1.splits in
       let same : c ≡ there.0 = cc in
       ap test same ∙ test-char_at test bs j there.0 blind u there.1 ∙ run.stop l)
   | inr past ↦ (let none : [] ≡ c ∷ cs = sym (rest-end bs j past) ∙ e in cc)

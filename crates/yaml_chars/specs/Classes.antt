@@ -5,6 +5,7 @@ use Rattle.std.specs.Prelude.{ℕ, Bool, false, not, ◌&&◌, ◌||◌, nat_le,
 abbrev pub between : ℕ → ℕ → ℕ → Bool
 between low high c = nat_le low c && nat_le c high
 
+-- the character is an element of the list
 abbrev pub is_in : ℕ → List ℕ → Bool
 is_in c [] = false
 is_in c (d ∷ ds) = (c == d) || is_in c ds
@@ -13,39 +14,40 @@ is_in c (d ∷ ds) = (c == d) || is_in c ds
 abbrev pub code_point : ℕ → Bool
 code_point c = between 0 0xd7ff c || between 0xe000 0x10ffff c
 
--- 5.1, c-printable
+-- [1] c-printable, 5.1
 abbrev pub printable : ℕ → Bool
 printable c =
     is_in c (9 ∷ 10 ∷ 13 ∷ 0x85 ∷ []) || between 0x20 0x7e c || between 0xa0 0xd7ff c || between 0xe000 0xfffd c
     || between 0x10000 0x10ffff c
 
--- 5.1, nb-json: TAB, and all from the space on
+-- [2] nb-json, 5.1: TAB, and everything from the space on
 abbrev pub nb_json : ℕ → Bool
 nb_json c = (c == 9) || between 0x20 0x10ffff c
 
--- 5.4, b-char: LF or CR
+-- [26] b-char, 5.4: LF or CR
 abbrev pub line_break : ℕ → Bool
 line_break c = (c == 10) || (c == 13)
 
--- 5.4, nb-char: printable, no break and no byte order mark
+-- [27] nb-char, 5.4: printable, no break and no byte order mark
 abbrev pub nb : ℕ → Bool
 nb c = printable c && not (line_break c || (c == 0xfeff))
 
--- 5.5, s-white: the space or TAB
+-- [33] s-white, 5.5: the space or TAB
 abbrev pub white : ℕ → Bool
 white c = (c == 32) || (c == 9)
 
+-- [31] s-space, 5.5
 abbrev pub space : ℕ → Bool
 space c = c == 32
 
--- 5.5, ns-char: nb, and not white
+-- [34] ns-char, 5.5: nb, and not whitespace
 abbrev pub ns : ℕ → Bool
 ns c = nb c && not (white c)
 
--- 5.3, c-indicator
+-- [22] c-indicator, 5.3
 abbrev pub indicator : ℕ → Bool
 indicator c = is_in c (codes "-?:,[]{}#&*!|>'\"%@`")
 
--- 5.3, c-flow-indicator
+-- [23] c-flow-indicator, 5.3: `,`, `[`, `]`, `{` or `}`
 abbrev pub flow_indicator : ℕ → Bool
 flow_indicator c = is_in c (codes ",[]{}")

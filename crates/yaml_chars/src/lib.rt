@@ -158,7 +158,8 @@ fn break_len(text: &[u8]) -> usize
 pub fn next_char(text: &str, at: usize) -> Option<(char, usize)>
     requires { IsCharBoundary text.now at }
     ensures found { IsSome result ↔ (at < length text.now) }
-    ensures char { IfSome result (λ found. rest text.now at ≡ found.0 ∷ rest text.now (at + found.1)) }
+    ensures char { IfSome result (λ found.
+        rest text.now at ≡ found.0 ∷ rest text.now (at + found.1)) }
     ensures len { IfSome result (λ found. found.1 ≡ len_utf8 found.0) }
     ensures boundary { IfSome result (λ found. IsCharBoundary text.now (at + found.1)) }
 {

@@ -41,7 +41,7 @@ fn fault_in(bytes: &[u8]) -> Option<CharFault> {
 }
 
 #[test]
-fn faults_name_the_longest_front(rt: HostRuntime) {
+fn faults_name_the_longest_prefix(rt: HostRuntime) {
     // Unicode's examples of malformed UTF-8: forms that are too long, surrogates, numbers past the last character,
     // and cut ones.
     assert_eq!(rt; fault_in(b"\xff"), Some(CharFault::NotUtf8 { at: 0 }));

@@ -11,20 +11,21 @@ use Rattle.yaml_grammar.specs.Separation.{LineEnd, comments_text}
 use Rattle.yaml_grammar.specs.Streams.{directed, directive_text, explicit_text}
 use Rattle.yaml_grammar.specs.Texts.{begins, byte_len, is_empty}
 use Rattle.yaml_recognizers.specs.Comments.{all_comments, closes_line}
-use Rattle.yaml_recognizers.specs.Fronts.{dropped, taken}
+use Rattle.yaml_recognizers.specs.Prefixes.{dropped, taken}
 use Rattle.yaml_recognizers.specs.Reading.{Read, on}
 use Rattle.yaml_recognizers.specs.Streams.{directed_with, read_directed, read_explicit, read_version, version_with}
-use Rattle.yaml_recognizers.proofs.CommentsSound.{all_sound}
-use Rattle.yaml_recognizers.proofs.Fronts.{taken_split}
-use Rattle.yaml_recognizers.proofs.StreamsComplete.{begins_split}
+use Rattle.yaml_recognizers.proofs.Separation.CommentsSound.{all_sound}
+use Rattle.yaml_recognizers.proofs.Basics.Prefixes.{taken_split}
+use Rattle.yaml_recognizers.proofs.Documents.StreamsComplete.{begins_split}
 use Rattle.yaml_scan.specs.Lines.{IsLineStart, IsSolidLine}
-use Rattle.yaml_scan.specs.Places.{AreTaken}
+use Rattle.yaml_scan.specs.ScanPlaces.{AreTaken}
 use Rattle.yaml_scan.specs.declared.lines.Line.{Line}
 use Rattle.yaml_docs.specs.Directives.{IsDirective, IsVersion, NoDirective}
 use Rattle.yaml_docs.proofs.TextPlaces.{StandsUpTo, between_is, place_after, spelled_end}
 
 -- ---- the recognizer of directives by its parts
 
+-- a text that doesn't start with `%YAML` has no directive
 pub no_percent : (text : List ℕ) → begins (codes "%YAML") text ≡ false → NoDirective text
 no_percent text h = λ node_at. rw h refl
 
@@ -40,9 +41,9 @@ no_version text h v w = λ node_at. by_blank node_at (is_empty (taken white (dro
     by_blank node_at false e = rw (h, e, v, w) refl
 
 version_read : (text : List ℕ) (node_at : Bool → List ℕ → Read Node) → begins (codes "%YAML") text ≡ true → is_empty (taken white (drop 5 text)) ≡ false
-    → (first_version : Bool) (behind : List ℕ) → read_version (dropped white (drop 5 text)) ≡ Some (first_version, behind)
-    → read_directed node_at text ≡ directed_with node_at (taken white (drop 5 text)) first_version (all_comments false behind)
-version_read text node_at h e first_version behind v = rw (h, e, v) refl
+    → (first_version : Bool) (after : List ℕ) → read_version (dropped white (drop 5 text)) ≡ Some (first_version, after)
+    → read_directed node_at text ≡ directed_with node_at (taken white (drop 5 text)) first_version (all_comments false after)
+version_read text node_at h e first_version after v = rw (h, e, v) refl
 
 first_read : (text : List ℕ) → begins (codes "1.1") text ≡ true → read_version text ≡ Some (true, drop 3 text)
 first_read text h = rw h refl
@@ -56,6 +57,7 @@ some_byte x xs z = omega (arith, (len_utf8_bounds x).0, z)
 -- ---- at places
 
 module _ (bs : List ℕ) (at : ℕ) (u : IsUtf8 bs) (b : IsCharBoundary bs at) (h : begins (codes "%YAML") (rest bs at) ≡ true) where
+  -- the directive's name is there
   pub name_there : StandsUpTo bs at (codes "%YAML") (drop 5 (rest bs at)) (at + 5)
   name_there = place_after bs at (codes "%YAML") (drop 5 (rest bs at)) u b (begins_split (codes "%YAML") (rest bs at) h)
 
@@ -75,6 +77,7 @@ module _ (bs : List ℕ) (at : ℕ) (u : IsUtf8 bs) (b : IsCharBoundary bs at) (
     apart : version ≡ at + 5 + byte_len (taken white (drop 5 (rest bs at)))
     apart = spelled_end bs (at + 5) version (taken white (drop 5 (rest bs at))) u name_there.boundary white_is.boundary split_is
 
+    -- without whitespace after its name there is none
     pub none_without_blank : version ≡ at + 5 → NoDirective (rest bs at)
     none_without_blank e = no_blank (rest bs at) h (of_list (taken white (drop 5 (rest bs at))) (let z : byte_len (taken white (drop 5 (rest bs at))) ≡ 0 = omega (arith, apart, e) in z))
       where
@@ -82,6 +85,7 @@ module _ (bs : List ℕ) (at : ℕ) (u : IsUtf8 bs) (b : IsCharBoundary bs at) (
         of_list [] z = refl
         of_list (x ∷ xs) z = absurd (some_byte x xs z)
 
+    -- without a known version there is none
     pub none_without_version : begins (codes "1.1") (rest bs version) ≡ false → begins (codes "1.2") (rest bs version) ≡ false → NoDirective (rest bs at)
     none_without_version v w = no_version (rest bs at) h (ap (begins (codes "1.1")) dropped_is ∙ v) (ap (begins (codes "1.2")) dropped_is ∙ w)
 
@@ -104,11 +108,13 @@ module _ (bs : List ℕ) (at : ℕ) (u : IsUtf8 bs) (b : IsCharBoundary bs at) (
           reads = λ node_at. version_read (rest bs at) node_at h (filled n) first_version (rest bs end) (ap read_version dropped_is ∙ r ∙ ap (λ t. Some (first_version, t)) (sym s.leaves));
         }
 
+    -- version 1.1 is there
     pub first_there : (version ≡ at + 5 → ⊥) → begins (codes "1.1") (rest bs version) ≡ true → IsVersion bs at (version + 3)
     first_there n v =
         let e : rest bs version ≡ codes "1.1" ++ drop 3 (rest bs version) = begins_split (codes "1.1") (rest bs version) v in
         version_there true (codes "1.1") (version + 3) refl (place_after bs version (codes "1.1") (drop 3 (rest bs version)) u white_is.boundary e) e n (first_read (rest bs version) v)
 
+    -- version 1.2 is there
     pub second_there : (version ≡ at + 5 → ⊥) → begins (codes "1.1") (rest bs version) ≡ false → begins (codes "1.2") (rest bs version) ≡ true → IsVersion bs at (version + 3)
     second_there n w v =
         let e : rest bs version ≡ codes "1.2" ++ drop 3 (rest bs version) = begins_split (codes "1.2") (rest bs version) v in
@@ -116,18 +122,21 @@ module _ (bs : List ℕ) (at : ℕ) (u : IsUtf8 bs) (b : IsCharBoundary bs at) (
 
 -- ---- the comments after a version
 
+-- what holds of a Some, from three facts
 pub some_by_three : {A : Type 0} (r : Option A) (P Q R S : A → Type 0) → ((x : A) → P x → Q x → R x → S x) → IfSome r P → IfSome r Q → IfSome r R → IfSome r S
 some_by_three (Some x) P Q R S f p q t = f x p q t
 some_by_three None P Q R S f p q t = p
 
+-- if the line goes on there is no directive
 pub none_open : (bs : List ℕ) (at end : ℕ) → IsVersion bs at end → closes_line (all_comments false (rest bs end)) ≡ false → NoDirective (rest bs at)
 none_open bs at end v h = λ node_at. v.reads node_at ∙ rw h refl
 
-with_comments : (node_at : Bool → List ℕ → Read Node) (blank : List ℕ) (first_version : Bool) (c : List LineEnd × List ℕ) (behind : List ℕ) → closes_line c ≡ true → c.1 ≡ behind
-    → directed_with node_at blank first_version c ≡ on (read_explicit node_at behind) (λ x rest'. Some (directed blank first_version c.0 x, rest'))
-with_comments node_at blank first_version c behind h e =
+with_comments : (node_at : Bool → List ℕ → Read Node) (blank : List ℕ) (first_version : Bool) (c : List LineEnd × List ℕ) (after : List ℕ) → closes_line c ≡ true → c.1 ≡ after
+    → directed_with node_at blank first_version c ≡ on (read_explicit node_at after) (λ x rest'. Some (directed blank first_version c.0 x, rest'))
+with_comments node_at blank first_version c after h e =
     rw h (ap (λ t. on (read_explicit node_at t) (λ x rest'. Some (directed blank first_version c.0 x, rest'))) e)
 
+-- if the line ends there is one
 pub directive_there : (bs : List ℕ) (at end : ℕ) (line : Line) → IsUtf8 bs → IsCharBoundary bs at → IsVersion bs at end → IsSolidLine false bs end line → IsLineStart bs line.start
     → closes_line (all_comments false (rest bs end)) ≡ true → IsDirective bs at line
 directive_there bs at end line u b v s starts h =

@@ -6,12 +6,12 @@ use Rattle.std.proofs.lemmas.Bool.{cases_Bool, eqb-true}
 use Rattle.std.proofs.lemmas.Str.{IsCharBoundary-start}
 use Rattle.yaml_chars.specs.Places.{between, rest}
 use Rattle.yaml_grammar.specs.Texts.{byte_len, first, starts_line}
-use Rattle.yaml_events.specs.Places.{line_starts, without_mark}
+use Rattle.yaml_events.specs.EventPlaces.{line_starts, without_mark}
 use Rattle.yaml_recognizers.specs.CanonicalStreams.{Piece}
 use Rattle.yaml_recognizers.specs.Recognizers.{pieces_at}
 use Rattle.yaml_recognizers.specs.Streams.{order_mark, with_mark}
-use Rattle.yaml_recognizers.proofs.Steps.{stream_steps}
-use Rattle.yaml_scan.proofs.LineStarts.{starts_at_front}
+use Rattle.yaml_recognizers.proofs.Meanings.Steps.{stream_steps}
+use Rattle.yaml_scan.proofs.LineStarts.{starts_at_beginning}
 use Rattle.yaml_docs.specs.Documents.{IsMarkEnd}
 use Rattle.yaml_docs.specs.Pieces.{flat_meaning, meaning_from, pieces_meaning, stream_meaning}
 use Rattle.yaml_docs.proofs.TextPlaces.{StandsUpTo, place_after}
@@ -24,34 +24,38 @@ marked_meaning : (ps : Option (List Piece)) → flat_meaning (with_mark true ps)
 marked_meaning None = refl
 marked_meaning (Some ps) = refl
 
+-- without a byte order mark the text starts at 0
 pub no_mark : (bs : List ℕ) → IsUtf8 bs → first order_mark (rest bs 0) ≡ false → IsMarkEnd bs 0
 no_mark bs u h =
     record {
       boundary = IsCharBoundary-start bs u;
-      starts = inl (sym (starts_at_front bs 0 refl));
+      starts = inl (sym (starts_at_beginning bs 0 refl));
       unmarked = inr h;
       reads = ap flat_meaning (stream_steps (chars bs) ∙ rw h refl) ∙ unmarked_meaning (pieces_at true true (chars bs));
     }
 
+-- so does the empty text
 pub empty_text : (bs : List ℕ) → IsUtf8 bs → rest bs 0 ≡ [] → IsMarkEnd bs 0
 empty_text bs u e = no_mark bs u (ap (first order_mark) e)
 
-pub other_front : (bs : List ℕ) (character : ℕ) (behind : List ℕ) → IsUtf8 bs → rest bs 0 ≡ character ∷ behind → (character ≡ 0xfeff → ⊥) → IsMarkEnd bs 0
-other_front bs character behind u e n =
+-- so does a text that starts with another character
+pub other_prefix : (bs : List ℕ) (character : ℕ) (after : List ℕ) → IsUtf8 bs → rest bs 0 ≡ character ∷ after → (character ≡ 0xfeff → ⊥) → IsMarkEnd bs 0
+other_prefix bs character after u e n =
     let other : (character == 0xfeff) ≡ false = elim (cases_Bool (character == 0xfeff)) [
       | inl h ↦ absurd (n (eqb-true character 0xfeff h))
       | inr h ↦ h
     ] in
     no_mark bs u (ap (first order_mark) e ∙ other)
 
-marked : (bs : List ℕ) (behind : List ℕ) → rest bs 0 ≡ 0xfeff ∷ behind → stream_meaning (chars bs) ≡ pieces_meaning 3 (pieces_at true true behind)
-marked bs behind e = ap stream_meaning e ∙ (ap flat_meaning (stream_steps (0xfeff ∷ behind)) ∙ marked_meaning (pieces_at true true behind))
+marked : (bs : List ℕ) (after : List ℕ) → rest bs 0 ≡ 0xfeff ∷ after → stream_meaning (chars bs) ≡ pieces_meaning 3 (pieces_at true true after)
+marked bs after e = ap stream_meaning e ∙ (ap flat_meaning (stream_steps (0xfeff ∷ after)) ∙ marked_meaning (pieces_at true true after))
 
-pub mark_there : (bs : List ℕ) (len : ℕ) (behind : List ℕ) → IsUtf8 bs → rest bs 0 ≡ 0xfeff ∷ behind → len ≡ 3 → IsMarkEnd bs len
-mark_there bs len behind u e l = subst (λ (n : ℕ). IsMarkEnd bs n) (sym l) at_three
+-- a byte order mark is passed
+pub mark_there : (bs : List ℕ) (len : ℕ) (after : List ℕ) → IsUtf8 bs → rest bs 0 ≡ 0xfeff ∷ after → len ≡ 3 → IsMarkEnd bs len
+mark_there bs len after u e l = subst (λ (n : ℕ). IsMarkEnd bs n) (sym l) at_three
   where
-    s : StandsUpTo bs 0 (0xfeff ∷ []) behind 3
-    s = place_after bs 0 (0xfeff ∷ []) behind u (IsCharBoundary-start bs u) e
+    s : StandsUpTo bs 0 (0xfeff ∷ []) after 3
+    s = place_after bs 0 (0xfeff ∷ []) after u (IsCharBoundary-start bs u) e
 
     at_three : IsMarkEnd bs 3
     at_three =
@@ -59,5 +63,5 @@ mark_there bs len behind u e l = subst (λ (n : ℕ). IsMarkEnd bs n) (sym l) at
           boundary = s.boundary;
           starts = inl (ap (λ (t : List ℕ). starts_line true (without_mark t)) s.is);
           unmarked = inl (omega arith);
-          reads = marked bs behind e ∙ ap (λ (t : List ℕ). pieces_meaning 3 (pieces_at true true t)) (sym s.leaves);
+          reads = marked bs after e ∙ ap (λ (t : List ℕ). pieces_meaning 3 (pieces_at true true t)) (sym s.leaves);
         }

@@ -15,10 +15,10 @@ use Rattle.yaml_recognizers.specs.CanonicalStreams.{FlatStream, flat_meant}
 use Rattle.yaml_recognizers.specs.FlowScalars.{read_scalar}
 use Rattle.yaml_recognizers.specs.Ranges.{RangesInOrder}
 use Rattle.yaml_recognizers.specs.Recognizers.{stream_at}
-use Rattle.yaml_recognizers.proofs.BlockScalarFacts.{blocks_read}
-use Rattle.yaml_recognizers.proofs.Meaning.{reading_found, text_reads}
-use Rattle.yaml_recognizers.proofs.Ranges.{stream_ranges}
-use Rattle.yaml_recognizers.proofs.ScalarsInNodes.{reads_scalars}
+use Rattle.yaml_recognizers.proofs.BlockScalars.BlockScalarFacts.{blocks_read}
+use Rattle.yaml_recognizers.proofs.Meanings.Meaning.{reading_found, text_reads}
+use Rattle.yaml_recognizers.proofs.Meanings.Ranges.{stream_ranges}
+use Rattle.yaml_recognizers.proofs.Scalars.ScalarsInNodes.{reads_scalars}
 use Rattle.yaml_docs.specs.Pieces.{flat_meaning, stream_meaning}
 use Rattle.yaml_docs.specs.Reading.{IsShortText, IsSyntax, RefusesBytes}
 use Rattle.yaml_docs.specs.declared.fault.ReadFault.{ReadFault}
@@ -29,6 +29,7 @@ every_is : (p : ℕ → Bool) (cs : List ℕ) → list_all p cs ≡ true → eve
 every_is p [] h = refl
 every_is p (c ∷ cs) h = let q = and_parts _ _ h in and_from _ _ q.0 (every_is p cs q.1)
 
+-- the characters of UTF-8 are a text
 pub is_text : (bytes : List ℕ) → IsUtf8 bytes → IsText (chars bytes)
 is_text bytes u = every_is code_point (chars bytes) (code_points-chars bytes u)
 
@@ -36,11 +37,13 @@ some_stream : (o : Option FlatStream) (events : List Event) → flat_meaning o �
 some_stream None events h = cc
 some_stream (Some s) events h = (s, refl, (let e : flat_meant s ≡ events = cc in e))
 
+-- what the stream means is what the bytes read as
 pub bytes_read : (bytes : List ℕ) (events : List Event) → IsUtf8 bytes → stream_meaning (chars bytes) ≡ Some events → Reads (chars bytes) events
 bytes_read bytes events u h =
     let s = some_stream (stream_at (chars bytes)) events h in
     subst (λ (es : List Event). Reads (chars bytes) es) s.2 (text_reads read_scalar reads_scalars read_block blocks_read (chars bytes) s.0 (is_text bytes u) s.1)
 
+-- if there is no stream, the bytes read as nothing
 pub nothing_read : (bytes : List ℕ) → stream_meaning (chars bytes) ≡ None → (events : List Event) → Reads (chars bytes) events → ⊥
 nothing_read bytes h events r =
     let s = reading_found read_scalar reads_scalars read_block blocks_read (chars bytes) events r.some in
@@ -48,6 +51,7 @@ nothing_read bytes h events r =
     let both : None ≡ Some (flat_meant s.0) = sym h ∙ found in
     cc
 
+-- the ranges of what they read as are in order
 pub ranges_read : (bytes : List ℕ) (events : List Event) → IsUtf8 bytes → Reads (chars bytes) events → RangesInOrder 0 events (length bytes)
 ranges_read bytes events u r =
     let p = r.some.presentation in
@@ -57,6 +61,7 @@ ranges_read bytes events u r =
     (subst (λ (t : List ℕ). RangesInOrder 0 (meant p) (byte_len t)) r.some.presents.spells (stream_ranges p)) in
     subst (λ (n : ℕ). RangesInOrder 0 events n) to in_text
 
+-- so they are refused for their syntax
 pub syntax_refused : (bytes : List ℕ) (max : ℕ) (fault : ReadFault) → IsShortText bytes max → stream_meaning (chars bytes) ≡ None → IsSyntax fault → RefusesBytes bytes max fault
 syntax_refused bytes max TooLong t h s = absurd s
 syntax_refused bytes max (NotUtf8 at) t h s = absurd s

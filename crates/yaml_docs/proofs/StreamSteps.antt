@@ -16,7 +16,7 @@ use Rattle.yaml_grammar.specs.Streams.{bare, explicit}
 use Rattle.yaml_grammar.specs.Texts.{byte_len, first, is_empty, starts_line}
 use Rattle.yaml_events.specs.Borrowed.{BorrowsPlain}
 use Rattle.yaml_events.specs.Meant.{event_of, events_of}
-use Rattle.yaml_events.specs.Places.{line_starts}
+use Rattle.yaml_events.specs.EventPlaces.{line_starts}
 use Rattle.yaml_events.specs.declared.event.Event.{Event}
 use Rattle.yaml_recognizers.specs.CanonicalStreams.{line, opens, piece_events, piece_text}
 use Rattle.yaml_recognizers.specs.CanonicalStreams as flat
@@ -25,10 +25,10 @@ use Rattle.yaml_recognizers.specs.Comments.{all_comments, closes_line, more_comm
 use Rattle.yaml_recognizers.specs.Reading.{Read}
 use Rattle.yaml_recognizers.specs.Recognizers.{document_node_at, piece_at, pieces_at}
 use Rattle.yaml_recognizers.specs.Streams.{order_mark, read_directed, read_explicit, read_piece, suffix_with}
-use Rattle.yaml_recognizers.proofs.CommentsDepth.{comments_step}
-use Rattle.yaml_recognizers.proofs.CommentsSound.{LineOf, all_sound, line_is_end, line_sound}
-use Rattle.yaml_recognizers.proofs.LineStarts.{byte_len_joined, line_or_end, line_starts as line_start}
-use Rattle.yaml_recognizers.proofs.Reading.{chosen, none_some, on_parts, some_parts, sound_is}
+use Rattle.yaml_recognizers.proofs.Separation.CommentsDepth.{comments_step}
+use Rattle.yaml_recognizers.proofs.Separation.CommentsSound.{LineOf, all_sound, line_is_end, line_sound}
+use Rattle.yaml_recognizers.proofs.Basics.LineStarts.{byte_len_joined, line_or_end, line_starts as line_start}
+use Rattle.yaml_recognizers.proofs.Basics.Reading.{chosen, none_some, on_parts, some_parts, sound_is}
 use Rattle.yaml_scan.specs.Lines.{IsLineStart, IsSolidLine}
 use Rattle.yaml_scan.specs.declared.lines.Line.{Line}
 use Rattle.yaml_flow.proofs.Appends.{appended_means}
@@ -92,6 +92,7 @@ later_unmarked bs at next l (inr f) = elim (cases_lt at next) [
   | inr k ↦ (let e : at ≡ next = omega arith in inr (subst (λ (n : ℕ). first order_mark (rest bs n) ≡ false) e f))
 ]
 
+-- comment lines before a piece are passed
 pub lines_passed : (bs : List ℕ) (opened : Bool) (at : ℕ) (events : List Event) (next : Line) → IsUtf8 bs → ReadUpTo bs opened at events → IsSolidLine true bs at next → IsLineStart bs next.start
     → ReadUpTo bs opened next.start events
 lines_passed bs opened at events next u r s starts =
@@ -115,7 +116,7 @@ joined_after : (es fs : List grammar.Event) (m : Option (List grammar.Event)) �
 joined_after es fs None = refl
 joined_after es fs (Some gs) = ap (λ (x : List grammar.Event). Some x) (sym (append_assoc es fs gs))
 
--- what may follow a piece is told from its kind
+-- what may follow a piece is said from its kind
 opens_as : (piece : Piece) (opened : Bool) (text rest : List ℕ) (p : flat.Piece) → read_as piece text ≡ Some (p, rest) → opens opened p ≡ ends_document piece
 opens_as Suffix opened text rest p h =
     let c : List LineEnd × List ℕ = all_comments false (drop 3 text) in
@@ -124,13 +125,13 @@ opens_as Suffix opened text rest p h =
       | inr q ↦ absurd (none_some (p, rest) q.1)
     ]
 opens_as Explicit opened text rest p h =
-    let q = on_parts (read_explicit document_node_at text) (λ x behind. Some (flat.document (explicit x), behind)) (p, rest) h in
+    let q = on_parts (read_explicit document_node_at text) (λ x after. Some (flat.document (explicit x), after)) (p, rest) h in
     ap (opens opened) (sym (some_parts (flat.document (explicit q.0)) p q.1 rest q.3).0)
 opens_as Directed opened text rest p h =
-    let q = on_parts (read_directed document_node_at text) (λ d behind. Some (flat.document d, behind)) (p, rest) h in
+    let q = on_parts (read_directed document_node_at text) (λ d after. Some (flat.document d, after)) (p, rest) h in
     ap (opens opened) (sym (some_parts (flat.document q.0) p q.1 rest q.3).0)
 opens_as Bare opened text rest p h =
-    let q = on_parts (document_node_at true text) (λ n behind. Some (flat.document (bare n), behind)) (p, rest) h in
+    let q = on_parts (document_node_at true text) (λ n after. Some (flat.document (bare n), after)) (p, rest) h in
     ap (opens opened) (sym (some_parts (flat.document (bare q.0)) p q.1 rest q.3).0)
 
 some_bytes : (xs : List ℕ) → 1 ≤ length xs → 1 ≤ byte_len xs
@@ -146,10 +147,12 @@ starts_or_ends : (bs : List ℕ) (at end : ℕ) (xs : List ℕ) → line_starts 
 starts_or_ends bs at end xs e (inl l) = or_left _ _ (sym e ∙ l)
 starts_or_ends bs at end xs e (inr n) = or_right _ _ (ap is_empty n)
 
+-- a piece is read, with its events and its end
 pub record PiecePassed (bs : List ℕ) (at : ℕ) (piece : Piece) (end : ℕ) (new : List Event) : Type 0 where
   pub onward : at < end
   pub read : ReadUpTo bs (ends_document piece) end new
 
+-- after it the next one may be read
 pub piece_passed : (bs : List ℕ) (opened : Bool) (at : ℕ) (piece : Piece) (old new : List Event) (end : ℕ) → IsUtf8 bs → ReadUpTo bs opened at old → is_empty (rest bs at) ≡ false
     → BeginsPiece opened (rest bs at) piece → PieceRead bs at piece old new end → PiecePassed bs at piece end new
 piece_passed bs opened at piece old new end u r n b p =
@@ -180,15 +183,18 @@ piece_passed bs opened at piece old new end u r n b p =
 
 -- ---- the end
 
+-- at the end of the text everything is read
 pub text_ends : (bs : List ℕ) (opened : Bool) (at : ℕ) (events : List Event) → ReadUpTo bs opened at events → length bs ≤ at → stream_meaning (chars bs) ≡ Some (events_of events)
 text_ends bs opened at events r l =
     let none : pieces_at opened true (rest bs at) ≡ Some [] = no_more_pieces opened (rest bs at) (ap is_empty (rest-end bs at l)) in
     r.reads ∙ (ap (λ (m : Option (List flat.Piece)). and_then (events_of events) (pieces_meaning at m)) none ∙ ap (λ (x : List grammar.Event). Some x) (append-nil (events_of events)))
 
+-- where no piece is, the text means nothing
 pub no_meaning : (bs : List ℕ) (opened : Bool) (at : ℕ) (events : List Event) → ReadUpTo bs opened at events → is_empty (rest bs at) ≡ false → piece_at opened true (rest bs at) ≡ None
     → stream_meaning (chars bs) ≡ None
 no_meaning bs opened at events r n h = r.reads ∙ ap (λ (m : Option (List flat.Piece)). and_then (events_of events) (pieces_meaning at m)) (no_piece opened (rest bs at) n h)
 
+-- after the byte order mark nothing is read yet
 pub mark_passed : (bs : List ℕ) (at : ℕ) → IsMarkEnd bs at → ReadUpTo bs true at []
 mark_passed bs at m =
     record { boundary = m.boundary; starts = m.starts; unmarked = m.unmarked; reads = m.reads ∙ sym (nothing_more (meaning_from true bs at)); borrows = All-nil (BorrowsPlain bs) }

@@ -1,4 +1,4 @@
--- Places of a text by what stands between them.
+-- Places of a text by what is between them.
 use Rattle.std.proofs.Common.{ap, arith, inl, inr, length, length-append, length-drop, refl, subst, sym, ◌<◌, ◌∙◌, ◌≡◌, ◌≤◌}
 use Rattle.std.proofs.Math.Logic.{◌⊎◌}
 use Rattle.std.specs.Prelude.{Bool, List, [], drop, false, true, ℕ, ◌++◌, ◌+◌, ◌==◌, ◌∷◌}
@@ -10,42 +10,45 @@ use Rattle.yaml_chars.specs.Classes.{line_break}
 use Rattle.yaml_chars.specs.Places.{between, rest}
 use Rattle.yaml_chars.proofs.Places.{IsSplit, between-append, encodes-rest, rest-between, same_place, split_at}
 use Rattle.yaml_grammar.specs.Texts.{byte_len, first, is_empty, starts_line}
-use Rattle.yaml_events.specs.Places.{line_starts, without_mark}
+use Rattle.yaml_events.specs.EventPlaces.{line_starts, without_mark}
 use Rattle.yaml_recognizers.specs.Streams.{order_mark}
-use Rattle.yaml_recognizers.proofs.LineStarts.{byte_len_joined, starts_joined}
+use Rattle.yaml_recognizers.proofs.Basics.LineStarts.{byte_len_joined, starts_joined}
 
 -- ---- lengths in bytes
 
 byte_len-encodes : (cs : List ℕ) → byte_len cs ≡ length (encodes cs)
 byte_len-encodes [] = refl
-byte_len-encodes (c ∷ cs) = let behind = byte_len-encodes cs in omega (arith, behind, length-append (encode c) (encodes cs), length-encode c)
+byte_len-encodes (c ∷ cs) = let after = byte_len-encodes cs in omega (arith, after, length-append (encode c) (encodes cs), length-encode c)
 
 byte_len-rest : (bs : List ℕ) (i : ℕ) → IsUtf8 bs → IsCharBoundary bs i → byte_len (rest bs i) + i ≡ length bs
 byte_len-rest bs i u b =
     let e : byte_len (rest bs i) ≡ length (drop i bs) = byte_len-encodes (rest bs i) ∙ ap length (encodes-rest bs i u b) in
     omega (arith, e, length-drop i bs, b.0)
 
+-- the characters have as many bytes as the text
 pub byte_len-chars : (bs : List ℕ) → IsUtf8 bs → byte_len (chars bs) ≡ length bs
 byte_len-chars bs u = let e = byte_len-rest bs 0 u (IsCharBoundary-start bs u) in omega (arith, e)
 
--- what stands between two places tells how far they are apart
+-- what is between two places says how far they are apart
 pub spelled_end : (bs : List ℕ) (i j : ℕ) (xs : List ℕ) → IsUtf8 bs → IsCharBoundary bs i → IsCharBoundary bs j → rest bs i ≡ xs ++ rest bs j → j ≡ i + byte_len xs
 spelled_end bs i j xs u b d e =
     let h : byte_len (rest bs i) ≡ byte_len xs + byte_len (rest bs j) = ap byte_len e ∙ byte_len_joined xs (rest bs j) in
     omega (arith, h, byte_len-rest bs i u b, byte_len-rest bs j u d)
 
--- the place after a text that stands at a place
-pub record StandsUpTo (bs : List ℕ) (i : ℕ) (xs behind : List ℕ) (j : ℕ) : Type 0 where
+-- the place after a text that is at a place
+pub record StandsUpTo (bs : List ℕ) (i : ℕ) (xs after : List ℕ) (j : ℕ) : Type 0 where
   pub boundary : IsCharBoundary bs j
-  pub leaves : rest bs j ≡ behind
+  pub leaves : rest bs j ≡ after
   pub is : between bs i j ≡ xs
 
-pub place_after : (bs : List ℕ) (i : ℕ) (xs behind : List ℕ) → IsUtf8 bs → IsCharBoundary bs i → rest bs i ≡ xs ++ behind → StandsUpTo bs i xs behind (i + byte_len xs)
-place_after bs i xs behind u b e =
-    let s : IsSplit bs i xs behind (i + length (encodes xs)) = split_at bs i xs behind u b e in
+-- the place after characters that are at a place
+pub place_after : (bs : List ℕ) (i : ℕ) (xs after : List ℕ) → IsUtf8 bs → IsCharBoundary bs i → rest bs i ≡ xs ++ after → StandsUpTo bs i xs after (i + byte_len xs)
+place_after bs i xs after u b e =
+    let s : IsSplit bs i xs after (i + length (encodes xs)) = split_at bs i xs after u b e in
     let p : i + length (encodes xs) ≡ i + byte_len xs = ap (λ n. i + n) (sym (byte_len-encodes xs)) in
-    subst (λ (j : ℕ). StandsUpTo bs i xs behind j) p (record { boundary = s.boundary; leaves = s.spells_behind; is = s.spells_front })
+    subst (λ (j : ℕ). StandsUpTo bs i xs after j) p (record { boundary = s.boundary; leaves = s.spells_after; is = s.spells_prefix })
 
+-- the characters between two places, if they are there
 pub between_is : (bs : List ℕ) (i j : ℕ) (xs : List ℕ) → IsUtf8 bs → IsCharBoundary bs i → IsCharBoundary bs j → rest bs i ≡ xs ++ rest bs j → between bs i j ≡ xs
 between_is bs i j xs u b d e =
     let s : StandsUpTo bs i xs (rest bs j) (i + byte_len xs) = place_after bs i xs (rest bs j) u b e in
@@ -77,10 +80,11 @@ filled_before bs i u b l = of_list (between bs 0 i) refl
         absurd (omega arith)
     of_list (x ∷ xs) e = refl
 
--- a place that a line's start may be told from: no byte order mark at the text's start is after it
+-- a place that decides whether a line starts: no byte order mark comes after it
 abbrev pub IsAfterMark : List ℕ → ℕ → Type 0
 IsAfterMark bs i = (0 < i) ⊎ (first order_mark (rest bs i) ≡ false)
 
+-- what is between two places decides whether a line starts
 pub starts_between : (bs : List ℕ) (i j : ℕ) → IsUtf8 bs → i ≤ j → IsCharBoundary bs i → IsCharBoundary bs j → IsAfterMark bs i
     → line_starts bs j ≡ starts_line (line_starts bs i) (between bs i j)
 starts_between bs i j u l b d m =

@@ -1,4 +1,4 @@
--- Cutting bytes that come in parts behind each closing line.
+-- Cutting bytes that come in parts after each closing line.
 use Rattle.std.specs.Prelude.{◌≡◌, ℕ, ◌+◌, ◌≤◌, Bool, true, false, if◌then◌else◌, List, ◌++◌, length, take}
 use Rattle.std.specs.Coded.{Coded, code_by, coded×, coded_ℕ, coded_list}
 use Rattle.std.proofs.Common.{refl}
@@ -10,6 +10,7 @@ pub record Held : Type 0 where
   pub bytes : List ℕ
   pub max : ℕ
 
+-- the bytes that are held and the limit, as one value
 abbrev pub held_code : Coded Held
 held_code = code_by (List ℕ × ℕ) (coded× (coded_list coded_ℕ) coded_ℕ) (λ h. (h.bytes, h.max)) (λ p. record { bytes = p.0; max = p.1 }) (λ h. refl)
 
@@ -17,7 +18,8 @@ held_code = code_by (List ℕ × ℕ) (coded× (coded_list coded_ℕ) coded_ℕ)
 abbrev pub Unclosed : List ℕ → Type 0
 Unclosed bytes = (place : ℕ) → ClosesAt bytes place → ⊥
 
--- So many of the further bytes are taken: up to the first closing, if there is one, which is then the only one and the end; else all.
+-- So many of the further bytes are taken: up to the first closing, if there is one, which is then the only one and the
+-- end; else all.
 abbrev pub Takes : List ℕ → List ℕ → ℕ → Bool → Type 0
 Takes held more taken true = (taken ≤ length more) × ClosesOnce (held ++ take taken more)
 Takes held more taken false = (taken ≡ length more) × Unclosed (held ++ more)

@@ -35,4 +35,4 @@ pub record IsDirective (text : List ℕ) (at : ℕ) (line : Line) : Type 0 where
   pub comments : List LineEnd
   pub place : line.start ≡ at + byte_len (directive_text blank first_version comments)
   pub reads : (node_at : Bool → List ℕ → Read Node) → read_directed node_at (rest text at)
-      ≡ on (read_explicit node_at (rest text line.start)) (λ x behind. Some (directed blank first_version comments x, behind))
+      ≡ on (read_explicit node_at (rest text line.start)) (λ x after. Some (directed blank first_version comments x, after))

@@ -53,7 +53,7 @@ pub record ExplicitNodeRead (text : List ℕ) (at : ℕ) (old new : List Event) 
   pub reads : explicit_with document_node_at (rest text at) (all_comments false (rest text at)) ≡ Some (document, rest text end)
   pub appended : Appended text old new (after_dashes document at)
 
--- the document whose `---` stands at the place is read
+-- the document whose `---` is at the place is read
 pub record ExplicitRead (text : List ℕ) (at : ℕ) (old new : List Event) (end : ℕ) : Type 0 where
   pub boundary : IsCharBoundary text end
   pub starts : IsLineStart text end
@@ -61,7 +61,7 @@ pub record ExplicitRead (text : List ℕ) (at : ℕ) (old new : List Event) (end
   pub reads : read_explicit document_node_at (rest text at) ≡ Some (document, rest text end)
   pub appended : Appended text old new (explicit_events document at)
 
--- the document whose directive stands at the place is read
+-- the document whose directive is at the place is read
 pub record DocumentRead (text : List ℕ) (at : ℕ) (old new : List Event) (end : ℕ) : Type 0 where
   pub boundary : IsCharBoundary text end
   pub starts : IsLineStart text end
@@ -71,14 +71,18 @@ pub record DocumentRead (text : List ℕ) (at : ℕ) (old new : List Event) (end
 
 -- ---- where there is none
 
+-- no suffix is there
 abbrev pub NoSuffix : List ℕ → Type 0
 NoSuffix text = suffix_with (all_comments false (drop 3 text)) ≡ None
 
+-- no node is after a `---`
 abbrev pub NoExplicitNode : List ℕ → Type 0
 NoExplicitNode text = explicit_with document_node_at text (all_comments false text) ≡ None
 
+-- no explicit document is there
 abbrev pub NoExplicit : List ℕ → Type 0
 NoExplicit text = read_explicit document_node_at text ≡ None
 
+-- no document with a directive is there
 abbrev pub NoDirected : List ℕ → Type 0
 NoDirected text = read_directed document_node_at text ≡ None

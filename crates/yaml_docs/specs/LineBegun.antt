@@ -4,13 +4,13 @@ use Rattle.yaml_grammar.specs.Closings.{ends_line}
 
 -- a line starts before the last so many bytes, which are dots, at most three
 pub record IsBegun (held : List ℕ) (dots : ℕ) : Type 0 where
-  pub front : List ℕ
+  pub prefix : List ℕ
   pub few : dots ≤ 3
-  pub is : held ≡ front ++ take dots (codes "...\n")
-  pub line : IsTrue (ends_line front)
+  pub is : held ≡ prefix ++ take dots (codes "...\n")
+  pub line : IsTrue (ends_line prefix)
 
 -- and further bytes complete it as a closing line
 pub record Completes (held more : List ℕ) (dots : ℕ) : Type 0 where
   pub begun : IsBegun held dots
-  pub behind : List ℕ
-  pub is : more ≡ drop dots (codes "...\n") ++ behind
+  pub after : List ℕ
+  pub is : more ≡ drop dots (codes "...\n") ++ after

@@ -1,10 +1,10 @@
--- The next closing behind a place.
+-- The next closing after a place.
 use Rattle.std.specs.Prelude.{ℕ, ◌<◌, ◌≤◌, List, length, take, IsTrue}
 use Rattle.yaml_grammar.specs.Closings.{ends_line, ClosesAt}
 
--- the place stands behind a closing line and behind `at`, and is the first that does
+-- the place is just after a closing line and after `at`, and is the first such place
 pub record IsNextClosing (bytes : List ℕ) (at place : ℕ) : Type 0 where
-  pub behind : at < place
+  pub after : at < place
   pub closes : ClosesAt bytes place
   pub first : (other : ℕ) → at < other → ClosesAt bytes other → place ≤ other
 
@@ -13,6 +13,6 @@ pub record StartsLine (bytes : List ℕ) (at : ℕ) : Type 0 where
   pub within : at ≤ length bytes
   pub line : IsTrue (ends_line (take at bytes))
 
--- no place behind `at` does
-abbrev pub NoClosingBehind : List ℕ → ℕ → Type 0
-NoClosingBehind bytes at = (place : ℕ) → at < place → ClosesAt bytes place → ⊥
+-- there is no such place
+abbrev pub NoClosingAfter : List ℕ → ℕ → Type 0
+NoClosingAfter bytes at = (place : ℕ) → at < place → ClosesAt bytes place → ⊥

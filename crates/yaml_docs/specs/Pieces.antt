@@ -21,15 +21,16 @@ use Rattle.yaml_flow.specs.FlowNodes.{Appended}
 use Rattle.yaml_docs.specs.declared.documents.Piece.{Piece}
 use Rattle.yaml_docs.specs.declared.documents.Piece.TheVariants.{Suffix, Explicit, Directed, Bare}
 
--- what pieces mean that stand from a place on, if there are any
+-- what the pieces from a place on mean, if there are any
 abbrev pub pieces_meaning : ℕ → Option (List flat.Piece) → Option (List grammar.Event)
 pieces_meaning at None = None
 pieces_meaning at (Some pieces) = Some (pieces_events pieces at)
 
--- the events of the pieces from a place on, where a line starts; opened: a bare document or a directive may stand there
+-- the events of the pieces from a place on, where a line starts; opened: a bare document or a directive may be there
 abbrev pub meaning_from : Bool → List ℕ → ℕ → Option (List grammar.Event)
 meaning_from opened text at = pieces_meaning at (pieces_at opened true (rest text at))
 
+-- the events of a stream, if one is read
 abbrev pub flat_meaning : Option FlatStream → Option (List grammar.Event)
 flat_meaning None = None
 flat_meaning (Some stream) = Some (flat_meant stream)
@@ -48,9 +49,9 @@ and_then events (Some more) = Some (events ++ more)
 -- what the recognizer reads where such a piece begins
 abbrev pub read_as : Piece → List ℕ → Read flat.Piece
 read_as Suffix text = suffix_with (all_comments false (drop 3 text))
-read_as Explicit text = on (read_explicit document_node_at text) (λ x behind. Some (flat.document (explicit x), behind))
-read_as Directed text = on (read_directed document_node_at text) (λ d behind. Some (flat.document d, behind))
-read_as Bare text = on (document_node_at true text) (λ n behind. Some (flat.document (bare n), behind))
+read_as Explicit text = on (read_explicit document_node_at text) (λ x after. Some (flat.document (explicit x), after))
+read_as Directed text = on (read_directed document_node_at text) (λ d after. Some (flat.document d, after))
+read_as Bare text = on (document_node_at true text) (λ n after. Some (flat.document (bare n), after))
 
 -- a bare document or a directive may follow such a piece
 abbrev pub ends_document : Piece → Bool

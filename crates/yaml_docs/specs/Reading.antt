@@ -31,6 +31,7 @@ RefusesBytes bytes max TooDeep = ⊥
 RefusesBytes bytes max LargeInStyle = ⊥
 RefusesBytes bytes max OutOfMemory = Unit {0}
 
+-- the fault is one of syntax
 abbrev pub IsSyntax : ReadFault → Type 0
 IsSyntax (Syntax line column why) = Unit {0}
 IsSyntax TooLong = ⊥

@@ -1,6 +1,6 @@
 // Closing lines: where one text of a row ends and the next begins.
 ghost use Rattle.std.specs.Prelude.{IfSome, IfNone};
-ghost use Rattle.yaml_docs.specs.NextClosing.{StartsLine, IsNextClosing, NoClosingBehind};
+ghost use Rattle.yaml_docs.specs.NextClosing.{StartsLine, IsNextClosing, NoClosingAfter};
 
 use memchr::memmem;
 
@@ -20,7 +20,7 @@ pub fn next_close(bytes: &[u8], at: usize) -> Option<usize>
     requires { StartsLine bytes.now at }
     ensures found { IfSome result (IsNextClosing bytes.now at) }
     ensures starts_line { IfSome result (StartsLine bytes.now) }
-    ensures none { IfNone result (NoClosingBehind bytes.now at) }
+    ensures none { IfNone result (NoClosingAfter bytes.now at) }
 {
     let rest = &bytes[at..];
     if rest.starts_with(CLOSING_LINE) {

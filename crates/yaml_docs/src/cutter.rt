@@ -136,7 +136,8 @@ fn first_closing(held: &[u8], bytes: &[u8]) -> Fed
 
 /// How many of the bytes complete a closing line that is begun in what is held, or that begins right after it.
 fn completed_line(held: &[u8], bytes: &[u8]) -> Option<usize>
-    ensures found { IfSome result (λ taken. (dots : ℕ) × Completes held.now bytes.now dots × (taken + dots ≡ 4)) }
+    ensures found { IfSome result (λ taken. (dots : ℕ) × Completes held.now bytes.now dots
+        × (taken + dots ≡ 4)) }
     ensures none { IfNone result ((dots : ℕ) → Completes held.now bytes.now dots → ⊥) }
 {
     for dots in 0..CLOSING_LINE.len() {

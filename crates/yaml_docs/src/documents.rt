@@ -4,7 +4,7 @@ ghost use Rattle.std.specs.Str.{IsCharBoundary, chars};
 ghost use Rattle.yaml_chars.specs.Places.{rest};
 ghost use Rattle.yaml_events.specs.Borrowed.{BorrowsPlain};
 ghost use Rattle.yaml_events.specs.Meant.{events_of};
-ghost use Rattle.yaml_events.specs.Places.{line_starts, Refuses};
+ghost use Rattle.yaml_events.specs.EventPlaces.{line_starts, Refuses};
 ghost use Rattle.yaml_recognizers.specs.BlockNodes.{omits};
 ghost use Rattle.yaml_recognizers.specs.CanonicalComments.{is_line_end};
 ghost use Rattle.yaml_recognizers.specs.Comments.{all_comments};
@@ -38,7 +38,8 @@ pub(crate) enum Piece {
 
 /// Returns the events of all documents of `text`, in order (9.2).
 pub(crate) fn stream<'a>(alloc: Global, text: &'a str) -> Result<Events<'a>, ScanFault>
-    ensures found { IfOk result (λ events. stream_meaning (chars text.now) ≡ Some (events_of events)) }
+    ensures found { IfOk result (λ events.
+        stream_meaning (chars text.now) ≡ Some (events_of events)) }
     ensures none { IfErr result (λ fault. Refuses fault (stream_meaning (chars text.now) ≡ None)) }
     ensures borrowed { IfOk result (λ events. All (BorrowsPlain text.now) events) }
 {
@@ -80,7 +81,8 @@ fn piece_at(text: &str, line: Line, opened: bool) -> Result<Piece, ScanFault>
     requires first { IsCharBoundary text.now line.first }
     requires solid { is_line_end (rest text.now line.start) ≡ false }
     ensures found { IfOk result (BeginsPiece opened (rest text.now line.start)) }
-    ensures none { IfErr result (λ fault. Refuses fault (piece_at opened true (rest text.now line.start) ≡ None)) }
+    ensures none { IfErr result (λ fault.
+        Refuses fault (piece_at opened true (rest text.now line.start) ≡ None)) }
 {
     if is_marker_of(text, line.start, Marker::DocumentEnd) {
         return Ok(Piece::Suffix);
@@ -159,7 +161,8 @@ fn bare_end<'a>(
     requires at { IsCharBoundary text.now at }
     requires line { line_starts text.now at ≡ true }
     ensures reads { IfOk result (PieceRead text.now at Piece.Bare events.old events.new) }
-    ensures none { IfErr result (λ fault. Refuses fault (read_as Piece.Bare (rest text.now at) ≡ None)) }
+    ensures none { IfErr result (λ fault.
+        Refuses fault (read_as Piece.Bare (rest text.now at) ≡ None)) }
 {
     events.push(Event::DocStart)?;
     let end = block_node(alloc, events, text, at, -1, BlockContext::Bin)?;

@@ -28,7 +28,8 @@ pub fn events<'a>(alloc: Global, bytes: &'a [u8], max: u64) -> Result<Events<'a>
     ensures too_long { (result ≡ Err ReadFault.TooLong) ↔ (max < length bytes.now) }
     ensures refused { IfErr result (RefusesBytes bytes.now max) }
     ensures borrowed { IfOk result (λ events. All (BorrowsPlain bytes.now) events) }
-    ensures in_order { IfOk result (λ events. RangesInOrder 0 (events_of events) (length bytes.now)) }
+    ensures in_order { IfOk result (λ events.
+        RangesInOrder 0 (events_of events) (length bytes.now)) }
 {
     if bytes.len() as u64 > max {
         return Err(ReadFault::TooLong);

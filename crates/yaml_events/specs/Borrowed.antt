@@ -7,7 +7,7 @@ use Rattle.yaml_events.specs.declared.event.Event.{Event}
 use Rattle.yaml_events.specs.declared.event.Event.TheVariants.{DocStart, DocEnd, SeqStart, SeqEnd, MapStart, MapEnd, Scalar}
 use Rattle.yaml_events.specs.declared.event.Style.TheVariants.{Plain, Single, Double, Literal, Folded, Omitted}
 
--- Where no break stands between the two places, the value is borrowed, and it is what stands between them.
+-- Where no break is between the two places, the value is borrowed, and it is what is between them.
 abbrev pub BorrowsOneLine : {A : Type 0} → List ℕ → ℕ → CowStr A → ℕ → Type 0
 BorrowsOneLine text at value end = NoBreak (slice_range text at end) → IsBorrowedStr value × (cow_str_bytes value ≡ slice_range text at end)
 

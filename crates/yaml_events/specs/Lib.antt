@@ -1,3 +1,3 @@
 pub mod Meant
-pub mod Places
+pub mod EventPlaces
 pub mod Borrowed

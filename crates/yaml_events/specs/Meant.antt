@@ -11,6 +11,7 @@ use Rattle.yaml_events.specs.declared.event.Event.TheVariants.{DocStart, DocEnd,
 use Rattle.yaml_events.specs.declared.context.FlowContext.{FlowContext}
 use Rattle.yaml_events.specs.declared.context.FlowContext.TheVariants.{Outer, Inner, BlockKey, FlowKey}
 
+-- the style that the code's value means
 abbrev pub style_of : Style → grammar.Style
 style_of Plain = grammar.plain_style
 style_of Single = grammar.single_style
@@ -29,9 +30,11 @@ event_of MapStart = grammar.map_start
 event_of MapEnd = grammar.map_end
 event_of (Scalar style span value) = grammar.scalar_event (style_of style) span.start span.end (chars (cow_str_bytes value))
 
+-- the events that the code's values mean
 abbrev pub events_of : List Event → List grammar.Event
 events_of = map event_of
 
+-- the context that the code's value means
 abbrev pub context_of : FlowContext → flow.FlowContext
 context_of Outer = flow.outer
 context_of Inner = flow.inner

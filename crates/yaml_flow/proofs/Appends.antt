@@ -13,9 +13,11 @@ use Rattle.yaml_flow.specs.FlowNodes.{Appended}
 use Rattle.yaml_flow.specs.Frames.{EventList}
 
 module _ (text : List ℕ) where
+  -- no event is appended yet
   pub appended_none : (es : EventList) → Appended text es es []
   appended_none es = record { more = []; is = sym (append-nil es); means = refl; borrows = All-nil (BorrowsPlain text) }
 
+  -- one event more is appended
   pub appended_one : (old new : EventList) (event : ListedEvent) (meant : Event) → new ≡ old ++ event ∷ [] → event_of event ≡ meant → BorrowsPlain text event
       → Appended text old new (meant ∷ [])
   appended_one old new event meant e m b = record {
@@ -25,6 +27,7 @@ module _ (text : List ℕ) where
     borrows = All-cons (BorrowsPlain text) event [] b (All-nil (BorrowsPlain text));
   }
 
+  -- further events are appended
   pub appended_then : (a b c : EventList) (one two : List Event) → Appended text a b one → Appended text b c two → Appended text a c (one ++ two)
   appended_then a b c one two h k = record {
     more = h.more ++ k.more;
@@ -33,9 +36,11 @@ module _ (text : List ℕ) where
     borrows = All-append (BorrowsPlain text) h.more k.more h.borrows k.borrows;
   }
 
+  -- the events may be written otherwise
   pub appended_as : (old new : EventList) (one two : List Event) → one ≡ two → Appended text old new one → Appended text old new two
   appended_as old new one two e h = record { more = h.more; is = h.is; means = h.means ∙ e; borrows = h.borrows }
 
+  -- so may the list
   pub appended_to : (old new newer : EventList) (one : List Event) → newer ≡ new → Appended text old new one → Appended text old newer one
   appended_to old new newer one e h = record { more = h.more; is = e ∙ h.is; means = h.means; borrows = h.borrows }
 
@@ -55,8 +60,10 @@ module _ (text : List ℕ) where
       inserted : (xs ys : EventList) → insert (xs ++ ys) (length xs) MapStart ≡ xs ++ (MapStart ∷ ys)
       inserted xs ys = ap (λ zs. zs ++ (MapStart ∷ (drop (length xs) (xs ++ ys)))) (take-append_seam xs ys) ∙ ap (λ zs. xs ++ (MapStart ∷ zs)) (drop-append_seam xs ys)
 
+-- what is appended means these events
 pub appended_means : (text : List ℕ) (old new : EventList) (meant : List Event) → Appended text old new meant → events_of new ≡ events_of old ++ meant
 appended_means text old new meant h = ap events_of h.is ∙ (map-append event_of old h.more ∙ ap (λ es. events_of old ++ es) h.means)
 
+-- a list is its own prefix of full length
 pub take_all : (xs : EventList) → take (length xs) xs ≡ xs
 take_all xs = ap (take (length xs)) (sym (append-nil xs)) ∙ take-append_seam xs []

@@ -11,23 +11,23 @@ use Rattle.yaml_grammar.specs.FlowScalars.{FlowContext, flow_key, one_line}
 use Rattle.yaml_grammar.specs.Separation.{Sep, gap_text}
 use Rattle.yaml_grammar.specs.Texts.{byte_len, starts_line}
 use Rattle.yaml_events.specs.declared.event.Event.TheVariants.{MapStart}
-use Rattle.yaml_events.specs.Places.{line_starts}
+use Rattle.yaml_events.specs.EventPlaces.{line_starts}
 use Rattle.yaml_recognizers.specs.Ends.{is_colon}
 use Rattle.yaml_recognizers.specs.FlowFrames.{FlowPart, first_node, asked_key, pair_value, Bracket, OpenFlow, close_with, entries_of, entry_of}
 use Rattle.yaml_recognizers.specs.FlowNodes.{key_is_short}
-use Rattle.yaml_recognizers.specs.Fronts.{past}
+use Rattle.yaml_recognizers.specs.Prefixes.{past}
 use Rattle.yaml_recognizers.specs.Gaps.{GapRead, read_gap}
 use Rattle.yaml_recognizers.specs.OneLine.{widens}
 use Rattle.yaml_recognizers.specs.Reading.{on}
 use Rattle.yaml_recognizers.specs.Recognizers.{StandsFlow, flow_node_at, flow_value_at}
-use Rattle.yaml_recognizers.proofs.FlowNodesFound.{stands}
-use Rattle.yaml_recognizers.proofs.GapsSound.{gap_sound}
+use Rattle.yaml_recognizers.proofs.Flow.FlowNodesFound.{stands}
+use Rattle.yaml_recognizers.proofs.Separation.GapsSound.{gap_sound}
 use Rattle.yaml_flow.specs.declared.collection.NodeEnd.{NodeEnd}
 use Rattle.yaml_flow.specs.declared.collection.Open.{Open}
 use Rattle.yaml_flow.specs.declared.collection.Part.TheVariants.{Value as ValuePart}
 use Rattle.yaml_flow.specs.FlowNodes.{Appended}
 use Rattle.yaml_scan.proofs.ByteSigns.{IsSign}
-use Rattle.yaml_flow.specs.Frames.{AtColon, AtNode, BeganPair, Collection, EntryRead, EventList, NoPair, NodeRead, PartFits, Passes, SameLine, bracket_front, ends_plain, entry_start, fits_single, frame_front, is_first, is_single, pair_end, pair_start, part_front, part_of}
+use Rattle.yaml_flow.specs.Frames.{AtColon, AtNode, BeganPair, Collection, EntryRead, EventList, NoPair, NodeRead, PartFits, Passes, SameLine, bracket_prefix, ends_plain, entry_start, fits_single, frame_prefix, is_first, is_single, pair_end, pair_start, part_prefix, part_of}
 use Rattle.yaml_scan.specs.Gaps.{NoGap}
 use Rattle.yaml_flow.proofs.Appends.{appended_as, appended_between, appended_then, appended_to}
 use Rattle.yaml_flow.proofs.EntryEvents.{empty_length, entry_length, pair_events, with_colon}
@@ -39,18 +39,18 @@ use Rattle.yaml_flow.proofs.Signs.{between_after}
 -- ---- the parts of a frame
 
 -- the events before the key, once a single pair is begun
-pair_written : (in_seq : Bool) (part : FlowPart) (at : ℕ) → is_value part ≡ false → (in_seq && is_first (part_of part)) ≡ false → part_front in_seq part at ≡ pair_start in_seq
+pair_written : (in_seq : Bool) (part : FlowPart) (at : ℕ) → is_value part ≡ false → (in_seq && is_first (part_of part)) ≡ false → part_prefix in_seq part at ≡ pair_start in_seq
 pair_written true (first_node bol) at v h = absurd (false≢true (sym h))
 pair_written false (first_node bol) at v h = refl
 pair_written in_seq (asked_key sep) at v h = refl
 pair_written in_seq (pair_value ask bol key before after) at v h = absurd (false≢true (sym v))
 
-single_written : (in_seq : Bool) (part : FlowPart) (front key : List Event) (at : ℕ) → (in_seq && is_first (part_of part)) ≡ true
-    → (front ++ part_front in_seq part at) ++ (map_start ∷ key) ≡ front ++ (pair_start in_seq ++ key)
-single_written true (first_node bol) front key at h = ap (λ es. es ++ (map_start ∷ key)) (append-nil front)
-single_written true (asked_key sep) front key at h = absurd (false≢true h)
-single_written true (pair_value ask bol k before after) front key at h = absurd (false≢true h)
-single_written false part front key at h = absurd (false≢true h)
+single_written : (in_seq : Bool) (part : FlowPart) (prefix key : List Event) (at : ℕ) → (in_seq && is_first (part_of part)) ≡ true
+    → (prefix ++ part_prefix in_seq part at) ++ (map_start ∷ key) ≡ prefix ++ (pair_start in_seq ++ key)
+single_written true (first_node bol) prefix key at h = ap (λ es. es ++ (map_start ∷ key)) (append-nil prefix)
+single_written true (asked_key sep) prefix key at h = absurd (false≢true h)
+single_written true (pair_value ask bol k before after) prefix key at h = absurd (false≢true h)
+single_written false part prefix key at h = absurd (false≢true h)
 
 module _ (n : ℕ) (d : FlowContext) (text : List ℕ) where
   abbrev gap_from : ℕ → GapRead
@@ -59,7 +59,7 @@ module _ (n : ℕ) (d : FlowContext) (text : List ℕ) where
   abbrev found_at : ℕ → Flow → ℕ → Type 0
   found_at at f end = flow_node_at n d (line_starts text at) (rest text at) ≡ Some (f, rest text end)
 
-  -- ---- nothing stands after the node
+  -- ---- nothing comes after the node
 
   plug_dead : (b : Bracket) (part : FlowPart) (f : Flow) (x : List ℕ) → Dead n d (read_gap n (one_line d) x).1
       → close_with b (on (entry_of n d b.in_seq part f x) (λ e t. entries_of n d b.in_seq e t)) ≡ None
@@ -71,6 +71,7 @@ module _ (n : ℕ) (d : FlowContext) (text : List ℕ) where
       ap (λ r. close_with b (on r (λ e t. entries_of n d b.in_seq e t))) (value_entry n d b.in_seq bol ask key before after f x)
       ∙ made_dead n d b bol ask key (given before after f) x h
 
+  -- after a gap that fits nothing the collection is none
   pub node_dead : (w : Collection) (top : Open) (node_end : NodeEnd) (end : ℕ) (events : EventList) → NoGap n d (rest text end)
       → NodeRead n d text w top node_end end events → w.reads ≡ None
   node_dead w top node_end end events stop here =
@@ -102,6 +103,7 @@ module _ (n : ℕ) (d : FlowContext) (text : List ℕ) where
   colon_fits in_seq (asked_key sep) key start end x p w found i h v r e = refl
   colon_fits in_seq (pair_value ask bol k before after) key start end x p w found i h v r e = absurd (false≢true (sym x))
 
+  -- a `:` after a node makes it a key
   pub colon_read : (w : Collection) (top : Open) (node_end : NodeEnd) (line end colon : ℕ) (events new : EventList) → IsUtf8 text → IsCharBoundary text top.start → IsCharBoundary text end
       → top.start ≤ end → widens flow_key d ≡ true → (top.part ≡ ValuePart → ⊥) → Passes n d text end colon → is_colon d (ends_plain node_end) (rest text colon) ≡ true
       → SameLine text line top.start colon → BeganPair text top line colon events new → NodeRead n d text w top node_end end events
@@ -133,16 +135,16 @@ module _ (n : ℕ) (d : FlowContext) (text : List ℕ) where
         sign = i;
         place = omega (arith, start, long, sized);
         fits = colon_fits k.in_seq o.part key top.start end v here.waits.fits wide here.found sign (λ h. sym test ∙ (begun.single (single ∙ h)).0);
-        written = appended_as text w.kept new _ _ (ap (λ x. bracket_front k w.start ++ (pair_start k.in_seq ++ flow_events key x)) start)
+        written = appended_as text w.kept new _ _ (ap (λ x. bracket_prefix k w.start ++ (pair_start k.in_seq ++ flow_events key x)) start)
             (elim (cases_Bool (k.in_seq && is_first (part_of o.part))) [
-              | inl h ↦ appended_as text w.kept new _ _ (single_written k.in_seq o.part (bracket_front k w.start) (flow_events key top.start) (entry_start k w.start) h)
-                  (appended_between text w.kept here.before events new (frame_front o w.start) (flow_events key top.start) here.waits.written here.written
+              | inl h ↦ appended_as text w.kept new _ _ (single_written k.in_seq o.part (bracket_prefix k w.start) (flow_events key top.start) (entry_start k w.start) h)
+                  (appended_between text w.kept here.before events new (frame_prefix o w.start) (flow_events key top.start) here.waits.written here.written
                   ((begun.single (single ∙ h)).1 ∙ ap (λ x. insert events x MapStart) (sym here.count)))
               | inr h ↦ appended_to text w.kept events new _ (begun.other (single ∙ h))
                   (appended_as text w.kept events _ _
-                  (append_assoc (bracket_front k w.start) (part_front k.in_seq o.part (entry_start k w.start)) (flow_events key top.start)
-                  ∙ ap (λ es. bracket_front k w.start ++ (es ++ flow_events key top.start)) (pair_written k.in_seq o.part (entry_start k w.start) v h))
-                  (appended_then text w.kept here.before events (frame_front o w.start) (flow_events key top.start) here.waits.written here.written))
+                  (append_assoc (bracket_prefix k w.start) (part_prefix k.in_seq o.part (entry_start k w.start)) (flow_events key top.start)
+                  ∙ ap (λ es. bracket_prefix k w.start ++ (es ++ flow_events key top.start)) (pair_written k.in_seq o.part (entry_start k w.start) v h))
+                  (appended_then text w.kept here.before events (frame_prefix o w.start) (flow_events key top.start) here.waits.written here.written))
             ]);
         reads = plugged n d text w top node_end end events here ∙ plug_key n d o key (rest text end) v;
       }
@@ -159,6 +161,7 @@ module _ (n : ℕ) (d : FlowContext) (text : List ℕ) where
   key_refused b (asked_key sep) key start end h p w found i f = absurd (false≢true (and_parts _ _ h).1)
   key_refused b (pair_value ask bol k before after) key start end h p w found i f = absurd (false≢true (and_parts _ _ h).1)
 
+  -- a `:` that may not be one makes the collection none
   pub colon_refused : (w : Collection) (top : Open) (node_end : NodeEnd) (line end colon : ℕ) (events : EventList) → IsUtf8 text → IsCharBoundary text top.start
       → top.start ≤ end → widens flow_key d ≡ true → Passes n d text end colon → is_colon d (ends_plain node_end) (rest text colon) ≡ true
       → SameLine text line top.start colon → NoPair text top line colon → NodeRead n d text w top node_end end events → w.reads ≡ None
@@ -202,6 +205,7 @@ module _ (n : ℕ) (d : FlowContext) (text : List ℕ) where
         ∙ ap (λ (x : Option Sep). on (flow_node_at n d (starts_line false (gap_text (gap_from (colon + 1)).0)) (gap_from (colon + 1)).1) (λ f r. Some (given x (gap_from (colon + 1)).0 f, r)))
         (ap (λ (r : GapRead). r.0) here.passes))
 
+    -- a `:` without a value ends the pair
     pub pair_without_value : (at : ℕ) (new : EventList) → IsSign text colon 58 → Passes n d text (colon + 1) at
         → left_out (ends_plain key_end) (gap_from (colon + 1)) ≡ true → Appended text events new (omitted_at (colon + 1) ++ pair_end in_seq) → EntryRead n d text w in_seq at new
     pair_without_value at new sign gap h a =
@@ -221,17 +225,18 @@ module _ (n : ℕ) (d : FlowContext) (text : List ℕ) where
           passes = gap.reads;
           place = omega (arith, placed, wide, sized, more);
           written = appended_as text w.kept new _ _
-              (append_assoc (bracket_front k w.start) (pair_start k.in_seq ++ flow_events here.key key_at) (omitted_at (colon + 1) ++ pair_end k.in_seq)
-              ∙ (ap (λ x. bracket_front k w.start ++ ((pair_start k.in_seq ++ flow_events here.key key_at) ++ (omitted_at x ++ pair_end k.in_seq))) (sym place)
-              ∙ ap (λ es. bracket_front k w.start ++ es)
+              (append_assoc (bracket_prefix k w.start) (pair_start k.in_seq ++ flow_events here.key key_at) (omitted_at (colon + 1) ++ pair_end k.in_seq)
+              ∙ (ap (λ x. bracket_prefix k w.start ++ ((pair_start k.in_seq ++ flow_events here.key key_at) ++ (omitted_at x ++ pair_end k.in_seq))) (sym place)
+              ∙ ap (λ es. bracket_prefix k w.start ++ es)
               (sym (pair_events k.in_seq here.ask here.key (empty here.gap) (entry_start k w.start) (λ q. with_colon here.ask (empty here.gap) refl)))))
-              (appended_then text w.kept events new (bracket_front k w.start ++ (pair_start k.in_seq ++ flow_events here.key key_at)) (omitted_at (colon + 1) ++ pair_end k.in_seq) here.written
+              (appended_then text w.kept events new (bracket_prefix k w.start ++ (pair_start k.in_seq ++ flow_events here.key key_at)) (omitted_at (colon + 1) ++ pair_end k.in_seq) here.written
               (subst (λ (x : Bool). Appended text events new (omitted_at (colon + 1) ++ pair_end x)) (sym here.kind) a));
           reads = here.reads
               ∙ (ap (keyed n d k here.bol here.ask here.key) (value_empty sign h)
               ∙ keyed_fits n d k here.bol here.ask here.key (empty here.gap) (rest text (colon + 1)) (here.fits (empty here.gap) (rest text (colon + 1)) (value_empty sign h)));
         }
 
+    -- after a `:` a value is awaited
     pub value_waits : (top : Open) (at : ℕ) → top.in_seq ≡ in_seq → top.part ≡ ValuePart → line_starts text (colon + 1) ≡ false → IsSign text colon 58 → Passes n d text (colon + 1) at
         → left_out (ends_plain key_end) (gap_from (colon + 1)) ≡ false → AtNode n d text w top at events
     value_waits top at kind p starts sign gap h =
@@ -253,6 +258,7 @@ module _ (n : ℕ) (d : FlowContext) (text : List ℕ) where
               ∙ waits_value n d k here.bol here.ask here.key here.gap gap.gap (flow_node_at n d (line_starts text at) (rest text at)));
         }
 
+    -- after a gap that fits nothing there is no value
     pub value_dead : IsSign text colon 58 → NoGap n d (rest text (colon + 1)) → w.reads ≡ None
     value_dead sign stop =
         let k : Bracket = here.bracket in

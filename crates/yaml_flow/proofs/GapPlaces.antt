@@ -1,4 +1,4 @@
--- The gap at a place, by what its scanner tells.
+-- The gap at a place, by what its scanner says.
 use Rattle.std.proofs.Common.{◌≡◌, ap, arith, inl, inr, refl, sym, ◌∙◌, ℕ, ◌≤◌, ◌<◌}
 use Rattle.std.specs.Prelude.{Bool, true, false, not, List, ◌++◌}
 use Rattle.std.specs.Str.{IsUtf8, IsCharBoundary}
@@ -7,23 +7,26 @@ use Rattle.yaml_chars.specs.Places.{rest}
 use Rattle.yaml_grammar.specs.FlowScalars.{FlowContext, one_line}
 use Rattle.yaml_grammar.specs.Separation.{gap_text}
 use Rattle.yaml_recognizers.specs.Gaps.{GapRead}
-use Rattle.yaml_recognizers.proofs.GapsSound.{gap_sound}
+use Rattle.yaml_recognizers.proofs.Separation.GapsSound.{gap_sound}
 use Rattle.yaml_scan.specs.Gaps.{IsGap}
-use Rattle.yaml_scan.specs.Places.{unbroken_between}
+use Rattle.yaml_scan.specs.ScanPlaces.{unbroken_between}
 use Rattle.yaml_scan.specs.declared.gap.Gap.{Gap}
 use Rattle.yaml_flow.specs.Frames.{LineMoves, Passes}
 use Rattle.yaml_flow.proofs.SameLines.{line_follows, line_stays, unbroken_here}
 use Rattle.yaml_flow.proofs.Signs.{place_after}
 
+-- no break over the lines means that all is on one
 pub unbroken_by : (over whole : Bool) → over ≡ not whole → over ≡ false → whole ≡ true
 unbroken_by over true e h = refl
 unbroken_by over false e h = absurd (false≢true (sym h ∙ e))
 
+-- a break over the lines means that not all is on one
 pub broken_by : (over whole : Bool) → over ≡ not whole → over ≡ true → whole ≡ false
 broken_by over true e h = absurd (false≢true (sym e ∙ h))
 broken_by over false e h = refl
 
 module _ (n : ℕ) (d : FlowContext) (text : List ℕ) where
+  -- a gap that is found is passed
   pub gap_passes : (at : ℕ) (found : Gap) → IsUtf8 text → IsCharBoundary text at → IsGap n d text at found → Passes n d text at found.end
   gap_passes at found u b h =
       let g = gap_sound n (one_line d) (rest text at) in
@@ -38,10 +41,12 @@ module _ (n : ℕ) (d : FlowContext) (text : List ℕ) where
         starts = h.starts;
       }
 
+  -- a gap without a break stays on its line
   pub gap_same_line : (line at : ℕ) (found : Gap) → IsUtf8 text → IsCharBoundary text at → IsGap n d text at found → found.is_over_lines ≡ false → LineMoves text line at line found.end
   gap_same_line line at found u b h e =
       line_stays text line at found.end u h.above b h.boundary (unbroken_by found.is_over_lines (unbroken_between text at found.end) h.breaks e)
 
+  -- a gap with a break ends on a new line
   pub gap_line : (line at : ℕ) (found : Gap) → IsUtf8 text → IsCharBoundary text at → IsGap n d text at found → found.is_over_lines ≡ true → LineMoves text line at found.end found.end
   gap_line line at found u b h e =
       let broken : unbroken_between text at found.end ≡ false = broken_by found.is_over_lines (unbroken_between text at found.end) h.breaks e in

@@ -10,19 +10,19 @@ use Rattle.yaml_grammar.specs.Events.{Event, omitted_at}
 use Rattle.yaml_grammar.specs.FlowNodes.{Flow, Entry, entry, absent, given, is_plain, asked_text, entry_text, entry_events, flow_events, flow_text}
 use Rattle.yaml_grammar.specs.FlowScalars.{FlowContext, one_line}
 use Rattle.yaml_grammar.specs.Texts.{byte_len}
-use Rattle.yaml_events.specs.Places.{line_starts}
+use Rattle.yaml_events.specs.EventPlaces.{line_starts}
 use Rattle.yaml_recognizers.specs.Ends.{is_colon}
 use Rattle.yaml_recognizers.specs.FlowFrames.{FlowPart, first_node, asked_key, pair_value, Bracket, OpenFlow, close_with, entries_of, entry_of, plug}
 use Rattle.yaml_recognizers.specs.Gaps.{GapRead, read_gap}
 use Rattle.yaml_recognizers.specs.Reading.{if_fits, on}
 use Rattle.yaml_recognizers.specs.Recognizers.{StandsFlow, flow_node_at, flow_value_at}
-use Rattle.yaml_recognizers.proofs.FlowNodesFound.{stands}
+use Rattle.yaml_recognizers.proofs.Flow.FlowNodesFound.{stands}
 use Rattle.yaml_flow.specs.declared.collection.NodeEnd.{NodeEnd}
 use Rattle.yaml_flow.specs.declared.collection.Open.{Open}
 use Rattle.yaml_flow.specs.declared.collection.Part.{Part}
 use Rattle.yaml_flow.specs.declared.collection.Part.TheVariants.{First, Asked, Value as ValuePart}
 use Rattle.yaml_flow.specs.FlowNodes.{Appended}
-use Rattle.yaml_flow.specs.Frames.{AtNode, Collection, EntryRead, EventList, NodeRead, PartFits, Passes, absent_events, bracket_front, ends_plain, entry_start, frame_front, is_first, is_single, is_value as is_value_part, node_start, pair_end, pair_start, part_front, part_of, part_start}
+use Rattle.yaml_flow.specs.Frames.{AtNode, Collection, EntryRead, EventList, NodeRead, PartFits, Passes, absent_events, bracket_prefix, ends_plain, entry_start, frame_prefix, is_first, is_single, is_value as is_value_part, node_start, pair_end, pair_start, part_prefix, part_of, part_start}
 use Rattle.yaml_flow.proofs.Appends.{appended_as, appended_then}
 use Rattle.yaml_flow.proofs.EntryEvents.{entry_length, given_length, pair_events, with_colon}
 use Rattle.yaml_flow.proofs.FlowSteps.{absent_fits, ask_of, bol_of, is_value, keyed, keyed_fits, no_node_at_end, plug_key, value_entry}
@@ -31,19 +31,23 @@ use Rattle.yaml_flow.proofs.Signs.{place_after}
 
 -- ---- parts
 
+-- the part that the code calls a value is one
 pub value_part : (part : FlowPart) (p : Part) → part_of part ≡ p → p ≡ ValuePart → is_value part ≡ true
 value_part (first_node bol) p e h = cc
 value_part (asked_key sep) p e h = cc
 value_part (pair_value ask bol key before after) p e h = refl
 
+-- so is the one that passes the test
 pub the_value : (p : Part) → is_value_part p ≡ true → p ≡ ValuePart
 the_value First h = absurd (false≢true h)
 the_value Asked h = absurd (false≢true h)
 the_value ValuePart h = refl
 
+-- one that fails the test is none
 pub not_value : (p : Part) → is_value_part p ≡ false → p ≡ ValuePart → ⊥
 not_value p h e = false≢true (sym h ∙ ap is_value_part e)
 
+-- a part that the code doesn't call a value is none
 pub no_value_part : (part : FlowPart) → (part_of part ≡ ValuePart → ⊥) → is_value part ≡ false
 no_value_part (first_node bol) h = refl
 no_value_part (asked_key sep) h = refl
@@ -54,6 +58,7 @@ no_value_part (pair_value ask bol key before after) h = absurd (h refl)
 regroup4 : (a b c d : List Event) → ((a ++ b) ++ c) ++ d ≡ a ++ ((b ++ c) ++ d)
 regroup4 a b c d = simp append_assoc
 
+-- five lists, joined in two ways
 pub regroup5 : (a b c d e : List Event) → (a ++ (b ++ c)) ++ (d ++ e) ≡ a ++ ((b ++ c) ++ (d ++ e))
 regroup5 a b c d e = simp append_assoc
 
@@ -72,7 +77,7 @@ module _ (n : ℕ) (d : FlowContext) (text : List ℕ) where
 
   -- ---- the node
 
-  -- where no node stands the collection is none
+  -- where there is no node, there is no collection
   pub node_missing : (w : Collection) (top : Open) (at : ℕ) (events : EventList) → flow_node_at n d (line_starts text at) (rest text at) ≡ None
       → AtNode n d text w top at events → w.reads ≡ None
   node_missing w top at events e here = here.reads ∙ ap (λ r. on r (λ f x. plug n d here.frame f x)) e
@@ -89,15 +94,18 @@ module _ (n : ℕ) (d : FlowContext) (text : List ℕ) where
     reads = here.reads;
   }
 
+  -- at the end of the text there is no node
   pub node_at_end : (w : Collection) (top : Open) (at : ℕ) (events : EventList) → length text ≤ at → AtNode n d text w top at events → w.reads ≡ None
   node_at_end w top at events l here =
       node_missing w top at events (ap (flow_node_at n d (line_starts text at)) (rest-end text at l) ∙ no_node_at_end n d (line_starts text at)) here
 
+  -- a node ends as many bytes later as it has
   pub node_length : (at end : ℕ) (f : Flow) → IsUtf8 text → IsCharBoundary text at → IsCharBoundary text end → found_at at f end → at + byte_len (flow_text f) ≡ end
   node_length at end f u b c e =
       let s : StandsFlow n d (line_starts text at) (rest text at) f (rest text end) = stands n d (line_starts text at) (rest text at) f (rest text end) e in
       place_after text at end (flow_text f) u b c s.spells
 
+  -- a node that is read is put into its entry
   pub plugged : (w : Collection) (top : Open) (node_end : NodeEnd) (end : ℕ) (events : EventList) (here : NodeRead n d text w top node_end end events)
       → w.reads ≡ plug n d here.waits.frame here.node (rest text end)
   plugged w top node_end end events here = here.waits.reads ∙ ap (λ r. on r (λ f x. plug n d here.waits.frame f x)) here.found
@@ -113,13 +121,13 @@ module _ (n : ℕ) (d : FlowContext) (text : List ℕ) where
       ∙ ap (λ t. if_fits t (Some (entry ask key (given before after f), rest text end))) (p f (rest text end) e)
 
   value_written : (in_seq : Bool) (part : FlowPart) (f : Flow) (at start : ℕ) → is_value part ≡ true → part_start part at ≡ start
-      → (part_front in_seq part at ++ flow_events f start) ++ pair_end in_seq ≡ entry_events (entry_with part f) in_seq at
+      → (part_prefix in_seq part at ++ flow_events f start) ++ pair_end in_seq ≡ entry_events (entry_with part f) in_seq at
   value_written in_seq (first_node bol) f at start v e = absurd (false≢true v)
   value_written in_seq (asked_key sep) f at start v e = absurd (false≢true v)
   value_written in_seq (pair_value ask bol key before after) f at start v e =
-      let front : List Event = pair_start in_seq ++ flow_events key (at + byte_len (asked_text ask)) in
-      append_assoc front (flow_events f start) (pair_end in_seq)
-      ∙ (ap (λ k. front ++ (flow_events f k ++ pair_end in_seq)) (sym e)
+      let prefix : List Event = pair_start in_seq ++ flow_events key (at + byte_len (asked_text ask)) in
+      append_assoc prefix (flow_events f start) (pair_end in_seq)
+      ∙ (ap (λ k. prefix ++ (flow_events f k ++ pair_end in_seq)) (sym e)
       ∙ sym (pair_events in_seq ask key (given before after f) at (λ h. with_colon ask (given before after f) refl)))
 
   value_length : (part : FlowPart) (f : Flow) (at : ℕ) → is_value part ≡ true → at + byte_len (entry_text (entry_with part f)) ≡ part_start part at + byte_len (flow_text f)
@@ -130,10 +138,11 @@ module _ (n : ℕ) (d : FlowContext) (text : List ℕ) where
       let g = given_length before after f in
       omega (arith, e, g)
 
-  pub value_read : (w : Collection) (top : Open) (node_end : NodeEnd) (end behind : ℕ) (events new : EventList) → IsUtf8 text → IsCharBoundary text top.start → IsCharBoundary text end
-      → top.part ≡ ValuePart → Passes n d text end behind → Appended text events new (pair_end top.in_seq) → NodeRead n d text w top node_end end events
-      → EntryRead n d text w top.in_seq behind new
-  value_read w top node_end end behind events new u b c p gap a here =
+  -- with its value a pair is read
+  pub value_read : (w : Collection) (top : Open) (node_end : NodeEnd) (end after : ℕ) (events new : EventList) → IsUtf8 text → IsCharBoundary text top.start → IsCharBoundary text end
+      → top.part ≡ ValuePart → Passes n d text end after → Appended text events new (pair_end top.in_seq) → NodeRead n d text w top node_end end events
+      → EntryRead n d text w top.in_seq after new
+  value_read w top node_end end after events new u b c p gap a here =
       let o : OpenFlow = here.waits.frame in
       let k : Bracket = o.bracket in
       let v : is_value o.part ≡ true = value_part o.part top.part here.waits.keeps.part p in
@@ -151,10 +160,10 @@ module _ (n : ℕ) (d : FlowContext) (text : List ℕ) where
         passes = gap.reads;
         place = omega (arith, long, sized, placed, wide);
         written = appended_as text w.kept new _ _
-            (regroup4 (bracket_front k w.start) (part_front k.in_seq o.part (entry_start k w.start)) (flow_events here.node top.start) (pair_end k.in_seq)
-            ∙ ap (λ es. bracket_front k w.start ++ es) (value_written k.in_seq o.part here.node (entry_start k w.start) top.start v here.waits.place))
-            (appended_then text w.kept events new (frame_front o w.start ++ flow_events here.node top.start) (pair_end k.in_seq)
-            (appended_then text w.kept here.before events (frame_front o w.start) (flow_events here.node top.start) here.waits.written here.written)
+            (regroup4 (bracket_prefix k w.start) (part_prefix k.in_seq o.part (entry_start k w.start)) (flow_events here.node top.start) (pair_end k.in_seq)
+            ∙ ap (λ es. bracket_prefix k w.start ++ es) (value_written k.in_seq o.part here.node (entry_start k w.start) top.start v here.waits.place))
+            (appended_then text w.kept events new (frame_prefix o w.start ++ flow_events here.node top.start) (pair_end k.in_seq)
+            (appended_then text w.kept here.before events (frame_prefix o w.start) (flow_events here.node top.start) here.waits.written here.written)
             (subst (λ (x : Bool). Appended text events new (pair_end x)) (sym here.waits.keeps.kind) a));
         reads = plugged w top node_end end events here
             ∙ ap (λ r. close_with k (on r (λ e x. entries_of n d k.in_seq e x))) (value_whole k.in_seq o.part here.node top.start end v here.waits.fits here.found);
@@ -162,6 +171,7 @@ module _ (n : ℕ) (d : FlowContext) (text : List ℕ) where
 
   -- ---- a node with no `:` after it
 
+  -- where a key starts
   pub key_start : (part : FlowPart) (at : ℕ) → is_value part ≡ false → part_start part at ≡ at + byte_len (asked_text (ask_of part))
   key_start (first_node bol) at v = omega arith
   key_start (asked_key sep) at v = refl
@@ -169,7 +179,7 @@ module _ (n : ℕ) (d : FlowContext) (text : List ℕ) where
 
   absent_written : (in_seq : Bool) (part : FlowPart) (key : Flow) (at start end : ℕ) → is_value part ≡ false → start ≡ at + byte_len (asked_text (ask_of part))
       → end ≡ start + byte_len (flow_text key)
-      → (part_front in_seq part at ++ flow_events key start) ++ absent_events (in_seq && is_first (part_of part)) in_seq end ≡ entry_events (entry (ask_of part) key absent) in_seq at
+      → (part_prefix in_seq part at ++ flow_events key start) ++ absent_events (in_seq && is_first (part_of part)) in_seq end ≡ entry_events (entry (ask_of part) key absent) in_seq at
   absent_written true (first_node bol) key at start end v s e = append-nil (flow_events key start) ∙ ap (flow_events key) s
   absent_written false (first_node bol) key at start end v s e =
       ap (λ k. flow_events key start ++ (omitted_at k ++ [])) e
@@ -185,13 +195,15 @@ module _ (n : ℕ) (d : FlowContext) (text : List ℕ) where
       ∙ sym (pair_events false (Some sep) key absent at (λ h. absurd (false≢true h))))
   absent_written in_seq (pair_value ask bol key before after) key' at start end v s e = absurd (false≢true (sym v))
 
+  -- the code's test says whether the pair is a single one
   pub single_is : (top : Open) (in_seq : Bool) (part : FlowPart) → in_seq ≡ top.in_seq → part_of part ≡ top.part → is_single top ≡ in_seq && is_first (part_of part)
   single_is top in_seq part k p = ap (λ x. x && is_first top.part) (sym k) ∙ ap (λ x. in_seq && is_first x) (sym p)
 
-  pub entry_alone : (w : Collection) (top : Open) (node_end : NodeEnd) (end behind : ℕ) (events new : EventList) → IsUtf8 text → IsCharBoundary text top.start → IsCharBoundary text end
-      → (top.part ≡ ValuePart → ⊥) → Passes n d text end behind → is_colon d (ends_plain node_end) (rest text behind) ≡ false
-      → Appended text events new (absent_events (is_single top) top.in_seq end) → NodeRead n d text w top node_end end events → EntryRead n d text w top.in_seq behind new
-  entry_alone w top node_end end behind events new u b c p gap i a here =
+  -- without a value the entry is the node
+  pub entry_alone : (w : Collection) (top : Open) (node_end : NodeEnd) (end after : ℕ) (events new : EventList) → IsUtf8 text → IsCharBoundary text top.start → IsCharBoundary text end
+      → (top.part ≡ ValuePart → ⊥) → Passes n d text end after → is_colon d (ends_plain node_end) (rest text after) ≡ false
+      → Appended text events new (absent_events (is_single top) top.in_seq end) → NodeRead n d text w top node_end end events → EntryRead n d text w top.in_seq after new
+  entry_alone w top node_end end after events new u b c p gap i a here =
       let o : OpenFlow = here.waits.frame in
       let k : Bracket = o.bracket in
       let key : Flow = here.node in
@@ -211,10 +223,10 @@ module _ (n : ℕ) (d : FlowContext) (text : List ℕ) where
         passes = gap.reads;
         place = omega (arith, start, long, wide, sized);
         written = appended_as text w.kept new _ _
-            (regroup4 (bracket_front k w.start) (part_front k.in_seq o.part (entry_start k w.start)) (flow_events key top.start) (absent_events (k.in_seq && is_first (part_of o.part)) k.in_seq end)
-            ∙ ap (λ es. bracket_front k w.start ++ es) (absent_written k.in_seq o.part key (entry_start k w.start) top.start end v start (sym long)))
-            (appended_then text w.kept events new (frame_front o w.start ++ flow_events key top.start) (absent_events (k.in_seq && is_first (part_of o.part)) k.in_seq end)
-            (appended_then text w.kept here.before events (frame_front o w.start) (flow_events key top.start) here.waits.written here.written)
+            (regroup4 (bracket_prefix k w.start) (part_prefix k.in_seq o.part (entry_start k w.start)) (flow_events key top.start) (absent_events (k.in_seq && is_first (part_of o.part)) k.in_seq end)
+            ∙ ap (λ es. bracket_prefix k w.start ++ es) (absent_written k.in_seq o.part key (entry_start k w.start) top.start end v start (sym long)))
+            (appended_then text w.kept events new (frame_prefix o w.start ++ flow_events key top.start) (absent_events (k.in_seq && is_first (part_of o.part)) k.in_seq end)
+            (appended_then text w.kept here.before events (frame_prefix o w.start) (flow_events key top.start) here.waits.written here.written)
             (appended_as text events new _ _ (ap (λ x. absent_events x top.in_seq end) (single_is top k.in_seq o.part here.waits.keeps.kind here.waits.keeps.part)
             ∙ ap (λ x. absent_events (k.in_seq && is_first (part_of o.part)) x end) (sym here.waits.keeps.kind)) a));
         reads = plugged w top node_end end events here

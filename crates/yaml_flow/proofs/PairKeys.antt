@@ -1,4 +1,4 @@
--- What a `:` after a node makes of it: a value, and a key that has to stand on one line and to be short.
+-- What a `:` after a node makes of it: a key, which has to be on one line and short, with a value.
 use Rattle.std.proofs.Common.{◌≡◌, ap, refl, subst, sym, ◌∙◌, ℕ, length, inl, inr}
 use Rattle.std.specs.Prelude.{Bool, true, false, not, ◌&&◌, ◌||◌, nat_le, List, ◌∷◌, ◌++◌, Option, Some, None, is_some}
 use Rattle.std.proofs.lemmas.Bool.{and_from, cases_Bool, or_parts}
@@ -12,19 +12,19 @@ use Rattle.yaml_recognizers.specs.CanonicalFlowNodes.{canonical_flow, canonical_
 use Rattle.yaml_recognizers.specs.Ends.{is_colon}
 use Rattle.yaml_recognizers.specs.FlowNodes.{ends_entry, key_is_short}
 use Rattle.yaml_recognizers.specs.FlowScalars.{read_scalar}
-use Rattle.yaml_recognizers.specs.Fronts.{past}
+use Rattle.yaml_recognizers.specs.Prefixes.{past}
 use Rattle.yaml_recognizers.specs.Gaps.{GapRead, read_gap}
 use Rattle.yaml_recognizers.specs.OneLine.{gap_on_one_line, on_one_line, widens}
 use Rattle.yaml_recognizers.specs.Reading.{on}
 use Rattle.yaml_recognizers.specs.Recognizers.{StandsFlow, flow_node_at, flow_value_at}
-use Rattle.yaml_recognizers.proofs.FlowNodesDepth.{value_step}
-use Rattle.yaml_recognizers.proofs.FlowNodesFound.{stands}
-use Rattle.yaml_recognizers.proofs.FlowNodesSound.{colon_parts}
-use Rattle.yaml_recognizers.proofs.GapsSound.{gap_sound}
-use Rattle.yaml_recognizers.proofs.OneLineText.{unbroken, unbroken_joined, gap_one_line, flow_one_line}
-use Rattle.yaml_recognizers.proofs.Reading.{on_parts, some_parts}
-use Rattle.yaml_recognizers.proofs.ScalarsInNodes.{reads_scalars}
-use Rattle.yaml_recognizers.proofs.SinglePairs.{gap_before, single_pair_asks}
+use Rattle.yaml_recognizers.proofs.Flow.FlowNodesDepth.{value_step}
+use Rattle.yaml_recognizers.proofs.Flow.FlowNodesFound.{stands}
+use Rattle.yaml_recognizers.proofs.Flow.FlowNodesSound.{colon_parts}
+use Rattle.yaml_recognizers.proofs.Separation.GapsSound.{gap_sound}
+use Rattle.yaml_recognizers.proofs.Flow.OneLineText.{unbroken, unbroken_joined, gap_one_line, flow_one_line}
+use Rattle.yaml_recognizers.proofs.Basics.Reading.{on_parts, some_parts}
+use Rattle.yaml_recognizers.proofs.Scalars.ScalarsInNodes.{reads_scalars}
+use Rattle.yaml_recognizers.proofs.Flow.SinglePairs.{gap_before, single_pair_asks}
 
 -- ---- the value after a node
 
@@ -37,11 +37,13 @@ no_value n d after_plain text h = value_step read_scalar reads_scalars n d after
 abbrev pub left_out : Bool → GapRead → Bool
 left_out after_plain after = ends_entry after.1 || (after_plain && not (is_some after.0))
 
+-- a `:` without a value
 pub value_left_out : (n : ℕ) (d : FlowContext) (after_plain : Bool) (text : List ℕ) → is_colon d after_plain (read_gap n (one_line d) text).1 ≡ true
     → left_out after_plain (read_gap n (one_line d) (past (read_gap n (one_line d) text).1)) ≡ true
     → flow_value_at n d after_plain text ≡ Some (empty (read_gap n (one_line d) text).0, past (read_gap n (one_line d) text).1)
 value_left_out n d after_plain text h k = value_step read_scalar reads_scalars n d after_plain text ∙ rw (h, k) refl
 
+-- a `:` with a value
 pub value_given : (n : ℕ) (d : FlowContext) (after_plain : Bool) (text : List ℕ) → is_colon d after_plain (read_gap n (one_line d) text).1 ≡ true
     → left_out after_plain (read_gap n (one_line d) (past (read_gap n (one_line d) text).1)) ≡ false
     → flow_value_at n d after_plain text
@@ -49,7 +51,7 @@ pub value_given : (n : ℕ) (d : FlowContext) (after_plain : Bool) (text : List 
     (λ f rest. Some (given (read_gap n (one_line d) text).0 (read_gap n (one_line d) (past (read_gap n (one_line d) text).1)).0 f, rest))
 value_given n d after_plain text h k = value_step read_scalar reads_scalars n d after_plain text ∙ rw (h, k) refl
 
--- a value whose `:` stands behind this gap
+-- a value whose `:` comes after this gap
 pub record ColonValue (n : ℕ) (d : FlowContext) (after_plain : Bool) (text : List ℕ) (gap : Option Sep) (v : Value) (rest : List ℕ) : Type 0 where
   pub spells : text ≡ value_text v ++ rest
   pub fits : canonical_value v n d (one_line d) after_plain rest ≡ true
@@ -62,6 +64,7 @@ has_white true p h = refl
 has_white false true h = sym h
 has_white false false h = refl
 
+-- what is read after a `:` is a value
 pub colon_value : (n : ℕ) (d : FlowContext) (after_plain : Bool) (text : List ℕ) (v : Value) (rest : List ℕ) → is_colon d after_plain (read_gap n (one_line d) text).1 ≡ true
     → flow_value_at n d after_plain text ≡ Some (v, rest) → ColonValue n d after_plain text (read_gap n (one_line d) text).0 v rest
 colon_value n d after_plain text v rest i h =
@@ -113,20 +116,21 @@ turned true false true = refl
 turned true false false = refl
 turned false s g = refl
 
-pub key_fits : (n : ℕ) (d : FlowContext) (bol : Bool) (text : List ℕ) (key : Flow) (behind : List ℕ) (v : Value) (rest : List ℕ) → widens flow_key d ≡ true
-    → flow_node_at n d bol text ≡ Some (key, behind) → is_colon d (is_plain key) (read_gap n (one_line d) behind).1 ≡ true
-    → flow_value_at n d (is_plain key) behind ≡ Some (v, rest)
-    → key_is_short n d true bol None key v rest ≡ fits_line (flow_text key ++ gap_text (read_gap n (one_line d) behind).0)
-key_fits n d bol text key behind v rest w found i h =
-    let c : ColonValue n d (is_plain key) behind (read_gap n (one_line d) behind).0 v rest = colon_value n d (is_plain key) behind v rest i h in
-    let gap : Option Sep = (read_gap n (one_line d) behind).0 in
-    let after : List ℕ = (read_gap n (one_line d) behind).1 in
-    let s : StandsFlow n d bol text key behind = stands n d bol text key behind found in
+-- a key fits if it is on one line and short
+pub key_fits : (n : ℕ) (d : FlowContext) (bol : Bool) (text : List ℕ) (key : Flow) (after : List ℕ) (v : Value) (rest : List ℕ) → widens flow_key d ≡ true
+    → flow_node_at n d bol text ≡ Some (key, after) → is_colon d (is_plain key) (read_gap n (one_line d) after).1 ≡ true
+    → flow_value_at n d (is_plain key) after ≡ Some (v, rest)
+    → key_is_short n d true bol None key v rest ≡ fits_line (flow_text key ++ gap_text (read_gap n (one_line d) after).0)
+key_fits n d bol text key after v rest w found i h =
+    let c : ColonValue n d (is_plain key) after (read_gap n (one_line d) after).0 v rest = colon_value n d (is_plain key) after v rest i h in
+    let gap : Option Sep = (read_gap n (one_line d) after).0 in
+    let rest_after : List ℕ = (read_gap n (one_line d) after).1 in
+    let s : StandsFlow n d bol text key after = stands n d bol text key after found in
     let canonical : canonical_flow key n d bol (value_text v ++ rest) ≡ true = subst (λ (t : List ℕ). canonical_flow key n d bol t ≡ true) c.spells s.canonical in
-    let g : (behind ≡ gap_text gap ++ after) × (canonical_gap n (one_line d) gap after ≡ true) = gap_sound n (one_line d) behind in
-    let filled : is_empty after ≡ false = ap is_empty (colon_parts d (is_plain key) after i).0 in
-    let key_line : on_one_line key ≡ unbroken (flow_text key) = flow_one_line key n d bol behind s.canonical in
-    let gap_line : gap_on_one_line gap ≡ unbroken (gap_text gap) = gap_one_line n (one_line d) gap after g.1 filled in
+    let g : (after ≡ gap_text gap ++ rest_after) × (canonical_gap n (one_line d) gap rest_after ≡ true) = gap_sound n (one_line d) after in
+    let filled : is_empty rest_after ≡ false = ap is_empty (colon_parts d (is_plain key) rest_after i).0 in
+    let key_line : on_one_line key ≡ unbroken (flow_text key) = flow_one_line key n d bol after s.canonical in
+    let gap_line : gap_on_one_line gap ≡ unbroken (gap_text gap) = gap_one_line n (one_line d) gap rest_after g.1 filled in
     single_pair_asks n d bol key v rest w c.colon canonical c.fits
     ∙ (ap (λ x. (on_one_line key && short_key key x) && gap_on_one_line (gap_before v)) c.white
     ∙ (ap (λ x. (on_one_line key && short_key key (gap_text gap)) && gap_on_one_line x) c.before

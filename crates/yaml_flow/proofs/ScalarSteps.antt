@@ -9,11 +9,11 @@ use Rattle.yaml_grammar.specs.FlowNodes.{flow_events, is_plain, scalar}
 use Rattle.yaml_grammar.specs.FlowScalars as flow
 use Rattle.yaml_grammar.specs.Texts.{byte_len, first}
 use Rattle.yaml_events.specs.Meant.{style_of}
-use Rattle.yaml_events.specs.Places.{line_starts}
+use Rattle.yaml_events.specs.EventPlaces.{line_starts}
 use Rattle.yaml_recognizers.specs.Reading.{on}
 use Rattle.yaml_recognizers.specs.FlowScalars.{read_scalar}
 use Rattle.yaml_recognizers.specs.Recognizers.{flow_node_at}
-use Rattle.yaml_recognizers.proofs.FlowFrames.{is_scalar}
+use Rattle.yaml_recognizers.proofs.Flow.FlowFrames.{is_scalar}
 use Rattle.yaml_flow.specs.declared.collection.NodeEnd.{NodeEnd}
 use Rattle.yaml_flow.specs.declared.collection.Open.{Open}
 use Rattle.yaml_flow.specs.declared.scalar.FlowScalar.{FlowScalar}
@@ -23,21 +23,24 @@ use Rattle.yaml_flow.proofs.Appends.{appended_one}
 use Rattle.yaml_flow.proofs.NodeSteps.{node_length}
 
 plain_by_style : (s : flow.Scalar) → is_plain (scalar s) ≡ is_plain_style (flow.style_of s)
-plain_by_style (flow.plain front more) = refl
-plain_by_style (flow.single front more) = refl
-plain_by_style (flow.double front more) = refl
+plain_by_style (flow.plain prefix more) = refl
+plain_by_style (flow.single prefix more) = refl
+plain_by_style (flow.double prefix more) = refl
 
 module _ (n : ℕ) (d : flow.FlowContext) (text : List ℕ) where
+  -- a scalar without a bracket at its start is a flow node
   pub scalar_found : (at end : ℕ) (s : flow.Scalar) → first (λ x. x == 91) (rest text at) ≡ false → first (λ x. x == 123) (rest text at) ≡ false
       → read_scalar n d (line_starts text at) (rest text at) ≡ Some (s, rest text end)
       → flow_node_at n d (line_starts text at) (rest text at) ≡ Some (scalar s, rest text end)
   scalar_found at end s h k e =
       is_scalar n d (line_starts text at) (rest text at) h k ∙ ap (λ r. on r (λ x t. Some (scalar x, t))) e
 
+  -- if there is none, there is no flow node
   pub scalar_missing : (at : ℕ) → first (λ x. x == 91) (rest text at) ≡ false → first (λ x. x == 123) (rest text at) ≡ false
       → read_scalar n d (line_starts text at) (rest text at) ≡ None → flow_node_at n d (line_starts text at) (rest text at) ≡ None
   scalar_missing at h k e = is_scalar n d (line_starts text at) (rest text at) h k ∙ ap (λ r. on r (λ x t. Some (scalar x, t))) e
 
+  -- its event is appended
   pub scalar_appended : (at : ℕ) (found : FlowScalar) (old new : EventList) → IsUtf8 text → IsCharBoundary text at → first (λ x. x == 91) (rest text at) ≡ false
       → first (λ x. x == 123) (rest text at) ≡ false → (read : FlowScalarRead n d text at found) → new ≡ old ++ scalar_event_at at found ∷ []
       → Appended text old new (flow_events (scalar read.scalar) at)
@@ -50,6 +53,7 @@ module _ (n : ℕ) (d : flow.FlowContext) (text : List ℕ) where
       ∙ ap (λ x. grammar.scalar_event (flow.style_of read.scalar) at (at + byte_len (flow.scalar_text read.scalar)) x) read.means))
       read.borrows
 
+  -- so it is the node of the entry
   pub scalar_node : (w : Collection) (top : Open) (node_end : NodeEnd) (found : FlowScalar) (events new : EventList) → IsUtf8 text → IsCharBoundary text top.start
       → first (λ x. x == 91) (rest text top.start) ≡ false → first (λ x. x == 123) (rest text top.start) ≡ false → top.before ≡ length events
       → FlowScalarRead n d text top.start found → ends_plain node_end ≡ is_plain_style (style_of found.style) → new ≡ events ++ scalar_event_at top.start found ∷ []

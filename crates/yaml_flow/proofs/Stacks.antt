@@ -9,7 +9,7 @@ use Rattle.std.proofs.Common.{inl, inr}
 use Rattle.yaml_chars.specs.Places.{rest}
 use Rattle.yaml_grammar.specs.FlowNodes.{flow_events}
 use Rattle.yaml_grammar.specs.FlowScalars.{FlowContext, outer, inner, block_key, flow_key, inside}
-use Rattle.yaml_events.specs.Places.{line_starts}
+use Rattle.yaml_events.specs.EventPlaces.{line_starts}
 use Rattle.yaml_recognizers.specs.OneLine.{widens}
 use Rattle.yaml_recognizers.specs.Reading.{on}
 use Rattle.yaml_recognizers.specs.Recognizers.{flow_node_at}
@@ -32,13 +32,14 @@ snoc_same (a ∷ us) (b ∷ vs) x y e =
     let r = snoc_same us vs x y t in
     (ap (λ z. z ∷ us) h ∙ ap (λ zs. b ∷ zs) r.0, r.1)
 
+-- a key's context has the same safe characters as between brackets
 pub inside_widens : (d : FlowContext) → inside d ≡ d → widens flow_key d ≡ true
 inside_widens outer e = absurd (let h : inner ≡ outer = e in cc)
 inside_widens inner e = refl
 inside_widens block_key e = absurd (let h : flow_key ≡ block_key = e in cc)
 inside_widens flow_key e = refl
 
--- ---- the events at the front
+-- ---- the events at the start
 
 -- the list is the other and more
 abbrev Extends : EventList → EventList → Type 0
@@ -47,6 +48,7 @@ Extends old new = (more : EventList) × (new ≡ old ++ more)
 extends_then : (a b c : EventList) → Extends a b → Extends b c → Extends a c
 extends_then a b c h k = (h.0 ++ k.0, k.1 ∙ (ap (λ es. es ++ k.0) h.1 ∙ append_assoc a h.0 k.0))
 
+-- what is kept twice is kept
 pub kept_then : (k : ℕ) (a b c : EventList) → Kept k a b → Kept k b c → Kept k a c
 kept_then k a b c h g l = let p = h l in let q = g p.0 in (q.0, q.1 ∙ p.1)
 
@@ -67,9 +69,9 @@ module _ (n : ℕ) (d : FlowContext) (text : List ℕ) where
       extends_then whole.kept w.inner.kept events (stack_on whole w.around opens w.inner w.stack) (stands_on w.inner top next events w.stands)
 
   -- the events before the whole collection stay
-  pub front_stays : (whole : Collection) (opens : List Open) (top : Open) (next : Next) (events new : EventList) (k : ℕ) → Waits n d text whole opens top next events
+  pub prefix_stays : (whole : Collection) (opens : List Open) (top : Open) (next : Next) (events new : EventList) (k : ℕ) → Waits n d text whole opens top next events
       → Kept k events new → Kept k whole.kept new
-  front_stays whole opens top next events new k w h =
+  prefix_stays whole opens top next events new k w h =
       let e = waits_on whole opens top next events w in
       let l = length-append whole.kept e.0 in
       let s = ap length e.1 in
@@ -77,6 +79,7 @@ module _ (n : ℕ) (d : FlowContext) (text : List ℕ) where
 
   -- ---- a refusal
 
+  -- no bracket is open yet
   pub stack_none : (whole : Collection) (around : List Collection) (opens : List Open) (w : Collection) → Stack n d text whole around opens w → w.reads ≡ None → whole.reads ≡ None
   stack_none whole [] opens w s e = ap (λ (x : Collection). x.reads) (sym s.1) ∙ e
   stack_none whole (c ∷ cs) opens w s e =
@@ -91,20 +94,20 @@ module _ (n : ℕ) (d : FlowContext) (text : List ℕ) where
   -- ---- a bracket that is closed
 
   -- what a closed bracket is read for, once its frame is popped
-  pub record Popped (whole : Collection) (front : List Open) (frame : Open) (end : ℕ) (events : EventList) : Type 0 where
+  pub record Popped (whole : Collection) (prefix : List Open) (frame : Open) (end : ℕ) (events : EventList) : Type 0 where
     pub around : List Collection
     pub outer : Collection
-    pub stack : Stack n d text whole around front outer
+    pub stack : Stack n d text whole around prefix outer
     pub node : NodeRead n d text outer frame Delimited end events
     pub inside_line : line_starts text end ≡ false
     pub count : frame.before ≤ length events
     pub kept : length whole.kept ≤ frame.before
 
-  popped_from : (whole : Collection) (around : List Collection) (w : Collection) (opens front : List Open) (frame : Open) (end : ℕ) (events : EventList)
-      → Stack n d text whole around opens w → WholeRead n d text w end events → opens ≡ front ++ frame ∷ [] → Popped whole front frame end events
-  popped_from whole [] w opens front frame end events s r e = absurd (omega (arith, ap length (sym s.0 ∙ e), length-append front (frame ∷ [])))
-  popped_from whole (c ∷ cs) w opens front frame end events s r e =
-      let both = snoc_same s.0 front s.1 frame (sym s.2 ∙ e) in
+  popped_from : (whole : Collection) (around : List Collection) (w : Collection) (opens prefix : List Open) (frame : Open) (end : ℕ) (events : EventList)
+      → Stack n d text whole around opens w → WholeRead n d text w end events → opens ≡ prefix ++ frame ∷ [] → Popped whole prefix frame end events
+  popped_from whole [] w opens prefix frame end events s r e = absurd (omega (arith, ap length (sym s.0 ∙ e), length-append prefix (frame ∷ [])))
+  popped_from whole (c ∷ cs) w opens prefix frame end events s r e =
+      let both = snoc_same s.0 prefix s.1 frame (sym s.2 ∙ e) in
       let a : Around n d text w frame c = subst (λ (x : Open). Around n d text w x c) both.1 s.3 in
       let on_kept = stack_on whole (c ∷ cs) opens w s in
       let count = a.count in
@@ -130,17 +133,19 @@ module _ (n : ℕ) (d : FlowContext) (text : List ℕ) where
         kept = omega (arith, count, sized2, more2);
       }
 
-  pub popped : (whole : Collection) (opens front : List Open) (top frame : Open) (next : Next) (end : ℕ) (events : EventList) → Waits n d text whole opens top next events
-      → next ≡ Closed end → opens ≡ front ++ frame ∷ [] → Popped whole front frame end events
-  popped whole opens front top frame next end events w e p =
+  -- the innermost bracket is closed, and the one around it goes on
+  pub popped : (whole : Collection) (opens prefix : List Open) (top frame : Open) (next : Next) (end : ℕ) (events : EventList) → Waits n d text whole opens top next events
+      → next ≡ Closed end → opens ≡ prefix ++ frame ∷ [] → Popped whole prefix frame end events
+  popped whole opens prefix top frame next end events w e p =
       let v : Waits n d text whole opens top (Closed end) events = subst (λ x. Waits n d text whole opens top x events) e w in
-      popped_from whole v.around v.inner opens front frame end events v.stack v.stands p
+      popped_from whole v.around v.inner opens prefix frame end events v.stack v.stands p
 
   whole_from : (whole : Collection) (around : List Collection) (w : Collection) (opens : List Open) (end : ℕ) (events : EventList) → Stack n d text whole around opens w
       → WholeRead n d text w end events → length opens ≡ 0 → WholeRead n d text whole end events
   whole_from whole [] w opens end events s r l = subst (λ (x : Collection). WholeRead n d text x end events) s.1 r
   whole_from whole (c ∷ cs) w opens end events s r l = absurd (omega (arith, ap length s.2, length-append s.0 (s.1 ∷ []), l))
 
+  -- the last bracket is closed, and the node is read
   pub whole_read : (whole : Collection) (opens : List Open) (top : Open) (next : Next) (end : ℕ) (events : EventList) → Waits n d text whole opens top next events
       → next ≡ Closed end → length opens ≡ 0 → WholeRead n d text whole end events
   whole_read whole opens top next end events w e l =
@@ -149,6 +154,7 @@ module _ (n : ℕ) (d : FlowContext) (text : List ℕ) where
 
 -- ---- places
 
+-- the next step is further on
 pub onward_from : (text : List ℕ) (at further : ℕ) (next : Next) → at ≤ further → Onward text further next → Onward text at next
 onward_from text at further next l o = let m = o.above in record { boundary = o.boundary; above = omega arith; within = o.within }
 
@@ -171,9 +177,10 @@ starts_push text line at opens more b l (inr p) a =
       same_line = subst (λ k. SameLine text line k at) (sym start) (same_line_here text line at l);
     }))
 
-pub starts_pop : (text : List ℕ) (line at : ℕ) (opens front : List Open) (frame : Open) → opens ≡ front ++ frame ∷ [] → All (Started text line at) opens
-    → All (Started text line at) front × Started text line at frame
-starts_pop text line at opens front frame e a = All-pop (Started text line at) opens front (Some frame) e a
+-- the brackets that stay open keep their lines
+pub starts_pop : (text : List ℕ) (line at : ℕ) (opens prefix : List Open) (frame : Open) → opens ≡ prefix ++ frame ∷ [] → All (Started text line at) opens
+    → All (Started text line at) prefix × Started text line at frame
+starts_pop text line at opens prefix frame e a = All-pop (Started text line at) opens prefix (Some frame) e a
 
 -- ---- one turn of the loop
 
@@ -185,6 +192,7 @@ pub record Reading (n : ℕ) (d : FlowContext) (text : List ℕ) (from : ℕ) (w
   pub starts : All (Started text line (place_of next)) opens
 
 module _ (n : ℕ) (d : FlowContext) (text : List ℕ) (from : ℕ) (whole : Collection) where
+  -- a step of the loop
   pub turn : (opens more : List Open) (top top' : Open) (here next : Next) (events new : EventList) (line line' : ℕ)
       → (Waits n d text whole opens top here events → Waits n d text whole more top' next new) → (All (Started text line (place_of here)) opens → All (Started text line (place_of here)) more)
       → Onward text (place_of here) next → LineMoves text line (place_of here) line' (place_of next)
@@ -201,10 +209,12 @@ module _ (n : ℕ) (d : FlowContext) (text : List ℕ) (from : ℕ) (whole : Col
       → Waits n d text whole opens top here events → Waits n d text whole opens top' next new
   step opens top top' here next events new h w = record { inner = w.inner; around = w.around; stack = w.stack; stands = h w.inner w.stands }
 
+  -- the state before the next step
   pub at_next : (opens : List Open) (top : Open) (next here : Next) (events : EventList) (line : ℕ) → next ≡ here → Reading n d text from whole opens top next events line
       → Reading n d text from whole opens top here events line
   at_next opens top next here events line e r = subst (λ x. Reading n d text from whole opens top x events line) e r
 
+  -- a step that refuses shows that there is no node
   pub refused : (opens : List Open) (top : Open) (here : Next) (events : EventList) (line : ℕ) → ((w : Collection) → Stands n d text w top here events → w.reads ≡ None)
       → Reading n d text from whole opens top here events line → whole.reads ≡ None
   refused opens top here events line h r = refused_whole n d text whole opens top here events r.waits (h r.waits.inner r.waits.stands)

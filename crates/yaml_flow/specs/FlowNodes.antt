@@ -1,4 +1,5 @@
--- What the scanners of flow nodes find at a place of a text, which counts bytes from 0, and the events that they append.
+-- What the scanners of flow nodes find at a place of a text, which counts bytes from 0, and the events that they
+-- append.
 use Rattle.std.specs.Prelude.{◌≡◌, ℕ, ◌<◌, ◌≤◌, false, true, List, ◌++◌, length, Some, None}
 use Rattle.std.specs.Cow.{cow_str_bytes, IsBorrowedStr}
 use Rattle.std.specs.List.{All}
@@ -10,15 +11,16 @@ use Rattle.yaml_grammar.specs.FlowScalars as flow
 use Rattle.yaml_events.specs.declared.event.Event.{Event}
 use Rattle.yaml_events.specs.declared.event.Event.TheVariants.{Scalar}
 use Rattle.yaml_events.specs.Meant.{events_of, style_of}
-use Rattle.yaml_events.specs.Places.{line_starts}
+use Rattle.yaml_events.specs.EventPlaces.{line_starts}
 use Rattle.yaml_recognizers.specs.FlowScalars.{read_scalar}
 use Rattle.yaml_recognizers.specs.Recognizers.{flow_node_at}
 use Rattle.yaml_recognizers.specs.StandingNodes.{IsFlowNode}
 use Rattle.yaml_events.specs.Borrowed.{BorrowsPlain}
-use Rattle.yaml_scan.specs.Places.{unbroken_between}
+use Rattle.yaml_scan.specs.ScanPlaces.{unbroken_between}
 use Rattle.yaml_flow.specs.declared.scalar.FlowScalar.{FlowScalar}
 
--- The new list is the old one and then events with this meaning, of which each plain scalar on one line borrows its value.
+-- The new list is the old one and then events with this meaning, of which each plain scalar on one line borrows its
+-- value.
 pub record Appended (text : List ℕ) (old new : List Event) (meant : List grammar.Event) : Type 0 where
   pub more : List Event
   pub is : new ≡ old ++ more
@@ -35,7 +37,8 @@ pub record FlowNodeRead (n : ℕ) (c : flow.FlowContext) (text : List ℕ) (at e
   pub found : flow_node_at n c (line_starts text at) (rest text at) ≡ Some (node, rest text end)
   pub appended : Appended text old new (flow_events node at)
 
--- A flow node stands between the two places, each that stands at the first is the same but for its form, and its events are appended.
+-- A flow node is between the two places, each that is at the first is the same but for its form, and its events are
+-- appended.
 pub record FlowNodeIs (n : ℕ) (c : flow.FlowContext) (text : List ℕ) (at end : ℕ) (old new : List Event) : Type 0 where
   pub node : Flow
   pub is : IsFlowNode n c (line_starts text at) (rest text at) node (rest text end)

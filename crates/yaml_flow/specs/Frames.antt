@@ -1,4 +1,4 @@
--- Where the scanner of flow collections stands: what is read, what is still to be read, and the events so far.
+-- How far the scanner of flow collections is: what is read, what is still to be read, and the events so far.
 use Rattle.std.specs.Prelude.{◌≡◌, ℕ, ◌+◌, ◌-◌, ◌*◌, ◌≤◌, ◌==◌, Bool, true, false, ◌&&◌, nat_le, nat_lt, List, [], ◌∷◌, ◌++◌, length, take, insert, Option, Some, is_some}
 use Rattle.std.specs.Str.{IsCharBoundary}
 use Rattle.yaml_chars.specs.Places.{rest, between}
@@ -9,14 +9,14 @@ use Rattle.yaml_grammar.specs.FlowScalars.{FlowContext, one_line}
 use Rattle.yaml_grammar.specs.Separation.{Sep, gap_text}
 use Rattle.yaml_grammar.specs.Texts.{byte_len, starts_line}
 use Rattle.yaml_events.specs.declared.event.Event.{Event as ListedEvent}
-use Rattle.yaml_events.specs.Places.{line_starts}
+use Rattle.yaml_events.specs.EventPlaces.{line_starts}
 use Rattle.yaml_recognizers.specs.Ends.{is_colon}
 use Rattle.yaml_recognizers.specs.FlowFrames.{FlowPart, first_node, asked_key, pair_value, Bracket, OpenFlow, closer, close_with, entries_of, plug}
 use Rattle.yaml_recognizers.specs.FlowNodes.{key_is_short, made}
 use Rattle.yaml_recognizers.specs.Gaps.{read_gap}
 use Rattle.yaml_recognizers.specs.Reading.{Read, on}
 use Rattle.yaml_recognizers.specs.Recognizers.{flow_node_at, flow_entries_at, flow_value_at}
-use Rattle.yaml_recognizers.proofs.EventFronts.{done_end, done_events}
+use Rattle.yaml_recognizers.proofs.Meanings.EventPrefixes.{done_end, done_events}
 use Rattle.yaml_events.specs.declared.event.Event.TheVariants.{MapStart}
 use Rattle.std.proofs.Math.Logic.{◌⊎◌}
 use Rattle.yaml_grammar.specs.Events as grammar
@@ -24,7 +24,7 @@ use Rattle.yaml_grammar.specs.Events.{omitted_at}
 use Rattle.yaml_grammar.specs.Texts.{first}
 use Rattle.yaml_recognizers.specs.FlowNodes.{is_asked}
 use Rattle.yaml_flow.specs.FlowNodes.{Appended}
-use Rattle.yaml_scan.specs.Places.{unbroken_between}
+use Rattle.yaml_scan.specs.ScanPlaces.{unbroken_between}
 use Rattle.yaml_scan.proofs.ByteSigns.{IsSign}
 use Rattle.yaml_flow.specs.declared.collection.NodeEnd.{NodeEnd}
 use Rattle.yaml_flow.specs.declared.collection.NodeEnd.TheVariants.{Plain, Delimited}
@@ -36,6 +36,7 @@ use Rattle.yaml_flow.specs.declared.collection.Next.TheVariants.{Entry, Node, Af
 
 -- ---- the code's types
 
+-- the events of the code, in order
 abbrev pub EventList : Type 0
 EventList = List ListedEvent
 
@@ -43,11 +44,13 @@ EventList = List ListedEvent
 abbrev pub Kept : ℕ → EventList → EventList → Type 0
 Kept k old new = k ≤ length old → (k ≤ length new) × (take k new ≡ take k old)
 
+-- which part of an entry is being read
 abbrev pub part_of : FlowPart → Part
 part_of (first_node bol) = First
 part_of (asked_key sep) = Asked
 part_of (pair_value ask bol key before after) = Value
 
+-- the style is plain
 abbrev pub is_plain_style : grammar.Style → Bool
 is_plain_style grammar.plain_style = true
 is_plain_style grammar.single_style = false
@@ -56,6 +59,7 @@ is_plain_style grammar.literal_style = false
 is_plain_style grammar.folded_style = false
 is_plain_style grammar.omitted_style = false
 
+-- the node that ended is a plain scalar
 abbrev pub ends_plain : NodeEnd → Bool
 ends_plain Plain = true
 ends_plain Delimited = false
@@ -66,11 +70,13 @@ is_first First = true
 is_first Asked = false
 is_first Value = false
 
+-- the part is a value
 abbrev pub is_value : Part → Bool
 is_value First = false
 is_value Asked = false
 is_value Value = true
 
+-- where the next step starts
 abbrev pub place_of : Next → ℕ
 place_of (Entry at) = at
 place_of (Node at) = at
@@ -97,12 +103,13 @@ abbrev pub opener : Bool → ℕ
 opener true = 91
 opener false = 123
 
+-- an opening bracket is at the place
 abbrev pub IsBracket : List ℕ → ℕ → Bool → Type 0
 IsBracket text at in_seq = IsSign text at (opener in_seq)
 
 -- ---- lines
 
--- no break stands between the line's start and the other place
+-- no break is between the line's start and the other place
 abbrev pub SameLine : List ℕ → ℕ → ℕ → ℕ → Type 0
 SameLine text line from to = nat_le line from ≡ unbroken_between text from to
 
@@ -113,10 +120,12 @@ pub record LineMoves (text : List ℕ) (old at new to : ℕ) : Type 0 where
 
 -- ---- the events of what is read
 
+-- the event at an opening bracket
 abbrev pub bracket_start : Bool → Event
 bracket_start true = seq_start
 bracket_start false = map_start
 
+-- the event at a closing bracket
 abbrev pub bracket_end : Bool → Event
 bracket_end true = seq_end
 bracket_end false = map_end
@@ -126,6 +135,7 @@ abbrev pub pair_start : Bool → List Event
 pair_start true = map_start ∷ []
 pair_start false = []
 
+-- the event at the end of a single pair
 abbrev pub pair_end : Bool → List Event
 pair_end true = map_end ∷ []
 pair_end false = []
@@ -134,11 +144,13 @@ pair_end false = []
 abbrev pub entries_start : Bracket → ℕ → ℕ
 entries_start b from = from + 1 + byte_len (gap_text b.gap)
 
+-- where the entry that is being read starts
 abbrev pub entry_start : Bracket → ℕ → ℕ
 entry_start b from = done_end b.done (entries_start b from)
 
-abbrev pub bracket_front : Bracket → ℕ → List Event
-bracket_front b from = bracket_start b.in_seq ∷ done_events b.done b.in_seq (entries_start b from)
+-- the events of a bracket so far
+abbrev pub bracket_prefix : Bracket → ℕ → List Event
+bracket_prefix b from = bracket_start b.in_seq ∷ done_events b.done b.in_seq (entries_start b from)
 
 -- the place of the node of an entry that starts at a place, and the entry's events before it
 abbrev pub part_start : FlowPart → ℕ → ℕ
@@ -147,16 +159,19 @@ part_start (asked_key sep) at = at + byte_len (asked_text (Some sep))
 part_start (pair_value ask bol key before after) at =
     at + byte_len (asked_text ask) + byte_len (flow_text key) + byte_len (gap_text before) + 1 + byte_len (gap_text after)
 
-abbrev pub part_front : Bool → FlowPart → ℕ → List Event
-part_front in_seq (first_node bol) at = []
-part_front in_seq (asked_key sep) at = pair_start in_seq
-part_front in_seq (pair_value ask bol key before after) at = pair_start in_seq ++ flow_events key (at + byte_len (asked_text ask))
+-- the events of an entry so far
+abbrev pub part_prefix : Bool → FlowPart → ℕ → List Event
+part_prefix in_seq (first_node bol) at = []
+part_prefix in_seq (asked_key sep) at = pair_start in_seq
+part_prefix in_seq (pair_value ask bol key before after) at = pair_start in_seq ++ flow_events key (at + byte_len (asked_text ask))
 
+-- where the node that is being read starts
 abbrev pub node_start : OpenFlow → ℕ → ℕ
 node_start o from = part_start o.part (entry_start o.bracket from)
 
-abbrev pub frame_front : OpenFlow → ℕ → List Event
-frame_front o from = bracket_front o.bracket from ++ part_front o.bracket.in_seq o.part (entry_start o.bracket from)
+-- the events of an open bracket and its entry so far
+abbrev pub frame_prefix : OpenFlow → ℕ → List Event
+frame_prefix o from = bracket_prefix o.bracket from ++ part_prefix o.bracket.in_seq o.part (entry_start o.bracket from)
 
 -- ---- a collection that is being read
 
@@ -173,7 +188,8 @@ pub record Keeps (top : Open) (o : OpenFlow) : Type 0 where
 
 -- one step of the code
 module _ (n : ℕ) (d : FlowContext) (text : List ℕ) where
-  -- what is known of the part before its node is read at the place: of a single pair, that its key fits whatever its value is
+  -- what is known of the part before its node is read at the place: of a single pair, that its key fits whatever its
+  -- value is
   abbrev pub PartFits : Bool → FlowPart → ℕ → Type 0
   PartFits in_seq (first_node bol) at = bol ≡ line_starts text at
   PartFits in_seq (asked_key sep) at = Unit {0}
@@ -181,30 +197,30 @@ module _ (n : ℕ) (d : FlowContext) (text : List ℕ) where
       (f : Flow) (r : List ℕ) → flow_node_at n d (line_starts text at) (rest text at) ≡ Some (f, r)
       → key_is_short n d in_seq bol ask key (nodes.given before after f) r ≡ true
 
-  -- the closing bracket or an entry may stand at the place
+  -- the closing bracket or an entry may be at the place
   pub record AtEntry (w : Collection) (in_seq : Bool) (at : ℕ) (events : EventList) : Type 0 where
     pub bracket : Bracket
     pub kind : bracket.in_seq ≡ in_seq
     pub place : entry_start bracket w.start ≡ at
-    pub written : Appended text w.kept events (bracket_front bracket w.start)
+    pub written : Appended text w.kept events (bracket_prefix bracket w.start)
     pub reads : w.reads ≡ close_with bracket (flow_entries_at n d bracket.in_seq (line_starts text at) (closer bracket.in_seq) (rest text at))
 
-  -- the `?` of an entry stands before the place
+  -- the `?` of an entry comes before the place
   pub record AfterQuestion (w : Collection) (in_seq : Bool) (at : ℕ) (events : EventList) : Type 0 where
-    pub front : ℕ
-    pub after : front + 1 ≡ at
-    pub entry : AtEntry w in_seq front events
-    pub sign : IsSign text front 63
-    pub asked : is_asked d (rest text front) ≡ true
-    pub unclosed : first (λ x. x == closer in_seq) (rest text front) ≡ false
+    pub prefix : ℕ
+    pub after : prefix + 1 ≡ at
+    pub entry : AtEntry w in_seq prefix events
+    pub sign : IsSign text prefix 63
+    pub asked : is_asked d (rest text prefix) ≡ true
+    pub unclosed : first (λ x. x == closer in_seq) (rest text prefix) ≡ false
 
-  -- the node that the frame waits for stands at the place
+  -- the node that the frame waits for is at the place
   pub record AtNode (w : Collection) (top : Open) (at : ℕ) (events : EventList) : Type 0 where
     pub frame : OpenFlow
     pub keeps : Keeps top frame
     pub fits : PartFits frame.bracket.in_seq frame.part at
     pub place : node_start frame w.start ≡ at
-    pub written : Appended text w.kept events (frame_front frame w.start)
+    pub written : Appended text w.kept events (frame_prefix frame w.start)
     pub reads : w.reads ≡ on (flow_node_at n d (line_starts text at) (rest text at)) (λ f r. plug n d frame f r)
 
   -- that node is read
@@ -217,7 +233,7 @@ module _ (n : ℕ) (d : FlowContext) (text : List ℕ) where
     pub found : flow_node_at n d (line_starts text top.start) (rest text top.start) ≡ Some (node, rest text end)
     pub written : Appended text before events (flow_events node top.start)
 
-  -- The key of a pair is read, and its `:` stands at the place. What the value may be, the key fits.
+  -- The key of a pair is read, and its `:` is at the place. What the value may be, the key fits.
   pub record AtColon (w : Collection) (in_seq : Bool) (end_is : NodeEnd) (colon : ℕ) (events : EventList) : Type 0 where
     pub bracket : Bracket
     pub kind : bracket.in_seq ≡ in_seq
@@ -232,7 +248,7 @@ module _ (n : ℕ) (d : FlowContext) (text : List ℕ) where
     pub place : entry_start bracket w.start + byte_len (asked_text ask) + byte_len (flow_text key) + byte_len (gap_text gap) ≡ colon
     pub fits : (v : nodes.Value) (r : List ℕ) → flow_value_at n d (is_plain key) follows ≡ Some (v, r) → key_is_short n d bracket.in_seq bol ask key v r ≡ true
     pub written : Appended text w.kept events
-        (bracket_front bracket w.start ++ (pair_start bracket.in_seq ++ flow_events key (entry_start bracket w.start + byte_len (asked_text ask))))
+        (bracket_prefix bracket w.start ++ (pair_start bracket.in_seq ++ flow_events key (entry_start bracket w.start + byte_len (asked_text ask))))
     pub reads : w.reads ≡ close_with bracket
         (on (on (flow_value_at n d (is_plain key) follows) (λ v r. made n d bracket.in_seq bol ask key v r)) (λ e r. entries_of n d bracket.in_seq e r))
 
@@ -245,7 +261,7 @@ module _ (n : ℕ) (d : FlowContext) (text : List ℕ) where
     pub gap : Option Sep
     pub passes : read_gap n (one_line d) follows ≡ (gap, rest text at)
     pub place : entry_start bracket w.start + byte_len (entry_text entry) + byte_len (gap_text gap) ≡ at
-    pub written : Appended text w.kept events (bracket_front bracket w.start ++ entry_events entry bracket.in_seq (entry_start bracket w.start))
+    pub written : Appended text w.kept events (bracket_prefix bracket w.start ++ entry_events entry bracket.in_seq (entry_start bracket w.start))
     pub reads : w.reads ≡ close_with bracket (entries_of n d bracket.in_seq entry follows)
 
   -- the gap after an opening bracket or a comma is to be passed
@@ -253,7 +269,7 @@ module _ (n : ℕ) (d : FlowContext) (text : List ℕ) where
     pub bracket : Bracket
     pub kind : bracket.in_seq ≡ in_seq
     pub place : at + byte_len (gap_text (read_gap n (one_line d) (rest text at)).0) ≡ entry_start bracket w.start
-    pub written : Appended text w.kept events (bracket_front bracket w.start)
+    pub written : Appended text w.kept events (bracket_prefix bracket w.start)
     pub reads : w.reads ≡ close_with bracket
         (flow_entries_at n d bracket.in_seq (starts_line false (gap_text (read_gap n (one_line d) (rest text at)).0)) (closer bracket.in_seq)
         (read_gap n (one_line d) (rest text at)).1)
@@ -266,6 +282,7 @@ module _ (n : ℕ) (d : FlowContext) (text : List ℕ) where
     pub written : Appended text w.kept events (flow_events node w.start)
     pub reads : w.reads ≡ Some (node, rest text end)
 
+  -- how far the collection is, by what is next
   abbrev pub Stands : Collection → Open → Next → EventList → Type 0
   Stands w top (Entry at) events = AtEntry w top.in_seq at events
   Stands w top (Node at) events = AtNode w top at events
@@ -281,12 +298,14 @@ module _ (n : ℕ) (d : FlowContext) (text : List ℕ) where
     pub count : length inner.kept ≡ top.before
     pub node : inner.reads ≡ flow_node_at n d (line_starts text inner.start) (rest text inner.start)
 
-  -- the collections around the inner one, of which the last is the whole, and the code's frames, of which the first is the outermost
+  -- the collections around the inner one, of which the last is the whole, and the code's frames, of which the first is
+  -- the outermost
   abbrev pub Stack : Collection → List Collection → List Open → Collection → Type 0
   Stack whole [] opens inner = (opens ≡ []) × (inner ≡ whole)
   Stack whole (outer ∷ around) opens inner =
-      (front : List Open) × (top : Open) × (opens ≡ front ++ top ∷ []) × Around inner top outer × Stack whole around front outer
+      (prefix : List Open) × (top : Open) × (opens ≡ prefix ++ top ∷ []) × Around inner top outer × Stack whole around prefix outer
 
+  -- the open brackets around the innermost one wait for it
   pub record Waits (whole : Collection) (opens : List Open) (top : Open) (next : Next) (events : EventList) : Type 0 where
     pub inner : Collection
     pub around : List Collection
@@ -322,7 +341,7 @@ abbrev pub absent_events : Bool → Bool → ℕ → List Event
 absent_events true in_seq end = []
 absent_events false in_seq end = omitted_at end ++ pair_end in_seq
 
--- no break stands between the key's start and its `:`, and at most 1,024 characters do
+-- no break and at most 1,024 characters are between the key's start and its `:`
 abbrev pub fits_single : List ℕ → ℕ → ℕ → ℕ → Bool
 fits_single text line start colon = nat_le line start && nat_le (length (between text start colon)) 1024
 
@@ -331,6 +350,7 @@ pub record BeganPair (text : List ℕ) (top : Open) (line colon : ℕ) (old new 
   pub single : is_single top ≡ true → (fits_single text line top.start colon ≡ true) × (new ≡ insert old top.before MapStart)
   pub other : is_single top ≡ false → new ≡ old
 
+-- a single pair whose key is too long, or over several lines
 abbrev pub NoPair : List ℕ → Open → ℕ → ℕ → Type 0
 NoPair text top line colon = (is_single top ≡ true) × (fits_single text line top.start colon ≡ false)
 

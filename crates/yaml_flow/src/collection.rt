@@ -6,7 +6,7 @@ ghost use Rattle.yaml_grammar.specs.Texts.{first};
 ghost use Rattle.yaml_grammar.specs.FlowScalars.{inside};
 ghost use Rattle.yaml_grammar.specs.FlowNodes.{flow_events};
 ghost use Rattle.yaml_events.specs.Meant.{context_of, event_of, style_of};
-ghost use Rattle.yaml_events.specs.Places.{line_starts, Refuses};
+ghost use Rattle.yaml_events.specs.EventPlaces.{line_starts, Refuses};
 ghost use Rattle.yaml_recognizers.specs.FlowFrames.{closer};
 ghost use Rattle.yaml_flow.specs.FlowNodes.{Appended, FlowNodeRead, NoFlowNodeFound};
 ghost use Rattle.yaml_flow.specs.Frames.{Collection, Stack, Stands, Waits, AfterQuestion, AtEntry, EventList, Kept, Pushes, ends_plain, is_plain_style, AtNode, EntryRead, BeforeGap, IsBracket, LineMoves, Onward, Passes, bracket_start, bracket_end, left, opener, pair_start, place_of};
@@ -130,8 +130,10 @@ fn pass(text: &str, at: usize, setting: Setting, line: &mut usize) -> Result<Nex
     ensures stands { IfOk result (λ next. (w : Collection) (top : Open) (events : EventList)
         → BeforeGap setting.n (context_of setting.context) text.now w top.in_seq at events
         → Stands setting.n (context_of setting.context) text.now w top next events) }
-    ensures none { IfErr result (λ fault. Refuses fault ((w : Collection) (in_seq : Bool) (events : EventList)
-        → BeforeGap setting.n (context_of setting.context) text.now w in_seq at events → w.reads ≡ None)) }
+    ensures none { IfErr result (λ fault.
+        Refuses fault ((w : Collection) (in_seq : Bool) (events : EventList)
+        → BeforeGap setting.n (context_of setting.context) text.now w in_seq at events
+        → w.reads ≡ None)) }
 {
     let end = pass_gap(text, at, setting, line)?;
     Ok(Next::Entry { at: end })
@@ -151,10 +153,13 @@ fn entry(
     ensures less { IfOk result (λ next. left text.now next < 2 * (length text.now - at) + 1) }
     ensures line { IfOk result (λ next. LineMoves text.now line.old at line.new (place_of next)) }
     ensures stands { IfOk result (λ next. (w : Collection)
-        → AtEntry setting.n (context_of setting.context) text.now w top.old.in_seq at events.old
+        → AtEntry setting.n (context_of setting.context) text.now w top.old.in_seq at
+        events.old
         → Stands setting.n (context_of setting.context) text.now w top.new next events.new) }
     ensures none { IfErr result (λ fault. Refuses fault ((w : Collection)
-        → AtEntry setting.n (context_of setting.context) text.now w top.old.in_seq at events.old → w.reads ≡ None)) }
+        → AtEntry setting.n (context_of setting.context) text.now w top.old.in_seq at
+        events.old
+        → w.reads ≡ None)) }
     ensures kept { (k : ℕ) → Kept k events.old events.new }
 {
     if stands_at(text, at, closing(top.in_seq)) {
@@ -183,10 +188,12 @@ fn asked(
     ensures less { IfOk result (λ next. left text.now next ≤ 2 * (length text.now - at)) }
     ensures line { IfOk result (λ next. LineMoves text.now line.old at line.new (place_of next)) }
     ensures stands { IfOk result (λ next. (w : Collection)
-        → AfterQuestion setting.n (context_of setting.context) text.now w top.old.in_seq at events.old
+        → AfterQuestion setting.n (context_of setting.context) text.now w top.old.in_seq at
+        events.old
         → Stands setting.n (context_of setting.context) text.now w top.new next events.new) }
     ensures none { IfErr result (λ fault. Refuses fault ((w : Collection)
-        → AfterQuestion setting.n (context_of setting.context) text.now w top.old.in_seq at events.old → w.reads ≡ None)) }
+        → AfterQuestion setting.n (context_of setting.context) text.now w top.old.in_seq at
+        events.old → w.reads ≡ None)) }
     ensures kept { (k : ℕ) → Kept k events.old events.new }
 {
     let key = pass_gap(text, at, setting, line)?;
@@ -228,7 +235,8 @@ fn after_entry(
         → EntryRead setting.n (context_of setting.context) text.now w top.in_seq at events.old
         → Stands setting.n (context_of setting.context) text.now w top next events.new) }
     ensures none { IfErr result (λ fault. Refuses fault ((w : Collection)
-        → EntryRead setting.n (context_of setting.context) text.now w top.in_seq at events.old → w.reads ≡ None)) }
+        → EntryRead setting.n (context_of setting.context) text.now w top.in_seq at events.old
+        → w.reads ≡ None)) }
     ensures kept { (k : ℕ) → Kept k events.old events.new }
 {
     if stands_at(text, at, b',') {
@@ -255,7 +263,8 @@ pub(crate) fn bracket_at(text: &str, at: usize) -> Option<bool>
     requires { IsCharBoundary text.now at }
     ensures found { IfSome result (IsBracket text.now at) }
     ensures none { IfNone result
-        ((first (λ x. x == 91) (rest text.now at) ≡ false) × (first (λ x. x == 123) (rest text.now at) ≡ false)) }
+        ((first (λ x. x == 91) (rest text.now at) ≡ false)
+        × (first (λ x. x == 123) (rest text.now at) ≡ false)) }
 {
     if stands_at(text, at, b'[') {
         return Some(true);
@@ -315,9 +324,11 @@ fn node<'a>(
     ensures stands { IfOk result (λ next. (whole inner : Collection) (around : List Collection)
         → Stack setting.n (context_of setting.context) text.now whole around outer.old.items inner
         → AtNode setting.n (context_of setting.context) text.now inner top.old at events.old
-        → Waits setting.n (context_of setting.context) text.now whole outer.new.items top.new next events.new) }
+        → Waits setting.n (context_of setting.context) text.now whole outer.new.items top.new next
+        events.new) }
     ensures none { IfErr result (λ fault. Refuses fault ((w : Collection)
-        → AtNode setting.n (context_of setting.context) text.now w top.old at events.old → w.reads ≡ None)) }
+        → AtNode setting.n (context_of setting.context) text.now w top.old at events.old
+        → w.reads ≡ None)) }
     ensures kept { (k : ℕ) → Kept k events.old events.new }
 {
     if at == text.len() {
@@ -349,13 +360,16 @@ fn scalar<'a>(
     requires no_map { first (λ x. x == 123) (rest text.now top.old.start) ≡ false }
     requires inside { inside (context_of setting.context) ≡ context_of setting.context }
     ensures onward { IfOk result (Onward text.now top.old.start) }
-    ensures less { IfOk result (λ next. left text.now next < 2 * (length text.now - top.old.start)) }
-    ensures line { IfOk result (λ next. LineMoves text.now line.old top.old.start line.new (place_of next)) }
+    ensures less { IfOk result (λ next.
+        left text.now next < 2 * (length text.now - top.old.start)) }
+    ensures line { IfOk result (λ next.
+        LineMoves text.now line.old top.old.start line.new (place_of next)) }
     ensures stands { IfOk result (λ next. (w : Collection)
         → AtNode setting.n (context_of setting.context) text.now w top.old top.old.start events.old
         → Stands setting.n (context_of setting.context) text.now w top.new next events.new) }
     ensures none { IfErr result (λ fault. Refuses fault ((w : Collection)
-        → AtNode setting.n (context_of setting.context) text.now w top.old top.old.start events.old → w.reads ≡ None)) }
+        → AtNode setting.n (context_of setting.context) text.now w top.old top.old.start events.old
+        → w.reads ≡ None)) }
     ensures kept { (k : ℕ) → Kept k events.old events.new }
 {
     let start = top.start;
@@ -391,8 +405,10 @@ pub(crate) fn collection<'a>(
 ) -> Result<usize, ScanFault>
     requires at { IsCharBoundary text.now at }
     requires bracket { IsBracket text.now at in_seq }
-    ensures found { IfOk result (λ end. FlowNodeRead n (context_of c) text.now at end events.old events.new) }
-    ensures none { IfErr result (λ fault. Refuses fault (NoFlowNodeFound n (context_of c) text.now at)) }
+    ensures found { IfOk result (λ end.
+        FlowNodeRead n (context_of c) text.now at end events.old events.new) }
+    ensures none { IfErr result (λ fault.
+        Refuses fault (NoFlowNodeFound n (context_of c) text.now at)) }
     ensures kept { (k : ℕ) → Kept k events.old events.new }
 {
     let setting = Setting {

@@ -3,7 +3,7 @@ ghost use Rattle.std.specs.Prelude.{◌≡◌, ℕ, IfOk, IfErr};
 ghost use Rattle.std.specs.Str.{IsCharBoundary};
 ghost use Rattle.yaml_chars.specs.Places.{rest};
 ghost use Rattle.yaml_events.specs.Meant.{context_of};
-ghost use Rattle.yaml_events.specs.Places.{line_starts, Refuses};
+ghost use Rattle.yaml_events.specs.EventPlaces.{line_starts, Refuses};
 ghost use Rattle.yaml_recognizers.specs.StandingNodes.{NoFlowNode};
 ghost use Rattle.yaml_flow.specs.FlowNodes.{FlowNodeRead, FlowNodeIs, NoFlowNodeFound};
 ghost use Rattle.yaml_flow.specs.Frames.{Kept};
@@ -31,11 +31,15 @@ pub fn flow_node<'a>(
     c: FlowContext,
 ) -> Result<usize, ScanFault>
     requires { IsCharBoundary text.now at }
-    ensures reads { IfOk result (λ end. FlowNodeRead n (context_of c) text.now at end events.old events.new) }
-    ensures only { IfOk result (λ end. FlowNodeIs n (context_of c) text.now at end events.old events.new) }
-    ensures missing { IfErr result (λ fault. Refuses fault (NoFlowNodeFound n (context_of c) text.now at)) }
+    ensures reads { IfOk result (λ end.
+        FlowNodeRead n (context_of c) text.now at end events.old events.new) }
+    ensures only { IfOk result (λ end.
+        FlowNodeIs n (context_of c) text.now at end events.old events.new) }
+    ensures missing { IfErr result (λ fault.
+        Refuses fault (NoFlowNodeFound n (context_of c) text.now at)) }
     ensures none { IfErr result
-        (λ fault. Refuses fault (NoFlowNode n (context_of c) (line_starts text.now at) (rest text.now at))) }
+        (λ fault. Refuses fault (NoFlowNode n (context_of c) (line_starts text.now at)
+        (rest text.now at))) }
     ensures unchanged { IfErr result (λ _. events.new ≡ events.old) }
 {
     flow_node_stands();
@@ -60,8 +64,10 @@ fn read_node<'a>(
     c: FlowContext,
 ) -> Result<usize, ScanFault>
     requires { IsCharBoundary text.now at }
-    ensures reads { IfOk result (λ end. FlowNodeRead n (context_of c) text.now at end events.old events.new) }
-    ensures missing { IfErr result (λ fault. Refuses fault (NoFlowNodeFound n (context_of c) text.now at)) }
+    ensures reads { IfOk result (λ end.
+        FlowNodeRead n (context_of c) text.now at end events.old events.new) }
+    ensures missing { IfErr result (λ fault.
+        Refuses fault (NoFlowNodeFound n (context_of c) text.now at)) }
     ensures kept { (k : ℕ) → Kept k events.old events.new }
 {
     if let Some(in_seq) = bracket_at(text, at) {

@@ -6,7 +6,7 @@ ghost use Rattle.yaml_grammar.specs.Texts.{first};
 ghost use Rattle.yaml_grammar.specs.FlowScalars.{inside};
 ghost use Rattle.yaml_grammar.specs.FlowNodes.{Flow, flow_text, short_key};
 ghost use Rattle.yaml_events.specs.Meant.{context_of};
-ghost use Rattle.yaml_events.specs.Places.{line_starts, Refuses};
+ghost use Rattle.yaml_events.specs.EventPlaces.{line_starts, Refuses};
 ghost use Rattle.yaml_recognizers.specs.Ends.{is_colon};
 ghost use Rattle.yaml_recognizers.specs.FlowNodes.{ends_entry};
 ghost use Rattle.yaml_flow.specs.FlowNodes.{Appended};
@@ -24,7 +24,8 @@ pub const KEY_LIMIT: usize = 1024;
 
 /// A key is short where with the white space before its `:` it has at most [`KEY_LIMIT`] characters.
 pub fn key_limit()
-    ensures { (key : Flow) (gap : List ℕ) → short_key key gap ≡ nat_le (length (flow_text key ++ gap)) KEY_LIMIT }
+    ensures { (key : Flow) (gap : List ℕ) → short_key key gap
+        ≡ nat_le (length (flow_text key ++ gap)) KEY_LIMIT }
 {}
 
 /// Goes on after the node that the innermost bracket waited for, which ends here.
@@ -51,7 +52,8 @@ pub(crate) fn plug(
         → NodeRead setting.n (context_of setting.context) text.now w top.old node_end end events.old
         → Stands setting.n (context_of setting.context) text.now w top.new next events.new) }
     ensures none { IfErr result (λ fault. Refuses fault ((w : Collection)
-        → NodeRead setting.n (context_of setting.context) text.now w top.old node_end end events.old → w.reads ≡ None)) }
+        → NodeRead setting.n (context_of setting.context) text.now w top.old node_end end events.old
+        → w.reads ≡ None)) }
     ensures kept { (k : ℕ) → k ≤ top.old.before → Kept k events.old events.new }
 {
     let after = pass_gap(text, end, setting, line)?;
@@ -121,7 +123,8 @@ fn without_value(
 ) -> Result<Next, ScanFault>
     ensures next { IfOk result (λ next. next ≡ AfterEntry after) }
     ensures written { OnOk result
-        ((text : List ℕ) → Appended text events.old events.new (absent_events (is_single top) top.in_seq end)) }
+        ((text : List ℕ) → Appended text events.old events.new
+        (absent_events (is_single top) top.in_seq end)) }
     ensures none { IfErr result (λ fault. Refuses fault ⊥) }
     ensures kept { (k : ℕ) → Kept k events.old events.new }
 {
@@ -172,12 +175,15 @@ fn value(
     requires stands { first (λ x. x == 58) (rest text.now colon) ≡ true }
     ensures onward { IfOk result (Onward text.now colon) }
     ensures less { IfOk result (λ next. left text.now next < 2 * (length text.now - colon)) }
-    ensures line { IfOk result (λ next. LineMoves text.now line.old colon line.new (place_of next)) }
+    ensures line { IfOk result (λ next.
+        LineMoves text.now line.old colon line.new (place_of next)) }
     ensures stands { IfOk result (λ next. (w : Collection)
-        → AtColon setting.n (context_of setting.context) text.now w top.old.in_seq key_end colon events.old
+        → AtColon setting.n (context_of setting.context) text.now w top.old.in_seq key_end colon
+        events.old
         → Stands setting.n (context_of setting.context) text.now w top.new next events.new) }
     ensures none { IfErr result (λ fault. Refuses fault ((w : Collection)
-        → AtColon setting.n (context_of setting.context) text.now w top.old.in_seq key_end colon events.old → w.reads ≡ None)) }
+        → AtColon setting.n (context_of setting.context) text.now w top.old.in_seq key_end colon
+        events.old → w.reads ≡ None)) }
     ensures kept { (k : ℕ) → Kept k events.old events.new }
 {
     let at = pass_gap(text, colon + 1, setting, line)?;
@@ -193,7 +199,8 @@ fn value(
 /// there is no gap after a plain key's `:`.
 fn is_left_out(text: &str, start: usize, at: usize, key_end: NodeEnd) -> bool
     requires { IsCharBoundary text.now at }
-    ensures { result ≡ (ends_entry (rest text.now at) || (ends_plain key_end && not (nat_lt start at))) }
+    ensures { result ≡ (ends_entry (rest text.now at) || (ends_plain key_end
+        && not (nat_lt start at))) }
 {
     if entry_ends(text, at) {
         return true;

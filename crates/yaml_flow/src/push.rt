@@ -2,7 +2,7 @@
 ghost use Rattle.std.specs.Prelude.{◌≡◌, ℕ, ◌≤◌, List, [], ◌∷◌, ◌++◌, length, insert, OnOk, IfErr};
 ghost use Rattle.yaml_grammar.specs.Events.{scalar_event, omitted_style};
 ghost use Rattle.yaml_events.specs.Meant.{event_of};
-ghost use Rattle.yaml_events.specs.Places.{Refuses};
+ghost use Rattle.yaml_events.specs.EventPlaces.{Refuses};
 ghost use Rattle.yaml_flow.specs.Frames.{Kept};
 ghost use Rattle.yaml_events.specs.Borrowed.{BorrowsPlain};
 

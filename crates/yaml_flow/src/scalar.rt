@@ -3,9 +3,9 @@ ghost use Rattle.std.specs.Prelude.{◌≡◌, ◌≤◌, true, not, IfOk, IfErr
 ghost use Rattle.std.specs.Cow.{IsBorrowedStr};
 ghost use Rattle.std.specs.Str.{IsCharBoundary};
 ghost use Rattle.yaml_events.specs.Meant.{context_of};
-ghost use Rattle.yaml_events.specs.Places.{Refuses};
+ghost use Rattle.yaml_events.specs.EventPlaces.{Refuses};
 ghost use Rattle.yaml_flow.specs.FlowNodes.{FlowScalarRead, NoFlowScalar, scalar_event_at};
-ghost use Rattle.yaml_scan.specs.Places.{unbroken_between};
+ghost use Rattle.yaml_scan.specs.ScanPlaces.{unbroken_between};
 
 use std::alloc::Global;
 use std::borrow::CowStr;
@@ -46,7 +46,8 @@ impl<'a> FlowScalar<'a> {
         requires order { start ≤ self.now.end }
         requires from { IsCharBoundary text.now start }
         requires to { IsCharBoundary text.now self.now.end }
-        requires unbroken { IsBorrowedStr self.now.value → unbroken_between text.now start self.now.end ≡ true }
+        requires unbroken { IsBorrowedStr self.now.value
+            → unbroken_between text.now start self.now.end ≡ true }
         ensures { result ≡ not (unbroken_between text.now start self.now.end) }
     {
         match &self.value {
@@ -72,7 +73,8 @@ pub fn scalar_at<'a>(
 ) -> Result<FlowScalar<'a>, ScanFault>
     requires { IsCharBoundary text.now at }
     ensures found { IfOk result (FlowScalarRead n (context_of c) text.now at) }
-    ensures none { IfErr result (λ fault. Refuses fault (NoFlowScalar n (context_of c) text.now at)) }
+    ensures none { IfErr result (λ fault.
+        Refuses fault (NoFlowScalar n (context_of c) text.now at)) }
 {
     if stands_at(text, at, b'"') {
         let (value, end) = double(alloc, text, at, n, c)?;

@@ -1,4 +1,5 @@
--- What the scanner of double-quoted scalars adds to its value, a run of characters, an escape or a join at a time, and that it refuses rightly.
+-- What the scanner of double-quoted scalars adds to its value, a run of characters, an escape or a join at a time, and
+-- that it refuses rightly.
 use Rattle.std.proofs.Common.{◌≡◌, ℕ, zero, suc, ◌+◌, ◌<◌, Bool, true, false, ◌&&◌, List, [], ◌∷◌, ◌++◌, refl, ap, sym, ◌∙◌, subst, arith, length, inl, inr, get_or, append-nil, append_assoc, Some, None}
 use Rattle.std.specs.Prelude.{◌==◌, is_some, if◌then◌else◌, slice_range}
 use Rattle.std.specs.Char.{encode_utf8}
@@ -17,25 +18,25 @@ use Rattle.yaml_grammar.specs.Texts.{every, first}
 use Rattle.yaml_grammar.specs.Separation.{Break, lf, cr, cr_lf, break_text}
 use Rattle.yaml_grammar.specs.FlowScalars.{FlowContext, one_line, line_feeds, folded_break}
 use Rattle.yaml_recognizers.specs.Comments.{read_break}
-use Rattle.yaml_recognizers.specs.Fronts.{past}
+use Rattle.yaml_recognizers.specs.Prefixes.{past}
 use Rattle.yaml_recognizers.specs.Reading.{Read}
 use Rattle.yaml_recognizers.specs.Joins.{Join, at_break, read_join}
 use Rattle.yaml_recognizers.specs.QuotedScalars.{read_held, read_item, double_closes}
-use Rattle.yaml_recognizers.specs.QuotedSteps.{with_front, join_value}
-use Rattle.yaml_recognizers.proofs.Blanks.{white_at_break, no_white_at_break}
-use Rattle.yaml_recognizers.proofs.Breaks.{BreakOf, break_sound, break_some, unbroken}
-use Rattle.yaml_recognizers.proofs.Reading.{sound_is}
-use Rattle.yaml_recognizers.proofs.Joins.{unescaped_read}
-use Rattle.yaml_recognizers.proofs.JoinSteps.{step_escaped, no_break}
+use Rattle.yaml_recognizers.specs.QuotedSteps.{with_prefix, join_value}
+use Rattle.yaml_recognizers.proofs.Basics.Blanks.{white_at_break, no_white_at_break}
+use Rattle.yaml_recognizers.proofs.Basics.Breaks.{BreakOf, break_sound, break_some, unbroken}
+use Rattle.yaml_recognizers.proofs.Basics.Reading.{sound_is}
+use Rattle.yaml_recognizers.proofs.Scalars.Joins.{unescaped_read}
+use Rattle.yaml_recognizers.proofs.Scalars.JoinSteps.{step_escaped, no_break}
 use Rattle.yaml_flow_scalars.specs.Folds.{IsWhiteStart, IsFold, NoFold}
 use Rattle.yaml_flow_scalars.specs.DoubleScan.{double_value, raw_char, Adds, EscapeAt, NoEscapeAt, BeginsJoin, JoinsAt, NoJoinAt}
 use Rattle.yaml_flow_scalars.proofs.FoldSteps.{fold_solid}
 use Rattle.yaml_flow_scalars.proofs.DoublePlaces.{blind-raw_char, byte_read}
-use Rattle.yaml_flow_scalars.proofs.DoubleReads.{with_front-nil, raw_no_white, escaped_break, run_read, item_read, quote_read, end_read, stray_read, key_read, no_join_read, join_read, twice_read}
+use Rattle.yaml_flow_scalars.proofs.DoubleReads.{with_prefix-nil, raw_no_white, escaped_break, run_read, item_read, quote_read, end_read, stray_read, key_read, no_join_read, join_read, twice_read}
 
 -- ---- characters
 
--- an ASCII character stands at a place only where its byte does
+-- an ASCII character is at a place only where its byte is
 pub no_char : (bs : List ℕ) (i x k : ℕ) → IsCharAt bs i x → k < 128 → (get_or bs i 0 ≡ k → ⊥) → x == k ≡ false
 no_char bs i x k at a h = ne_eqb x k (λ e. elim (cases_lt (get_or bs i 0) 128) [
   | inl l ↦ h (sym (at.low l) ∙ e)
@@ -44,31 +45,32 @@ no_char bs i x k at a h = ne_eqb x k (λ e. elim (cases_lt (get_or bs i 0) 128) 
 
 -- ---- what is added
 
-with_front-with_front : (xs ys : List ℕ) (r : Read (List ℕ)) → with_front xs (with_front ys r) ≡ with_front (xs ++ ys) r
-with_front-with_front xs ys None = refl
-with_front-with_front xs ys (Some r) = ap (λ (v : List ℕ). Some (v, r.1)) (sym (append_assoc xs ys r.0))
+with_prefix-with_prefix : (xs ys : List ℕ) (r : Read (List ℕ)) → with_prefix xs (with_prefix ys r) ≡ with_prefix (xs ++ ys) r
+with_prefix-with_prefix xs ys None = refl
+with_prefix-with_prefix xs ys (Some r) = ap (λ (v : List ℕ). Some (v, r.1)) (sym (append_assoc xs ys r.0))
 
 module _ (n : ℕ) (c : FlowContext) (text : List ℕ) where
   -- bytes that spell what the text between the places means
-  pub adds : (old piece new : List ℕ) (from to : ℕ) → IsUtf8 old → IsCharBoundary text to → double_value n c (rest text from) ≡ with_front (chars piece) (double_value n c (rest text to))
+  pub adds : (old piece new : List ℕ) (from to : ℕ) → IsUtf8 old → IsCharBoundary text to → double_value n c (rest text from) ≡ with_prefix (chars piece) (double_value n c (rest text to))
       → new ≡ old ++ piece → Adds n c text old from new to
   adds old piece new from to u b h e =
       let later : Read (List ℕ) = double_value n c (rest text to) in
       record {
         boundary = b;
-        means = ap (λ (v : List ℕ). with_front v later) (ap chars e ∙ chars-append old piece u)
-            ∙ (sym (with_front-with_front (chars old) (chars piece) later) ∙ ap (with_front (chars old)) (sym h));
+        means = ap (λ (v : List ℕ). with_prefix v later) (ap chars e ∙ chars-append old piece u)
+            ∙ (sym (with_prefix-with_prefix (chars old) (chars piece) later) ∙ ap (with_prefix (chars old)) (sym h));
       }
 
+  -- what is added, and then more
   pub adds_more : (old : List ℕ) (from : ℕ) (mid : List ℕ) (place : ℕ) (new : List ℕ) (to : ℕ) → Adds n c text old from mid place → Adds n c text mid place new to
       → Adds n c text old from new to
   adds_more old from mid place new to h g = record { boundary = g.boundary; means = g.means ∙ h.means }
 
-  -- where nothing can be read behind what was added, nothing can be read from the front on
+  -- where nothing can be read after what was added, nothing can be read from the start on
   pub adds_none : (old : List ℕ) (from : ℕ) (new : List ℕ) (to : ℕ) → Adds n c text old from new to → double_value n c (rest text to) ≡ None → double_value n c (rest text from) ≡ None
-  adds_none old from new to h e = frontless (chars old) (double_value n c (rest text from)) (sym h.means ∙ ap (with_front (chars new)) e)
+  adds_none old from new to h e = frontless (chars old) (double_value n c (rest text from)) (sym h.means ∙ ap (with_prefix (chars new)) e)
     where
-      frontless : (xs : List ℕ) (r : Read (List ℕ)) → with_front xs r ≡ None → r ≡ None
+      frontless : (xs : List ℕ) (r : Read (List ℕ)) → with_prefix xs r ≡ None → r ≡ None
       frontless xs None e = refl
       frontless xs (Some r) e = cc
 
@@ -78,7 +80,7 @@ module _ (n : ℕ) (c : FlowContext) (text : List ℕ) where
     run_all : list_all raw_char (between text from end) ≡ true
     run_all = list_all-from_AllPass raw_char (between text from end) run.passes
 
-    -- no white stands behind it, since white stands for itself
+    -- no white comes after it, since white means itself
     pub run_at_break : at_break (rest text end) ≡ first line_break (rest text end)
     run_at_break = no_white_at_break (rest text end) (by_text (rest text end) refl)
       where
@@ -86,11 +88,12 @@ module _ (n : ℕ) (c : FlowContext) (text : List ℕ) where
         by_text [] e = refl
         by_text (x ∷ xs) e = raw_no_white x (run_stops raw_char text from end x xs blind-raw_char u run e)
 
-    run_value : at_break (rest text end) ≡ false → double_value n c (rest text from) ≡ with_front (between text from end) (double_value n c (rest text end))
+    run_value : at_break (rest text end) ≡ false → double_value n c (rest text from) ≡ with_prefix (between text from end) (double_value n c (rest text end))
     run_value a =
         ap (double_value n c) (rest-between text from end u run.above b run.boundary)
         ∙ run_read n c (between text from end) (rest text end) run_all (λ _. a)
 
+    -- a run of characters is added as it is
     pub run_adds : (old new : List ℕ) → IsUtf8 old → at_break (rest text end) ≡ false → new ≡ old ++ slice_range text from end → Adds n c text old from new end
     run_adds old new v a e = adds old (slice_range text from end) new from end v run.boundary (run_value a) e
 
@@ -104,10 +107,10 @@ module _ (n : ℕ) (c : FlowContext) (text : List ℕ) where
         (ap (double_value n c) (rest-between text from start u w.above b w.boundary)
         ∙ run_read n c (between text from start) (rest text start) both.0 (λ i. absurd (false≢true (sym w.black ∙ i)))) e
 
-    -- where neither a quote, a backslash nor a break stands behind it
+    -- where neither a quote, a backslash nor a break comes after it
     pub run_stray : (end < length text → get_or text end 0 ≡ 34 → ⊥) → (end < length text → get_or text end 0 ≡ 92 → ⊥) → first line_break (rest text end) ≡ false
         → double_value n c (rest text from) ≡ None
-    run_stray q s f = run_value (run_at_break ∙ f) ∙ ap (with_front (between text from end)) stray
+    run_stray q s f = run_value (run_at_break ∙ f) ∙ ap (with_prefix (between text from end)) stray
       where
         stray : double_value n c (rest text end) ≡ None
         stray = elim (cases_lt end (length text)) [
@@ -121,6 +124,7 @@ module _ (n : ℕ) (c : FlowContext) (text : List ℕ) where
 
 -- ---- escapes
 
+-- an escape adds the character that it means
 pub escape_adds : (n : ℕ) (c : FlowContext) (text old new : List ℕ) (at meant end : ℕ) → IsUtf8 text → at < length text → get_or text at 0 ≡ 92 → IsUtf8 old
     → EscapeAt text at meant end → new ≡ old ++ encode_utf8 meant → Adds n c text old at new end
 escape_adds n c text old new at meant end u l b v h e =
@@ -128,10 +132,11 @@ escape_adds n c text old new at meant end u l b v h e =
     let one : chars (encode_utf8 meant) ≡ meant ∷ [] = ap chars (sym (append-nil (encode_utf8 meant))) ∙ chars-encodes (meant ∷ []) (and_from _ _ h.scalar refl) in
     adds n c text old (encode_utf8 meant) new at end v h.boundary
     (item_read n c (rest text at) h.item (rest text end) (ap at_break there) h.found
-    ∙ ap (λ (xs : List ℕ). with_front xs (double_value n c (rest text end))) (ap (λ x. x ∷ []) h.means ∙ sym one)) e
+    ∙ ap (λ (xs : List ℕ). with_prefix xs (double_value n c (rest text end))) (ap (λ x. x ∷ []) h.means ∙ sym one)) e
 
 -- ---- where joins begin
 
+-- a backslash before a break starts a join
 pub begins_escaped : (n : ℕ) (text : List ℕ) (at : ℕ) → IsUtf8 text → at < length text → get_or text at 0 ≡ 92 → NoEscapeAt text at → BeginsJoin n (rest text at) true [] (rest text (at + 1))
 unfolding read_held double_closes
 begins_escaped n text at u l b h =
@@ -142,29 +147,30 @@ begins_escaped n text at u l b h =
       join = ap (read_join true n) there ∙ step_escaped n (rest text (at + 1));
     }
 
-white_open : (blank : List ℕ) (b : Break) (behind : List ℕ) → every white blank ≡ true → double_closes (blank ++ (break_text b ++ behind)) ≡ false
+white_open : (blank : List ℕ) (b : Break) (after : List ℕ) → every white blank ≡ true → double_closes (blank ++ (break_text b ++ after)) ≡ false
 unfolding double_closes
-white_open [] lf behind h = refl
-white_open [] cr behind h = refl
-white_open [] cr_lf behind h = refl
-white_open (x ∷ xs) b behind h = white_no_quote x (and_parts _ _ h).0
+white_open [] lf after h = refl
+white_open [] cr after h = refl
+white_open [] cr_lf after h = refl
+white_open (x ∷ xs) b after h = white_no_quote x (and_parts _ _ h).0
   where
     white_no_quote : (y : ℕ) → white y ≡ true → y == 34 ≡ false
     white_no_quote y i = grind (arith, nat_tests)
 
-broken : (b : Break) (behind : List ℕ) → at_break (break_text b ++ behind) ≡ true
-broken lf behind = refl
-broken cr behind = refl
-broken cr_lf behind = refl
+broken : (b : Break) (after : List ℕ) → at_break (break_text b ++ after) ≡ true
+broken lf after = refl
+broken cr after = refl
+broken cr_lf after = refl
 
-begins_at : (n : ℕ) (blank behind : List ℕ) (b : Break) (rest : List ℕ) → every white blank ≡ true → behind ≡ break_text b ++ rest → BeginsJoin n (blank ++ behind) false blank behind
+begins_at : (n : ℕ) (blank after : List ℕ) (b : Break) (rest : List ℕ) → every white blank ≡ true → after ≡ break_text b ++ rest → BeginsJoin n (blank ++ after) false blank after
 unfolding read_held
-begins_at n blank behind b rest h e = subst (λ (t : List ℕ). BeginsJoin n (blank ++ t) false blank t) (sym e) (record {
+begins_at n blank after b rest h e = subst (λ (t : List ℕ). BeginsJoin n (blank ++ t) false blank t) (sym e) (record {
   held = cond-true (at_break (blank ++ (break_text b ++ rest))) None (read_item (blank ++ (break_text b ++ rest))) (white_at_break blank _ h ∙ broken b rest);
   open_still = white_open blank b rest h;
   join = unescaped_read true n blank b rest h;
 })
 
+-- so does whitespace before a break
 pub begins_white : (n : ℕ) (text : List ℕ) (from start end : ℕ) → IsUtf8 text → IsCharBoundary text end → IsWhiteStart text from start end → first line_break (rest text end) ≡ true
     → BeginsJoin n (rest text start) false (between text start end) (rest text end)
 begins_white n text from start end u d w f =
@@ -180,11 +186,12 @@ begins_white n text from start end u d w f =
 
 -- ---- joins
 
--- whether a second join stands there
+-- whether a second join is there
 pub two_joins : (text : List ℕ) (at : ℕ) → IsUtf8 text → at < length text → get_or text at 0 ≡ 92 → (f : Bool) → f ≡ first line_break (rest text (at + 1)) → escaped_break (rest text at) ≡ f
 unfolding escaped_break
 two_joins text at u l b f e = ap (λ (t : List ℕ). first (λ x. x == 92) t && first line_break (past t)) (byte_read text at 92 u l b (omega arith)) ∙ sym e
 
+-- no second join starts at another character
 pub no_second : (text : List ℕ) (at : ℕ) → IsUtf8 text → IsCharBoundary text at → (at < length text → get_or text at 0 ≡ 92 → ⊥) → escaped_break (rest text at) ≡ false
 unfolding escaped_break
 no_second text at u b h = elim (cases_lt at (length text)) [
@@ -194,26 +201,31 @@ no_second text at u b h = elim (cases_lt at (length text)) [
 ]
 
 module _ (n : ℕ) (c : FlowContext) (text : List ℕ) (at : ℕ) where
+  -- without a break there is no join
   pub unbroken_refused : first line_break (rest text at) ≡ false → NoJoinAt n c text at
-  unbroken_refused f escaped front blank b = no_join_read n c front escaped blank (rest text at) b (no_break escaped n blank (rest text at) (unbroken (rest text at) f))
+  unbroken_refused f escaped prefix blank b = no_join_read n c prefix escaped blank (rest text at) b (no_break escaped n blank (rest text at) (unbroken (rest text at) f))
 
+  -- nor in a key
   pub key_refused : one_line c ≡ true → NoJoinAt n c text at
-  key_refused k escaped front blank b = key_read n c front escaped blank (rest text at) b k
+  key_refused k escaped prefix blank b = key_read n c prefix escaped blank (rest text at) b k
 
+  -- nor without a fold
   pub unfolded_refused : NoFold n text at → NoJoinAt n c text at
-  unfolded_refused h escaped front blank b = no_join_read n c front escaped blank (rest text at) b (h escaped blank)
+  unfolded_refused h escaped prefix blank b = no_join_read n c prefix escaped blank (rest text at) b (h escaped blank)
 
+  -- nor right after another join
   pub second_refused : (empties next : ℕ) → IsFold n text at empties next → one_line c ≡ false → escaped_break (rest text next) ≡ true → NoJoinAt n c text at
-  second_refused empties next fold k e escaped front blank b =
-      twice_read n c front escaped blank (rest text at) b (fold.join escaped blank) (rest text next) k (fold.found escaped blank) e
+  second_refused empties next fold k e escaped prefix blank b =
+      twice_read n c prefix escaped blank (rest text at) b (fold.join escaped blank) (rest text next) k (fold.found escaped blank) e
 
+  -- else there is one
   pub joins : (empties next : ℕ) → IsFold n text at empties next → one_line c ≡ false → escaped_break (rest text next) ≡ false → JoinsAt n c text at empties next
   joins empties next fold k e = record {
     above = fold.above;
     boundary = fold.boundary;
-    means = λ escaped front blank b.
-        join_read n c front escaped blank (rest text at) b (fold.join escaped blank) (rest text next) k (fold.found escaped blank) (fold_solid n text at empties next fold) e
-        ∙ ap (λ (v : List ℕ). with_front v (double_value n c (rest text next))) (join_means (fold.join escaped blank) escaped (fold.escapes escaped blank) (fold.counts escaped blank));
+    means = λ escaped prefix blank b.
+        join_read n c prefix escaped blank (rest text at) b (fold.join escaped blank) (rest text next) k (fold.found escaped blank) (fold_solid n text at empties next fold) e
+        ∙ ap (λ (v : List ℕ). with_prefix v (double_value n c (rest text next))) (join_means (fold.join escaped blank) escaped (fold.escapes escaped blank) (fold.counts escaped blank));
   }
     where
       join_means : (j : Join) (escaped : Bool) → j.escaped ≡ escaped → length j.empties ≡ empties → join_value j ≡ (if escaped then line_feeds empties else folded_break empties)
@@ -232,25 +244,28 @@ fold_chars zero = refl
 fold_chars (suc k) = feeds_chars (suc k)
 
 -- what a join adds, where the line before it ends
-module _ (n : ℕ) (c : FlowContext) (text : List ℕ) (front at empties next : ℕ) (j : JoinsAt n c text at empties next) (old new : List ℕ) (v : IsUtf8 old) where
-  pub escaped_join_adds : BeginsJoin n (rest text front) true [] (rest text at) → new ≡ old ++ line_feeds empties → Adds n c text old front new next
+module _ (n : ℕ) (c : FlowContext) (text : List ℕ) (prefix at empties next : ℕ) (j : JoinsAt n c text at empties next) (old new : List ℕ) (v : IsUtf8 old) where
+  -- a join with a backslash adds its line feeds
+  pub escaped_join_adds : BeginsJoin n (rest text prefix) true [] (rest text at) → new ≡ old ++ line_feeds empties → Adds n c text old prefix new next
   escaped_join_adds b e =
-      adds n c text old (line_feeds empties) new front next v j.boundary
-      (j.means true (rest text front) [] b ∙ ap (λ (xs : List ℕ). with_front xs (double_value n c (rest text next))) (sym (feeds_chars empties))) e
+      adds n c text old (line_feeds empties) new prefix next v j.boundary
+      (j.means true (rest text prefix) [] b ∙ ap (λ (xs : List ℕ). with_prefix xs (double_value n c (rest text next))) (sym (feeds_chars empties))) e
 
-  pub folded_join_adds : (blank : List ℕ) → BeginsJoin n (rest text front) false blank (rest text at) → new ≡ old ++ folded_break empties → Adds n c text old front new next
+  -- a join without one adds a space or its line feeds
+  pub folded_join_adds : (blank : List ℕ) → BeginsJoin n (rest text prefix) false blank (rest text at) → new ≡ old ++ folded_break empties → Adds n c text old prefix new next
   folded_join_adds blank b e =
-      adds n c text old (folded_break empties) new front next v j.boundary
-      (j.means false (rest text front) blank b ∙ ap (λ (xs : List ℕ). with_front xs (double_value n c (rest text next))) (sym (fold_chars empties))) e
+      adds n c text old (folded_break empties) new prefix next v j.boundary
+      (j.means false (rest text prefix) blank b ∙ ap (λ (xs : List ℕ). with_prefix xs (double_value n c (rest text next))) (sym (fold_chars empties))) e
 
 -- ---- the closing quote
 
+-- the closing quote ends the value
 pub closes : (n : ℕ) (c : FlowContext) (text : List ℕ) (start : ℕ) (value : List ℕ) (end : ℕ) → IsUtf8 text → Adds n c text [] start value end → end < length text → get_or text end 0 ≡ 34
     → double_value n c (rest text start) ≡ Some (chars value, rest text (end + 1))
 closes n c text start value end u h l q =
     let from : Read (List ℕ) = double_value n c (rest text start) in
-    let whole : from ≡ with_front (chars value) (double_value n c (rest text end)) =
-    sym (ap (λ (xs : List ℕ). with_front xs from) chars-nil ∙ with_front-nil from) ∙ sym h.means in
-    whole ∙ (ap (λ (t : List ℕ). with_front (chars value) (double_value n c t)) (byte_read text end 34 u l q (omega arith))
-    ∙ (ap (with_front (chars value)) (quote_read n c (rest text (end + 1)))
+    let whole : from ≡ with_prefix (chars value) (double_value n c (rest text end)) =
+    sym (ap (λ (xs : List ℕ). with_prefix xs from) chars-nil ∙ with_prefix-nil from) ∙ sym h.means in
+    whole ∙ (ap (λ (t : List ℕ). with_prefix (chars value) (double_value n c t)) (byte_read text end 34 u l q (omega arith))
+    ∙ (ap (with_prefix (chars value)) (quote_read n c (rest text (end + 1)))
     ∙ ap (λ (v : List ℕ). Some (v, rest text (end + 1))) (append-nil (chars value))))

@@ -1,4 +1,4 @@
--- A double-quoted scalar at a place of a text: where one stands, where none does, and which are borrowed.
+-- A double-quoted scalar at a place of a text: where there is one, where there is none, and which are borrowed.
 use Rattle.std.proofs.Common.{◌≡◌, ℕ, ◌+◌, ◌-◌, ◌<◌, ◌≤◌, true, false, List, [], ◌∷◌, refl, ap, sym, ◌∙◌, subst, arith, length, inl, inr, get_or, drop, length-take, length-drop, Some, None}
 use Rattle.std.specs.Prelude.{◌==◌, slice_range}
 use Rattle.std.specs.List.{AllPass}
@@ -15,8 +15,8 @@ use Rattle.yaml_grammar.specs.Events.{double_style}
 use Rattle.yaml_grammar.specs.FlowScalars.{FlowContext}
 use Rattle.yaml_recognizers.specs.Joins.{at_break}
 use Rattle.yaml_recognizers.specs.WholeScalars.{IsScalar, NoScalar}
-use Rattle.yaml_recognizers.proofs.Reading.{none_some}
-use Rattle.yaml_events.specs.Places.{line_starts}
+use Rattle.yaml_recognizers.proofs.Basics.Reading.{none_some}
+use Rattle.yaml_events.specs.EventPlaces.{line_starts}
 use Rattle.yaml_flow_scalars.specs.Standing.{ScalarAt, NoScalarAt}
 use Rattle.yaml_flow_scalars.specs.DoubleScan.{double_value, raw_char, ClosesAt}
 use Rattle.yaml_flow_scalars.specs.DoubleBorrowed.{is_verbatim}
@@ -27,8 +27,9 @@ use Rattle.yaml_flow_scalars.proofs.DoubleAdds.{no_char, run_adds, run_stray, cl
 module _ (n : ℕ) (c : FlowContext) (text : List ℕ) (u : IsUtf8 text) where
   -- ---- none
 
+  -- without a quote there is no scalar
   pub no_quote_at : (at : ℕ) → IsCharBoundary text at → (at < length text → get_or text at 0 ≡ 34 → ⊥) → NoScalarAt double_style n c text at
-  no_quote_at at b h s behind e = double_quoted_first n c (line_starts text at) (rest text at) s behind other e
+  no_quote_at at b h s after e = double_quoted_first n c (line_starts text at) (rest text at) s after other e
     where
       other : first (λ x. x == 34) (rest text at) ≡ false
       other = elim (cases_lt at (length text)) [
@@ -40,12 +41,14 @@ module _ (n : ℕ) (c : FlowContext) (text : List ℕ) (u : IsUtf8 text) where
     there : rest text at ≡ 34 ∷ rest text (at + 1)
     there = byte_read text at 34 u l q (omega arith)
 
-    pub none_behind : double_value n c (rest text (at + 1)) ≡ None → NoScalarAt double_style n c text at
-    none_behind h s behind e stands =
-        subst (λ (t : List ℕ). NoScalar n c (line_starts text at) t) (sym there) (double_missing n c (line_starts text at) (rest text (at + 1)) h) s behind stands
+    -- nor without a value after it
+    pub none_after : double_value n c (rest text (at + 1)) ≡ None → NoScalarAt double_style n c text at
+    none_after h s after e stands =
+        subst (λ (t : List ℕ). NoScalar n c (line_starts text at) t) (sym there) (double_missing n c (line_starts text at) (rest text (at + 1)) h) s after stands
 
     -- ---- one
 
+    -- with both there is one
     pub scalar_there : (value : List ℕ) (end : ℕ) → at < end → IsCharBoundary text end → double_value n c (rest text (at + 1)) ≡ Some (value, rest text end)
         → ScalarAt double_style n c text at value end
     scalar_there value end above b h = record {
@@ -62,13 +65,14 @@ module _ (n : ℕ) (c : FlowContext) (text : List ℕ) (u : IsUtf8 text) where
       closes n c text start (slice_range text start end) end u
       (run_adds n c text u start end b run [] (slice_range text start end) IsUtf8-nil (ap at_break (byte_read text end 34 u l q (omega arith))) refl) l q
 
-  -- ---- where the first run is not all, a break or a backslash stands between the quotes
+  -- ---- where the first run is not all, a break or a backslash is between the quotes
 
   byte_between : (start k end : ℕ) → start ≤ k → k < end → end ≤ length text → (k - start < length (slice_range text start end)) × (get_or (slice_range text start end) (k - start) 0 ≡ get_or text k 0)
   byte_between start k end above below within =
       let size : k - start < length (slice_range text start end) = omega (arith, length-take (end - start) (drop start text), length-drop start text) in
       (size, get_or-take (end - start) (drop start text) (k - start) 0 (omega arith) ∙ get_or-drop start text (k - start) 0 ∙ ap (λ x. get_or text x 0) (let e : start + (k - start) ≡ k = omega arith in e))
 
+  -- if a break or a backslash comes, the value is not the text
   pub not_verbatim : (start beyond : ℕ) (value : List ℕ) (end : ℕ) → IsCharBoundary text start → IsRun raw_char text start beyond → (beyond < length text → get_or text beyond 0 ≡ 34 → ⊥)
       → ClosesAt n c text start beyond value end → AllPass is_verbatim (slice_range text start (end - 1)) → ⊥
   not_verbatim start beyond value end b run open_still h verbatim =

@@ -15,18 +15,19 @@ use Rattle.yaml_chars.specs.Places.{rest, between, IsRun}
 use Rattle.yaml_chars.proofs.Places.{char_at, rest-ascii, rest-end, rest-between, code_point-scalar, between-nil, between-push_ascii}
 use Rattle.yaml_chars.proofs.Runs.{IsBlind, test-char_at}
 use Rattle.yaml_grammar.specs.Texts.{every, first}
-use Rattle.yaml_grammar.specs.FlowScalars.{escape, number as counted, hex_digit, digit_of, hex_value, digits_behind, double_item, escaped_char}
+use Rattle.yaml_grammar.specs.FlowScalars.{escape, number as counted, hex_digit, digit_of, hex_value, digits_after, quoted_char_fits, escaped_char}
 use Rattle.yaml_recognizers.specs.QuotedScalars.{read_item, read_number}
-use Rattle.yaml_recognizers.proofs.Breaks.{break_some}
+use Rattle.yaml_recognizers.proofs.Basics.Breaks.{break_some}
 use Rattle.yaml_recognizers.specs.Comments.{read_break}
-use Rattle.yaml_scan.specs.Places.{IsBreak, is_sign}
+use Rattle.yaml_scan.specs.ScanPlaces.{IsBreak, is_sign}
 use Rattle.yaml_scan.specs.Classes.{double_quoted}
-use Rattle.yaml_scan.proofs.ByteRuns.{ascii_in_front}
+use Rattle.yaml_scan.proofs.ByteRuns.{ascii_at_beginning}
 use Rattle.yaml_scan.proofs.ByteSigns.{sign_there}
 use Rattle.yaml_flow_scalars.specs.DoubleScan.{raw_char, EscapeAt, NoEscapeAt, IsEscape, IsDigit, digits_at, IsNumberAt}
 
 -- ---- tests that do not tell characters from 128 on apart
 
+-- the test for such characters doesn't distinguish those from 128 on
 pub blind-raw_char : IsBlind raw_char
 unfolding raw_char
 blind-raw_char c h l = grind (arith, nat_tests)
@@ -34,15 +35,16 @@ blind-raw_char c h l = grind (arith, nat_tests)
 blind-counted : IsBlind (λ c. is_in c (codes "xuU"))
 blind-counted c h l = grind (arith, nat_tests)
 
-blind-escape : IsBlind (λ c. double_item (escape c))
+blind-escape : IsBlind (λ c. quoted_char_fits (escape c))
 blind-escape c h l = grind (arith, nat_tests)
 
 blind-hex_digit : IsBlind hex_digit
 blind-hex_digit c h l = grind (arith, nat_tests)
 
-escape_is_ascii : (c : ℕ) → double_item (escape c) ≡ true → c < 128
+escape_is_ascii : (c : ℕ) → quoted_char_fits (escape c) ≡ true → c < 128
 escape_is_ascii c h = grind (arith, nat_tests)
 
+-- x, u and U are ASCII
 pub counted_is_ascii : (c : ℕ) → is_in c (codes "xuU") ≡ true → c < 128
 counted_is_ascii c h = grind (arith, nat_tests)
 
@@ -51,30 +53,33 @@ hex_digit_is_ascii c h = grind (arith, nat_tests)
 
 -- ---- one byte
 
--- an ASCII byte of this value, and the place behind it
+-- an ASCII byte of this value, and the place after it
 pub byte_read : (bs : List ℕ) (i k : ℕ) → IsUtf8 bs → i < length bs → get_or bs i 0 ≡ k → k < 128 → rest bs i ≡ k ∷ rest bs (i + 1)
 byte_read bs i k u l e a = rest-ascii bs i u l (omega arith) ∙ ap (λ x. x ∷ rest bs (i + 1)) e
 
-pub behind_byte : (bs : List ℕ) (i k : ℕ) → IsUtf8 bs → i < length bs → get_or bs i 0 ≡ k → k < 128 → IsCharBoundary bs (i + 1)
-behind_byte bs i k u l e a = IsCharBoundary-after_ascii bs i u l (omega arith)
+-- the place after an ASCII byte
+pub after_byte : (bs : List ℕ) (i k : ℕ) → IsUtf8 bs → i < length bs → get_or bs i 0 ≡ k → k < 128 → IsCharBoundary bs (i + 1)
+after_byte bs i k u l e a = IsCharBoundary-after_ascii bs i u l (omega arith)
 
 -- what a test of a byte at a place says
 pub stands : (text : List ℕ) (i k : ℕ) (b : Bool) → IsUtf8 text → IsCharBoundary text i → k < 128 → b ≡ first (is_sign k) (rest text i) → b ≡ true
     → (i < length text) × (get_or text i 0 ≡ k)
 stands text i k b u d a h e =
     let sign = sign_there text i k u d a (sym h ∙ e) in
-    let front = ascii_in_front text i k (rest text (i + 1)) u d a sign.splits in
-    (front.within, front.byte)
+    let prefix = ascii_at_beginning text i k (rest text (i + 1)) u d a sign.splits in
+    (prefix.within, prefix.byte)
 
+-- no such sign is at the place
 pub stands_not : (text : List ℕ) (i k : ℕ) (b : Bool) → IsUtf8 text → k < 128 → b ≡ first (is_sign k) (rest text i) → b ≡ false → i < length text → get_or text i 0 ≡ k → ⊥
 stands_not text i k b u a h e l q =
     false≢true (sym e ∙ (h ∙ (ap (first (is_sign k)) (byte_read text i k u l q a) ∙ eq-eqb k k refl)))
 
+-- a break is at the place if one is found
 pub break_there : (text : List ℕ) (at : ℕ) (r : Option ℕ) → IfSome r (IsBreak text at) → IfNone r (read_break (rest text at) ≡ None) → is_some r ≡ first line_break (rest text at)
 break_there text at (Some end) h n = sym (ap is_some h.reads) ∙ break_some (rest text at)
 break_there text at None h n = sym (ap is_some n) ∙ break_some (rest text at)
 
--- the class of the table is that of the characters that stand for themselves
+-- the class of the table is that of the characters that mean themselves
 pub raw_run : (text : List ℕ) (i j : ℕ) → IsRun double_quoted text i j → IsRun raw_char text i j
 unfolding raw_char
 raw_run text i j run = run
@@ -96,6 +101,7 @@ hex_value-append n d (x ∷ xs) = hex_value-append (16 * n + digit_of x) d xs
 digit_small : (d : ℕ) → hex_digit d ≡ true → digit_of d < 16
 digit_small d h = grind (arith, nat_tests)
 
+-- the value of a digit is below 16
 pub digit_fits : (d v : ℕ) → IsDigit d v → v < 16
 digit_fits d v h = omega (arith, digit_small d h.allowed, h.means)
 
@@ -112,6 +118,7 @@ pub record DigitsTo (bs : List ℕ) (at end number : ℕ) : Type 0 where
   pub value : hex_value 0 (between bs at end) ≡ number
   pub fits : number < 16 ^ (end - at)
 
+-- no digit is read yet
 pub digits_none : (bs : List ℕ) (at : ℕ) → IsCharBoundary bs at → DigitsTo bs at at 0
 digits_none bs at b =
     let none : between bs at at ≡ [] = between-nil bs at in
@@ -125,6 +132,7 @@ digits_none bs at b =
       fits = subst (λ k. 0 < 16 ^ k) (sym size) (omega arith);
     }
 
+-- one digit more is read
 pub digits_more : (bs : List ℕ) (at end number d : ℕ) → IsUtf8 bs → IsCharBoundary bs at → DigitsTo bs at end number → end < length bs → IsDigit (get_or bs end 0) d
     → DigitsTo bs at (end + 1) (number * 16 + d)
 digits_more bs at end number d u b h l digit =
@@ -145,17 +153,18 @@ digits_more bs at end number d u b h l digit =
       fits = subst (λ k. number * 16 + d < 16 ^ k) (sym size) (omega (arith, pow_more 16 (end - at), digit.means));
     }
 
+-- all digits are read
 pub digits_all : (bs : List ℕ) (at count number : ℕ) → IsUtf8 bs → IsCharBoundary bs at → DigitsTo bs at (at + count) number → IsNumberAt bs at count number
 digits_all bs at count number u b h =
     let ds = between bs at (at + count) in
     let split : rest bs at ≡ ds ++ rest bs (at + count) = rest-between bs at (at + count) u h.above b h.boundary in
     let long : length ds ≡ count = h.long ∙ omega arith in
-    let front : take count (rest bs at) ≡ ds = ap (take count) split ∙ (ap (λ k. take k (ds ++ rest bs (at + count))) (sym long) ∙ take-append_seam ds (rest bs (at + count))) in
+    let prefix : take count (rest bs at) ≡ ds = ap (take count) split ∙ (ap (λ k. take k (ds ++ rest bs (at + count))) (sym long) ∙ take-append_seam ds (rest bs (at + count))) in
     record {
-      digits = ap (λ (t : List ℕ). (length t == count) && every hex_digit t) front ∙ and_from _ _ (eq-eqb (length ds) count long) h.digits;
+      digits = ap (λ (t : List ℕ). (length t == count) && every hex_digit t) prefix ∙ and_from _ _ (eq-eqb (length ds) count long) h.digits;
       boundary = h.boundary;
-      behind = ap (drop count) split ∙ (ap (λ k. drop k (ds ++ rest bs (at + count))) (sym long) ∙ drop-append_seam ds (rest bs (at + count)));
-      value = ap (hex_value 0) front ∙ h.value;
+      after = ap (drop count) split ∙ (ap (λ k. drop k (ds ++ rest bs (at + count))) (sym long) ∙ drop-append_seam ds (rest bs (at + count)));
+      value = ap (hex_value 0) prefix ∙ h.value;
     }
 
 -- where the text ends too early
@@ -169,7 +178,7 @@ digits_end bs at end count number u b h l past =
     let other : length digits ≡ count → ⊥ = λ e. omega (arith, length-take count (rest bs at)) in
     and_left (length digits == count) (every hex_digit digits) (ne_eqb (length digits) count other)
 
--- where another byte stands among them
+-- where another byte is among them
 pub digits_broken : (bs : List ℕ) (at end count number : ℕ) → IsUtf8 bs → IsCharBoundary bs at → DigitsTo bs at end number → end - at < count → end < length bs
     → hex_digit (get_or bs end 0) ≡ false → digits_at bs at count ≡ false
 digits_broken bs at end count number u b h l inside other =
@@ -182,48 +191,51 @@ digits_broken bs at end count number u b h l inside other =
     let long = h.long in
     let more : count ≡ length ds + suc (count - (end - at) - 1) = omega arith in
     let digits : List ℕ = take count (rest bs at) in
-    let front : digits ≡ ds ++ c ∷ take (count - (end - at) - 1) cs = ap (take count) split ∙ (ap (λ k. take k (ds ++ c ∷ cs)) more ∙ take-append-add ds (c ∷ cs) (suc (count - (end - at) - 1))) in
+    let prefix : digits ≡ ds ++ c ∷ take (count - (end - at) - 1) cs = ap (take count) split ∙ (ap (λ k. take k (ds ++ c ∷ cs)) more ∙ take-append-add ds (c ∷ cs) (suc (count - (end - at) - 1))) in
     and_right (length digits == count) (every hex_digit digits)
-    (ap (every hex_digit) front ∙ (every-append hex_digit ds (c ∷ take (count - (end - at) - 1) cs) ∙ and_right _ _ (and_left _ _ none)))
+    (ap (every hex_digit) prefix ∙ (every-append hex_digit ds (c ∷ take (count - (end - at) - 1) cs) ∙ and_right _ _ (and_left _ _ none)))
 
 -- ---- escapes
 
-escaped_low : (b : ℕ) → double_item (escape b) ≡ true → escaped_char b < 0xd800
+escaped_low : (b : ℕ) → quoted_char_fits (escape b) ≡ true → escaped_char b < 0xd800
 escaped_low b h = grind (arith, nat_tests)
 
-some_digits : (b : ℕ) → 0 < digits_behind b
+some_digits : (b : ℕ) → 0 < digits_after b
 some_digits b = grind (arith, nat_tests)
 
 -- what the number of digits says of a sign
-pub counted_none : (b k : ℕ) → k ≡ (if is_in b (codes "xuU") then digits_behind b else 0) → k ≡ 0 → is_in b (codes "xuU") ≡ false
+pub counted_none : (b k : ℕ) → k ≡ (if is_in b (codes "xuU") then digits_after b else 0) → k ≡ 0 → is_in b (codes "xuU") ≡ false
 counted_none b k h e = elim (cases_Bool (is_in b (codes "xuU"))) [
-  | inl y ↦ (let some : k ≡ digits_behind b = h ∙ cond-true _ _ _ y in absurd (omega (arith, some_digits b)))
+  | inl y ↦ (let some : k ≡ digits_after b = h ∙ cond-true _ _ _ y in absurd (omega (arith, some_digits b)))
   | inr n ↦ n
 ]
 
-pub counted_some : (b k : ℕ) → k ≡ (if is_in b (codes "xuU") then digits_behind b else 0) → (k ≡ 0 → ⊥) → (is_in b (codes "xuU") ≡ true) × (k ≡ digits_behind b)
+-- an escape with digits has as many as its sign says
+pub counted_some : (b k : ℕ) → k ≡ (if is_in b (codes "xuU") then digits_after b else 0) → (k ≡ 0 → ⊥) → (is_in b (codes "xuU") ≡ true) × (k ≡ digits_after b)
 counted_some b k h e = elim (cases_Bool (is_in b (codes "xuU"))) [
   | inl y ↦ (y, h ∙ cond-true _ _ _ y)
   | inr n ↦ absurd (e (h ∙ cond-false _ _ _ n))
 ]
 
--- behind a backslash
+-- after a backslash
 module _ (bs : List ℕ) (at : ℕ) (u : IsUtf8 bs) (l : at < length bs) (e : get_or bs at 0 ≡ 92) where
-  behind : rest bs at ≡ 92 ∷ rest bs (at + 1)
-  behind = byte_read bs at 92 u l e (omega arith)
+  after : rest bs at ≡ 92 ∷ rest bs (at + 1)
+  after = byte_read bs at 92 u l e (omega arith)
 
+  -- at the end of the text there is no escape
   pub escape_cut : length bs ≤ at + 1 → NoEscapeAt bs at
   unfolding read_item
-  escape_cut past = ap read_item (behind ∙ ap (λ (t : List ℕ). 92 ∷ t) (rest-end bs (at + 1) past))
+  escape_cut past = ap read_item (after ∙ ap (λ (t : List ℕ). 92 ∷ t) (rest-end bs (at + 1) past))
 
-  -- where this byte stands there
+  -- where this byte is there
   module _ (m : at + 1 < length bs) (b : ℕ) (is : get_or bs (at + 1) 0 ≡ b) where
     signed : b < 128 → (rest bs at ≡ 92 ∷ b ∷ rest bs (at + 1 + 1)) × IsCharBoundary bs (at + 1 + 1)
     signed a = (
-      behind ∙ ap (λ (t : List ℕ). 92 ∷ t) (byte_read bs (at + 1) b u m is a),
-      behind_byte bs (at + 1) b u m is a,
+      after ∙ ap (λ (t : List ℕ). 92 ∷ t) (byte_read bs (at + 1) b u m is a),
+      after_byte bs (at + 1) b u m is a,
     )
 
+    -- a sign without digits is an escape
     pub escape_there : is_in b (codes "xuU") ≡ false → (meant : ℕ) → IsEscape b meant → EscapeAt bs at meant (at + 1 + 1)
     unfolding read_item
     escape_there n meant s =
@@ -237,35 +249,37 @@ module _ (bs : List ℕ) (at : ℕ) (u : IsUtf8 bs) (l : at < length bs) (e : ge
           scalar = subst IsScalar s.means (low_scalar (escaped_char b) (escaped_low b s.allowed));
         }
 
-    pub no_escape : is_in b (codes "xuU") ≡ false → double_item (escape b) ≡ false → NoEscapeAt bs at
+    -- any other sign is none
+    pub no_escape : is_in b (codes "xuU") ≡ false → quoted_char_fits (escape b) ≡ false → NoEscapeAt bs at
     unfolding read_item
     no_escape n f =
-        let there = char_at bs (at + 1) u (behind_byte bs at 92 u l e (omega arith)) m in
+        let there = char_at bs (at + 1) u (after_byte bs at 92 u l e (omega arith)) m in
         let c : ℕ = there.0 in
         let cs : List ℕ = rest bs (at + 1 + len_utf8 c) in
         let uncounted : is_in c (codes "xuU") ≡ false = test-char_at (λ x. is_in x (codes "xuU")) bs (at + 1) c blind-counted u there.1 ∙ (ap (λ x. is_in x (codes "xuU")) is ∙ n) in
-        let none : double_item (escape c) ≡ false = test-char_at (λ x. double_item (escape x)) bs (at + 1) c blind-escape u there.1 ∙ (ap (λ x. double_item (escape x)) is ∙ f) in
-        ap read_item (behind ∙ ap (λ (t : List ℕ). 92 ∷ t) there.1.splits)
-        ∙ (cond-false (is_in c (codes "xuU")) (read_number c cs) _ uncounted ∙ cond-false (double_item (escape c)) (Some (escape c, cs)) None none)
+        let none : quoted_char_fits (escape c) ≡ false = test-char_at (λ x. quoted_char_fits (escape x)) bs (at + 1) c blind-escape u there.1 ∙ (ap (λ x. quoted_char_fits (escape x)) is ∙ f) in
+        ap read_item (after ∙ ap (λ (t : List ℕ). 92 ∷ t) there.1.splits)
+        ∙ (cond-false (is_in c (codes "xuU")) (read_number c cs) _ uncounted ∙ cond-false (quoted_char_fits (escape c)) (Some (escape c, cs)) None none)
 
-    -- where digits stand behind it
-    module _ (y : is_in b (codes "xuU") ≡ true) (k : ℕ) (long : k ≡ digits_behind b) where
+    -- where digits come after it
+    module _ (y : is_in b (codes "xuU") ≡ true) (k : ℕ) (long : k ≡ digits_after b) where
       digits : List ℕ
       digits = take k (rest bs (at + 1 + 1))
 
-      number_read : read_item (rest bs at) ≡ (if double_item (counted b digits) then Some (counted b digits, drop k (rest bs (at + 1 + 1))) else None)
+      number_read : read_item (rest bs at) ≡ (if quoted_char_fits (counted b digits) then Some (counted b digits, drop k (rest bs (at + 1 + 1))) else None)
       unfolding read_item digits
       number_read =
           ap read_item (signed (counted_is_ascii b y)).0
           ∙ (cond-true (is_in b (codes "xuU")) (read_number b (rest bs (at + 1 + 1))) _ y
-          ∙ ap (λ j. let ds = take j (rest bs (at + 1 + 1)) in if double_item (counted b ds) then Some (counted b ds, drop j (rest bs (at + 1 + 1))) else None) (sym long))
+          ∙ ap (λ j. let ds = take j (rest bs (at + 1 + 1)) in if quoted_char_fits (counted b ds) then Some (counted b ds, drop j (rest bs (at + 1 + 1))) else None) (sym long))
 
-      refused : double_item (counted b digits) ≡ false → NoEscapeAt bs at
+      refused : quoted_char_fits (counted b digits) ≡ false → NoEscapeAt bs at
       refused f = number_read ∙ cond-false _ _ _ f
 
+      -- without enough digits there is no escape
       pub no_number : digits_at bs (at + 1 + 1) k ≡ false → NoEscapeAt bs at
       unfolding digits
-      no_number f = refused (no_digits (is_in b (codes "xuU")) (length digits == digits_behind b) (every hex_digit digits) (code_point (hex_value 0 digits))
+      no_number f = refused (no_digits (is_in b (codes "xuU")) (length digits == digits_after b) (every hex_digit digits) (code_point (hex_value 0 digits))
           (ap (λ j. (length digits == j) && every hex_digit digits) (sym long) ∙ f))
         where
           no_digits : (s t h p : Bool) → t && h ≡ false → s && t && h && p ≡ false
@@ -274,6 +288,7 @@ module _ (bs : List ℕ) (at : ℕ) (u : IsUtf8 bs) (l : at < length bs) (e : ge
           no_digits true false h p f = refl
           no_digits false t h p f = refl
 
+      -- nor if the number is no character
       pub no_char : (n : ℕ) → IsNumberAt bs (at + 1 + 1) k n → OutOfScalarRange n → NoEscapeAt bs at
       unfolding digits
       no_char n h o = refused (and_right _ _ (ap code_point h.value ∙ out_of_range n o))
@@ -282,18 +297,19 @@ module _ (bs : List ℕ) (at : ℕ) (u : IsUtf8 bs) (l : at < length bs) (e : ge
           out_of_range x (inl o) = grind (arith, nat_tests)
           out_of_range x (inr o) = grind (arith, nat_tests)
 
+      -- else there is one
       pub number_there : (n : ℕ) → IsNumberAt bs (at + 1 + 1) k n → IsScalar n → EscapeAt bs at n (at + 1 + 1 + k)
       unfolding digits
       number_there n h o =
           let d = and_parts (length digits == k) (every hex_digit digits) h.digits in
-          let size : length digits == digits_behind b ≡ true = ap (λ j. length digits == j) (sym long) ∙ d.0 in
-          let item : double_item (counted b digits) ≡ true =
+          let size : length digits == digits_after b ≡ true = ap (λ j. length digits == j) (sym long) ∙ d.0 in
+          let item : quoted_char_fits (counted b digits) ≡ true =
           and_from _ _ (and_from _ _ (and_from _ _ y size) d.1) (ap code_point h.value ∙ code_point-scalar n o) in
           record {
             above = omega arith;
             boundary = h.boundary;
             item = counted b digits;
-            found = number_read ∙ (cond-true _ _ _ item ∙ ap (λ (t : List ℕ). Some (counted b digits, t)) h.behind);
+            found = number_read ∙ (cond-true _ _ _ item ∙ ap (λ (t : List ℕ). Some (counted b digits, t)) h.after);
             means = h.value;
             scalar = o;
           }

@@ -16,38 +16,40 @@ use Rattle.yaml_grammar.specs.FlowScalars.{Empty}
 use Rattle.yaml_grammar.specs.Separation.{Break, indents}
 use Rattle.yaml_grammar.specs.Texts.{begins, every, first, marker, no_marker, spaces}
 use Rattle.yaml_recognizers.specs.Comments.{read_break}
-use Rattle.yaml_recognizers.specs.Fronts.{dropped, taken}
-use Rattle.yaml_recognizers.specs.Joins.{Join, at_break, behind_blank, read_empty, with_lead}
+use Rattle.yaml_recognizers.specs.Prefixes.{dropped, taken}
+use Rattle.yaml_recognizers.specs.Joins.{Join, at_break, after_blank, read_empty, with_lead}
 use Rattle.yaml_recognizers.specs.Reading.{Read}
 use Rattle.yaml_recognizers.specs.Repeated.{all_of}
-use Rattle.yaml_recognizers.proofs.Blanks.{dropped_first, no_white_at_break}
-use Rattle.yaml_recognizers.proofs.Breaks.{break_some}
-use Rattle.yaml_recognizers.proofs.Fronts.{dropped_all, taken_all}
-use Rattle.yaml_recognizers.proofs.JoinSteps.{Passed, no_lead, passed_all, passed_more, passed_none, step_break, step_lead}
-use Rattle.yaml_recognizers.proofs.Joins.{empty_shrinks}
-use Rattle.yaml_recognizers.proofs.Reading.{chosen, none_some, on_parts, some_parts}
-use Rattle.yaml_recognizers.proofs.Repeated.{repeated_end}
-use Rattle.yaml_flow_scalars.specs.Folds.{IsFold, IsFront, IsMargin, NoFold}
-use Rattle.yaml_scan.specs.Places.{IsBreak}
+use Rattle.yaml_recognizers.proofs.Basics.Blanks.{dropped_first, no_white_at_break}
+use Rattle.yaml_recognizers.proofs.Basics.Breaks.{break_some}
+use Rattle.yaml_recognizers.proofs.Basics.Prefixes.{dropped_all, taken_all}
+use Rattle.yaml_recognizers.proofs.Scalars.JoinSteps.{Passed, no_lead, passed_all, passed_more, passed_none, step_break, step_lead}
+use Rattle.yaml_recognizers.proofs.Scalars.Joins.{empty_shrinks}
+use Rattle.yaml_recognizers.proofs.Basics.Reading.{chosen, none_some, on_parts, some_parts}
+use Rattle.yaml_recognizers.proofs.Basics.Repeated.{repeated_end}
+use Rattle.yaml_flow_scalars.specs.Folds.{IsFold, IsPrefix, IsMargin, NoFold}
+use Rattle.yaml_scan.specs.ScanPlaces.{IsBreak}
 use Rattle.yaml_scan.proofs.ByteRuns.{first-rest}
 
 -- ---- runs
 
+-- two words for a test of all characters
 pub every-list_all : (p : ℕ → Bool) (xs : List ℕ) → every p xs ≡ list_all p xs
 every-list_all p [] = refl
 every-list_all p (x ∷ xs) = ap (λ b. p x && b) (every-list_all p xs)
 
+-- all characters of a run pass its test
 pub run_every : (p : ℕ → Bool) (bs : List ℕ) (i j : ℕ) → IsRun p bs i j → every p (between bs i j) ≡ true
 run_every p bs i j r = every-list_all p (between bs i j) ∙ list_all-from_AllPass p (between bs i j) r.passes
 
--- behind a run no such character stands
+-- after a run there is no such character
 pub run_first : (p : ℕ → Bool) (bs : List ℕ) (i j : ℕ) → IsBlind p → IsUtf8 bs → IsRun p bs i j → first p (rest bs j) ≡ false
 run_first p bs i j blind u r = elim (cases_lt j (length bs)) [
   | inl l ↦ first-rest p bs j blind u r.boundary ∙ (ap (first p) (drop_more bs j 0 l) ∙ r.stop l)
   | inr past ↦ ap (first p) (rest-end bs j past)
 ]
 
--- ---- the front of a line
+-- ---- the start of a line
 
 every_spaced : (k : ℕ) (blank : List ℕ) → every white blank ≡ true → every white (spaces k ++ blank) ≡ true
 every_spaced zero blank h = h
@@ -57,7 +59,7 @@ begins_spaced : (n : ℕ) (blank : List ℕ) → begins (spaces n) (spaces n ++ 
 begins_spaced zero blank = refl
 begins_spaced (suc n) blank = begins_spaced n blank
 
--- fewer spaces than n, and behind them none
+-- fewer spaces than n, and after them none
 begins_short : (n k : ℕ) (text : List ℕ) → k < n → first space text ≡ false → begins (spaces n) (spaces k ++ text) ≡ false
 begins_short zero k text l h = absurd (omega arith)
 begins_short (suc n) zero [] l h = refl
@@ -86,10 +88,10 @@ every_space_nil : (k : ℕ) → every space (spaces k ++ []) ≡ true
 every_space_nil zero = refl
 every_space_nil (suc k) = every_space_nil k
 
-empty_there : (n : ℕ) (text : List ℕ) (stop : Break) (behind : List ℕ) → begins (spaces n) (taken white text) || every space (taken white text) ≡ true
-    → read_break (dropped white text) ≡ Some (stop, behind) → read_empty n text ≡ Some (record { blank = taken white text; stop = stop }, behind)
+empty_there : (n : ℕ) (text : List ℕ) (stop : Break) (after : List ℕ) → begins (spaces n) (taken white text) || every space (taken white text) ≡ true
+    → read_break (dropped white text) ≡ Some (stop, after) → read_empty n text ≡ Some (record { blank = taken white text; stop = stop }, after)
 unfolding read_empty
-empty_there n text stop behind h e = rw (h, e) refl
+empty_there n text stop after h e = rw (h, e) refl
 
 empty_unbroken : (n : ℕ) (text : List ℕ) → read_break (dropped white text) ≡ None → read_empty n text ≡ None
 unfolding read_empty
@@ -103,8 +105,8 @@ empty_unindented : (n : ℕ) (text : List ℕ) → begins (spaces n) (taken whit
 unfolding read_empty
 empty_unindented n text h = cond-false _ _ _ h
 
-break_unwhite : (text : List ℕ) (stop : Break) (behind : List ℕ) → read_break text ≡ Some (stop, behind) → first white text ≡ false
-break_unwhite text stop behind e = broken text (sym (break_some text) ∙ ap (λ (r : Read Break). is_some r) e)
+break_unwhite : (text : List ℕ) (stop : Break) (after : List ℕ) → read_break text ≡ Some (stop, after) → first white text ≡ false
+break_unwhite text stop after e = broken text (sym (break_some text) ∙ ap (λ (r : Read Break). is_some r) e)
   where
     broken : (t : List ℕ) → first line_break t ≡ true → first white t ≡ false
     broken [] h = refl
@@ -125,24 +127,25 @@ margin_space bs at end u l within e byte =
     shifted zero xs = refl
     shifted (suc k) xs = ap (λ ys. 32 ∷ ys) (shifted k xs)
 
+-- spaces end before another character
 pub margin_stop : (bs : List ℕ) (end : ℕ) → IsUtf8 bs → IsCharBoundary bs end → (end < length bs → slice_index bs end ≡ 32 → ⊥) → first space (rest bs end) ≡ false
 margin_stop bs end u b h = elim (cases_lt end (length bs)) [
   | inl l ↦ first-rest space bs end blind-space u b ∙ (ap (first space) (drop_more bs end 0 l) ∙ ne_eqb (slice_index bs end) 32 (h l))
   | inr past ↦ ap (first space) (rest-end bs end past)
 ]
 
--- what the front of a line is, over its characters
-record Fronts (n : ℕ) (line behind : List ℕ) (indented : Bool) : Type 0 where
+-- what the start of a line is, over its characters
+record Prefixes (n : ℕ) (line after : List ℕ) (indented : Bool) : Type 0 where
   indent : indents n (taken white line) ≡ indented
-  skips : indented ≡ true → dropped white line ≡ behind
-  empty : (stop : Break) (later : List ℕ) → read_break behind ≡ Some (stop, later) → (e : Empty) × (read_empty n line ≡ Some (e, later))
-  no_empty : read_break behind ≡ None → read_empty n line ≡ None
+  skips : indented ≡ true → dropped white line ≡ after
+  empty : (stop : Break) (later : List ℕ) → read_break after ≡ Some (stop, later) → (e : Empty) × (read_empty n line ≡ Some (e, later))
+  no_empty : read_break after ≡ None → read_empty n line ≡ None
 
-indented_front : (n : ℕ) (blank behind : List ℕ) → every white blank ≡ true → first white behind ≡ false → Fronts n (spaces n ++ (blank ++ behind)) behind true
-indented_front n blank behind w f =
-    let line : List ℕ = spaces n ++ (blank ++ behind) in
-    let t : taken white line ≡ spaces n ++ blank = (taken_spaced n (blank ++ behind)).0 ∙ ap (λ xs. spaces n ++ xs) (taken_all white blank behind w f) in
-    let d : dropped white line ≡ behind = (taken_spaced n (blank ++ behind)).1 ∙ dropped_all white blank behind w f in
+indented_prefix : (n : ℕ) (blank after : List ℕ) → every white blank ≡ true → first white after ≡ false → Prefixes n (spaces n ++ (blank ++ after)) after true
+indented_prefix n blank after w f =
+    let line : List ℕ = spaces n ++ (blank ++ after) in
+    let t : taken white line ≡ spaces n ++ blank = (taken_spaced n (blank ++ after)).0 ∙ ap (λ xs. spaces n ++ xs) (taken_all white blank after w f) in
+    let d : dropped white line ≡ after = (taken_spaced n (blank ++ after)).1 ∙ dropped_all white blank after w f in
     let deep : begins (spaces n) (taken white line) ≡ true = ap (begins (spaces n)) t ∙ begins_spaced n blank in
     record {
       indent = and_from _ _ (ap (every white) t ∙ every_spaced n blank w) deep;
@@ -151,49 +154,51 @@ indented_front n blank behind w f =
       no_empty = λ e. empty_unbroken n line (ap read_break d ∙ e);
     }
 
-short_front : (n k : ℕ) (behind : List ℕ) → k < n → first space behind ≡ false → Fronts n (spaces k ++ behind) behind false
-short_front n k behind l f =
-    let line : List ℕ = spaces k ++ behind in
-    let t : taken white line ≡ spaces k ++ taken white behind = (taken_spaced k behind).0 in
-    let d : dropped white line ≡ dropped white behind = (taken_spaced k behind).1 in
-    let few : begins (spaces n) (taken white line) ≡ false = ap (begins (spaces n)) t ∙ begins_short n k (taken white behind) l (taken_unspaced behind f) in
+short_prefix : (n k : ℕ) (after : List ℕ) → k < n → first space after ≡ false → Prefixes n (spaces k ++ after) after false
+short_prefix n k after l f =
+    let line : List ℕ = spaces k ++ after in
+    let t : taken white line ≡ spaces k ++ taken white after = (taken_spaced k after).0 in
+    let d : dropped white line ≡ dropped white after = (taken_spaced k after).1 in
+    let few : begins (spaces n) (taken white line) ≡ false = ap (begins (spaces n)) t ∙ begins_short n k (taken white after) l (taken_unspaced after f) in
     record {
       indent = and_right _ _ few;
       skips = λ h. absurd (false≢true h);
       empty = λ stop later e.
-          (let none = no_white_taken behind (break_unwhite behind stop later e) in
+          (let none = no_white_taken after (break_unwhite after stop later e) in
           (_, empty_there n line stop later (or_right _ _ (ap (every space) (t ∙ ap (λ xs. spaces k ++ xs) none.0) ∙ every_space_nil k)) (ap read_break (d ∙ none.1) ∙ e)));
-      no_empty = λ e. elim (cases_Bool (first white behind)) [
-        | inl w ↦ empty_unindented n line (or_from _ _ few (ap (every space) t ∙ every_space_short k behind w f))
-        | inr w ↦ empty_unbroken n line (ap read_break (d ∙ (no_white_taken behind w).1) ∙ e)
+      no_empty = λ e. elim (cases_Bool (first white after)) [
+        | inl w ↦ empty_unindented n line (or_from _ _ few (ap (every space) t ∙ every_space_short k after w f))
+        | inr w ↦ empty_unbroken n line (ap read_break (d ∙ (no_white_taken after w).1) ∙ e)
       ];
     }
 
-front_is : (n : ℕ) (text : List ℕ) (at end : ℕ) (indented : Bool) → at ≤ end → IsCharBoundary text end → Fronts n (rest text at) (rest text end) indented
-    → IsFront n text at end indented
-front_is n text at end indented above boundary f =
+prefix_is : (n : ℕ) (text : List ℕ) (at end : ℕ) (indented : Bool) → at ≤ end → IsCharBoundary text end → Prefixes n (rest text at) (rest text end) indented
+    → IsPrefix n text at end indented
+prefix_is n text at end indented above boundary f =
     record { above = above; boundary = boundary; indent = f.indent; skips = f.skips; empty = f.empty; no_empty = f.no_empty }
 
-pub front_indented : (n : ℕ) (text : List ℕ) (at margin end : ℕ) → IsUtf8 text → IsMargin n text at margin → n ≤ margin - at → IsRun white text margin end
-    → IsFront n text at end true
-front_indented n text at margin end u m l r =
+-- a line with enough spaces is indented
+pub prefix_indented : (n : ℕ) (text : List ℕ) (at margin end : ℕ) → IsUtf8 text → IsMargin n text at margin → n ≤ margin - at → IsRun white text margin end
+    → IsPrefix n text at end true
+prefix_indented n text at margin end u m l r =
     let few = m.few in
     let below = m.above in
     let above = r.above in
     let all : margin - at ≡ n = omega arith in
     let split : rest text at ≡ spaces n ++ (between text margin end ++ rest text end) =
     m.spaced ∙ (ap (λ k. spaces k ++ rest text margin) all ∙ ap (λ xs. spaces n ++ xs) (rest-between text margin end u above m.boundary r.boundary)) in
-    front_is n text at end true (omega arith) r.boundary (subst (λ (t : List ℕ). Fronts n t (rest text end) true) (sym split)
-    (indented_front n (between text margin end) (rest text end) (run_every white text margin end r) (run_first white text margin end blind-white u r)))
+    prefix_is n text at end true (omega arith) r.boundary (subst (λ (t : List ℕ). Prefixes n t (rest text end) true) (sym split)
+    (indented_prefix n (between text margin end) (rest text end) (run_every white text margin end r) (run_first white text margin end blind-white u r)))
 
-pub front_short : (n : ℕ) (text : List ℕ) (at margin : ℕ) → IsMargin n text at margin → margin - at < n → IsFront n text at margin false
-front_short n text at margin m l =
-    front_is n text at margin false m.above m.boundary (subst (λ (t : List ℕ). Fronts n t (rest text margin) false) (sym m.spaced)
-    (short_front n (margin - at) (rest text margin) l (m.stop l)))
+-- a line with too few is not
+pub prefix_short : (n : ℕ) (text : List ℕ) (at margin : ℕ) → IsMargin n text at margin → margin - at < n → IsPrefix n text at margin false
+prefix_short n text at margin m l =
+    prefix_is n text at margin false m.above m.boundary (subst (λ (t : List ℕ). Prefixes n t (rest text margin) false) (sym m.spaced)
+    (short_prefix n (margin - at) (rest text margin) l (m.stop l)))
 
 -- ---- the lines of a fold
 
--- The break at the place `at` and so many empty lines behind it are passed; a line starts at the place `line`.
+-- The break at the place `at` and so many empty lines after it are passed; a line starts at the place `line`.
 pub record Folding (n : ℕ) (text : List ℕ) (at line empties : ℕ) : Type 0 where
   pub above : at + empties < line
   pub boundary : IsCharBoundary text line
@@ -204,6 +209,7 @@ pub record Folding (n : ℕ) (text : List ℕ) (at line empties : ℕ) : Type 0 
   pub count : length lines ≡ empties
   pub passed : Passed n start lines (rest text line)
 
+-- a fold starts with a break
 pub folding_begins : (n : ℕ) (text : List ℕ) (at line : ℕ) → IsBreak text at line → Folding n text at line 0
 folding_begins n text at line b =
     let above = b.above in
@@ -222,13 +228,14 @@ length-more : (es : List Empty) (e : Empty) → length (es ++ e ∷ []) ≡ leng
 length-more [] e = refl
 length-more (x ∷ xs) e = let more : length (xs ++ e ∷ []) ≡ length xs + 1 = length-more xs e in omega arith
 
-pub folding_goes_on : (n : ℕ) (text : List ℕ) (at line empties front next : ℕ) (indented : Bool) → Folding n text at line empties → IsFront n text line front indented
-    → IsBreak text front next → Folding n text at next (empties + 1)
-folding_goes_on n text at line empties front next indented g f b =
+-- and goes on over an empty line
+pub folding_goes_on : (n : ℕ) (text : List ℕ) (at line empties prefix next : ℕ) (indented : Bool) → Folding n text at line empties → IsPrefix n text line prefix indented
+    → IsBreak text prefix next → Folding n text at next (empties + 1)
+folding_goes_on n text at line empties prefix next indented g f b =
     let found = f.empty b.break (rest text next) b.reads in
     let above = g.above in
     let further = f.above in
-    let behind = b.above in
+    let after = b.above in
     record {
       above = omega arith;
       boundary = b.boundary;
@@ -240,17 +247,18 @@ folding_goes_on n text at line empties front next indented g f b =
       passed = passed_more n g.start g.lines (rest text line) found.0 (rest text next) g.passed found.1;
     }
 
--- where no break stands behind the line's white the front of the next line is read there
-last_line : (n : ℕ) (text : List ℕ) (at line empties front : ℕ) (indented : Bool) → (g : Folding n text at line empties) → IsFront n text line front indented
-    → read_break (rest text front) ≡ None → (escaped : Bool) (blank : List ℕ)
-    → behind_blank escaped n blank (rest text at) ≡ with_lead escaped n blank g.stop (g.lines, rest text line)
-last_line n text at line empties front indented g f h escaped blank =
+-- where no break comes after the line's white the start of the next line is read there
+last_line : (n : ℕ) (text : List ℕ) (at line empties prefix : ℕ) (indented : Bool) → (g : Folding n text at line empties) → IsPrefix n text line prefix indented
+    → read_break (rest text prefix) ≡ None → (escaped : Bool) (blank : List ℕ)
+    → after_blank escaped n blank (rest text at) ≡ with_lead escaped n blank g.stop (g.lines, rest text line)
+last_line n text at line empties prefix indented g f h escaped blank =
     step_break escaped n blank (rest text at) g.stop g.start g.broken
     ∙ ap (with_lead escaped n blank g.stop) (passed_all n g.start g.lines (rest text line) g.passed (f.no_empty h))
 
-pub fold_there : (n : ℕ) (text : List ℕ) (at line empties front : ℕ) (indented : Bool) → Folding n text at line empties → IsFront n text line front indented
-    → read_break (rest text front) ≡ None → indented ≡ true → marker (rest text line) ≡ false → IsFold n text at empties front
-fold_there n text at line empties front indented g f h i m =
+-- before a line that is indented it is a fold
+pub fold_there : (n : ℕ) (text : List ℕ) (at line empties prefix : ℕ) (indented : Bool) → Folding n text at line empties → IsPrefix n text line prefix indented
+    → read_break (rest text prefix) ≡ None → indented ≡ true → marker (rest text line) ≡ false → IsFold n text at empties prefix
+fold_there n text at line empties prefix indented g f h i m =
     let above = g.above in
     let further = f.above in
     let lead : List ℕ = taken white (rest text line) in
@@ -259,33 +267,34 @@ fold_there n text at line empties front indented g f h i m =
       boundary = f.boundary;
       join = λ escaped blank. record { escaped = escaped; blank = blank; stop = g.stop; empties = g.lines; lead = lead };
       found = λ escaped blank.
-          (last_line n text at line empties front indented g f h escaped blank
+          (last_line n text at line empties prefix indented g f h escaped blank
           ∙ (step_lead escaped n blank g.stop g.lines (rest text line) (and_from _ _ (f.indent ∙ i) (not_from_false _ m))
           ∙ ap (λ (t : List ℕ). Some (record { escaped = escaped; blank = blank; stop = g.stop; empties = g.lines; lead = lead }, t)) (f.skips i)));
       escapes = λ escaped blank. refl;
       counts = λ escaped blank. g.count;
     }
 
-pub no_fold_there : (n : ℕ) (text : List ℕ) (at line empties front : ℕ) (indented : Bool) → Folding n text at line empties → IsFront n text line front indented
-    → read_break (rest text front) ≡ None → (indented ≡ false) ⊎ (marker (rest text line) ≡ true) → NoFold n text at
-no_fold_there n text at line empties front indented g f h w = λ escaped blank.
-    last_line n text at line empties front indented g f h escaped blank
+-- before another line it is none
+pub no_fold_there : (n : ℕ) (text : List ℕ) (at line empties prefix : ℕ) (indented : Bool) → Folding n text at line empties → IsPrefix n text line prefix indented
+    → read_break (rest text prefix) ≡ None → (indented ≡ false) ⊎ (marker (rest text line) ≡ true) → NoFold n text at
+no_fold_there n text at line empties prefix indented g f h w = λ escaped blank.
+    last_line n text at line empties prefix indented g f h escaped blank
     ∙ no_lead escaped n blank g.stop g.lines (rest text line) (elim w [
       | inl i ↦ and_left _ _ (f.indent ∙ i)
       | inr m ↦ and_right _ _ (ap not m)
     ])
 
--- ---- behind a fold
+-- ---- after a fold
 
 -- what is read as a join is followed by no break: all empty lines belong to it
-join_solid : (escaped : Bool) (n : ℕ) (blank text : List ℕ) (j : Join) (behind : List ℕ) → behind_blank escaped n blank text ≡ Some (j, behind) → at_break behind ≡ false
-unfolding behind_blank
-join_solid escaped n blank text j behind e =
-    let p = on_parts (read_break text) (λ stop t. with_lead escaped n blank stop (all_of (read_empty n) t)) (j, behind) e in
+join_solid : (escaped : Bool) (n : ℕ) (blank text : List ℕ) (j : Join) (after : List ℕ) → after_blank escaped n blank text ≡ Some (j, after) → at_break after ≡ false
+unfolding after_blank
+join_solid escaped n blank text j after e =
+    let p = on_parts (read_break text) (λ stop t. with_lead escaped n blank stop (all_of (read_empty n) t)) (j, after) e in
     let more : List Empty × List ℕ = all_of (read_empty n) p.1 in
     let none : read_empty n more.1 ≡ None = repeated_end (read_empty n) (empty_shrinks n) (length p.1) p.1 (omega arith) in
     elim (chosen (indents n (taken white more.1) && no_marker true more.1) _ _ _ p.3) [
-      | inl q ↦ (let same : dropped white more.1 ≡ behind = (some_parts _ _ _ _ q.1).1 in
+      | inl q ↦ (let same : dropped white more.1 ≡ after = (some_parts _ _ _ _ q.1).1 in
           let deep : begins (spaces n) (taken white more.1) ≡ true = (and_parts _ _ (and_parts _ _ q.0).0).1 in
           let unbroken : read_break (dropped white more.1) ≡ None = never more.1 deep (read_break (dropped white more.1)) refl none in
           subst (λ (t : List ℕ). at_break t ≡ false) same (no_white_at_break (dropped white more.1) (dropped_first white more.1)
@@ -297,5 +306,6 @@ join_solid escaped n blank text j behind e =
     never t deep None e none = e
     never t deep (Some r) e none = absurd (none_some _ (sym none ∙ empty_there n t r.0 r.1 (or_left _ _ deep) e))
 
+-- after a fold comes something solid
 pub fold_solid : (n : ℕ) (text : List ℕ) (at empties next : ℕ) → IsFold n text at empties next → at_break (rest text next) ≡ false
 fold_solid n text at empties next f = join_solid false n [] (rest text at) (f.join false []) (rest text next) (f.found false [])

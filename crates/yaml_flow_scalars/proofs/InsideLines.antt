@@ -9,11 +9,11 @@ use Rattle.std.proofs.lemmas.Str.{IsCharBoundary-start}
 use Rattle.yaml_chars.specs.Classes.{line_break, ns, white}
 use Rattle.yaml_chars.specs.Places.{rest, between}
 use Rattle.yaml_chars.proofs.Places.{between-append, rest-between}
-use Rattle.yaml_events.specs.Places.{line_starts, without_mark}
+use Rattle.yaml_events.specs.EventPlaces.{line_starts, without_mark}
 use Rattle.yaml_grammar.specs.Events.{Style}
-use Rattle.yaml_grammar.specs.FlowScalars.{FlowContext, outer, inner, block_key, flow_key, Line, Scalar, plain, single, double, ends, plain_first, plain_next, plain_run, plain_line, plain_more, plain_lines, plain_kind, plain_text, single_text, item_text, line_text, lines_text, join_text, empties_text, lines_behind, scalar_text, scalar_fits}
+use Rattle.yaml_grammar.specs.FlowScalars.{FlowContext, outer, inner, block_key, flow_key, Line, Scalar, plain, single, double, ends, plain_first, plain_next, plain_run, plain_line, plain_more, plain_lines, plain_kind, plain_text, single_text, quoted_char_text, line_text, lines_text, join_text, empties_text, lines_after, scalar_text, scalar_fits}
 use Rattle.yaml_grammar.specs.Texts.{is_empty, starts_line}
-use Rattle.yaml_recognizers.proofs.PlainScalars.{plain_texts}
+use Rattle.yaml_recognizers.proofs.Scalars.PlainScalars.{plain_texts}
 use Rattle.yaml_flow_scalars.specs.Standing.{ScalarAt}
 
 -- neither a break nor a byte order mark
@@ -26,66 +26,66 @@ ends_longer : (p : ℕ → Bool) (x : ℕ) (xs : List ℕ) → ends p xs ≡ tru
 ends_longer p x [] h = absurd (false≢true h)
 ends_longer p x (y ∷ ys) h = h
 
-ends_behind : (p : ℕ → Bool) (xs ys : List ℕ) → ends p ys ≡ true → ends p (xs ++ ys) ≡ true
-ends_behind p [] ys h = h
-ends_behind p (x ∷ xs) ys h = ends_longer p x (xs ++ ys) (ends_behind p xs ys h)
+ends_after : (p : ℕ → Bool) (xs ys : List ℕ) → ends p ys ≡ true → ends p (xs ++ ys) ≡ true
+ends_after p [] ys h = h
+ends_after p (x ∷ xs) ys h = ends_longer p x (xs ++ ys) (ends_after p xs ys h)
 
-next_inked : (c : FlowContext) (before x : ℕ) (behind : List ℕ) → plain_next c before x behind ≡ true → inked x ≡ true
-next_inked outer before x behind h = grind (arith, nat_tests)
-next_inked inner before x behind h = grind (arith, nat_tests)
-next_inked block_key before x behind h = grind (arith, nat_tests)
-next_inked flow_key before x behind h = grind (arith, nat_tests)
+next_inked : (c : FlowContext) (before x : ℕ) (after : List ℕ) → plain_next c before x after ≡ true → inked x ≡ true
+next_inked outer before x after h = grind (arith, nat_tests)
+next_inked inner before x after h = grind (arith, nat_tests)
+next_inked block_key before x after h = grind (arith, nat_tests)
+next_inked flow_key before x after h = grind (arith, nat_tests)
 
 first_inked : (x : ℕ) → ns x ≡ true → inked x ≡ true
 first_inked x h = grind (arith, nat_tests)
 
-last_inked : (c : FlowContext) (before x : ℕ) (behind : List ℕ) → (white x || plain_next c before x behind) && not (white x) ≡ true → inked x ≡ true
-last_inked c before x behind h = by_cases (white x) (plain_next c before x behind) h (next_inked c before x behind)
+last_inked : (c : FlowContext) (before x : ℕ) (after : List ℕ) → (white x || plain_next c before x after) && not (white x) ≡ true → inked x ≡ true
+last_inked c before x after h = by_cases (white x) (plain_next c before x after) h (next_inked c before x after)
   where
     by_cases : (w p : Bool) → (w || p) && not w ≡ true → (p ≡ true → inked x ≡ true) → inked x ≡ true
     by_cases true p h f = absurd (false≢true h)
     by_cases false true h f = f refl
     by_cases false false h f = absurd (false≢true h)
 
-run_ends : (c : FlowContext) (before x : ℕ) (xs behind : List ℕ) → plain_run c before (x ∷ xs) behind ≡ true → ends inked (x ∷ xs) ≡ true
-run_ends c before x [] behind h = last_inked c before x behind h
-run_ends c before x (y ∷ ys) behind h = run_ends c x y ys behind (and_parts _ _ h).1
+run_ends : (c : FlowContext) (before x : ℕ) (xs after : List ℕ) → plain_run c before (x ∷ xs) after ≡ true → ends inked (x ∷ xs) ≡ true
+run_ends c before x [] after h = last_inked c before x after h
+run_ends c before x (y ∷ ys) after h = run_ends c x y ys after (and_parts _ _ h).1
 
-line_ends : (c : FlowContext) (xs behind : List ℕ) → plain_line c xs behind ≡ true → ends inked xs ≡ true
-line_ends c [] behind h = absurd (false≢true h)
-line_ends c (x ∷ []) behind h = let p = and_parts _ _ h in first_inked x (and_parts _ _ p.0).0
-line_ends c (x ∷ y ∷ ys) behind h = run_ends c x y ys behind (and_parts _ _ h).1
+line_ends : (c : FlowContext) (xs after : List ℕ) → plain_line c xs after ≡ true → ends inked xs ≡ true
+line_ends c [] after h = absurd (false≢true h)
+line_ends c (x ∷ []) after h = let p = and_parts _ _ h in first_inked x (and_parts _ _ p.0).0
+line_ends c (x ∷ y ∷ ys) after h = run_ends c x y ys after (and_parts _ _ h).1
 
-more_ends : (c : FlowContext) (xs behind : List ℕ) → plain_more c xs behind ≡ true → ends inked xs ≡ true
-more_ends c [] behind h = absurd (false≢true h)
-more_ends c (x ∷ xs) behind h = run_ends c 32 x xs behind (and_parts _ _ h).1
+more_ends : (c : FlowContext) (xs after : List ℕ) → plain_more c xs after ≡ true → ends inked xs ≡ true
+more_ends c [] after h = absurd (false≢true h)
+more_ends c (x ∷ xs) after h = run_ends c 32 x xs after (and_parts _ _ h).1
 
 line_text_ends : (l : Line ℕ) → ends inked l.held ≡ true → ends inked (line_text plain_text l) ≡ true
-line_text_ends l h = ends_behind inked (join_text l ++ empties_text l.empties ++ l.lead) (flat_map plain_text l.held) (rw (plain_texts l.held) h)
+line_text_ends l h = ends_after inked (join_text l ++ empties_text l.empties ++ l.lead) (flat_map plain_text l.held) (rw (plain_texts l.held) h)
 
-lines_end : (n : ℕ) (c : FlowContext) (before : List ℕ) (l : Line ℕ) (ls : List (Line ℕ)) (behind : List ℕ) → plain_lines n c before (l ∷ ls) behind ≡ true
+lines_end : (n : ℕ) (c : FlowContext) (before : List ℕ) (l : Line ℕ) (ls : List (Line ℕ)) (after : List ℕ) → plain_lines n c before (l ∷ ls) after ≡ true
     → ends inked (flat_map (line_text plain_text) (l ∷ ls)) ≡ true
-lines_end n c before l [] behind h =
+lines_end n c before l [] after h =
     let p = and_parts _ _ h in
     let q = and_parts _ _ p.0 in
-    rw (append-nil (line_text plain_text l)) (line_text_ends l (more_ends c l.held (lines_behind plain_kind [] behind) q.1))
-lines_end n c before l (m ∷ ms) behind h =
-    ends_behind inked (line_text plain_text l) (flat_map (line_text plain_text) (m ∷ ms)) (lines_end n c l.held m ms behind (and_parts _ _ h).1)
+    rw (append-nil (line_text plain_text l)) (line_text_ends l (more_ends c l.held (lines_after plain_kind [] after) q.1))
+lines_end n c before l (m ∷ ms) after h =
+    ends_after inked (line_text plain_text l) (flat_map (line_text plain_text) (m ∷ ms)) (lines_end n c l.held m ms after (and_parts _ _ h).1)
 
-scalar_ends : (s : Scalar) (n : ℕ) (c : FlowContext) (bol : Bool) (behind : List ℕ) → scalar_fits n c bol s behind ≡ true → ends inked (scalar_text s) ≡ true
-scalar_ends (plain front []) n c bol behind h =
+scalar_ends : (s : Scalar) (n : ℕ) (c : FlowContext) (bol : Bool) (after : List ℕ) → scalar_fits n c bol s after ≡ true → ends inked (scalar_text s) ≡ true
+scalar_ends (plain prefix []) n c bol after h =
     let p = and_parts _ _ h in
     let q = and_parts _ _ p.0 in
     let r = and_parts _ _ q.0 in
-    rw (append-nil (flat_map plain_text front), plain_texts front) (line_ends c front (lines_behind plain_kind [] behind) r.1)
-scalar_ends (plain front (l ∷ ls)) n c bol behind h =
+    rw (append-nil (flat_map plain_text prefix), plain_texts prefix) (line_ends c prefix (lines_after plain_kind [] after) r.1)
+scalar_ends (plain prefix (l ∷ ls)) n c bol after h =
     let p = and_parts _ _ h in
     let q = and_parts _ _ p.0 in
-    ends_behind inked (flat_map plain_text front) (flat_map (line_text plain_text) (l ∷ ls)) (lines_end n c front l ls behind q.1)
-scalar_ends (single front more) n c bol behind h = ends_behind inked (codes "'" ++ lines_text single_text front more) (codes "'") refl
-scalar_ends (double front more) n c bol behind h = ends_behind inked (codes "\"" ++ lines_text item_text front more) (codes "\"") refl
+    ends_after inked (flat_map plain_text prefix) (flat_map (line_text plain_text) (l ∷ ls)) (lines_end n c prefix l ls after q.1)
+scalar_ends (single prefix more) n c bol after h = ends_after inked (codes "'" ++ lines_text single_text prefix more) (codes "'") refl
+scalar_ends (double prefix more) n c bol after h = ends_after inked (codes "\"" ++ lines_text quoted_char_text prefix more) (codes "\"") refl
 
--- ---- no line starts behind it
+-- ---- no line starts after it
 
 inked_parts : (x : ℕ) → inked x ≡ true → (line_break x ≡ false) × ((x == 0xfeff) ≡ false)
 inked_parts x h = by_cases (line_break x) (x == 0xfeff) h
@@ -109,6 +109,7 @@ no_line_marked (x ∷ xs) h =
     past_mark x [] e h = absurd (false≢true (sym (inked_parts x h).1 ∙ e))
     past_mark x (y ∷ ys) e h = no_line true (y ∷ ys) h
 
+-- a scalar ends with a character that is no break
 pub ends_inside_line : (style : Style) (n : ℕ) (c : FlowContext) (text : List ℕ) (at : ℕ) (value : List ℕ) (end : ℕ) → IsUtf8 text → IsCharBoundary text at
     → ScalarAt style n c text at value end → line_starts text end ≡ false
 ends_inside_line style n c text at value end u b s =
@@ -121,4 +122,4 @@ ends_inside_line style n c text at value end u b s =
     between-append text 0 at end u (omega arith) (omega arith) (IsCharBoundary-start text u) b s.boundary ∙ ap (λ t. between text 0 at ++ t) spelled in
     ap (λ t. starts_line true (without_mark t)) whole
     ∙ no_line_marked (between text 0 at ++ scalar_text there)
-    (ends_behind inked (between text 0 at) (scalar_text there) (scalar_ends there n c (line_starts text at) (rest text end) stands.fits))
+    (ends_after inked (between text 0 at) (scalar_text there) (scalar_ends there n c (line_starts text at) (rest text end) stands.fits))

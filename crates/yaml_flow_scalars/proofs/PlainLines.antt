@@ -12,14 +12,14 @@ use Rattle.yaml_chars.proofs.Places.{rest-between, between-nil}
 use Rattle.yaml_chars.proofs.Runs.{blind-white, blind-line_break}
 use Rattle.yaml_grammar.specs.Texts.{first, is_empty}
 use Rattle.yaml_grammar.specs.FlowScalars.{FlowContext, one_line, Line, line_value, char_value, values, folded_break, line_feeds}
-use Rattle.yaml_recognizers.specs.Fronts.{taken, dropped}
-use Rattle.yaml_recognizers.specs.Joins.{Join, line_of, read_join, behind_blank}
+use Rattle.yaml_recognizers.specs.Prefixes.{taken, dropped}
+use Rattle.yaml_recognizers.specs.Joins.{Join, line_of, read_join, after_blank}
 use Rattle.yaml_recognizers.specs.PlainScalars.{with_run, read_plain_line, plain_lines_at}
-use Rattle.yaml_recognizers.proofs.Breaks.{unbroken}
-use Rattle.yaml_recognizers.proofs.Fronts.{taken_all, dropped_all}
-use Rattle.yaml_recognizers.proofs.JoinSteps.{no_break}
-use Rattle.yaml_recognizers.proofs.PlainSteps.{line_behind_join, no_line_no_join, lines_of_key, no_more_lines, one_more_line}
-use Rattle.yaml_recognizers.proofs.Reading.{none_some}
+use Rattle.yaml_recognizers.proofs.Basics.Breaks.{unbroken}
+use Rattle.yaml_recognizers.proofs.Basics.Prefixes.{taken_all, dropped_all}
+use Rattle.yaml_recognizers.proofs.Scalars.JoinSteps.{no_break}
+use Rattle.yaml_recognizers.proofs.Scalars.PlainSteps.{line_after_join, no_line_no_join, lines_of_key, no_more_lines, one_more_line}
+use Rattle.yaml_recognizers.proofs.Basics.Reading.{none_some}
 use Rattle.yaml_scan.proofs.ByteRuns.{first-rest}
 use Rattle.yaml_flow_scalars.proofs.FoldSteps.{run_every, run_first}
 use Rattle.yaml_flow_scalars.proofs.PlainPieces.{between_some}
@@ -30,17 +30,17 @@ use Rattle.yaml_flow_scalars.specs.PlainPlaces.{IsPlainRun, IsNextLine, NoNextLi
 
 -- A join without a backslash begins with the white at the place.
 join_at : (n : ℕ) (text : List ℕ) (at blank_end : ℕ) → IsUtf8 text → IsCharBoundary text at → IsRun white text at blank_end
-    → read_join false n (rest text at) ≡ behind_blank false n (between text at blank_end) (rest text blank_end)
+    → read_join false n (rest text at) ≡ after_blank false n (between text at blank_end) (rest text blank_end)
 unfolding read_join
 join_at n text at blank_end u b run =
     let w = run_every white text at blank_end run in
     let f = run_first white text at blank_end blind-white u run in
     let split = rest-between text at blank_end u run.above b run.boundary in
-    ap (λ t. behind_blank false n (taken white t) (dropped white t)) split
-    ∙ (ap (λ t. behind_blank false n t (dropped white (between text at blank_end ++ rest text blank_end))) (taken_all white (between text at blank_end) (rest text blank_end) w f)
-    ∙ ap (behind_blank false n (between text at blank_end)) (dropped_all white (between text at blank_end) (rest text blank_end) w f))
+    ap (λ t. after_blank false n (taken white t) (dropped white t)) split
+    ∙ (ap (λ t. after_blank false n t (dropped white (between text at blank_end ++ rest text blank_end))) (taken_all white (between text at blank_end) (rest text blank_end) w f)
+    ∙ ap (after_blank false n (between text at blank_end)) (dropped_all white (between text at blank_end) (rest text blank_end) w f))
 
--- a break stands where a fold begins
+-- a break is where a fold begins
 break_of_fold : (n : ℕ) (text : List ℕ) (at empties next : ℕ) → IsUtf8 text → IsCharBoundary text at → IsFold n text at empties next → line_break (slice_index text at) ≡ true
 break_of_fold n text at empties next u b fold = elim (cases_Bool (line_break (slice_index text at))) [
   | inl e ↦ e
@@ -52,6 +52,7 @@ break_of_fold n text at empties next u b fold = elim (cases_Bool (line_break (sl
 
 -- ---- a further line
 
+-- characters mean themselves
 pub values_are : (xs : List ℕ) → values char_value xs ≡ xs
 values_are [] = refl
 values_are (x ∷ xs) = ap (λ ys. x ∷ ys) (values_are xs)
@@ -62,6 +63,7 @@ line_means j empties held e k =
     ∙ (ap (λ m. folded_break m ++ values char_value held) k ∙ ap (λ t. folded_break empties ++ t) (values_are held))
 
 module _ (n : ℕ) (c : FlowContext) (text : List ℕ) (at blank_end : ℕ) (u : IsUtf8 text) (b : IsCharBoundary text at) (run : IsRun white text at blank_end) where
+  -- without a fold there is no further line
   pub no_fold_no_line : NoFold n text blank_end → NoNextLine n c text at
   no_fold_no_line none =
       no_more_lines n c (rest text at) (no_line_no_join n c (rest text at)
@@ -71,14 +73,16 @@ module _ (n : ℕ) (c : FlowContext) (text : List ℕ) (at blank_end : ℕ) (u :
     line_read : read_plain_line n c (rest text at) ≡ with_run (fold.join false (between text at blank_end)) (rest text next) (between text next end)
     line_read =
         let j : Join = fold.join false (between text at blank_end) in
-        line_behind_join n c (rest text at) j (rest text next) (join_at n text at blank_end u b run ∙ fold.found false (between text at blank_end))
+        line_after_join n c (rest text at) j (rest text next) (join_at n text at blank_end u b run ∙ fold.found false (between text at blank_end))
         ∙ ap (with_run j (rest text next)) (held.reads 32 refl)
 
+    -- nor if it holds nothing
     pub empty_no_line : end ≡ next → NoNextLine n c text at
     empty_no_line e =
         no_more_lines n c (rest text at)
         (line_read ∙ ap (with_run (fold.join false (between text at blank_end)) (rest text next)) (ap (between text next) e ∙ between-nil text next))
 
+    -- else there is one
     pub next_line_is : one_line c ≡ false → next < end → IsNextLine n c text at empties next end
     next_line_is k l =
         let blank : List ℕ = between text at blank_end in
@@ -92,23 +96,24 @@ module _ (n : ℕ) (c : FlowContext) (text : List ℕ) (at blank_end : ℕ) (u :
         ∙ ap (λ t. Some (line_of j inside, t)) left) in
         record {
           stop = blank_end;
-          behind = run.above;
+          after = run.above;
           before = fold.above;
           breaks = break_of_fold n text blank_end empties next u run.boundary fold;
           holds = l;
-          front = fold.boundary;
+          prefix = fold.boundary;
           boundary = held.boundary;
           line = line_of j inside;
           found = one_more_line n c (rest text at) (line_of j inside) (rest text end) k found;
           means = line_means j empties inside (fold.escapes false blank) (fold.counts false blank);
         }
 
+-- in a key there is none
 pub key_no_line : (n : ℕ) (c : FlowContext) (text : List ℕ) (at : ℕ) → one_line c ≡ true → NoNextLine n c text at
 key_no_line n c text at k = lines_of_key n c (rest text at) k
 
 -- ---- all further lines
 
--- what a line and those behind it mean
+-- what a line and those after it mean
 pub lines_step : (n : ℕ) (c : FlowContext) (text : List ℕ) (at empties start end : ℕ) → IsNextLine n c text at empties start end
     → (lines_value n c text at ≡ (folded_break empties ++ between text start end) ++ lines_value n c text end)
     × ((plain_lines_at n c (rest text at)).1 ≡ (plain_lines_at n c (rest text end)).1)
@@ -117,6 +122,7 @@ lines_step n c text at empties start end next = (
   ap (λ (found : List (Line ℕ) × List ℕ). found.1) next.found,
 )
 
+-- where no further line comes, there are none
 pub lines_stop : (n : ℕ) (c : FlowContext) (text : List ℕ) (at : ℕ) → NoNextLine n c text at
     → (lines_value n c text at ≡ []) × ((plain_lines_at n c (rest text at)).1 ≡ rest text at)
 lines_stop n c text at none = (
@@ -157,7 +163,7 @@ line_next n c text whole so_far longest line at empties start end next e f =
     ∙ (ap (λ t. longest ++ t) (lines_step n c text at empties start end next).0
     ∙ sym (append_assoc longest (folded_break empties ++ between text start end) (lines_value n c text end))))
 
--- and behind the last one
+-- and after the last one
 pub line_last : (n : ℕ) (c : FlowContext) (text whole so_far longest line : List ℕ) (at : ℕ) → NoNextLine n c text at
     → whole ≡ so_far ++ line ++ lines_value n c text at → longest ≡ so_far ++ line → longest ≡ whole
 line_last n c text whole so_far longest line at none e f =

@@ -1,4 +1,5 @@
--- Runs of plain characters at places of a text: what the recognizer of a run reads over white, and over plain characters.
+-- Runs of plain characters at places of a text: what the recognizer of a run reads over white, and over plain
+-- characters.
 use Rattle.std.proofs.Common.{◌≡◌, refl, sym, ◌∙◌, ap, subst, append_assoc, append-nil, arith, length, length-drop, inl, inr, ℕ, ◌+◌, ◌-◌, ◌<◌, ◌≤◌}
 use Rattle.std.specs.Prelude.{Bool, true, false, cond, not, ◌&&◌, ◌||◌, ◌==◌, nat_lt, List, [], ◌∷◌, ◌++◌, drop, slice_range, codes}
 use lib.Utf8.{encodes}
@@ -15,8 +16,8 @@ use Rattle.yaml_chars.proofs.Runs.{IsBlind, blind-white}
 use Rattle.yaml_grammar.specs.Texts.{every, first, is_empty}
 use Rattle.yaml_grammar.specs.FlowScalars.{FlowContext, outer, inner, block_key, flow_key, safe, plain_next}
 use Rattle.yaml_recognizers.specs.PlainScalars.{read_run, last_of}
-use Rattle.yaml_recognizers.proofs.PlainRuns.{no_run, no_run_at_end}
-use Rattle.yaml_recognizers.proofs.PlainSteps.{step_char, step_white, stop_white}
+use Rattle.yaml_recognizers.proofs.Scalars.PlainRuns.{no_run, no_run_at_end}
+use Rattle.yaml_recognizers.proofs.Scalars.PlainSteps.{step_char, step_white, stop_white}
 use Rattle.yaml_flow_scalars.proofs.FoldSteps.{run_every, run_first}
 use Rattle.yaml_scan.specs.Classes.{simple}
 use Rattle.yaml_flow_scalars.specs.PlainPlaces.{goes_on_plain, IsPlainPiece, NoPlainPiece, IsPlainRun}
@@ -53,6 +54,7 @@ by_three false true d e f g h k = g refl
 by_three false false true e f g h k = h refl
 by_three false false false e f g h k = absurd (false≢true k)
 
+-- a plain character is ns
 pub plain_is_ns : (c : FlowContext) (before x : ℕ) (xs : List ℕ) → plain_next c before x xs ≡ true → ns x ≡ true
 plain_is_ns c before x xs h =
     by_three (safe c x && not (is_in x (codes ":#"))) ((x == 58) && first (safe c) xs) ((x == 35) && ns before) (ns x)
@@ -60,21 +62,23 @@ plain_is_ns c before x xs h =
     (λ e. ap ns (eqb-true x 58 (and_parts (x == 58) (first (safe c) xs) e).0))
     (λ e. ap ns (eqb-true x 35 (and_parts (x == 35) (ns before) e).0)) h
 
+-- a run goes on with a plain character
 pub one_goes_on : (c : FlowContext) (before last x : ℕ) (xs : List ℕ) → plain_next c before x xs ≡ true → ns last ≡ true
     → read_run c before (x ∷ xs) ≡ x ∷ read_run c last xs
 one_goes_on c before last x xs h e =
     step_char c before x xs h ∙ ap (λ t. x ∷ t) (run_by_ns c x last xs (plain_is_ns c before x xs h ∙ sym e))
 
+-- a simple character is plain wherever it is
 pub simple_is_plain : (c : FlowContext) (before x : ℕ) (xs : List ℕ) → simple c x ≡ true → plain_next c before x xs ≡ true
 simple_is_plain c before x xs h = rw ((and_parts (nat_lt x 128) _ h).1) refl
 
 -- ---- white
 
-some_behind : (xs ys : List ℕ) → is_empty ys ≡ false → is_empty (xs ++ ys) ≡ false
-some_behind [] ys h = h
-some_behind (x ∷ xs) ys h = refl
+some_after : (xs ys : List ℕ) → is_empty ys ≡ false → is_empty (xs ++ ys) ≡ false
+some_after [] ys h = h
+some_after (x ∷ xs) ys h = refl
 
--- a run goes on behind white
+-- a run goes on after white
 over_white : (c : FlowContext) (before : ℕ) (blank tail : List ℕ) → every white blank ≡ true → is_empty (read_run c (last_of before blank) tail) ≡ false
     → read_run c before (blank ++ tail) ≡ blank ++ read_run c (last_of before blank) tail
 unfolding last_of
@@ -82,7 +86,7 @@ over_white c before [] tail w h = refl
 over_white c before (x ∷ xs) tail w h =
     let p : (white x ≡ true) × (every white xs ≡ true) = and_parts _ _ w in
     let more : read_run c x (xs ++ tail) ≡ xs ++ read_run c (last_of x xs) tail = over_white c x xs tail p.1 h in
-    step_white c before x (xs ++ tail) p.0 (ap is_empty more ∙ some_behind xs (read_run c (last_of x xs) tail) h) ∙ ap (λ t. x ∷ t) more
+    step_white c before x (xs ++ tail) p.0 (ap is_empty more ∙ some_after xs (read_run c (last_of x xs) tail) h) ∙ ap (λ t. x ∷ t) more
 
 -- or ends before it
 none_over_white : (c : FlowContext) (before : ℕ) (blank tail : List ℕ) → every white blank ≡ true → read_run c (last_of before blank) tail ≡ [] → read_run c before (blank ++ tail) ≡ []
@@ -96,17 +100,17 @@ none_over_white c before (x ∷ xs) tail w h =
 white_is_no_ns : (x : ℕ) → white x ≡ true → ns x ≡ false
 white_is_no_ns x h = grind (arith, nat_tests)
 
--- behind white the character before is white
-behind_white : (before : ℕ) (blank : List ℕ) → every white blank ≡ true → ns (last_of before blank) ≡ (ns before && is_empty blank)
+-- after whitespace, the character before a place is whitespace
+after_white : (before : ℕ) (blank : List ℕ) → every white blank ≡ true → ns (last_of before blank) ≡ (ns before && is_empty blank)
 unfolding last_of
-behind_white before [] w = right (ns before)
+after_white before [] w = right (ns before)
   where
     right : (b : Bool) → b ≡ (b && true)
     right true = refl
     right false = refl
-behind_white before (x ∷ xs) w =
+after_white before (x ∷ xs) w =
     let p : (white x ≡ true) × (every white xs ≡ true) = and_parts _ _ w in
-    behind_white x xs p.1 ∙ (ap (λ b. b && is_empty xs) (white_is_no_ns x p.0) ∙ none (ns before))
+    after_white x xs p.1 ∙ (ap (λ b. b && is_empty xs) (white_is_no_ns x p.0) ∙ none (ns before))
   where
     none : (b : Bool) → false ≡ (b && false)
     none true = refl
@@ -118,6 +122,7 @@ no_run_here c before (x ∷ xs) h w = no_run c before x xs h w
 
 -- ---- at places
 
+-- between two different places there is something
 pub between_some : (text : List ℕ) (i j : ℕ) → IsUtf8 text → i < j → IsCharBoundary text i → IsCharBoundary text j → is_empty (between text i j) ≡ false
 between_some text i j u l b d = some (between text i j) (encodes-between text i j u (omega arith) b d)
   where
@@ -137,11 +142,13 @@ one_piece c black text at end x u b l d e h =
           ap (read_run c before) e ∙ (one_goes_on c before last x (rest text end) (h before p) q ∙ ap (λ t. t ++ read_run c last (rest text end)) (sym one));
     }
 
--- What a run from one place reads up to another, and goes on to read there. It begins behind a character that is no white, if black.
+-- What a run from one place reads up to another, and goes on to read there. It begins after a character that is no
+-- white, if black.
 abbrev pub GoesOn : FlowContext → Bool → Bool → List ℕ → ℕ → ℕ → Type 0
-GoesOn c black after text from end =
-    (before last : ℕ) → ns before ≡ black → ns last ≡ after → read_run c before (rest text from) ≡ between text from end ++ read_run c last (rest text end)
+GoesOn c black black_after text from end =
+    (before last : ℕ) → ns before ≡ black → ns last ≡ black_after → read_run c before (rest text from) ≡ between text from end ++ read_run c last (rest text end)
 
+-- a run goes on from where it starts
 pub goes_from : (c : FlowContext) (black : Bool) (text : List ℕ) (from : ℕ) → GoesOn c black black text from from
 goes_from c black text from before last e f =
     run_by_ns c before last (rest text from) (e ∙ sym f) ∙ ap (λ t. t ++ read_run c last (rest text from)) (sym (between-nil text from))
@@ -153,25 +160,26 @@ empty_between text i j u l b d = elim (cases_lt i j) [
       ap (λ k. is_empty (between text i k)) e ∙ (ap is_empty (between-nil text i) ∙ sym (let f : (j == i) ≡ true = grind (arith, nat_tests) in f)))
 ]
 
-module _ (c : FlowContext) (black after : Bool) (text : List ℕ) (from end place : ℕ) (u : IsUtf8 text) (start : IsCharBoundary text from) (b : IsCharBoundary text end)
-    (l : from ≤ end) (goes : GoesOn c black after text from end) (run : IsRun white text end place) where
-  -- behind the white before the place
-  at_place : (middle : ℕ) → ns middle ≡ after → ns (last_of middle (between text end place)) ≡ (after && (place == end))
+module _ (c : FlowContext) (black black_after : Bool) (text : List ℕ) (from end place : ℕ) (u : IsUtf8 text) (start : IsCharBoundary text from) (b : IsCharBoundary text end)
+    (l : from ≤ end) (goes : GoesOn c black black_after text from end) (run : IsRun white text end place) where
+  -- after the white before the place
+  at_place : (middle : ℕ) → ns middle ≡ black_after → ns (last_of middle (between text end place)) ≡ (black_after && (place == end))
   at_place middle m =
-      behind_white middle (between text end place) (run_every white text end place run)
-      ∙ (ap (λ p. p && is_empty (between text end place)) m ∙ ap (λ p. after && p) (empty_between text end place u run.above b run.boundary))
+      after_white middle (between text end place) (run_every white text end place run)
+      ∙ (ap (λ p. p && is_empty (between text end place)) m ∙ ap (λ p. black_after && p) (empty_between text end place u run.above b run.boundary))
 
-  pub piece_more : (next : ℕ) → IsPlainPiece c (after && (place == end)) text place next → GoesOn c black true text from next
+  -- a piece more is read
+  pub piece_more : (next : ℕ) → IsPlainPiece c (black_after && (place == end)) text place next → GoesOn c black true text from next
   piece_more next piece before last e f =
       let above = run.above in
       let past = piece.above in
-      let m = before_of after in
+      let m = before_of black_after in
       let blank : List ℕ = between text end place in
       let held : List ℕ = between text place next in
-      let behind : List ℕ = read_run c last (rest text next) in
-      let here : read_run c (last_of m.0 blank) (rest text place) ≡ held ++ behind = piece.goes_on (last_of m.0 blank) last (at_place m.0 m.1) f in
+      let after : List ℕ = read_run c last (rest text next) in
+      let here : read_run c (last_of m.0 blank) (rest text place) ≡ held ++ after = piece.goes_on (last_of m.0 blank) last (at_place m.0 m.1) f in
       let some : is_empty (read_run c (last_of m.0 blank) (rest text place)) ≡ false =
-      ap is_empty here ∙ some_before held behind (between_some text place next u past run.boundary piece.boundary) in
+      ap is_empty here ∙ some_before held after (between_some text place next u past run.boundary piece.boundary) in
       let whole : between text from next ≡ between text from end ++ (blank ++ held) =
       between-append text from end next u l (omega arith) start b piece.boundary
       ∙ ap (λ t. between text from end ++ t) (between-append text end place next u above (omega arith) b run.boundary piece.boundary) in
@@ -179,7 +187,7 @@ module _ (c : FlowContext) (black after : Bool) (text : List ℕ) (from end plac
       ∙ (ap (λ t. between text from end ++ t)
       (ap (read_run c m.0) (rest-between text end place u above b run.boundary)
       ∙ (over_white c m.0 blank (rest text place) (run_every white text end place run) some ∙ ap (λ t. blank ++ t) here))
-      ∙ (regroup (between text from end) blank held behind ∙ ap (λ t. t ++ behind) (sym whole)))
+      ∙ (regroup (between text from end) blank held after ∙ ap (λ t. t ++ after) (sym whole)))
     where
       some_before : (xs ys : List ℕ) → is_empty xs ≡ false → is_empty (xs ++ ys) ≡ false
       some_before [] ys h = absurd (false≢true (sym h))
@@ -188,12 +196,13 @@ module _ (c : FlowContext) (black after : Bool) (text : List ℕ) (from end plac
       regroup : (p q r s : List ℕ) → p ++ (q ++ (r ++ s)) ≡ (p ++ (q ++ r)) ++ s
       regroup p q r s = simp append_assoc
 
-  pub run_ends_at : NoPlainPiece c (after && (place == end)) text place → IsPlainRun c black text from end
+  -- where no piece comes, the run ends
+  pub run_ends_at : NoPlainPiece c (black_after && (place == end)) text place → IsPlainRun c black text from end
   run_ends_at none = record {
     above = l;
     boundary = b;
     reads = λ before e.
-        let m = before_of after in
+        let m = before_of black_after in
         let blank : List ℕ = between text end place in
         let here : read_run c (last_of m.0 blank) (rest text place) ≡ [] =
         no_run_here c (last_of m.0 blank) (rest text place) (none (last_of m.0 blank) (at_place m.0 m.1)) (run_first white text end place blind-white u run) in

@@ -1,4 +1,4 @@
--- Words on a line of a plain scalar: white space, and ASCII characters that are plain wherever they stand.
+-- Words on a line of a plain scalar: white space, and ASCII characters that are plain wherever they are.
 use Rattle.std.proofs.Common.{◌≡◌, refl, sym, ◌∙◌, ap, subst, append_assoc, arith, length, inl, inr, ℕ, ◌+◌, ◌<◌, ◌≤◌, get_or}
 use Rattle.std.specs.Prelude.{Bool, true, false, not, ◌&&◌, ◌||◌, ◌==◌, nat_lt, List, [], ◌∷◌, ◌++◌, slice_index}
 use Rattle.std.specs.List.{list_all}
@@ -12,12 +12,12 @@ use Rattle.yaml_chars.proofs.Places.{between-append, rest-ascii, rest-between, r
 use Rattle.yaml_chars.proofs.Runs.{IsBlind}
 use Rattle.yaml_grammar.specs.Texts.{first, is_empty, marker, no_marker}
 use Rattle.yaml_grammar.specs.FlowScalars.{FlowContext, ends, plain_first, plain_next, safe}
-use Rattle.yaml_events.specs.Places.{line_starts}
+use Rattle.yaml_events.specs.EventPlaces.{line_starts}
 use Rattle.yaml_recognizers.specs.PlainScalars.{read_run}
-use Rattle.yaml_recognizers.proofs.PlainRuns.{unplain}
-use Rattle.yaml_recognizers.proofs.PlainSteps.{step_char, step_white}
+use Rattle.yaml_recognizers.proofs.Scalars.PlainRuns.{unplain}
+use Rattle.yaml_recognizers.proofs.Scalars.PlainSteps.{step_char, step_white}
 use Rattle.yaml_scan.specs.Classes.{simple, word}
-use Rattle.yaml_scan.proofs.ByteRuns.{ascii_in_front}
+use Rattle.yaml_scan.proofs.ByteRuns.{ascii_at_beginning}
 use Rattle.yaml_flow_scalars.specs.Folds.{IsWhiteStart}
 use Rattle.yaml_flow_scalars.specs.PlainPlaces.{goes_on_plain, letter_or_digit, BeginsPlain, NoPlainPiece}
 use Rattle.yaml_flow_scalars.proofs.FoldSteps.{every-list_all}
@@ -25,6 +25,7 @@ use Rattle.yaml_flow_scalars.proofs.PlainPieces.{before_of, between_some, one_go
 
 -- ---- the first character
 
+-- the test for letters and digits doesn't distinguish characters from 128 on
 pub blind-letter_or_digit : IsBlind letter_or_digit
 blind-letter_or_digit c h l = grind (arith, nat_tests)
 
@@ -61,15 +62,16 @@ split_first : (test : ℕ → Bool) (xs : List ℕ) → first test xs ≡ true �
 split_first test [] h = absurd (false≢true h)
 split_first test (x ∷ xs) h = (x, xs, refl, h)
 
+-- a letter or digit starts a plain scalar
 pub letter_begins_at : (c : FlowContext) (text : List ℕ) (at : ℕ) → IsUtf8 text → IsCharBoundary text at → first letter_or_digit (rest text at) ≡ true → BeginsPlain c text at (at + 1)
 letter_begins_at c text at u b h =
     let there = split_first letter_or_digit (rest text at) h in
-    let front = ascii_in_front text at there.0 there.1 u b (letter_is_ascii there.0 there.3) there.2 in
+    let prefix = ascii_at_beginning text at there.0 there.1 u b (letter_is_ascii there.0 there.3) there.2 in
     record {
       above = omega arith;
-      boundary = front.boundary;
+      boundary = prefix.boundary;
       character = there.0;
-      splits = there.2 ∙ ap (λ xs. there.0 ∷ xs) front.leaves;
+      splits = there.2 ∙ ap (λ xs. there.0 ∷ xs) prefix.leaves;
       begins = letter_begins c (line_starts text at) there.0 (rest text (at + 1)) there.3;
     }
 
@@ -85,59 +87,61 @@ solid_word c x h w = by_cases (simple c x) (white x) h w
     by_cases true w h k = refl
     by_cases false w h k = absurd (false≢true (sym k ∙ h))
 
-some_front : (xs ys : List ℕ) → is_empty xs ≡ false → is_empty (xs ++ ys) ≡ false
-some_front [] ys h = absurd (false≢true (sym h))
-some_front (x ∷ xs) ys h = refl
+some_prefix : (xs ys : List ℕ) → is_empty xs ≡ false → is_empty (xs ++ ys) ≡ false
+some_prefix [] ys h = absurd (false≢true (sym h))
+some_prefix (x ∷ xs) ys h = refl
 
--- words that end with no white space are read, and the run goes on behind them
-words_go_on : (c : FlowContext) (before last : ℕ) (xs behind : List ℕ) → list_all (word c) xs ≡ true → ends white xs ≡ false → is_empty xs ≡ false → ns last ≡ true
-    → read_run c before (xs ++ behind) ≡ xs ++ read_run c last behind
-words_go_on c before last [] behind h w s e = absurd (false≢true (sym s))
-words_go_on c before last (x ∷ []) behind h w s e =
-    one_goes_on c before last x behind (simple_is_plain c before x behind (solid_word c x (and_parts _ _ h).0 w)) e
-words_go_on c before last (x ∷ y ∷ ys) behind h w s e =
+-- words that end with no white space are read, and the run goes on after them
+words_go_on : (c : FlowContext) (before last : ℕ) (xs after : List ℕ) → list_all (word c) xs ≡ true → ends white xs ≡ false → is_empty xs ≡ false → ns last ≡ true
+    → read_run c before (xs ++ after) ≡ xs ++ read_run c last after
+words_go_on c before last [] after h w s e = absurd (false≢true (sym s))
+words_go_on c before last (x ∷ []) after h w s e =
+    one_goes_on c before last x after (simple_is_plain c before x after (solid_word c x (and_parts _ _ h).0 w)) e
+words_go_on c before last (x ∷ y ∷ ys) after h w s e =
     let p : (word c x ≡ true) × (list_all (word c) (y ∷ ys) ≡ true) = and_parts _ _ h in
-    let more : read_run c x ((y ∷ ys) ++ behind) ≡ (y ∷ ys) ++ read_run c last behind = words_go_on c x last (y ∷ ys) behind p.1 w refl e in
+    let more : read_run c x ((y ∷ ys) ++ after) ≡ (y ∷ ys) ++ read_run c last after = words_go_on c x last (y ∷ ys) after p.1 w refl e in
     elim (cases_Bool (white x)) [
-      | inl k ↦ step_white c before x ((y ∷ ys) ++ behind) k (ap is_empty more) ∙ ap (λ t. x ∷ t) more
-      | inr k ↦ step_char c before x ((y ∷ ys) ++ behind) (simple_is_plain c before x ((y ∷ ys) ++ behind) (solid_word c x p.0 k)) ∙ ap (λ t. x ∷ t) more
+      | inl k ↦ step_white c before x ((y ∷ ys) ++ after) k (ap is_empty more) ∙ ap (λ t. x ∷ t) more
+      | inr k ↦ step_char c before x ((y ∷ ys) ++ after) (simple_is_plain c before x ((y ∷ ys) ++ after) (solid_word c x p.0 k)) ∙ ap (λ t. x ∷ t) more
     ]
 
-front_all : (p : ℕ → Bool) (xs ys : List ℕ) → list_all p (xs ++ ys) ≡ true → list_all p xs ≡ true
-front_all p [] ys h = refl
-front_all p (x ∷ xs) ys h = let q = and_parts (p x) (list_all p (xs ++ ys)) h in and_from (p x) (list_all p xs) q.0 (front_all p xs ys q.1)
+prefix_all : (p : ℕ → Bool) (xs ys : List ℕ) → list_all p (xs ++ ys) ≡ true → list_all p xs ≡ true
+prefix_all p [] ys h = refl
+prefix_all p (x ∷ xs) ys h = let q = and_parts (p x) (list_all p (xs ++ ys)) h in and_from (p x) (list_all p xs) q.0 (prefix_all p xs ys q.1)
 
 module _ (c : FlowContext) (text : List ℕ) (end stop words : ℕ) (u : IsUtf8 text) (b : IsCharBoundary text end) (run : IsRun (word c) text end stop) (w : IsWhiteStart text end words stop) where
   all_words : list_all (word c) (between text end words) ≡ true
   all_words =
-      front_all (word c) (between text end words) (between text words stop)
+      prefix_all (word c) (between text end words) (between text words stop)
       (ap (list_all (word c)) (sym (between-append text end words stop u w.above w.below b w.boundary run.boundary)) ∙ list_all-from_AllPass (word c) (between text end stop) run.passes)
 
-  pub white_behind : IsRun white text words stop
-  white_behind = record {
+  -- whitespace comes after the words
+  pub white_after : IsRun white text words stop
+  white_after = record {
     above = w.below;
     boundary = run.boundary;
     passes = AllPass-from_list_all white (between text words stop) (sym (every-list_all white (between text words stop)) ∙ w.blank);
     stop = λ l. (word_parts c (slice_index text stop) (run.stop l)).1;
   }
 
-  pub words_more : (black after : Bool) (from : ℕ) → IsCharBoundary text from → from ≤ end → GoesOn c black after text from end → GoesOn c black (nat_lt end words || after) text from words
-  words_more black after from start l goes = elim (cases_lt end words) [
+  -- words more are read
+  pub words_more : (black black_after : Bool) (from : ℕ) → IsCharBoundary text from → from ≤ end → GoesOn c black black_after text from end → GoesOn c black (nat_lt end words || black_after) text from words
+  words_more black black_after from start l goes = elim (cases_lt end words) [
     | inl more ↦ (let z : nat_lt end words ≡ true = grind (arith, nat_tests) in
         λ before last e f.
-        let m = before_of after in
+        let m = before_of black_after in
         let held : List ℕ = between text end words in
-        let behind : List ℕ = read_run c last (rest text words) in
-        let black_last : ns last ≡ true = f ∙ ap (λ p. p || after) z in
+        let after : List ℕ = read_run c last (rest text words) in
+        let black_last : ns last ≡ true = f ∙ ap (λ p. p || black_after) z in
         goes before m.0 e m.1
         ∙ (ap (λ t. between text from end ++ t)
         (ap (read_run c m.0) (rest-between text end words u w.above b w.boundary) ∙ words_go_on c m.0 last held (rest text words) all_words w.black (between_some text end words u more b w.boundary) black_last)
-        ∙ (sym (append_assoc (between text from end) held behind)
-        ∙ ap (λ t. t ++ behind) (sym (between-append text from end words u l w.above start b w.boundary)))))
+        ∙ (sym (append_assoc (between text from end) held after)
+        ∙ ap (λ t. t ++ after) (sym (between-append text from end words u l w.above start b w.boundary)))))
     | inr past ↦ (let above = w.above in
         let e : end ≡ words = omega arith in
         let z : nat_lt end end ≡ false = grind (arith, nat_tests) in
-        subst (λ k. GoesOn c black (nat_lt end k || after) text from k) e (subst (λ p. GoesOn c black (p || after) text from end) (sym z) goes))
+        subst (λ k. GoesOn c black (nat_lt end k || black_after) text from k) e (subst (λ p. GoesOn c black (p || black_after) text from end) (sym z) goes))
   ]
 
 -- ---- where no word goes on
@@ -156,10 +160,12 @@ ascii_unplain c before x xs l h n m =
     unsafe true true false true p q r h = absurd (false≢true (sym r))
     unsafe true true false false p q r h = absurd (false≢true (sym h))
 
+-- another character that isn't plain is no piece
 pub no_special : (c : FlowContext) (black : Bool) (text : List ℕ) (at : ℕ) → IsUtf8 text → at < length text → get_or text at 0 < 128 → word c (slice_index text at) ≡ false
     → (get_or text at 0 ≡ 58 → ⊥) → (get_or text at 0 ≡ 35 → ⊥) → NoPlainPiece c black text at
 no_special c black text at u l low h n m before e =
     ap (goes_on_plain c before) (rest-ascii text at u l low) ∙ ascii_unplain c before (get_or text at 0) (rest text (at + 1)) low h n m
 
+-- at the end of the text there is no piece
 pub none_at_end : (c : FlowContext) (black : Bool) (text : List ℕ) (at : ℕ) → length text ≤ at → NoPlainPiece c black text at
 none_at_end c black text at l before e = ap (goes_on_plain c before) (rest-end text at l)

@@ -11,49 +11,53 @@ use Rattle.yaml_chars.specs.Classes.{line_break}
 use Rattle.yaml_chars.specs.Places.{rest, between, IsRun}
 use Rattle.yaml_chars.proofs.Places.{between-append, between-push_ascii, rest-ascii, rest-between}
 use Rattle.yaml_chars.proofs.Runs.{IsBlind, blind-line_break}
-use Rattle.yaml_events.specs.Places.{line_starts}
+use Rattle.yaml_events.specs.EventPlaces.{line_starts}
 use Rattle.yaml_grammar.specs.Events.{single_style}
 use Rattle.yaml_grammar.specs.FlowScalars.{FlowContext, Line, Scalar, char_value, flow_fold, folded_break, line_feeds, one_line, single}
 use Rattle.yaml_grammar.specs.Texts.{every, first}
 use Rattle.yaml_recognizers.specs.Comments.{read_break}
-use Rattle.yaml_recognizers.specs.Joins.{Join, behind_blank, with_lead, read_empty}
+use Rattle.yaml_recognizers.specs.Joins.{Join, after_blank, with_lead, read_empty}
 use Rattle.yaml_recognizers.specs.FlowScalars.{read_scalar}
 use Rattle.yaml_recognizers.specs.QuotedScalars.{quote, read_quoted, read_single, read_single_one, single_closes}
-use Rattle.yaml_recognizers.specs.QuotedSteps.{join_value, quoted_value, with_front}
+use Rattle.yaml_recognizers.specs.QuotedSteps.{join_value, quoted_value, with_prefix}
 use Rattle.yaml_recognizers.specs.Reading.{Read, on}
 use Rattle.yaml_recognizers.specs.Repeated.{all_of}
-use Rattle.yaml_recognizers.proofs.Breaks.{break_some}
-use Rattle.yaml_recognizers.proofs.Reading.{none_some, on_parts, some_parts}
-use Rattle.yaml_recognizers.proofs.WholeScalars.{is_scalar, no_scalar}
+use Rattle.yaml_recognizers.proofs.Basics.Breaks.{break_some}
+use Rattle.yaml_recognizers.proofs.Basics.Reading.{none_some, on_parts, some_parts}
+use Rattle.yaml_recognizers.proofs.Scalars.WholeScalars.{is_scalar, no_scalar}
 use Rattle.yaml_recognizers.specs.WholeScalars.{IsScalar}
 use Rattle.yaml_flow_scalars.specs.Folds.{IsWhiteStart, IsFold}
 use Rattle.yaml_flow_scalars.specs.Standing.{NoScalarAt, ScalarAt}
 use Rattle.yaml_flow_scalars.specs.SingleScalars.{content, unchanged, read_inside, IsInside, NoFoldIn}
 use Rattle.yaml_scan.proofs.ByteRuns.{first-rest}
 use Rattle.yaml_flow_scalars.proofs.FoldSteps.{fold_solid, run_every, run_first}
-use Rattle.yaml_flow_scalars.proofs.SingleSteps.{inside_close, inside_control, inside_fold, inside_no_fold, inside_pair, with_front-append, with_front-nil}
+use Rattle.yaml_flow_scalars.proofs.SingleSteps.{inside_close, inside_control, inside_fold, inside_no_fold, inside_pair, with_prefix-append, with_prefix-nil}
 
+-- the test for a quote doesn't distinguish characters from 128 on
 pub blind-quote : IsBlind quote
 blind-quote c h l = grind (arith, nat_tests)
 
+-- nor does that for characters that mean themselves
 pub blind-content : IsBlind content
 blind-content c h l = grind (arith, nat_tests)
 
 -- ---- quotes and breaks at a place
 
--- an ASCII character that a test tells stands at the place
+-- an ASCII character that passes a test is at the place
 first_at : (p : ℕ → Bool) (bs : List ℕ) (i : ℕ) → IsBlind p → IsUtf8 bs → IsCharBoundary bs i → first p (rest bs i) ≡ true → (i < length bs) × (p (slice_index bs i) ≡ true)
 first_at p bs i blind u b h = elim (cases_lt i (length bs)) [
   | inl l ↦ (l, sym (ap (first p) (drop_more bs i 0 l)) ∙ (sym (first-rest p bs i blind u b) ∙ h))
   | inr past ↦ absurd (false≢true (sym (first-rest p bs i blind u b ∙ ap (first p) (drop_all i bs past)) ∙ h))
 ]
 
+-- a quote is at the place
 pub record QuoteAt (bs : List ℕ) (i : ℕ) : Type 0 where
   pub within : i < length bs
   pub byte : slice_index bs i ≡ 39
   pub next : IsCharBoundary bs (i + 1)
   pub splits : rest bs i ≡ 39 ∷ rest bs (i + 1)
 
+-- the quote that starts the rest is at the place
 pub quote_at : (bs : List ℕ) (i : ℕ) → IsUtf8 bs → IsCharBoundary bs i → first quote (rest bs i) ≡ true → QuoteAt bs i
 quote_at bs i u b h =
     let there = first_at quote bs i blind-quote u b h in
@@ -63,29 +67,32 @@ quote_at bs i u b h =
     record { within = within; byte = byte; next = IsCharBoundary-after_ascii bs i u within ascii; splits = rest-ascii bs i u within ascii ∙ ap (λ x. x ∷ rest bs (i + 1)) byte }
 
 fold_breaks : (n : ℕ) (text : List ℕ) (at empties next : ℕ) → IsFold n text at empties next → first line_break (rest text at) ≡ true
-unfolding behind_blank
+unfolding after_blank
 fold_breaks n text at empties next f =
     let p = on_parts (read_break (rest text at)) (λ stop t. with_lead false n [] stop (all_of (read_empty n) t)) (f.join false [], rest text next) (f.found false []) in
     sym (break_some (rest text at)) ∙ ap (λ (r : Read _). is_some r) p.2
 
 -- ---- what is read, by runs
 
--- The value of what stands from `start` to `place` is known, and from there a run of characters goes on that stand for themselves.
+-- The value of what is from `start` to `place` is known, and from there a run of characters goes on that mean
+-- themselves.
 pub record Running (n : ℕ) (c : FlowContext) (text : List ℕ) (start place end : ℕ) (value : List ℕ) : Type 0 where
   pub utf8 : IsUtf8 text
   pub value_utf8 : IsUtf8 value
   pub boundary : IsCharBoundary text place
   pub run : IsRun content text place end
-  pub reads : read_inside n c (rest text start) ≡ with_front (chars value) (read_inside n c (rest text place))
+  pub reads : read_inside n c (rest text start) ≡ with_prefix (chars value) (read_inside n c (rest text place))
 
+-- a run of characters goes on
 pub running : (n : ℕ) (c : FlowContext) (text : List ℕ) (start place end : ℕ) (value : List ℕ) → IsUtf8 text → IsUtf8 value → IsCharBoundary text place
-    → read_inside n c (rest text start) ≡ with_front (chars value) (read_inside n c (rest text place)) → IsRun content text place end → Running n c text start place end value
+    → read_inside n c (rest text start) ≡ with_prefix (chars value) (read_inside n c (rest text place)) → IsRun content text place end → Running n c text start place end value
 running n c text start place end value u v b reads r =
     record { utf8 = u; value_utf8 = v; boundary = b; run = r; reads = reads }
 
+-- nothing is read yet
 pub begun : (n : ℕ) (c : FlowContext) (text : List ℕ) (start : ℕ) (value : List ℕ) → value ≡ []
-    → read_inside n c (rest text start) ≡ with_front (chars value) (read_inside n c (rest text start))
-begun n c text start value e = sym (ap (λ v. with_front v (read_inside n c (rest text start))) (ap chars e ∙ chars-nil) ∙ with_front-nil (read_inside n c (rest text start)))
+    → read_inside n c (rest text start) ≡ with_prefix (chars value) (read_inside n c (rest text start))
+begun n c text start value e = sym (ap (λ v. with_prefix v (read_inside n c (rest text start))) (ap chars e ∙ chars-nil) ∙ with_prefix-nil (read_inside n c (rest text start)))
 
 every_append : (p : ℕ → Bool) (xs ys : List ℕ) → every p (xs ++ ys) ≡ true → (every p xs ≡ true) × (every p ys ≡ true)
 every_append p [] ys h = (refl, h)
@@ -119,7 +126,7 @@ module _ (n : ℕ) (c : FlowContext) (text : List ℕ) (start place end : ℕ) (
 
   -- a pair of quotes
   pub goes_past_pair : (new : List ℕ) → first quote (rest text end) ≡ true → first quote (rest text (end + 1)) ≡ true → new ≡ value ++ slice_range text place (end + 1)
-      → (read_inside n c (rest text start) ≡ with_front (chars new) (read_inside n c (rest text (end + 2)))) × IsCharBoundary text (end + 2)
+      → (read_inside n c (rest text start) ≡ with_prefix (chars new) (read_inside n c (rest text (end + 2)))) × IsCharBoundary text (end + 2)
   goes_past_pair new q r e =
       let one = quote_at text end s.utf8 s.run.boundary q in
       let two = quote_at text (end + 1) s.utf8 one.next r in
@@ -132,9 +139,9 @@ module _ (n : ℕ) (c : FlowContext) (text : List ℕ) (start place end : ℕ) (
       here ∙ ap (λ ys. xs ++ ys) (one.splits ∙ ap (λ ys. 39 ∷ ys) (two.splits ∙ ap (λ i. 39 ∷ rest text i) next)) in
       let piece : between text place (end + 1) ≡ xs ++ 39 ∷ [] =
       between-push_ascii text place end s.utf8 above s.boundary one.within (omega arith) ∙ ap (λ x. xs ++ x ∷ []) byte in
-      let read : read_inside n c (rest text place) ≡ with_front (xs ++ 39 ∷ []) (read_inside n c t) = ap (read_inside n c) whole ∙ inside_pair n c xs t content_here in
+      let read : read_inside n c (rest text place) ≡ with_prefix (xs ++ 39 ∷ []) (read_inside n c t) = ap (read_inside n c) whole ∙ inside_pair n c xs t content_here in
       let same : chars value ++ (xs ++ 39 ∷ []) ≡ chars new = sym (more_value (slice_range text place (end + 1)) new e ∙ ap (λ ys. chars value ++ ys) piece) in (
-        s.reads ∙ (ap (with_front (chars value)) read ∙ (with_front-append (chars value) (xs ++ 39 ∷ []) (read_inside n c t) ∙ ap (λ v. with_front v (read_inside n c t)) same)),
+        s.reads ∙ (ap (with_prefix (chars value)) read ∙ (with_prefix-append (chars value) (xs ++ 39 ∷ []) (read_inside n c t) ∙ ap (λ v. with_prefix v (read_inside n c t)) same)),
         subst (λ i. IsCharBoundary text i) next two.next,
       )
 
@@ -150,7 +157,7 @@ module _ (n : ℕ) (c : FlowContext) (text : List ℕ) (start place end : ℕ) (
       record {
         above = omega arith;
         boundary = one.next;
-        reads = s.reads ∙ (ap (with_front (chars value)) read ∙ ap (λ (v : List ℕ). Some (v, rest text (end + 1))) (sym (more_value (slice_range text place end) new e)));
+        reads = s.reads ∙ (ap (with_prefix (chars value)) read ∙ ap (λ (v : List ℕ). Some (v, rest text (end + 1))) (sym (more_value (slice_range text place end) new e)));
       }
 
   -- ---- folds
@@ -165,24 +172,26 @@ module _ (n : ℕ) (c : FlowContext) (text : List ℕ) (start place end : ℕ) (
     whole : rest text place ≡ between text place kept ++ (between text kept end ++ rest text end)
     whole = here ∙ (ap (λ xs. xs ++ rest text end) split ∙ append_assoc (between text place kept) (between text kept end) (rest text end))
 
+    -- a fold is read, and more comes after it
     pub goes_past_fold : (new later : List ℕ) (empties next : ℕ) → IsUtf8 new → IsFold n text end empties next → one_line c ≡ false
         → new ≡ value ++ slice_range text place kept → later ≡ new ++ folded_break empties
-        → read_inside n c (rest text start) ≡ with_front (chars later) (read_inside n c (rest text next))
+        → read_inside n c (rest text start) ≡ with_prefix (chars later) (read_inside n c (rest text next))
     goes_past_fold new later empties next v f k e g =
         let xs : List ℕ = between text place kept in
         let blank : List ℕ = between text kept end in
         let r : Read (List ℕ) = read_inside n c (rest text next) in
         let j : Join = f.join false blank in
         let folded : join_value j ≡ folded_break empties = join_folds j empties (f.escapes false blank) (f.counts false blank) in
-        let read : read_inside n c (rest text place) ≡ with_front (xs ++ folded_break empties) r =
+        let read : read_inside n c (rest text place) ≡ with_prefix (xs ++ folded_break empties) r =
         ap (read_inside n c) whole
         ∙ (inside_fold n c blank (rest text end) w.blank (fold_breaks n text end empties next f) xs j (rest text next) kept_content w.black k (f.found false blank) (fold_solid n text end empties next f)
-        ∙ ap (λ ys. with_front (xs ++ ys) r) folded) in
+        ∙ ap (λ ys. with_prefix (xs ++ ys) r) folded) in
         let means : chars later ≡ chars value ++ (xs ++ folded_break empties) =
         ap chars g ∙ (chars-append new (folded_break empties) v ∙ (ap (λ ys. ys ++ chars (folded_break empties)) (more_value (slice_range text place kept) new e)
         ∙ (ap (λ ys. (chars value ++ xs) ++ ys) (chars-IsAscii (folded_break empties) (folded_ascii empties)) ∙ append_assoc (chars value) xs (folded_break empties)))) in
-        s.reads ∙ (ap (with_front (chars value)) read ∙ (with_front-append (chars value) (xs ++ folded_break empties) r ∙ ap (λ ys. with_front ys r) (sym means)))
+        s.reads ∙ (ap (with_prefix (chars value)) read ∙ (with_prefix-append (chars value) (xs ++ folded_break empties) r ∙ ap (λ ys. with_prefix ys r) (sym means)))
 
+    -- without a quote or a fold there is no value
     pub reads_none : first quote (rest text end) ≡ false → NoFoldIn n c text end → read_inside n c (rest text start) ≡ None
     reads_none q h =
         let none : read_inside n c (rest text place) ≡ None = elim (cases_Bool (first line_break (rest text end))) [
@@ -192,7 +201,7 @@ module _ (n : ℕ) (c : FlowContext) (text : List ℕ) (start place end : ℕ) (
           ])
           | inr b ↦ ap (read_inside n c) here ∙ inside_control n c (between text place end) (rest text end) content_here (run_first content text place end blind-content s.utf8 s.run) q b
         ] in
-        s.reads ∙ ap (with_front (chars value)) none
+        s.reads ∙ ap (with_prefix (chars value)) none
 
 -- the closing quote ends the first run
 pub reads_at_once : (n : ℕ) (c : FlowContext) (text : List ℕ) (start end : ℕ) (piece : List ℕ) → IsUtf8 text → IsCharBoundary text start → IsRun content text start end
@@ -203,7 +212,7 @@ reads_at_once n c text start end piece u b r q none e =
 
 -- ---- what is borrowed
 
--- a byte that stands there is none of those that are unchanged
+-- a byte that is there is none of those that are unchanged
 pub changed_before : (text : List ℕ) (start place end : ℕ) → (k : ℕ) × (start ≤ k) × (k < place) × (unchanged (slice_index text k) ≡ false) → place ≤ end → end ≤ length text
     → AllPass unchanged (slice_range text start end) → ⊥
 changed_before text start place end there l within all =
@@ -222,6 +231,7 @@ pub quote_changed : (text : List ℕ) (start end place : ℕ) → IsUtf8 text �
     → (k : ℕ) × (start ≤ k) × (k < place) × (unchanged (slice_index text k) ≡ false)
 quote_changed text start end place u b q l m = (end, l, m, ap unchanged (quote_at text end u b q).byte)
 
+-- a value with a fold is not the text
 pub fold_changed : (n : ℕ) (text : List ℕ) (start end empties next : ℕ) → IsUtf8 text → IsCharBoundary text end → IsFold n text end empties next → start ≤ end
     → (k : ℕ) × (start ≤ k) × (k < next) × (unchanged (slice_index text k) ≡ false)
 fold_changed n text start end empties next u b f l =
@@ -230,8 +240,9 @@ fold_changed n text start end empties next u b f l =
 
 -- ---- the whole scalar
 
--- behind its opening quote
+-- after its opening quote
 module _ (n : ℕ) (c : FlowContext) (text : List ℕ) (at : ℕ) (u : IsUtf8 text) (b : IsCharBoundary text at) where
+  -- a value that is read is that of a whole scalar
   pub single_found : (value : List ℕ) (end : ℕ) → first quote (rest text at) ≡ true → IsInside n c text (at + 1) value end → ScalarAt single_style n c text at value end
   unfolding read_scalar read_single
   single_found value end q i =
@@ -250,6 +261,7 @@ module _ (n : ℕ) (c : FlowContext) (text : List ℕ) (at : ℕ) (u : IsUtf8 te
         scalar = subst (λ v. IsScalar n c (line_starts text at) (rest text at) single_style v (rest text end)) same.0 (is_scalar n c (line_starts text at) (rest text at) s (rest text end) read);
       }
 
+  -- if none is read, no scalar is there
   pub no_single : first quote (rest text at) ≡ true → read_inside n c (rest text (at + 1)) ≡ None → NoScalarAt single_style n c text at
   unfolding read_scalar read_single
   no_single q e =
@@ -258,7 +270,7 @@ module _ (n : ℕ) (c : FlowContext) (text : List ℕ) (at : ℕ) (u : IsUtf8 te
       let none : read_quoted read_single_one single_closes false n c inside ≡ None = nothing (read_quoted read_single_one single_closes false n c inside) e in
       let read : read_scalar n c (line_starts text at) (rest text at) ≡ None =
       ap (read_scalar n c (line_starts text at)) one.splits ∙ ap (λ (r : Read (List ℕ × List (Line ℕ))). on r (λ found t. Some (single found.0 found.1, t))) none in
-      λ s behind styled stands. no_scalar n c (line_starts text at) (rest text at) read s behind stands
+      λ s after styled stands. no_scalar n c (line_starts text at) (rest text at) read s after stands
     where
       nothing : (r : Read (List ℕ × List (Line ℕ))) → quoted_value char_value r ≡ None → r ≡ None
       nothing None h = refl

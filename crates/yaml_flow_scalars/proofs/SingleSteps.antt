@@ -7,22 +7,22 @@ use Rattle.std.proofs.lemmas.Bool.Decides.{nat_tests}
 use Rattle.yaml_chars.specs.Classes.{line_break, nb_json, white}
 use Rattle.yaml_grammar.specs.FlowScalars.{FlowContext, Line, char_value, ends, one_line, single_kind, single_text, values}
 use Rattle.yaml_grammar.specs.Texts.{every, first}
-use Rattle.yaml_recognizers.specs.Fronts.{dropped, taken}
-use Rattle.yaml_recognizers.specs.Joins.{Join, at_break, behind_blank, read_join}
+use Rattle.yaml_recognizers.specs.Prefixes.{dropped, taken}
+use Rattle.yaml_recognizers.specs.Joins.{Join, at_break, after_blank, read_join}
 use Rattle.yaml_recognizers.specs.QuotedScalars.{quote, read_held, read_quoted, read_single_one, single_closes}
-use Rattle.yaml_recognizers.specs.QuotedSteps.{join_value, quoted_value, read_behind_join, with_front, with_join}
+use Rattle.yaml_recognizers.specs.QuotedSteps.{join_value, quoted_value, read_after_join, with_prefix, with_join}
 use Rattle.yaml_recognizers.specs.Reading.{Read}
-use Rattle.yaml_recognizers.proofs.Blanks.{white_at_break}
-use Rattle.yaml_recognizers.proofs.Breaks.{unbroken}
-use Rattle.yaml_recognizers.proofs.Fronts.{dropped_all, taken_all}
-use Rattle.yaml_recognizers.proofs.JoinSteps.{no_break}
-use Rattle.yaml_recognizers.proofs.QuotedSteps.{behind_close, behind_fault, behind_thing, step_close, step_fault, step_join, step_key, step_thing, step_things, value_of_join, value_of_thing, value_of_things}
-use Rattle.yaml_recognizers.proofs.SingleScalars.{single_readable}
+use Rattle.yaml_recognizers.proofs.Basics.Blanks.{white_at_break}
+use Rattle.yaml_recognizers.proofs.Basics.Breaks.{unbroken}
+use Rattle.yaml_recognizers.proofs.Basics.Prefixes.{dropped_all, taken_all}
+use Rattle.yaml_recognizers.proofs.Scalars.JoinSteps.{no_break}
+use Rattle.yaml_recognizers.proofs.Scalars.QuotedSteps.{after_close, after_fault, after_thing, step_close, step_fault, step_join, step_key, step_thing, step_things, value_of_join, value_of_thing, value_of_things}
+use Rattle.yaml_recognizers.proofs.Scalars.SingleScalars.{single_readable}
 use Rattle.yaml_flow_scalars.specs.SingleScalars.{content, read_inside}
 
 -- ---- characters
 
--- characters that stand for themselves
+-- characters that mean themselves
 content_spelled : (xs : List ℕ) → every content xs ≡ true → flat_map single_text xs ≡ xs
 content_spelled [] h = refl
 content_spelled (x ∷ xs) h =
@@ -54,44 +54,49 @@ open_at_break : (text : List ℕ) → at_break text ≡ true → single_closes t
 unfolding single_closes
 open_at_break text h = and_left _ _ (no_quote_at_break text h)
 
--- ---- fronts of values
+-- ---- prefixes of values
 
-pub with_front-nil : (r : Read (List ℕ)) → with_front [] r ≡ r
-with_front-nil None = refl
-with_front-nil (Some r) = refl
+-- nothing before a value leaves it as it is
+pub with_prefix-nil : (r : Read (List ℕ)) → with_prefix [] r ≡ r
+with_prefix-nil None = refl
+with_prefix-nil (Some r) = refl
 
-pub with_front-append : (xs ys : List ℕ) (r : Read (List ℕ)) → with_front xs (with_front ys r) ≡ with_front (xs ++ ys) r
-with_front-append xs ys None = refl
-with_front-append xs ys (Some r) = ap (λ (v : List ℕ). Some (v, r.1)) (sym (append_assoc xs ys r.0))
+-- two texts before a value are one
+pub with_prefix-append : (xs ys : List ℕ) (r : Read (List ℕ)) → with_prefix xs (with_prefix ys r) ≡ with_prefix (xs ++ ys) r
+with_prefix-append xs ys None = refl
+with_prefix-append xs ys (Some r) = ap (λ (v : List ℕ). Some (v, r.1)) (sym (append_assoc xs ys r.0))
 
 module _ (n : ℕ) (c : FlowContext) where
-  -- ---- a run of characters that stand for themselves
+  -- ---- a run of characters that mean themselves
 
-  pub inside_run : (xs t : List ℕ) → every content xs ≡ true → (ends white xs ≡ true → at_break t ≡ false) → read_inside n c (xs ++ t) ≡ with_front xs (read_inside n c t)
+  -- a run of characters is read
+  pub inside_run : (xs t : List ℕ) → every content xs ≡ true → (ends white xs ≡ true → at_break t ≡ false) → read_inside n c (xs ++ t) ≡ with_prefix xs (read_inside n c t)
   inside_run xs t h f =
       let r : Read (List ℕ × List (Line ℕ)) = read_quoted read_single_one single_closes false n c t in
       ap (λ (text : List ℕ). read_inside n c (text ++ t)) (sym (content_spelled xs h))
       ∙ (ap (quoted_value char_value) (step_things single_kind nb_json false read_single_one single_readable single_closes n c xs t (content_held xs h) f)
-      ∙ (value_of_things char_value xs r ∙ ap (λ ys. with_front ys (quoted_value char_value r)) (values_same xs)))
+      ∙ (value_of_things char_value xs r ∙ ap (λ ys. with_prefix ys (quoted_value char_value r)) (values_same xs)))
 
   -- ---- quotes
 
-  pub inside_pair : (xs t : List ℕ) → every content xs ≡ true → read_inside n c (xs ++ (39 ∷ 39 ∷ t)) ≡ with_front (xs ++ 39 ∷ []) (read_inside n c t)
+  -- two quotes are one
+  pub inside_pair : (xs t : List ℕ) → every content xs ≡ true → read_inside n c (xs ++ (39 ∷ 39 ∷ t)) ≡ with_prefix (xs ++ 39 ∷ []) (read_inside n c t)
   unfolding read_held read_single_one
   inside_pair xs t h =
       let r : Read (List ℕ × List (Line ℕ)) = read_quoted read_single_one single_closes false n c t in
-      let pair : read_inside n c (39 ∷ 39 ∷ t) ≡ with_front (39 ∷ []) (read_inside n c t) =
+      let pair : read_inside n c (39 ∷ 39 ∷ t) ≡ with_prefix (39 ∷ []) (read_inside n c t) =
       ap (quoted_value char_value) (step_thing single_kind nb_json false read_single_one single_readable single_closes n c (39 ∷ 39 ∷ t) 39 t refl) ∙ value_of_thing char_value 39 r in
-      inside_run xs (39 ∷ 39 ∷ t) h (λ _. refl) ∙ (ap (with_front xs) pair ∙ with_front-append xs (39 ∷ []) (read_inside n c t))
+      inside_run xs (39 ∷ 39 ∷ t) h (λ _. refl) ∙ (ap (with_prefix xs) pair ∙ with_prefix-append xs (39 ∷ []) (read_inside n c t))
 
+  -- one quote ends the value
   pub inside_close : (xs t : List ℕ) → every content xs ≡ true → first quote t ≡ false → read_inside n c (xs ++ (39 ∷ t)) ≡ Some (xs, t)
-  unfolding read_held read_single_one single_closes read_join behind_blank
+  unfolding read_held read_single_one single_closes read_join after_blank
   inside_close xs t h q =
       let held : read_held read_single_one (39 ∷ t) ≡ None = cond-false (first quote t) (Some (39, _)) None q in
       let closes : single_closes (39 ∷ t) ≡ true = ap not q in
       let closed : read_inside n c (39 ∷ t) ≡ Some ([], t) =
       ap (quoted_value char_value) (step_close single_kind nb_json false read_single_one single_readable single_closes n c (39 ∷ t) held refl closes) in
-      inside_run xs (39 ∷ t) h (λ _. refl) ∙ (ap (with_front xs) closed ∙ ap (λ (v : List ℕ). Some (v, t)) (append-nil xs))
+      inside_run xs (39 ∷ t) h (λ _. refl) ∙ (ap (with_prefix xs) closed ∙ ap (λ (v : List ℕ). Some (v, t)) (append-nil xs))
 
   -- ---- folds
 
@@ -99,21 +104,21 @@ module _ (n : ℕ) (c : FlowContext) where
   unfolding read_join
   no_join text h = no_break false n (taken white text) (dropped white text) (unbroken (dropped white text) h)
 
-  -- behind a fold all goes on as in a line
-  behind_join : (text : List ℕ) → at_break text ≡ false → read_behind_join read_single_one single_closes false n c text ≡ read_quoted read_single_one single_closes false n c text
-  behind_join text h = by_held (read_held read_single_one text) refl
+  -- after a fold all goes on as in a line
+  after_join : (text : List ℕ) → at_break text ≡ false → read_after_join read_single_one single_closes false n c text ≡ read_quoted read_single_one single_closes false n c text
+  after_join text h = by_held (read_held read_single_one text) refl
     where
       by_held : (r : Read ℕ) → read_held read_single_one text ≡ r
-          → read_behind_join read_single_one single_closes false n c text ≡ read_quoted read_single_one single_closes false n c text
-      by_held (Some r) e = behind_thing single_kind nb_json false read_single_one single_readable single_closes n c text r.0 r.1 e
+          → read_after_join read_single_one single_closes false n c text ≡ read_quoted read_single_one single_closes false n c text
+      by_held (Some r) e = after_thing single_kind nb_json false read_single_one single_readable single_closes n c text r.0 r.1 e
       by_held None e = elim (cases_Bool (single_closes text)) [
-        | inl i ↦ behind_close single_kind nb_json false read_single_one single_readable single_closes n c text e (no_join text h) i
+        | inl i ↦ after_close single_kind nb_json false read_single_one single_readable single_closes n c text e (no_join text h) i
             ∙ sym (step_close single_kind nb_json false read_single_one single_readable single_closes n c text e (no_join text h) i)
-        | inr i ↦ behind_fault single_kind nb_json false read_single_one single_readable single_closes n c text e i
+        | inr i ↦ after_fault single_kind nb_json false read_single_one single_readable single_closes n c text e i
             ∙ sym (step_fault single_kind nb_json false read_single_one single_readable single_closes n c text e (no_join text h) i)
       ]
 
-  -- nothing is held where a break stands behind white
+  -- nothing is held where a break comes after white
   none_held : (text : List ℕ) → at_break text ≡ true → read_held read_single_one text ≡ None
   unfolding read_held
   none_held text h = rw h refl
@@ -130,22 +135,24 @@ module _ (n : ℕ) (c : FlowContext) where
         at_once [] h = absurd (false≢true h)
         at_once (x ∷ xs) h = let e : white x ≡ false = no_white (x ∷ xs) h in rw e h
 
-    join_there : read_join false n (blank ++ text) ≡ behind_blank false n blank text
+    join_there : read_join false n (blank ++ text) ≡ after_blank false n blank text
     unfolding read_join
     join_there = rw (taken_all white blank text w (no_white text b), dropped_all white blank text w (no_white text b)) refl
 
+    -- a fold is read
     pub inside_fold : (xs : List ℕ) (j : Join) (t : List ℕ) → every content xs ≡ true → ends white xs ≡ false → one_line c ≡ false
-        → behind_blank false n blank text ≡ Some (j, t) → at_break t ≡ false
-        → read_inside n c (xs ++ (blank ++ text)) ≡ with_front (xs ++ join_value j) (read_inside n c t)
+        → after_blank false n blank text ≡ Some (j, t) → at_break t ≡ false
+        → read_inside n c (xs ++ (blank ++ text)) ≡ with_prefix (xs ++ join_value j) (read_inside n c t)
     inside_fold xs j t h e k f s =
         let r : Read (List ℕ × List (Line ℕ)) = read_quoted read_single_one single_closes false n c t in
-        let folded : read_inside n c (blank ++ text) ≡ with_front (join_value j) (read_inside n c t) =
+        let folded : read_inside n c (blank ++ text) ≡ with_prefix (join_value j) (read_inside n c t) =
         ap (quoted_value char_value) (step_join single_kind nb_json false read_single_one single_readable single_closes n c (blank ++ text) j t (none_held (blank ++ text) broken) k (join_there ∙ f)
-        ∙ ap (with_join j) (behind_join t s)) ∙ value_of_join char_value j r in
+        ∙ ap (with_join j) (after_join t s)) ∙ value_of_join char_value j r in
         inside_run xs (blank ++ text) h (λ i. absurd (false≢true (sym e ∙ i)))
-        ∙ (ap (with_front xs) folded ∙ with_front-append xs (join_value j) (read_inside n c t))
+        ∙ (ap (with_prefix xs) folded ∙ with_prefix-append xs (join_value j) (read_inside n c t))
 
-    pub inside_no_fold : (xs : List ℕ) → every content xs ≡ true → ends white xs ≡ false → (one_line c ≡ true) ⊎ (behind_blank false n blank text ≡ None)
+    -- without a fold there is no value
+    pub inside_no_fold : (xs : List ℕ) → every content xs ≡ true → ends white xs ≡ false → (one_line c ≡ true) ⊎ (after_blank false n blank text ≡ None)
         → read_inside n c (xs ++ (blank ++ text)) ≡ None
     inside_no_fold xs h e w =
         let held : read_held read_single_one (blank ++ text) ≡ None = none_held (blank ++ text) broken in
@@ -154,9 +161,9 @@ module _ (n : ℕ) (c : FlowContext) where
           | inl k ↦ step_key single_kind nb_json false read_single_one single_readable single_closes n c (blank ++ text) held k opened
           | inr j ↦ step_fault single_kind nb_json false read_single_one single_readable single_closes n c (blank ++ text) held (join_there ∙ j) opened
         ] in
-        inside_run xs (blank ++ text) h (λ i. absurd (false≢true (sym e ∙ i))) ∙ ap (λ (r : Read (List ℕ × List (Line ℕ))). with_front xs (quoted_value char_value r)) none
+        inside_run xs (blank ++ text) h (λ i. absurd (false≢true (sym e ∙ i))) ∙ ap (λ (r : Read (List ℕ × List (Line ℕ))). with_prefix xs (quoted_value char_value r)) none
 
-  -- ---- what may not stand there, or the end of the text
+  -- ---- a character that isn't allowed, or the end of the text
 
   refused : (text : List ℕ) → first nb_json text ≡ false → first line_break text ≡ false → read_quoted read_single_one single_closes false n c text ≡ None
   unfolding read_held read_single_one single_closes
@@ -167,10 +174,11 @@ module _ (n : ℕ) (c : FlowContext) where
       let apart : at_break (x ∷ xs) ≡ false = rw no_white b in
       step_fault single_kind nb_json false read_single_one single_readable single_closes n c (x ∷ xs) (rw (apart, no_quote, h) refl) (no_join (x ∷ xs) apart) (and_left _ _ no_quote)
 
+  -- nor at a character that isn't allowed
   pub inside_control : (xs text : List ℕ) → every content xs ≡ true → first content text ≡ false → first quote text ≡ false → first line_break text ≡ false
       → read_inside n c (xs ++ text) ≡ None
   inside_control xs text h f q b =
-      inside_run xs text h (λ _. apart text f q b) ∙ ap (λ (r : Read (List ℕ × List (Line ℕ))). with_front xs (quoted_value char_value r)) (refused text (control text f q) b)
+      inside_run xs text h (λ _. apart text f q b) ∙ ap (λ (r : Read (List ℕ × List (Line ℕ))). with_prefix xs (quoted_value char_value r)) (refused text (control text f q) b)
     where
       control : (t : List ℕ) → first content t ≡ false → first quote t ≡ false → first nb_json t ≡ false
       control [] f q = refl

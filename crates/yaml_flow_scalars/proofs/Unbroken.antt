@@ -1,4 +1,4 @@
--- Scalars on one line: no break stands in them.
+-- Scalars on one line: no break is in them.
 use Rattle.std.proofs.Common.{◌≡◌, refl, sym, ◌∙◌, ap, arith}
 use Rattle.std.specs.Prelude.{ℕ, ◌+◌, ◌<◌, ◌≤◌, Bool, true, false, ◌&&◌, ◌||◌, List, [], ◌∷◌, ◌++◌, length, slice_index, is_some, not}
 use Rattle.std.specs.Str.{IsUtf8, IsCharBoundary}
@@ -12,7 +12,7 @@ use Rattle.yaml_chars.proofs.Places.{between-ascii, between-push_ascii}
 use Rattle.yaml_grammar.specs.FlowScalars.{FlowContext, plain_next}
 use Rattle.yaml_grammar.specs.Texts.{every, is_empty}
 use Rattle.yaml_recognizers.specs.PlainScalars.{read_run}
-use Rattle.yaml_recognizers.proofs.PlainRuns.{plain_unbroken}
+use Rattle.yaml_recognizers.proofs.Scalars.PlainRuns.{plain_unbroken}
 use Rattle.yaml_flow_scalars.specs.DoubleScan.{raw_char}
 use Rattle.yaml_flow_scalars.specs.SingleScalars.{content}
 use Rattle.yaml_flow_scalars.proofs.FoldSteps.{every-list_all}
@@ -22,9 +22,11 @@ use Rattle.yaml_flow_scalars.proofs.FoldSteps.{every-list_all}
 white_unbroken : (x : ℕ) → white x ≡ true → no_break x ≡ true
 white_unbroken x h = grind (arith, nat_tests)
 
+-- an ns is no break
 pub ns_unbroken : (x : ℕ) → ns x ≡ true → no_break x ≡ true
 ns_unbroken x h = grind (arith, nat_tests)
 
+-- a run has no break
 pub run_unbroken : (c : FlowContext) (before : ℕ) (text : List ℕ) → every no_break (read_run c before text) ≡ true
 unfolding read_run
 run_unbroken c before [] = refl
@@ -58,15 +60,17 @@ run_closed_unbroken test text start end quote u b f run l e low q =
     ap (every no_break) (between-push_ascii text start end u above b l (omega arith))
     ∙ every_pushed no_break (between text start end) (slice_index text end) inside (ap no_break e ∙ q)
 
--- a quote in front
+-- a quote before it
 pub opened_unbroken : (text : List ℕ) (at end quote : ℕ) → IsUtf8 text → at < end → IsCharBoundary text end → slice_index text at ≡ quote → quote < 128 → no_break quote ≡ true
     → every no_break (between text (at + 1) end) ≡ true → every no_break (between text at end) ≡ true
 opened_unbroken text at end quote u l b e low q h =
     ap (every no_break) (between-ascii text at end u l b (omega arith)) ∙ and_from _ _ (ap no_break e ∙ q) h
 
+-- what means itself in single quotes is no break
 pub content_unbroken : (x : ℕ) → content x ≡ true → no_break x ≡ true
 content_unbroken x h = grind (arith, nat_tests)
 
+-- what means itself in double quotes is no break
 pub raw_unbroken : (x : ℕ) → raw_char x ≡ true → no_break x ≡ true
 unfolding raw_char
 raw_unbroken x h = grind (arith, nat_tests)

@@ -12,7 +12,7 @@ use Rattle.yaml_grammar.specs.FlowScalars.{ends}
 use Rattle.yaml_flow_scalars.specs.Folds.{IsWhiteStart}
 use Rattle.yaml_flow_scalars.proofs.FoldSteps.{every-list_all}
 
-ends-last : (p : ℕ → Bool) (front : List ℕ) (c : ℕ) → ends p (front ++ c ∷ []) ≡ p c
+ends-last : (p : ℕ → Bool) (prefix : List ℕ) (c : ℕ) → ends p (prefix ++ c ∷ []) ≡ p c
 ends-last p [] c = refl
 ends-last p (x ∷ []) c = refl
 ends-last p (x ∷ y ∷ ys) c = ends-last p (y ∷ ys) c
@@ -28,6 +28,7 @@ white_boundary bs start end u d l h = elim (cases_lt start end) [
     white_low : (c : ℕ) → white c ≡ true → c < 128
     white_low c h = grind (arith, nat_tests)
 
+-- the whitespace at the end of a piece starts there
 pub white_start_is : (bs : List ℕ) (from start end : ℕ) → IsUtf8 bs → IsCharBoundary bs from → IsCharBoundary bs end → from ≤ start → start ≤ end
     → ((k : ℕ) → start ≤ k → k < end → white (slice_index bs k) ≡ true) → (from < start → white (slice_index bs (start - 1)) ≡ false) → IsWhiteStart bs from start end
 white_start_is bs from start end u b d above below h stop =

@@ -5,7 +5,7 @@ use Rattle.std.specs.Cow.{cow_str_bytes, IsBorrowedStr}
 use Rattle.std.specs.declared.borrow.CowStr.{CowStr}
 use Rattle.yaml_chars.specs.Classes.{line_break}
 
--- what stands between the quotes of a scalar from one place to another
+-- what is between the quotes of a scalar from one place to another
 abbrev pub between_quotes : List ℕ → ℕ → ℕ → List ℕ
 between_quotes text at end = slice_range text (at + 1) (end - 1)
 
@@ -13,7 +13,7 @@ between_quotes text at end = slice_range text (at + 1) (end - 1)
 abbrev pub is_verbatim : ℕ → Bool
 is_verbatim b = not (line_break b || (b == 92))
 
--- Where no break and no backslash stands between the quotes, the value is what stands there: borrowed, with no memory taken.
+-- Where no break and no backslash is between the quotes, the value is what is there: borrowed, with no memory taken.
 abbrev pub BorrowsVerbatim : {Z : Type 0} → List ℕ → ℕ → CowStr Z → ℕ → Type 0
 BorrowsVerbatim text at value end =
     AllPass is_verbatim (between_quotes text at end) → IsBorrowedStr value × (cow_str_bytes value ≡ between_quotes text at end)

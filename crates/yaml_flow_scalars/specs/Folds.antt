@@ -1,5 +1,5 @@
--- Folds between two lines of a flow scalar, at a place of a text: what the recognizer of joins finds there, whatever stands before
--- the break (a backslash, or white).
+-- Folds between two lines of a flow scalar, at a place of a text: what the recognizer of joins finds there, whatever
+-- comes before the break (a backslash, or white).
 use Rattle.std.specs.Prelude.{◌≡◌, ℕ, ◌-◌, ◌<◌, ◌≤◌, Bool, true, false, List, ◌++◌, length, Some, None}
 use Rattle.std.specs.Str.{IsCharBoundary}
 use Rattle.yaml_chars.specs.Places.{rest, between}
@@ -8,23 +8,24 @@ use Rattle.yaml_grammar.specs.FlowScalars.{Empty, ends}
 use Rattle.yaml_grammar.specs.Separation.{Break, indents}
 use Rattle.yaml_grammar.specs.Texts.{every, first, spaces}
 use Rattle.yaml_recognizers.specs.Comments.{read_break}
-use Rattle.yaml_recognizers.specs.Fronts.{taken, dropped}
-use Rattle.yaml_recognizers.specs.Joins.{Join, behind_blank, read_empty}
+use Rattle.yaml_recognizers.specs.Prefixes.{taken, dropped}
+use Rattle.yaml_recognizers.specs.Joins.{Join, after_blank, read_empty}
 
--- The fold begins with the break at the place `at`, has so many empty lines, and what the next line holds stands at the place `next`.
+-- The fold begins with the break at the place `at`, has so many empty lines, and what the next line holds is at the
+-- place `next`.
 pub record IsFold (n : ℕ) (text : List ℕ) (at empties next : ℕ) : Type 0 where
   pub above : at < next
   pub boundary : IsCharBoundary text next
   pub join : Bool → List ℕ → Join
-  pub found : (escaped : Bool) (blank : List ℕ) → behind_blank escaped n blank (rest text at) ≡ Some (join escaped blank, rest text next)
+  pub found : (escaped : Bool) (blank : List ℕ) → after_blank escaped n blank (rest text at) ≡ Some (join escaped blank, rest text next)
   pub escapes : (escaped : Bool) (blank : List ℕ) → (join escaped blank).escaped ≡ escaped
   pub counts : (escaped : Bool) (blank : List ℕ) → length (join escaped blank).empties ≡ empties
 
 -- no fold begins there
 abbrev pub NoFold : ℕ → List ℕ → ℕ → Type 0
-NoFold n text at = (escaped : Bool) (blank : List ℕ) → behind_blank escaped n blank (rest text at) ≡ None
+NoFold n text at = (escaped : Bool) (blank : List ℕ) → after_blank escaped n blank (rest text at) ≡ None
 
--- Behind the spaces of a line, n of them at most.
+-- After the spaces of a line, n of them at most.
 pub record IsMargin (n : ℕ) (text : List ℕ) (at end : ℕ) : Type 0 where
   pub above : at ≤ end
   pub boundary : IsCharBoundary text end
@@ -32,17 +33,17 @@ pub record IsMargin (n : ℕ) (text : List ℕ) (at end : ℕ) : Type 0 where
   pub spaced : rest text at ≡ spaces (end - at) ++ rest text end
   pub stop : end - at < n → first space (rest text end) ≡ false
 
--- Behind the white of a line that is indented by n spaces or more, or behind the spaces of one that is not: whether it is indented,
--- and that it is an empty line where a break stands there.
-pub record IsFront (n : ℕ) (text : List ℕ) (at end : ℕ) (indented : Bool) : Type 0 where
+-- After the white of a line that is indented by n spaces or more, or after the spaces of one that is not: whether it is
+-- indented, and that it is an empty line where a break is there.
+pub record IsPrefix (n : ℕ) (text : List ℕ) (at end : ℕ) (indented : Bool) : Type 0 where
   pub above : at ≤ end
   pub boundary : IsCharBoundary text end
   pub indent : indents n (taken white (rest text at)) ≡ indented
   pub skips : indented ≡ true → dropped white (rest text at) ≡ rest text end
-  pub empty : (stop : Break) (behind : List ℕ) → read_break (rest text end) ≡ Some (stop, behind) → (line : Empty) × (read_empty n (rest text at) ≡ Some (line, behind))
+  pub empty : (stop : Break) (after : List ℕ) → read_break (rest text end) ≡ Some (stop, after) → (line : Empty) × (read_empty n (rest text at) ≡ Some (line, after))
   pub no_empty : read_break (rest text end) ≡ None → read_empty n (rest text at) ≡ None
 
--- the white at the end of what stands between two places
+-- the white at the end of what is between two places
 pub record IsWhiteStart (text : List ℕ) (from start end : ℕ) : Type 0 where
   pub above : from ≤ start
   pub below : start ≤ end

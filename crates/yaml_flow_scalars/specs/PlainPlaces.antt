@@ -1,5 +1,5 @@
 -- Plain scalars at places of a text: the first character, a line's run of characters, and further lines.
--- Here black tells whether the character before a place is neither white nor a break.
+-- Here black says whether the character before a place is neither white nor a break.
 use Rattle.std.specs.Prelude.{◌≡◌, ℕ, ◌<◌, ◌≤◌, Bool, true, false, ◌&&◌, ◌||◌, List, [], ◌∷◌, ◌++◌, flat_map, slice_index}
 use Rattle.std.specs.Str.{IsCharBoundary, chars}
 use Rattle.yaml_chars.specs.Classes.{line_break, ns}
@@ -7,14 +7,14 @@ use Rattle.yaml_chars.specs.Classes.{between as within}
 use Rattle.yaml_chars.specs.Places.{rest, between}
 use Rattle.yaml_grammar.specs.Texts.{no_marker}
 use Rattle.yaml_grammar.specs.FlowScalars.{FlowContext, Line, plain_first, plain_next, line_value, char_value, folded_break}
-use Rattle.yaml_events.specs.Places.{line_starts}
+use Rattle.yaml_events.specs.EventPlaces.{line_starts}
 use Rattle.yaml_flow_scalars.specs.declared.plain_scalar.Before.{Before}
 use Rattle.yaml_flow_scalars.specs.declared.plain_scalar.Before.TheVariants.{Content, Blank}
 use Rattle.yaml_recognizers.specs.PlainScalars.{read_run, plain_lines_at}
 
 -- ---- characters
 
--- what stands before a place is a character that is no white space
+-- what comes before a place is a character that is no white space
 abbrev pub is_content : Before → Bool
 is_content Content = true
 is_content Blank = false
@@ -23,12 +23,12 @@ is_content Blank = false
 abbrev pub letter_or_digit : ℕ → Bool
 letter_or_digit x = within 48 57 x || within 65 90 x || within 97 122 x
 
--- where bol tells whether a line starts there, the text begins with the first character of a plain scalar
+-- where bol says whether a line starts there, the text begins with the first character of a plain scalar
 abbrev pub begins_plain : FlowContext → Bool → List ℕ → Bool
 begins_plain c bol [] = false
 begins_plain c bol (x ∷ xs) = no_marker bol (x ∷ xs) && plain_first c x xs
 
--- the text behind a character begins with a plain one
+-- the text after a character begins with a plain one
 abbrev pub goes_on_plain : FlowContext → ℕ → List ℕ → Bool
 goes_on_plain c before [] = false
 goes_on_plain c before (x ∷ xs) = plain_next c before x xs
@@ -41,18 +41,19 @@ pub record BeginsPlain (c : FlowContext) (text : List ℕ) (at end : ℕ) : Type
   pub splits : rest text at ≡ character ∷ rest text end
   pub begins : no_marker (line_starts text at) (character ∷ rest text end) && plain_first c character (rest text end) ≡ true
 
+-- no plain scalar starts at the place
 abbrev pub NoPlainBegins : FlowContext → List ℕ → ℕ → Type 0
 NoPlainBegins c text at = begins_plain c (line_starts text at) (rest text at) ≡ false
 
 -- ---- runs of a line
 
--- What stands between the two places is read, and the run goes on behind it, there behind a character that is no white.
+-- What is between the two places is read, and the run goes on after it, there after a character that is no white.
 pub record IsPlainPiece (c : FlowContext) (black : Bool) (text : List ℕ) (at end : ℕ) : Type 0 where
   pub above : at < end
   pub boundary : IsCharBoundary text end
   pub goes_on : (before last : ℕ) → ns before ≡ black → ns last ≡ true → read_run c before (rest text at) ≡ between text at end ++ read_run c last (rest text end)
 
--- no plain character stands at the place
+-- no plain character is at the place
 abbrev pub NoPlainPiece : FlowContext → Bool → List ℕ → ℕ → Type 0
 NoPlainPiece c black text at = (before : ℕ) → ns before ≡ black → goes_on_plain c before (rest text at) ≡ false
 
@@ -64,28 +65,30 @@ pub record IsPlainRun (c : FlowContext) (black : Bool) (text : List ℕ) (from t
 
 -- ---- further lines
 
--- A further line begins behind a line that ends at the place `at`. A break and so many empty lines lead to it; what it holds
--- stands between `start` and `end`.
+-- A further line begins after a line that ends at the place `at`. A break and so many empty lines lead to it; what it
+-- holds is between `start` and `end`.
 pub record IsNextLine (n : ℕ) (c : FlowContext) (text : List ℕ) (at empties start end : ℕ) : Type 0 where
   pub stop : ℕ
-  pub behind : at ≤ stop
+  pub after : at ≤ stop
   pub before : stop < start
   pub breaks : line_break (slice_index text stop) ≡ true
   pub holds : start < end
-  pub front : IsCharBoundary text start
+  pub prefix : IsCharBoundary text start
   pub boundary : IsCharBoundary text end
   pub line : Line ℕ
   pub found : plain_lines_at n c (rest text at) ≡ (line ∷ (plain_lines_at n c (rest text end)).0, (plain_lines_at n c (rest text end)).1)
   pub means : line_value char_value line ≡ folded_break empties ++ between text start end
 
+-- no further line starts at the place
 abbrev pub NoNextLine : ℕ → FlowContext → List ℕ → ℕ → Type 0
 NoNextLine n c text at = plain_lines_at n c (rest text at) ≡ ([], rest text at)
 
--- what the further lines behind a place mean
+-- what the further lines after a place mean
 abbrev pub lines_value : ℕ → FlowContext → List ℕ → ℕ → List ℕ
 lines_value n c text at = flat_map (line_value char_value) (plain_lines_at n c (rest text at)).0
 
--- From the line that ends at the place `at` all further ones go to the end, and the value is added to by what they mean.
+-- From the line that ends at the place `at` all further ones go to the end, and the value is added to by what they
+-- mean.
 pub record PushesLines (n : ℕ) (c : FlowContext) (text : List ℕ) (at : ℕ) (line value longer : List ℕ) (end : ℕ) : Type 0 where
   pub above : at ≤ end
   pub boundary : IsCharBoundary text end

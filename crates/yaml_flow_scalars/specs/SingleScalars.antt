@@ -1,4 +1,4 @@
--- Scalars in single quotes: what stands between the quotes at a place of a text, and what of it a value borrows.
+-- Scalars in single quotes: what is between the quotes at a place of a text, and what of it a value borrows.
 use Rattle.std.specs.Prelude.{◌≡◌, ℕ, ◌<◌, Bool, true, false, not, ◌&&◌, ◌||◌, ◌⊎◌, List, Some, slice_range}
 use Rattle.std.specs.Cow.{cow_str_bytes, IsBorrowedStr}
 use Rattle.std.specs.List.{AllPass}
@@ -12,7 +12,7 @@ use Rattle.yaml_recognizers.specs.QuotedScalars.{quote, read_quoted, read_single
 use Rattle.yaml_recognizers.specs.QuotedSteps.{quoted_value}
 use Rattle.yaml_flow_scalars.specs.Folds.{NoFold}
 
--- a character that stands for itself between single quotes
+-- a character that means itself between single quotes
 abbrev pub content : ℕ → Bool
 content c = nb_json c && not (quote c)
 
@@ -20,15 +20,15 @@ content c = nb_json c && not (quote c)
 abbrev pub unchanged : ℕ → Bool
 unchanged b = not (quote b || line_break b)
 
--- Where neither a quote nor a break stands between the quotes the value is borrowed, and is what stands there.
+-- Where neither a quote nor a break is between the quotes the value is borrowed, and is what is there.
 abbrev pub BorrowsContent : {A : Type 0} → List ℕ → ℕ → ℕ → CowStr A → Type 0
 BorrowsContent text from to value = AllPass unchanged (slice_range text from to) → IsBorrowedStr value × (cow_str_bytes value ≡ slice_range text from to)
 
--- the value of what stands behind an opening quote up to the closing one, and what stands behind that
+-- the value of what comes after an opening quote up to the closing one, and what comes after that
 abbrev pub read_inside : ℕ → FlowContext → List ℕ → Read (List ℕ)
 read_inside n c text = quoted_value char_value (read_quoted read_single_one single_closes false n c text)
 
--- the value is read from the place on, up to the other place behind the closing quote
+-- the value is read from the place on, up to the other place after the closing quote
 pub record IsInside (n : ℕ) (c : FlowContext) (text : List ℕ) (start : ℕ) (value : List ℕ) (end : ℕ) : Type 0 where
   pub above : start < end
   pub boundary : IsCharBoundary text end

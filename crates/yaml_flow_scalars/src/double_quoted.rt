@@ -7,9 +7,9 @@ ghost use Rattle.yaml_chars.specs.Classes.{line_break, is_in};
 ghost use Rattle.yaml_chars.specs.Places.{rest, IsRun};
 ghost use Rattle.yaml_grammar.specs.Texts.{first};
 ghost use Rattle.yaml_grammar.specs.Events.{double_style};
-ghost use Rattle.yaml_grammar.specs.FlowScalars.{one_line, escape, double_item, hex_digit, digits_behind};
+ghost use Rattle.yaml_grammar.specs.FlowScalars.{one_line, escape, quoted_char_fits, hex_digit, digits_after};
 ghost use Rattle.yaml_events.specs.Meant.{context_of};
-ghost use Rattle.yaml_events.specs.Places.{line_starts, Refuses};
+ghost use Rattle.yaml_events.specs.EventPlaces.{line_starts, Refuses};
 ghost use Rattle.yaml_flow_scalars.specs.Standing.{ScalarAt, NoScalarAt, IsUnbroken};
 ghost use Rattle.yaml_flow_scalars.specs.DoubleScan.{double_value, raw_char, Adds, ClosesAt, EscapeAt, NoEscapeAt, IsEscape, IsDigit, digits_at, IsNumberAt, JoinsAt, NoJoinAt};
 ghost use Rattle.yaml_flow_scalars.specs.DoubleBorrowed.{BorrowsVerbatim};
@@ -46,9 +46,11 @@ pub fn double<'a>(
     context: FlowContext,
 ) -> Result<(CowStr<'a>, usize), ScanFault>
     requires { IsCharBoundary text.now at }
-    ensures found { IfOk result (λ r. ScalarAt double_style n (context_of context) text.now at (chars (cow_str_bytes r.0)) r.1) }
+    ensures found { IfOk result (λ r.
+        ScalarAt double_style n (context_of context) text.now at (chars (cow_str_bytes r.0)) r.1) }
     ensures borrowed { IfOk result (λ r. BorrowsVerbatim text.now at r.0 r.1) }
-    ensures none { IfErr result (λ fault. Refuses fault (NoScalarAt double_style n (context_of context) text.now at)) }
+    ensures none { IfErr result (λ fault.
+        Refuses fault (NoScalarAt double_style n (context_of context) text.now at)) }
     ensures unbroken { IfOk result (λ r. IsUnbroken text.now at r.0 r.1) }
     ensures ends_inside_line { IfOk result (λ r. line_starts text.now r.1 ≡ false) }
 {
@@ -80,8 +82,10 @@ fn unescaped(
     requires start { IsCharBoundary text.now start }
     requires run { IsRun raw_char text.now start first }
     requires goes_on { first < length text.now → slice_index text.now first ≢ 34 }
-    ensures ok { IfOk result (λ r. ClosesAt n (context_of context) text.now start first (string_bytes r.0) r.1) }
-    ensures err { IfErr result (λ fault. Refuses fault (double_value n (context_of context) (rest text.now start) ≡ None)) }
+    ensures ok { IfOk result (λ r. ClosesAt n (context_of context) text.now start first
+        (string_bytes r.0) r.1) }
+    ensures err { IfErr result (λ fault.
+        Refuses fault (double_value n (context_of context) (rest text.now start) ≡ None)) }
 {
     let mut value = String::new(alloc);
     let mut place = start;
@@ -108,8 +112,11 @@ fn push_run(
     requires run { IsRun raw_char text.now from end }
     requires goes_on { end < length text.now → slice_index text.now end ≢ 34 }
     ensures further { IfOk result (λ next. end < next) }
-    ensures ok { IfOk result (λ next. Adds n (context_of context) text.now (string_bytes value.old) from (string_bytes value.new) next) }
-    ensures err { IfErr result (λ fault. Refuses fault (double_value n (context_of context) (rest text.now from) ≡ None)) }
+    ensures ok { IfOk result (λ next.
+        Adds n (context_of context) text.now (string_bytes value.old) from
+        (string_bytes value.new) next) }
+    ensures err { IfErr result (λ fault.
+        Refuses fault (double_value n (context_of context) (rest text.now from) ≡ None)) }
 {
     if stands_at(text, end, b'\\') {
         value.push_str(&text[from..end])?;
@@ -125,7 +132,7 @@ fn push_run(
     }
     let white = white_start(text, from, end);
     value.push_str(&text[from..white])?;
-    let fold = line_behind(text, end, n, context)?;
+    let fold = line_after(text, end, n, context)?;
     push_fold(value, fold.empties)?;
     Ok(fold.next)
 }
@@ -141,24 +148,29 @@ fn push_escape(
     requires within { at < length text.now }
     requires backslash { slice_index text.now at ≡ 92 }
     ensures further { IfOk result (λ next. at < next) }
-    ensures ok { IfOk result (λ next. Adds n (context_of context) text.now (string_bytes value.old) at (string_bytes value.new) next) }
-    ensures err { IfErr result (λ fault. Refuses fault (double_value n (context_of context) (rest text.now at) ≡ None)) }
+    ensures ok { IfOk result (λ next.
+        Adds n (context_of context) text.now (string_bytes value.old) at
+        (string_bytes value.new) next) }
+    ensures err { IfErr result (λ fault.
+        Refuses fault (double_value n (context_of context) (rest text.now at) ≡ None)) }
 {
     if let Some(escape) = escape_at(text, at) {
         value.push(escape.meant)?;
         return Ok(escape.end);
     }
-    let fold = line_behind(text, at + 1, n, context)?;
+    let fold = line_after(text, at + 1, n, context)?;
     push_line_feeds(value, fold.empties)?;
     Ok(fold.next)
 }
 
 /// Returns the fold whose break is at `at`, where lines may be joined there. No other join follows it at
 /// once.
-fn line_behind(text: &str, at: usize, n: u64, context: FlowContext) -> Result<Fold, ScanFault>
+fn line_after(text: &str, at: usize, n: u64, context: FlowContext) -> Result<Fold, ScanFault>
     requires { IsCharBoundary text.now at }
-    ensures ok { IfOk result (λ fold. JoinsAt n (context_of context) text.now at fold.empties fold.next) }
-    ensures err { IfErr result (λ fault. Refuses fault (NoJoinAt n (context_of context) text.now at)) }
+    ensures ok { IfOk result (λ fold.
+        JoinsAt n (context_of context) text.now at fold.empties fold.next) }
+    ensures err { IfErr result (λ fault.
+        Refuses fault (NoJoinAt n (context_of context) text.now at)) }
 {
     if !breaks_at(text, at) {
         return Err(ScanFault::At {
@@ -201,7 +213,7 @@ fn escape_at(text: &str, at: usize) -> Option<Escape>
     if sign == bytes.len() {
         return None;
     }
-    let digits = digits_behind(bytes[sign]);
+    let digits = digits_after(bytes[sign]);
     if digits == 0 {
         return Some(Escape {
             meant: escaped_char(bytes[sign])?,
@@ -216,8 +228,8 @@ fn escape_at(text: &str, at: usize) -> Option<Escape>
 }
 
 /// Returns how many digits follow the sign of an escape: 0 where it is a whole escape or none.
-fn digits_behind(sign: u8) -> usize
-    ensures { result ≡ (if is_in sign (codes "xuU") then digits_behind sign else 0) }
+fn digits_after(sign: u8) -> usize
+    ensures { result ≡ (if is_in sign (codes "xuU") then digits_after sign else 0) }
 {
     match sign {
         b'x' => 2,
@@ -230,7 +242,7 @@ fn digits_behind(sign: u8) -> usize
 /// Returns what a sign after a backslash means, where it takes no digits.
 fn escaped_char(sign: u8) -> Option<char>
     ensures found { IfSome result (IsEscape sign) }
-    ensures none { IfNone result (double_item (escape sign) ≡ false) }
+    ensures none { IfNone result (quoted_char_fits (escape sign) ≡ false) }
 {
     match sign {
         b'0' => Some('\0'),

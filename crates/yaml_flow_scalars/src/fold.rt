@@ -4,7 +4,7 @@ ghost use Rattle.std.specs.Str.{IsCharBoundary};
 ghost use Rattle.std.specs.String.{string_bytes};
 ghost use Rattle.yaml_grammar.specs.FlowScalars.{folded_break, one_line};
 ghost use Rattle.yaml_events.specs.Meant.{context_of};
-ghost use Rattle.yaml_flow_scalars.specs.Folds.{IsFold, NoFold, IsFront, IsMargin, IsWhiteStart};
+ghost use Rattle.yaml_flow_scalars.specs.Folds.{IsFold, NoFold, IsPrefix, IsMargin, IsWhiteStart};
 
 use std::alloc::AllocError;
 use yaml_events::{FlowContext, ScanFault, Why};
@@ -29,31 +29,31 @@ pub(crate) fn fold_at(text: &str, at: usize, indent: u64) -> Option<Fold>
     ensures found { IfSome result (λ fold. IsFold indent text.now at fold.empties fold.next) }
     ensures none { IfNone result (NoFold indent text.now at) }
 {
-    let Some(behind) = break_end(text, at) else {
+    let Some(after) = break_end(text, at) else {
         return None;
     };
-    let mut line = behind;
+    let mut line = after;
     let mut empties = 0;
     'lines: loop {
-        let front = line_front(text, line, indent);
-        if let Some(next) = break_end(text, front.end) {
+        let prefix = line_prefix(text, line, indent);
+        if let Some(next) = break_end(text, prefix.end) {
             empties += 1;
             line = next;
             continue;
         }
-        if !front.indented || is_marker(text, line) {
+        if !prefix.indented || is_marker(text, line) {
             return None;
         }
         return Some(Fold {
             empties,
-            next: front.end,
+            next: prefix.end,
         });
     }
 }
 
 /// The white space at the start of a line.
 #[derive(Clone, Copy)]
-struct Front {
+struct Prefix {
     /// Where it ends. In a line that is indented too little, where its spaces end.
     end: usize,
     /// Whether the line has all the spaces of the indentation.
@@ -61,18 +61,18 @@ struct Front {
 }
 
 /// Returns the white space at the start of the line that starts at `at`.
-fn line_front(text: &str, at: usize, indent: u64) -> Front
+fn line_prefix(text: &str, at: usize, indent: u64) -> Prefix
     requires { IsCharBoundary text.now at }
-    ensures { IsFront indent text.now at result.end result.indented }
+    ensures { IsPrefix indent text.now at result.end result.indented }
 {
     let margin = margin_end(text, at, indent);
     if ((margin - at) as u64) < indent {
-        return Front {
+        return Prefix {
             end: margin,
             indented: false,
         };
     }
-    Front {
+    Prefix {
         end: white_end(text, margin),
         indented: true,
     }
@@ -98,12 +98,12 @@ pub(crate) fn fold_fault(text: &str, at: usize) -> ScanFault
 {
     let mut line = at;
     'lines: loop {
-        let front = white_end(text, line);
-        if let Some(next) = break_end(text, front) {
+        let prefix = white_end(text, line);
+        if let Some(next) = break_end(text, prefix) {
             line = next;
             continue;
         }
-        let why = if front == text.len() {
+        let why = if prefix == text.len() {
             Why::Quote
         } else if is_marker(text, line) {
             Why::Marker
@@ -116,7 +116,8 @@ pub(crate) fn fold_fault(text: &str, at: usize) -> ScanFault
 
 /// Appends what a fold means: a space, or a line feed for each empty line.
 pub(crate) fn push_fold(value: &mut String, empties: usize) -> Result<(), AllocError>
-    ensures { OnOk result (string_bytes value.new ≡ string_bytes value.old ++ folded_break empties) }
+    ensures { OnOk result (string_bytes value.new ≡ string_bytes value.old
+        ++ folded_break empties) }
 {
     if empties == 0 {
         return value.push(' ');

@@ -10,7 +10,7 @@ ghost use Rattle.yaml_grammar.specs.Texts.{first};
 ghost use Rattle.yaml_grammar.specs.FlowScalars.{plain_first, plain_next, folded_break};
 ghost use Rattle.yaml_events.specs.Borrowed.{BorrowsOneLine};
 ghost use Rattle.yaml_events.specs.Meant.{context_of};
-ghost use Rattle.yaml_events.specs.Places.{line_starts, Refuses};
+ghost use Rattle.yaml_events.specs.EventPlaces.{line_starts, Refuses};
 ghost use Rattle.yaml_scan.specs.Classes.{test_of, word};
 ghost use Rattle.yaml_flow_scalars.specs.Standing.{ScalarAt, NoScalarAt, IsUnbroken};
 ghost use Rattle.yaml_flow_scalars.specs.PlainPlaces.{is_content, letter_or_digit, BeginsPlain, NoPlainBegins, IsPlainPiece, NoPlainPiece, IsPlainRun, IsNextLine, NoNextLine, PushesLines};
@@ -51,14 +51,16 @@ pub fn plain<'a>(
     context: FlowContext,
 ) -> Result<(CowStr<'a>, usize), ScanFault>
     requires { IsCharBoundary text.now at }
-    ensures found { IfOk result (λ r. ScalarAt plain_style n (context_of context) text.now at (chars (cow_str_bytes r.0)) r.1) }
-    ensures none { IfErr result (λ fault. Refuses fault (NoScalarAt plain_style n (context_of context) text.now at)) }
+    ensures found { IfOk result (λ r.
+        ScalarAt plain_style n (context_of context) text.now at (chars (cow_str_bytes r.0)) r.1) }
+    ensures none { IfErr result (λ fault.
+        Refuses fault (NoScalarAt plain_style n (context_of context) text.now at)) }
     ensures borrowed { IfOk result (λ r. BorrowsOneLine text.now at r.0 r.1) }
     ensures unbroken { IfOk result (λ r. IsUnbroken text.now at r.0 r.1) }
     ensures ends_inside_line { IfOk result (λ r. line_starts text.now r.1 ≡ false) }
 {
-    let behind = first_end(text, at, context)?;
-    let end = plain_run_end(text, behind, Before::Content, context);
+    let after = first_end(text, at, context)?;
+    let end = plain_run_end(text, after, Before::Content, context);
     let Some(line) = next_line(text, end, n, context) else {
         return Ok((CowStr::Borrowed(&text[at..end]), end));
     };
@@ -72,7 +74,8 @@ pub fn plain<'a>(
 fn first_end(text: &str, at: usize, context: FlowContext) -> Result<usize, ScanFault>
     requires { IsCharBoundary text.now at }
     ensures found { IfOk result (BeginsPlain (context_of context) text.now at) }
-    ensures none { IfErr result (λ fault. Refuses fault (NoPlainBegins (context_of context) text.now at)) }
+    ensures none { IfErr result (λ fault.
+        Refuses fault (NoPlainBegins (context_of context) text.now at)) }
 {
     if letter_or_digit_at(text, at) {
         return Ok(at + 1);
@@ -113,11 +116,11 @@ fn is_letter_or_digit(byte: u8) -> bool
     matches!(byte, b'0'..=b'9' | b'A'..=b'Z' | b'a'..=b'z')
 }
 
-/// Returns whether a plain scalar may begin with a character that ends at `behind`
+/// Returns whether a plain scalar may begin with a character that ends at `after`
 /// (`ns-plain-first`).
-fn is_first(character: char, text: &str, behind: usize, context: FlowContext) -> bool
-    requires { IsCharBoundary text.now behind }
-    ensures { result ≡ plain_first (context_of context) character (rest text.now behind) }
+fn is_first(character: char, text: &str, after: usize, context: FlowContext) -> bool
+    requires { IsCharBoundary text.now after }
+    ensures { result ≡ plain_first (context_of context) character (rest text.now after) }
 {
     if !ns(character) {
         return false;
@@ -125,7 +128,7 @@ fn is_first(character: char, text: &str, behind: usize, context: FlowContext) ->
     if !indicator(character) {
         return true;
     }
-    matches!(character, '?' | ':' | '-') && safe_at(text, behind, context)
+    matches!(character, '?' | ':' | '-') && safe_at(text, after, context)
 }
 
 /// Returns why a plain scalar does not begin with a character.
@@ -179,9 +182,12 @@ fn words_of(context: FlowContext) -> Class
 /// `#` where one is allowed, or a character that is not ASCII.
 fn special_end(text: &str, at: usize, before: Before, context: FlowContext) -> Option<usize>
     requires at { IsCharBoundary text.now at }
-    requires stop { at < length text.now → word (context_of context) (slice_index text.now at) ≡ false }
-    ensures found { IfSome result (IsPlainPiece (context_of context) (is_content before) text.now at) }
-    ensures none { IfNone result (NoPlainPiece (context_of context) (is_content before) text.now at) }
+    requires stop { at < length text.now → word (context_of context) (slice_index text.now at)
+        ≡ false }
+    ensures found { IfSome result (IsPlainPiece (context_of context)
+        (is_content before) text.now at) }
+    ensures none { IfNone result (NoPlainPiece (context_of context)
+        (is_content before) text.now at) }
 {
     let bytes = text.as_bytes();
     if at == bytes.len() {
@@ -202,19 +208,14 @@ fn special_end(text: &str, at: usize, before: Before, context: FlowContext) -> O
     }
 }
 
-/// Returns whether a character that ends at `behind` is plain (`ns-plain-char`).
-fn is_plain(
-    character: char,
-    before: Before,
-    text: &str,
-    behind: usize,
-    context: FlowContext,
-) -> bool
-    requires { IsCharBoundary text.now behind }
-    ensures { (previous : ℕ) → ns previous ≡ is_content before → result ≡ plain_next (context_of context) previous character (rest text.now behind) }
+/// Returns whether a character that ends at `after` is plain (`ns-plain-char`).
+fn is_plain(character: char, before: Before, text: &str, after: usize, context: FlowContext) -> bool
+    requires { IsCharBoundary text.now after }
+    ensures { (previous : ℕ) → ns previous ≡ is_content before
+        → result ≡ plain_next (context_of context) previous character (rest text.now after) }
 {
     match character {
-        ':' => safe_at(text, behind, context),
+        ':' => safe_at(text, after, context),
         '#' => matches!(before, Before::Content),
         _ => is_safe(character, context),
     }
@@ -246,7 +247,8 @@ fn plain_run_end(text: &str, from: usize, before: Before, context: FlowContext) 
 /// Returns the further line of a plain scalar after a line that ends at `at`. A key has none.
 fn next_line(text: &str, at: usize, n: u64, context: FlowContext) -> Option<PlainLine>
     requires { IsCharBoundary text.now at }
-    ensures found { IfSome result (λ line. IsNextLine n (context_of context) text.now at line.empties line.start line.end) }
+    ensures found { IfSome result (λ line.
+        IsNextLine n (context_of context) text.now at line.empties line.start line.end) }
     ensures none { IfNone result (NoNextLine n (context_of context) text.now at) }
 {
     if stands_on_one_line(context) {
@@ -277,7 +279,9 @@ fn push_lines(
     requires order { first.start ≤ first.end }
     requires start { IsCharBoundary text.now first.start }
     requires end { IsCharBoundary text.now first.end }
-    ensures { IfOk result (PushesLines n (context_of context) text.now first.end (folded_break first.empties ++ between text.now first.start first.end) (string_bytes value.old) (string_bytes value.new)) }
+    ensures { IfOk result (PushesLines n (context_of context) text.now first.end
+        (folded_break first.empties ++ between text.now first.start first.end)
+        (string_bytes value.old) (string_bytes value.new)) }
 {
     let mut line = first;
     'lines: loop {

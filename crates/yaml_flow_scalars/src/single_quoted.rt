@@ -8,7 +8,7 @@ ghost use Rattle.yaml_grammar.specs.FlowScalars.{one_line};
 ghost use Rattle.yaml_grammar.specs.Texts.{first};
 ghost use Rattle.yaml_recognizers.specs.QuotedScalars.{quote};
 ghost use Rattle.yaml_events.specs.Meant.{context_of};
-ghost use Rattle.yaml_events.specs.Places.{line_starts, Refuses};
+ghost use Rattle.yaml_events.specs.EventPlaces.{line_starts, Refuses};
 ghost use Rattle.yaml_flow_scalars.specs.Folds.{IsFold};
 ghost use Rattle.yaml_flow_scalars.specs.SingleScalars.{content, BorrowsContent, IsInside, NoFoldIn, read_inside};
 ghost use Rattle.yaml_flow_scalars.specs.Standing.{ScalarAt, NoScalarAt, IsUnbroken};
@@ -38,8 +38,10 @@ pub fn single<'a>(
     context: FlowContext,
 ) -> Result<(CowStr<'a>, usize), ScanFault>
     requires { IsCharBoundary text.now at }
-    ensures found { IfOk result (λ r. ScalarAt single_style n (context_of context) text.now at (chars (cow_str_bytes r.0)) r.1) }
-    ensures none { IfErr result (λ fault. Refuses fault (NoScalarAt single_style n (context_of context) text.now at)) }
+    ensures found { IfOk result (λ r.
+        ScalarAt single_style n (context_of context) text.now at (chars (cow_str_bytes r.0)) r.1) }
+    ensures none { IfErr result (λ fault.
+        Refuses fault (NoScalarAt single_style n (context_of context) text.now at)) }
     ensures borrowed { IfOk result (λ r. BorrowsContent text.now (at + 1) (r.1 - 1) r.0) }
     ensures unbroken { IfOk result (λ r. IsUnbroken text.now at r.0 r.1) }
     ensures ends_inside_line { IfOk result (λ r. line_starts text.now r.1 ≡ false) }
@@ -63,8 +65,10 @@ fn unquoted<'a>(
     context: FlowContext,
 ) -> Result<(CowStr<'a>, usize), ScanFault>
     requires { IsCharBoundary text.now start }
-    ensures found { IfOk result (λ r. IsInside n (context_of context) text.now start (chars (cow_str_bytes r.0)) r.1) }
-    ensures none { IfErr result (λ fault. Refuses fault (read_inside n (context_of context) (rest text.now start) ≡ None)) }
+    ensures found { IfOk result (λ r.
+        IsInside n (context_of context) text.now start (chars (cow_str_bytes r.0)) r.1) }
+    ensures none { IfErr result (λ fault.
+        Refuses fault (read_inside n (context_of context) (rest text.now start) ≡ None)) }
     ensures borrowed { IfOk result (λ r. BorrowsContent text.now start (r.1 - 1) r.0) }
     ensures unbroken { IfOk result (λ r. IsUnbroken text.now start r.0 r.1) }
 {

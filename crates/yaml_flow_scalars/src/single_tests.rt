@@ -28,7 +28,7 @@ fn single_at(
 /// Whether the text starts with a scalar of this value and end.
 fn is_single(alloc: Global, text: &str, n: u64, value: &str, end: usize) -> Result<bool, Fail> {
     Ok(match single_at(alloc, text, 0, n, FlowContext::Outer)? {
-        Some((found, behind)) => found.as_str() == value && behind == end,
+        Some((found, after)) => found.as_str() == value && after == end,
         None => false,
     })
 }

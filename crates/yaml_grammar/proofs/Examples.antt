@@ -1,19 +1,17 @@
--- Worked examples of the grammar, for whoever reads its definitions for the first time or is about to change one.
---
--- How to read one. Above it stands the text. `presentation` is what a reader of the text has found, part by part, down to the
--- white, breaks and comments. `Holds` says five things of it: it spells the text; it fits, that is, it meets what the grammar
--- asks of it; it means these events, each scalar with its style and the bytes from and to which it stands, counted from 0; the
+-- Worked examples of the grammar, for whoever reads its definitions for the first time or is about to change one.  How
+-- to read one. Above it is the text. `presentation` is what a reader of the text has found, part by part, down to the
+-- white, breaks and comments. `Holds` says five things of it: it spells the text; it fits, that is, it meets what the
+-- grammar asks of it; it means these events, each scalar with its style and its range in bytes, counted from 0; the
 -- events are those of this tree; and this is the tree's text in the one style.
--- Each fact is closed, and the checker computes both its sides (`refl`). The expected values come from YAML 1.2.2, from the rules of
--- the one style, and from two other readers of these texts, never from the definitions. So an edit of a definition that changes one
--- of them is refused here.
---
--- Behind the examples stand conditions that each carry weight: texts that would be read wrongly, or in two ways, without them.
+-- Each fact is closed, and the checker computes both its sides (`refl`). The expected values come from YAML 1.2.2, from
+-- the rules of the one style, and from two other readers of these texts, never from the definitions. So an edit of a
+-- definition that changes one of them is refused here.  After the examples are conditions that each carry weight: texts
+-- that would be read wrongly, or in two ways, without them.
 use Rattle.std.proofs.Common.{◌≡◌, refl}
 use Rattle.std.specs.Prelude.{ℕ, Bool, true, false, List, [], ◌∷◌, ◌++◌, Option, Some, None, replicate, codes}
 use Rattle.yaml_grammar.specs.Texts.{spaces}
 use Rattle.yaml_grammar.specs.Separation.{lf, LineEnd, Sep, inline, lines}
-use Rattle.yaml_grammar.specs.FlowScalars.{Item, raw, escape, Empty, Line, plain, double}
+use Rattle.yaml_grammar.specs.FlowScalars.{QuotedChar, raw, escape, Empty, Line, plain, double}
 use Rattle.yaml_grammar.specs.FlowNodes.{Flow, scalar, seq, Entries, last, next, Entry, entry, absent, given}
 use Rattle.yaml_grammar.specs.BlockScalars.{Chomping, clip, keep, Header, Gap, TextLine, BlockScalar}
 use Rattle.yaml_grammar.specs.BlockNodes.{Node, block, flow, items, pairs, item, item_and, Pairs, pair, pair_and, Pair, keyed, keyed_alone, compact_pairs, node, omitted}
@@ -53,13 +51,13 @@ record Refused (p : Stream) (source : List ℕ) : Type 0 where
 
 -- one bare document, and nothing else
 abbrev stream_of : Node → Stream
-stream_of n = record { mark = false; front = []; document = Some (bare n); parts = [] }
+stream_of n = record { mark = false; prefix = []; document = Some (bare n); parts = [] }
 
 -- a line's end that is a line feed alone
 abbrev newline : LineEnd
 newline = record { blank = []; comment = None; stop = Some lf }
 
-abbrev raws : List ℕ → List Item
+abbrev raws : List ℕ → List QuotedChar
 raws [] = []
 raws (c ∷ cs) = raw c ∷ raws cs
 
@@ -78,7 +76,7 @@ continued empties lead held = record { escaped = false; blank = []; stop = lf; e
 abbrev alone : Flow → List LineEnd → Stream
 alone f comments = stream_of (flow (inline []) f comments)
 
--- a flow node behind one space, to the end of its line
+-- a flow node after one space, to the end of its line
 abbrev on_line : Flow → Node
 on_line f = flow (inline (spaces 1)) f (newline ∷ [])
 
@@ -93,7 +91,7 @@ simple key n = keyed (word key) [] n
 abbrev only : Flow → Entry
 only f = entry None f absent
 
--- the header of a block scalar with no digit; a text line with its break, and empty lines behind it
+-- the header of a block scalar with no digit; a text line with its break, and empty lines after it
 abbrev header : Bool → Chomping → Header
 header folded chomping = record { folded = folded; digit = None; chomping = chomping; digit_last = false; line_end = newline }
 
@@ -103,7 +101,7 @@ text_line t gaps = record { text = t; stop = Some lf; gaps = gaps }
 abbrev empty_line : Gap
 empty_line = record { width = 0; stop = lf }
 
--- a block scalar with no empty line at its front
+-- a block scalar with no empty line at its start
 abbrev block_of : Header → ℕ → List TextLine → BlockScalar
 block_of h indent texts = record { header = h; indent = indent; gaps = []; texts = texts; trail = [] }
 
@@ -175,13 +173,13 @@ dash_in_text =
 dash_in_text_holds : Holds dash_in_text
 dash_in_text_holds = record { spells = refl; fits = refl; means = refl; tree = refl; style = refl }
 
--- ---- behind a key a dash begins a sequence, which may stand at the key's place
+-- ---- after a key a dash begins a sequence, which may be at the key's place
 --
 -- a:
 -- - b
 
-abbrev dash_behind_key : Example
-dash_behind_key =
+abbrev dash_after_key : Example
+dash_after_key =
     record {
       source = codes "a:\n- b\n";
       presentation = top_mapping (pair (simple (codes "a") (items (newline ∷ []) 0 (item (node (on_line (word (codes "b"))))))));
@@ -192,8 +190,8 @@ dash_behind_key =
       styled = codes "a:\n  - b\n";
     }
 
-dash_behind_key_holds : Holds dash_behind_key
-dash_behind_key_holds = record { spells = refl; fits = refl; means = refl; tree = refl; style = refl }
+dash_after_key_holds : Holds dash_after_key
+dash_after_key_holds = record { spells = refl; fits = refl; means = refl; tree = refl; style = refl }
 
 -- ---- a folded scalar: a break is a space, but not beside a line that begins with white
 --
@@ -235,7 +233,7 @@ abbrev kept_document : Stream
 kept_document =
     record {
       mark = false;
-      front = [];
+      prefix = [];
       document = Some (bare (pairs [] 0 (pair (simple (codes "k") kept_literal))));
       parts = suffixes (newline ∷ []) [] [] None ∷ [];
     }
@@ -254,12 +252,12 @@ kept =
 kept_holds : Holds kept
 kept_holds = record { spells = refl; fits = refl; means = refl; tree = refl; style = refl }
 
--- ---- a backslash at the end of a line joins it to the next: the white before it stays, the white at that line's front doesn't
+-- ---- a backslash at the end of a line joins it to the next: whitespace before it stays, that after the break doesn't
 --
 -- "a \
 --    b"
 
-abbrev joined_line : Line Item
+abbrev joined_line : Line QuotedChar
 joined_line = record { escaped = true; blank = []; stop = lf; empties = []; lead = spaces 3; held = raws (codes "b") }
 
 abbrev joined : Example
@@ -275,7 +273,7 @@ joined =
 joined_holds : Holds joined
 joined_holds = record { spells = refl; fits = refl; means = refl; tree = refl; style = refl }
 
--- ---- a flow sequence over lines: its closing bracket, too, stands deeper than the key
+-- ---- a flow sequence over lines: its closing bracket, too, is deeper than the key
 --
 -- a: [
 --   b
@@ -309,7 +307,7 @@ flow_over_lines_holds = record { spells = refl; fits = refl; means = refl; tree 
 bracket_under_key_refused : Refused (flow_value 0) (codes "a: [\n  b\n]\n")
 bracket_under_key_refused = record { spells = refl; fits = refl }
 
--- ---- a key on one line: the `:` comes at most 1,024 characters behind its start
+-- ---- a key on one line: the `:` comes at most 1,024 characters after its start
 -- The one style puts a `?` before a key whose spelling, quotes counted, has more than 1,000.
 --
 -- kkk..k: v
@@ -337,7 +335,7 @@ longest_key_holds = record { spells = refl; fits = refl; means = refl; tree = re
 longer_key_refused : Refused (key_of_letters 1025) (letters 1025 ++ codes ": v\n")
 longer_key_refused = record { spells = refl; fits = refl }
 
--- ---- what most programs write: a sequence at its key's place, a mapping behind its dash
+-- ---- what most programs write: a sequence at its key's place, a mapping after its dash
 --
 -- a:
 -- - b
@@ -371,20 +369,20 @@ usual =
 usual_holds : Holds usual
 usual_holds = record { spells = refl; fits = refl; means = refl; tree = refl; style = refl }
 
--- ---- behind a byte order mark a version and the start of a document; ranges count the mark's three bytes
+-- ---- after a byte order mark a version and the start of a document; ranges count the mark's three bytes
 --
 -- %YAML 1.1
 -- ---
 -- a: yes
 
-abbrev behind_version : Node
-behind_version = pairs (newline ∷ []) 0 (pair (simple (codes "a") (on_line (word (codes "yes")))))
+abbrev after_version : Node
+after_version = pairs (newline ∷ []) 0 (pair (simple (codes "a") (on_line (word (codes "yes")))))
 
 abbrev marked : Example
 marked =
     record {
       source = 0xfeff ∷ codes "%YAML 1.1\n---\na: yes\n";
-      presentation = record { mark = true; front = []; document = Some (directed (spaces 1) true (newline ∷ []) (content behind_version)); parts = [] };
+      presentation = record { mark = true; prefix = []; document = Some (directed (spaces 1) true (newline ∷ []) (content after_version)); parts = [] };
       events =
           document_start ∷ map_start ∷ scalar_event plain_style 17 18 (codes "a") ∷ scalar_event plain_style 20 23 (codes "yes") ∷ map_end ∷ document_end ∷ [];
       tree = mapping (member (codes "a") (text (codes "yes")) no_member);
@@ -430,31 +428,33 @@ escapes_holds : Holds escapes
 escapes_holds = record { spells = refl; fits = refl; means = refl; tree = refl; style = refl }
 
 -- ---- conditions that each carry weight
--- Each of these texts has a presentation that breaks one condition alone, and so doesn't fit; without the condition the text
--- would be read by it. Behind it stands how the text is read, or where it has no reading, the nearest text that has one.
+-- Each of these texts has a presentation that breaks one condition alone, and so doesn't fit; without the condition the
+-- text would be read by it. After it is how the text is read, or where it has no reading, the nearest text that has
+-- one.
 
--- No marker stands at a node's first place, so `---` is no text, but begins a document; behind a space it is text.
+-- No marker is at a node's first place, so `---` is no text, but begins a document; after a space it is text.
 
 marker_is_no_text : Refused (alone (word (codes "---")) []) (codes "---")
 marker_is_no_text = record { spells = refl; fits = refl }
 
 marker_read :
     Read
-    (record { mark = false; front = []; document = Some (explicit (nothing [])); parts = [] })
+    (record { mark = false; prefix = []; document = Some (explicit (nothing [])); parts = [] })
     (codes "---")
     (document_start ∷ scalar_event omitted_style 3 3 [] ∷ document_end ∷ [])
 marker_read = record { spells = refl; fits = refl; means = refl }
 
-marker_behind_a_space_read :
+marker_after_a_space_read :
     Read
     (stream_of (flow (inline (spaces 1)) (word (codes "---")) []))
     (codes " ---")
     (document_start ∷ scalar_event plain_style 1 4 (codes "---") ∷ document_end ∷ [])
-marker_behind_a_space_read = record { spells = refl; fits = refl; means = refl }
+marker_after_a_space_read = record { spells = refl; fits = refl; means = refl }
 
--- No fold begins where a fold ends: two breaks between quotes are one fold with an empty line, a line feed, and not two spaces.
+-- No fold begins where a fold ends: two breaks between quotes are one fold with an empty line, a line feed, and not two
+-- spaces.
 
-abbrev folds : List Item → List Empty → Line Item
+abbrev folds : List QuotedChar → List Empty → Line QuotedChar
 folds held empties = record { escaped = false; blank = []; stop = lf; empties = empties; lead = []; held = held }
 
 two_folds_refused : Refused (alone (scalar (double [] (folds [] [] ∷ folds [] [] ∷ []))) []) (codes "\"\n\n\"")
@@ -479,7 +479,8 @@ white_before_break_read :
     (document_start ∷ scalar_event double_style 0 4 (codes " ") ∷ document_end ∷ [])
 white_before_break_read = record { spells = refl; fits = refl; means = refl }
 
--- A block scalar runs to the first line that is neither text nor empty: the space below is text of it, and no line behind it.
+-- A block scalar runs to the first line that is neither text nor empty: the space below is text of it, and no line
+-- after it.
 
 abbrev bar : List TextLine → BlockScalar
 bar texts = block_of (header false clip) 0 texts
@@ -488,7 +489,7 @@ scalar_ends_early_refused :
     Refused
     (record {
       mark = false;
-      front = [];
+      prefix = [];
       document = Some (bare (block (inline []) (bar (text_line (codes "|") [] ∷ []))));
       parts = line (record { blank = spaces 1; comment = None; stop = None }) ∷ [];
     })
@@ -502,19 +503,19 @@ scalar_to_its_end_read :
     (document_start ∷ scalar_event literal_style 0 5 (codes "|\n ") ∷ document_end ∷ [])
 scalar_to_its_end_read = record { spells = refl; fits = refl; means = refl }
 
--- In a plain scalar `#` stands only behind a character that is no white; behind white it begins a comment.
+-- In a plain scalar `#` is only after a character that is not whitespace; after whitespace it starts a comment.
 
-hash_behind_white_refused : Refused (alone (word (codes "a #")) []) (codes "a #")
-hash_behind_white_refused = record { spells = refl; fits = refl }
+hash_after_white_refused : Refused (alone (word (codes "a #")) []) (codes "a #")
+hash_after_white_refused = record { spells = refl; fits = refl }
 
-hash_behind_white_read :
+hash_after_white_read :
     Read
     (alone (word (codes "a")) (record { blank = spaces 1; comment = Some []; stop = None } ∷ []))
     (codes "a #")
     (document_start ∷ scalar_event plain_style 0 1 (codes "a") ∷ document_end ∷ [])
-hash_behind_white_read = record { spells = refl; fits = refl; means = refl }
+hash_after_white_read = record { spells = refl; fits = refl; means = refl }
 
--- In a plain scalar `:` stands only before a character that may follow it there; else it ends a key.
+-- In a plain scalar `:` is only before a character that may follow it there; else it ends a key.
 
 colon_at_the_end_refused : Refused (alone (word (codes "a:")) []) (codes "a:")
 colon_at_the_end_refused = record { spells = refl; fits = refl }
@@ -526,7 +527,7 @@ colon_at_the_end_read :
     (document_start ∷ map_start ∷ scalar_event plain_style 0 1 (codes "a") ∷ scalar_event omitted_style 2 2 [] ∷ map_end ∷ document_end ∷ [])
 colon_at_the_end_read = record { spells = refl; fits = refl; means = refl }
 
--- Behind a plain key's `:` stands white before its value; without white the `:` is text.
+-- After a plain key's `:` whitespace comes before its value; without whitespace the `:` is text.
 
 abbrev in_brackets : Entry → Stream
 in_brackets e = alone (seq None (last e None)) []
@@ -541,7 +542,7 @@ no_white_before_value_read :
     (document_start ∷ seq_start ∷ scalar_event plain_style 1 4 (codes "a:a") ∷ seq_end ∷ document_end ∷ [])
 no_white_before_value_read = record { spells = refl; fits = refl; means = refl }
 
--- A mapping that is a mapping's value stands deeper than its key; at the key's place it goes on with the pairs.
+-- A mapping that is a mapping's value is deeper than its key; at the key's place it goes on with the pairs.
 
 abbrev key_alone : List LineEnd → Pair
 key_alone comments = keyed_alone (word (codes "a")) [] comments
@@ -557,7 +558,7 @@ mapping_goes_on_read :
     ∷ scalar_event plain_style 3 4 (codes "a") ∷ scalar_event omitted_style 5 5 [] ∷ map_end ∷ document_end ∷ [])
 mapping_goes_on_read = record { spells = refl; fits = refl; means = refl }
 
--- A sequence may stand at the place of the key that it belongs to, and not at that of another sequence's dash.
+-- A sequence may be at the place of the key that it belongs to, and not at that of another sequence's dash.
 
 sequence_under_dash_refused : Refused (stream_of (items [] 0 (item (node (items (newline ∷ []) 0 (item (omitted []))))))) (codes "-\n-")
 sequence_under_dash_refused = record { spells = refl; fits = refl }
@@ -569,7 +570,7 @@ sequence_goes_on_read :
     (document_start ∷ seq_start ∷ scalar_event omitted_style 1 1 [] ∷ scalar_event omitted_style 3 3 [] ∷ seq_end ∷ document_end ∷ [])
 sequence_goes_on_read = record { spells = refl; fits = refl; means = refl }
 
--- A flow node stands deeper than its parent. With no space before the `a` the text has no reading.
+-- A flow node is deeper than its parent. With no space before the `a` the text has no reading.
 
 abbrev below_dash : ℕ → Stream
 below_dash before_text =

@@ -54,6 +54,7 @@ mutual
       let others = members_alike ms ns xs ys first.rest in
       record { one = ap₂ (member key) first.one others.one ∙ ap (λ k. member k u ns) named; rest = others.rest }
 
+-- two trees that one text gives are equal, whatever the limits
 pub one_tree : (source : List ℕ) (limits others : Limits) (t u : Tree) → Gives source limits t → Gives source others u → t ≡ u
 one_tree source limits others t u first second =
     let here = first.reads.some in

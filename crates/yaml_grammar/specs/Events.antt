@@ -1,7 +1,7 @@
 -- Events: what a presentation means (YAML 1.2.2, 3.1 and 3.2.2).
 use Rattle.std.specs.Prelude.{ℕ, List, [], ◌∷◌, ◌++◌}
 
--- how a scalar is written (3.2.3.1); omitted: it isn't
+-- how a scalar is written (3.2.3.1); omitted: it isn't written
 pub data Style : Type 0 where
   plain_style single_style double_style literal_style folded_style omitted_style : Style
 
@@ -14,11 +14,14 @@ pub data Event : Type 0 where
 abbrev pub omitted_at : ℕ → List Event
 omitted_at at = scalar_event omitted_style at at [] ∷ []
 
+-- the events of a sequence, from those of its elements
 abbrev pub as_seq : List Event → List Event
 as_seq events = seq_start ∷ (events ++ seq_end ∷ [])
 
+-- the events of a mapping, from those of its keys and values
 abbrev pub as_map : List Event → List Event
 as_map events = map_start ∷ (events ++ map_end ∷ [])
 
+-- the events of a document, from those of its node
 abbrev pub as_document : List Event → List Event
 as_document events = document_start ∷ (events ++ document_end ∷ [])

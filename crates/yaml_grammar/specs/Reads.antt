@@ -29,7 +29,7 @@ pub record Limits : Type 0 where
   pub depth : ℕ
   pub style : ℕ
 
--- all is text, in each mapping the keys differ, and the tree is within the limits of depth and style
+-- everything is text, in each mapping the keys differ, and the tree is within the limits of depth and style
 pub record Good (t : Tree) (limits : Limits) : Type 0 where
   pub texts : IsTextTree t
   pub keys : IsTrue (distinct t)

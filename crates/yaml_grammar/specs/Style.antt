@@ -6,52 +6,61 @@ use Rattle.yaml_grammar.specs.Trees.{Tree, text, sequence, mapping, Elements, no
 
 -- ---- which style a scalar has
 
+-- an ASCII letter
 abbrev pub letter : ℕ → Bool
 letter c = between 65 90 c || between 97 122 c
 
+-- a letter, a digit, or `_`, `-`, `.` or `/`
 abbrev pub word_char : ℕ → Bool
 word_char c = letter c || between 48 57 c || is_in c (codes "_-./")
 
+-- the text in small ASCII letters
 abbrev pub lower : List ℕ → List ℕ
 lower [] = []
 lower (c ∷ cs) = (if between 65 90 c then c + 32 else c) ∷ lower cs
 
+-- the text is one of these
 abbrev pub is_among : List ℕ → List (List ℕ) → Bool
 is_among value [] = false
 is_among value (w ∷ ws) = same_text value w || is_among value ws
 
--- words that other schemas and versions of YAML take for something else than text
+-- words that other schemas and versions of YAML take for something other than text
 abbrev pub special_words : List (List ℕ)
 special_words = codes "null" ∷ codes "true" ∷ codes "false" ∷ codes "yes" ∷ codes "no" ∷ codes "on" ∷ codes "off" ∷ codes "y" ∷ codes "n" ∷ []
 
--- a word: it begins with a letter, has at most 128 characters, and is none of those in any letter case
+-- a word: it starts with a letter, has at most 128 characters, and is no special word in any letter case
 abbrev pub plain_in_style : List ℕ → Bool
 plain_in_style value = first letter value && every word_char value && nat_le (length value) 128 && not (is_among (lower value) special_words)
 
--- a character that stands for itself between double quotes and in a literal
+-- a character that is written as itself between double quotes and in a literal
 abbrev pub shown : ℕ → Bool
 shown c = between 0x20 0x7e c || (nat_le 0xa0 c && printable c && not (is_in c (0x2028 ∷ 0x2029 ∷ 0xfeff ∷ [])))
 
+-- a shown character or a line feed
 abbrev pub shown_or_feed : ℕ → Bool
 shown_or_feed c = shown c || (c == 10)
 
+-- a space or a line feed
 abbrev pub space_or_feed : ℕ → Bool
 space_or_feed c = (c == 32) || (c == 10)
 
--- it holds a line feed, begins with no space and no line feed, and all is shown
+-- it holds a line feed, starts with no space and no line feed, and each character is shown or a line feed
 abbrev pub literal_in_style : List ℕ → Bool
 literal_in_style value = is_in 10 value && not (first space_or_feed value) && every shown_or_feed value
 
 -- ---- double quotes
 
+-- the hexadecimal digit of a number below 16, in capital letters
 abbrev pub hex : ℕ → ℕ
 hex d = if nat_lt d 10 then 48 + d else 55 + d
 
+-- the letter of the short escape of a character that has one (5.7)
 abbrev pub letter_escape : ℕ → ℕ
 letter_escape c =
     if c == 0 then 48 else if c == 7 then 97 else if c == 8 then 98 else if c == 9 then 116 else if c == 10 then 110
     else if c == 11 then 118 else if c == 12 then 102 else if c == 13 then 114 else 101
 
+-- a character between double quotes: itself or an escape
 abbrev pub quoted_char : ℕ → List ℕ
 quoted_char c =
     if (c == 34) || (c == 92) then 92 ∷ c ∷ []
@@ -60,10 +69,12 @@ quoted_char c =
     else if nat_le c 0xff then codes "\\x" ++ hex (c / 16) ∷ hex (c % 16) ∷ []
     else codes "\\u" ++ hex (c / 4096) ∷ hex (c / 256 % 16) ∷ hex (c / 16 % 16) ∷ hex (c % 16) ∷ []
 
+-- the characters between double quotes
 abbrev pub quoted_chars : List ℕ → List ℕ
 quoted_chars [] = []
 quoted_chars (c ∷ cs) = quoted_char c ++ quoted_chars cs
 
+-- the text in double quotes
 abbrev pub quoted : List ℕ → List ℕ
 quoted value = codes "\"" ++ quoted_chars value ++ codes "\""
 
@@ -74,12 +85,13 @@ abbrev pub feeds_at_end : List ℕ → ℕ
 feeds_at_end [] = 0
 feeds_at_end (c ∷ cs) = if every (λ d. d == 10) (c ∷ cs) then length (c ∷ cs) else feeds_at_end cs
 
+-- `|` with the chomping mark, from the number of line feeds at the end
 abbrev pub literal_mark : ℕ → List ℕ
 literal_mark zero = codes "|-"
 literal_mark (suc zero) = codes "|"
 literal_mark (suc (suc n)) = codes "|+"
 
--- the lines behind j spaces, an empty line with none; fresh: here a line begins
+-- the lines after j spaces each, an empty line after none; fresh: a line starts here
 abbrev pub literal_lines : ℕ → Bool → List ℕ → List ℕ
 literal_lines j fresh [] = if fresh then [] else codes "\n"
 literal_lines j fresh (c ∷ cs) =
@@ -88,16 +100,18 @@ literal_lines j fresh (c ∷ cs) =
 
 -- ---- scalars
 
--- a value behind `- `, `: ` or at the top, with the end of its last line; a literal's lines stand behind j spaces
+-- a value after `- `, `: ` or at the top, with the end of its last line; the lines of a literal are after j spaces
 abbrev pub scalar_lines : ℕ → List ℕ → List ℕ
 scalar_lines j value =
     if plain_in_style value then value ++ codes "\n"
     else if literal_in_style value then literal_mark (feeds_at_end value) ++ codes "\n" ++ literal_lines j true value
     else quoted value ++ codes "\n"
 
+-- a key as it is written
 abbrev pub key_text : List ℕ → List ℕ
 key_text key = if plain_in_style key then key else quoted key
 
+-- the key has more than 1,000 characters as written, and so comes after `? `
 abbrev pub long_key : List ℕ → Bool
 long_key key = nat_lt 1000 (length (key_text key))
 
@@ -109,34 +123,39 @@ key_lines i key = if long_key key then codes "? " ++ key_text key ++ codes "\n" 
 
 -- the lines of a tree at the indentation i, the first without its spaces
 abbrev mutual
+  -- the lines of a tree at the indentation i, the first without its spaces
   pub lines_at : Tree → ℕ → List ℕ
   lines_at (text value) i = scalar_lines (i + 2) value
   lines_at (sequence ts) i = elements_at ts i
   lines_at (mapping ms) i = members_at ms i
 
+  -- the lines of elements
   pub elements_at : Elements → ℕ → List ℕ
   elements_at no_element i = codes "[]\n"
-  elements_at (element t ts) i = codes "- " ++ element_at t i ++ elements_behind ts i
+  elements_at (element t ts) i = codes "- " ++ element_at t i ++ elements_after ts i
 
-  pub elements_behind : Elements → ℕ → List ℕ
-  elements_behind no_element i = []
-  elements_behind (element t ts) i = spaces i ++ codes "- " ++ element_at t i ++ elements_behind ts i
+  -- the lines of the elements after the first
+  pub elements_after : Elements → ℕ → List ℕ
+  elements_after no_element i = []
+  elements_after (element t ts) i = spaces i ++ codes "- " ++ element_at t i ++ elements_after ts i
 
-  -- an element behind its `- `
+  -- an element after its `- `
   pub element_at : Tree → ℕ → List ℕ
   element_at (text value) i = scalar_lines (i + 2) value
   element_at (sequence ts) i = elements_at ts (i + 2)
   element_at (mapping ms) i = members_at ms (i + 2)
 
+  -- the lines of members
   pub members_at : Members → ℕ → List ℕ
   members_at no_member i = codes "{}\n"
-  members_at (member key t ms) i = key_lines i key ++ value_at t i ++ members_behind ms i
+  members_at (member key t ms) i = key_lines i key ++ value_at t i ++ members_after ms i
 
-  pub members_behind : Members → ℕ → List ℕ
-  members_behind no_member i = []
-  members_behind (member key t ms) i = spaces i ++ key_lines i key ++ value_at t i ++ members_behind ms i
+  -- the lines of the members after the first
+  pub members_after : Members → ℕ → List ℕ
+  members_after no_member i = []
+  members_after (member key t ms) i = spaces i ++ key_lines i key ++ value_at t i ++ members_after ms i
 
-  -- a value behind the `:` of its key
+  -- a value after the `:` of its key
   pub value_at : Tree → ℕ → List ℕ
   value_at (text value) i = codes " " ++ scalar_lines (i + 2) value
   value_at (sequence no_element) i = codes " []\n"
@@ -144,6 +163,6 @@ abbrev mutual
   value_at (mapping no_member) i = codes " {}\n"
   value_at (mapping (member key t ms)) i = codes "\n" ++ spaces (i + 2) ++ members_at (member key t ms) (i + 2)
 
--- the text of a tree
+-- the text of a tree in the one style
 abbrev pub style_text : Tree → List ℕ
 style_text t = lines_at t 0

@@ -8,10 +8,12 @@ ghost use Rattle.yaml_grammar.specs.Trees.{Tree};
 
 /// A text has one meaning: all the events that it reads as are the same.
 pub fn one_meaning()
-    ensures { (text : List ℕ) (one other : List Event) → Reads text one → Reads text other → one ≡ other }
+    ensures { (text : List ℕ) (one other : List Event) → Reads text one → Reads text other
+        → one ≡ other }
 {}
 
 /// A text gives at most one tree, whatever the limits.
 pub fn one_tree()
-    ensures { (text : List ℕ) (limits others : Limits) (one other : Tree) → Gives text limits one → Gives text others other → one ≡ other }
+    ensures { (text : List ℕ) (limits others : Limits) (one other : Tree) → Gives text limits one
+        → Gives text others other → one ≡ other }
 {}

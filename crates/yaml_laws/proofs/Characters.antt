@@ -8,19 +8,22 @@ use Rattle.yaml_grammar.specs.Style.{letter, word_char, shown, hex, letter_escap
 
 -- ---- ranges and lists
 
+-- a character of a range is between its ends
 pub from_range : (low high c : ℕ) → between low high c ≡ true → (low ≤ c) × (c ≤ high)
 from_range low high c h =
     let p : (nat_le low c ≡ true) × (nat_le c high ≡ true) = and_parts _ _ h in
     (leb-true low c p.0, leb-true c high p.1)
 
+-- a character between the ends is of the range
 pub in_range : (low high c : ℕ) → low ≤ c → c ≤ high → between low high c ≡ true
 in_range low high c l h = and_from _ _ (le-leb low c l) (le-leb c high h)
 
-pub every_joined : (p : ℕ → Bool) (front behind : List ℕ) → every p front ≡ true → every p behind ≡ true → every p (front ++ behind) ≡ true
-every_joined p [] behind h k = k
-every_joined p (c ∷ cs) behind h k =
+-- a test of two texts is one of both joined
+pub every_joined : (p : ℕ → Bool) (prefix after : List ℕ) → every p prefix ≡ true → every p after ≡ true → every p (prefix ++ after) ≡ true
+every_joined p [] after h k = k
+every_joined p (c ∷ cs) after h k =
     let q : (p c ≡ true) × (every p cs ≡ true) = and_parts _ _ h in
-    and_from _ _ q.0 (every_joined p cs behind q.1 k)
+    and_from _ _ q.0 (every_joined p cs after q.1 k)
 
 every_at : (p : ℕ → Bool) (x : ℕ) (cs : List ℕ) → every p cs ≡ true → is_in x cs ≡ true → p x ≡ true
 every_at p x [] h i = absurd (false≢true i)
@@ -31,12 +34,14 @@ every_at p x (c ∷ cs) h i =
       | inr j ↦ every_at p x cs q.1 j
     ]
 
+-- no code point is above x10FFFF
 pub code_point_high : (c : ℕ) → code_point c ≡ true → c ≤ 0x10ffff
 code_point_high c h = elim (or_cases _ _ h) [
   | inl a ↦ (let p : (0 ≤ c) × (c ≤ 0xd7ff) = from_range 0 0xd7ff c a in omega (arith, p.1))
   | inr a ↦ (from_range 0xe000 0x10ffff c a).1
 ]
 
+-- a shown character is x20 or above
 pub shown_low : (c : ℕ) → shown c ≡ true → 0x20 ≤ c
 shown_low c h = elim (or_cases _ _ h) [
   | inl a ↦ (from_range 0x20 0x7e c a).0
@@ -60,15 +65,18 @@ word_low x h = elim (or_cases (letter x || between 48 57 x) (is_in x (codes "_-.
   | inr i ↦ ltb-true x 128 (every_at (λ s. nat_lt s 128) x (codes "_-./") refl i)
 ]
 
-pub behind_not : (a b : Bool) → not a || b ≡ true → a ≡ true → b ≡ true
-behind_not true b h e = h
-behind_not false b h e = absurd (false≢true e)
+-- an implication as a test, and its premise
+pub after_not : (a b : Bool) → not a || b ≡ true → a ≡ true → b ≡ true
+after_not true b h e = h
+after_not false b h e = absurd (false≢true e)
 
+-- a test that holds for the letters below 128 holds for each letter
 pub of_letter : (p : ℕ → Bool) (x : ℕ) → agree_below (λ y. not (letter y) || p y) (λ y. true) 128 ≡ true → letter x ≡ true → p x ≡ true
-of_letter p x all h = behind_not (letter x) (p x) (agree_below_at (λ y. not (letter y) || p y) (λ y. true) 128 x all (letter_low x h)) h
+of_letter p x all h = after_not (letter x) (p x) (agree_below_at (λ y. not (letter y) || p y) (λ y. true) 128 x all (letter_low x h)) h
 
+-- the same of the characters of words
 pub of_word : (p : ℕ → Bool) (x : ℕ) → agree_below (λ y. not (word_char y) || p y) (λ y. true) 128 ≡ true → word_char x ≡ true → p x ≡ true
-of_word p x all h = behind_not (word_char x) (p x) (agree_below_at (λ y. not (word_char y) || p y) (λ y. true) 128 x all (word_low x h)) h
+of_word p x all h = after_not (word_char x) (p x) (agree_below_at (λ y. not (word_char y) || p y) (λ y. true) 128 x all (word_low x h)) h
 
 -- ---- quoted texts: what holds of all that they are written with
 
@@ -81,7 +89,8 @@ escape_letter c =
     cond_both (c == 9) _ _ Escaped (λ e. refl) (λ e. cond_both (c == 10) _ _ Escaped (λ e. refl) (λ e. cond_both (c == 11) _ _ Escaped (λ e. refl) (λ e.
     cond_both (c == 12) _ _ Escaped (λ e. refl) (λ e. cond_both (c == 13) _ _ Escaped (λ e. refl) (λ e. refl))))))))
 
--- p holds of all that the character may be written with: the signs and letters of escapes, itself, and the digits of its number
+-- p holds of all that the character may be written with: the signs and letters of escapes, itself, and the digits of
+-- its number
 pub record Writes (p : ℕ → Bool) (c : ℕ) : Type 0 where
   pub signs : every p (codes "\"\\xu") ≡ true
   pub letters : every p (codes "0abtnvfre") ≡ true

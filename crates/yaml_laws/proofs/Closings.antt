@@ -1,11 +1,11 @@
--- Closing lines in bytes that are joined, cut off, or have zeros behind them.
+-- Closing lines in bytes that are joined, cut off, or have zeros after them.
 use Rattle.std.proofs.Common.{◌≡◌, refl, sym, ◌∙◌, ap, inl, inr, ◌⊎◌, arith, ◌≤◌, append_assoc, length-append}
 use Rattle.std.specs.Prelude.{ℕ, zero, suc, ◌+◌, Bool, true, false, not, ◌&&◌, ◌||◌, ◌==◌, List, [], ◌∷◌, ◌++◌, length, replicate, codes}
 use Rattle.std.proofs.lemmas.Bool.{false_from_ne_true, and_parts, and_from, or_cases, or_left, or_right, not-true, eqb-true, false≢true}
 use Rattle.yaml_grammar.specs.Texts.{begins, every}
 use Rattle.yaml_grammar.specs.Closings.{ends_line, ClosesAt}
 
--- a line starts behind the bytes, where bol tells whether one starts at their front
+-- a line starts after the bytes, where bol says whether one starts at their start
 abbrev pub ends_from : Bool → List ℕ → Bool
 ends_from bol [] = bol
 ends_from bol (b ∷ bs) = ends_from (b == 10) bs
@@ -20,17 +20,18 @@ ends_last : (bol : Bool) (b : ℕ) (bs : List ℕ) → ends_from bol (b ∷ bs) 
 ends_last bol b [] = refl
 ends_last bol b (c ∷ cs) = ends_last (b == 10) c cs
 
+-- the two tests for the start of a line are one
 pub ends_same : (bytes : List ℕ) → ends_from true bytes ≡ ends_line bytes
 ends_same [] = refl
 ends_same (b ∷ bs) = ends_last true b bs
 
--- ---- the test tells where a closing line ends
+-- ---- the test says where a closing line ends
 
-closes_there : (bol : Bool) (before behind : List ℕ) → ends_from bol before ≡ true → closes bol (before ++ (codes "...\n" ++ behind)) (length before + 4) ≡ true
-closes_there bol [] behind h = rw h
-closes_there bol (b ∷ bs) behind h =
+closes_there : (bol : Bool) (before after : List ℕ) → ends_from bol before ≡ true → closes bol (before ++ (codes "...\n" ++ after)) (length before + 4) ≡ true
+closes_there bol [] after h = rw h
+closes_there bol (b ∷ bs) after h =
     let further : suc (length bs) + 4 ≡ suc (length bs + 4) = omega arith in
-    rw further (or_right _ _ (closes_there (b == 10) bs behind h))
+    rw further (or_right _ _ (closes_there (b == 10) bs after h))
 
 begins_split : (ws text : List ℕ) → begins ws text ≡ true → (rest : List ℕ) × (text ≡ ws ++ rest)
 begins_split [] text h = (text, refl)
@@ -43,8 +44,8 @@ begins_split (w ∷ ws) (c ∷ cs) h =
 -- a closing line, found from a place where a line starts or not
 pub record Found (bol : Bool) (bytes : List ℕ) (place : ℕ) : Type 0 where
   pub before : List ℕ
-  pub behind : List ℕ
-  pub is : bytes ≡ before ++ (codes "...\n" ++ behind)
+  pub after : List ℕ
+  pub is : bytes ≡ before ++ (codes "...\n" ++ after)
   pub line : ends_from bol before ≡ true
   pub ends : place ≡ length before + 4
 
@@ -55,21 +56,24 @@ closes_found bol (b ∷ bs) (suc place) h = elim (or_cases _ _ h) [
   | inl a ↦ (let p : (bol && begins (codes "...\n") (b ∷ bs) ≡ true) × (place == 3 ≡ true) = and_parts _ _ a in
       let q : (bol ≡ true) × (begins (codes "...\n") (b ∷ bs) ≡ true) = and_parts _ _ p.0 in
       let s : (rest : List ℕ) × (b ∷ bs ≡ codes "...\n" ++ rest) = begins_split (codes "...\n") (b ∷ bs) q.1 in
-      record { before = []; behind = s.0; is = s.1; line = q.0; ends = ap suc (eqb-true place 3 p.1) })
+      record { before = []; after = s.0; is = s.1; line = q.0; ends = ap suc (eqb-true place 3 p.1) })
   | inr a ↦ (let f : Found (b == 10) bs place = closes_found (b == 10) bs place a in
-      record { before = b ∷ f.before; behind = f.behind; is = ap (λ t. b ∷ t) f.is; line = f.line; ends = ap suc f.ends ∙ omega arith })
+      record { before = b ∷ f.before; after = f.after; is = ap (λ t. b ∷ t) f.is; line = f.line; ends = ap suc f.ends ∙ omega arith })
 ]
 
+-- a closing passes the test
 pub closes_from : (bytes : List ℕ) (place : ℕ) → ClosesAt bytes place → closes true bytes place ≡ true
-closes_from bytes place c = rw (c.is, c.ends) (closes_there true c.before c.behind (ends_same c.before ∙ c.line))
+closes_from bytes place c = rw (c.is, c.ends) (closes_there true c.before c.after (ends_same c.before ∙ c.line))
 
+-- what passes the test is a closing
 pub closes_at : (bytes : List ℕ) (place : ℕ) → closes true bytes place ≡ true → ClosesAt bytes place
 closes_at bytes place h =
     let f : Found true bytes place = closes_found true bytes place h in
-    record { before = f.before; behind = f.behind; is = f.is; line = sym (ends_same f.before) ∙ f.line; ends = f.ends }
+    record { before = f.before; after = f.after; is = f.is; line = sym (ends_same f.before) ∙ f.line; ends = f.ends }
 
--- ---- behind bytes in which no line begins with a dot
+-- ---- after bytes in which no line begins with a dot
 
+-- no line starts with a dot
 abbrev pub dotless : Bool → List ℕ → Bool
 dotless bol [] = true
 dotless bol (b ∷ bs) = not (bol && (b == 46)) && dotless (b == 10) bs
@@ -78,79 +82,82 @@ no_dots : (bol : Bool) (b : ℕ) (bs : List ℕ) (last : Bool) → not (bol && (
 no_dots true b bs last h = let e : b == 46 ≡ false = not-true _ h in rw e
 no_dots false b bs last h = refl
 
-closes_past : (bol : Bool) (front behind : List ℕ) (place : ℕ) → dotless bol front ≡ true → closes bol (front ++ behind) (length front + place) ≡ closes (ends_from bol front) behind place
-closes_past bol [] behind place h = ap (closes bol behind) (omega arith)
-closes_past bol (b ∷ bs) behind place h =
+closes_past : (bol : Bool) (prefix after : List ℕ) (place : ℕ) → dotless bol prefix ≡ true → closes bol (prefix ++ after) (length prefix + place) ≡ closes (ends_from bol prefix) after place
+closes_past bol [] after place h = ap (closes bol after) (omega arith)
+closes_past bol (b ∷ bs) after place h =
     let p : (not (bol && (b == 46)) ≡ true) × (dotless (b == 10) bs ≡ true) = and_parts _ _ h in
     let further : suc (length bs) + place ≡ suc (length bs + place) = omega arith in
-    rw (further, no_dots bol b (bs ++ behind) ((length bs + place) == 3) p.0) (closes_past (b == 10) bs behind place p.1)
+    rw (further, no_dots bol b (bs ++ after) ((length bs + place) == 3) p.0) (closes_past (b == 10) bs after place p.1)
 
--- a closing line ends behind them
-closes_behind : (bol : Bool) (front behind : List ℕ) (place : ℕ) → dotless bol front ≡ true → closes bol (front ++ behind) place ≡ true
-    → (q : ℕ) × (place ≡ length front + q) × (closes (ends_from bol front) behind q ≡ true)
-closes_behind bol [] behind place h c = (place, omega arith, c)
-closes_behind bol (b ∷ bs) behind zero h c = absurd (false≢true c)
-closes_behind bol (b ∷ bs) behind (suc place) h c =
+-- a closing line ends after them
+closes_after : (bol : Bool) (prefix after : List ℕ) (place : ℕ) → dotless bol prefix ≡ true → closes bol (prefix ++ after) place ≡ true
+    → (q : ℕ) × (place ≡ length prefix + q) × (closes (ends_from bol prefix) after q ≡ true)
+closes_after bol [] after place h c = (place, omega arith, c)
+closes_after bol (b ∷ bs) after zero h c = absurd (false≢true c)
+closes_after bol (b ∷ bs) after (suc place) h c =
     let p : (not (bol && (b == 46)) ≡ true) × (dotless (b == 10) bs ≡ true) = and_parts _ _ h in
-    let d : closes (b == 10) (bs ++ behind) place ≡ true = (rw (no_dots bol b (bs ++ behind) (place == 3) p.0) at c) in
-    let more : (q : ℕ) × (place ≡ length bs + q) × (closes (ends_from (b == 10) bs) behind q ≡ true) = closes_behind (b == 10) bs behind place p.1 d in
+    let d : closes (b == 10) (bs ++ after) place ≡ true = (rw (no_dots bol b (bs ++ after) (place == 3) p.0) at c) in
+    let more : (q : ℕ) × (place ≡ length bs + q) × (closes (ends_from (b == 10) bs) after q ≡ true) = closes_after (b == 10) bs after place p.1 d in
     (more.0, omega (arith, more.1), more.2)
 
--- ---- a closing line and what stands behind it
+-- ---- a closing line and what comes after it
 
-line_closes : (behind : List ℕ) (place : ℕ) → closes true (codes "...\n" ++ behind) place ≡ true
-    → (place ≡ 4) ⊎ ((q : ℕ) × (place ≡ 4 + q) × (closes true behind q ≡ true))
-line_closes behind zero h = absurd (false≢true h)
-line_closes behind (suc zero) h = absurd (false≢true h)
-line_closes behind (suc (suc zero)) h = absurd (false≢true h)
-line_closes behind (suc (suc (suc zero))) h = absurd (false≢true h)
-line_closes behind (suc (suc (suc (suc q)))) h = elim (or_cases (suc (suc (suc q)) == 3) (closes true behind q) h) [
+line_closes : (after : List ℕ) (place : ℕ) → closes true (codes "...\n" ++ after) place ≡ true
+    → (place ≡ 4) ⊎ ((q : ℕ) × (place ≡ 4 + q) × (closes true after q ≡ true))
+line_closes after zero h = absurd (false≢true h)
+line_closes after (suc zero) h = absurd (false≢true h)
+line_closes after (suc (suc zero)) h = absurd (false≢true h)
+line_closes after (suc (suc (suc zero))) h = absurd (false≢true h)
+line_closes after (suc (suc (suc (suc q)))) h = elim (or_cases (suc (suc (suc q)) == 3) (closes true after q) h) [
   | inl e ↦ inl (ap suc (eqb-true _ 3 e))
   | inr c ↦ inr (q, omega arith, c)
 ]
 
-line_closes_more : (behind : List ℕ) (q : ℕ) → closes true behind q ≡ true → closes true (codes "...\n" ++ behind) (4 + q) ≡ true
-line_closes_more behind q h = let four : 4 + q ≡ suc (suc (suc (suc q))) = omega arith in rw four (or_right _ _ h)
+line_closes_more : (after : List ℕ) (q : ℕ) → closes true after q ≡ true → closes true (codes "...\n" ++ after) (4 + q) ≡ true
+line_closes_more after q h = let four : 4 + q ≡ suc (suc (suc (suc q))) = omega arith in rw four (or_right _ _ h)
 
 -- ---- a piece, which ends in its only closing line
 
+-- the bytes end in a closing line and have no other
 pub record Piece (bytes : List ℕ) : Type 0 where
   pub body : List ℕ
   pub is : bytes ≡ body ++ codes "...\n"
   pub dotless : dotless true body ≡ true
   pub line : ends_from true body ≡ true
 
-regrouped : (piece behind : List ℕ) (p : Piece piece) → piece ++ behind ≡ p.body ++ (codes "...\n" ++ behind)
-regrouped piece behind p = ap (λ t. t ++ behind) p.is ∙ append_assoc p.body (codes "...\n") behind
+regrouped : (piece after : List ℕ) (p : Piece piece) → piece ++ after ≡ p.body ++ (codes "...\n" ++ after)
+regrouped piece after p = ap (λ t. t ++ after) p.is ∙ append_assoc p.body (codes "...\n") after
 
--- it closes at its end, and where what stands behind it does
-pub piece_closes : (piece behind : List ℕ) (place : ℕ) → Piece piece → closes true (piece ++ behind) place ≡ true
-    → (place ≡ length piece) ⊎ ((q : ℕ) × (place ≡ length piece + q) × (closes true behind q ≡ true))
-piece_closes piece behind place p h =
+-- it closes at its end, and where what comes after it does
+pub piece_closes : (piece after : List ℕ) (place : ℕ) → Piece piece → closes true (piece ++ after) place ≡ true
+    → (place ≡ length piece) ⊎ ((q : ℕ) × (place ≡ length piece + q) × (closes true after q ≡ true))
+piece_closes piece after place p h =
     let long : length piece ≡ length p.body + 4 = ap length p.is ∙ length-append p.body (codes "...\n") in
-    let at : closes true (p.body ++ (codes "...\n" ++ behind)) place ≡ true = ap (λ t. closes true t place) (sym (regrouped piece behind p)) ∙ h in
-    let more : (q : ℕ) × (place ≡ length p.body + q) × (closes (ends_from true p.body) (codes "...\n" ++ behind) q ≡ true) = closes_behind true p.body (codes "...\n" ++ behind) place p.dotless at in
-    elim (line_closes behind more.0 (ap (λ b. closes b (codes "...\n" ++ behind) more.0) (sym p.line) ∙ more.2)) [
+    let at : closes true (p.body ++ (codes "...\n" ++ after)) place ≡ true = ap (λ t. closes true t place) (sym (regrouped piece after p)) ∙ h in
+    let more : (q : ℕ) × (place ≡ length p.body + q) × (closes (ends_from true p.body) (codes "...\n" ++ after) q ≡ true) = closes_after true p.body (codes "...\n" ++ after) place p.dotless at in
+    elim (line_closes after more.0 (ap (λ b. closes b (codes "...\n" ++ after) more.0) (sym p.line) ∙ more.2)) [
       | inl e ↦ inl (omega (arith, long, more.1, e))
       | inr r ↦ inr (r.0, omega (arith, long, more.1, r.1), r.2)
     ]
 
-pub piece_closes_end : (piece behind : List ℕ) → Piece piece → closes true (piece ++ behind) (length piece) ≡ true
-piece_closes_end piece behind p =
+-- a piece closes at its end, whatever comes after it
+pub piece_closes_end : (piece after : List ℕ) → Piece piece → closes true (piece ++ after) (length piece) ≡ true
+piece_closes_end piece after p =
     let long : length piece ≡ length p.body + 4 = ap length p.is ∙ length-append p.body (codes "...\n") in
-    rw (regrouped piece behind p, long) (closes_past true p.body (codes "...\n" ++ behind) 4 p.dotless ∙ rw p.line)
+    rw (regrouped piece after p, long) (closes_past true p.body (codes "...\n" ++ after) 4 p.dotless ∙ rw p.line)
 
-pub piece_closes_more : (piece behind : List ℕ) (q : ℕ) → Piece piece → closes true behind q ≡ true → closes true (piece ++ behind) (length piece + q) ≡ true
-piece_closes_more piece behind q p h =
+-- what comes after a piece closes where it does alone
+pub piece_closes_more : (piece after : List ℕ) (q : ℕ) → Piece piece → closes true after q ≡ true → closes true (piece ++ after) (length piece + q) ≡ true
+piece_closes_more piece after q p h =
     let long : length piece + q ≡ length p.body + (4 + q) = (let l : length piece ≡ length p.body + 4 = ap length p.is ∙ length-append p.body (codes "...\n") in omega (arith, l)) in
-    rw (long, regrouped piece behind p) (closes_past true p.body (codes "...\n" ++ behind) (4 + q) p.dotless ∙ rw p.line (line_closes_more behind q h))
+    rw (long, regrouped piece after p) (closes_past true p.body (codes "...\n" ++ after) (4 + q) p.dotless ∙ rw p.line (line_closes_more after q h))
 
 -- ---- bytes that are cut off
 
 -- zeros hold no part of a closing line
-begins_kept : (ws front tail : List ℕ) (padding : ℕ) → every (λ w. not (0 == w)) ws ≡ true → begins ws (front ++ replicate padding 0) ≡ true
-    → (length ws ≤ length front) × (begins ws (front ++ tail) ≡ true)
-begins_kept [] front tail padding n h = (omega arith, refl)
+begins_kept : (ws prefix tail : List ℕ) (padding : ℕ) → every (λ w. not (0 == w)) ws ≡ true → begins ws (prefix ++ replicate padding 0) ≡ true
+    → (length ws ≤ length prefix) × (begins ws (prefix ++ tail) ≡ true)
+begins_kept [] prefix tail padding n h = (omega arith, refl)
 begins_kept (w ∷ ws) [] tail zero n h = absurd (false≢true h)
 begins_kept (w ∷ ws) [] tail (suc padding) n h =
     let p : (0 == w ≡ true) × (begins ws (replicate padding 0) ≡ true) = and_parts _ _ h in
@@ -161,15 +168,16 @@ begins_kept (w ∷ ws) (b ∷ bs) tail padding n h =
     let more : (length ws ≤ length bs) × (begins ws (bs ++ tail) ≡ true) = begins_kept ws bs tail padding others.1 p.1 in
     (omega (arith, more.0), and_from _ _ p.0 more.1)
 
+-- zeros close nothing
 pub padding_closed : (bol : Bool) (padding place : ℕ) → closes bol (replicate padding 0) place ≡ false
 padding_closed bol zero place = refl
 padding_closed bol (suc padding) zero = refl
 padding_closed true (suc padding) (suc place) = padding_closed false padding place
 padding_closed false (suc padding) (suc place) = padding_closed false padding place
 
--- where zeros stand behind bytes, a closing line ends within the bytes, and does so whatever stands there
-pub closes_before_padding : (bol : Bool) (front tail : List ℕ) (padding place : ℕ) → closes bol (front ++ replicate padding 0) place ≡ true
-    → (place ≤ length front) × (closes bol (front ++ tail) place ≡ true)
+-- where zeros come after bytes, a closing line ends within the bytes, and does so whatever is there
+pub closes_before_padding : (bol : Bool) (prefix tail : List ℕ) (padding place : ℕ) → closes bol (prefix ++ replicate padding 0) place ≡ true
+    → (place ≤ length prefix) × (closes bol (prefix ++ tail) place ≡ true)
 closes_before_padding bol [] tail padding place h = absurd (false≢true (sym (padding_closed bol padding place) ∙ h))
 closes_before_padding bol (b ∷ bs) tail padding zero h = absurd (false≢true h)
 closes_before_padding bol (b ∷ bs) tail padding (suc place) h = elim (or_cases _ _ h) [
@@ -182,15 +190,15 @@ closes_before_padding bol (b ∷ bs) tail padding (suc place) h = elim (or_cases
       (omega (arith, more.0), or_right _ _ more.1))
 ]
 
-begins_within : (ws front tail other : List ℕ) → length ws ≤ length front → begins ws (front ++ tail) ≡ true → begins ws (front ++ other) ≡ true
-begins_within [] front tail other l h = refl
+begins_within : (ws prefix tail other : List ℕ) → length ws ≤ length prefix → begins ws (prefix ++ tail) ≡ true → begins ws (prefix ++ other) ≡ true
+begins_within [] prefix tail other l h = refl
 begins_within (w ∷ ws) [] tail other l h = absurd (omega (arith, l))
 begins_within (w ∷ ws) (b ∷ bs) tail other l h =
     let p : (b == w ≡ true) × (begins ws (bs ++ tail) ≡ true) = and_parts _ _ h in
     and_from _ _ p.0 (begins_within ws bs tail other (omega (arith, l)) p.1)
 
--- a closing line that ends within bytes does so whatever stands behind them
-pub closes_within : (bol : Bool) (front tail other : List ℕ) (place : ℕ) → place ≤ length front → closes bol (front ++ tail) place ≡ true → closes bol (front ++ other) place ≡ true
+-- a closing line that ends within bytes does so whatever comes after them
+pub closes_within : (bol : Bool) (prefix tail other : List ℕ) (place : ℕ) → place ≤ length prefix → closes bol (prefix ++ tail) place ≡ true → closes bol (prefix ++ other) place ≡ true
 closes_within bol [] [] other zero l h = absurd (false≢true h)
 closes_within bol [] (t ∷ ts) other zero l h = absurd (false≢true h)
 closes_within bol [] tail other (suc place) l h = absurd (omega (arith, l))
@@ -215,8 +223,8 @@ unbroken_dots b (c ∷ []) rest q l e h k = no_feed_dot c (and_parts _ _ (and_pa
 unbroken_dots b (c ∷ d ∷ []) rest q l e h k = no_feed_dot d (and_parts _ _ (and_parts _ _ (and_parts _ _ h).1).1).0 k
 unbroken_dots b (c ∷ d ∷ f ∷ bs) rest q l e h k = omega (arith, l, e)
 
--- behind the start of a line the closings are those of what stands there
-pub closes_from_line : (bol : Bool) (front rest : List ℕ) (q : ℕ) → ends_from bol front ≡ true → 1 ≤ q → closes bol (front ++ rest) (length front + q) ≡ closes true rest q
+-- after the start of a line the closings are those of what is there
+pub closes_from_line : (bol : Bool) (prefix rest : List ℕ) (q : ℕ) → ends_from bol prefix ≡ true → 1 ≤ q → closes bol (prefix ++ rest) (length prefix + q) ≡ closes true rest q
 closes_from_line bol [] rest q h l = ap (λ b. closes b rest (0 + q)) h ∙ ap (closes true rest) (omega arith)
 closes_from_line bol (b ∷ bs) rest q h l =
     let further : suc (length bs) + q ≡ suc (length bs + q) = omega arith in
@@ -228,7 +236,7 @@ closes_from_line bol (b ∷ bs) rest q h l =
 -- a closing line has four bytes, and ends within the bytes
 pub closes_range : (bytes : List ℕ) (place : ℕ) → ClosesAt bytes place → (4 ≤ place) × (place ≤ length bytes)
 closes_range bytes place c =
-    let long : length bytes ≡ length c.before + length (codes "...\n" ++ c.behind) = ap length c.is ∙ length-append c.before (codes "...\n" ++ c.behind) in
-    let four : length (codes "...\n" ++ c.behind) ≡ 4 + length c.behind = length-append (codes "...\n") c.behind in
+    let long : length bytes ≡ length c.before + length (codes "...\n" ++ c.after) = ap length c.is ∙ length-append c.before (codes "...\n" ++ c.after) in
+    let four : length (codes "...\n" ++ c.after) ≡ 4 + length c.after = length-append (codes "...\n") c.after in
     let ends : place ≡ length c.before + 4 = c.ends in
     (omega (arith, ends), omega (arith, ends, long, four))

@@ -1,4 +1,5 @@
--- The texts of records and bases are closed once, at their end, and where they are joined or torn at the ends of the whole ones.
+-- The texts of records and bases are closed once, at their end, and where they are joined or torn at the ends of the
+-- whole ones.
 use Rattle.std.proofs.Common.{◌≡◌, refl, sym, ◌∙◌, ap, inl, inr, arith, ◌<◌, ◌≤◌, append_assoc, length-append}
 use Rattle.std.specs.Prelude.{ℕ, ◌+◌, ◌/◌, ◌%◌, Bool, true, false, cond, not, ◌&&◌, nat_lt, nat_le, ◌==◌, List, [], ◌∷◌, ◌++◌, length, replicate, codes, encode_utf8_all}
 use Rattle.std.proofs.Math.Utf8.{encode}
@@ -17,13 +18,13 @@ use Rattle.yaml_laws.proofs.StyleLines.{Lined, not_both, style_lined}
 
 -- the bytes are some, and none is below 128
 record High (bytes : List ℕ) : Type 0 where
-  front : ℕ
+  prefix : ℕ
   more : List ℕ
-  is : bytes ≡ front ∷ more
-  high : every (nat_le 128) (front ∷ more) ≡ true
+  is : bytes ≡ prefix ∷ more
+  high : every (nat_le 128) (prefix ∷ more) ≡ true
 
 high_lead : (low b : ℕ) (bs : List ℕ) → 128 ≤ low → every (nat_le 128) bs ≡ true → High ((low + b) ∷ bs)
-high_lead low b bs l h = record { front = low + b; more = bs; is = refl; high = and_from _ _ (le-leb 128 (low + b) (omega arith)) h }
+high_lead low b bs l h = record { prefix = low + b; more = bs; is = refl; high = and_from _ _ (le-leb 128 (low + b) (omega arith)) h }
 
 followers : (b : ℕ) (bs : List ℕ) → every (nat_le 128) bs ≡ true → every (nat_le 128) ((128 + b) ∷ bs) ≡ true
 followers b bs h = and_from _ _ (le-leb 128 (128 + b) (omega arith)) h
@@ -42,7 +43,7 @@ encode_high c h =
     encode_cases (nat_lt c 128) (nat_lt c 2048) (nat_lt c 65536) (c ∷ []) (c / 64) (c % 64) (c / 4096) (c / 64 % 64) (c % 64) (c / 262144) (c / 4096 % 64) (c / 64 % 64) (c % 64)
     (λ e. let l : c < 128 = ltb-true c 128 e in omega (arith, l, h))
 
--- behind high bytes no line starts
+-- after high bytes no line starts
 high_lined : (bol : Bool) (b : ℕ) (bs rest : List ℕ) → every (nat_le 128) (b ∷ bs) ≡ true
     → (dotless bol ((b ∷ bs) ++ rest) ≡ dotless false rest) × (ends_from bol ((b ∷ bs) ++ rest) ≡ ends_from false rest)
 high_lined bol b bs rest h =
@@ -68,7 +69,7 @@ char_same : (bol : Bool) (c : ℕ) (rest : List ℕ) → (dotless bol (encode c 
 char_same bol c rest = elim (cases_lt c 128) [
   | inl l ↦ (ap (λ t. dotless bol (t ++ rest)) (encode_ascii c l), ap (λ t. ends_from bol (t ++ rest)) (encode_ascii c l))
   | inr l ↦ (let h : High (encode c) = encode_high c l in
-      let p : (dotless bol ((h.front ∷ h.more) ++ rest) ≡ dotless false rest) × (ends_from bol ((h.front ∷ h.more) ++ rest) ≡ ends_from false rest) = high_lined bol h.front h.more rest h.high in
+      let p : (dotless bol ((h.prefix ∷ h.more) ++ rest) ≡ dotless false rest) × (ends_from bol ((h.prefix ∷ h.more) ++ rest) ≡ ends_from false rest) = high_lined bol h.prefix h.more rest h.high in
       let dot : c == 46 ≡ false = ne_eqb c 46 (λ e. omega (arith, l, e)) in
       let feed : c == 10 ≡ false = ne_eqb c 10 (λ e. omega (arith, l, e)) in (
         ap (λ t. dotless bol (t ++ rest)) h.is ∙ (p.0 ∙ sym (ap (λ x. x && dotless (c == 10) rest) (not_both bol (c == 46) dot) ∙ ap (λ x. dotless x rest) feed)),
@@ -89,6 +90,7 @@ dots_encoded : encode_utf8_all (codes "...\n") ≡ codes "...\n"
 unfolding encode
 dots_encoded = refl
 
+-- a framed text is a piece
 pub framed_piece : (t : Tree) → Piece (framed t)
 framed_piece t =
     let source : List ℕ = codes "---\n" ++ style_text t in
@@ -101,6 +103,7 @@ framed_piece t =
       line = same.1 ∙ lined.1;
     }
 
+-- so it is closed once, at its end
 pub framed_once : ClosedOnce
 framed_once t =
     let p : Piece (framed t) = framed_piece t in
@@ -118,52 +121,53 @@ framed_once t =
 record Ends (ts : List Tree) (place : ℕ) : Type 0 where
   before : List Tree
   one : Tree
-  behind : List Tree
-  all : ts ≡ before ++ (one ∷ behind)
+  after : List Tree
+  all : ts ≡ before ++ (one ∷ after)
   ends : place ≡ length (framed_all (before ++ (one ∷ [])))
 
 all_close : (ts : List Tree) (place : ℕ) → closes true (framed_all ts) place ≡ true → Ends ts place
 all_close [] place h = absurd (false≢true h)
 all_close (t ∷ ts) place h = elim (piece_closes (framed t) (framed_all ts) place (framed_piece t) h) [
-  | inl e ↦ record { before = []; one = t; behind = ts; all = refl; ends = e ∙ ap length (sym (append-nil (framed t))) }
+  | inl e ↦ record { before = []; one = t; after = ts; all = refl; ends = e ∙ ap length (sym (append-nil (framed t))) }
   | inr r ↦ (let more : Ends ts r.0 = all_close ts r.0 r.2 in
       record {
         before = t ∷ more.before;
         one = more.one;
-        behind = more.behind;
+        after = more.after;
         all = ap (λ us. t ∷ us) more.all;
         ends = r.1 ∙ (ap (λ n. length (framed t) + n) more.ends ∙ sym (length-append (framed t) (framed_all (more.before ++ (more.one ∷ [])))));
       })
 ]
 
-end_closes : (before : List Tree) (one : Tree) (behind : List Tree) → closes true (framed_all (before ++ (one ∷ behind))) (length (framed_all (before ++ (one ∷ [])))) ≡ true
-end_closes [] one behind = ap (λ s. closes true (framed one ++ framed_all behind) (length s)) (append-nil (framed one)) ∙ piece_closes_end (framed one) (framed_all behind) (framed_piece one)
-end_closes (t ∷ before) one behind =
-    ap (closes true (framed t ++ framed_all (before ++ (one ∷ behind)))) (length-append (framed t) (framed_all (before ++ (one ∷ []))))
-    ∙ piece_closes_more (framed t) (framed_all (before ++ (one ∷ behind))) (length (framed_all (before ++ (one ∷ [])))) (framed_piece t) (end_closes before one behind)
+end_closes : (before : List Tree) (one : Tree) (after : List Tree) → closes true (framed_all (before ++ (one ∷ after))) (length (framed_all (before ++ (one ∷ [])))) ≡ true
+end_closes [] one after = ap (λ s. closes true (framed one ++ framed_all after) (length s)) (append-nil (framed one)) ∙ piece_closes_end (framed one) (framed_all after) (framed_piece one)
+end_closes (t ∷ before) one after =
+    ap (closes true (framed t ++ framed_all (before ++ (one ∷ after)))) (length-append (framed t) (framed_all (before ++ (one ∷ []))))
+    ∙ piece_closes_more (framed t) (framed_all (before ++ (one ∷ after))) (length (framed_all (before ++ (one ∷ [])))) (framed_piece t) (end_closes before one after)
 
+-- and framed texts that are cut close at the ends of the whole ones
 pub torn_closings : TornClosings
-torn_closings ts front lost padding place cut = (there, back)
+torn_closings ts prefix lost padding place cut = (there, back)
   where
-    there : ClosesAt (front ++ replicate padding 0) place → EndsWhole ts (length front) place
+    there : ClosesAt (prefix ++ replicate padding 0) place → EndsWhole ts (length prefix) place
     there c =
-        let p : (place ≤ length front) × (closes true (front ++ lost) place ≡ true) = closes_before_padding true front lost padding place (closes_from (front ++ replicate padding 0) place c) in
+        let p : (place ≤ length prefix) × (closes true (prefix ++ lost) place ≡ true) = closes_before_padding true prefix lost padding place (closes_from (prefix ++ replicate padding 0) place c) in
         let e : Ends ts place = all_close ts place (ap (λ t. closes true t place) cut ∙ p.1) in
-        record { before = e.before; one = e.one; behind = e.behind; all = e.all; ends = e.ends; within = p.0 }
+        record { before = e.before; one = e.one; after = e.after; all = e.all; ends = e.ends; within = p.0 }
 
-    back : EndsWhole ts (length front) place → ClosesAt (front ++ replicate padding 0) place
+    back : EndsWhole ts (length prefix) place → ClosesAt (prefix ++ replicate padding 0) place
     back e =
-        let c : closes true (framed_all ts) place ≡ true = rw (e.all, e.ends) (end_closes e.before e.one e.behind) in
-        closes_at (front ++ replicate padding 0) place (closes_within true front lost (replicate padding 0) place e.within (ap (λ t. closes true t place) (sym cut) ∙ c))
+        let c : closes true (framed_all ts) place ≡ true = rw (e.all, e.ends) (end_closes e.before e.one e.after) in
+        closes_at (prefix ++ replicate padding 0) place (closes_within true prefix lost (replicate padding 0) place e.within (ap (λ t. closes true t place) (sym cut) ∙ c))
 
 -- ---- pieces
 
--- where the first list is no longer than the third, it is its front
-pub cut_after : (one behind front lost : List ℕ) → length one ≤ length front → one ++ behind ≡ front ++ lost → (more : List ℕ) × (front ≡ one ++ more) × (behind ≡ more ++ lost)
-cut_after [] behind front lost l e = (front, refl, e)
-cut_after (c ∷ cs) behind [] lost l e = absurd (omega (arith, l))
-cut_after (c ∷ cs) behind (d ∷ ds) lost l e =
+-- if the first list is no longer than the third, it is a prefix of it
+pub cut_after : (one after prefix lost : List ℕ) → length one ≤ length prefix → one ++ after ≡ prefix ++ lost → (more : List ℕ) × (prefix ≡ one ++ more) × (after ≡ more ++ lost)
+cut_after [] after prefix lost l e = (prefix, refl, e)
+cut_after (c ∷ cs) after [] lost l e = absurd (omega (arith, l))
+cut_after (c ∷ cs) after (d ∷ ds) lost l e =
     let same : c ≡ d = cc e in
-    let tail : cs ++ behind ≡ ds ++ lost = cc e in
-    let more : (more : List ℕ) × (ds ≡ cs ++ more) × (behind ≡ more ++ lost) = cut_after cs behind ds lost (omega (arith, l)) tail in
+    let tail : cs ++ after ≡ ds ++ lost = cc e in
+    let more : (more : List ℕ) × (ds ≡ cs ++ more) × (after ≡ more ++ lost) = cut_after cs after ds lost (omega (arith, l)) tail in
     (more.0, cc (same, more.1), more.2)

@@ -1,4 +1,4 @@
--- The value of a literal's lines, with the chomping that its mark tells, is the text that they were made from.
+-- The value of a literal's lines, with the chomping that its mark says, is the text that they were made from.
 use Rattle.std.proofs.Common.{◌≡◌, refl, sym, ◌∙◌, ap, inl, inr, arith}
 use Rattle.std.specs.Prelude.{ℕ, zero, suc, ◌+◌, Bool, true, false, cond, ◌==◌, List, [], ◌∷◌, ◌++◌, length, replicate, if◌then◌else◌}
 use Rattle.std.proofs.lemmas.Bool.{cases_Bool, cond-true, eqb-true, or_parts}
@@ -8,16 +8,16 @@ use Rattle.yaml_grammar.specs.BlockScalars.{TextLine, Chomping, strip, clip, kee
 use Rattle.yaml_grammar.specs.Style.{feeds_at_end, space_or_feed}
 use Rattle.yaml_laws.proofs.Presented.{bare_gaps, line_with, held_by, empties_in, lines_in, chomping_of}
 
--- how many line feeds end the text, where n stand before it
-abbrev feeds_behind : ℕ → List ℕ → ℕ
-feeds_behind n [] = n
-feeds_behind n (c ∷ cs) = if c == 10 then feeds_behind (suc n) cs else feeds_behind 0 cs
+-- how many line feeds end the text, where n come before it
+abbrev feeds_after : ℕ → List ℕ → ℕ
+feeds_after n [] = n
+feeds_after n (c ∷ cs) = if c == 10 then feeds_after (suc n) cs else feeds_after 0 cs
 
 all_feeds : (cs : List ℕ) → every (λ d. d == 10) cs ≡ true → feeds_at_end cs ≡ length cs
 all_feeds [] e = refl
 all_feeds (c ∷ cs) e = cond-true _ _ _ e
 
-feeds_counted : (n : ℕ) (cs : List ℕ) → feeds_behind n cs ≡ cond (every (λ d. d == 10) cs) (n + length cs) (feeds_at_end cs)
+feeds_counted : (n : ℕ) (cs : List ℕ) → feeds_after n cs ≡ cond (every (λ d. d == 10) cs) (n + length cs) (feeds_at_end cs)
 feeds_counted n [] = omega arith
 feeds_counted n (c ∷ cs) = elim (cases_Bool (c == 10)) [
   | inl e ↦ rw (e, feeds_counted (suc n) cs) (by (every (λ d. d == 10) cs))
@@ -32,7 +32,7 @@ feeds_counted n (c ∷ cs) = elim (cases_Bool (c == 10)) [
     other true e = omega (arith, all_feeds cs e)
     other false e = refl
 
-feeds_are : (cs : List ℕ) → feeds_behind 0 cs ≡ feeds_at_end cs
+feeds_are : (cs : List ℕ) → feeds_after 0 cs ≡ feeds_at_end cs
 feeds_are cs = feeds_counted 0 cs ∙ by (every (λ d. d == 10) cs) refl
   where
     by : (b : Bool) → every (λ d. d == 10) cs ≡ b → cond b (0 + length cs) (feeds_at_end cs) ≡ feeds_at_end cs
@@ -60,16 +60,16 @@ feed_moved (suc n) cs = ap (λ t. 10 ∷ t) (feed_moved n cs)
 
 mutual
   -- from a place within a line on
-  line_meant : (cs : List ℕ) → text_value false (chomping_of (feeds_behind 0 cs)) (line_with (held_by cs) (empties_in false cs)) (lines_in false cs) ≡ cs
+  line_meant : (cs : List ℕ) → text_value false (chomping_of (feeds_after 0 cs)) (line_with (held_by cs) (empties_in false cs)) (lines_in false cs) ≡ cs
   line_meant [] = refl
   line_meant (c ∷ cs) = elim (cases_Bool (c == 10)) [
     | inl e ↦ rw (e, eqb-true c 10 e) (fresh_meant 0 (empties_in true cs) cs (omega arith))
     | inr e ↦ rw e (held_first _ c (held_by cs) (empties_in false cs) (lines_in false cs) ∙ ap (λ t. c ∷ t) (line_meant cs))
   ]
 
-  -- from the start of a line on, behind a line with n empty lines
+  -- from the start of a line on, after a line with n empty lines
   fresh_meant : (n empties : ℕ) (cs : List ℕ) → empties ≡ n + empties_in true cs
-      → text_value false (chomping_of (feeds_behind (suc n) cs)) (line_with [] empties) (lines_in true cs) ≡ replicate (suc n) 10 ++ cs
+      → text_value false (chomping_of (feeds_after (suc n) cs)) (line_with [] empties) (lines_in true cs) ≡ replicate (suc n) 10 ++ cs
   fresh_meant n empties [] e = last_feeds n empties e
   fresh_meant n empties (c ∷ cs) e = elim (cases_Bool (c == 10)) [
     | inl f ↦ (let g : empties ≡ n + suc (empties_in true cs) = (rw f at e) in
@@ -79,6 +79,7 @@ mutual
         rw (f, long) (ap (λ t. replicate (suc n) 10 ++ t) (held_first _ c (held_by cs) (empties_in false cs) (lines_in false cs) ∙ ap (λ t. c ∷ t) (line_meant cs))))
   ]
 
+-- the value of a literal's lines is the text that they were made from
 pub literal_meant : (value : List ℕ) → first space_or_feed value ≡ false
     → block_value false (chomping_of (feeds_at_end value)) [] (lines_in true value) ≡ value
 literal_meant [] h = refl

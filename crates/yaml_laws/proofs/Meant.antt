@@ -6,14 +6,14 @@ use Rattle.std.proofs.lemmas.Bool.{and_parts, not-true}
 use Rattle.yaml_chars.specs.Classes.{code_point, is_in}
 use Rattle.yaml_grammar.specs.Texts.{IsText, every, first, byte_len}
 use Rattle.yaml_grammar.specs.Separation.{Sep}
-use Rattle.yaml_grammar.specs.FlowScalars.{char_value, item_value, values, plain, double}
+use Rattle.yaml_grammar.specs.FlowScalars.{char_value, quoted_char_value, values, plain, double}
 use Rattle.yaml_grammar.specs.FlowNodes.{scalar, flow_text, flow_events}
 use Rattle.yaml_grammar.specs.BlockNodes.{Node, flow, block, node_events, items_events, Indented, indented_text, indented_events, node, Pair, pair_text, pair_events, pairs_events, asked, keyed}
 use Rattle.yaml_grammar.specs.Streams.{meant}
 use Rattle.yaml_grammar.specs.Events.{Event, as_document, document_end, seq_start, seq_end, map_start, map_end}
 use Rattle.yaml_grammar.specs.Trees.{Tree, text, sequence, mapping, Elements, no_element, element, Members, no_member, member, Shape, scalar_of, seq_to, map_to, seq_from, map_from, shape, document_from, document_to, shapes, tree_shapes, elements_shapes, members_shapes, IsTextTree, AreTextElements, AreTextMembers, IsTreeOf}
 use Rattle.yaml_grammar.specs.Style.{plain_in_style, literal_in_style, long_key, space_or_feed, shown_or_feed}
-use Rattle.yaml_laws.proofs.Presented.{feed, one_space, items_of_text, word_flow, literal_block, scalar_node, pair_of, element_of, value_of, items_from, pairs_from, Place, at_start, behind_marker, place_sep, top_node, presentation_of, framed_presentation_of}
+use Rattle.yaml_laws.proofs.Presented.{feed, one_space, items_of_text, word_flow, literal_block, scalar_node, pair_of, element_of, value_of, items_from, pairs_from, Place, at_start, after_marker, place_sep, top_node, presentation_of, framed_presentation_of}
 use Rattle.yaml_laws.proofs.Spelled.{two_more}
 use Rattle.yaml_laws.proofs.QuotedChars.{item_quotes}
 use Rattle.yaml_laws.proofs.Literals.{literal_meant}
@@ -34,10 +34,10 @@ word_meant value = append-nil _ ∙ same value
     same [] = refl
     same (c ∷ cs) = ap (λ t. c ∷ t) (same cs)
 
-quoted_meant : (value : List ℕ) → IsText value → values item_value (items_of_text value) ++ [] ≡ value
+quoted_meant : (value : List ℕ) → IsText value → values quoted_char_value (items_of_text value) ++ [] ≡ value
 quoted_meant value t = append-nil _ ∙ same value t
   where
-    same : (cs : List ℕ) → IsText cs → values item_value (items_of_text cs) ≡ cs
+    same : (cs : List ℕ) → IsText cs → values quoted_char_value (items_of_text cs) ≡ cs
     same [] t = refl
     same (c ∷ cs) t = let p : (code_point c ≡ true) × (every code_point cs ≡ true) = and_parts _ _ t in rw ((item_quotes c p.0).1, same cs p.1)
 
@@ -126,8 +126,10 @@ document_meant place t at h =
     ap shapes (append-nil (as_document (node_events (top_node place t) at)))
     ∙ ap (λ x. document_from ∷ x) (both_meant (node_events (top_node place t) at) (document_end ∷ []) (tree_shapes t) (document_to ∷ []) (top_meant place t at h) refl)
 
+-- the presentation of a tree means the tree
 pub presentation_meant : (t : Tree) → IsTextTree t → IsTreeOf (meant (presentation_of t)) t
 presentation_meant t h = document_meant at_start t 0 h
 
+-- so does the framed one
 pub framed_meant : (t : Tree) → IsTextTree t → IsTreeOf (meant (framed_presentation_of t)) t
-framed_meant t h = document_meant behind_marker t 3 h
+framed_meant t h = document_meant after_marker t 3 h

@@ -13,49 +13,50 @@ use Rattle.yaml_laws.proofs.FramedClosings.{framed_piece, framed_once, cut_after
 
 -- ---- one list of pieces
 
--- what closes at its end does so whatever stands behind it
-closed_front : (piece behind : List ℕ) → ClosesOnce piece → closes true (piece ++ behind) (length piece) ≡ true
-closed_front piece behind c =
-    closes_within true piece [] behind (length piece) (omega arith) (ap (λ s. closes true s (length piece)) (append-nil piece) ∙ closes_from piece (length piece) c.closes)
+-- what closes at its end does so whatever comes after it
+closed_prefix : (piece after : List ℕ) → ClosesOnce piece → closes true (piece ++ after) (length piece) ≡ true
+closed_prefix piece after c =
+    closes_within true piece [] after (length piece) (omega arith) (ap (λ s. closes true s (length piece)) (append-nil piece) ∙ closes_from piece (length piece) c.closes)
 
 -- of two pieces that bytes begin with neither is longer
-no_longer : (one other behind rest : List ℕ) → ClosesOnce one → ClosesOnce other → one ++ behind ≡ other ++ rest → length one ≤ length other → length one ≡ length other
-no_longer one other behind rest c d e l =
-    let here : closes true (other ++ rest) (length one) ≡ true = ap (λ s. closes true s (length one)) (sym e) ∙ closed_front one behind c in
+no_longer : (one other after rest : List ℕ) → ClosesOnce one → ClosesOnce other → one ++ after ≡ other ++ rest → length one ≤ length other → length one ≡ length other
+no_longer one other after rest c d e l =
+    let here : closes true (other ++ rest) (length one) ≡ true = ap (λ s. closes true s (length one)) (sym e) ∙ closed_prefix one after c in
     let within : closes true other (length one) ≡ true = ap (λ s. closes true s (length one)) (sym (append-nil other)) ∙ closes_within true other rest [] (length one) l here in
     d.once (length one) (closes_at other (length one) within)
 
-same_front : (one other behind rest : List ℕ) → length one ≡ length other → one ++ behind ≡ other ++ rest → (one ≡ other) × (behind ≡ rest)
-same_front [] [] behind rest l e = (refl, e)
-same_front [] (d ∷ ds) behind rest l e = absurd (omega (arith, l))
-same_front (c ∷ cs) [] behind rest l e = absurd (omega (arith, l))
-same_front (c ∷ cs) (d ∷ ds) behind rest l e =
+same_prefix : (one other after rest : List ℕ) → length one ≡ length other → one ++ after ≡ other ++ rest → (one ≡ other) × (after ≡ rest)
+same_prefix [] [] after rest l e = (refl, e)
+same_prefix [] (d ∷ ds) after rest l e = absurd (omega (arith, l))
+same_prefix (c ∷ cs) [] after rest l e = absurd (omega (arith, l))
+same_prefix (c ∷ cs) (d ∷ ds) after rest l e =
     let same : c ≡ d = cc e in
-    let tail : cs ++ behind ≡ ds ++ rest = cc e in
-    let more : (cs ≡ ds) × (behind ≡ rest) = same_front cs ds behind rest (omega (arith, l)) tail in
+    let tail : cs ++ after ≡ ds ++ rest = cc e in
+    let more : (cs ≡ ds) × (after ≡ rest) = same_prefix cs ds after rest (omega (arith, l)) tail in
     (cc (same, more.0), more.1)
 
-same_pieces : (one other behind rest : List ℕ) → ClosesOnce one → ClosesOnce other → one ++ behind ≡ other ++ rest → (one ≡ other) × (behind ≡ rest)
-same_pieces one other behind rest c d e = elim (cases_lt (length one) (length other)) [
-  | inl l ↦ same_front one other behind rest (no_longer one other behind rest c d e (omega (arith, l))) e
-  | inr l ↦ same_front one other behind rest (sym (no_longer other one rest behind d c (sym e) l)) e
+same_pieces : (one other after rest : List ℕ) → ClosesOnce one → ClosesOnce other → one ++ after ≡ other ++ rest → (one ≡ other) × (after ≡ rest)
+same_pieces one other after rest c d e = elim (cases_lt (length one) (length other)) [
+  | inl l ↦ same_prefix one other after rest (no_longer one other after rest c d e (omega (arith, l))) e
+  | inr l ↦ same_prefix one other after rest (sym (no_longer other one rest after d c (sym e) l)) e
 ]
 
-unclosed_front : (piece behind rest : List ℕ) → ClosesOnce piece → ((place : ℕ) → ClosesAt rest place → ⊥) → rest ≡ piece ++ behind → ⊥
-unclosed_front piece behind rest c open_end e =
-    open_end (length piece) (closes_at rest (length piece) (ap (λ s. closes true s (length piece)) e ∙ closed_front piece behind c))
+unclosed_prefix : (piece after rest : List ℕ) → ClosesOnce piece → ((place : ℕ) → ClosesAt rest place → ⊥) → rest ≡ piece ++ after → ⊥
+unclosed_prefix piece after rest c open_end e =
+    open_end (length piece) (closes_at rest (length piece) (ap (λ s. closes true s (length piece)) e ∙ closed_prefix piece after c))
 
 joined_alike : (ps qs : List (List ℕ)) (rest other : List ℕ) → All ClosesOnce ps → All ClosesOnce qs → ((place : ℕ) → ClosesAt rest place → ⊥) → ((place : ℕ) → ClosesAt other place → ⊥)
     → concat ps ++ rest ≡ concat qs ++ other → (ps ≡ qs) × (rest ≡ other)
 joined_alike [] [] rest other h k f g e = (refl, e)
-joined_alike [] (q ∷ qs) rest other h k f g e = absurd (unclosed_front q (concat qs ++ other) rest (All-head ClosesOnce q qs k) f (e ∙ append_assoc q (concat qs) other))
-joined_alike (p ∷ ps) [] rest other h k f g e = absurd (unclosed_front p (concat ps ++ rest) other (All-head ClosesOnce p ps h) g (sym e ∙ append_assoc p (concat ps) rest))
+joined_alike [] (q ∷ qs) rest other h k f g e = absurd (unclosed_prefix q (concat qs ++ other) rest (All-head ClosesOnce q qs k) f (e ∙ append_assoc q (concat qs) other))
+joined_alike (p ∷ ps) [] rest other h k f g e = absurd (unclosed_prefix p (concat ps ++ rest) other (All-head ClosesOnce p ps h) g (sym e ∙ append_assoc p (concat ps) rest))
 joined_alike (p ∷ ps) (q ∷ qs) rest other h k f g e =
     let s : (p ≡ q) × (concat ps ++ rest ≡ concat qs ++ other) =
     same_pieces p q (concat ps ++ rest) (concat qs ++ other) (All-head ClosesOnce p ps h) (All-head ClosesOnce q qs k) (sym (append_assoc p (concat ps) rest) ∙ (e ∙ append_assoc q (concat qs) other)) in
     let more : (ps ≡ qs) × (rest ≡ other) = joined_alike ps qs rest other (All-tail ClosesOnce p ps h) (All-tail ClosesOnce q qs k) f g s.1 in
     (cc (s.0, more.0), more.1)
 
+-- bytes have one list of pieces
 pub one_list : OnePieces
 one_list bytes ps qs rest other a b = joined_alike ps qs rest other a.closed b.closed a.unclosed b.unclosed (sym a.joined ∙ b.joined)
 
@@ -64,16 +65,17 @@ one_list bytes ps qs rest other a b = joined_alike ps qs rest other a.closed b.c
 padding_unclosed : (padding place : ℕ) → ClosesAt (replicate padding 0) place → ⊥
 padding_unclosed padding place c = false≢true (sym (padding_closed true padding place) ∙ closes_from (replicate padding 0) place c)
 
--- a front of a text, shorter than it, isn't closed
-short_unclosed : (t : Tree) (behind front lost : List ℕ) (padding place : ℕ) → framed t ++ behind ≡ front ++ lost → length front < length (framed t)
-    → ClosesAt (front ++ replicate padding 0) place → ⊥
-short_unclosed t behind front lost padding place e l c =
-    let p : (place ≤ length front) × (closes true (front ++ lost) place ≡ true) = closes_before_padding true front lost padding place (closes_from (front ++ replicate padding 0) place c) in
-    elim (piece_closes (framed t) behind place (framed_piece t) (ap (λ s. closes true s place) e ∙ p.1)) [
+-- a prefix of a text, shorter than it, isn't closed
+short_unclosed : (t : Tree) (after prefix lost : List ℕ) (padding place : ℕ) → framed t ++ after ≡ prefix ++ lost → length prefix < length (framed t)
+    → ClosesAt (prefix ++ replicate padding 0) place → ⊥
+short_unclosed t after prefix lost padding place e l c =
+    let p : (place ≤ length prefix) × (closes true (prefix ++ lost) place ≡ true) = closes_before_padding true prefix lost padding place (closes_from (prefix ++ replicate padding 0) place c) in
+    elim (piece_closes (framed t) after place (framed_piece t) (ap (λ s. closes true s place) e ∙ p.1)) [
       | inl q ↦ omega (arith, l, p.0, q)
       | inr r ↦ omega (arith, l, p.0, r.1)
     ]
 
+-- the pieces of texts that are cut are the whole ones
 pub torn_pieces : TornInPieces
 torn_pieces [] [] lost padding e =
     record {
@@ -86,17 +88,17 @@ torn_pieces [] [] lost padding e =
       pieces = record { joined = refl; closed = All-nil ClosesOnce; unclosed = padding_unclosed padding };
     }
 torn_pieces [] (c ∷ cs) lost padding e = absurd (cc e)
-torn_pieces (t ∷ ts) front lost padding e = elim (cases_lt (length front) (length (framed t))) [
+torn_pieces (t ∷ ts) prefix lost padding e = elim (cases_lt (length prefix) (length (framed t))) [
   | inl l ↦ record {
     whole = [];
     further = t ∷ ts;
-    kept = front;
+    kept = prefix;
     all = refl;
     cut = refl;
     short = λ next more d. (let same : t ≡ next = cc d in rw same at l);
-    pieces = record { joined = refl; closed = All-nil ClosesOnce; unclosed = λ place c. short_unclosed t (framed_all ts) front lost padding place e l c };
+    pieces = record { joined = refl; closed = All-nil ClosesOnce; unclosed = λ place c. short_unclosed t (framed_all ts) prefix lost padding place e l c };
   }
-  | inr l ↦ (let m : (more : List ℕ) × (front ≡ framed t ++ more) × (framed_all ts ≡ more ++ lost) = cut_after (framed t) (framed_all ts) front lost l e in
+  | inr l ↦ (let m : (more : List ℕ) × (prefix ≡ framed t ++ more) × (framed_all ts ≡ more ++ lost) = cut_after (framed t) (framed_all ts) prefix lost l e in
       let inner : TornPieces ts m.0 padding = torn_pieces ts m.0 lost padding m.2 in
       let zeros : List ℕ = replicate padding 0 in
       record {

@@ -9,29 +9,31 @@ use Rattle.yaml_grammar.specs.Closings.{ends_line, ClosesAt, ClosesOnce, Pieces}
 use Rattle.yaml_laws.specs.Closed.{PieceBetween, RestUnclosed, SomePieces}
 use Rattle.yaml_laws.proofs.Closings.{ends_same, closes, closes_from, closes_at, closes_within, closes_from_line, closes_range}
 
--- closings behind the start of a line, and those of what stands there
-further : (front rest : List ℕ) (q : ℕ) → ends_line front ≡ true → ClosesAt rest q → ClosesAt (front ++ rest) (length front + q)
-further front rest q h c =
+-- closings after the start of a line, and those of what is there
+further : (prefix rest : List ℕ) (q : ℕ) → ends_line prefix ≡ true → ClosesAt rest q → ClosesAt (prefix ++ rest) (length prefix + q)
+further prefix rest q h c =
     let r : (4 ≤ q) × (q ≤ length rest) = closes_range rest q c in
-    closes_at (front ++ rest) (length front + q) (closes_from_line true front rest q (ends_same front ∙ h) (omega (arith, r.0)) ∙ closes_from rest q c)
+    closes_at (prefix ++ rest) (length prefix + q) (closes_from_line true prefix rest q (ends_same prefix ∙ h) (omega (arith, r.0)) ∙ closes_from rest q c)
 
+-- between two closings there is a piece
 pub piece_between : PieceBetween
-piece_between front piece behind h l c first =
-    let here : closes true (piece ++ behind) (length piece) ≡ true =
-    sym (closes_from_line true front (piece ++ behind) (length piece) (ends_same front ∙ h) (omega (arith, l))) ∙ closes_from (front ++ (piece ++ behind)) (length front + length piece) c in
+piece_between prefix piece after h l c first =
+    let here : closes true (piece ++ after) (length piece) ≡ true =
+    sym (closes_from_line true prefix (piece ++ after) (length piece) (ends_same prefix ∙ h) (omega (arith, l))) ∙ closes_from (prefix ++ (piece ++ after)) (length prefix + length piece) c in
     record {
-      closes = closes_at piece (length piece) (ap (λ s. closes true s (length piece)) (sym (append-nil piece)) ∙ closes_within true piece behind [] (length piece) (omega arith) here);
+      closes = closes_at piece (length piece) (ap (λ s. closes true s (length piece)) (sym (append-nil piece)) ∙ closes_within true piece after [] (length piece) (omega arith) here);
       once = λ place d. (let r : (4 ≤ place) × (place ≤ length piece) = closes_range piece place d in
-          let wider : closes true (piece ++ behind) place ≡ true = closes_within true piece [] behind place r.1 (ap (λ s. closes true s place) (append-nil piece) ∙ closes_from piece place d) in
-          let no_earlier : length front + length piece ≤ length front + place =
-          first (length front + place) (omega (arith, r.0)) (further front (piece ++ behind) place h (closes_at (piece ++ behind) place wider)) in
+          let wider : closes true (piece ++ after) place ≡ true = closes_within true piece [] after place r.1 (ap (λ s. closes true s place) (append-nil piece) ∙ closes_from piece place d) in
+          let no_earlier : length prefix + length piece ≤ length prefix + place =
+          first (length prefix + place) (omega (arith, r.0)) (further prefix (piece ++ after) place h (closes_at (piece ++ after) place wider)) in
           omega (arith, r.1, no_earlier));
     }
 
+-- after the last closing the rest is not closed
 pub rest_unclosed : RestUnclosed
-rest_unclosed front rest h none place c =
+rest_unclosed prefix rest h none place c =
     let r : (4 ≤ place) × (place ≤ length rest) = closes_range rest place c in
-    none (length front + place) (omega (arith, r.0)) (further front rest place h c)
+    none (length prefix + place) (omega (arith, r.0)) (further prefix rest place h c)
 
 -- ---- all bytes
 
@@ -97,5 +99,6 @@ cut_in_pieces (suc fuel) bytes l = elim (first_below bytes (suc (length bytes)))
       ))
 ]
 
+-- all bytes have a list of pieces
 pub some_pieces : SomePieces
 some_pieces bytes = cut_in_pieces (suc (length bytes)) bytes (omega arith)

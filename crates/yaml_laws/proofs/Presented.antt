@@ -2,7 +2,7 @@
 use Rattle.std.specs.Prelude.{ℕ, zero, suc, ◌+◌, ◌/◌, ◌%◌, Bool, true, false, ◌||◌, nat_le, ◌==◌, List, [], ◌∷◌, Some, None, replicate, if◌then◌else◌}
 use Rattle.yaml_chars.specs.Classes.{between}
 use Rattle.yaml_grammar.specs.Separation.{lf, LineEnd, Sep, inline, lines}
-use Rattle.yaml_grammar.specs.FlowScalars.{Item, raw, escape, number, plain, double}
+use Rattle.yaml_grammar.specs.FlowScalars.{QuotedChar, raw, escape, number, plain, double}
 use Rattle.yaml_grammar.specs.FlowNodes.{Flow, scalar, seq, map, none}
 use Rattle.yaml_grammar.specs.BlockScalars.{Chomping, strip, clip, keep, Gap, TextLine, BlockScalar}
 use Rattle.yaml_grammar.specs.BlockNodes.{Node, block, flow, items, pairs, Items, item, item_and, Pairs, pair, pair_and, Pair, asked, keyed, Indented, compact_items, compact_pairs, node}
@@ -14,12 +14,14 @@ use Rattle.yaml_grammar.specs.Style.{shown, plain_in_style, literal_in_style, he
 abbrev pub feed : LineEnd
 feed = record { blank = []; comment = None; stop = Some lf }
 
+-- a separation of one space
 abbrev pub one_space : Sep
 one_space = inline (32 ∷ [])
 
 -- ---- scalars
 
-abbrev pub item_of : ℕ → Item
+-- a character between double quotes, as it is written
+abbrev pub item_of : ℕ → QuotedChar
 item_of c =
     if (c == 34) || (c == 92) then escape c
     else if shown c then raw c
@@ -27,7 +29,8 @@ item_of c =
     else if nat_le c 0xff then number 120 (hex (c / 16) ∷ hex (c % 16) ∷ [])
     else number 117 (hex (c / 4096) ∷ hex (c / 256 % 16) ∷ hex (c / 16 % 16) ∷ hex (c % 16) ∷ [])
 
-abbrev pub items_of_text : List ℕ → List Item
+-- the characters of a text, as they are written
+abbrev pub items_of_text : List ℕ → List QuotedChar
 items_of_text [] = []
 items_of_text (c ∷ cs) = item_of c ∷ items_of_text cs
 
@@ -35,11 +38,13 @@ items_of_text (c ∷ cs) = item_of c ∷ items_of_text cs
 abbrev pub word_flow : List ℕ → Flow
 word_flow value = scalar (if plain_in_style value then plain value [] else double (items_of_text value) [])
 
--- ---- literals: their text lines, and the empty lines behind each
+-- ---- literals: their text lines, and the empty lines after each
 
+-- so many empty lines without spaces
 abbrev pub bare_gaps : ℕ → List Gap
 bare_gaps n = replicate n (record { width = 0; stop = lf })
 
+-- a text line with so many empty lines after it
 abbrev pub line_with : List ℕ → ℕ → TextLine
 line_with held empties = record { text = held; stop = Some lf; gaps = bare_gaps empties }
 
@@ -48,7 +53,7 @@ abbrev pub held_by : List ℕ → List ℕ
 held_by [] = []
 held_by (c ∷ cs) = if c == 10 then [] else c ∷ held_by cs
 
--- how many empty lines come first; fresh: here a line begins, else they stand behind the line that ends next
+-- how many empty lines come first; fresh: here a line begins, else they come after the line that ends next
 abbrev pub empties_in : Bool → List ℕ → ℕ
 empties_in fresh [] = 0
 empties_in fresh (c ∷ cs) =
@@ -62,12 +67,13 @@ lines_in fresh (c ∷ cs) =
     if c == 10 then lines_in true cs
     else (if fresh then line_with (c ∷ held_by cs) (empties_in false cs) ∷ lines_in false cs else lines_in false cs)
 
+-- the chomping for so many line feeds at the end
 abbrev pub chomping_of : ℕ → Chomping
 chomping_of zero = strip
 chomping_of (suc zero) = clip
 chomping_of (suc (suc n)) = keep
 
--- a literal whose lines stand behind j spaces
+-- a literal whose lines come after j spaces
 abbrev pub literal_block : ℕ → List ℕ → BlockScalar
 literal_block j value =
     record {
@@ -78,6 +84,7 @@ literal_block j value =
       trail = [];
     }
 
+-- a scalar, after this separation
 abbrev pub scalar_node : Sep → ℕ → List ℕ → Node
 scalar_node sep j value =
     if plain_in_style value then flow sep (scalar (plain value [])) (feed ∷ [])
@@ -86,6 +93,7 @@ scalar_node sep j value =
 
 -- ---- keys
 
+-- a key with its value
 abbrev pub pair_of : List ℕ → Node → Pair
 pair_of key value =
     if long_key key then asked (node (flow one_space (word_flow key) (feed ∷ []))) (node value)
@@ -93,14 +101,16 @@ pair_of key value =
 
 -- ---- trees
 
+-- `[]`
 abbrev pub empty_sequence : Sep → Node
 empty_sequence sep = flow sep (seq None none) (feed ∷ [])
 
+-- `{}`
 abbrev pub empty_mapping : Sep → Node
 empty_mapping sep = flow sep (map None none) (feed ∷ [])
 
 abbrev mutual
-  -- an element behind its `-`, in a sequence at the indentation i
+  -- an element after its `-`, in a sequence at the indentation i
   pub element_of : Tree → ℕ → Indented
   element_of (text value) i = node (scalar_node one_space (i + 2) value)
   element_of (sequence no_element) i = node (empty_sequence one_space)
@@ -108,7 +118,7 @@ abbrev mutual
   element_of (mapping no_member) i = node (empty_mapping one_space)
   element_of (mapping (member key t ms)) i = compact_pairs 1 (pairs_from (pair_of key (value_of t (i + 2))) ms (i + 2))
 
-  -- a value behind its `:`, in a mapping at the indentation i
+  -- a value after its `:`, in a mapping at the indentation i
   pub value_of : Tree → ℕ → Node
   value_of (text value) i = scalar_node one_space (i + 2) value
   value_of (sequence no_element) i = empty_sequence one_space
@@ -126,17 +136,19 @@ abbrev mutual
   pairs_from one no_member i = pair one
   pairs_from one (member key t ms) i = pair_and one (pairs_from (pair_of key (value_of t i)) ms i)
 
--- where a tree begins: at the start of the text, or behind a line of `---`
+-- where a tree begins: at the start of the text, or after a line of `---`
 pub data Place : Type 0 where
-  at_start behind_marker : Place
+  at_start after_marker : Place
 
+-- the separation of a node at the top
 abbrev pub place_sep : Place → Sep
 place_sep at_start = inline []
-place_sep behind_marker = lines (feed ∷ []) []
+place_sep after_marker = lines (feed ∷ []) []
 
+-- the comments before a collection at the top
 abbrev pub place_comments : Place → List LineEnd
 place_comments at_start = []
-place_comments behind_marker = feed ∷ []
+place_comments after_marker = feed ∷ []
 
 -- a tree at the top of a document
 abbrev pub top_node : Place → Tree → Node
@@ -148,9 +160,9 @@ top_node place (mapping (member key t ms)) = pairs (place_comments place) 0 (pai
 
 -- the tree alone
 abbrev pub presentation_of : Tree → Stream
-presentation_of t = record { mark = false; front = []; document = Some (bare (top_node at_start t)); parts = [] }
+presentation_of t = record { mark = false; prefix = []; document = Some (bare (top_node at_start t)); parts = [] }
 
 -- the tree between `---` and `...`
 abbrev pub framed_presentation_of : Tree → Stream
 framed_presentation_of t =
-    record { mark = false; front = []; document = Some (explicit (content (top_node behind_marker t))); parts = suffixes (feed ∷ []) [] [] None ∷ [] }
+    record { mark = false; prefix = []; document = Some (explicit (content (top_node after_marker t))); parts = suffixes (feed ∷ []) [] [] None ∷ [] }

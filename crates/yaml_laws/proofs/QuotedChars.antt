@@ -1,18 +1,18 @@
--- What stands for a character between double quotes fits there, and means that character.
+-- What is written for a character between double quotes fits there, and means that character.
 use Rattle.std.proofs.Common.{◌≡◌, refl, sym, ◌∙◌, ap, subst, inl, inr, arith, ◌<◌, ◌≤◌}
 use Rattle.std.specs.Prelude.{ℕ, ◌/◌, ◌%◌, Bool, true, false, not, ◌&&◌, ◌||◌, nat_le, ◌==◌, [], ◌∷◌}
 use Rattle.std.proofs.lemmas.Bool.{cond_both, and_parts, and_from, or_parts, or_cases, or_right, or_from, not_from_false, eqb-true, le-leb, leb-true, agree_below_at, false≢true, cases_lt, ne_eqb}
 use Rattle.yaml_chars.specs.Classes.{between, is_in, code_point, printable, nb_json}
-use Rattle.yaml_grammar.specs.FlowScalars.{Item, raw, escape, number, double_item, item_value, hex_digit, digit_of, hex_value, escaped_char}
+use Rattle.yaml_grammar.specs.FlowScalars.{QuotedChar, raw, escape, number, quoted_char_fits, quoted_char_value, hex_digit, digit_of, hex_value, escaped_char}
 use Rattle.yaml_grammar.specs.Style.{shown, hex, letter_escape}
 use Rattle.yaml_laws.proofs.Presented.{item_of}
-use Rattle.yaml_laws.proofs.Characters.{from_range, in_range, behind_not, code_point_high, shown_low}
+use Rattle.yaml_laws.proofs.Characters.{from_range, in_range, after_not, code_point_high, shown_low}
 
--- the item may stand between double quotes and means c
-abbrev pub Quotes : ℕ → Item → Type 0
-Quotes c i = (double_item i ≡ true) × (item_value i ≡ c)
+-- the item may be between double quotes and means c
+abbrev pub Quotes : ℕ → QuotedChar → Type 0
+Quotes c i = (quoted_char_fits i ≡ true) × (quoted_char_value i ≡ c)
 
--- ---- a character that stands for itself
+-- ---- a character that means itself
 
 itself : (c : ℕ) → code_point c ≡ true → (c == 34) || (c == 92) ≡ false → shown c ≡ true → Quotes c (raw c)
 itself c t n h =
@@ -32,7 +32,7 @@ abbrev has_letter : ℕ → Bool
 has_letter c = (c == 0) || between 7 13 c || (c == 27)
 
 abbrev letter_right : ℕ → Bool
-letter_right c = not (has_letter c) || (double_item (escape (letter_escape c)) && (escaped_char (letter_escape c) == c))
+letter_right c = not (has_letter c) || (quoted_char_fits (escape (letter_escape c)) && (escaped_char (letter_escape c) == c))
 
 has_letter_low : (c : ℕ) → has_letter c ≡ true → c < 28
 has_letter_low c h = elim (or_cases ((c == 0) || between 7 13 c) (c == 27) h) [
@@ -46,18 +46,18 @@ has_letter_low c h = elim (or_cases ((c == 0) || between 7 13 c) (c == 27) h) [
 lettered : (c : ℕ) → has_letter c ≡ true → Quotes c (escape (letter_escape c))
 lettered c h =
     let right : letter_right c ≡ true = agree_below_at letter_right (λ x. true) 28 c refl (has_letter_low c h) in
-    let p : (double_item (escape (letter_escape c)) ≡ true) × (escaped_char (letter_escape c) == c ≡ true) = and_parts _ _ (behind_not _ _ right h) in
+    let p : (quoted_char_fits (escape (letter_escape c)) ≡ true) × (escaped_char (letter_escape c) == c ≡ true) = and_parts _ _ (after_not _ _ right h) in
     (p.0, eqb-true _ c p.1)
 
 -- ---- numbers
 
 abbrev short_right : ℕ → Bool
-short_right c = double_item (number 120 (hex (c / 16) ∷ hex (c % 16) ∷ [])) && (hex_value 0 (hex (c / 16) ∷ hex (c % 16) ∷ []) == c)
+short_right c = quoted_char_fits (number 120 (hex (c / 16) ∷ hex (c % 16) ∷ [])) && (hex_value 0 (hex (c / 16) ∷ hex (c % 16) ∷ []) == c)
 
 short_number : (c : ℕ) → nat_le c 0xff ≡ true → Quotes c (number 120 (hex (c / 16) ∷ hex (c % 16) ∷ []))
 short_number c h =
     let low : c < 256 = (let q : c ≤ 255 = leb-true c 255 h in omega (arith, q)) in
-    let p : (double_item (number 120 (hex (c / 16) ∷ hex (c % 16) ∷ [])) ≡ true) × (hex_value 0 (hex (c / 16) ∷ hex (c % 16) ∷ []) == c ≡ true) =
+    let p : (quoted_char_fits (number 120 (hex (c / 16) ∷ hex (c % 16) ∷ [])) ≡ true) × (hex_value 0 (hex (c / 16) ∷ hex (c % 16) ∷ []) == c ≡ true) =
     and_parts _ _ (agree_below_at short_right (λ x. true) 256 c refl low) in
     (p.0, eqb-true _ c p.1)
 
@@ -98,6 +98,7 @@ unshown_low c t s = elim (cases_lt c 0x10000) [
 
 -- ---- all of them
 
+-- what is written for a character fits and means it
 pub item_quotes : (c : ℕ) → code_point c ≡ true → Quotes c (item_of c)
 item_quotes c t =
     cond_both ((c == 34) || (c == 92)) _ _ (Quotes c) (λ e. escaped c e) (λ n.

@@ -41,8 +41,8 @@ row_framed_fits = refl
 two_lines : ClosesAt (codes "...\n...\n") 4
 two_lines = closes_at (codes "...\n...\n") 4 refl
 
-behind_text : ClosesAt (codes "a\n...\n...\n") 10
-behind_text = closes_at (codes "a\n...\n...\n") 10 refl
+after_text : ClosesAt (codes "a\n...\n...\n") 10
+after_text = closes_at (codes "a\n...\n...\n") 10 refl
 
 within_line : closes true (codes "a...\n") 5 ≡ false
 within_line = refl
@@ -50,8 +50,8 @@ within_line = refl
 other_break : closes true (codes "...\r\n") 5 ≡ false
 other_break = refl
 
-behind_return : closes true (codes "a\r...\n") 6 ≡ false
-behind_return = refl
+after_return : closes true (codes "a\r...\n") 6 ≡ false
+after_return = refl
 
 with_comment : closes true (codes "... #\n") 6 ≡ false
 with_comment = refl

@@ -6,20 +6,20 @@ use Rattle.std.proofs.lemmas.Bool.{cases_Bool, and_parts, or_parts, not-true}
 use Rattle.yaml_chars.specs.Classes.{between, is_in}
 use Rattle.yaml_grammar.specs.Texts.{spaces, first, every}
 use Rattle.yaml_grammar.specs.Separation.{Sep, sep_text}
-use Rattle.yaml_grammar.specs.FlowScalars.{raw, escape, number, item_text, plain_text, plain, double, scalar_text}
+use Rattle.yaml_grammar.specs.FlowScalars.{raw, escape, number, quoted_char_text, plain_text, plain, double, scalar_text}
 use Rattle.yaml_grammar.specs.FlowNodes.{scalar, flow_text}
 use Rattle.yaml_grammar.specs.BlockScalars.{chomping_text, gaps_text, text_lines_text, block_text}
 use Rattle.yaml_grammar.specs.BlockNodes.{flow, block, Node, node_text, Indented, indented_text, items_text, Pair, pair_text, pairs_text, asked, keyed, node}
 use Rattle.yaml_grammar.specs.Trees.{Tree, text, sequence, mapping, Elements, no_element, element, Members, no_member, member}
 use Rattle.yaml_grammar.specs.Streams.{spelled}
-use Rattle.yaml_grammar.specs.Style.{plain_in_style, literal_in_style, shown, shown_or_feed, space_or_feed, hex, letter_escape, quoted_char, quoted_chars, quoted, literal_mark, literal_lines, feeds_at_end, scalar_lines, key_text, long_key, key_lines, elements_behind, element_at, members_behind, value_at, style_text}
+use Rattle.yaml_grammar.specs.Style.{plain_in_style, literal_in_style, shown, shown_or_feed, space_or_feed, hex, letter_escape, quoted_char, quoted_chars, quoted, literal_mark, literal_lines, feeds_at_end, scalar_lines, key_text, long_key, key_lines, elements_after, element_at, members_after, value_at, style_text}
 use Rattle.yaml_laws.specs.Closed.{framed_text}
-use Rattle.yaml_laws.proofs.Presented.{feed, one_space, item_of, items_of_text, word_flow, bare_gaps, held_by, empties_in, lines_in, chomping_of, literal_block, scalar_node, pair_of, element_of, value_of, items_from, pairs_from, Place, at_start, behind_marker, place_sep, top_node, presentation_of, framed_presentation_of}
+use Rattle.yaml_laws.proofs.Presented.{feed, one_space, item_of, items_of_text, word_flow, bare_gaps, held_by, empties_in, lines_in, chomping_of, literal_block, scalar_node, pair_of, element_of, value_of, items_from, pairs_from, Place, at_start, after_marker, place_sep, top_node, presentation_of, framed_presentation_of}
 
 -- ---- scalars on one line
 
 item_cases : (a b c d : Bool) (x e : ℕ) (short long : List ℕ)
-    → item_text (cond a (escape x) (cond b (raw x) (cond c (escape e) (cond d (number 120 short) (number 117 long)))))
+    → quoted_char_text (cond a (escape x) (cond b (raw x) (cond c (escape e) (cond d (number 120 short) (number 117 long)))))
     ≡ cond a (92 ∷ x ∷ []) (cond b (x ∷ []) (cond c (92 ∷ e ∷ []) (cond d (92 ∷ 120 ∷ short) (92 ∷ 117 ∷ long))))
 item_cases true b c d x e short long = refl
 item_cases false true c d x e short long = refl
@@ -27,12 +27,12 @@ item_cases false false true d x e short long = refl
 item_cases false false false true x e short long = refl
 item_cases false false false false x e short long = refl
 
-item_spelled : (c : ℕ) → item_text (item_of c) ≡ quoted_char c
+item_spelled : (c : ℕ) → quoted_char_text (item_of c) ≡ quoted_char c
 item_spelled c =
     item_cases ((c == 34) || (c == 92)) (shown c) ((c == 0) || between 7 13 c || (c == 27)) (nat_le c 0xff) c (letter_escape c)
     (hex (c / 16) ∷ hex (c % 16) ∷ []) (hex (c / 4096) ∷ hex (c / 256 % 16) ∷ hex (c / 16 % 16) ∷ hex (c % 16) ∷ [])
 
-items_spelled : (value : List ℕ) → flat_map item_text (items_of_text value) ≡ quoted_chars value
+items_spelled : (value : List ℕ) → flat_map quoted_char_text (items_of_text value) ≡ quoted_chars value
 items_spelled [] = refl
 items_spelled (c ∷ cs) = rw (item_spelled c, items_spelled cs)
 
@@ -46,6 +46,7 @@ word_spelled value = append-nil _ ∙ plain_spelled value
 quoted_spelled : (value : List ℕ) → scalar_text (double (items_of_text value) []) ≡ 34 ∷ (quoted_chars value ++ (34 ∷ []))
 quoted_spelled value = ap (λ t. 34 ∷ (t ++ (34 ∷ []))) (append-nil _ ∙ items_spelled value)
 
+-- a key spells the key's text
 pub word_flow_spelled : (key : List ℕ) → flow_text (word_flow key) ≡ key_text key
 word_flow_spelled key = by (plain_in_style key)
   where
@@ -103,6 +104,7 @@ scalar_spelled sep j value = by (plain_in_style value) (literal_in_style value) 
 
 -- ---- keys
 
+-- a pair spells the key's lines and its value
 pub pair_spelled : (key : List ℕ) (value : Node) (i : ℕ) → pair_text (pair_of key value) i ≡ key_lines i key ++ node_text value
 pair_spelled key value i = by (long_key key)
   where
@@ -113,13 +115,15 @@ pair_spelled key value i = by (long_key key)
 
 -- ---- trees
 
+-- one more and one more is two more
 pub two_more : (i : ℕ) → i + 1 + 1 ≡ i + 2
 two_more i = omega arith
 
--- a further item, or pair, behind the spaces that lead it
+-- a further item, or pair, after the spaces that lead it
 pub item_regrouped : (s e b : List ℕ) → ((s ++ codes "- ") ++ e) ++ b ≡ s ++ (codes "- " ++ e ++ b)
 item_regrouped s e b = append_assoc (s ++ codes "- ") e b ∙ append_assoc s (codes "- ") (e ++ b)
 
+-- four texts, joined in two ways
 pub pair_regrouped : (s k v b : List ℕ) → ((s ++ k) ++ v) ++ b ≡ s ++ ((k ++ v) ++ b)
 pair_regrouped s k v b = ap (λ t. t ++ b) (append_assoc s k v) ∙ append_assoc s (k ++ v) b
 
@@ -130,6 +134,7 @@ pair_joined : (a s k v b : List ℕ) → (a ++ s) ++ ((k ++ v) ++ b) ≡ a ++ ((
 pair_joined a s k v b = append_assoc a s ((k ++ v) ++ b) ∙ ap (λ t. a ++ t) (sym (pair_regrouped s k v b))
 
 mutual
+  -- an element spells its lines
   pub element_spelled : (t : Tree) (i : ℕ) → indented_text (element_of t i) i ≡ 32 ∷ element_at t i
   element_spelled (text value) i = scalar_spelled one_space (i + 2) value
   element_spelled (sequence no_element) i = refl
@@ -146,35 +151,39 @@ mutual
   value_spelled (mapping (member key t ms)) i =
       rw (members_spelled (pair_of key (value_of t (i + 2))) ms (i + 2), pair_spelled key (value_of t (i + 2)) (i + 2), value_spelled t (i + 2))
 
-  elements_spelled : (one : Indented) (ts : Elements) (i : ℕ) → items_text (items_from one ts i) i ≡ 45 ∷ (indented_text one i ++ elements_behind ts i)
+  elements_spelled : (one : Indented) (ts : Elements) (i : ℕ) → items_text (items_from one ts i) i ≡ 45 ∷ (indented_text one i ++ elements_after ts i)
   elements_spelled one no_element i = ap (λ x. 45 ∷ x) (sym (append-nil _))
-  elements_spelled one (element t ts) i = rw (elements_spelled (element_of t i) ts i, element_spelled t i) (ap (λ x. 45 ∷ x) (item_joined (indented_text one i) (spaces i) (element_at t i) (elements_behind ts i)))
+  elements_spelled one (element t ts) i = rw (elements_spelled (element_of t i) ts i, element_spelled t i) (ap (λ x. 45 ∷ x) (item_joined (indented_text one i) (spaces i) (element_at t i) (elements_after ts i)))
 
-  members_spelled : (one : Pair) (ms : Members) (i : ℕ) → pairs_text (pairs_from one ms i) i ≡ pair_text one i ++ members_behind ms i
+  members_spelled : (one : Pair) (ms : Members) (i : ℕ) → pairs_text (pairs_from one ms i) i ≡ pair_text one i ++ members_after ms i
   members_spelled one no_member i = sym (append-nil _)
   members_spelled one (member key t ms) i =
-      rw (members_spelled (pair_of key (value_of t i)) ms i, pair_spelled key (value_of t i) i, value_spelled t i) (pair_joined (pair_text one i) (spaces i) (key_lines i key) (value_at t i) (members_behind ms i))
+      rw (members_spelled (pair_of key (value_of t i)) ms i, pair_spelled key (value_of t i) i, value_spelled t i) (pair_joined (pair_text one i) (spaces i) (key_lines i key) (value_at t i) (members_after ms i))
 
+-- what comes before a node at the top
 abbrev pub place_text : Place → List ℕ
 place_text at_start = []
-place_text behind_marker = codes "\n"
+place_text after_marker = codes "\n"
 
+-- a node at the top spells the tree's text
 pub top_spelled : (place : Place) (t : Tree) → node_text (top_node place t) ≡ place_text place ++ style_text t
 top_spelled at_start (text value) = scalar_spelled (place_sep at_start) 2 value
-top_spelled behind_marker (text value) = scalar_spelled (place_sep behind_marker) 2 value
+top_spelled after_marker (text value) = scalar_spelled (place_sep after_marker) 2 value
 top_spelled at_start (sequence no_element) = refl
-top_spelled behind_marker (sequence no_element) = refl
+top_spelled after_marker (sequence no_element) = refl
 top_spelled at_start (sequence (element t ts)) = rw (elements_spelled (element_of t 0) ts 0, element_spelled t 0)
-top_spelled behind_marker (sequence (element t ts)) = rw (elements_spelled (element_of t 0) ts 0, element_spelled t 0)
+top_spelled after_marker (sequence (element t ts)) = rw (elements_spelled (element_of t 0) ts 0, element_spelled t 0)
 top_spelled at_start (mapping no_member) = refl
-top_spelled behind_marker (mapping no_member) = refl
+top_spelled after_marker (mapping no_member) = refl
 top_spelled at_start (mapping (member key t ms)) =
     rw (members_spelled (pair_of key (value_of t 0)) ms 0, pair_spelled key (value_of t 0) 0, value_spelled t 0)
-top_spelled behind_marker (mapping (member key t ms)) =
+top_spelled after_marker (mapping (member key t ms)) =
     rw (members_spelled (pair_of key (value_of t 0)) ms 0, pair_spelled key (value_of t 0) 0, value_spelled t 0)
 
+-- the presentation of a tree spells its text
 pub presentation_spelled : (t : Tree) → spelled (presentation_of t) ≡ style_text t
 presentation_spelled t = append-nil _ ∙ top_spelled at_start t
 
+-- the framed one spells the framed text
 pub framed_spelled : (t : Tree) → spelled (framed_presentation_of t) ≡ framed_text t
-framed_spelled t = ap (λ s. (codes "---" ++ s) ++ codes "...\n") (top_spelled behind_marker t)
+framed_spelled t = ap (λ s. (codes "---" ++ s) ++ codes "...\n") (top_spelled after_marker t)

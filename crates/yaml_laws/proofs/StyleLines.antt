@@ -4,32 +4,33 @@ use Rattle.std.specs.Prelude.{ℕ, zero, suc, ◌+◌, Bool, true, false, cond, 
 use Rattle.std.proofs.lemmas.Bool.{cond_both, and_parts, and_from, not-true, not_from_false, ne_eqb, false≢true}
 use Rattle.yaml_grammar.specs.Texts.{every, spaces}
 use Rattle.yaml_grammar.specs.Trees.{Tree, text, sequence, mapping, Elements, no_element, element, Members, no_member, member}
-use Rattle.yaml_grammar.specs.Style.{letter, word_char, hex, quoted_chars, quoted, plain_in_style, literal_in_style, literal_mark, literal_lines, feeds_at_end, scalar_lines, key_text, long_key, key_lines, elements_at, elements_behind, element_at, members_at, members_behind, value_at, style_text}
+use Rattle.yaml_grammar.specs.Style.{letter, word_char, hex, quoted_chars, quoted, plain_in_style, literal_in_style, literal_mark, literal_lines, feeds_at_end, scalar_lines, key_text, long_key, key_lines, elements_at, elements_after, element_at, members_at, members_after, value_at, style_text}
 use Rattle.yaml_laws.proofs.Characters.{every_joined, of_letter, of_word, shown_low, Writes, quoted_chars_all}
 use Rattle.yaml_laws.proofs.Spelled.{item_regrouped, pair_regrouped}
 use Rattle.yaml_laws.proofs.Closings.{ends_from, dotless}
 
--- no line of the text begins with a dot; bol and end tell whether a line starts at its front and behind it
+-- no line of the text begins with a dot; bol and end say whether a line starts at its start and after it
 abbrev pub Lined : Bool → List ℕ → Bool → Type 0
 Lined bol source end = (dotless bol source ≡ true) × (ends_from bol source ≡ end)
 
-joined : (bol middle end : Bool) (front behind : List ℕ) → Lined bol front middle → Lined middle behind end → Lined bol (front ++ behind) end
-joined bol middle end [] behind h k = (ap (λ b. dotless b behind) h.1 ∙ k.0, ap (λ b. ends_from b behind) h.1 ∙ k.1)
-joined bol middle end (c ∷ cs) behind h k =
+joined : (bol middle end : Bool) (prefix after : List ℕ) → Lined bol prefix middle → Lined middle after end → Lined bol (prefix ++ after) end
+joined bol middle end [] after h k = (ap (λ b. dotless b after) h.1 ∙ k.0, ap (λ b. ends_from b after) h.1 ∙ k.1)
+joined bol middle end (c ∷ cs) after h k =
     let p : (not (bol && (c == 46)) ≡ true) × (dotless (c == 10) cs ≡ true) = and_parts _ _ h.0 in
-    let more : Lined (c == 10) (cs ++ behind) end = joined (c == 10) middle end cs behind (p.1, h.1) k in
+    let more : Lined (c == 10) (cs ++ after) end = joined (c == 10) middle end cs after (p.1, h.1) k in
     (and_from _ _ p.0 more.0, more.1)
 
--- behind spaces a line doesn't start
-behind_spaces : (n : ℕ) (end : Bool) (behind : List ℕ) → Lined false behind end → Lined false (spaces n ++ behind) end
-behind_spaces zero end behind h = h
-behind_spaces (suc n) end behind h = behind_spaces n end behind h
+-- after spaces a line doesn't start
+after_spaces : (n : ℕ) (end : Bool) (after : List ℕ) → Lined false after end → Lined false (spaces n ++ after) end
+after_spaces zero end after h = h
+after_spaces (suc n) end after h = after_spaces n end after h
 
--- what may stand at the start of a line, and within one, may stand behind the spaces that lead a line
-led : (n : ℕ) (end : Bool) (behind : List ℕ) → ((bol : Bool) → Lined bol behind end) → Lined true (spaces n ++ behind) end
-led zero end behind h = h true
-led (suc n) end behind h = behind_spaces n end behind (h false)
+-- what may be at the start of a line, and within one, may come after the spaces that lead a line
+led : (n : ℕ) (end : Bool) (after : List ℕ) → ((bol : Bool) → Lined bol after end) → Lined true (spaces n ++ after) end
+led zero end after h = h true
+led (suc n) end after h = after_spaces n end after (h false)
 
+-- two tests of which the second fails do not both hold
 pub not_both : (bol b : Bool) → b ≡ false → not (bol && b) ≡ true
 not_both true b e = not_from_false b e
 not_both false b e = refl
@@ -84,8 +85,8 @@ quoted_lined value bol =
 
 -- ---- literals
 
-char_lined : (c : ℕ) (behind : List ℕ) → c == 10 ≡ false → Lined false behind true → Lined false (c ∷ behind) true
-char_lined c behind e h = (ap (λ b. dotless b behind) e ∙ h.0, ap (λ b. ends_from b behind) e ∙ h.1)
+char_lined : (c : ℕ) (after : List ℕ) → c == 10 ≡ false → Lined false after true → Lined false (c ∷ after) true
+char_lined c after e h = (ap (λ b. dotless b after) e ∙ h.0, ap (λ b. ends_from b after) e ∙ h.1)
 
 literal_lined : (j : ℕ) (fresh : Bool) (cs : List ℕ) → Lined fresh (literal_lines (suc j) fresh cs) true
 literal_lined j true [] = (refl, refl)
@@ -96,7 +97,7 @@ literal_lined j fresh (c ∷ cs) =
     (λ e. by fresh (char_lined c (literal_lines (suc j) false cs) e (literal_lined j false cs)))
   where
     by : (b : Bool) → Lined false (c ∷ literal_lines (suc j) false cs) true → Lined b (cond b (spaces (suc j)) [] ++ c ∷ literal_lines (suc j) false cs) true
-    by true h = behind_spaces j true (c ∷ literal_lines (suc j) false cs) h
+    by true h = after_spaces j true (c ∷ literal_lines (suc j) false cs) h
     by false h = h
 
 mark_lined : (bol : Bool) (n : ℕ) → Lined bol (literal_mark n ++ codes "\n") true
@@ -147,41 +148,41 @@ key_lines_lined i key bol =
 empty_lined : (bol : Bool) (a b : ℕ) → a == 46 ≡ false → a == 10 ≡ false → b == 10 ≡ false → Lined bol (a ∷ b ∷ codes "\n") true
 empty_lined bol a b d e f = joined bol false true (a ∷ b ∷ []) (codes "\n") (begun bol a (b ∷ []) d (and_from _ _ (not_from_false _ e) (and_from _ _ (not_from_false _ f) refl))) (refl, refl)
 
-elements_lined : (t : Tree) (i : ℕ) (bol : Bool) (ts : Elements) → Lined false (element_at t i) true → Lined true (elements_behind ts i) true → Lined bol (elements_at (element t ts) i) true
-elements_lined t i bol ts h k = joined bol true true (codes "- " ++ element_at t i) (elements_behind ts i) (joined bol false true (codes "- ") (element_at t i) (dashes bol) h) k
+elements_lined : (t : Tree) (i : ℕ) (bol : Bool) (ts : Elements) → Lined false (element_at t i) true → Lined true (elements_after ts i) true → Lined bol (elements_at (element t ts) i) true
+elements_lined t i bol ts h k = joined bol true true (codes "- " ++ element_at t i) (elements_after ts i) (joined bol false true (codes "- ") (element_at t i) (dashes bol) h) k
 
-members_lined : (key : List ℕ) (t : Tree) (i : ℕ) (bol : Bool) (ms : Members) → Lined false (value_at t i) true → Lined true (members_behind ms i) true → Lined bol (members_at (member key t ms) i) true
-members_lined key t i bol ms h k = joined bol true true (key_lines i key ++ value_at t i) (members_behind ms i) (joined bol false true (key_lines i key) (value_at t i) (key_lines_lined i key bol) h) k
+members_lined : (key : List ℕ) (t : Tree) (i : ℕ) (bol : Bool) (ms : Members) → Lined false (value_at t i) true → Lined true (members_after ms i) true → Lined bol (members_at (member key t ms) i) true
+members_lined key t i bol ms h k = joined bol true true (key_lines i key ++ value_at t i) (members_after ms i) (joined bol false true (key_lines i key) (value_at t i) (key_lines_lined i key bol) h) k
 
 mutual
   element_lined : (t : Tree) (i : ℕ) (bol : Bool) → Lined bol (element_at t i) true
   element_lined (text value) i bol = scalar_lined i value bol
   element_lined (sequence no_element) i bol = empty_lined bol 91 93 refl refl refl
-  element_lined (sequence (element t ts)) i bol = elements_lined t (i + 2) bol ts (element_lined t (i + 2) false) (behind_lined ts (i + 2))
+  element_lined (sequence (element t ts)) i bol = elements_lined t (i + 2) bol ts (element_lined t (i + 2) false) (after_lined ts (i + 2))
   element_lined (mapping no_member) i bol = empty_lined bol 123 125 refl refl refl
   element_lined (mapping (member key t ms)) i bol = members_lined key t (i + 2) bol ms (value_lined t (i + 2)) (pairs_lined ms (i + 2))
 
   value_lined : (t : Tree) (i : ℕ) → Lined false (value_at t i) true
   value_lined (text value) i = scalar_lined i value false
   value_lined (sequence no_element) i = (refl, refl)
-  value_lined (sequence (element t ts)) i = led (i + 2) true (elements_at (element t ts) (i + 2)) (λ bol. elements_lined t (i + 2) bol ts (element_lined t (i + 2) false) (behind_lined ts (i + 2)))
+  value_lined (sequence (element t ts)) i = led (i + 2) true (elements_at (element t ts) (i + 2)) (λ bol. elements_lined t (i + 2) bol ts (element_lined t (i + 2) false) (after_lined ts (i + 2)))
   value_lined (mapping no_member) i = (refl, refl)
   value_lined (mapping (member key t ms)) i = led (i + 2) true (members_at (member key t ms) (i + 2)) (λ bol. members_lined key t (i + 2) bol ms (value_lined t (i + 2)) (pairs_lined ms (i + 2)))
 
-  behind_lined : (ts : Elements) (i : ℕ) → Lined true (elements_behind ts i) true
-  behind_lined no_element i = (refl, refl)
-  behind_lined (element t ts) i =
-      subst (λ ls. Lined true ls true) (sym (item_regrouped (spaces i) (element_at t i) (elements_behind ts i))) (led i true (elements_at (element t ts) i) (λ bol. elements_lined t i bol ts (element_lined t i false) (behind_lined ts i)))
+  after_lined : (ts : Elements) (i : ℕ) → Lined true (elements_after ts i) true
+  after_lined no_element i = (refl, refl)
+  after_lined (element t ts) i =
+      subst (λ ls. Lined true ls true) (sym (item_regrouped (spaces i) (element_at t i) (elements_after ts i))) (led i true (elements_at (element t ts) i) (λ bol. elements_lined t i bol ts (element_lined t i false) (after_lined ts i)))
 
-  pairs_lined : (ms : Members) (i : ℕ) → Lined true (members_behind ms i) true
+  pairs_lined : (ms : Members) (i : ℕ) → Lined true (members_after ms i) true
   pairs_lined no_member i = (refl, refl)
   pairs_lined (member key t ms) i =
-      subst (λ ls. Lined true ls true) (sym (pair_regrouped (spaces i) (key_lines i key) (value_at t i) (members_behind ms i))) (led i true (members_at (member key t ms) i) (λ bol. members_lined key t i bol ms (value_lined t i) (pairs_lined ms i)))
+      subst (λ ls. Lined true ls true) (sym (pair_regrouped (spaces i) (key_lines i key) (value_at t i) (members_after ms i))) (led i true (members_at (member key t ms) i) (λ bol. members_lined key t i bol ms (value_lined t i) (pairs_lined ms i)))
 
 -- no line of a tree in the one style begins with a dot, and it ends with the end of a line
 pub style_lined : (t : Tree) → Lined true (style_text t) true
 style_lined (text value) = scalar_lined 0 value true
 style_lined (sequence no_element) = (refl, refl)
-style_lined (sequence (element t ts)) = elements_lined t 0 true ts (element_lined t 0 false) (behind_lined ts 0)
+style_lined (sequence (element t ts)) = elements_lined t 0 true ts (element_lined t 0 false) (after_lined ts 0)
 style_lined (mapping no_member) = (refl, refl)
 style_lined (mapping (member key t ms)) = members_lined key t 0 true ms (value_lined t 0) (pairs_lined ms 0)

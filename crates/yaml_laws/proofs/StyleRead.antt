@@ -12,6 +12,7 @@ use Rattle.yaml_laws.proofs.Fits.{presentation_fits, framed_fits}
 use Rattle.yaml_laws.proofs.Meant.{presentation_meant, framed_meant}
 use Rattle.yaml_laws.proofs.StyleTexts.{style_is_text, framed_is_text}
 
+-- the text of a tree has a presentation that means the tree
 pub style_presented : StylePresents
 style_presented t h =
     record {
@@ -21,6 +22,7 @@ style_presented t h =
       tree = presentation_meant t h;
     }
 
+-- so has the framed text
 pub framed_presented : FramedPresents
 framed_presented t h =
     record {
@@ -40,11 +42,13 @@ read_alone one source t can =
     let here : CanRead source can.events = can.reads in
     record { source = can.text; some = here; every = λ p q. one source p here.presentation q here.presents ∙ here.means }
 
+-- so if no text has two meanings, it reads as the tree
 pub style_read : Unambiguous → StyleReads
 style_read one t limits good short =
     let can : CanReadAs (style_text t) t = style_presented t good.texts in
     record { short = short; events = can.events; reads = read_alone one (style_text t) t can; tree = can.tree; good = good }
 
+-- and so does the framed text
 pub framed_read : Unambiguous → FramedReads
 framed_read one t limits good short =
     let can : CanReadAs (framed_text t) t = framed_presented t good.texts in

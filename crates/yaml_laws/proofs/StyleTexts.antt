@@ -5,12 +5,12 @@ use Rattle.std.proofs.lemmas.Bool.{cond_both, and_parts, and_from, or_left, le-l
 use Rattle.yaml_chars.specs.Classes.{between, code_point}
 use Rattle.yaml_grammar.specs.Texts.{IsText, every, spaces}
 use Rattle.yaml_grammar.specs.Trees.{Tree, text, sequence, mapping, Elements, no_element, element, Members, no_member, member, IsTextTree, AreTextElements, AreTextMembers}
-use Rattle.yaml_grammar.specs.Style.{hex, quoted_chars, quoted, plain_in_style, literal_in_style, literal_mark, literal_lines, feeds_at_end, scalar_lines, key_text, long_key, key_lines, elements_at, elements_behind, element_at, members_at, members_behind, value_at, style_text}
+use Rattle.yaml_grammar.specs.Style.{hex, quoted_chars, quoted, plain_in_style, literal_in_style, literal_mark, literal_lines, feeds_at_end, scalar_lines, key_text, long_key, key_lines, elements_at, elements_after, element_at, members_at, members_after, value_at, style_text}
 use Rattle.yaml_laws.specs.Closed.{framed_text}
 use Rattle.yaml_laws.proofs.Characters.{every_joined, code_point_high, Writes, quoted_chars_all}
 
-joined : (front behind : List ℕ) → IsText front → IsText behind → IsText (front ++ behind)
-joined front behind h k = every_joined code_point front behind h k
+joined : (prefix after : List ℕ) → IsText prefix → IsText after → IsText (prefix ++ after)
+joined prefix after h k = every_joined code_point prefix after h k
 
 spaces_text : (n : ℕ) → IsText (spaces n)
 spaces_text zero = refl
@@ -70,41 +70,43 @@ mutual
   element_text : (t : Tree) (i : ℕ) → IsTextTree t → IsText (element_at t i)
   element_text (text value) i h = scalar_text (i + 2) value h
   element_text (sequence no_element) i h = refl
-  element_text (sequence (element t ts)) i h = joined (codes "- " ++ element_at t (i + 2)) (elements_behind ts (i + 2)) (element_text t (i + 2) h.0) (elements_text ts (i + 2) h.1)
+  element_text (sequence (element t ts)) i h = joined (codes "- " ++ element_at t (i + 2)) (elements_after ts (i + 2)) (element_text t (i + 2) h.0) (elements_text ts (i + 2) h.1)
   element_text (mapping no_member) i h = refl
   element_text (mapping (member key t ms)) i h =
-      joined (key_lines (i + 2) key ++ value_at t (i + 2)) (members_behind ms (i + 2)) (joined (key_lines (i + 2) key) (value_at t (i + 2)) (key_lines_text (i + 2) key h.0) (value_text t (i + 2) h.1)) (members_text ms (i + 2) h.2)
+      joined (key_lines (i + 2) key ++ value_at t (i + 2)) (members_after ms (i + 2)) (joined (key_lines (i + 2) key) (value_at t (i + 2)) (key_lines_text (i + 2) key h.0) (value_text t (i + 2) h.1)) (members_text ms (i + 2) h.2)
 
   value_text : (t : Tree) (i : ℕ) → IsTextTree t → IsText (value_at t i)
   value_text (text value) i h = scalar_text (i + 2) value h
   value_text (sequence no_element) i h = refl
   value_text (sequence (element t ts)) i h =
       joined (codes "\n" ++ spaces (i + 2)) (elements_at (element t ts) (i + 2)) (spaces_text (i + 2))
-      (joined (codes "- " ++ element_at t (i + 2)) (elements_behind ts (i + 2)) (element_text t (i + 2) h.0) (elements_text ts (i + 2) h.1))
+      (joined (codes "- " ++ element_at t (i + 2)) (elements_after ts (i + 2)) (element_text t (i + 2) h.0) (elements_text ts (i + 2) h.1))
   value_text (mapping no_member) i h = refl
   value_text (mapping (member key t ms)) i h =
       joined (codes "\n" ++ spaces (i + 2)) (members_at (member key t ms) (i + 2)) (spaces_text (i + 2))
-      (joined (key_lines (i + 2) key ++ value_at t (i + 2)) (members_behind ms (i + 2)) (joined (key_lines (i + 2) key) (value_at t (i + 2)) (key_lines_text (i + 2) key h.0) (value_text t (i + 2) h.1)) (members_text ms (i + 2) h.2))
+      (joined (key_lines (i + 2) key ++ value_at t (i + 2)) (members_after ms (i + 2)) (joined (key_lines (i + 2) key) (value_at t (i + 2)) (key_lines_text (i + 2) key h.0) (value_text t (i + 2) h.1)) (members_text ms (i + 2) h.2))
 
-  elements_text : (ts : Elements) (i : ℕ) → AreTextElements ts → IsText (elements_behind ts i)
+  elements_text : (ts : Elements) (i : ℕ) → AreTextElements ts → IsText (elements_after ts i)
   elements_text no_element i h = refl
   elements_text (element t ts) i h =
-      joined (spaces i ++ codes "- " ++ element_at t i) (elements_behind ts i)
+      joined (spaces i ++ codes "- " ++ element_at t i) (elements_after ts i)
       (joined (spaces i ++ codes "- ") (element_at t i) (joined (spaces i) (codes "- ") (spaces_text i) refl) (element_text t i h.0)) (elements_text ts i h.1)
 
-  members_text : (ms : Members) (i : ℕ) → AreTextMembers ms → IsText (members_behind ms i)
+  members_text : (ms : Members) (i : ℕ) → AreTextMembers ms → IsText (members_after ms i)
   members_text no_member i h = refl
   members_text (member key t ms) i h =
-      joined (spaces i ++ key_lines i key ++ value_at t i) (members_behind ms i)
+      joined (spaces i ++ key_lines i key ++ value_at t i) (members_after ms i)
       (joined (spaces i ++ key_lines i key) (value_at t i) (joined (spaces i) (key_lines i key) (spaces_text i) (key_lines_text i key h.0)) (value_text t i h.1)) (members_text ms i h.2)
 
+-- the text of a tree of texts is a text
 pub style_is_text : (t : Tree) → IsTextTree t → IsText (style_text t)
 style_is_text (text value) h = scalar_text 2 value h
 style_is_text (sequence no_element) h = refl
-style_is_text (sequence (element t ts)) h = joined (codes "- " ++ element_at t 0) (elements_behind ts 0) (element_text t 0 h.0) (elements_text ts 0 h.1)
+style_is_text (sequence (element t ts)) h = joined (codes "- " ++ element_at t 0) (elements_after ts 0) (element_text t 0 h.0) (elements_text ts 0 h.1)
 style_is_text (mapping no_member) h = refl
 style_is_text (mapping (member key t ms)) h =
-    joined (key_lines 0 key ++ value_at t 0) (members_behind ms 0) (joined (key_lines 0 key) (value_at t 0) (key_lines_text 0 key h.0) (value_text t 0 h.1)) (members_text ms 0 h.2)
+    joined (key_lines 0 key ++ value_at t 0) (members_after ms 0) (joined (key_lines 0 key) (value_at t 0) (key_lines_text 0 key h.0) (value_text t 0 h.1)) (members_text ms 0 h.2)
 
+-- so is the framed one
 pub framed_is_text : (t : Tree) → IsTextTree t → IsText (framed_text t)
 framed_is_text t h = joined (codes "---\n") (style_text t ++ codes "...\n") refl (joined (style_text t) (codes "...\n") (style_is_text t h) refl)

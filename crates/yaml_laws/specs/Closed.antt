@@ -13,6 +13,7 @@ framed_text t = codes "---\n" ++ (style_text t ++ codes "...\n")
 abbrev pub framed : Tree → List ℕ
 framed t = encode_utf8_all (framed_text t)
 
+-- the texts of trees, one after another
 abbrev pub framed_all : List Tree → List ℕ
 framed_all ts = concat (map framed ts)
 
@@ -20,8 +21,8 @@ framed_all ts = concat (map framed ts)
 pub record EndsWhole (ts : List Tree) (kept place : ℕ) : Type 0 where
   pub before : List Tree
   pub one : Tree
-  pub behind : List Tree
-  pub all : ts ≡ before ++ (one ∷ behind)
+  pub after : List Tree
+  pub all : ts ≡ before ++ (one ∷ after)
   pub ends : place ≡ length (framed_all (before ++ (one ∷ [])))
   pub within : place ≤ kept
 
@@ -29,38 +30,41 @@ pub record EndsWhole (ts : List Tree) (kept place : ℕ) : Type 0 where
 abbrev pub ClosedOnce : Type 0
 ClosedOnce = (t : Tree) → ClosesOnce (framed t)
 
--- of the texts in a row a front is kept, and zeros stand behind it: it closes at the ends of the texts that are whole, and nowhere else
+-- If a prefix of consecutive texts is kept, and zeros come after it, it closes at the ends of the texts that are whole,
+-- and nowhere else.
 abbrev pub TornClosings : Type 0
-TornClosings = (ts : List Tree) (front lost : List ℕ) (padding place : ℕ) → framed_all ts ≡ front ++ lost
-    → (ClosesAt (front ++ replicate padding 0) place ↔ EndsWhole ts (length front) place)
+TornClosings = (ts : List Tree) (prefix lost : List ℕ) (padding place : ℕ) → framed_all ts ≡ prefix ++ lost
+    → (ClosesAt (prefix ++ replicate padding 0) place ↔ EndsWhole ts (length prefix) place)
 
--- the pieces of a front with zeros behind it: the texts that are whole; the rest is what is kept of the next one, and the zeros
-pub record TornPieces (ts : List Tree) (front : List ℕ) (padding : ℕ) : Type 0 where
+-- the pieces of a prefix with zeros after it: the texts that are whole; the rest is what is kept of the next one, and
+-- the zeros
+pub record TornPieces (ts : List Tree) (prefix : List ℕ) (padding : ℕ) : Type 0 where
   pub whole : List Tree
   pub further : List Tree
   pub kept : List ℕ
   pub all : ts ≡ whole ++ further
-  pub cut : front ≡ framed_all whole ++ kept
+  pub cut : prefix ≡ framed_all whole ++ kept
   pub short : (next : Tree) (more : List Tree) → further ≡ next ∷ more → length kept < length (framed next)
-  pub pieces : Pieces (front ++ replicate padding 0) (map framed whole) (kept ++ replicate padding 0)
+  pub pieces : Pieces (prefix ++ replicate padding 0) (map framed whole) (kept ++ replicate padding 0)
 
+-- the same for all lists of trees, and wherever they are cut
 abbrev pub TornInPieces : Type 0
-TornInPieces = (ts : List Tree) (front lost : List ℕ) (padding : ℕ) → framed_all ts ≡ front ++ lost → TornPieces ts front padding
+TornInPieces = (ts : List Tree) (prefix lost : List ℕ) (padding : ℕ) → framed_all ts ≡ prefix ++ lost → TornPieces ts prefix padding
 
 -- bytes have only one list of pieces
 abbrev pub OnePieces : Type 0
 OnePieces = (bytes : List ℕ) (ps qs : List (List ℕ)) (rest other : List ℕ) → Pieces bytes ps rest → Pieces bytes qs other → (ps ≡ qs) × (rest ≡ other)
 
--- between the start of a line and the next closing stands a piece
+-- between the start of a line and the next closing is a piece
 abbrev pub PieceBetween : Type 0
-PieceBetween = (front piece behind : List ℕ) → IsTrue (ends_line front) → 0 < length piece
-    → ClosesAt (front ++ (piece ++ behind)) (length front + length piece)
-    → ((place : ℕ) → length front < place → ClosesAt (front ++ (piece ++ behind)) place → length front + length piece ≤ place)
+PieceBetween = (prefix piece after : List ℕ) → IsTrue (ends_line prefix) → 0 < length piece
+    → ClosesAt (prefix ++ (piece ++ after)) (length prefix + length piece)
+    → ((place : ℕ) → length prefix < place → ClosesAt (prefix ++ (piece ++ after)) place → length prefix + length piece ≤ place)
     → ClosesOnce piece
 
--- what stands behind the start of a line isn't closed where no closing comes behind that place
+-- what comes after the start of a line isn't closed where no closing comes after that place
 abbrev pub RestUnclosed : Type 0
-RestUnclosed = (front rest : List ℕ) → IsTrue (ends_line front) → ((place : ℕ) → length front < place → ClosesAt (front ++ rest) place → ⊥)
+RestUnclosed = (prefix rest : List ℕ) → IsTrue (ends_line prefix) → ((place : ℕ) → length prefix < place → ClosesAt (prefix ++ rest) place → ⊥)
     → (place : ℕ) → ClosesAt rest place → ⊥
 
 -- all bytes have a list of pieces

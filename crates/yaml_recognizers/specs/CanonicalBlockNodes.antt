@@ -12,44 +12,48 @@ use Rattle.yaml_recognizers.specs.CanonicalFlowNodes.{canonical_flow}
 use Rattle.yaml_recognizers.specs.CanonicalBlockScalars.{canonical_block}
 
 abbrev mutual
+  -- a node in its canonical form
   pub canonical_node : Node → ℕ → Bool → Bool → List ℕ → Bool
-  canonical_node (block sep b) m shallow bol behind = canonical_sep m false bol sep (block_text b ++ behind) && canonical_block m b behind
-  canonical_node (flow sep f comments) m shallow bol behind =
-      canonical_sep m false bol sep (flow_text f ++ (comments_text comments ++ behind))
-      && canonical_flow f m outer (starts_line bol (sep_text sep)) (comments_text comments ++ behind)
-      && canonical_comments false comments behind
-  canonical_node (items comments k is) m shallow bol behind =
-      canonical_comments bol comments (spaces k ++ (items_text is k ++ behind))
-      && nat_le m (if shallow then suc k else k) && canonical_items is k behind
-  canonical_node (pairs comments k ps) m shallow bol behind =
-      canonical_comments bol comments (spaces k ++ (pairs_text ps k ++ behind)) && nat_le m k && canonical_pairs ps k (k == 0) behind
+  canonical_node (block sep b) m shallow bol after = canonical_sep m false bol sep (block_text b ++ after) && canonical_block m b after
+  canonical_node (flow sep f comments) m shallow bol after =
+      canonical_sep m false bol sep (flow_text f ++ (comments_text comments ++ after))
+      && canonical_flow f m outer (starts_line bol (sep_text sep)) (comments_text comments ++ after)
+      && canonical_comments false comments after
+  canonical_node (items comments k is) m shallow bol after =
+      canonical_comments bol comments (spaces k ++ (items_text is k ++ after))
+      && nat_le m (if shallow then suc k else k) && canonical_items is k after
+  canonical_node (pairs comments k ps) m shallow bol after =
+      canonical_comments bol comments (spaces k ++ (pairs_text ps k ++ after)) && nat_le m k && canonical_pairs ps k (k == 0) after
 
+  -- items in their canonical form
   pub canonical_items : Items → ℕ → List ℕ → Bool
-  canonical_items (item i) k behind = not (first ns (indented_text i k ++ behind)) && canonical_indented i k false behind
-  canonical_items (item_and i is) k behind =
-      let rest = spaces k ++ (items_text is k ++ behind) in
-      not (first ns (indented_text i k ++ rest)) && canonical_indented i k false rest && canonical_items is k behind
+  canonical_items (item i) k after = not (first ns (indented_text i k ++ after)) && canonical_indented i k false after
+  canonical_items (item_and i is) k after =
+      let rest = spaces k ++ (items_text is k ++ after) in
+      not (first ns (indented_text i k ++ rest)) && canonical_indented i k false rest && canonical_items is k after
 
-  -- the key of the first pair stands at the start of a line where bol says so
+  -- pairs in their canonical form; bol says whether the key of the first pair is at the start of a line
   pub canonical_pairs : Pairs → ℕ → Bool → List ℕ → Bool
-  canonical_pairs (pair p) k bol behind = canonical_pair p k bol behind
-  canonical_pairs (pair_and p ps) k bol behind = canonical_pair p k bol (spaces k ++ (pairs_text ps k ++ behind)) && canonical_pairs ps k (k == 0) behind
+  canonical_pairs (pair p) k bol after = canonical_pair p k bol after
+  canonical_pairs (pair_and p ps) k bol after = canonical_pair p k bol (spaces k ++ (pairs_text ps k ++ after)) && canonical_pairs ps k (k == 0) after
 
+  -- a pair in its canonical form
   pub canonical_pair : Pair → ℕ → Bool → List ℕ → Bool
-  canonical_pair (asked key value) k bol behind =
-      let rest = spaces k ++ (codes ":" ++ (indented_text value k ++ behind)) in
-      not (first ns (indented_text key k ++ rest)) && not (is_omitted key) && canonical_indented key k true rest && canonical_indented value k true behind
-  canonical_pair (asked_alone key) k bol behind =
-      not (first ns (indented_text key k ++ behind)) && not (is_omitted key) && canonical_indented key k true behind
-  canonical_pair (keyed key gap value) k bol behind =
-      canonical_flow key 0 block_key bol (gap ++ (codes ":" ++ (node_text value ++ behind))) && every white gap && short_key key gap
-      && canonical_node value (suc k) true false behind
-  canonical_pair (keyed_alone key gap comments) k bol behind =
-      canonical_flow key 0 block_key bol (gap ++ (codes ":" ++ (comments_text comments ++ behind))) && every white gap && short_key key gap
-      && canonical_comments false comments behind
+  canonical_pair (asked key value) k bol after =
+      let rest = spaces k ++ (codes ":" ++ (indented_text value k ++ after)) in
+      not (first ns (indented_text key k ++ rest)) && not (is_omitted key) && canonical_indented key k true rest && canonical_indented value k true after
+  canonical_pair (asked_alone key) k bol after =
+      not (first ns (indented_text key k ++ after)) && not (is_omitted key) && canonical_indented key k true after
+  canonical_pair (keyed key gap value) k bol after =
+      canonical_flow key 0 block_key bol (gap ++ (codes ":" ++ (node_text value ++ after))) && every white gap && short_key key gap
+      && canonical_node value (suc k) true false after
+  canonical_pair (keyed_alone key gap comments) k bol after =
+      canonical_flow key 0 block_key bol (gap ++ (codes ":" ++ (comments_text comments ++ after))) && every white gap && short_key key gap
+      && canonical_comments false comments after
 
+  -- what comes after a sign, in its canonical form
   pub canonical_indented : Indented → ℕ → Bool → List ℕ → Bool
-  canonical_indented (compact_items s is) k shallow behind = nat_le 1 s && canonical_items is (k + 1 + s) behind
-  canonical_indented (compact_pairs s ps) k shallow behind = nat_le 1 s && canonical_pairs ps (k + 1 + s) false behind
-  canonical_indented (node n) k shallow behind = canonical_node n (suc k) shallow false behind
-  canonical_indented (omitted comments) k shallow behind = canonical_comments false comments behind
+  canonical_indented (compact_items s is) k shallow after = nat_le 1 s && canonical_items is (k + 1 + s) after
+  canonical_indented (compact_pairs s ps) k shallow after = nat_le 1 s && canonical_pairs ps (k + 1 + s) false after
+  canonical_indented (node n) k shallow after = canonical_node n (suc k) shallow false after
+  canonical_indented (omitted comments) k shallow after = canonical_comments false comments after

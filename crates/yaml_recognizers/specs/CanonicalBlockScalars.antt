@@ -5,15 +5,16 @@ use Rattle.yaml_grammar.specs.Separation.{LineEnd}
 use Rattle.yaml_grammar.specs.BlockScalars.{Header, BlockScalar, chomping_text, spaces_before, past_spaces, block_fits}
 use Rattle.yaml_recognizers.specs.CanonicalComments.{hash, is_line_end}
 
--- the digit stands last only behind a chomping mark
+-- the digit is last only after a chomping mark
 abbrev pub canonical_header : Header → Bool
 canonical_header h = not h.digit_last || (is_some h.digit && not (is_empty (chomping_text h.chomping)))
 
--- no further comment line that may belong to the scalar stands behind its comments: one with its `#` behind fewer than q
--- spaces, where it is the first of them; else any
+-- No further comment line that may belong to the scalar comes after its comments. The first such line has its `#` after
+-- fewer than q spaces; after it each comment line is one.
 abbrev pub whole_trail : ℕ → List LineEnd → List ℕ → Bool
-whole_trail q [] behind = not (nat_lt (spaces_before behind) q && first hash (past_spaces behind) && is_line_end behind)
-whole_trail q (e ∷ es) behind = not (is_line_end behind)
+whole_trail q [] after = not (nat_lt (spaces_before after) q && first hash (past_spaces after) && is_line_end after)
+whole_trail q (e ∷ es) after = not (is_line_end after)
 
+-- a block scalar in its canonical form
 abbrev pub canonical_block : ℕ → BlockScalar → List ℕ → Bool
-canonical_block m b behind = block_fits m b behind && canonical_header b.header && whole_trail b.indent b.trail behind
+canonical_block m b after = block_fits m b after && canonical_header b.header && whole_trail b.indent b.trail after

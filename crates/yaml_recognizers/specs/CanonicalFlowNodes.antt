@@ -7,40 +7,43 @@ use Rattle.yaml_grammar.specs.FlowNodes.{Flow, scalar, seq, map, Entries, none, 
 use Rattle.yaml_recognizers.specs.CanonicalComments.{canonical_gap}
 
 abbrev mutual
+  -- a flow node in its canonical form
   pub canonical_flow : Flow → ℕ → FlowContext → Bool → List ℕ → Bool
-  canonical_flow (scalar s) n c bol behind = scalar_fits n c bol s behind
-  canonical_flow (seq gap es) n c bol behind =
-      canonical_gap n (one_line c) gap (entries_text es ++ (codes "]" ++ behind))
-      && canonical_entries es n (inside c) true (starts_line false (gap_text gap)) (codes "]" ++ behind)
-  canonical_flow (map gap es) n c bol behind =
-      canonical_gap n (one_line c) gap (entries_text es ++ (codes "}" ++ behind))
-      && canonical_entries es n (inside c) false (starts_line false (gap_text gap)) (codes "}" ++ behind)
+  canonical_flow (scalar s) n c bol after = scalar_fits n c bol s after
+  canonical_flow (seq gap es) n c bol after =
+      canonical_gap n (one_line c) gap (entries_text es ++ (codes "]" ++ after))
+      && canonical_entries es n (inside c) true (starts_line false (gap_text gap)) (codes "]" ++ after)
+  canonical_flow (map gap es) n c bol after =
+      canonical_gap n (one_line c) gap (entries_text es ++ (codes "}" ++ after))
+      && canonical_entries es n (inside c) false (starts_line false (gap_text gap)) (codes "}" ++ after)
 
-  -- in the context d between the brackets; in_seq: they are a sequence's
+  -- entries in the context d between the brackets; in_seq says whether they are those of a sequence
   pub canonical_entries : Entries → ℕ → FlowContext → Bool → Bool → List ℕ → Bool
-  canonical_entries none n d in_seq bol behind = true
-  canonical_entries (last e gap) n d in_seq bol behind =
-      canonical_entry e n d in_seq bol (gap_text gap ++ behind) && canonical_gap n (one_line d) gap behind
-  canonical_entries (next e before after es) n d in_seq bol behind =
-      let rest = gap_text after ++ (entries_text es ++ behind) in
+  canonical_entries none n d in_seq bol after = true
+  canonical_entries (last e gap) n d in_seq bol after =
+      canonical_entry e n d in_seq bol (gap_text gap ++ after) && canonical_gap n (one_line d) gap after
+  canonical_entries (next e before gap_after es) n d in_seq bol after =
+      let rest = gap_text gap_after ++ (entries_text es ++ after) in
       canonical_entry e n d in_seq bol (gap_text before ++ (codes "," ++ rest))
-      && canonical_gap n (one_line d) before (codes "," ++ rest) && canonical_gap n (one_line d) after (entries_text es ++ behind)
-      && canonical_entries es n d in_seq (starts_line false (gap_text after)) behind
+      && canonical_gap n (one_line d) before (codes "," ++ rest) && canonical_gap n (one_line d) gap_after (entries_text es ++ after)
+      && canonical_entries es n d in_seq (starts_line false (gap_text gap_after)) after
 
+  -- an entry in its canonical form
   pub canonical_entry : Entry → ℕ → FlowContext → Bool → Bool → List ℕ → Bool
-  canonical_entry (entry ask key value) n d in_seq bol behind =
-      canonical_gap n (one_line d) ask (flow_text key ++ (value_text value ++ behind))
+  canonical_entry (entry ask key value) n d in_seq bol after =
+      canonical_gap n (one_line d) ask (flow_text key ++ (value_text value ++ after))
       && (if single_pair in_seq ask value
-      then canonical_flow key 0 flow_key bol (value_text value ++ behind) && short_key key (before_colon value)
-      else canonical_flow key n d (if is_some ask then starts_line false (gap_text ask) else bol) (value_text value ++ behind))
-      && canonical_value value n d (one_line d || single_pair in_seq ask value) (is_plain key) behind
+      then canonical_flow key 0 flow_key bol (value_text value ++ after) && short_key key (before_colon value)
+      else canonical_flow key n d (if is_some ask then starts_line false (gap_text ask) else bol) (value_text value ++ after))
+      && canonical_value value n d (one_line d || single_pair in_seq ask value) (is_plain key) after
 
-  -- key: the white before the `:` stands on its line; after_plain: a plain key's `:` wants white before its value
+  -- key: the whitespace before the `:` is on its line; after_plain: after a plain key, `:` needs whitespace before a
+  -- value
   pub canonical_value : Value → ℕ → FlowContext → Bool → Bool → List ℕ → Bool
-  canonical_value absent n d key after_plain behind = true
-  canonical_value (empty gap) n d key after_plain behind =
-      canonical_gap n key gap (codes ":" ++ behind) && not (after_plain && first (safe d) behind)
-  canonical_value (given before after f) n d key after_plain behind =
-      canonical_gap n key before (codes ":" ++ (gap_text after ++ (flow_text f ++ behind)))
-      && (is_some after || not after_plain) && canonical_gap n (one_line d) after (flow_text f ++ behind)
-      && canonical_flow f n d (starts_line false (gap_text after)) behind
+  canonical_value absent n d key after_plain after = true
+  canonical_value (empty gap) n d key after_plain after =
+      canonical_gap n key gap (codes ":" ++ after) && not (after_plain && first (safe d) after)
+  canonical_value (given before gap_after f) n d key after_plain after =
+      canonical_gap n key before (codes ":" ++ (gap_text gap_after ++ (flow_text f ++ after)))
+      && (is_some gap_after || not after_plain) && canonical_gap n (one_line d) gap_after (flow_text f ++ after)
+      && canonical_flow f n d (starts_line false (gap_text gap_after)) after

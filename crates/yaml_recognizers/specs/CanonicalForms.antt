@@ -1,4 +1,4 @@
--- What a canonical stream has to share with a presentation to stand for it.
+-- What a presentation and its canonical form have in common.
 use Rattle.std.specs.Prelude.{◌≡◌, IsTrue}
 use Rattle.yaml_grammar.specs.Streams.{Stream, spelled, fits, meant}
 use Rattle.yaml_recognizers.specs.CanonicalStreams.{FlatStream, flat_text, canonical_stream, flat_meant}

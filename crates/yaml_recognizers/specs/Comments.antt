@@ -4,15 +4,16 @@ use Rattle.yaml_chars.specs.Classes.{nb, white}
 use Rattle.yaml_grammar.specs.Separation.{Break, LineEnd, cr, cr_lf, lf, line_end_text}
 use Rattle.yaml_grammar.specs.Texts.{is_empty}
 use Rattle.yaml_recognizers.specs.CanonicalComments.{is_line_end}
-use Rattle.yaml_recognizers.specs.Fronts.{dropped, taken}
+use Rattle.yaml_recognizers.specs.Prefixes.{dropped, taken}
 use Rattle.yaml_recognizers.specs.Reading.{Read}
 use Rattle.yaml_recognizers.specs.Signs.{carriage_return, line_feed, number_sign}
 
+-- after a CR: CR LF, or CR alone
 abbrev pub read_cr : List ℕ → Break × List ℕ
 read_cr [] = (cr, [])
 read_cr (c ∷ cs) = if c == line_feed then (cr_lf, cs) else (cr, c ∷ cs)
 
--- a break
+-- [28] b-break, 5.4
 abbrev pub read_break : List ℕ → Read Break
 read_break [] = None
 read_break (c ∷ cs) = if c == line_feed then Some (lf, cs) else if c == carriage_return then Some (read_cr cs) else None
@@ -22,34 +23,38 @@ abbrev pub read_stop : List ℕ → Read (Option Break)
 read_stop [] = Some (None, [])
 read_stop (c ∷ cs) = if c == line_feed then Some (Some lf, cs) else if c == carriage_return then (let r = read_cr cs in Some (Some r.0, r.1)) else None
 
+-- a line's end, from its whitespace, its comment and its stop
 abbrev pub stopped : List ℕ → Option (List ℕ) → Read (Option Break) → Read LineEnd
 stopped blank comment None = None
 stopped blank comment (Some r) =
     let e : LineEnd = record { blank = blank; comment = comment; stop = r.0 } in
     if is_empty (line_end_text e) then None else Some (e, r.1)
 
--- behind white: a comment where one may stand, and the line's end; not the empty text
-abbrev pub read_behind_blank : Bool → List ℕ → List ℕ → Read LineEnd
-read_behind_blank bol blank [] = stopped blank None (read_stop [])
-read_behind_blank bol blank (c ∷ cs) =
+-- after whitespace: a comment where one is allowed, and the line's end; not the empty text
+abbrev pub read_after_blank : Bool → List ℕ → List ℕ → Read LineEnd
+read_after_blank bol blank [] = stopped blank None (read_stop [])
+read_after_blank bol blank (c ∷ cs) =
     if (c == number_sign) && (bol || not (is_empty blank)) then stopped blank (Some (taken nb cs)) (read_stop (dropped nb cs))
     else stopped blank None (read_stop (c ∷ cs))
 
+-- [77] s-b-comment, 6.6
 abbrev pub read_line_end : Bool → List ℕ → Read LineEnd
-read_line_end bol text = read_behind_blank bol (taken white text) (dropped white text)
+read_line_end bol text = read_after_blank bol (taken white text) (dropped white text)
 
+-- a first comment line, and then as many as the other recognizer finds
 abbrev pub more_comments : List ℕ → (List ℕ → List LineEnd × List ℕ) → Read LineEnd → List LineEnd × List ℕ
 more_comments text again None = ([], text)
 more_comments text again (Some r) = let more = again r.1 in (r.0 ∷ more.0, more.1)
 
--- the lines of comments at the front, at most so many
+-- the comment lines at the start of the text, at most so many
 abbrev pub read_comments : ℕ → Bool → List ℕ → List LineEnd × List ℕ
 read_comments zero bol text = ([], text)
 read_comments (suc fuel) bol text = more_comments text (λ rest. read_comments fuel true rest) (read_line_end bol text)
 
+-- all comment lines at the start of the text
 abbrev pub all_comments : Bool → List ℕ → List LineEnd × List ℕ
 all_comments bol text = read_comments (suc (length text)) bol text
 
--- the comments behind a part: they begin with the end of its line, unless the text ends there
+-- the comments after a part: they start with the end of its line, unless the text ends there
 abbrev pub closes_line : List LineEnd × List ℕ → Bool
 closes_line c = (not (is_empty c.0) || is_empty c.1) && not (is_line_end c.1)

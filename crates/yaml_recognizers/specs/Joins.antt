@@ -5,12 +5,13 @@ use Rattle.yaml_grammar.specs.FlowScalars.{Empty, Line, empties_text}
 use Rattle.yaml_grammar.specs.Separation.{Break, break_text, indents}
 use Rattle.yaml_grammar.specs.Texts.{begins, every, first, no_marker, spaces}
 use Rattle.yaml_recognizers.specs.Comments.{read_break}
-use Rattle.yaml_recognizers.specs.Fronts.{dropped, past, taken}
+use Rattle.yaml_recognizers.specs.Prefixes.{dropped, past, taken}
 use Rattle.yaml_recognizers.specs.Reading.{Read, on}
 use Rattle.yaml_recognizers.specs.Repeated.{all_of}
 use Rattle.yaml_recognizers.specs.Signs.{backslash}
 
--- a line without what it holds: perhaps a backslash, or white; a break, empty lines, and the white at the line's front
+-- a line without what it holds: perhaps a backslash, or whitespace; a break, empty lines, and the whitespace at the
+-- start of the line
 pub record Join : Type 0 where
   pub escaped : Bool
   pub blank : List ℕ
@@ -18,44 +19,47 @@ pub record Join : Type 0 where
   pub empties : List Empty
   pub lead : List ℕ
 
+-- the join of a line
 abbrev pub join_of : {A : Type 0} → Line A → Join
 join_of l = record { escaped = l.escaped; blank = l.blank; stop = l.stop; empties = l.empties; lead = l.lead }
 
+-- a line with this join
 abbrev pub line_of : {A : Type 0} → Join → List A → Line A
 line_of j held = record { escaped = j.escaped; blank = j.blank; stop = j.stop; empties = j.empties; lead = j.lead; held = held }
 
--- what it spells up to its empty lines, and with the rest
-abbrev pub front_text : Join → List ℕ
-front_text j = j.blank ++ (if j.escaped then codes "\\" else []) ++ break_text j.stop
+-- what it spells up to its empty lines
+abbrev pub prefix_text : Join → List ℕ
+prefix_text j = j.blank ++ (if j.escaped then codes "\\" else []) ++ break_text j.stop
 
+-- what it spells, and the rest
 abbrev pub spelled : Join → List ℕ → List ℕ
-spelled j behind = front_text j ++ (empties_text j.empties ++ (j.lead ++ behind))
+spelled j after = prefix_text j ++ (empties_text j.empties ++ (j.lead ++ after))
 
--- white, and a break behind it
+-- whitespace, and a break after it
 abbrev pub at_break : List ℕ → Bool
 at_break text = first line_break (dropped white text)
 
--- an empty line
+-- [70] l-empty, 6.4
 unfoldable pub read_empty : ℕ → List ℕ → Read Empty
 read_empty n text =
     let blank = taken white text in
     if begins (spaces n) blank || every space blank
     then on (read_break (dropped white text)) (λ stop rest. Some (record { blank = blank; stop = stop }, rest)) else None
 
--- behind the empty lines: the front of the next line
+-- after the empty lines: the start of the next line
 abbrev pub with_lead : Bool → ℕ → List ℕ → Break → List Empty × List ℕ → Read Join
 with_lead escaped n blank stop empties =
     let lead = taken white empties.1 in
     if indents n lead && no_marker true empties.1
     then Some (record { escaped = escaped; blank = blank; stop = stop; empties = empties.0; lead = lead }, dropped white empties.1) else None
 
--- from the break on
-unfoldable pub behind_blank : Bool → ℕ → List ℕ → List ℕ → Read Join
-behind_blank escaped n blank text =
+-- the join, from the break on
+unfoldable pub after_blank : Bool → ℕ → List ℕ → List ℕ → Read Join
+after_blank escaped n blank text =
     on (read_break text) (λ stop rest. with_lead escaped n blank stop (all_of (read_empty n) rest))
 
--- a backslash joins lines where escapes says so
+-- [74] s-flow-folded, 6.5, and [112] s-double-escaped, 7.3.1: a backslash joins lines if escapes says so
 unfoldable pub read_join : Bool → ℕ → List ℕ → Read Join
 read_join escapes n text =
-    if escapes && first (λ x. x == backslash) text then behind_blank true n [] (past text)
-    else behind_blank false n (taken white text) (dropped white text)
+    if escapes && first (λ x. x == backslash) text then after_blank true n [] (past text)
+    else after_blank false n (taken white text) (dropped white text)

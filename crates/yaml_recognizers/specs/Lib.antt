@@ -1,6 +1,6 @@
 -- texts, and what recognizers give
 pub mod Signs
-pub mod Fronts
+pub mod Prefixes
 pub mod Reading
 -- the canonical form
 pub mod CanonicalComments

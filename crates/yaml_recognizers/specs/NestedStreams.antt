@@ -1,5 +1,5 @@
--- The stream, as the grammar nests it, that a flat stream stands for: behind the stream's start and behind a `...` stand lines,
--- and perhaps a document.
+-- The stream, as the grammar nests it, that a flat stream means: after the start of the stream and after a `...` come
+-- lines, and perhaps a document.
 use Rattle.std.specs.Prelude.{List, [], ◌∷◌, Option, Some, None}
 use Rattle.yaml_grammar.specs.Separation.{LineEnd}
 use Rattle.yaml_grammar.specs.Streams.{Document, bare, explicit, directed, Part, suffixes, further, Stream}
@@ -8,21 +8,21 @@ use Rattle.yaml_recognizers.specs.CanonicalStreams.{Piece, suffix, line, documen
 
 -- lines, perhaps a document, and what follows
 pub record Opened : Type 0 where
-  pub front : List LineEnd
+  pub prefix : List LineEnd
   pub document : Option Document
   pub parts : List Part
 
 abbrev mutual
-  -- where a document may stand without `---`
+  -- where a document may come without `---`
   pub opened_pieces : List Piece → Opened
-  opened_pieces [] = record { front = []; document = None; parts = [] }
-  opened_pieces (line e ∷ ps) = let more = opened_pieces ps in record { front = e ∷ more.front; document = more.document; parts = more.parts }
-  opened_pieces (document d ∷ ps) = record { front = []; document = Some d; parts = closed_pieces ps }
+  opened_pieces [] = record { prefix = []; document = None; parts = [] }
+  opened_pieces (line e ∷ ps) = let more = opened_pieces ps in record { prefix = e ∷ more.prefix; document = more.document; parts = more.parts }
+  opened_pieces (document d ∷ ps) = record { prefix = []; document = Some d; parts = closed_pieces ps }
   opened_pieces (suffix comments ∷ ps) =
       let more = opened_pieces ps in
-      record { front = []; document = None; parts = suffixes comments [] more.front more.document ∷ more.parts }
+      record { prefix = []; document = None; parts = suffixes comments [] more.prefix more.document ∷ more.parts }
 
-  -- behind a document; a bare document and a directive stand there in no stream that fits
+  -- after a document; a bare document and a directive come there in no stream that fits
   pub closed_pieces : List Piece → List Part
   closed_pieces [] = []
   closed_pieces (line e ∷ ps) = line_part e ∷ closed_pieces ps
@@ -30,7 +30,8 @@ abbrev mutual
   closed_pieces (document (bare n) ∷ ps) = closed_pieces ps
   closed_pieces (document (directed blank first_version comments x) ∷ ps) = further x ∷ closed_pieces ps
   closed_pieces (suffix comments ∷ ps) =
-      let more = opened_pieces ps in suffixes comments [] more.front more.document ∷ more.parts
+      let more = opened_pieces ps in suffixes comments [] more.prefix more.document ∷ more.parts
 
+-- the stream of a flat stream
 abbrev pub nested : FlatStream → Stream
-nested s = let o = opened_pieces s.pieces in record { mark = s.mark; front = o.front; document = o.document; parts = o.parts }
+nested s = let o = opened_pieces s.pieces in record { mark = s.mark; prefix = o.prefix; document = o.document; parts = o.parts }

@@ -1,11 +1,11 @@
--- Flow nodes that stand on one line, as keys do; and the contexts in which the same characters are safe.
+-- Flow nodes that are on one line, as keys are; and the contexts in which the same characters are safe.
 use Rattle.std.specs.Prelude.{Bool, true, false, ◌&&◌, Option, Some, None}
 use Rattle.yaml_grammar.specs.Separation.{Sep, inline, lines}
 use Rattle.yaml_grammar.specs.FlowScalars.{FlowContext, outer, inner, block_key, flow_key}
 use Rattle.yaml_grammar.specs.FlowNodes.{Flow, scalar, seq, map, Entries, none, last, next, Entry, entry, Value, absent, empty, given}
 use Rattle.yaml_recognizers.specs.WholeScalars.{stands_on_one_line}
 
--- the first is the context of a key, and the second is it too, or the wider context that has the same safe characters
+-- the first is the context of a key, and the second is the same or the wider context with the same safe characters
 abbrev pub widens : FlowContext → FlowContext → Bool
 widens outer d = false
 widens inner d = false
@@ -18,25 +18,30 @@ widens flow_key inner = true
 widens flow_key block_key = false
 widens flow_key flow_key = true
 
+-- the gap has no break
 abbrev pub gap_on_one_line : Option Sep → Bool
 gap_on_one_line None = true
 gap_on_one_line (Some (inline blank)) = true
 gap_on_one_line (Some (lines comments lead)) = false
 
 abbrev mutual
+  -- the node has no break
   pub on_one_line : Flow → Bool
   on_one_line (scalar s) = stands_on_one_line s
   on_one_line (seq gap es) = gap_on_one_line gap && entries_on_one_line es
   on_one_line (map gap es) = gap_on_one_line gap && entries_on_one_line es
 
+  -- no entry has a break
   pub entries_on_one_line : Entries → Bool
   entries_on_one_line none = true
   entries_on_one_line (last e gap) = entry_on_one_line e && gap_on_one_line gap
   entries_on_one_line (next e before after es) = entry_on_one_line e && gap_on_one_line before && gap_on_one_line after && entries_on_one_line es
 
+  -- the entry has no break
   pub entry_on_one_line : Entry → Bool
   entry_on_one_line (entry ask key value) = gap_on_one_line ask && on_one_line key && value_on_one_line value
 
+  -- the value has no break
   pub value_on_one_line : Value → Bool
   value_on_one_line absent = true
   value_on_one_line (empty gap) = gap_on_one_line gap

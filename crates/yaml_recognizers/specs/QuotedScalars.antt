@@ -1,23 +1,25 @@
--- Recognizers of single-quoted and double-quoted scalars.
+-- Recognizers of single-quoted and double-quoted scalars (YAML 1.2.2, 7.3.1 and 7.3.2).
 use Rattle.std.specs.Prelude.{ℕ, Bool, true, false, not, ◌&&◌, ◌||◌, ◌==◌, List, [], ◌∷◌, take, drop, Some, None, codes, if◌then◌else◌}
 use Rattle.yaml_chars.specs.Classes.{is_in, nb_json}
 use Rattle.yaml_grammar.specs.Texts.{is_empty, first}
-use Rattle.yaml_grammar.specs.FlowScalars.{FlowContext, one_line, Item, raw, escape, number, Line, Scalar, single, double, digits_behind, double_item}
+use Rattle.yaml_grammar.specs.FlowScalars.{FlowContext, one_line, QuotedChar, raw, escape, number, Line, Scalar, single, double, digits_after, quoted_char_fits}
 use Rattle.yaml_recognizers.specs.Signs.{backslash, double_quote, single_quote}
-use Rattle.yaml_recognizers.specs.Fronts.{past}
+use Rattle.yaml_recognizers.specs.Prefixes.{past}
 use Rattle.yaml_recognizers.specs.Reading.{Read, on}
 use Rattle.yaml_recognizers.specs.Repeated.{all_of}
 use Rattle.yaml_recognizers.specs.Joins.{at_break, read_join, line_of}
 
--- ---- what stands between quotes, where read_one reads one thing of it, and escapes says whether a backslash may join lines
+-- ---- what is between quotes; read_one reads one thing of it, and escapes says whether a backslash may join lines
 
--- one thing of a line; white before a break belongs to the join
+-- one thing of a line; whitespace before a break belongs to the join
 unfoldable pub read_held : {A : Type 0} → (List ℕ → Read A) → List ℕ → Read A
 read_held read_one text = if at_break text then None else read_one text
 
+-- all things of a line
 abbrev pub all_held : {A : Type 0} → (List ℕ → Read A) → List ℕ → List A × List ℕ
 all_held read_one text = all_of (read_held read_one) text
 
+-- a further line
 unfoldable pub read_quoted_line : {A : Type 0} → (List ℕ → Read A) → Bool → ℕ → List ℕ → Read (Line A)
 read_quoted_line read_one escapes n text =
     on (read_join escapes n text) (λ j rest. let held = all_held read_one rest in Some (line_of j held.0, held.1))
@@ -27,57 +29,64 @@ abbrev pub apart : {A : Type 0} → List (Line A) → Bool
 apart [] = true
 apart (l ∷ ls) = (is_empty ls || not (is_empty l.held)) && apart ls
 
+-- the scalar, if the closing quote comes next
 abbrev pub closed : {A : Type 0} → (List ℕ → Bool) → List A → List (Line A) × List ℕ → Read (List A × List (Line A))
-closed closes front more = if closes more.1 && apart more.0 then Some ((front, more.0), past more.1) else None
+closed closes prefix more = if closes more.1 && apart more.0 then Some ((prefix, more.0), past more.1) else None
 
+-- all further lines; none in a key
 abbrev pub further : {A : Type 0} → (List ℕ → Read A) → Bool → ℕ → FlowContext → List ℕ → List (Line A) × List ℕ
 further read_one escapes n c text =
     if one_line c then ([], text) else all_of (read_quoted_line read_one escapes n) text
 
--- from behind the opening quote up to the closing one, which closes tells
+-- from the opening quote up to the closing one, which `closes` finds
 unfoldable pub read_quoted : {A : Type 0} → (List ℕ → Read A) → (List ℕ → Bool) → Bool → ℕ → FlowContext → List ℕ → Read (List A × List (Line A))
 read_quoted read_one closes escapes n c text =
-    let front = all_held read_one text in closed closes front.0 (further read_one escapes n c front.1)
+    let prefix = all_held read_one text in closed closes prefix.0 (further read_one escapes n c prefix.1)
 
 -- ---- single-quoted
 
+-- `'`
 abbrev pub quote : ℕ → Bool
 quote c = c == single_quote
 
--- a character, where a quote is doubled
+-- [118] nb-single-char: a character; a quote is doubled
 unfoldable pub read_single_one : List ℕ → Read ℕ
 read_single_one [] = None
 read_single_one (c ∷ cs) =
     if c == single_quote then (if first quote cs then Some (single_quote, past cs) else None) else if nb_json c then Some (c, cs) else None
 
--- a quote, and none behind it
+-- a quote, and none after it
 unfoldable pub single_closes : List ℕ → Bool
 single_closes text = first quote text && not (first quote (past text))
 
+-- [120] c-single-quoted
 unfoldable pub read_single : ℕ → FlowContext → List ℕ → Read Scalar
 read_single n c text =
     on (read_quoted read_single_one single_closes false n c text) (λ found rest. Some (single found.0 found.1, rest))
 
 -- ---- double-quoted
 
--- what the digits behind x, u or U are a number of
-abbrev pub read_number : ℕ → List ℕ → Read Item
+-- the character that the digits after x, u or U name
+abbrev pub read_number : ℕ → List ℕ → Read QuotedChar
 read_number c cs =
-    let digits = take (digits_behind c) cs in
-    if double_item (number c digits) then Some (number c digits, drop (digits_behind c) cs) else None
+    let digits = take (digits_after c) cs in
+    if quoted_char_fits (number c digits) then Some (number c digits, drop (digits_after c) cs) else None
 
--- behind a backslash
-abbrev pub read_escape : List ℕ → Read Item
+-- [62] c-ns-esc-char, 5.7, after its backslash
+abbrev pub read_escape : List ℕ → Read QuotedChar
 read_escape [] = None
 read_escape (c ∷ cs) =
-    if is_in c (codes "xuU") then read_number c cs else if double_item (escape c) then Some (escape c, cs) else None
+    if is_in c (codes "xuU") then read_number c cs else if quoted_char_fits (escape c) then Some (escape c, cs) else None
 
-unfoldable pub read_item : List ℕ → Read Item
+-- one thing between double quotes
+unfoldable pub read_item : List ℕ → Read QuotedChar
 read_item [] = None
-read_item (c ∷ cs) = if c == backslash then read_escape cs else if double_item (raw c) then Some (raw c, cs) else None
+read_item (c ∷ cs) = if c == backslash then read_escape cs else if quoted_char_fits (raw c) then Some (raw c, cs) else None
 
+-- `"`
 unfoldable pub double_closes : List ℕ → Bool
 double_closes text = first (λ x. x == double_quote) text
 
+-- [109] c-double-quoted
 unfoldable pub read_double : ℕ → FlowContext → List ℕ → Read Scalar
 read_double n c text = on (read_quoted read_item double_closes true n c text) (λ found rest. Some (double found.0 found.1, rest))

@@ -14,34 +14,38 @@ use Rattle.yaml_recognizers.specs.FlowNodes.{whole_flow, whole_entries, whole_en
 use Rattle.yaml_recognizers.specs.BlockNodes.{block_key_at, deep_items, deep_pairs, deep_pair, deep_indented, whole_node}
 use Rattle.yaml_recognizers.specs.Streams.{read_piece, read_pieces, read_stream}
 
--- a flow node at n in a context, where the Bool tells whether it stands at the start of a line
+-- [161] ns-flow-node, 7.5, at n in a context; the Bool says whether it is at the start of a line
 abbrev pub flow_node_at : ℕ → FlowContext → Bool → List ℕ → Read Flow
 flow_node_at n c bol text = whole_flow read_scalar n c bol text
 
--- what stands between brackets, up to the closing one; an entry; and the value of an entry
+-- what is between brackets, up to the closing one
 abbrev pub flow_entries_at : ℕ → FlowContext → Bool → Bool → ℕ → List ℕ → Read Entries
 flow_entries_at n d in_seq bol close text = whole_entries read_scalar n d in_seq bol close text
 
+-- one entry
 abbrev pub flow_entry_at : ℕ → FlowContext → Bool → Bool → List ℕ → Read Entry
 flow_entry_at n d in_seq bol text = whole_entry read_scalar n d in_seq bol text
 
+-- the value of an entry
 abbrev pub flow_value_at : ℕ → FlowContext → Bool → List ℕ → Read Value
 flow_value_at n d after_plain text = whole_value read_scalar n d after_plain text
 
+-- the flow node ends before this text
 abbrev pub flow_node_stops : ℕ → FlowContext → Flow → List ℕ → Bool
-flow_node_stops n c f behind = flow_ends scalar_ends n c f behind
+flow_node_stops n c f after = flow_ends scalar_ends n c f after
 
--- the flow node stands at the front of the text in its canonical form, and ends before the rest
+-- the flow node is at the start of the text in its canonical form, and ends before the rest
 pub record StandsFlow (n : ℕ) (c : FlowContext) (bol : Bool) (text : List ℕ) (f : Flow) (rest : List ℕ) : Type 0 where
   pub spells : text ≡ flow_text f ++ rest
   pub canonical : canonical_flow f n c bol rest ≡ true
   pub ends : flow_node_stops n c f rest ≡ true
 
--- the key of a pair of a block mapping, the white behind it, and what stands behind its `:`
+-- [193] ns-s-block-map-implicit-key, 8.2.2: the key of a pair of a block mapping, the whitespace after it, and what
+-- comes after its `:`
 abbrev pub block_key_in : Bool → List ℕ → Read (Flow × List ℕ)
 block_key_in bol text = block_key_at flow_node_at bol text
 
--- a key at the front of the text, with white and a `:` behind it
+-- a key at the start of the text, with whitespace and a `:` after it
 pub record IsBlockKey (bol : Bool) (text : List ℕ) (key : Flow) (gap rest : List ℕ) : Type 0 where
   pub spells : text ≡ flow_text key ++ (gap ++ (codes ":" ++ rest))
   pub fits : canonical_flow key 0 block_key bol (gap ++ (codes ":" ++ rest)) ≡ true
@@ -49,38 +53,42 @@ pub record IsBlockKey (bol : Bool) (text : List ℕ) (key : Flow) (gap rest : Li
   pub short : short_key key gap ≡ true
   pub apart : first ns rest ≡ false
 
--- a block node at m; shallow: it may be a sequence as deep as its parent
+-- [196] s-l+block-node, 8.2.3, at m; shallow: it may be a sequence as deep as its parent
 abbrev pub block_node_at : ℕ → Bool → Bool → List ℕ → Read Node
 block_node_at m shallow bol text = whole_node read_scalar read_block m shallow bol text
 
--- a flow node in a block
+-- [197] s-l+flow-in-block, 8.2.3: a flow node in a block
 abbrev pub flow_leaf_at : ℕ → Bool → List ℕ → Read Flow
 flow_leaf_at m bol text = flow_node_at m outer bol text
 
--- the items and the pairs at k; a pair; and what stands behind `-`, `?` and `:`
+-- the items at k
 abbrev pub block_items_at : ℕ → List ℕ → Read Items
 block_items_at k text = deep_items block_key_in flow_leaf_at read_block k text
 
+-- the pairs at k
 abbrev pub block_pairs_at : ℕ → Bool → List ℕ → Read Pairs
 block_pairs_at k bol text = deep_pairs block_key_in flow_leaf_at read_block k bol text
 
+-- one pair
 abbrev pub block_pair_at : ℕ → Bool → List ℕ → Read Pair
 block_pair_at k bol text = deep_pair block_key_in flow_leaf_at read_block k bol text
 
+-- [185] s-l+block-indented, 8.2.1: what comes after `-`, `?` and `:`
 abbrev pub block_indented_at : ℕ → Bool → List ℕ → Read Indented
 block_indented_at k shallow text = deep_indented block_key_in flow_leaf_at read_block k shallow text
 
--- the node of a document; a piece of a stream, where opened tells whether a bare document or a directive may stand there; and all
--- pieces up to the end of a text
+-- the node of a document
 abbrev pub document_node_at : Bool → List ℕ → Read Node
 document_node_at bol text = block_node_at 0 false bol text
 
+-- a piece of a stream; opened says whether a bare document or a directive is allowed there
 abbrev pub piece_at : Bool → Bool → List ℕ → Read Piece
 piece_at opened bol text = read_piece document_node_at opened bol text
 
+-- all pieces up to the end of a text
 abbrev pub pieces_at : Bool → Bool → List ℕ → Option (List Piece)
 pieces_at opened bol text = read_pieces document_node_at (suc (length text)) opened bol text
 
--- a whole text
+-- [211] l-yaml-stream, 9.2: a whole text
 abbrev pub stream_at : List ℕ → Option FlatStream
 stream_at text = read_stream read_scalar read_block text

@@ -1,5 +1,5 @@
--- The recognizer of streams (YAML 1.2.2, 6.8 and 9). That of a document's node is handed in: node_at tells by a Bool whether the
--- node stands at the start of a line.
+-- The recognizer of streams (YAML 1.2.2, 6.8 and chapter 9), over one of a document's node: node_at takes whether the
+-- node is at the start of a line.
 use Rattle.std.specs.Prelude.{ℕ, zero, suc, Bool, true, false, ◌&&◌, ◌==◌, List, [], ◌∷◌, length, drop, Option, Some, None, codes, if◌then◌else◌}
 use Rattle.yaml_chars.specs.Classes.{white}
 use Rattle.yaml_grammar.specs.Texts.{is_empty, first, begins, ends_word, starts_line}
@@ -9,7 +9,7 @@ use Rattle.yaml_grammar.specs.BlockScalars.{BlockScalar}
 use Rattle.yaml_grammar.specs.BlockNodes.{Node}
 use Rattle.yaml_grammar.specs.Streams.{Explicit, content, nothing, Document, bare, explicit, directed}
 use Rattle.yaml_recognizers.specs.Signs.{dash, dot, percent_sign}
-use Rattle.yaml_recognizers.specs.Fronts.{taken, dropped}
+use Rattle.yaml_recognizers.specs.Prefixes.{taken, dropped}
 use Rattle.yaml_recognizers.specs.Reading.{Read, on}
 use Rattle.yaml_recognizers.specs.CanonicalComments.{is_line_end}
 use Rattle.yaml_recognizers.specs.CanonicalStreams.{Piece, suffix, line, document, FlatStream, piece_text, opens}
@@ -20,48 +20,54 @@ use Rattle.yaml_recognizers.specs.BlockNodes.{omits, whole_node}
 abbrev pub mark_at : ℕ → List ℕ → Bool
 mark_at x text = begins (x ∷ x ∷ x ∷ []) text && ends_word (drop 3 text)
 
--- `%` begins a directive, and a byte order mark the stream: a bare node begins with neither
+-- `%` starts a directive: a bare node does not start with it
 abbrev pub percent : ℕ → Bool
 percent c = c == percent_sign
 
+-- a byte order mark starts the stream: a bare node does not start with it
 abbrev pub order_mark : ℕ → Bool
 order_mark c = c == 0xfeff
 
 -- ---- documents
 
--- behind `---`: comments and the end of the document, or a node
+-- after `---`: comments and the end of the document, or a node
 abbrev pub explicit_with : (Bool → List ℕ → Read Node) → List ℕ → List LineEnd × List ℕ → Read Explicit
 explicit_with node_at text c = if omits 0 false c then Some (nothing c.0, c.1) else on (node_at false text) (λ n rest. Some (content n, rest))
 
+-- [208] l-explicit-document, 9.1.4, after its `---`
 unfoldable pub read_explicit : (Bool → List ℕ → Read Node) → List ℕ → Read Explicit
 read_explicit node_at text = if mark_at dash text then explicit_with node_at (drop 3 text) (all_comments false (drop 3 text)) else None
 
--- whether the version is 1.1
+-- [87] ns-yaml-version, 6.8.1: whether the version is 1.1
 abbrev pub read_version : List ℕ → Read Bool
 read_version text =
     if begins (codes "1.1") text then Some (true, drop 3 text)
     else if begins (codes "1.2") text then Some (false, drop 3 text)
     else None
 
+-- a document after its directive and comments
 abbrev pub directed_with : (Bool → List ℕ → Read Node) → List ℕ → Bool → List LineEnd × List ℕ → Read Document
 directed_with node_at blank first_version c =
     if closes_line c then on (read_explicit node_at c.1) (λ x rest. Some (directed blank first_version c.0 x, rest)) else None
 
+-- a document after the whitespace of its directive
 abbrev pub version_with : (Bool → List ℕ → Read Node) → List ℕ → List ℕ → Read Document
 version_with node_at blank text =
     if is_empty blank then None
     else on (read_version text) (λ first_version rest. directed_with node_at blank first_version (all_comments false rest))
 
+-- [209] l-directive-document, 9.1.5
 abbrev pub read_directed : (Bool → List ℕ → Read Node) → List ℕ → Read Document
 read_directed node_at text =
     if begins (codes "%YAML") text then version_with node_at (taken white (drop 5 text)) (dropped white (drop 5 text)) else None
 
 -- ---- pieces
 
+-- [205] l-document-suffix, 9.1.2
 abbrev pub suffix_with : List LineEnd × List ℕ → Read Piece
 suffix_with c = if closes_line c then Some (suffix c.0, c.1) else None
 
--- opened: a bare document or a directive may stand here
+-- one piece; opened says whether a bare document or a directive may come here
 unfoldable pub read_piece : (Bool → List ℕ → Read Node) → Bool → Bool → List ℕ → Read Piece
 read_piece node_at opened bol text =
     if is_line_end text then on (read_line_end bol text) (λ e rest. Some (line e, rest))
@@ -71,15 +77,17 @@ read_piece node_at opened bol text =
     else if opened then on (node_at bol text) (λ n rest. Some (document (bare n), rest))
     else None
 
+-- a piece before others
 abbrev pub piece_and : Piece → Option (List Piece) → Option (List Piece)
 piece_and p None = None
 piece_and p (Some ps) = Some (p ∷ ps)
 
+-- the pieces, from the first one
 abbrev pub more_pieces : (Piece → List ℕ → Option (List Piece)) → Read Piece → Option (List Piece)
 more_pieces again None = None
 more_pieces again (Some r) = piece_and r.0 (again r.0 r.1)
 
--- all pieces up to the text's end, fewer than so many
+-- all pieces up to the end of the text, fewer than so many
 unfoldable pub read_pieces : (Bool → List ℕ → Read Node) → ℕ → Bool → Bool → List ℕ → Option (List Piece)
 read_pieces node_at zero opened bol text = None
 read_pieces node_at (suc fuel) opened bol text =
@@ -88,15 +96,17 @@ read_pieces node_at (suc fuel) opened bol text =
 
 -- ---- streams
 
+-- a flat stream, from its mark and pieces
 abbrev pub with_mark : Bool → Option (List Piece) → Option FlatStream
 with_mark mark None = None
 with_mark mark (Some ps) = Some (record { mark = mark; pieces = ps })
 
+-- a whole text
 abbrev pub stream_of : (Bool → List ℕ → Read Node) → List ℕ → Option FlatStream
 stream_of node_at text =
     if first order_mark text then with_mark true (read_pieces node_at (suc (length text)) true true (drop 1 text))
     else with_mark false (read_pieces node_at (suc (length text)) true true text)
 
--- over recognizers of scalars
+-- a whole text, over recognizers of scalars
 abbrev pub read_stream : (ℕ → FlowContext → Bool → List ℕ → Read Scalar) → (ℕ → List ℕ → Read BlockScalar) → List ℕ → Option FlatStream
 read_stream read_scalar read_block text = stream_of (λ bol t. whole_node read_scalar read_block 0 false bol t) text

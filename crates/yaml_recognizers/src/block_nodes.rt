@@ -10,28 +10,32 @@ ghost use Rattle.yaml_recognizers.specs.StandingNodes.{BlockNodeStands, SameBloc
 ghost use Rattle.yaml_recognizers.specs.Comments.{all_comments};
 ghost use Rattle.yaml_recognizers.specs.BlockScalars.{read_block};
 ghost use Rattle.yaml_recognizers.specs.Signs.{dash, question};
-ghost use Rattle.yaml_recognizers.specs.Fronts.{past, sign};
+ghost use Rattle.yaml_recognizers.specs.Prefixes.{past, sign};
 ghost use Rattle.yaml_recognizers.specs.Reading.{on};
-ghost use Rattle.yaml_recognizers.specs.BlockNodes.{node_behind, more_items, more_pairs, asked_key, key_value, opens_pair, indented_node};
+ghost use Rattle.yaml_recognizers.specs.BlockNodes.{node_below, more_items, more_pairs, asked_key, key_value, opens_pair, indented_node};
 ghost use Rattle.yaml_recognizers.specs.Recognizers.{block_key_in, flow_leaf_at, block_node_at, block_items_at, block_pairs_at, block_pair_at, block_indented_at};
 
 /// Finds each canonical block node, if the text after it ends it.
 pub fn block_node_found()
-    ensures { (node : Node) (m : ℕ) (shallow bol : Bool) (behind : List ℕ) → canonical_node node m shallow bol behind ≡ true → ended m shallow behind ≡ true
-        → block_node_at m shallow bol (node_text node ++ behind) ≡ Some (node, behind) }
+    ensures { (node : Node) (m : ℕ) (shallow bol : Bool) (after : List ℕ)
+        → canonical_node node m shallow bol after ≡ true → ended m shallow after ≡ true
+        → block_node_at m shallow bol (node_text node ++ after) ≡ Some (node, after) }
 {}
 
 /// What is found as a block node is a prefix of the text, and is canonical before the rest.
 pub fn block_node_fits()
-    ensures { (m : ℕ) (shallow bol : Bool) (text : List ℕ) (node : Node) (rest : List ℕ) → block_node_at m shallow bol text ≡ Some (node, rest)
+    ensures { (m : ℕ) (shallow bol : Bool) (text : List ℕ) (node : Node) (rest : List ℕ)
+        → block_node_at m shallow bol text ≡ Some (node, rest)
         → (text ≡ node_text node ++ rest) × (canonical_node node m shallow bol rest ≡ true) }
 {}
 
 /// A text has at most one canonical block node as a prefix, followed by something that ends it.
 pub fn block_node_once()
-    ensures { (one other : Node) (m : ℕ) (shallow bol : Bool) (rest behind : List ℕ) → node_text one ++ rest ≡ node_text other ++ behind
-        → canonical_node one m shallow bol rest ≡ true → canonical_node other m shallow bol behind ≡ true → ended m shallow rest ≡ true
-        → ended m shallow behind ≡ true → (one ≡ other) × (rest ≡ behind) }
+    ensures { (one other : Node) (m : ℕ) (shallow bol : Bool) (rest after : List ℕ)
+        → node_text one ++ rest ≡ node_text other ++ after
+        → canonical_node one m shallow bol rest ≡ true
+        → canonical_node other m shallow bol after ≡ true → ended m shallow rest ≡ true
+        → ended m shallow after ≡ true → (one ≡ other) × (rest ≡ after) }
 {}
 
 /// For each block node at the start of a text, in whatever form, one that means the same is found. The rest is what
@@ -39,32 +43,47 @@ pub fn block_node_once()
 /// have them. All block nodes there mean the same, and have the same rest after the comment lines. What is found
 /// fits as the grammar says, and is the only one but for its form. If none is found, there is none.
 pub fn block_node_stands()
-    ensures found { (m : ℕ) (shallow bol : Bool) (text : List ℕ) (node : Node) (rest : List ℕ) (stands : BlockNodeStands m shallow bol text node rest)
-        → (found : Node) × (left : List ℕ) × (block_node_at m shallow bol text ≡ Some (found, left)) × SameBlockNode found node
-        × ((left ≡ stands.behind.behind) ⊎ (left ≡ rest)) }
-    ensures once { (m : ℕ) (shallow bol : Bool) (text : List ℕ) (one other : Node) (rest behind : List ℕ) (stands : BlockNodeStands m shallow bol text one rest)
-        (too : BlockNodeStands m shallow bol text other behind) → SameBlockNode one other × (stands.behind.behind ≡ too.behind.behind) }
-    ensures only { (m : ℕ) (shallow bol : Bool) (text : List ℕ) (node : Node) (rest : List ℕ) → block_node_at m shallow bol text ≡ Some (node, rest)
+    ensures found { (m : ℕ) (shallow bol : Bool) (text : List ℕ) (node : Node) (rest : List ℕ)
+        (stands : BlockNodeStands m shallow bol text node rest)
+        → (found : Node) × (left : List ℕ) × (block_node_at m shallow bol text ≡ Some (found, left))
+        × SameBlockNode found node
+        × ((left ≡ stands.after.after) ⊎ (left ≡ rest)) }
+    ensures once { (m : ℕ) (shallow bol : Bool) (text : List ℕ) (one other : Node)
+        (rest after : List ℕ) (stands : BlockNodeStands m shallow bol text one rest)
+        (too : BlockNodeStands m shallow bol text other after) → SameBlockNode one other
+        × (stands.after.after ≡ too.after.after) }
+    ensures only { (m : ℕ) (shallow bol : Bool) (text : List ℕ) (node : Node) (rest : List ℕ)
+        → block_node_at m shallow bol text ≡ Some (node, rest)
         → IsBlockNode m shallow bol text node rest }
-    ensures missing { (m : ℕ) (shallow bol : Bool) (text : List ℕ) → block_node_at m shallow bol text ≡ None → NoBlockNode m shallow bol text }
+    ensures missing { (m : ℕ) (shallow bol : Bool) (text : List ℕ)
+        → block_node_at m shallow bol text ≡ None → NoBlockNode m shallow bol text }
 {}
 
 /// What the recognizers of block nodes and their parts find, said by one another: how deep they go is no matter.
 pub fn block_node_steps()
     ensures node { (m : ℕ) (shallow bol : Bool) (text : List ℕ) → block_node_at m shallow bol text
-        ≡ node_behind block_key_in flow_leaf_at read_block block_items_at block_pairs_at m shallow bol (all_comments bol text) }
+        ≡ node_below block_key_in flow_leaf_at read_block block_items_at block_pairs_at m shallow
+        bol (all_comments bol text) }
     ensures items { (k : ℕ) (text : List ℕ) → block_items_at k text
-        ≡ (if sign dash text then on (block_indented_at k false (past text)) (λ i rest. more_items k (block_items_at k) i rest) else None) }
+        ≡ (if sign dash text then on (block_indented_at k false (past text)) (λ i rest.
+        more_items k (block_items_at k) i rest) else None) }
     ensures pairs { (k : ℕ) (bol : Bool) (text : List ℕ) → block_pairs_at k bol text
-        ≡ on (block_pair_at k bol text) (λ p rest. more_pairs k (block_pairs_at k (k == 0)) p rest) }
+        ≡ on (block_pair_at k bol text) (λ p rest.
+        more_pairs k (block_pairs_at k (k == 0)) p rest) }
     ensures pair { (k : ℕ) (bol : Bool) (text : List ℕ) → block_pair_at k bol text
         ≡ (if sign question text
-        then on (block_indented_at k true (past text)) (λ key rest. asked_key k (block_indented_at k true) key rest)
-        else on (block_key_in bol text) (λ key rest. key_value k (block_node_at (suc k) true false) key rest (all_comments false rest))) }
+        then on (block_indented_at k true (past text)) (λ key rest.
+        asked_key k (block_indented_at k true) key rest)
+        else on (block_key_in bol text) (λ key rest.
+        key_value k (block_node_at (suc k) true false) key rest (all_comments false rest))) }
     ensures indented { (k : ℕ) (shallow : Bool) (text : List ℕ) → block_indented_at k shallow text
         ≡ (if nat_le 1 (spaces_before text) && sign dash (past_spaces text)
-        then on (block_items_at (k + 1 + spaces_before text) (past_spaces text)) (λ is rest. Some (compact_items (spaces_before text) is, rest))
-        else if nat_le 1 (spaces_before text) && opens_pair block_key_in flow_leaf_at read_block false (past_spaces text)
-        then on (block_pairs_at (k + 1 + spaces_before text) false (past_spaces text)) (λ ps rest. Some (compact_pairs (spaces_before text) ps, rest))
-        else indented_node k shallow (block_node_at (suc k) shallow false) text (all_comments false text)) }
+        then on (block_items_at (k + 1 + spaces_before text) (past_spaces text)) (λ is rest.
+        Some (compact_items (spaces_before text) is, rest))
+        else if nat_le 1 (spaces_before text)
+        && opens_pair block_key_in flow_leaf_at read_block false (past_spaces text)
+        then on (block_pairs_at (k + 1 + spaces_before text) false (past_spaces text)) (λ ps rest.
+        Some (compact_pairs (spaces_before text) ps, rest))
+        else indented_node k shallow (block_node_at (suc k) shallow false) text
+        (all_comments false text)) }
 {}

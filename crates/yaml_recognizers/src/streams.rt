@@ -12,45 +12,56 @@ ghost use Rattle.yaml_recognizers.specs.Streams.{order_mark, more_pieces, with_m
 
 /// Each stream that is canonical is found.
 pub fn stream_found()
-    ensures { (stream : FlatStream) → canonical_stream stream ≡ true → stream_at (flat_text stream) ≡ Some stream }
+    ensures { (stream : FlatStream) → canonical_stream stream ≡ true
+        → stream_at (flat_text stream) ≡ Some stream }
 {}
 
 /// What is found as a stream has the whole text, and is canonical.
 pub fn stream_fits()
-    ensures { (text : List ℕ) (stream : FlatStream) → stream_at text ≡ Some stream → (text ≡ flat_text stream) × (canonical_stream stream ≡ true) }
+    ensures { (text : List ℕ) (stream : FlatStream) → stream_at text ≡ Some stream
+        → (text ≡ flat_text stream) × (canonical_stream stream ≡ true) }
 {}
 
 /// Where no stream is found the text has none.
 pub fn stream_missing()
-    ensures { (text : List ℕ) (stream : FlatStream) → stream_at text ≡ None → canonical_stream stream ≡ true → flat_text stream ≡ text → ⊥ }
+    ensures { (text : List ℕ) (stream : FlatStream) → stream_at text ≡ None
+        → canonical_stream stream ≡ true → flat_text stream ≡ text → ⊥ }
 {}
 
 /// A text has at most one canonical stream.
 pub fn stream_once()
-    ensures { (one other : FlatStream) → canonical_stream one ≡ true → canonical_stream other ≡ true → flat_text one ≡ flat_text other → one ≡ other }
+    ensures { (one other : FlatStream) → canonical_stream one ≡ true → canonical_stream other ≡ true
+        → flat_text one ≡ flat_text other → one ≡ other }
 {}
 
 /// What the recognizers of streams and their pieces find, said by one another: how many pieces there are is no matter.
 pub fn stream_steps()
     ensures stream { (text : List ℕ) → stream_at text
-        ≡ (if first order_mark text then with_mark true (pieces_at true true (drop 1 text)) else with_mark false (pieces_at true true text)) }
+        ≡ (if first order_mark text then with_mark true (pieces_at true true (drop 1 text))
+        else with_mark false (pieces_at true true text)) }
     ensures pieces { (opened bol : Bool) (text : List ℕ) → pieces_at opened bol text
-        ≡ (if is_empty text then Some [] else more_pieces (λ p rest. pieces_at (opens opened p) (starts_line bol (piece_text p)) rest) (piece_at opened bol text)) }
+        ≡ (if is_empty text then Some [] else more_pieces (λ p rest.
+        pieces_at (opens opened p) (starts_line bol (piece_text p)) rest)
+        (piece_at opened bol text)) }
 {}
 
 /// For a canonical stream there is a presentation in the grammar's own form, with the same text and meaning.
 pub fn stream_presents()
-    ensures presents { (stream : FlatStream) → canonical_stream stream ≡ true → Presents (nested stream) (flat_text stream) }
-    ensures means { (stream : FlatStream) → canonical_stream stream ≡ true → meant (nested stream) ≡ flat_meant stream }
+    ensures presents { (stream : FlatStream) → canonical_stream stream ≡ true
+        → Presents (nested stream) (flat_text stream) }
+    ensures means { (stream : FlatStream) → canonical_stream stream ≡ true
+        → meant (nested stream) ≡ flat_meant stream }
 {}
 
 /// A text in which a stream is found can be read as what that stream means.
 pub fn stream_can_be_read()
-    ensures { (text : List ℕ) (stream : FlatStream) → stream_at text ≡ Some stream → CanRead text (flat_meant stream) }
+    ensures { (text : List ℕ) (stream : FlatStream) → stream_at text ≡ Some stream
+        → CanRead text (flat_meant stream) }
 {}
 
 /// In a stream that fits, what follows its first document, or any of its parts, ends the node of a document: lines of
 /// white or comments, and then the end of the text or a marker.
 pub fn document_node_ends()
-    ensures { (stream : Stream) (before behind : List Part) → fits stream ≡ true → stream.parts ≡ before ++ behind → EndsNode 0 false (parts_text behind) }
+    ensures { (stream : Stream) (before after : List Part) → fits stream ≡ true
+        → stream.parts ≡ before ++ after → EndsNode 0 false (parts_text after) }
 {}

@@ -18,34 +18,42 @@ pub fn canonical_forms()
 
 /// In what a presentation means the ranges of scalars are in order, and within its text.
 pub fn ranges_in_order()
-    ensures { (presentation : Stream) → RangesInOrder 0 (meant presentation) (byte_len (spelled presentation)) }
+    ensures { (presentation : Stream)
+        → RangesInOrder 0 (meant presentation) (byte_len (spelled presentation)) }
 {}
 
 /// The nodes of a presentation, each with its place in the text, are spelled there. If the presentation fits, a line
 /// starts at each of them where this is said of it, each fits at its place, and what comes after it ends it. So the
-/// laws of what is found where a node stands speak of each node of a whole text.
+/// laws about the node that is found at a place hold for each node of a whole text.
 pub fn nodes_stand()
-    ensures spelled { (presentation : Stream) → All (NodeSpelled (spelled presentation)) (stream_places presentation) }
-    ensures starts { (presentation : Stream) → fits presentation ≡ true → All (NodeStarts presentation.mark (spelled presentation)) (stream_places presentation) }
-    ensures stand { (presentation : Stream) → fits presentation ≡ true → All NodeStands (stream_places presentation) }
+    ensures spelled { (presentation : Stream)
+        → All (NodeSpelled (spelled presentation)) (stream_places presentation) }
+    ensures starts { (presentation : Stream) → fits presentation ≡ true
+        → All (NodeStarts presentation.mark (spelled presentation)) (stream_places presentation) }
+    ensures stand { (presentation : Stream) → fits presentation ≡ true
+        → All NodeStands (stream_places presentation) }
 {}
 
 /// All presentations of a text, whatever form they have, mean the same.
 pub fn unambiguous()
-    ensures { (text : List ℕ) (one other : Stream) → Presents one text → Presents other text → meant one ≡ meant other }
+    ensures { (text : List ℕ) (one other : Stream) → Presents one text → Presents other text
+        → meant one ≡ meant other }
 {}
 
 /// A text in which a stream is found reads as what that stream means, and as nothing else.
 pub fn text_reads()
-    ensures { (text : List ℕ) (stream : FlatStream) → IsText text → stream_at text ≡ Some stream → Reads text (flat_meant stream) }
+    ensures { (text : List ℕ) (stream : FlatStream) → IsText text → stream_at text ≡ Some stream
+        → Reads text (flat_meant stream) }
 {}
 
 /// What a text can be read as is found.
 pub fn text_reading_found()
-    ensures { (text : List ℕ) (events : List Event) → CanRead text events → (stream : FlatStream) × (stream_at text ≡ Some stream) × (flat_meant stream ≡ events) }
+    ensures { (text : List ℕ) (events : List Event) → CanRead text events
+        → (stream : FlatStream) × (stream_at text ≡ Some stream) × (flat_meant stream ≡ events) }
 {}
 
 /// Whether a text has a presentation is decided: one in which no stream is found has none.
 pub fn decided()
-    ensures { (text : List ℕ) (presentation : Stream) → stream_at text ≡ None → Presents presentation text → ⊥ }
+    ensures { (text : List ℕ) (presentation : Stream) → stream_at text ≡ None
+        → Presents presentation text → ⊥ }
 {}

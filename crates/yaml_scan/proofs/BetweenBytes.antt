@@ -1,4 +1,4 @@
--- What stands between two places: breaks, and how many characters.
+-- What is between two places: breaks, and how many characters.
 use Rattle.std.proofs.Common.{◌≡◌, ℕ, ◌+◌, ◌-◌, ◌*◌, ◌<◌, ◌≤◌, Bool, true, false, List, [], ◌∷◌, ◌++◌, refl, ap, sym, ◌∙◌, arith, length, get_or, length-append, length-take, length-drop, drop, slice_range}
 use Rattle.std.specs.Prelude.{not, ◌&&◌, nat_le, ◌/◌}
 use lib.Utf8.{encodes, encode}
@@ -12,7 +12,7 @@ use Rattle.yaml_chars.specs.Places.{between}
 use Rattle.yaml_chars.proofs.Places.{between-append, between-ascii, encodes-between}
 use Rattle.yaml_chars.proofs.Runs.{blind-no_break, test-between}
 use Rattle.yaml_grammar.specs.Texts.{every}
-use Rattle.yaml_scan.specs.Places.{unbroken_between}
+use Rattle.yaml_scan.specs.ScanPlaces.{unbroken_between}
 use Rattle.yaml_scan.proofs.ByteRuns.{every_is}
 
 -- ---- breaks
@@ -25,6 +25,7 @@ broken (z ∷ zs) ys x h = ap (λ b. no_break z && b) (broken zs ys x h) ∙ and
     and_false true = refl
     and_false false = refl
 
+-- a byte of a break between two places is a break among the characters there
 pub break_between : (bs : List ℕ) (i j k : ℕ) → IsUtf8 bs → IsCharBoundary bs i → IsCharBoundary bs j → i ≤ k → k < j → line_break (get_or bs k 0) ≡ true
     → true ≡ not (unbroken_between bs i j)
 break_between bs i j k u b d l m h =
@@ -35,6 +36,7 @@ break_between bs i j k u b d l m h =
     between-append bs i k j u l (omega arith) b here d ∙ ap (λ t. between bs i k ++ t) (between-ascii bs k j u m d low) in
     sym (ap (λ t. not (every no_break t)) split ∙ ap not (broken (between bs i k) (between bs (k + 1) j) (get_or bs k 0) h))
 
+-- without such a byte there is no break among them
 pub no_break_between : (bs : List ℕ) (i j : ℕ) → IsUtf8 bs → IsCharBoundary bs i → IsCharBoundary bs j → i ≤ j → ((k : ℕ) → i ≤ k → k < j → line_break (get_or bs k 0) ≡ false)
     → false ≡ not (unbroken_between bs i j)
 no_break_between bs i j u b d l h =
@@ -46,10 +48,12 @@ encodes_short : (cs : List ℕ) → length (encodes cs) ≤ 4 * length cs
 encodes_short [] = omega arith
 encodes_short (c ∷ cs) = omega (arith, length-append (encode c) (encodes cs), length-encode c, (len_utf8_bounds c).1, encodes_short cs)
 
+-- how many characters so many bytes may be
 pub record FitsBytes (bs : List ℕ) (i j : ℕ) : Type 0 where
   pub at_most : length (between bs i j) ≤ j - i
   pub at_least : j - i ≤ 4 * length (between bs i j)
 
+-- the characters between two places are at most as many as their bytes, and at least a quarter of them
 pub fits_bytes : (bs : List ℕ) (i j : ℕ) → IsUtf8 bs → i ≤ j → IsCharBoundary bs i → IsCharBoundary bs j → FitsBytes bs i j
 fits_bytes bs i j u l b d =
     let whole = encodes-between bs i j u l b d in
@@ -62,9 +66,11 @@ fits_bytes bs i j u l b d =
     length_range : (bs : List ℕ) (i j : ℕ) → i ≤ j → j ≤ length bs → length (slice_range bs i j) ≡ j - i
     length_range bs i j l m = omega (arith, length-take (j - i) (drop i bs), length-drop i bs)
 
+-- few bytes are few characters, so that nothing has to be counted
 pub few_bytes : (n m : ℕ) → n ≤ m → true ≡ nat_le n m
 few_bytes n m l = sym (le-leb n m l)
 
+-- many bytes are many characters, so that nothing has to be counted
 pub many_bytes : (n m bytes : ℕ) → bytes ≤ 4 * n → m < bytes / 4 → false ≡ nat_le n m
 many_bytes n m bytes l h = sym (lt-leb n m (more n m bytes l h))
   where

@@ -13,18 +13,20 @@ use Rattle.yaml_chars.proofs.Places.{char_at, rest-ascii, rest-end, rest-between
 use Rattle.yaml_chars.proofs.Runs.{IsBlind, run_is, run_stops, test-between, test-char_at, blind-space}
 use Rattle.yaml_grammar.specs.BlockScalars.{spaces_before, past_spaces}
 use Rattle.yaml_grammar.specs.Texts.{every, first, spaces}
-use Rattle.yaml_recognizers.proofs.Fronts.{dropped_all, spaces_counted, spaces_passed, taken_all}
-use Rattle.yaml_recognizers.proofs.Spaces.{spaces_dropped}
-use Rattle.yaml_recognizers.specs.Fronts.{dropped, taken}
-use Rattle.yaml_scan.specs.Places.{AreSpaces, AreTaken, IsNb, nb_byte}
+use Rattle.yaml_recognizers.proofs.Basics.Prefixes.{dropped_all, spaces_counted, spaces_passed, taken_all}
+use Rattle.yaml_recognizers.proofs.Basics.Spaces.{spaces_dropped}
+use Rattle.yaml_recognizers.specs.Prefixes.{dropped, taken}
+use Rattle.yaml_scan.specs.ScanPlaces.{AreSpaces, AreTaken, IsNb, nb_byte}
 
 -- ---- the first character
 
+-- a test of the first character from a place on is that of the byte there
 pub first_there : (test : ℕ → Bool) (bs : List ℕ) (i : ℕ) → IsBlind test → IsUtf8 bs → IsCharBoundary bs i → i < length bs → first test (rest bs i) ≡ test (get_or bs i 0)
 first_there test bs i blind u b l =
     let there = char_at bs i u b l in
     ap (first test) there.1.splits ∙ test-char_at test bs i there.0 blind u there.1
 
+-- at the end there is no first character
 pub first_at_end : (test : ℕ → Bool) (bs : List ℕ) (i : ℕ) → length bs ≤ i → first test (rest bs i) ≡ false
 first_at_end test bs i l = ap (first test) (rest-end bs i l)
 
@@ -35,36 +37,38 @@ first-rest test bs i blind u b = elim (cases_lt i (length bs)) [
   | inr past ↦ first_at_end test bs i past ∙ sym (ap (first test) (drop_all i bs past))
 ]
 
--- an ASCII character in front is a byte there, and what follows it
-pub record IsAsciiAt (bs : List ℕ) (i c : ℕ) (behind : List ℕ) : Type 0 where
+-- an ASCII character before it is a byte there, and what follows it
+pub record IsAsciiAt (bs : List ℕ) (i c : ℕ) (after : List ℕ) : Type 0 where
   pub within : i < length bs
   pub byte : get_or bs i 0 ≡ c
   pub boundary : IsCharBoundary bs (i + 1)
-  pub leaves : behind ≡ rest bs (i + 1)
+  pub leaves : after ≡ rest bs (i + 1)
 
-pub ascii_in_front : (bs : List ℕ) (i c : ℕ) (behind : List ℕ) → IsUtf8 bs → IsCharBoundary bs i → c < 128 → rest bs i ≡ c ∷ behind → IsAsciiAt bs i c behind
-ascii_in_front bs i c behind u b a e = elim (cases_lt i (length bs)) [
+-- the first character from a place on, if it is ASCII, is the byte there
+pub ascii_at_beginning : (bs : List ℕ) (i c : ℕ) (after : List ℕ) → IsUtf8 bs → IsCharBoundary bs i → c < 128 → rest bs i ≡ c ∷ after → IsAsciiAt bs i c after
+ascii_at_beginning bs i c after u b a e = elim (cases_lt i (length bs)) [
   | inl l ↦ (let there = char_at bs i u b l in
-      let front : there.0 ∷ rest bs (i + len_utf8 there.0) ≡ c ∷ behind = sym there.1.splits ∙ e in
+      let prefix : there.0 ∷ rest bs (i + len_utf8 there.0) ≡ c ∷ after = sym there.1.splits ∙ e in
       let same : there.0 ≡ c = cc in
       let byte : get_or bs i 0 ≡ c = elim (cases_lt (get_or bs i 0) 128) [
         | inl low ↦ sym (there.1.low low) ∙ same
         | inr high ↦ (let above = there.1.high high in absurd (omega arith))
       ] in
       let low : get_or bs i 0 < 128 = omega arith in
-      let whole : c ∷ behind ≡ get_or bs i 0 ∷ rest bs (i + 1) = sym e ∙ rest-ascii bs i u l low in
+      let whole : c ∷ after ≡ get_or bs i 0 ∷ rest bs (i + 1) = sym e ∙ rest-ascii bs i u l low in
       record { within = l; byte = byte; boundary = IsCharBoundary-after_ascii bs i u l low; leaves = cc })
-  | inr past ↦ (let none : [] ≡ c ∷ behind = sym (rest-end bs i past) ∙ e in cc)
+  | inr past ↦ (let none : [] ≡ c ∷ after = sym (rest-end bs i past) ∙ e in cc)
 ]
 
--- an ASCII byte is the character in front
-pub ascii_front : (bs : List ℕ) (i c : ℕ) → IsUtf8 bs → i < length bs → c < 128 → get_or bs i 0 ≡ c → (rest bs i ≡ c ∷ rest bs (i + 1)) × IsCharBoundary bs (i + 1)
-ascii_front bs i c u l a e =
+-- an ASCII byte is the character before it
+pub ascii_prefix : (bs : List ℕ) (i c : ℕ) → IsUtf8 bs → i < length bs → c < 128 → get_or bs i 0 ≡ c → (rest bs i ≡ c ∷ rest bs (i + 1)) × IsCharBoundary bs (i + 1)
+ascii_prefix bs i c u l a e =
     let low : get_or bs i 0 < 128 = omega arith in
     (rest-ascii bs i u l low ∙ ap (λ x. x ∷ rest bs (i + 1)) e, IsCharBoundary-after_ascii bs i u l low)
 
 -- ---- runs by a blind test
 
+-- one word for a test of all characters means the other
 pub every_is : (test : ℕ → Bool) (xs : List ℕ) → list_all test xs ≡ true → every test xs ≡ true
 every_is test [] h = refl
 every_is test (x ∷ xs) h = let p = and_parts (test x) (list_all test xs) h in and_from (test x) (every test xs) p.0 (every_is test xs p.1)
@@ -73,6 +77,7 @@ stops : (test : ℕ → Bool) (bs : List ℕ) (i j : ℕ) → IsBlind test → I
 stops test bs i j blind u run [] e = refl
 stops test bs i j blind u run (c ∷ cs) e = run_stops test bs i j c cs blind u run e
 
+-- bytes that pass a test up to one that fails it are the longest prefix of characters that pass
 pub taken_is : (test : ℕ → Bool) (bs : List ℕ) (i j : ℕ) → IsBlind test → IsUtf8 bs → IsCharBoundary bs i → i ≤ j → j ≤ length bs
     → ((k : ℕ) → i ≤ k → k < j → test (get_or bs k 0) ≡ true) → (j < length bs → test (get_or bs j 0) ≡ false) → AreTaken test bs i j
 taken_is test bs i j blind u b l within passes stop =
@@ -95,11 +100,12 @@ pub spaces_there : (bs : List ℕ) (i k : ℕ) → IsUtf8 bs → IsCharBoundary 
 spaces_there bs i zero u b l h =
     let e : i ≡ i + 0 = omega arith in (ap (rest bs) e, subst (λ x. IsCharBoundary bs x) e b)
 spaces_there bs i (suc k) u b l h =
-    let here = ascii_front bs i 32 u (omega arith) (omega arith) (h i (omega arith) (omega arith)) in
+    let here = ascii_prefix bs i 32 u (omega arith) (omega arith) (h i (omega arith) (omega arith)) in
     let more = spaces_there bs (i + 1) k u here.1 (omega arith) (λ j from to. h j (omega arith) (omega arith)) in
     let e : i + 1 + k ≡ i + suc k = omega arith in
     (here.0 ∙ ap (λ x. 32 ∷ x) (more.0 ∙ ap (λ x. spaces k ++ rest bs x) e), subst (λ x. IsCharBoundary bs x) e more.1)
 
+-- so are spaces
 pub spaces_are : (bs : List ℕ) (i j : ℕ) → IsUtf8 bs → IsCharBoundary bs i → i ≤ j → j ≤ length bs
     → ((k : ℕ) → i ≤ k → k < j → space (get_or bs k 0) ≡ true) → (j < length bs → space (get_or bs j 0) ≡ false) → AreSpaces bs i j
 spaces_are bs i j u b l within h stop =
@@ -129,10 +135,11 @@ spaces_dropped_at bs i j q u b h l =
 
 -- ---- characters of a line
 
+-- a byte that is nb is a character that is nb
 pub nb_by_byte : (bs : List ℕ) (i : ℕ) → IsUtf8 bs → i < length bs → nb_byte (get_or bs i 0) ≡ true → IsNb bs i (i + 1)
 nb_by_byte bs i u l h =
     let low : get_or bs i 0 < 128 = grind (arith, nat_tests) in
-    let there = ascii_front bs i (get_or bs i 0) u l low refl in
+    let there = ascii_prefix bs i (get_or bs i 0) u l low refl in
     record { above = omega arith; boundary = there.1; char = get_or bs i 0; splits = there.0; fits = byte_is_nb (get_or bs i 0) h }
   where
     byte_is_nb : (c : ℕ) → nb_byte c ≡ true → nb c ≡ true
@@ -145,17 +152,19 @@ pub record AreTakenSoFar (bs : List ℕ) (i j : ℕ) : Type 0 where
   pub takes : taken nb (rest bs i) ≡ between bs i j ++ taken nb (rest bs j)
   pub leaves : dropped nb (rest bs i) ≡ dropped nb (rest bs j)
 
+-- nothing is taken yet
 pub taken_none : (bs : List ℕ) (i : ℕ) → IsCharBoundary bs i → AreTakenSoFar bs i i
 taken_none bs i b = record { above = omega arith; boundary = b; takes = ap (λ x. x ++ taken nb (rest bs i)) (sym (between-nil bs i)); leaves = refl }
 
-taken_front : (c : ℕ) (cs : List ℕ) → nb c ≡ true → (taken nb (c ∷ cs) ≡ c ∷ taken nb cs) × (dropped nb (c ∷ cs) ≡ dropped nb cs)
-taken_front c cs h = (cond-true (nb c) (c ∷ taken nb cs) [] h, cond-true (nb c) (dropped nb cs) (c ∷ cs) h)
+taken_prefix : (c : ℕ) (cs : List ℕ) → nb c ≡ true → (taken nb (c ∷ cs) ≡ c ∷ taken nb cs) × (dropped nb (c ∷ cs) ≡ dropped nb cs)
+taken_prefix c cs h = (cond-true (nb c) (c ∷ taken nb cs) [] h, cond-true (nb c) (dropped nb cs) (c ∷ cs) h)
 
+-- one character more is taken
 pub taken_more : (bs : List ℕ) (i j k : ℕ) → IsUtf8 bs → IsCharBoundary bs i → AreTakenSoFar bs i j → IsNb bs j k → AreTakenSoFar bs i k
 taken_more bs i j k u b h n =
     let above = h.above in
     let further = n.above in
-    let step = taken_front n.char (rest bs k) n.fits in
+    let step = taken_prefix n.char (rest bs k) n.fits in
     let one : between bs j k ≡ n.char ∷ [] = append_cancel_right (between bs j k) (n.char ∷ []) (rest bs k) (sym (rest-between bs j k u (omega arith) h.boundary n.boundary) ∙ n.splits) in
     let joined : between bs i k ≡ between bs i j ++ n.char ∷ [] = between-append bs i j k u above (omega arith) b h.boundary n.boundary ∙ ap (λ x. between bs i j ++ x) one in
     record {
@@ -170,6 +179,7 @@ taken_stops : (cs : List ℕ) → first nb cs ≡ false → (taken nb cs ≡ [])
 taken_stops [] h = (refl, refl)
 taken_stops (c ∷ cs) h = (cond-false (nb c) (c ∷ taken nb cs) [] h, cond-false (nb c) (dropped nb cs) (c ∷ cs) h)
 
+-- all is taken where the next character is not nb
 pub taken_all_at : (bs : List ℕ) (i j : ℕ) → AreTakenSoFar bs i j → first nb (rest bs j) ≡ false → AreTaken nb bs i j
 taken_all_at bs i j h n =
     let stop = taken_stops (rest bs j) n in

@@ -27,6 +27,7 @@ all_classes SingleQuoted = refl
 all_classes DoubleQuoted = refl
 all_classes Line = refl
 
+-- a bit of the table is the test of its class
 pub class_is : (class : Class) (b : ℕ) → b < 256 → has (bit_of class) (get_or CLASSES b 0) ≡ test_of class b
 class_is class b l =
     sym (get_or-map (has (bit_of class)) CLASSES b 0 false l)
@@ -55,6 +56,7 @@ blind-line c h l = no_line c h ∙ sym (no_line 128 (omega arith))
     no_line : (y : ℕ) → 128 ≤ y → line_ascii y ≡ false
     no_line y k = let e : nat_lt y 128 ≡ false = grind (arith, nat_tests) in rw e refl
 
+-- the test of a class doesn't distinguish characters from 128 on
 pub blind-test : (class : Class) → IsBlind (test_of class)
 blind-test Words = blind-word outer
 blind-test WordsInside = blind-word inner
@@ -64,9 +66,11 @@ blind-test Line = blind-line
 
 -- ---- bytes that pass
 
+-- no byte is passed yet
 pub passed_none : (test : ℕ → Bool) (bytes : List ℕ) (at : ℕ) → at ≤ length bytes → ArePassed test bytes at at
 passed_none test bytes at l = record { above = omega arith; within = l; passes = λ k from to. absurd (omega arith) }
 
+-- bytes passed, and then more
 pub passed_joined : (test : ℕ → Bool) (bytes : List ℕ) (i j k : ℕ) → ArePassed test bytes i j → ArePassed test bytes j k → ArePassed test bytes i k
 passed_joined test bytes i j k h g =
     let above = h.above in
@@ -77,6 +81,7 @@ passed_joined test bytes i j k h g =
       passes = λ m from to. elim (cases_lt m j) [ inl l ↦ h.passes m from l | inr l ↦ g.passes m l to ];
     }
 
+-- one byte more is passed
 pub passed_one : (test : ℕ → Bool) (bytes : List ℕ) (at : ℕ) → at < length bytes → test (slice_index bytes at) ≡ true → ArePassed test bytes at (at + 1)
 passed_one test bytes at l h = record {
   above = omega arith;
@@ -84,6 +89,7 @@ passed_one test bytes at l h = record {
   passes = λ k from to. (let e : at ≡ k = omega arith in subst (λ x. test (slice_index bytes x) ≡ true) e h);
 }
 
+-- four bytes more are passed
 pub passed_four : (test : ℕ → Bool) (bytes : List ℕ) (at : ℕ) → at + 4 ≤ length bytes → test (slice_index bytes at) ≡ true → test (slice_index bytes (at + 1)) ≡ true
     → test (slice_index bytes (at + 2)) ≡ true → test (slice_index bytes (at + 3)) ≡ true → ArePassed test bytes at (at + 4)
 passed_four test bytes at l a b c d = record {
@@ -106,8 +112,10 @@ pub run_ends : (class : Class) (text : List ℕ) (at end : ℕ) → IsUtf8 text 
     → (end < length text → test_of class (slice_index text end) ≡ false) → IsRun (test_of class) text at end
 run_ends class text at end u b h stop = run_is (test_of class) text at end (blind-test class) u b h.above h.within h.passes stop
 
+-- a bit that is set is not zero
 pub nonzero : (x : ℕ) → (x ≡ 0 → ⊥) → not (nat_eq x 0) ≡ true
 nonzero x h = grind (arith, nat_tests)
 
+-- a bit that is not set is zero
 pub is_zero : (x : ℕ) → x ≡ 0 → not (nat_eq x 0) ≡ false
 is_zero x e = ap (λ y. not (nat_eq y 0)) e

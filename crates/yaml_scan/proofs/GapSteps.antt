@@ -1,4 +1,4 @@
--- Gaps at places, by what stands there.
+-- Gaps at places, by what is there.
 use Rattle.std.proofs.Common.{◌≡◌, ℕ, zero, suc, ◌+◌, ◌-◌, ◌<◌, ◌≤◌, Bool, true, false, List, [], ◌∷◌, ◌++◌, Option, Some, None, refl, ap, sym, ◌∙◌, subst, arith, length, inl, inr}
 use Rattle.std.specs.Prelude.{not, ◌&&◌, ◌||◌, ◌==◌, nat_le, nat_lt, is_some, cond}
 use Rattle.std.specs.Str.{IsUtf8, IsCharBoundary}
@@ -17,20 +17,20 @@ use Rattle.yaml_grammar.specs.Texts.{begins, every, first, is_empty, optional, s
 use Rattle.yaml_recognizers.specs.CanonicalComments.{hash, is_line_end, stops}
 use Rattle.yaml_recognizers.specs.Comments.{all_comments, read_line_end}
 use Rattle.yaml_recognizers.specs.Ends.{solid}
-use Rattle.yaml_recognizers.specs.Fronts.{dropped, past, taken}
+use Rattle.yaml_recognizers.specs.Prefixes.{dropped, past, taken}
 use Rattle.yaml_recognizers.specs.Gaps.{inline_gap, lines_gap, read_gap}
 use Rattle.yaml_recognizers.specs.OneLine.{gap_on_one_line}
-use Rattle.yaml_recognizers.proofs.CommentsComplete.{solid_no_line}
-use Rattle.yaml_recognizers.proofs.CommentsDepth.{gap_step, inline_step}
-use Rattle.yaml_recognizers.proofs.CommentsSound.{LineOf, line_sound}
-use Rattle.yaml_recognizers.proofs.Fronts.{taken_every}
-use Rattle.yaml_recognizers.proofs.GapsSound.{GapOf, gap_sound}
-use Rattle.yaml_recognizers.proofs.LineEnds.{line_parts, line_regrouped}
-use Rattle.yaml_recognizers.proofs.OneLineText.{gap_one_line}
-use Rattle.yaml_recognizers.proofs.Reading.{sound_is}
+use Rattle.yaml_recognizers.proofs.Separation.CommentsComplete.{solid_no_line}
+use Rattle.yaml_recognizers.proofs.Separation.CommentsDepth.{gap_step, inline_step}
+use Rattle.yaml_recognizers.proofs.Separation.CommentsSound.{LineOf, line_sound}
+use Rattle.yaml_recognizers.proofs.Basics.Prefixes.{taken_every}
+use Rattle.yaml_recognizers.proofs.Separation.GapsSound.{GapOf, gap_sound}
+use Rattle.yaml_recognizers.proofs.Separation.LineEnds.{line_parts, line_regrouped}
+use Rattle.yaml_recognizers.proofs.Flow.OneLineText.{gap_one_line}
+use Rattle.yaml_recognizers.proofs.Basics.Reading.{sound_is}
 use Rattle.yaml_scan.specs.Gaps.{IsGap, IsLinesGap, NoGap, NoLinesGap, after_comments, stuck, used_up}
 use Rattle.yaml_scan.specs.Lines.{IsLineEnd, IsSolidLine}
-use Rattle.yaml_scan.specs.Places.{AreSpaces, AreTaken}
+use Rattle.yaml_scan.specs.ScanPlaces.{AreSpaces, AreTaken}
 use Rattle.yaml_scan.specs.declared.gap.Gap.{Gap}
 use Rattle.yaml_scan.specs.declared.lines.Line.{Line}
 use Rattle.yaml_scan.proofs.LineSteps.{spaces_split_at}
@@ -46,6 +46,7 @@ white_unbroken (x ∷ xs) h =
     one : (x : ℕ) → white x ≡ true → no_break x ≡ true
     one x h = grind (arith, nat_tests)
 
+-- what is taken as whitespace is whitespace
 pub taken_white : (bs : List ℕ) (i j : ℕ) → AreTaken white bs i j → every white (between bs i j) ≡ true
 taken_white bs i j w = subst (λ t. every white t ≡ true) w.takes (taken_every white (rest bs i))
 
@@ -74,6 +75,7 @@ inline_is bs i j (c ∷ cs) u l b d e n = record {
   one_line = refl;
 }
 
+-- whitespace on a line is a gap
 pub inline_gap_is : (n : ℕ) (d : FlowContext) (bs : List ℕ) (i j : ℕ) → IsUtf8 bs → IsCharBoundary bs i → AreTaken white bs i j
     → read_gap n (one_line d) (rest bs i) ≡ inline_gap (taken white (rest bs i)) (dropped white (rest bs i)) → IsGap n d bs i (record { end = j; is_over_lines = false })
 inline_gap_is n d bs i j u b w reads =
@@ -90,9 +92,11 @@ inline_gap_is n d bs i j u b w reads =
       breaks = sym (ap not (white_unbroken (between bs i j) (taken_white bs i j w)));
     }
 
+-- in a key a gap is whitespace on the line
 pub reads_in_key : (n : ℕ) (d : FlowContext) (text : List ℕ) → one_line d ≡ true → read_gap n (one_line d) text ≡ inline_gap (taken white text) (dropped white text)
 reads_in_key n d text h = ap (λ k. read_gap n k text) h
 
+-- if the line doesn't end, a gap is whitespace on it
 pub reads_on_line : (n : ℕ) (d : FlowContext) (text : List ℕ) → one_line d ≡ false → read_line_end false text ≡ None
     → read_gap n (one_line d) text ≡ inline_gap (taken white text) (dropped white text)
 reads_on_line n d text h e = ap (λ k. read_gap n k text) h ∙ inline_step n text e
@@ -131,26 +135,30 @@ indented (suc n) (c ∷ cs) = elim (cases_Bool (c == 32)) [
     other true e = rw e (too_few n)
     other false e = too_few n
 
+-- whether a line is indented enough depends on its spaces
 pub indents_by_spaces : (n : ℕ) (text : List ℕ) → indents n (taken white text) ≡ nat_le n (spaces_before text)
 indents_by_spaces n text = ap (λ b. b && begins (spaces n) (taken white text)) (taken_every white text) ∙ indented n text
 
-spaces_left : (bs : List ℕ) (i j : ℕ) → IsUtf8 bs → AreSpaces bs i j → (behind : List ℕ) → rest bs j ≡ behind → dropped white (rest bs i) ≡ dropped white behind
-spaces_left bs i j u h behind e = ap (dropped white) (spaces_split_at bs i j h ∙ ap (λ t. spaces (j - i) ++ t) e) ∙ past (j - i) behind
+spaces_left : (bs : List ℕ) (i j : ℕ) → IsUtf8 bs → AreSpaces bs i j → (after : List ℕ) → rest bs j ≡ after → dropped white (rest bs i) ≡ dropped white after
+spaces_left bs i j u h after e = ap (dropped white) (spaces_split_at bs i j h ∙ ap (λ t. spaces (j - i) ++ t) e) ∙ past (j - i) after
   where
     past : (k : ℕ) (t : List ℕ) → dropped white (spaces k ++ t) ≡ dropped white t
     past zero t = refl
     past (suc k) t = past k t
 
+-- at the end of the text there is no gap over lines
 pub text_used_up : (n : ℕ) (bs : List ℕ) (at : ℕ) (line : Line) → IsUtf8 bs → IsSolidLine true bs at line → length bs ≤ line.first → NoLinesGap n bs at
 text_used_up n bs at line u h l =
     let none : dropped white (rest bs line.start) ≡ [] = spaces_left bs line.start line.first u h.spaces [] (rest-end bs line.first l) in
     inr (h.leaves ∙ white_line (rest bs line.start) h.solid none)
 
+-- before a line with too few spaces there is no gap over lines
 pub few_spaces : (n : ℕ) (bs : List ℕ) (at : ℕ) (line : Line) → IsSolidLine true bs at line → line.first - line.start < n → NoLinesGap n bs at
 few_spaces n bs at line h l =
     let s = h.spaces in
     inl (ap (λ t. indents n (taken white t)) h.leaves ∙ (indents_by_spaces n (rest bs line.start) ∙ (ap (nat_le n) s.counts ∙ lt-leb n (line.first - line.start) l)))
 
+-- before a line with enough spaces there is a gap over lines
 pub lines_gap_is : (n : ℕ) (bs : List ℕ) (at : ℕ) (line : Line) (end : ℕ) → IsUtf8 bs → IsSolidLine true bs at line → line.first < length bs → n ≤ line.first - line.start
     → AreTaken white bs line.first end → IsLinesGap n bs at (record { end = end; is_over_lines = true })
 lines_gap_is n bs at line end u h l m w =
@@ -177,16 +185,17 @@ lines_gap_is n bs at line end u h l m w =
 
 -- ---- a gap over lines
 
-lines_read : (n : ℕ) (d : FlowContext) (text : List ℕ) (e : LineEnd) (behind : List ℕ) → one_line d ≡ false → read_line_end false text ≡ Some (e, behind)
-    → read_gap n (one_line d) text ≡ lines_gap n text (e ∷ (all_comments true behind).0) (taken white (all_comments true behind).1) (dropped white (all_comments true behind).1)
-lines_read n d text e behind h r = ap (λ k. read_gap n k text) h ∙ gap_step n text e behind r
+lines_read : (n : ℕ) (d : FlowContext) (text : List ℕ) (e : LineEnd) (after : List ℕ) → one_line d ≡ false → read_line_end false text ≡ Some (e, after)
+    → read_gap n (one_line d) text ≡ lines_gap n text (e ∷ (all_comments true after).0) (taken white (all_comments true after).1) (dropped white (all_comments true after).1)
+lines_read n d text e after h r = ap (λ k. read_gap n k text) h ∙ gap_step n text e after r
 
-lines_found : (n : ℕ) (text : List ℕ) (es : List LineEnd) (lead behind : List ℕ) → indents n lead ≡ true → lines_gap n text es lead behind ≡ (Some (lines es lead), behind)
-lines_found n text es lead behind h = rw h refl
+lines_found : (n : ℕ) (text : List ℕ) (es : List LineEnd) (lead after : List ℕ) → indents n lead ≡ true → lines_gap n text es lead after ≡ (Some (lines es lead), after)
+lines_found n text es lead after h = rw h refl
 
-lines_none : (n : ℕ) (text : List ℕ) (es : List LineEnd) (lead behind : List ℕ) → indents n lead ≡ false → lines_gap n text es lead behind ≡ (None, text)
-lines_none n text es lead behind h = rw h refl
+lines_none : (n : ℕ) (text : List ℕ) (es : List LineEnd) (lead after : List ℕ) → indents n lead ≡ false → lines_gap n text es lead after ≡ (None, text)
+lines_none n text es lead after h = rw h refl
 
+-- a gap over lines is a gap
 pub gap_over_lines_is : (n : ℕ) (d : FlowContext) (bs : List ℕ) (i j : ℕ) (gap : Gap) → IsUtf8 bs → IsCharBoundary bs i → one_line d ≡ false → IsLineEnd false bs i j → IsLinesGap n bs j gap
     → IsGap n d bs i gap
 gap_over_lines_is n d bs i j gap u b k e h =
@@ -216,35 +225,36 @@ gap_over_lines_is n d bs i j gap u b k e h =
 blank_char : ℕ → Bool
 blank_char x = white x || line_break x
 
-line_front : (blank : List ℕ) (comment : Option (List ℕ)) (stop : Option Break) (behind : List ℕ) → every white blank ≡ true → comment_fits (not (is_empty blank)) comment ≡ true
+line_prefix : (blank : List ℕ) (comment : Option (List ℕ)) (stop : Option Break) (after : List ℕ) → every white blank ≡ true → comment_fits (not (is_empty blank)) comment ≡ true
     → not (is_empty ((blank ++ optional comment_text comment) ++ optional break_text stop)) ≡ true
-    → first blank_char (blank ++ (optional comment_text comment ++ (optional break_text stop ++ behind))) ≡ true
+    → first blank_char (blank ++ (optional comment_text comment ++ (optional break_text stop ++ after))) ≡ true
 unfolding blank_char
-line_front (c ∷ cs) comment stop behind w f s = or_left (white c) (line_break c) (and_parts (white c) (every white cs) w).0
-line_front [] (Some text) stop behind w f s = absurd (false≢true f)
-line_front [] None None behind w f s = absurd (false≢true s)
-line_front [] None (Some lf) behind w f s = refl
-line_front [] None (Some cr) behind w f s = refl
-line_front [] None (Some cr_lf) behind w f s = refl
+line_prefix (c ∷ cs) comment stop after w f s = or_left (white c) (line_break c) (and_parts (white c) (every white cs) w).0
+line_prefix [] (Some text) stop after w f s = absurd (false≢true f)
+line_prefix [] None None after w f s = absurd (false≢true s)
+line_prefix [] None (Some lf) after w f s = refl
+line_prefix [] None (Some cr) after w f s = refl
+line_prefix [] None (Some cr_lf) after w f s = refl
 
-front_of : (text : List ℕ) → first blank_char text ≡ true → (x : ℕ) × (xs : List ℕ) × (text ≡ x ∷ xs) × (white x || line_break x ≡ true)
+prefix_of : (text : List ℕ) → first blank_char text ≡ true → (x : ℕ) × (xs : List ℕ) × (text ≡ x ∷ xs) × (white x || line_break x ≡ true)
 unfolding blank_char
-front_of [] h = absurd (false≢true h)
-front_of (x ∷ xs) h = (x, xs, refl, h)
+prefix_of [] h = absurd (false≢true h)
+prefix_of (x ∷ xs) h = (x, xs, refl, h)
 
-blank_front : (text : List ℕ) (e : LineEnd) (behind : List ℕ) → read_line_end false text ≡ Some (e, behind) → (x : ℕ) × (xs : List ℕ) × (text ≡ x ∷ xs) × (white x || line_break x ≡ true)
-blank_front text e behind r =
-    let sound : LineOf false text e behind = sound_is (LineOf false text) (read_line_end false text) (e, behind) (line_sound false text) r in
-    let p = line_parts false e behind sound.1 in
-    front_of text (ap (first blank_char) (sound.0 ∙ line_regrouped e behind) ∙ line_front e.blank e.comment e.stop behind p.blank_white p.comment_fit p.some)
+blank_prefix : (text : List ℕ) (e : LineEnd) (after : List ℕ) → read_line_end false text ≡ Some (e, after) → (x : ℕ) × (xs : List ℕ) × (text ≡ x ∷ xs) × (white x || line_break x ≡ true)
+blank_prefix text e after r =
+    let sound : LineOf false text e after = sound_is (LineOf false text) (read_line_end false text) (e, after) (line_sound false text) r in
+    let p = line_parts false e after sound.1 in
+    prefix_of text (ap (first blank_char) (sound.0 ∙ line_regrouped e after) ∙ line_prefix e.blank e.comment e.stop after p.blank_white p.comment_fit p.some)
 
 few_gap : (n : ℕ) (d : FlowContext) (bs : List ℕ) (i j : ℕ) → one_line d ≡ false → IsLineEnd false bs i j → indents n (taken white (after_comments bs j)) ≡ false → NoGap n d (rest bs i)
 few_gap n d bs i j k e few =
-    let front = blank_front (rest bs i) e.line_end (rest bs j) e.reads in
-    stuck front.0 front.1 front.2 front.3
+    let prefix = blank_prefix (rest bs i) e.line_end (rest bs j) e.reads in
+    stuck prefix.0 prefix.1 prefix.2 prefix.3
     (lines_read n d (rest bs i) e.line_end (rest bs j) k e.reads
     ∙ lines_none n (rest bs i) (e.line_end ∷ (all_comments true (rest bs j)).0) (taken white (after_comments bs j)) (dropped white (after_comments bs j)) few)
 
+-- if a line ends and there is no gap over lines, there is none
 pub no_gap : (n : ℕ) (d : FlowContext) (bs : List ℕ) (i j : ℕ) → one_line d ≡ false → IsLineEnd false bs i j → NoLinesGap n bs j → NoGap n d (rest bs i)
 no_gap n d bs i j k e (inl few) = few_gap n d bs i j k e few
 no_gap n d bs i j k e (inr ended) = elim (cases_Bool (indents n (taken white (after_comments bs j)))) [

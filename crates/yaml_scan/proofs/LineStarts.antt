@@ -1,4 +1,4 @@
--- Whether a line starts at a place, by what stands before it.
+-- Whether a line starts at a place, by what comes before it.
 use Rattle.std.proofs.Common.{◌≡◌, ℕ, ◌+◌, ◌-◌, ◌<◌, ◌≤◌, Bool, true, false, List, [], ◌∷◌, ◌++◌, Some, refl, ap, sym, ◌∙◌, subst, arith, inl, inr, get_or, append_assoc, slice_range}
 use Rattle.std.specs.Prelude.{◌==◌, ◌↔◌, IsTrue}
 use lib.Utf8.{encode, encodes}
@@ -11,14 +11,14 @@ use Rattle.yaml_chars.specs.Classes.{line_break, white}
 use Rattle.yaml_chars.specs.Places.{rest, between}
 use Rattle.yaml_chars.proofs.Places.{between-append, between-nil, encodes-between, rest-between}
 use Rattle.yaml_chars.proofs.Runs.{blind-line_break, last_char, test-last_char}
-use Rattle.yaml_events.specs.Places.{line_starts, without_mark}
+use Rattle.yaml_events.specs.EventPlaces.{line_starts, without_mark}
 use Rattle.yaml_grammar.specs.Separation.{Break, break_text, lf, cr, cr_lf}
 use Rattle.yaml_grammar.specs.Texts.{every, is_empty, starts_line}
 use Rattle.yaml_recognizers.specs.Comments.{read_break}
-use Rattle.yaml_recognizers.proofs.Breaks.{break_sound, BreakOf}
-use Rattle.yaml_recognizers.proofs.LineStarts.{starts_joined}
-use Rattle.yaml_recognizers.proofs.Reading.{Sound}
-use Rattle.yaml_scan.specs.Places.{IsBreak, byte_order_mark}
+use Rattle.yaml_recognizers.proofs.Basics.Breaks.{break_sound, BreakOf}
+use Rattle.yaml_recognizers.proofs.Basics.LineStarts.{starts_joined}
+use Rattle.yaml_recognizers.proofs.Basics.Reading.{Sound}
+use Rattle.yaml_scan.specs.ScanPlaces.{IsBreak, byte_order_mark}
 use Rattle.yaml_scan.proofs.ByteSigns.{IsSign}
 
 -- ---- by the last character
@@ -44,17 +44,17 @@ mark_alone (y ∷ ys) x h = elim (cases_Bool (y == 0xfeff)) [
   | inr e ↦ rw e (starts_last (line_break y) ys x ∙ no_break_mark x h)
 ]
 
-whole_front : (bs : List ℕ) (i j : ℕ) (front : List ℕ) (x : ℕ) → IsUtf8 bs → i ≤ j → IsCharBoundary bs i → IsCharBoundary bs j → between bs i j ≡ front ++ x ∷ []
-    → between bs 0 j ≡ (between bs 0 i ++ front) ++ x ∷ []
-whole_front bs i j front x u l b d e =
-    between-append bs 0 i j u (omega arith) l (IsCharBoundary-start bs u) b d ∙ ap (λ t. between bs 0 i ++ t) e ∙ sym (append_assoc (between bs 0 i) front (x ∷ []))
+whole_prefix : (bs : List ℕ) (i j : ℕ) (prefix : List ℕ) (x : ℕ) → IsUtf8 bs → i ≤ j → IsCharBoundary bs i → IsCharBoundary bs j → between bs i j ≡ prefix ++ x ∷ []
+    → between bs 0 j ≡ (between bs 0 i ++ prefix) ++ x ∷ []
+whole_prefix bs i j prefix x u l b d e =
+    between-append bs 0 i j u (omega arith) l (IsCharBoundary-start bs u) b d ∙ ap (λ t. between bs 0 i ++ t) e ∙ sym (append_assoc (between bs 0 i) prefix (x ∷ []))
 
--- A character stands before the place: whether a line starts there is whether it is a break, unless
+-- A character comes before the place: whether a line starts there is whether it is a break, unless
 -- it is a byte order mark.
-pub starts_after : (bs : List ℕ) (i j : ℕ) (front : List ℕ) (x : ℕ) → IsUtf8 bs → i ≤ j → IsCharBoundary bs i → IsCharBoundary bs j → between bs i j ≡ front ++ x ∷ []
+pub starts_after : (bs : List ℕ) (i j : ℕ) (prefix : List ℕ) (x : ℕ) → IsUtf8 bs → i ≤ j → IsCharBoundary bs i → IsCharBoundary bs j → between bs i j ≡ prefix ++ x ∷ []
     → (x == 0xfeff) ≡ false → line_starts bs j ≡ line_break x
-starts_after bs i j front x u l b d e h =
-    ap (λ t. starts_line true (without_mark t)) (whole_front bs i j front x u l b d e) ∙ mark_last (between bs 0 i ++ front) x h
+starts_after bs i j prefix x u l b d e h =
+    ap (λ t. starts_line true (without_mark t)) (whole_prefix bs i j prefix x u l b d e) ∙ mark_last (between bs 0 i ++ prefix) x h
 
 -- no line starts after a sign
 pub starts_after_sign : (bs : List ℕ) (at x : ℕ) → IsUtf8 bs → IsCharBoundary bs at → IsSign bs at x → (x == 0xfeff) ≡ false → line_starts bs (at + 1) ≡ line_break x
@@ -64,7 +64,7 @@ starts_after_sign bs at x u b s h =
 
 -- ---- by a run
 
-last_of : (test : ℕ → Bool) (x : ℕ) (xs : List ℕ) → every test (x ∷ xs) ≡ true → (front : List ℕ) × (y : ℕ) × (x ∷ xs ≡ front ++ y ∷ []) × (test y ≡ true)
+last_of : (test : ℕ → Bool) (x : ℕ) (xs : List ℕ) → every test (x ∷ xs) ≡ true → (prefix : List ℕ) × (y : ℕ) × (x ∷ xs ≡ prefix ++ y ∷ []) × (test y ≡ true)
 last_of test x [] h = ([], x, refl, (and_parts (test x) true h).0)
 last_of test x (z ∷ zs) h =
     let later = last_of test z zs (and_parts (test x) (every test (z ∷ zs)) h).1 in
@@ -80,10 +80,11 @@ starts_after_run test bs i j u l b d h apart =
     let a = apart last.1 passes in
     starts_after bs i j last.0 last.1 u (omega arith) b d ends.splits a.1 ∙ a.0
   where
-    every_last : (test : ℕ → Bool) (front : List ℕ) (x : ℕ) → every test (front ++ x ∷ []) ≡ true → test x ≡ true
+    every_last : (test : ℕ → Bool) (prefix : List ℕ) (x : ℕ) → every test (prefix ++ x ∷ []) ≡ true → test x ≡ true
     every_last test [] x h = (and_parts (test x) true h).0
     every_last test (y ∷ ys) x h = every_last test ys x (and_parts (test y) (every test (ys ++ x ∷ [])) h).1
 
+-- whitespace is neither a break nor a byte order mark
 pub white_apart : (x : ℕ) → white x ≡ true → (line_break x ≡ false) × ((x == 0xfeff) ≡ false)
 white_apart x h = (grind (arith, nat_tests), grind (arith, nat_tests))
 
@@ -97,21 +98,23 @@ joined (x ∷ xs) ys h = elim (cases_Bool (x == 0xfeff)) [
 ]
 
 -- No line starts at the first place: whether one starts at the second is whether one starts after
--- what stands between them.
+-- what is between them.
 pub starts_on : (bs : List ℕ) (i j : ℕ) → IsUtf8 bs → i ≤ j → IsCharBoundary bs i → IsCharBoundary bs j → line_starts bs i ≡ false → starts_line false (between bs i j) ≡ line_starts bs j
 starts_on bs i j u l b d h =
     sym (ap (λ t. starts_line true (without_mark t)) (between-append bs 0 i j u (omega arith) l (IsCharBoundary-start bs u) b d) ∙ joined (between bs 0 i) (between bs i j) h)
 
 -- ---- after a break
 
+-- a line starts after a break
 pub break_ends : (xs : List ℕ) (b : Break) → starts_line true (without_mark (xs ++ break_text b)) ≡ true
 break_ends xs lf = mark_last xs 10 refl
 break_ends xs cr = mark_last xs 13 refl
 break_ends xs cr_lf = ap (λ t. starts_line true (without_mark t)) (sym (append_assoc xs (13 ∷ []) (10 ∷ []))) ∙ mark_last (xs ++ 13 ∷ []) 10 refl
 
-break_splits : (text : List ℕ) (b : Break) (behind : List ℕ) → read_break text ≡ Some (b, behind) → text ≡ break_text b ++ behind
-break_splits text b behind e = (let s : BreakOf text b behind = subst (Sound (BreakOf text)) e (break_sound text) in s).0
+break_splits : (text : List ℕ) (b : Break) (after : List ℕ) → read_break text ≡ Some (b, after) → text ≡ break_text b ++ after
+break_splits text b after e = (let s : BreakOf text b after = subst (Sound (BreakOf text)) e (break_sound text) in s).0
 
+-- the same at a place
 pub starts_after_break : (bs : List ℕ) (i j : ℕ) → IsUtf8 bs → IsCharBoundary bs i → IsBreak bs i j → line_starts bs j ≡ true
 starts_after_break bs i j u b h =
     let above = h.above in
@@ -123,9 +126,11 @@ starts_after_break bs i j u b h =
 
 -- ---- by the bytes before the place
 
-pub starts_at_front : (bs : List ℕ) (at : ℕ) → at ≡ 0 → true ≡ line_starts bs at
-starts_at_front bs at e = sym (ap (line_starts bs) e ∙ ap (λ t. starts_line true (without_mark t)) (between-nil bs 0))
+-- a line starts at place 0
+pub starts_at_beginning : (bs : List ℕ) (at : ℕ) → at ≡ 0 → true ≡ line_starts bs at
+starts_at_beginning bs at e = sym (ap (line_starts bs) e ∙ ap (λ t. starts_line true (without_mark t)) (between-nil bs 0))
 
+-- a line starts after a byte of a break
 pub starts_by_break : (bs : List ℕ) (at : ℕ) → IsUtf8 bs → IsCharBoundary bs at → 0 < at → line_break (get_or bs (at - 1) 0) ≡ true → true ≡ line_starts bs at
 starts_by_break bs at u b l h =
     let start = IsCharBoundary-start bs u in
@@ -138,6 +143,7 @@ mark_encoded : encodes (0xfeff ∷ []) ≡ byte_order_mark
 unfolding encode
 mark_encoded = refl
 
+-- after another byte a line starts only after a byte order mark
 pub starts_by_mark : (bs : List ℕ) (at : ℕ) (r : Bool) → IsUtf8 bs → IsCharBoundary bs at → 0 < at → line_break (get_or bs (at - 1) 0) ≡ false
     → IsTrue r ↔ (slice_range bs 0 at ≡ byte_order_mark) → r ≡ line_starts bs at
 starts_by_mark bs at r u b l h decides = elim (cases_Bool r) [
@@ -153,6 +159,6 @@ starts_by_mark bs at r u b l h decides = elim (cases_Bool r) [
       ]))
 ]
   where
-    filled : (front : List ℕ) (x : ℕ) → x ≡ 0xfeff → between bs 0 at ≡ front ++ x ∷ [] → (between bs 0 at ≡ 0xfeff ∷ [] → ⊥) → is_empty front ≡ false
+    filled : (prefix : List ℕ) (x : ℕ) → x ≡ 0xfeff → between bs 0 at ≡ prefix ++ x ∷ [] → (between bs 0 at ≡ 0xfeff ∷ [] → ⊥) → is_empty prefix ≡ false
     filled [] x e s n = absurd (n (s ∙ ap (λ y. y ∷ []) e))
     filled (y ∷ ys) x e s n = refl

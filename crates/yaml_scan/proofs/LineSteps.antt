@@ -1,4 +1,4 @@
--- The ends of lines and lines of comments at places, by what stands there.
+-- The ends of lines and lines of comments at places, by what is there.
 use Rattle.std.proofs.Common.{◌≡◌, ℕ, ◌+◌, ◌-◌, ◌<◌, ◌≤◌, Bool, true, false, List, [], ◌∷◌, ◌++◌, Option, Some, None, refl, ap, sym, ◌∙◌, subst, arith, length, inl, inr, append_assoc, length-append}
 use Rattle.std.specs.Prelude.{not, ◌&&◌, ◌||◌, ◌==◌}
 use Rattle.std.specs.Str.{IsUtf8, IsCharBoundary}
@@ -8,22 +8,22 @@ use Rattle.std.proofs.lemmas.Str.{IsCharBoundary-start}
 use Rattle.yaml_chars.specs.Classes.{nb, space, white}
 use Rattle.yaml_chars.specs.Places.{rest, between}
 use Rattle.yaml_chars.proofs.Places.{between-append, between-nil, char_at, rest-between, rest-end, same_place}
-use Rattle.yaml_events.specs.Places.{without_mark}
+use Rattle.yaml_events.specs.EventPlaces.{without_mark}
 use Rattle.yaml_grammar.specs.BlockScalars.{past_spaces, spaces_before}
 use Rattle.yaml_grammar.specs.Separation.{Break, LineEnd, break_text, comment_line_fits, comment_text, line_end_text, stop_fits}
 use Rattle.yaml_grammar.specs.Texts.{first, is_empty, optional, spaces, starts_line}
 use Rattle.yaml_recognizers.specs.CanonicalComments.{hash, is_line_end}
-use Rattle.yaml_recognizers.specs.Comments.{all_comments, closes_line, more_comments, read_behind_blank, read_line_end, read_stop, stopped}
+use Rattle.yaml_recognizers.specs.Comments.{all_comments, closes_line, more_comments, read_after_blank, read_line_end, read_stop, stopped}
 use Rattle.yaml_recognizers.specs.Ends.{solid}
-use Rattle.yaml_recognizers.specs.Fronts.{dropped, taken}
-use Rattle.yaml_recognizers.proofs.CommentsComplete.{no_line, not_line_end}
-use Rattle.yaml_recognizers.proofs.CommentsDepth.{comments_step}
-use Rattle.yaml_recognizers.proofs.CommentsSound.{LineOf, StopOf, line_sound, stop_sound}
-use Rattle.yaml_recognizers.proofs.Fronts.{every_space, spaces_split, taken_split}
-use Rattle.yaml_recognizers.proofs.LineEnds.{line_parts}
-use Rattle.yaml_recognizers.proofs.Reading.{sound_is}
+use Rattle.yaml_recognizers.specs.Prefixes.{dropped, taken}
+use Rattle.yaml_recognizers.proofs.Separation.CommentsComplete.{no_line, not_line_end}
+use Rattle.yaml_recognizers.proofs.Separation.CommentsDepth.{comments_step}
+use Rattle.yaml_recognizers.proofs.Separation.CommentsSound.{LineOf, StopOf, line_sound, stop_sound}
+use Rattle.yaml_recognizers.proofs.Basics.Prefixes.{every_space, spaces_split, taken_split}
+use Rattle.yaml_recognizers.proofs.Separation.LineEnds.{line_parts}
+use Rattle.yaml_recognizers.proofs.Basics.Reading.{sound_is}
 use Rattle.yaml_scan.specs.Lines.{IsCommentEnd, IsContentEnd, IsLineEnd, IsLineStart, IsSolidLine, past_comment}
-use Rattle.yaml_scan.specs.Places.{AreSpaces, AreTaken, IsStop}
+use Rattle.yaml_scan.specs.ScanPlaces.{AreSpaces, AreTaken, IsStop}
 use Rattle.yaml_scan.specs.declared.lines.Line.{Line}
 use Rattle.yaml_scan.proofs.ByteRuns.{first_at_end}
 use Rattle.yaml_scan.proofs.ByteSigns.{IsSign}
@@ -31,21 +31,23 @@ use Rattle.yaml_scan.proofs.LineStarts.{break_ends}
 
 -- ---- comments
 
+-- a `#` and the characters after it are a comment
 pub comment_there : (bs : List ℕ) (i j : ℕ) → IsSign bs i 35 → AreTaken nb bs (i + 1) j → IsCommentEnd bs i j
 comment_there bs i j s h = record { above = let above = h.above in omega arith; boundary = h.boundary; leaves = ap past_comment s.splits ∙ h.leaves }
 
 missing : (text : List ℕ) → first hash text ≡ false → past_comment text ≡ text
 missing text h = rw h refl
 
+-- without a `#` there is no comment
 pub comment_missing : (bs : List ℕ) (i : ℕ) → IsCharBoundary bs i → first hash (rest bs i) ≡ false → IsCommentEnd bs i i
 comment_missing bs i b h = record { above = omega arith; boundary = b; leaves = missing (rest bs i) h }
 
 -- ---- the content of a line
 
--- what follows white space, where a comment may stand
+-- what follows white space, where a comment may be
 record IsCommented (bol : Bool) (blank text : List ℕ) : Type 0 where
   comment : Option (List ℕ)
-  reads : read_behind_blank bol blank text ≡ stopped blank comment (read_stop (past_comment text))
+  reads : read_after_blank bol blank text ≡ stopped blank comment (read_stop (past_comment text))
   splits : text ≡ optional comment_text comment ++ past_comment text
 
 commented : (bol : Bool) (blank text : List ℕ) → bol || not (is_empty blank) ≡ true → IsCommented bol blank text
@@ -63,23 +65,24 @@ and_false : (b : Bool) → b && false ≡ false
 and_false true = refl
 and_false false = refl
 
-uncommented : (text : List ℕ) → read_behind_blank false [] text ≡ stopped [] None (read_stop text)
+uncommented : (text : List ℕ) → read_after_blank false [] text ≡ stopped [] None (read_stop text)
 uncommented [] = refl
 uncommented (c ∷ cs) = rw (and_false (c == 35)) refl
 
+-- whitespace and a comment are the content of a line's end
 pub content_commented : (bol : Bool) (bs : List ℕ) (i j k : ℕ) → IsUtf8 bs → IsCharBoundary bs i → AreTaken white bs i j → IsCommentEnd bs j k
     → bol || not (is_empty (between bs i j)) ≡ true → IsContentEnd bol bs i k
 content_commented bol bs i j k u b w h some =
     let found : IsCommented bol (between bs i j) (rest bs j) = commented bol (between bs i j) (rest bs j) some in
-    let behind : between bs j k ≡ optional comment_text found.comment =
+    let after : between bs j k ≡ optional comment_text found.comment =
     append_cancel_right (between bs j k) (optional comment_text found.comment) (rest bs k)
     (sym (rest-between bs j k u h.above w.boundary h.boundary) ∙ (found.splits ∙ ap (λ t. optional comment_text found.comment ++ t) h.leaves)) in
     record {
       blank = between bs i j;
       comment = found.comment;
-      reads = ap (λ t. read_behind_blank bol t (dropped white (rest bs i))) w.takes ∙ (ap (read_behind_blank bol (between bs i j)) w.leaves
+      reads = ap (λ t. read_after_blank bol t (dropped white (rest bs i))) w.takes ∙ (ap (read_after_blank bol (between bs i j)) w.leaves
           ∙ (found.reads ∙ ap (λ t. stopped (between bs i j) found.comment (read_stop t)) h.leaves));
-      spells = between-append bs i j k u w.above h.above b w.boundary h.boundary ∙ ap (λ t. between bs i j ++ t) behind;
+      spells = between-append bs i j k u w.above h.above b w.boundary h.boundary ∙ ap (λ t. between bs i j ++ t) after;
     }
 
 -- white space, one character at least
@@ -90,6 +93,7 @@ white_filled bs i j u l b d = go (between bs i j) (rest-between bs i j u (omega 
     go [] e = (let place : i ≡ j = same_place bs i j u b d e in absurd (omega arith))
     go (x ∷ xs) e = refl
 
+-- so is nothing, where no comment is allowed
 pub content_bare : (bs : List ℕ) (i j : ℕ) → IsUtf8 bs → IsCharBoundary bs i → j ≤ i → AreTaken white bs i j → IsContentEnd false bs i j
 content_bare bs i j u b l w =
     let e : i ≡ j = let above = w.above in omega arith in
@@ -97,7 +101,7 @@ content_bare bs i j u b l w =
     record {
       blank = [];
       comment = None;
-      reads = ap (λ t. read_behind_blank false t (dropped white (rest bs i))) (w.takes ∙ none) ∙ (ap (read_behind_blank false []) w.leaves ∙ uncommented (rest bs j));
+      reads = ap (λ t. read_after_blank false t (dropped white (rest bs i))) (w.takes ∙ none) ∙ (ap (read_after_blank false []) w.leaves ∙ uncommented (rest bs j));
       spells = none;
     }
 
@@ -117,16 +121,16 @@ end_spelled bol bs i j k has_break u l b d h s =
     rest-between bs i j u l b d ∙ (ap (λ t. t ++ rest bs j) h.spells ∙ (ap (λ t. (h.blank ++ optional comment_text h.comment) ++ t) (stop_spelled bs j k has_break s)
     ∙ sym (append_assoc (h.blank ++ optional comment_text h.comment) (optional break_text s.stop) (rest bs k))))
 
-stopped_empty : (blank : List ℕ) (comment : Option (List ℕ)) (stop : Option Break) (behind : List ℕ)
-    → is_empty (line_end_text (record { blank = blank; comment = comment; stop = stop })) ≡ true → stopped blank comment (Some (stop, behind)) ≡ None
-stopped_empty blank comment stop behind h = rw h refl
+stopped_empty : (blank : List ℕ) (comment : Option (List ℕ)) (stop : Option Break) (after : List ℕ)
+    → is_empty (line_end_text (record { blank = blank; comment = comment; stop = stop })) ≡ true → stopped blank comment (Some (stop, after)) ≡ None
+stopped_empty blank comment stop after h = rw h refl
 
-stopped_filled : (blank : List ℕ) (comment : Option (List ℕ)) (stop : Option Break) (behind : List ℕ)
+stopped_filled : (blank : List ℕ) (comment : Option (List ℕ)) (stop : Option Break) (after : List ℕ)
     → is_empty (line_end_text (record { blank = blank; comment = comment; stop = stop })) ≡ false
-    → stopped blank comment (Some (stop, behind)) ≡ Some (record { blank = blank; comment = comment; stop = stop }, behind)
-stopped_filled blank comment stop behind h = rw h refl
+    → stopped blank comment (Some (stop, after)) ≡ Some (record { blank = blank; comment = comment; stop = stop }, after)
+stopped_filled blank comment stop after h = rw h refl
 
--- nothing at all stands there
+-- nothing at all is there
 pub line_end_empty : (bol : Bool) (bs : List ℕ) (i j k : ℕ) (has_break : Bool) → IsUtf8 bs → i ≤ j → IsCharBoundary bs i → IsCharBoundary bs j → k ≡ i
     → IsContentEnd bol bs i j → IsStop bs j has_break k → read_line_end bol (rest bs i) ≡ None
 line_end_empty bol bs i j k has_break u l b d e h s =
@@ -134,6 +138,7 @@ line_end_empty bol bs i j k has_break u l b d e h s =
     h.reads ∙ (ap (stopped h.blank h.comment) s.reads
     ∙ stopped_empty h.blank h.comment s.stop (rest bs k) (none_left _ (rest bs k) (ap (rest bs) e ∙ spelled)))
 
+-- without a stop there is no end of a line
 pub line_end_none : (bol : Bool) (bs : List ℕ) (i j : ℕ) → IsContentEnd bol bs i j → read_stop (rest bs j) ≡ None → read_line_end bol (rest bs i) ≡ None
 line_end_none bol bs i j h s = h.reads ∙ ap (stopped h.blank h.comment) s
 
@@ -149,17 +154,18 @@ starts_after_end bs i k e u l b d spelled bol fits = go e.stop refl
     text : between bs i k ≡ line_end_text e
     text = append_cancel_right (between bs i k) (line_end_text e) (rest bs k) (sym (rest-between bs i k u l b d) ∙ spelled)
 
-    front : List ℕ
-    front = e.blank ++ optional comment_text e.comment
+    prefix : List ℕ
+    prefix = e.blank ++ optional comment_text e.comment
 
     go : (stop : Option Break) → e.stop ≡ stop → IsLineStart bs k
     go None is = inr (empty_is (rest bs k) (subst (λ s. stop_fits s (rest bs k) ≡ true) is (line_parts bol e (rest bs k) fits).stop_fit))
     go (Some br) is =
-        let whole : between bs 0 k ≡ (between bs 0 i ++ front) ++ break_text br =
+        let whole : between bs 0 k ≡ (between bs 0 i ++ prefix) ++ break_text br =
         between-append bs 0 i k u (omega arith) l (IsCharBoundary-start bs u) b d
-        ∙ (ap (λ t. between bs 0 i ++ t) (text ∙ ap (λ s. front ++ optional break_text s) is) ∙ sym (append_assoc (between bs 0 i) front (break_text br))) in
-        inl (ap (λ t. starts_line true (without_mark t)) whole ∙ break_ends (between bs 0 i ++ front) br)
+        ∙ (ap (λ t. between bs 0 i ++ t) (text ∙ ap (λ s. prefix ++ optional break_text s) is) ∙ sym (append_assoc (between bs 0 i) prefix (break_text br))) in
+        inl (ap (λ t. starts_line true (without_mark t)) whole ∙ break_ends (between bs 0 i ++ prefix) br)
 
+-- with a stop there is one
 pub line_end_there : (bol : Bool) (bs : List ℕ) (i j k : ℕ) (has_break : Bool) → IsUtf8 bs → i ≤ j → IsCharBoundary bs i → IsCharBoundary bs j → (k ≡ i → ⊥)
     → IsContentEnd bol bs i j → IsStop bs j has_break k → IsLineEnd bol bs i k
 line_end_there bol bs i j k has_break u l b d n h s =
@@ -177,13 +183,16 @@ line_end_there bol bs i j k has_break u l b d n h s =
 
 -- ---- comments, line by line
 
+-- after the end of a line come further comment lines
 pub comments_after : (bol : Bool) (bs : List ℕ) (i j : ℕ) → (h : IsLineEnd bol bs i j)
     → all_comments bol (rest bs i) ≡ (h.line_end ∷ (all_comments true (rest bs j)).0, (all_comments true (rest bs j)).1)
 comments_after bol bs i j h = comments_step bol (rest bs i) ∙ ap (more_comments (rest bs i) (λ t. all_comments true t)) h.reads
 
+-- where no line ends there are no comments
 pub no_comments_at : (bol : Bool) (text : List ℕ) → read_line_end bol text ≡ None → all_comments bol text ≡ ([], text)
 no_comments_at bol text h = comments_step bol text ∙ ap (more_comments text (λ t. all_comments true t)) h
 
+-- the rest of a text starts with the spaces there
 pub spaces_split_at : (bs : List ℕ) (i j : ℕ) → AreSpaces bs i j → rest bs i ≡ spaces (j - i) ++ rest bs j
 spaces_split_at bs i j h = spaces_split (rest bs i) ∙ (ap (λ k. spaces k ++ past_spaces (rest bs i)) h.counts ∙ ap (λ t. spaces (j - i) ++ t) h.leaves)
 
@@ -191,22 +200,25 @@ spaces_split_at bs i j h = spaces_split (rest bs i) ∙ (ap (λ k. spaces k ++ p
 pub solid_after_spaces : (bs : List ℕ) (i j : ℕ) → AreSpaces bs i j → first solid (rest bs j) ≡ true → is_line_end (rest bs i) ≡ false
 solid_after_spaces bs i j h s = ap is_line_end (spaces_split_at bs i j h) ∙ not_line_end (spaces (j - i)) (rest bs j) (every_space (j - i)) s
 
--- so far lines of comments stand from the one place to the other
+-- so far there are comment lines from the one place to the other
 pub record AreCommentLines (bs : List ℕ) (i j : ℕ) : Type 0 where
   pub above : i ≤ j
   pub boundary : IsCharBoundary bs j
   pub leaves : (all_comments true (rest bs i)).1 ≡ (all_comments true (rest bs j)).1
   pub starts : IsLineStart bs i → IsLineStart bs j
 
+-- no comment line is passed yet
 pub comment_lines_none : (bs : List ℕ) (i : ℕ) → IsCharBoundary bs i → AreCommentLines bs i i
 comment_lines_none bs i b = record { above = omega arith; boundary = b; leaves = refl; starts = λ h. h }
 
+-- one comment line more is passed
 pub comment_lines_more : (bs : List ℕ) (i j k : ℕ) → AreCommentLines bs i j → IsLineEnd true bs j k → AreCommentLines bs i k
 comment_lines_more bs i j k h e =
     let above = h.above in
     let further = e.above in
     record { above = omega arith; boundary = e.boundary; leaves = h.leaves ∙ ap (λ c. c.1) (comments_after true bs j k e); starts = λ _. e.starts }
 
+-- after comment lines and spaces comes a line with something solid
 pub solid_line_is : (bs : List ℕ) (i j k : ℕ) → AreCommentLines bs i j → AreSpaces bs j k → is_line_end (rest bs j) ≡ false
     → IsSolidLine true bs i (record { start = j; first = k })
 solid_line_is bs i j k h s n = record {
@@ -219,15 +231,18 @@ solid_line_is bs i j k h s n = record {
 
 -- ---- the line after a part
 
+-- the next solid line after the end of a line
 pub line_after_end : (bs : List ℕ) (i j : ℕ) (line : Line) → IsLineEnd false bs i j → IsSolidLine true bs j line → IsSolidLine false bs i line
 line_after_end bs i j line e h =
     let above = e.above in
     let further = h.above in
     record { above = omega arith; boundary = h.boundary; leaves = ap (λ c. c.1) (comments_after false bs i j e) ∙ h.leaves; solid = h.solid; spaces = h.spaces }
 
+-- if a solid line comes later, the comments close the line
 pub closes_after_end : (bs : List ℕ) (i j : ℕ) (line : Line) → IsLineEnd false bs i j → IsSolidLine true bs j line → closes_line (all_comments false (rest bs i)) ≡ true
 closes_after_end bs i j line e h = ap closes_line (comments_after false bs i j e) ∙ ap (λ t. not (is_line_end t)) h.leaves ∙ ap not h.solid
 
+-- at the end of the text the next line is empty
 pub line_at_end : (bs : List ℕ) (i : ℕ) → IsCharBoundary bs i → length bs ≤ i → read_line_end false (rest bs i) ≡ None → IsSolidLine false bs i (record { start = i; first = i })
 line_at_end bs i b l h =
     let none : rest bs i ≡ [] = rest-end bs i l in
@@ -247,9 +262,11 @@ line_at_end bs i b l h =
       };
     }
 
+-- at the end of the text the line is closed
 pub closes_at_end : (bs : List ℕ) (i : ℕ) → length bs ≤ i → read_line_end false (rest bs i) ≡ None → closes_line (all_comments false (rest bs i)) ≡ true
 closes_at_end bs i l h = ap closes_line (no_comments_at false (rest bs i) h ∙ ap (λ t. ([], t)) (rest-end bs i l))
 
+-- if the line goes on, it isn't closed
 pub open_line : (bs : List ℕ) (i : ℕ) → IsUtf8 bs → IsCharBoundary bs i → i < length bs → read_line_end false (rest bs i) ≡ None → closes_line (all_comments false (rest bs i)) ≡ false
 open_line bs i u b l h =
     let there = char_at bs i u b l in

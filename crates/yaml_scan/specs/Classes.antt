@@ -1,11 +1,12 @@
--- The classes of characters that bytes tell: those from U+0080 on are all in a class or all outside of it.
+-- The classes of characters that a table of bytes decides: those from U+0080 on are all in a class or all outside it.
 use Rattle.std.specs.Prelude.{◌≡◌, ℕ, ◌<◌, ◌≤◌, Bool, true, not, ◌&&◌, ◌||◌, ◌==◌, nat_lt, List, length, slice_index, codes}
 use Rattle.yaml_chars.specs.Classes.{is_in, nb, nb_json, white}
 use Rattle.yaml_grammar.specs.FlowScalars.{FlowContext, outer, inner, safe}
 use Rattle.yaml_scan.specs.declared.classes.Class.{Class}
 use Rattle.yaml_scan.specs.declared.classes.Class.TheVariants.{Words, WordsInside, SingleQuoted, DoubleQuoted, Line}
 
--- a safe character that is one byte, and neither `:` nor `#`: plain wherever it stands after the first character of a scalar
+-- a safe character that is one byte, and neither `:` nor `#`: plain wherever it comes after the first character of a
+-- scalar
 abbrev pub simple : FlowContext → ℕ → Bool
 simple c x = nat_lt x 128 && (safe c x && not (is_in x (codes ":#")))
 
@@ -13,10 +14,11 @@ simple c x = nat_lt x 128 && (safe c x && not (is_in x (codes ":#")))
 abbrev pub word : FlowContext → ℕ → Bool
 word c x = simple c x || white x
 
--- characters that stand for themselves in quotes
+-- characters that mean themselves in quotes
 abbrev pub single_quoted : ℕ → Bool
 single_quoted x = nb_json x && not (x == 39)
 
+-- characters that mean themselves in double quotes
 abbrev pub double_quoted : ℕ → Bool
 double_quoted x = nb_json x && not (is_in x (codes "\"\\"))
 
@@ -24,6 +26,7 @@ double_quoted x = nb_json x && not (is_in x (codes "\"\\"))
 abbrev pub line_ascii : ℕ → Bool
 line_ascii x = nat_lt x 128 && nb x
 
+-- the test of a class
 abbrev pub test_of : Class → ℕ → Bool
 test_of Words = word outer
 test_of WordsInside = word inner
@@ -31,7 +34,7 @@ test_of SingleQuoted = single_quoted
 test_of DoubleQuoted = double_quoted
 test_of Line = line_ascii
 
--- the bit of the table that tells them
+-- the bit of the table for these characters
 abbrev pub bit_of : Class → ℕ
 bit_of Words = 1
 bit_of WordsInside = 2

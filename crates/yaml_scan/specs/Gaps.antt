@@ -7,12 +7,12 @@ use Rattle.yaml_chars.specs.Places.{rest}
 use Rattle.yaml_grammar.specs.FlowScalars.{FlowContext, one_line}
 use Rattle.yaml_grammar.specs.Separation.{Sep, gap_text, indents}
 use Rattle.yaml_grammar.specs.Texts.{is_empty, starts_line}
-use Rattle.yaml_events.specs.Places.{line_starts}
+use Rattle.yaml_events.specs.EventPlaces.{line_starts}
 use Rattle.yaml_recognizers.specs.Comments.{all_comments}
-use Rattle.yaml_recognizers.specs.Fronts.{taken, dropped}
+use Rattle.yaml_recognizers.specs.Prefixes.{taken, dropped}
 use Rattle.yaml_recognizers.specs.Gaps.{read_gap}
 use Rattle.yaml_recognizers.specs.OneLine.{gap_on_one_line}
-use Rattle.yaml_scan.specs.Places.{unbroken_between}
+use Rattle.yaml_scan.specs.ScanPlaces.{unbroken_between}
 use Rattle.yaml_scan.specs.declared.gap.Gap.{Gap}
 
 -- what follows all comments from the place on, where a line starts

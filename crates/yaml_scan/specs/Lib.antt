@@ -1,4 +1,4 @@
-pub mod Places
+pub mod ScanPlaces
 pub mod Markers
 pub mod Lines
 pub mod Gaps

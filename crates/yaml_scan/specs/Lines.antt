@@ -7,11 +7,11 @@ use Rattle.yaml_chars.specs.Classes.{nb}
 use Rattle.yaml_chars.specs.Places.{rest, between}
 use Rattle.yaml_grammar.specs.Separation.{LineEnd, comment_text}
 use Rattle.yaml_grammar.specs.Texts.{first, optional}
-use Rattle.yaml_events.specs.Places.{line_starts}
+use Rattle.yaml_events.specs.EventPlaces.{line_starts}
 use Rattle.yaml_recognizers.specs.CanonicalComments.{hash, is_line_end}
 use Rattle.yaml_recognizers.specs.Comments.{read_stop, stopped, read_line_end, all_comments}
-use Rattle.yaml_recognizers.specs.Fronts.{dropped, past}
-use Rattle.yaml_scan.specs.Places.{AreSpaces}
+use Rattle.yaml_recognizers.specs.Prefixes.{dropped, past}
+use Rattle.yaml_scan.specs.ScanPlaces.{AreSpaces}
 use Rattle.yaml_scan.specs.declared.lines.Line.{Line}
 
 -- a line starts at the place, or the text ends there
@@ -22,12 +22,13 @@ IsLineStart text at = (line_starts text at ≡ true) ⊎ (rest text at ≡ [])
 abbrev pub past_comment : List ℕ → List ℕ
 past_comment text = if first hash text then dropped nb (past text) else text
 
+-- perhaps a comment is between the two places
 pub record IsCommentEnd (text : List ℕ) (at end : ℕ) : Type 0 where
   pub above : at ≤ end
   pub boundary : IsCharBoundary text end
   pub leaves : past_comment (rest text at) ≡ rest text end
 
--- White space and perhaps a comment stand between the two places, so that the line ends where a
+-- White space and perhaps a comment are between the two places, so that the line ends where a
 -- break or the text's end follows.
 pub record IsContentEnd (bol : Bool) (text : List ℕ) (at end : ℕ) : Type 0 where
   pub blank : List ℕ
@@ -36,7 +37,7 @@ pub record IsContentEnd (bol : Bool) (text : List ℕ) (at end : ℕ) : Type 0 w
   pub spells : between text at end ≡ blank ++ optional comment_text comment
 
 -- The end of a line: white space, perhaps a comment, and a break or the end of the text, not all
--- empty. Here bol tells whether a comment may stand at the place itself.
+-- empty. Here bol says whether a comment may be at the place itself.
 pub record IsLineEnd (bol : Bool) (text : List ℕ) (at end : ℕ) : Type 0 where
   pub above : at < end
   pub boundary : IsCharBoundary text end

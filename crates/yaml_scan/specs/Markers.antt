@@ -4,7 +4,7 @@ use Rattle.yaml_recognizers.specs.Signs.{dash, dot}
 use Rattle.yaml_scan.specs.declared.signs.Marker.{Marker}
 use Rattle.yaml_scan.specs.declared.signs.Marker.TheVariants.{DirectivesEnd, DocumentEnd}
 
--- the sign that stands there three times
+-- the sign that is there three times
 abbrev pub sign_of : Marker → ℕ
 sign_of DirectivesEnd = dash
 sign_of DocumentEnd = dot

@@ -3,9 +3,9 @@ ghost use Rattle.std.specs.Prelude.{◌≡◌, ◌≤◌, ◌↔◌, not, nat_le
 ghost use Rattle.std.specs.Str.{IsCharBoundary, chars};
 ghost use Rattle.yaml_chars.specs.Classes.{line_break};
 ghost use Rattle.yaml_chars.specs.Places.{rest, between};
-ghost use Rattle.yaml_events.specs.Places.{line_starts};
+ghost use Rattle.yaml_events.specs.EventPlaces.{line_starts};
 ghost use Rattle.yaml_recognizers.specs.Comments.{read_break, read_stop};
-ghost use Rattle.yaml_scan.specs.Places.{IsBreak, IsStop, byte_order_mark, unbroken_between};
+ghost use Rattle.yaml_scan.specs.ScanPlaces.{IsBreak, IsStop, byte_order_mark, unbroken_between};
 
 /// Returns the end of the break at `at`: a line feed, a carriage return, or both in this order
 /// (5.4, `b-break`). Returns None if there is no line break.

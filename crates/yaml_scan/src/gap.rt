@@ -3,7 +3,7 @@ ghost use Rattle.std.specs.Prelude.{◌≡◌, ◌≢◌, IfOk, IfErr};
 ghost use Rattle.std.specs.Str.{IsCharBoundary};
 ghost use Rattle.yaml_chars.specs.Places.{rest};
 ghost use Rattle.yaml_events.specs.Meant.{context_of};
-ghost use Rattle.yaml_events.specs.Places.{Refuses};
+ghost use Rattle.yaml_events.specs.EventPlaces.{Refuses};
 ghost use Rattle.yaml_grammar.specs.FlowScalars.{one_line};
 ghost use Rattle.yaml_scan.specs.Gaps.{IsGap, NoGap, IsLinesGap, NoLinesGap};
 
@@ -39,7 +39,8 @@ fn is_on_one_line(context: FlowContext) -> bool
 pub fn gap_end(text: &str, at: usize, n: u64, context: FlowContext) -> Result<Gap, ScanFault>
     requires { IsCharBoundary text.now at }
     ensures found { IfOk result (IsGap n (context_of context) text.now at) }
-    ensures none { IfErr result (λ fault. Refuses fault (NoGap n (context_of context) (rest text.now at))) }
+    ensures none { IfErr result (λ fault.
+        Refuses fault (NoGap n (context_of context) (rest text.now at))) }
     ensures memory { IfErr result (λ fault. fault ≢ ScanFault.OutOfMemory) }
 {
     let white = white_end(text, at);

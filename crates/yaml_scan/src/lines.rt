@@ -106,9 +106,11 @@ pub fn line_after(text: &str, at: usize) -> Option<Line>
     requires { IsCharBoundary text.now at }
     ensures found { IfSome result (IsSolidLine false text.now at) }
     ensures starts { IfSome result (λ line. IsLineStart text.now line.start) }
-    ensures closes { IfSome result (λ _. closes_line (all_comments false (rest text.now at)) ≡ true) }
+    ensures closes { IfSome result (λ _. closes_line (all_comments false (rest text.now at))
+        ≡ true) }
     ensures none { IfNone result (closes_line (all_comments false (rest text.now at)) ≡ false) }
-    ensures no_comments { IfNone result (all_comments false (rest text.now at) ≡ ([], rest text.now at)) }
+    ensures no_comments { IfNone result (all_comments false (rest text.now at)
+        ≡ ([], rest text.now at)) }
 {
     if let Some(next) = rest_of_line_end(text, at) {
         return Some(solid_line(text, next));

@@ -4,7 +4,7 @@ ghost use Rattle.std.specs.Str.{IsCharBoundary};
 ghost use Rattle.yaml_chars.specs.Classes.{nb, space, white};
 ghost use Rattle.yaml_chars.specs.Places.{rest, IsRun};
 ghost use Rattle.yaml_grammar.specs.Texts.{first};
-ghost use Rattle.yaml_scan.specs.Places.{AreSpaces, AreTaken, IsNb, nb_byte};
+ghost use Rattle.yaml_scan.specs.ScanPlaces.{AreSpaces, AreTaken, IsNb, nb_byte};
 
 use crate::classes::{Class, run_end};
 

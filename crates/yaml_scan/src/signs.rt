@@ -7,10 +7,10 @@ ghost use Rattle.yaml_events.specs.Meant.{context_of};
 ghost use Rattle.yaml_grammar.specs.FlowScalars.{safe};
 ghost use Rattle.yaml_grammar.specs.Texts.{first, marker};
 ghost use Rattle.yaml_recognizers.specs.Ends.{solid};
-ghost use Rattle.yaml_recognizers.specs.Fronts.{sign};
+ghost use Rattle.yaml_recognizers.specs.Prefixes.{sign};
 ghost use Rattle.yaml_recognizers.specs.Streams.{mark_at};
 ghost use Rattle.yaml_scan.specs.Markers.{sign_of};
-ghost use Rattle.yaml_scan.specs.Places.{is_sign, ends_word_byte};
+ghost use Rattle.yaml_scan.specs.ScanPlaces.{is_sign, ends_word_byte};
 
 use crate::runs::is_white;
 use yaml_chars::{flow_indicator, next_char};

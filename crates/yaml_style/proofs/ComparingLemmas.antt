@@ -14,22 +14,27 @@ use Rattle.yaml_style.specs.Comparing.{compared}
 
 -- ---- one character
 
+-- an equal character on both sides changes nothing
 pub same_char : (c d : ℕ) (xs ys : List ℕ) → c ≡ d → compared (c ∷ xs) true (d ∷ ys) ≡ compared xs true ys
 same_char c d xs ys e = rw (eq-eqb c d e) refl
 
+-- at different characters the comparison ends
 pub other_char : (c d : ℕ) (xs ys : List ℕ) → (c == d) ≡ false → compared (c ∷ xs) true (d ∷ ys) ≡ (c ∷ xs, false)
 other_char c d xs ys e = rw e refl
 
+-- nothing is left of the empty text
 pub nothing_left : (ys : List ℕ) → (compared [] true ys).0 ≡ []
 nothing_left [] = refl
 nothing_left (y ∷ ys) = refl
 
 -- ---- a prefix
 
+-- what comes after a common prefix is left
 pub prefix : (xs left : List ℕ) → compared (xs ++ left) true xs ≡ (left, true)
 prefix [] left = refl
 prefix (x ∷ xs) left = same_char x x (xs ++ left) xs refl ∙ prefix xs left
 
+-- if the two agree, what is written is a prefix of the text
 pub is_prefix : (text written left : List ℕ) → compared text true written ≡ (left, true) → text ≡ written ++ left
 is_prefix text [] left e = ap (λ (s : List ℕ × Bool). s.0) e
 is_prefix [] (c ∷ cs) left e = absurd (false≢true (ap (λ (s : List ℕ × Bool). s.1) e))
@@ -54,6 +59,7 @@ shares (d ∷ ds) (c ∷ cs) = by_test (d == c) refl (shares ds cs)
     by_test true e later = rw e (ap (λ xs. d ∷ xs) later)
     by_test false e later = rw e refl
 
+-- if they agree to the end, they are equal
 pub same_where : (text written : List ℕ) → (compared text true written).1 ≡ true → (compared text true written).0 ≡ [] → same_text text written ≡ true
 same_where [] [] agrees none = refl
 same_where [] (c ∷ cs) agrees none = absurd (false≢true agrees)
@@ -66,6 +72,7 @@ same_where (d ∷ ds) (c ∷ cs) agrees none = by_test (d == c) refl (same_where
         rw e (later (ap (λ (s : List ℕ × Bool). s.1) (sym step) ∙ agrees) (ap (λ (s : List ℕ × Bool). s.0) (sym step) ∙ none))
     by_test false e later = absurd (false≢true (ap (λ (s : List ℕ × Bool). s.1) (sym (other_char d c ds cs e)) ∙ agrees))
 
+-- equal texts agree to the end
 pub agrees_where_same : (text written : List ℕ) → same_text text written ≡ true → compared text true written ≡ ([], true)
 agrees_where_same [] [] e = refl
 agrees_where_same [] (c ∷ cs) e = absurd (false≢true e)
@@ -98,11 +105,13 @@ no_prefix bytes piece utf8 piece_utf8 lacks = by_test (compared (chars bytes) tr
 
 -- ---- the line on which a text first differs
 
+-- a text that agrees to the end is in the style
 pub in_style : (text written left : List ℕ) (agrees : Bool) → (left, agrees) ≡ compared text true written → agrees ≡ true → left ≡ [] → style_line text written ≡ None
 in_style text written left agrees e held none =
     let same = same_where text written (ap (λ (s : List ℕ × Bool). s.1) (sym e) ∙ held) (ap (λ (s : List ℕ × Bool). s.0) (sym e) ∙ none) in
     rw same refl
 
+-- any other isn't
 pub not_in_style : (text written left : List ℕ) (agrees : Bool) → (left, agrees) ≡ compared text true written → (agrees ≡ true → left ≡ [] → ⊥)
     → style_line text written ≡ Some (suc (breaks (common text written)))
 not_in_style text written left agrees e differs = elim (cases_Bool (same_text text written)) [
@@ -113,18 +122,20 @@ not_in_style text written left agrees e differs = elim (cases_Bool (same_text te
 
 -- ---- a text that ends with another
 
-pub record EndsWith (bytes front rest : List ℕ) : Type 0 where
+-- the bytes are some characters and then the rest
+pub record EndsWith (bytes prefix rest : List ℕ) : Type 0 where
   pub cut : IsCharBoundary bytes (length bytes - length rest)
   pub within : length rest ≤ length bytes
-  pub before : chars (take (length bytes - length rest) bytes) ≡ front
+  pub before : chars (take (length bytes - length rest) bytes) ≡ prefix
 
-pub ends_with : (bytes front rest : List ℕ) → IsUtf8 bytes → IsUtf8 rest → chars bytes ≡ front ++ chars rest → EndsWith bytes front rest
-ends_with bytes front rest utf8 rest_utf8 e =
-    let parts : bytes ≡ encodes front ++ rest = sym (encodes-chars bytes utf8) ∙ ap encodes e ∙ encodes-append front (chars rest) ∙ ap (λ x. encodes front ++ x) (encodes-chars rest rest_utf8) in
-    let size : length bytes - length rest ≡ length (encodes front) = omega (arith, ap length parts, length-append (encodes front) rest) in
-    let boundary : IsCharBoundary bytes (length bytes - length rest) = subst (λ n. IsCharBoundary bytes n) (sym size) (IsCharBoundary-at_seam bytes (encodes front) rest parts rest_utf8) in
-    let taken : take (length bytes - length rest) bytes ≡ encodes front = ap (λ n. take n bytes) size ∙ ap (take (length (encodes front))) parts ∙ take_at (encodes front) rest (length (encodes front)) refl in
-    let whole : chars (take (length bytes - length rest) bytes) ++ chars rest ≡ front ++ chars rest =
+-- bytes with these characters are so
+pub ends_with : (bytes prefix rest : List ℕ) → IsUtf8 bytes → IsUtf8 rest → chars bytes ≡ prefix ++ chars rest → EndsWith bytes prefix rest
+ends_with bytes prefix rest utf8 rest_utf8 e =
+    let parts : bytes ≡ encodes prefix ++ rest = sym (encodes-chars bytes utf8) ∙ ap encodes e ∙ encodes-append prefix (chars rest) ∙ ap (λ x. encodes prefix ++ x) (encodes-chars rest rest_utf8) in
+    let size : length bytes - length rest ≡ length (encodes prefix) = omega (arith, ap length parts, length-append (encodes prefix) rest) in
+    let boundary : IsCharBoundary bytes (length bytes - length rest) = subst (λ n. IsCharBoundary bytes n) (sym size) (IsCharBoundary-at_seam bytes (encodes prefix) rest parts rest_utf8) in
+    let taken : take (length bytes - length rest) bytes ≡ encodes prefix = ap (λ n. take n bytes) size ∙ ap (take (length (encodes prefix))) parts ∙ take_at (encodes prefix) rest (length (encodes prefix)) refl in
+    let whole : chars (take (length bytes - length rest) bytes) ++ chars rest ≡ prefix ++ chars rest =
     sym (chars-append (take (length bytes - length rest) bytes) rest (IsUtf8-take bytes (length bytes - length rest) utf8 boundary))
     ∙ ap chars (ap (λ x. x ++ rest) taken ∙ sym parts) ∙ e in
-    record { cut = boundary; within = omega (arith, ap length parts, length-append (encodes front) rest); before = append_cancel_right _ front (chars rest) whole }
+    record { cut = boundary; within = omega (arith, ap length parts, length-append (encodes prefix) rest); before = append_cancel_right _ prefix (chars rest) whole }

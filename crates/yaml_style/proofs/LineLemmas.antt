@@ -21,14 +21,14 @@ ends_no_break c cs h = no_break_ends (c == 10) (c == 13) (not (first (λ d. d ==
 is_no_break : (c : ℕ) → no_break c ≡ true → line_break c ≡ false
 is_no_break c h = elim (cases_Bool (line_break c)) [ inl e ↦ (let f : not (line_break c) ≡ false = ap not e in cc) | inr e ↦ e ]
 
--- ---- a break in front
+-- ---- a break before it
 
 -- LF doesn't come next
 no_feed : (cs : List ℕ) → slice_get cs 0 ≢ Some 10 → first (λ d. d == 10) cs ≡ false
 no_feed [] h = refl
 no_feed (c ∷ cs) h = elim (cases_Bool (c == 10)) [ inl e ↦ absurd (h (ap (λ x. Some x) (eqb-true c 10 e))) | inr e ↦ e ]
 
--- the break in front of a text, and what its lines are
+-- the break before a text, and what its lines are
 pub record HasBreak (tail brk after : List ℕ) : Type 0 where
   pub text : tail ≡ brk ++ after
   pub lines : lines tail ≡ brk ∷ lines after
@@ -36,6 +36,7 @@ pub record HasBreak (tail brk after : List ℕ) : Type 0 where
   pub content : content brk ≡ []
   pub whole : line_end brk ≡ brk
 
+-- a break, as characters
 pub has_break : (tail : List ℕ) (len : ℕ) (after : List ℕ) → StartsWithBreak tail len after → (brk : List ℕ) × HasBreak tail brk after
 has_break tail len after (cr_lf e size) =
     (13 ∷ 10 ∷ [], record { text = e; lines = ap lines e; breaks = ap breaks e; content = refl; whole = refl })
@@ -47,28 +48,28 @@ has_break tail len after (cr e alone size) =
     let count : breaks (13 ∷ after) ≡ suc (breaks after) = rw ends refl in
     (13 ∷ [], record { text = e; lines = ap lines e ∙ cut; breaks = ap breaks e ∙ count; content = refl; whole = refl })
 
--- ---- a line without a break in front
+-- ---- a line without a break before it
 
-lines_after : (front tail l : List ℕ) (ls : List (List ℕ)) → list_all no_break front ≡ true → lines tail ≡ l ∷ ls → lines (front ++ tail) ≡ (front ++ l) ∷ ls
+lines_after : (prefix tail l : List ℕ) (ls : List (List ℕ)) → list_all no_break prefix ≡ true → lines tail ≡ l ∷ ls → lines (prefix ++ tail) ≡ (prefix ++ l) ∷ ls
 lines_after [] tail l ls h e = e
 lines_after (c ∷ cs) tail l ls h e =
     let both = and_parts (no_break c) (list_all no_break cs) h in
     let later : lines (cs ++ tail) ≡ (cs ++ l) ∷ ls = lines_after cs tail l ls both.1 e in
     rw (ends_no_break c (cs ++ tail) both.0, later) refl
 
-breaks_after : (front tail : List ℕ) → list_all no_break front ≡ true → breaks (front ++ tail) ≡ breaks tail
+breaks_after : (prefix tail : List ℕ) → list_all no_break prefix ≡ true → breaks (prefix ++ tail) ≡ breaks tail
 breaks_after [] tail h = refl
 breaks_after (c ∷ cs) tail h =
     let both = and_parts (no_break c) (list_all no_break cs) h in
     rw (ends_no_break c (cs ++ tail) both.0) (breaks_after cs tail both.1)
 
-content_in_front : (front tail : List ℕ) → list_all no_break front ≡ true → content (front ++ tail) ≡ front ++ content tail
-content_in_front [] tail h = refl
-content_in_front (c ∷ cs) tail h =
+content_at_beginning : (prefix tail : List ℕ) → list_all no_break prefix ≡ true → content (prefix ++ tail) ≡ prefix ++ content tail
+content_at_beginning [] tail h = refl
+content_at_beginning (c ∷ cs) tail h =
     let both = and_parts (no_break c) (list_all no_break cs) h in
-    rw (is_no_break c both.0) (ap (λ x. c ∷ x) (content_in_front cs tail both.1))
+    rw (is_no_break c both.0) (ap (λ x. c ∷ x) (content_at_beginning cs tail both.1))
 
-end_after : (front tail : List ℕ) → list_all no_break front ≡ true → line_end (front ++ tail) ≡ line_end tail
+end_after : (prefix tail : List ℕ) → list_all no_break prefix ≡ true → line_end (prefix ++ tail) ≡ line_end tail
 end_after [] tail h = refl
 end_after (c ∷ cs) tail h =
     let both = and_parts (no_break c) (list_all no_break cs) h in
@@ -87,32 +88,36 @@ one_line (c ∷ d ∷ cs) h l =
 -- ---- the first line of a text
 
 -- its content and its break, and the text after them
-pub record IsFirstLine (text front brk after : List ℕ) : Type 0 where
-  pub cut : lines text ≡ (front ++ brk) ∷ lines after
-  pub content : content (front ++ brk) ≡ front
-  pub ending : line_end (front ++ brk) ≡ brk
+pub record IsFirstLine (text prefix brk after : List ℕ) : Type 0 where
+  pub cut : lines text ≡ (prefix ++ brk) ∷ lines after
+  pub content : content (prefix ++ brk) ≡ prefix
+  pub ending : line_end (prefix ++ brk) ≡ brk
 
-pub first_line : (front tail brk after : List ℕ) → NoBreak front → HasBreak tail brk after → IsFirstLine (front ++ tail) front brk after
-first_line front tail brk after none is =
-    let h : list_all no_break front ≡ true = list_all-from_AllPass no_break front none in
+-- the first line ends with its break
+pub first_line : (prefix tail brk after : List ℕ) → NoBreak prefix → HasBreak tail brk after → IsFirstLine (prefix ++ tail) prefix brk after
+first_line prefix tail brk after none is =
+    let h : list_all no_break prefix ≡ true = list_all-from_AllPass no_break prefix none in
     record {
-      cut = lines_after front tail brk (lines after) h is.lines;
-      content = content_in_front front brk h ∙ ap (λ x. front ++ x) is.content ∙ append-nil front;
-      ending = end_after front brk h ∙ is.whole;
+      cut = lines_after prefix tail brk (lines after) h is.lines;
+      content = content_at_beginning prefix brk h ∙ ap (λ x. prefix ++ x) is.content ∙ append-nil prefix;
+      ending = end_after prefix brk h ∙ is.whole;
     }
 
+-- a text without a break is one line
 pub last_line : (text : List ℕ) → NoBreak text → 0 < length text → IsFirstLine text text [] []
 last_line text none some =
     let h : list_all no_break text ≡ true = list_all-from_AllPass no_break text none in
     record {
       cut = one_line text h some ∙ ap (λ x. x ∷ []) (sym (append-nil text));
-      content = content_in_front text [] h ∙ append-nil text;
+      content = content_at_beginning text [] h ∙ append-nil text;
       ending = end_after text [] h;
     }
 
-pub one_more_break : (front tail brk after : List ℕ) → NoBreak front → HasBreak tail brk after → breaks (front ++ tail) ≡ suc (breaks after)
-one_more_break front tail brk after none is = breaks_after front tail (list_all-from_AllPass no_break front none) ∙ is.breaks
+-- a break more is counted
+pub one_more_break : (prefix tail brk after : List ℕ) → NoBreak prefix → HasBreak tail brk after → breaks (prefix ++ tail) ≡ suc (breaks after)
+one_more_break prefix tail brk after none is = breaks_after prefix tail (list_all-from_AllPass no_break prefix none) ∙ is.breaks
 
+-- without one there is none to count
 pub no_more_breaks : (text : List ℕ) → NoBreak text → breaks text ≡ 0
 no_more_breaks text none =
     ap breaks (sym (append-nil text)) ∙ breaks_after text [] (list_all-from_AllPass no_break text none)

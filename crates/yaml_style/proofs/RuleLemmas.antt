@@ -24,6 +24,7 @@ chars-one_ascii : (c : ℕ) → c < 128 → chars (c ∷ []) ≡ c ∷ []
 unfolding chars
 chars-one_ascii c low = rw (lt-ltb c 128 low) refl
 
+-- a byte of whitespace at the end is the last character
 pub white_at_end : (bs : List ℕ) (n c : ℕ) → IsUtf8 bs → c < 128 → white c ≡ true → IsCharBoundary bs (length bs - n) → drop (length bs - n) bs ≡ encode c ++ drop (length bs) bs
     → ends_in_white (chars bs) ≡ true
 white_at_end bs n c u low is b split =
@@ -34,7 +35,7 @@ white_at_end bs n c u low is b split =
     ap ends_in_white parts ∙ last-white (chars (take i bs)) c ∙ is
 
 -- neither ends the bytes of these characters
-no_white : (cs : List ℕ) → ((front : List ℕ) → encodes cs ≢ front ++ encode 32) → ((front : List ℕ) → encodes cs ≢ front ++ encode 9) → ends_in_white cs ≡ false
+no_white : (cs : List ℕ) → ((prefix : List ℕ) → encodes cs ≢ prefix ++ encode 32) → ((prefix : List ℕ) → encodes cs ≢ prefix ++ encode 9) → ends_in_white cs ≡ false
 unfolding encode
 no_white [] space tab = refl
 no_white (c ∷ []) space tab =
@@ -42,13 +43,14 @@ no_white (c ∷ []) space tab =
     (elim (cases_Bool (c == 32)) [ inl e ↦ absurd (space [] (ap (λ x. encodes (x ∷ [])) (eqb-true c 32 e))) | inr e ↦ e ])
     (elim (cases_Bool (c == 9)) [ inl e ↦ absurd (tab [] (ap (λ x. encodes (x ∷ [])) (eqb-true c 9 e))) | inr e ↦ e ])
 no_white (c ∷ d ∷ ds) space tab =
-    no_white (d ∷ ds) (λ front e. space (encode c ++ front) (ap (λ x. encode c ++ x) e ∙ sym (append_assoc (encode c) front (encode 32))))
-    (λ front e. tab (encode c ++ front) (ap (λ x. encode c ++ x) e ∙ sym (append_assoc (encode c) front (encode 9))))
+    no_white (d ∷ ds) (λ prefix e. space (encode c ++ prefix) (ap (λ x. encode c ++ x) e ∙ sym (append_assoc (encode c) prefix (encode 32))))
+    (λ prefix e. tab (encode c ++ prefix) (ap (λ x. encode c ++ x) e ∙ sym (append_assoc (encode c) prefix (encode 9))))
 
-pub no_white_at_end : (bs : List ℕ) → IsUtf8 bs → ((front : List ℕ) → bs ≢ front ++ encode 32) → ((front : List ℕ) → bs ≢ front ++ encode 9) → ends_in_white (chars bs) ≡ false
+-- without one the line doesn't end in whitespace
+pub no_white_at_end : (bs : List ℕ) → IsUtf8 bs → ((prefix : List ℕ) → bs ≢ prefix ++ encode 32) → ((prefix : List ℕ) → bs ≢ prefix ++ encode 9) → ends_in_white (chars bs) ≡ false
 no_white_at_end bs u space tab =
     let e = encodes-chars bs u in
-    no_white (chars bs) (λ front h. space front (sym e ∙ h)) (λ front h. tab front (sym e ∙ h))
+    no_white (chars bs) (λ prefix h. space prefix (sym e ∙ h)) (λ prefix h. tab prefix (sym e ∙ h))
 
 -- ---- another break than LF
 
@@ -68,6 +70,7 @@ feed_is_feed bs u = elim (cases_Bool (same_text bs (10 ∷ []))) [
   ]
 ]
 
+-- the end of a line is LF, or it isn't
 pub another_end : (bs : List ℕ) → IsUtf8 bs → not (pointwise eqb bs (10 ∷ [])) ≡ ends_otherwise (chars bs)
 another_end bs u = ap not (alike bs ∙ sym (feed_is_feed bs u))
   where
@@ -78,14 +81,17 @@ another_end bs u = ap not (alike bs ∙ sym (feed_is_feed bs u))
 
 -- ---- more than 120 code points
 
+-- a line of at most 120 bytes isn't long
 pub short_line : (bs : List ℕ) → IsUtf8 bs → length bs ≤ 120 → is_long (chars bs) ≡ false
 short_line bs u l = le-ltb 120 (length (chars bs)) (omega (arith, length-le-encodes (chars bs), ap length (encodes-chars bs u)))
 
 -- ---- findings, one after another
 
+-- a test that is equal finds the same
 pub found_same : (rule : Rule) (number : ℕ) {test result : Bool} → result ≡ test → found result rule number ≡ found test rule number
 found_same rule number same = ap (λ b. found b rule number) same
 
+-- three lists of findings, one after another
 pub all_three : (old a b c one two three : List Finding) → one ≡ old ++ a → two ≡ one ++ b → three ≡ two ++ c → three ≡ old ++ (a ++ b ++ c)
 all_three old a b c one two three first second third =
     third ∙ ap (λ x. x ++ c) (second ∙ ap (λ x. x ++ b) first ∙ append_assoc old a b) ∙ append_assoc old (a ++ b) c

@@ -12,24 +12,27 @@ use Rattle.yaml_grammar.specs.Texts.{is_empty}
 use Rattle.yaml_style.specs.Lines.{breaks}
 use Rattle.yaml_style.proofs.LineLemmas.{has_break, IsFirstLine, first_line, last_line, one_more_break}
 
+-- the text is split at its first break
 pub record IsSplit (text : List ℕ) (start len : ℕ) : Type 0 where
   pub line : IsFirstLine (chars text) (between text 0 start) (between text start (start + len)) (rest text (start + len))
   pub count : breaks (chars text) ≡ suc (breaks (rest text (start + len)))
 
+-- the break that was found splits it
 pub is_split : (text : List ℕ) (start len : ℕ) → IsUtf8 text → EndsLine text 0 start len → IsSplit text start len
 is_split text start len utf8 ends =
-    let front = between text 0 start in
+    let prefix = between text 0 start in
     let after = rest text (start + len) in
     let found = has_break (rest text start) len after ends.break in
-    let whole : chars text ≡ front ++ rest text start = rest-between text 0 start utf8 (omega arith) (IsCharBoundary-start text utf8) ends.end in
+    let whole : chars text ≡ prefix ++ rest text start = rest-between text 0 start utf8 (omega arith) (IsCharBoundary-start text utf8) ends.end in
     let tail : rest text start ≡ between text start (start + len) ++ after = rest-between text start (start + len) utf8 (omega arith) ends.end ends.next in
     let same : found.0 ≡ between text start (start + len) = append_cancel_right found.0 (between text start (start + len)) after (sym found.1.text ∙ tail) in
-    let line : IsFirstLine (chars text) front found.0 after = subst (λ t. IsFirstLine t front found.0 after) (sym whole) (first_line front (rest text start) found.0 after ends.line found.1) in
+    let line : IsFirstLine (chars text) prefix found.0 after = subst (λ t. IsFirstLine t prefix found.0 after) (sym whole) (first_line prefix (rest text start) found.0 after ends.line found.1) in
     record {
-      line = subst (λ brk. IsFirstLine (chars text) front brk after) same line;
-      count = ap breaks whole ∙ one_more_break front (rest text start) found.0 after ends.line found.1;
+      line = subst (λ brk. IsFirstLine (chars text) prefix brk after) same line;
+      count = ap breaks whole ∙ one_more_break prefix (rest text start) found.0 after ends.line found.1;
     }
 
+-- a break has at least a character
 pub break_len : (text : List ℕ) (len : ℕ) (after : List ℕ) → StartsWithBreak text len after → 1 ≤ len
 break_len text len after (cr_lf e size) = omega arith
 break_len text len after (lf e size) = omega arith
@@ -37,6 +40,7 @@ break_len text len after (cr e alone size) = omega arith
 
 -- ---- texts without bytes, and with some
 
+-- bytes that are not empty have a character
 pub some_chars : (bytes : List ℕ) → IsUtf8 bytes → 0 < length bytes → 0 < length (chars bytes)
 some_chars bytes utf8 some = go (chars bytes) (encodes-chars bytes utf8)
   where
@@ -44,10 +48,12 @@ some_chars bytes utf8 some = go (chars bytes) (encodes-chars bytes utf8)
     go [] e = absurd (omega (arith, ap (λ (x : List ℕ). length x) e, some))
     go (c ∷ cs) e = omega arith
 
+-- no bytes are the empty list
 pub no_bytes : (bytes : List ℕ) → (length bytes == 0) ≡ true → bytes ≡ []
 no_bytes [] e = refl
 no_bytes (b ∷ bs) e = absurd (omega (arith, eqb-true (length (b ∷ bs)) 0 e))
 
+-- a text is empty if it has no bytes
 pub empty_text : (bytes : List ℕ) → IsUtf8 bytes → (length bytes == 0) ≡ is_empty (chars bytes)
 empty_text bytes utf8 = elim (cases_Bool (length bytes == 0)) [
   | inl none ↦ none ∙ sym (ap is_empty (ap chars (no_bytes bytes none) ∙ chars-nil))
@@ -58,6 +64,7 @@ empty_text bytes utf8 = elim (cases_Bool (length bytes == 0)) [
     by_cases [] l = absurd (omega (arith, l))
     by_cases (c ∷ cs) l = refl
 
+-- no characters are the empty list
 pub no_chars : (cs : List ℕ) → is_empty cs ≡ true → cs ≡ []
 no_chars [] e = refl
 no_chars (c ∷ cs) e = cc

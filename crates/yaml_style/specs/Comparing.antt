@@ -1,5 +1,5 @@
--- A text compared with one that is written: what is left of the text after the longest prefix that both share, and whether all that is
--- written is that prefix.
+-- A text compared with one that is written: what is left of the text after the longest prefix that both share, and
+-- whether all that is written is that prefix.
 use Rattle.std.specs.Prelude.{ℕ, Bool, true, false, ◌==◌, List, [], ◌∷◌, if◌then◌else◌}
 
 -- what more is written, where so much of the text is left, and all that was written so far agreed with it or did not

@@ -2,10 +2,12 @@
 use Rattle.std.proofs.Common.{◌≡◌, ℕ, Bool, true, false, ◌==◌, List, [], ◌∷◌, ◌++◌, refl, sym, ap, ◌∙◌}
 use Rattle.yaml_style.specs.Comparing.{compared}
 
+-- nothing more is compared
 pub compared-none : (left : List ℕ) (agrees : Bool) → (left, agrees) ≡ compared left agrees []
 compared-none left true = refl
 compared-none left false = refl
 
+-- what is written in two pieces is compared as one
 pub compared-append : (left : List ℕ) (agrees : Bool) (xs ys : List ℕ)
     → compared left agrees (xs ++ ys) ≡ compared (compared left agrees xs).0 (compared left agrees xs).1 ys
 compared-append left false xs ys = refl

@@ -8,6 +8,7 @@ use Rattle.yaml_style.specs.declared.finding.Rule.{Rule}
 use Rattle.yaml_style.specs.declared.finding.Rule.TheVariants.{TrailingWhitespace, LineEnd, LongLine, NotInStyle}
 use Rattle.yaml_style.specs.Lines.{lines, content, line_end, breaks}
 
+-- the name of a rule
 abbrev pub name_of : Rule → List ℕ
 name_of TrailingWhitespace = codes "S1"
 name_of LineEnd = codes "S2"
@@ -36,13 +37,14 @@ common [] ds = []
 common (c ∷ cs) [] = []
 common (c ∷ cs) (d ∷ ds) = if c == d then c ∷ common cs ds else []
 
--- S4, of a text and that of its tree in the one style: the line on which they first differ. No break is cut in the middle there,
--- since the one style has no CR.
+-- S4, of a text and that of its tree in the one style: the line on which they first differ. No break is cut in the
+-- middle there, since the one style has no CR.
 abbrev pub style_line : List ℕ → List ℕ → Option ℕ
 style_line text styled = if same_text text styled then None else Some (suc (breaks (common text styled)))
 
 -- ---- the findings
 
+-- a finding, if the rule is broken
 abbrev pub found : Bool → Rule → ℕ → List Finding
 found false rule line = []
 found true rule line = record { rule = rule; line = line } ∷ []

@@ -84,8 +84,10 @@ fn compare<'a>(text: &'a str, written: &str) -> (&'a str, bool)
 
 /// What is left of a text that begins with this character.
 fn strip_char(text: &str, c: char) -> Option<&str>
-    ensures found { IfSome result (λ left. compared (chars text.now) true (c ∷ []) ≡ (chars left.now, true)) }
-    ensures none { IfNone result (compared (chars text.now) true (c ∷ []) ≡ (chars text.now, false)) }
+    ensures found { IfSome result (λ left. compared (chars text.now) true (c ∷ [])
+        ≡ (chars left.now, true)) }
+    ensures none { IfNone result (compared (chars text.now) true (c ∷ [])
+        ≡ (chars text.now, false)) }
 {
     let Some((first, len)) = next_char(text, 0) else {
         return None;
@@ -116,7 +118,8 @@ fn common_char(text: &str, other: &str, at: usize) -> Option<usize>
     ensures here { IfSome result (λ len. IsCharBoundary text.now (at + len)) }
     ensures there { IfSome result (λ len. IsCharBoundary other.now (at + len)) }
     ensures some { IfSome result (λ len. 0 < len) }
-    ensures none { IfNone result ((compared (rest text.now at) true (rest other.now at)).0 ≡ rest text.now at) }
+    ensures none { IfNone result ((compared (rest text.now at) true (rest other.now at)).0
+        ≡ rest text.now at) }
 {
     let Some((c, len)) = next_char(text, at) else {
         return None;

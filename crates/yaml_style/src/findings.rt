@@ -69,7 +69,7 @@ fn is_empty_text(text: &str) -> bool
 
 /// The part of a text before the rest that it ends with.
 fn before<'a>(text: &'a str, rest: &str) -> &'a str
-    requires { (front : List ℕ) × (chars text.now ≡ front ++ chars rest.now) }
+    requires { (prefix : List ℕ) × (chars text.now ≡ prefix ++ chars rest.now) }
     ensures parts { chars text.now ≡ chars result.now ++ chars rest.now }
     ensures within { length result.now ≤ length text.now }
 {

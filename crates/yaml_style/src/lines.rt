@@ -88,7 +88,8 @@ fn push_findings(
 ) -> Result<(), AllocError>
     requires content { content (line_chars line.now) ≡ chars line.now.content.now }
     requires ending { line_end (line_chars line.now) ≡ chars line.now.ending.now }
-    ensures { OnOk result (findings.new.items ≡ findings.old.items ++ on_line number (line_chars line.now)) }
+    ensures { OnOk result (findings.new.items ≡ findings.old.items
+        ++ on_line number (line_chars line.now)) }
 {
     push_where(
         findings,

@@ -7,9 +7,9 @@ use Rattle.yaml_chars.proofs.Places.{char_at_is}
 use Rattle.yaml_chars.proofs.next_char.Goals as goal
 
 -- the text's piece from `at` on begins with the character
-stands : (text piece behind : List ℕ) (at c len : ℕ) → IsUtf8 text → IsCharBoundary text at → piece ≡ drop at text → piece ≡ encode c ++ behind → len ≡ len_utf8 c → (rest text at ≡ c ∷ rest text (at + len)) × IsCharBoundary text (at + len)
-stands text piece behind at c len u b is_rest begins is_len =
-    let there = char_at_is text behind at c u b (sym is_rest ∙ begins) in
+stands : (text piece after : List ℕ) (at c len : ℕ) → IsUtf8 text → IsCharBoundary text at → piece ≡ drop at text → piece ≡ encode c ++ after → len ≡ len_utf8 c → (rest text at ≡ c ∷ rest text (at + len)) × IsCharBoundary text (at + len)
+stands text piece after at c len u b is_rest begins is_len =
+    let there = char_at_is text after at c u b (sym is_rest ∙ begins) in
     rw is_len (there.splits, there.boundary)
 
 pub returns-clause-char : goal.returns-clause-char

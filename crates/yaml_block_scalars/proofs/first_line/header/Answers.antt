@@ -1,7 +1,7 @@
 use Rattle.std.proofs.Common.{◌≡◌, ◌<◌, ◌⊎◌, ap, arith, get_or, inl, inr, length, sym}
 use Rattle.std.proofs.lemmas.Str.{IsCharBoundary-after_ascii}
 use Rattle.yaml_block_scalars.specs.Meant.{chomping_of}
-use Rattle.yaml_block_scalars.specs.Places.{IsHeaderEnd}
+use Rattle.yaml_block_scalars.specs.HeaderPlaces.{IsHeaderEnd}
 use Rattle.yaml_block_scalars.proofs.FirstLines.{header_at_end, header_open, header_there, header_unsigned}
 use Rattle.yaml_block_scalars.proofs.first_line.header.Goals as goal
 use Rattle.yaml_block_scalars.proofs.first_line.header.Goals.{else-sign-ne124-via-then-sign-ne124+else-sign-ne62, else-sign-ne124-via-else-sign-ne124}

@@ -4,7 +4,7 @@ use Rattle.std.specs.Prelude.{IfErr, IfOk}
 use Rattle.std.proofs.lemmas.Int.{to_z-of_z}
 use Rattle.std.proofs.lemmas.Result.{IfOk-weaker, err_from_is_err_and}
 use Rattle.yaml_chars.specs.Places.{rest}
-use Rattle.yaml_events.specs.Places.{Refuses}
+use Rattle.yaml_events.specs.EventPlaces.{Refuses}
 use Rattle.yaml_recognizers.specs.BlockScalarFacts.{NoBody}
 use Rattle.yaml_recognizers.specs.BlockScalars.{find_indent, gaps_at, lines_at}
 use Rattle.yaml_scan.specs.Lines.{IsLineStart}

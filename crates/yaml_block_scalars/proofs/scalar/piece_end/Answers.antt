@@ -5,10 +5,10 @@ use Rattle.yaml_block_scalars.proofs.Bodies.{piece_ended, piece_unfed}
 use Rattle.yaml_block_scalars.proofs.scalar.piece_end.Goals as goal
 
 pub returns-in_default : goal.returns-in_default
-returns-in_default c = λ l gs ls behind d e _ _.
-    piece_unfed (chomping_of c.args.chomping) gs l ls c.feeds_behind.result (rest c.args.text.now c.args.line.end) (rest c.args.text.now c.args.line.next) c.in_default.ensures (c.feeds_behind.ensures l d) e
+returns-in_default c = λ l gs ls after d e _ _.
+    piece_unfed (chomping_of c.args.chomping) gs l ls c.feeds_after.result (rest c.args.text.now c.args.line.end) (rest c.args.text.now c.args.line.next) c.in_default.ensures (c.feeds_after.ensures l d) e
 
 pub returns-in-Some-text_start : goal.returns-in-Some-text_start
-returns-in-Some-text_start c = λ l gs ls behind _ _ _ e.
+returns-in-Some-text_start c = λ l gs ls after _ _ _ e.
     let start : IsTextStart c.args.indent c.args.text.now c.args.line.next c.in-Some-text_start.field-0 = c.in-Some-text_start.ensures in
-    piece_ended c.args.indent (chomping_of c.args.chomping) (rest c.args.text.now c.args.line.next) behind gs l ls start.goes c.requires.past e
+    piece_ended c.args.indent (chomping_of c.args.chomping) (rest c.args.text.now c.args.line.next) after gs l ls start.goes c.requires.past e

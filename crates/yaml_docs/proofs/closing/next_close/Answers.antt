@@ -5,13 +5,13 @@ use Rattle.std.proofs.lemmas.Bool.Decides.{Decides-eqb}
 use Rattle.std.proofs.lemmas.List.{take_rest}
 use Rattle.yaml_grammar.specs.Closings.{ClosesAt}
 use Rattle.memchr.specs.Find.{OccursAt}
-use Rattle.yaml_docs.proofs.ClosingLines.{closing_line, line_and_closing_line, starts_behind, lies_within, closes_here, closes_behind, shown}
+use Rattle.yaml_docs.proofs.ClosingLines.{closing_line, line_and_closing_line, starts_after, lies_within, closes_here, closes_after, shown}
 use Rattle.yaml_docs.specs.NextClosing.{StartsLine}
 use Rattle.yaml_docs.proofs.closing.next_close.Goals as goal
 
--- a closing line, and so the start of a line behind it
+-- a closing line, and so the start of a line after it
 again : (bytes : List ℕ) (place : ℕ) → ClosesAt bytes place → StartsLine bytes place
-again bytes place closes = record { within = lies_within bytes place closes; line = starts_behind bytes place closes }
+again bytes place closes = record { within = lies_within bytes place closes; line = starts_after bytes place closes }
 
 pub returns-then-starts_with-clause-found : goal.returns-then-starts_with-clause-found
 returns-then-starts_with-clause-found c =
@@ -21,7 +21,7 @@ returns-then-starts_with-clause-found c =
     let starts : rest ≡ closing_line ++ drop 4 rest = (starts_is Decides-eqb rest closing_line c.starts_with.result c.starts_with.ensures.value).0 c.if-starts_with.true in
     let found : drop at bytes ≡ closing_line ++ drop 4 (drop at bytes) = subst (λ (xs : List ℕ). xs ≡ closing_line ++ drop 4 xs) (take_rest bytes at) starts in
     record {
-      behind = omega arith;
+      after = omega arith;
       closes = closes_here bytes at c.requires.within c.requires.line (drop 4 (drop at bytes)) found;
       first = λ other l k. elim (shown bytes at c.requires.within c.requires.line other l k) [
         | inl here ↦ omega (arith, here.2)
@@ -50,8 +50,8 @@ returns-clause-found c =
     let found = c.in-Some.ensures in
     let occurs : OccursAt (drop at bytes) line_and_closing_line line = subst (λ (xs : List ℕ). OccursAt xs line_and_closing_line line) (take_rest bytes at) found.1 in
     record {
-      behind = omega arith;
-      closes = closes_behind bytes at c.requires.within c.requires.line line occurs;
+      after = omega arith;
+      closes = closes_after bytes at c.requires.within c.requires.line line occurs;
       first = λ other l k. elim (shown bytes at c.requires.within c.requires.line other l k) [
         | inl here ↦
             absurd (false≢true (sym c.if-starts_with.false ∙ (starts_is Decides-eqb rest closing_line c.starts_with.result c.starts_with.ensures.value).1 here.0 (take_rest bytes at ∙ here.1)))

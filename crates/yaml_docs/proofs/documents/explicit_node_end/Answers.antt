@@ -1,6 +1,6 @@
 use Rattle.std.specs.Prelude.{None, false, true, ◌≡◌}
 use Rattle.yaml_chars.specs.Places.{rest}
-use Rattle.yaml_events.specs.Places.{line_starts}
+use Rattle.yaml_events.specs.EventPlaces.{line_starts}
 use Rattle.yaml_recognizers.specs.Comments.{all_comments}
 use Rattle.yaml_recognizers.specs.Recognizers.{document_node_at}
 use Rattle.yaml_recognizers.specs.Streams.{explicit_with}

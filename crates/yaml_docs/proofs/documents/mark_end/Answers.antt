@@ -5,7 +5,7 @@ use Rattle.std.proofs.lemmas.Str.{IsCharBoundary-start}
 use Rattle.std.specs.Char.{len_utf8}
 use Rattle.yaml_chars.specs.Places.{rest}
 use Rattle.yaml_chars.proofs.Places.{rest-end}
-use Rattle.yaml_docs.proofs.MarkEnds.{empty_text, mark_there, other_front}
+use Rattle.yaml_docs.proofs.MarkEnds.{empty_text, mark_there, other_prefix}
 use Rattle.yaml_docs.proofs.documents.mark_end.Goals as goal
 
 pub next_char-requires : goal.next_char-requires
@@ -21,9 +21,9 @@ pub returns-then-character-eq65279 : goal.returns-then-character-eq65279
 returns-then-character-eq65279 c =
     let text = c.args.text.now in
     let found = c.in-Some in
-    let front : rest text 0 ≡ 0xfeff ∷ rest text (0 + found.len) = found.ensures.char ∙ ap (λ (x : ℕ). x ∷ rest text (0 + found.len)) c.if-character-eq65279.true in
-    mark_there text found.len (rest text (0 + found.len)) c.utf8.text front (found.ensures.len ∙ ap len_utf8 c.if-character-eq65279.true)
+    let prefix : rest text 0 ≡ 0xfeff ∷ rest text (0 + found.len) = found.ensures.char ∙ ap (λ (x : ℕ). x ∷ rest text (0 + found.len)) c.if-character-eq65279.true in
+    mark_there text found.len (rest text (0 + found.len)) c.utf8.text prefix (found.ensures.len ∙ ap len_utf8 c.if-character-eq65279.true)
 
 pub returns-else-character-eq65279 : goal.returns-else-character-eq65279
 returns-else-character-eq65279 c =
-    other_front c.args.text.now c.in-Some.character (rest c.args.text.now (0 + c.in-Some.len)) c.utf8.text c.in-Some.ensures.char c.if-character-eq65279.false
+    other_prefix c.args.text.now c.in-Some.character (rest c.args.text.now (0 + c.in-Some.len)) c.utf8.text c.in-Some.ensures.char c.if-character-eq65279.false

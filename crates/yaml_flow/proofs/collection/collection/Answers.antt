@@ -4,7 +4,7 @@ use Rattle.std.specs.Prelude.{Bool, [], None}
 use Rattle.std.proofs.lemmas.List.Elements.{All-nil, All-same}
 use Rattle.yaml_chars.specs.Places.{rest}
 use Rattle.yaml_events.specs.Meant.{context_of}
-use Rattle.yaml_events.specs.Places.{line_starts}
+use Rattle.yaml_events.specs.EventPlaces.{line_starts}
 use Rattle.yaml_grammar.specs.FlowScalars.{inside}
 use Rattle.yaml_recognizers.specs.Recognizers.{flow_node_at}
 use Rattle.yaml_scan.proofs.Outcomes.{fault_passed}
@@ -13,7 +13,7 @@ use Rattle.yaml_flow.specs.declared.collection.Next.TheVariants.{Entry, Node, Af
 use Rattle.yaml_flow.specs.Frames.{AtEntry, AtNode, BeforeGap, Collection, EntryRead, EventList, LineMoves, NodeRead, Onward, Started, WholeRead, place_of}
 use Rattle.yaml_flow.proofs.FlowSteps.{inside_twice, opened}
 use Rattle.yaml_flow.proofs.Signs.{opener_starts}
-use Rattle.yaml_flow.proofs.Stacks.{Popped, Reading, at_next, front_stays, popped, refused, stack_none, starts_pop, starts_push, step, turn, whole_read}
+use Rattle.yaml_flow.proofs.Stacks.{Popped, Reading, at_next, prefix_stays, popped, refused, stack_none, starts_pop, starts_push, step, turn, whole_read}
 use Rattle.yaml_flow.proofs.collection.collection.Goals as goal
 
 pub pass-requires-clause-inside_line : goal.pass-requires-clause-inside_line
@@ -84,7 +84,7 @@ returns-in_err-next-in-Entry-clause-kept c =
     let text = c.args.text.now in
     let at = c.args.at in
     let whole : Collection = record { reads = flow_node_at n outside (line_starts text at) (rest text at); start = at; kept = c.args.events.now } in
-    λ k. front_stays n d text whole c.nodes.outer.items c.nodes.top c.nodes.next c.nodes.events c.entry.new.events k c.nodes.invariant.waits (c.entry.ensures.kept k)
+    λ k. prefix_stays n d text whole c.nodes.outer.items c.nodes.top c.nodes.next c.nodes.events c.entry.new.events k c.nodes.invariant.waits (c.entry.ensures.kept k)
 
 pub returns-in_err-next-in-Node-clause-none : goal.returns-in_err-next-in-Node-clause-none
 returns-in_err-next-in-Node-clause-none c =
@@ -112,7 +112,7 @@ returns-in_err-next-in-Node-clause-kept c =
     let text = c.args.text.now in
     let at = c.args.at in
     let whole : Collection = record { reads = flow_node_at n outside (line_starts text at) (rest text at); start = at; kept = c.args.events.now } in
-    λ k. front_stays n d text whole c.nodes.outer.items c.nodes.top c.nodes.next c.nodes.events c.node.new.events k c.nodes.invariant.waits (c.node.ensures.kept k)
+    λ k. prefix_stays n d text whole c.nodes.outer.items c.nodes.top c.nodes.next c.nodes.events c.node.new.events k c.nodes.invariant.waits (c.node.ensures.kept k)
 
 pub returns-in_err-next-in-AfterEntry-clause-none : goal.returns-in_err-next-in-AfterEntry-clause-none
 returns-in_err-next-in-AfterEntry-clause-none c =
@@ -140,7 +140,7 @@ returns-in_err-next-in-AfterEntry-clause-kept c =
     let text = c.args.text.now in
     let at = c.args.at in
     let whole : Collection = record { reads = flow_node_at n outside (line_starts text at) (rest text at); start = at; kept = c.args.events.now } in
-    λ k. front_stays n d text whole c.nodes.outer.items c.nodes.top c.nodes.next c.nodes.events c.after_entry.new.events k c.nodes.invariant.waits (c.after_entry.ensures.kept k)
+    λ k. prefix_stays n d text whole c.nodes.outer.items c.nodes.top c.nodes.next c.nodes.events c.after_entry.new.events k c.nodes.invariant.waits (c.after_entry.ensures.kept k)
 
 pub returns-in-None-clause-found : goal.returns-in-None-clause-found
 returns-in-None-clause-found c =
@@ -173,7 +173,7 @@ returns-in-None-clause-kept c =
     let text = c.args.text.now in
     let at = c.args.at in
     let whole : Collection = record { reads = flow_node_at n outside (line_starts text at) (rest text at); start = at; kept = c.args.events.now } in
-    λ k. front_stays n d text whole c.nodes.outer.items c.nodes.top c.nodes.next c.nodes.events c.nodes.events k c.nodes.invariant.waits (λ l. (l, refl))
+    λ k. prefix_stays n d text whole c.nodes.outer.items c.nodes.top c.nodes.next c.nodes.events c.nodes.events k c.nodes.invariant.waits (λ l. (l, refl))
 
 pub plug-requires-clause-start : goal.plug-requires-clause-start
 plug-requires-clause-start c =
@@ -224,7 +224,7 @@ returns-in_err-next-in-Some-clause-kept c =
     popped n d text whole c.nodes.outer.items c.pop.new.self.items c.nodes.top c.in-Some.frame c.nodes.next c.in-Closed.end c.nodes.events c.nodes.invariant.waits c.in-Closed.is
     c.in-Some.ensures.items in
     let room = p.kept in
-    λ k l. front_stays n d text whole c.nodes.outer.items c.nodes.top c.nodes.next c.nodes.events c.plug.new.events k c.nodes.invariant.waits
+    λ k l. prefix_stays n d text whole c.nodes.outer.items c.nodes.top c.nodes.next c.nodes.events c.plug.new.events k c.nodes.invariant.waits
     (c.plug.ensures.kept k (omega (arith, l, room))) l
 
 pub nodes-preserved-in_ok-next-in-Entry : goal.nodes-preserved-in_ok-next-in-Entry

@@ -2,7 +2,7 @@ use Rattle.std.proofs.Common.{◌≡◌, ◌+◌, ◌≤◌}
 use Rattle.std.specs.List.{All}
 use Rattle.yaml_chars.specs.Places.{rest}
 use Rattle.yaml_events.specs.Meant.{context_of}
-use Rattle.yaml_events.specs.Places.{line_starts}
+use Rattle.yaml_events.specs.EventPlaces.{line_starts}
 use Rattle.yaml_grammar.specs.FlowScalars.{inside}
 use Rattle.yaml_recognizers.specs.Recognizers.{flow_node_at}
 use Rattle.yaml_flow.specs.Frames.{Onward, Started, Waits, left, place_of}

@@ -2,7 +2,7 @@ use Rattle.std.proofs.Common.{sym, subst, ap, arith, ◌+◌, refl, length}
 use Rattle.std.specs.Prelude.{◌∷◌}
 use Rattle.yaml_chars.specs.Places.{rest}
 use Rattle.yaml_events.specs.Meant.{context_of}
-use Rattle.yaml_events.specs.Places.{line_starts}
+use Rattle.yaml_events.specs.EventPlaces.{line_starts}
 use Rattle.yaml_recognizers.specs.Recognizers.{flow_node_at}
 use Rattle.yaml_scan.proofs.Outcomes.{faults_so, ok_so, refuses}
 use Rattle.yaml_flow.specs.Frames.{BeforeGap, Collection, place_of}

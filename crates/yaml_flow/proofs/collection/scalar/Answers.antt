@@ -2,7 +2,7 @@ use Rattle.std.proofs.lemmas.Result.{err_from_is_err_and}
 use Rattle.std.proofs.Common.{◌≡◌, sym, subst, ap, ◌∙◌, arith}
 use Rattle.std.specs.Prelude.{not, [], ◌∷◌, ◌++◌}
 use Rattle.yaml_events.specs.Meant.{context_of}
-use Rattle.yaml_scan.specs.Places.{unbroken_between}
+use Rattle.yaml_scan.specs.ScanPlaces.{unbroken_between}
 use Rattle.yaml_scan.proofs.Outcomes.{fault_passed, faults_so, ok_so}
 use Rattle.yaml_flow.specs.FlowNodes.{NoFlowScalar}
 use Rattle.yaml_flow.specs.Frames.{LineMoves, place_of}

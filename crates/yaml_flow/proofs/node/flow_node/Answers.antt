@@ -1,6 +1,6 @@
 use Rattle.yaml_chars.specs.Places.{rest}
 use Rattle.yaml_events.specs.Meant.{context_of}
-use Rattle.yaml_events.specs.Places.{line_starts}
+use Rattle.yaml_events.specs.EventPlaces.{line_starts}
 use Rattle.yaml_grammar.specs.FlowNodes.{flow_events}
 use Rattle.yaml_scan.proofs.Outcomes.{refuses_so}
 use Rattle.yaml_flow.proofs.Appends.{appended_means}

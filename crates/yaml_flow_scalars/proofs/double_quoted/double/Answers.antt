@@ -9,8 +9,8 @@ use Rattle.yaml_events.specs.Meant.{context_of}
 use Rattle.yaml_scan.proofs.Outcomes.{fault_passed}
 use Rattle.yaml_flow_scalars.specs.Standing.{ScalarAt, NoScalarAt}
 use Rattle.yaml_flow_scalars.specs.DoubleScan.{double_value, raw_char}
-use Rattle.yaml_flow_scalars.proofs.DoublePlaces.{stands, stands_not, behind_byte, raw_run}
-use Rattle.yaml_flow_scalars.proofs.DoubleFound.{no_quote_at, none_behind, scalar_there, run_closes, not_verbatim}
+use Rattle.yaml_flow_scalars.proofs.DoublePlaces.{stands, stands_not, after_byte, raw_run}
+use Rattle.yaml_flow_scalars.proofs.DoubleFound.{no_quote_at, none_after, scalar_there, run_closes, not_verbatim}
 use Rattle.yaml_flow_scalars.proofs.InsideLines.{ends_inside_line}
 use Rattle.yaml_flow_scalars.proofs.Unbroken.{opened_unbroken, raw_unbroken, run_closed_unbroken}
 use Rattle.yaml_flow_scalars.proofs.double_quoted.double.Goals as goal
@@ -23,12 +23,12 @@ returns-then-not-stands_at-clause-none c =
 pub run_end-end-requires : goal.run_end-end-requires
 run_end-end-requires c =
     let there = stands c.args.text.now c.args.at 34 c.stands_at.result c.utf8.text c.requires (omega arith) c.stands_at.ensures c.if-not-stands_at.false in
-    behind_byte c.args.text.now c.args.at 34 c.utf8.text there.0 there.1 (omega arith)
+    after_byte c.args.text.now c.args.at 34 c.utf8.text there.0 there.1 (omega arith)
 
 pub range-requires-clause-start_boundary : goal.range-requires-clause-start_boundary
 range-requires-clause-start_boundary c = λ _.
     let there = stands c.args.text.now c.args.at 34 c.stands_at.result c.utf8.text c.requires (omega arith) c.stands_at.ensures c.if-not-stands_at.false in
-    behind_byte c.args.text.now c.args.at 34 c.utf8.text there.0 there.1 (omega arith)
+    after_byte c.args.text.now c.args.at 34 c.utf8.text there.0 there.1 (omega arith)
 
 pub returns-then-stands_at-clause-found : goal.returns-then-stands_at-clause-found
 returns-then-stands_at-clause-found c =
@@ -36,19 +36,19 @@ returns-then-stands_at-clause-found c =
     let d = context_of a.context in
     let text = a.text.now in
     let end = c.run_end-end.result in
-    let front = stands text a.at 34 c.stands_at.result c.utf8.text c.requires (omega arith) c.stands_at.ensures c.if-not-stands_at.false in
+    let prefix = stands text a.at 34 c.stands_at.result c.utf8.text c.requires (omega arith) c.stands_at.ensures c.if-not-stands_at.false in
     let back = stands text end 34 c.stands_at-2.result c.utf8.text c.run_end-end.ensures.boundary (omega arith) c.stands_at-2.ensures c.if-stands_at.true in
-    let start = behind_byte text a.at 34 c.utf8.text front.0 front.1 (omega arith) in
+    let start = after_byte text a.at 34 c.utf8.text prefix.0 prefix.1 (omega arith) in
     let run : IsRun raw_char text (a.at + 1) end = raw_run text (a.at + 1) end c.run_end-end.ensures in
     let above = run.above in
     subst (λ v. ScalarAt double_style a.n d text a.at (chars v) (end + 1)) (sym c.range.ensures.value)
-    (scalar_there a.n d text c.utf8.text a.at front.0 front.1 (chars (slice_range text (a.at + 1) end)) (end + 1) (omega arith) (behind_byte text end 34 c.utf8.text back.0 back.1 (omega arith))
+    (scalar_there a.n d text c.utf8.text a.at prefix.0 prefix.1 (chars (slice_range text (a.at + 1) end)) (end + 1) (omega arith) (after_byte text end 34 c.utf8.text back.0 back.1 (omega arith))
     (run_closes a.n d text c.utf8.text (a.at + 1) end start run back.0 back.1))
 
 pub unescaped-requires-clause-start : goal.unescaped-requires-clause-start
 unescaped-requires-clause-start c =
     let there = stands c.args.text.now c.args.at 34 c.stands_at.result c.utf8.text c.requires (omega arith) c.stands_at.ensures c.if-not-stands_at.false in
-    behind_byte c.args.text.now c.args.at 34 c.utf8.text there.0 there.1 (omega arith)
+    after_byte c.args.text.now c.args.at 34 c.utf8.text there.0 there.1 (omega arith)
 
 pub returns-in_err-value-clause-none : goal.returns-in_err-value-clause-none
 returns-in_err-value-clause-none c =
@@ -57,7 +57,7 @@ returns-in_err-value-clause-none c =
     let text = a.text.now in
     let there = stands c.args.text.now c.args.at 34 c.stands_at.result c.utf8.text c.requires (omega arith) c.stands_at.ensures c.if-not-stands_at.false in
     fault_passed c.from_residual.result c.in_err-value.field-0.0 (double_value a.n d (rest text (a.at + 1)) ≡ None) (NoScalarAt double_style a.n d text a.at)
-    (none_behind a.n d text c.utf8.text a.at there.0 there.1) c.in_err-value.ensures.err (err_from_is_err_and c.from_residual.result c.from_residual.ensures.1)
+    (none_after a.n d text c.utf8.text a.at there.0 there.1) c.in_err-value.ensures.err (err_from_is_err_and c.from_residual.result c.from_residual.ensures.1)
 
 pub returns-clause-found : goal.returns-clause-found
 returns-clause-found c =
@@ -76,7 +76,7 @@ returns-clause-borrowed c = λ verbatim.
     let text = a.text.now in
     let end = c.run_end-end.result in
     let there = stands text a.at 34 c.stands_at.result c.utf8.text c.requires (omega arith) c.stands_at.ensures c.if-not-stands_at.false in
-    let start = behind_byte text a.at 34 c.utf8.text there.0 there.1 (omega arith) in
+    let start = after_byte text a.at 34 c.utf8.text there.0 there.1 (omega arith) in
     absurd (not_verbatim a.n (context_of a.context) text c.utf8.text (a.at + 1) end (string_bytes c.in_ok-value.value) c.in_ok-value.end start (raw_run text (a.at + 1) end c.run_end-end.ensures)
     (stands_not text end 34 c.stands_at-2.result c.utf8.text (omega arith) c.stands_at-2.ensures c.if-stands_at.false) c.in_ok-value.ensures.ok verbatim)
 
@@ -85,12 +85,12 @@ returns-then-stands_at-clause-unbroken c = λ _.
     let a = c.args in
     let text = a.text.now in
     let end = c.run_end-end.result in
-    let front = stands text a.at 34 c.stands_at.result c.utf8.text c.requires (omega arith) c.stands_at.ensures c.if-not-stands_at.false in
+    let prefix = stands text a.at 34 c.stands_at.result c.utf8.text c.requires (omega arith) c.stands_at.ensures c.if-not-stands_at.false in
     let back = stands text end 34 c.stands_at-2.result c.utf8.text c.run_end-end.ensures.boundary (omega arith) c.stands_at-2.ensures c.if-stands_at.true in
     let run : IsRun raw_char text (a.at + 1) end = raw_run text (a.at + 1) end c.run_end-end.ensures in
     let above = run.above in
-    opened_unbroken text a.at (end + 1) 34 c.utf8.text (omega arith) (behind_byte text end 34 c.utf8.text back.0 back.1 (omega arith)) front.1 (omega arith) refl
-    (run_closed_unbroken raw_char text (a.at + 1) end 34 c.utf8.text (behind_byte text a.at 34 c.utf8.text front.0 front.1 (omega arith)) raw_unbroken run back.0 back.1 (omega arith) refl)
+    opened_unbroken text a.at (end + 1) 34 c.utf8.text (omega arith) (after_byte text end 34 c.utf8.text back.0 back.1 (omega arith)) prefix.1 (omega arith) refl
+    (run_closed_unbroken raw_char text (a.at + 1) end 34 c.utf8.text (after_byte text a.at 34 c.utf8.text prefix.0 prefix.1 (omega arith)) raw_unbroken run back.0 back.1 (omega arith) refl)
 
 pub returns-then-stands_at-clause-ends_inside_line : goal.returns-then-stands_at-clause-ends_inside_line
 returns-then-stands_at-clause-ends_inside_line c =

@@ -6,7 +6,7 @@ use Rattle.yaml_chars.specs.Places.{rest}
 use Rattle.yaml_events.specs.Meant.{context_of}
 use Rattle.yaml_scan.proofs.Outcomes.{fault_passed}
 use Rattle.yaml_flow_scalars.specs.DoubleScan.{double_value, NoJoinAt}
-use Rattle.yaml_flow_scalars.proofs.DoublePlaces.{behind_byte}
+use Rattle.yaml_flow_scalars.proofs.DoublePlaces.{after_byte}
 use Rattle.yaml_flow_scalars.proofs.DoubleAdds.{escape_adds, begins_escaped, escaped_join_adds}
 use Rattle.yaml_flow_scalars.proofs.double_quoted.push_escape.Goals as goal
 
@@ -16,10 +16,10 @@ returns-in-Some-clause-ok c =
     escape_adds c.args.n (context_of c.args.context) c.args.text.now (string_bytes c.args.value.now) (string_bytes c.push.new.self) c.args.at c.in-Some.escape.meant c.in-Some.escape.end c.utf8.text r.within r.backslash
     (IsUtf8-string_bytes c.args.value.now) c.in-Some.ensures.found c.in_ok-push.ensures.bytes
 
-pub line_behind-requires : goal.line_behind-requires
-line_behind-requires c =
+pub line_after-requires : goal.line_after-requires
+line_after-requires c =
     let r = c.requires in
-    behind_byte c.args.text.now c.args.at 92 c.utf8.text r.within r.backslash (omega arith)
+    after_byte c.args.text.now c.args.at 92 c.utf8.text r.within r.backslash (omega arith)
 
 pub returns-in_err-fold-clause-err : goal.returns-in_err-fold-clause-err
 returns-in_err-fold-clause-err c =

@@ -4,7 +4,7 @@ use Rattle.std.proofs.lemmas.Result.{IfOk-weaker, IfErr-weaker, err_from_is_err_
 use Rattle.std.proofs.lemmas.Str.{IsUtf8-string_bytes}
 use Rattle.yaml_chars.specs.Places.{rest, between}
 use Rattle.yaml_events.specs.Meant.{context_of}
-use Rattle.yaml_events.specs.Places.{Refuses}
+use Rattle.yaml_events.specs.EventPlaces.{Refuses}
 use Rattle.yaml_recognizers.specs.Joins.{at_break}
 use Rattle.yaml_scan.proofs.Outcomes.{fault_passed, refuses_so}
 use Rattle.yaml_flow_scalars.specs.Folds.{IsWhiteStart}

@@ -4,7 +4,7 @@ use Rattle.std.specs.String.{string_bytes}
 use Rattle.std.proofs.lemmas.Str.{IsUtf8-string_bytes}
 use Rattle.yaml_events.specs.Meant.{context_of}
 use Rattle.yaml_recognizers.specs.Joins.{at_break}
-use Rattle.yaml_flow_scalars.proofs.DoublePlaces.{stands, stands_not, byte_read, behind_byte, raw_run}
+use Rattle.yaml_flow_scalars.proofs.DoublePlaces.{stands, stands_not, byte_read, after_byte, raw_run}
 use Rattle.yaml_flow_scalars.proofs.DoubleAdds.{adds_more, run_adds, closes}
 use Rattle.yaml_flow_scalars.proofs.double_quoted.unescaped.Goals as goal
 
@@ -25,7 +25,7 @@ returns-clause-ok c =
         | inr past ↦ (let same : c.runs.end ≡ c.args.first = omega arith in
             absurd (c.requires.goes_on (subst (λ k. k < length text) same there.0) (subst (λ k. get_or text k 0 ≡ 34) same there.1)))
       ];
-      boundary = behind_byte text c.runs.end 34 c.utf8.text there.0 there.1 (omega arith);
+      boundary = after_byte text c.runs.end 34 c.utf8.text there.0 there.1 (omega arith);
       means = closes c.args.n d text c.args.start whole c.runs.end c.utf8.text (adds_more c.args.n d text [] c.args.start value c.runs.place whole c.runs.end i.value run) there.0 there.1;
     }
 

@@ -5,7 +5,7 @@ use Rattle.yaml_events.specs.Meant.{context_of}
 use Rattle.yaml_scan.specs.Classes.{word}
 use Rattle.yaml_flow_scalars.specs.PlainPlaces.{is_content, IsPlainPiece, NoPlainPiece}
 use Rattle.yaml_flow_scalars.proofs.PlainPieces.{goes_from, piece_more, run_ends_at}
-use Rattle.yaml_flow_scalars.proofs.PlainWords.{white_behind, words_more}
+use Rattle.yaml_flow_scalars.proofs.PlainWords.{white_after, words_more}
 use Rattle.yaml_flow_scalars.proofs.plain_scalar.plain_run_end.Goals as goal
 
 pub runs-init : goal.runs-init
@@ -37,7 +37,7 @@ runs-preserved c =
       boundary = piece.boundary;
       goes_on = piece_more d (is_content c.args.before) (nat_lt end words || after) text c.args.from words stop c.utf8.text c.requires w.boundary (omega (arith, i.above, w.above))
           (words_more d text end stop words c.utf8.text i.boundary run w (is_content c.args.before) after c.args.from c.requires i.above i.goes_on)
-          (white_behind d text end stop words c.utf8.text i.boundary run w) c.in-Some.next piece;
+          (white_after d text end stop words c.utf8.text i.boundary run w) c.in-Some.next piece;
     }
 
 pub returns-in-None : goal.returns-in-None
@@ -53,4 +53,4 @@ returns-in-None c =
     let after = is_content c.runs.before in
     run_ends_at d (is_content c.args.before) (nat_lt end words || after) text c.args.from words stop c.utf8.text c.requires w.boundary (omega (arith, i.above, w.above))
     (words_more d text end stop words c.utf8.text i.boundary run w (is_content c.args.before) after c.args.from c.requires i.above i.goes_on)
-    (white_behind d text end stop words c.utf8.text i.boundary run w) (subst (λ b. NoPlainPiece d b text stop) c.before_stop.ensures c.in-None.ensures.none)
+    (white_after d text end stop words c.utf8.text i.boundary run w) (subst (λ b. NoPlainPiece d b text stop) c.before_stop.ensures c.in-None.ensures.none)

@@ -15,7 +15,7 @@ lines-preserved c =
     let line = c.lines.line in
     let text = c.args.text.now in
     let next = c.in-Some.ensures.found in
-    let behind = next.behind in
+    let after = next.after in
     let before = next.before in
     let holds = next.holds in
     let pushed : chars (string_bytes c.push_str.new.self) ≡ chars (string_bytes c.lines.value) ++ (folded_break line.empties ++ between text line.start line.end) =
@@ -23,7 +23,7 @@ lines-preserved c =
     (IsUtf8-string_bytes c.lines.value) (IsUtf8-string_bytes c.push_fold.new.value) c.in_ok-push_fold.ensures c.in_ok-push_str.ensures.bytes c.range.ensures.value in
     record {
       order = omega arith;
-      start = next.front;
+      start = next.prefix;
       end = next.boundary;
       above = omega (arith, i.above);
       left = i.left ∙ (lines_step c.args.n (context_of c.args.context) text line.end c.in-Some.next.empties c.in-Some.next.start c.in-Some.next.end next).1;

@@ -3,7 +3,7 @@ use Rattle.std.specs.Cow.{cow_str_bytes}
 use Rattle.std.specs.Str.{chars}
 use Rattle.yaml_chars.specs.Places.{rest}
 use Rattle.yaml_events.specs.Meant.{context_of}
-use Rattle.yaml_events.specs.Places.{Refuses, line_starts}
+use Rattle.yaml_events.specs.EventPlaces.{Refuses, line_starts}
 use Rattle.yaml_grammar.specs.Events.{single_style}
 use Rattle.yaml_grammar.specs.Texts.{first}
 use Rattle.yaml_recognizers.specs.QuotedScalars.{quote}

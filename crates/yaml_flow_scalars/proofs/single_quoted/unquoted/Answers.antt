@@ -95,7 +95,7 @@ runs-preserved c =
     let f = c.in-Some.ensures.found in
     let above = s.run.above in
     let further = i.above in
-    let behind = f.above in
+    let after = f.above in
     record {
       above = omega arith;
       boundary = f.boundary;

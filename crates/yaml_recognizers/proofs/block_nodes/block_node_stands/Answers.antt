@@ -1,4 +1,4 @@
-use Rattle.yaml_recognizers.proofs.StandingNodes.{block_found, block_once, block_only, block_missing}
+use Rattle.yaml_recognizers.proofs.Meanings.StandingNodes.{block_found, block_once, block_only, block_missing}
 use Rattle.yaml_recognizers.proofs.block_nodes.block_node_stands.Goals as goal
 
 pub returns-clause-found : goal.returns-clause-found

@@ -1,4 +1,4 @@
-use Rattle.yaml_recognizers.proofs.Steps.{node_steps, items_steps, pairs_steps, pair_steps, indented_steps}
+use Rattle.yaml_recognizers.proofs.Meanings.Steps.{node_steps, items_steps, pairs_steps, pair_steps, indented_steps}
 use Rattle.yaml_recognizers.proofs.block_nodes.block_node_steps.Goals as goal
 
 pub returns-clause-node : goal.returns-clause-node

@@ -1,4 +1,4 @@
-use Rattle.yaml_recognizers.proofs.BlockScalarFacts.{block_once}
+use Rattle.yaml_recognizers.proofs.BlockScalars.BlockScalarFacts.{block_once}
 use Rattle.yaml_recognizers.proofs.block_scalars.block_scalar_once.Goals as goal
 
 pub returns : goal.returns

@@ -1,4 +1,4 @@
-use Rattle.yaml_recognizers.proofs.BlockScalarFacts.{body_is}
+use Rattle.yaml_recognizers.proofs.BlockScalars.BlockScalarFacts.{body_is}
 use Rattle.yaml_recognizers.proofs.block_scalars.body_found.Goals as goal
 
 pub returns : goal.returns

@@ -1,4 +1,4 @@
-use Rattle.yaml_recognizers.proofs.BlockScalarFacts.{header_is}
+use Rattle.yaml_recognizers.proofs.BlockScalars.BlockScalarFacts.{header_is}
 use Rattle.yaml_recognizers.proofs.block_scalars.header_found.Goals as goal
 
 pub returns : goal.returns

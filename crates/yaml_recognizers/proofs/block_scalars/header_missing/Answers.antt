@@ -1,4 +1,4 @@
-use Rattle.yaml_recognizers.proofs.BlockScalarFacts.{no_header}
+use Rattle.yaml_recognizers.proofs.BlockScalars.BlockScalarFacts.{no_header}
 use Rattle.yaml_recognizers.proofs.block_scalars.header_missing.Goals as goal
 
 pub returns : goal.returns

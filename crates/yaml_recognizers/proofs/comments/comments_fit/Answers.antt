@@ -1,5 +1,5 @@
 use Rattle.std.proofs.Common.{arith, length, suc}
-use Rattle.yaml_recognizers.proofs.CommentsSound.{all_sound, comments_end}
+use Rattle.yaml_recognizers.proofs.Separation.CommentsSound.{all_sound, comments_end}
 use Rattle.yaml_recognizers.proofs.comments.comments_fit.Goals as goal
 
 pub returns-clause-spells : goal.returns-clause-spells

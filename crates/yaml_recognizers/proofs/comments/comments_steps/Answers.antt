@@ -1,4 +1,4 @@
-use Rattle.yaml_recognizers.proofs.CommentsDepth.{comments_step, gap_step, inline_step}
+use Rattle.yaml_recognizers.proofs.Separation.CommentsDepth.{comments_step, gap_step, inline_step}
 use Rattle.yaml_recognizers.proofs.comments.comments_steps.Goals as goal
 
 pub returns-clause-comments : goal.returns-clause-comments

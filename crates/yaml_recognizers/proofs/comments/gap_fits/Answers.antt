@@ -1,4 +1,4 @@
-use Rattle.yaml_recognizers.proofs.GapsSound.{gap_sound}
+use Rattle.yaml_recognizers.proofs.Separation.GapsSound.{gap_sound}
 use Rattle.yaml_recognizers.proofs.comments.gap_fits.Goals as goal
 
 pub returns-clause-spells : goal.returns-clause-spells

@@ -1,4 +1,4 @@
-use Rattle.yaml_recognizers.proofs.GapsComplete.{gap_read}
+use Rattle.yaml_recognizers.proofs.Separation.GapsComplete.{gap_read}
 use Rattle.yaml_recognizers.proofs.comments.gap_found.Goals as goal
 
 pub returns : goal.returns

@@ -1,4 +1,4 @@
-use Rattle.yaml_recognizers.proofs.FlowNodesFound.{stands}
+use Rattle.yaml_recognizers.proofs.Flow.FlowNodesFound.{stands}
 use Rattle.yaml_recognizers.proofs.flow_nodes.flow_node_fits.Goals as goal
 
 pub returns : goal.returns

@@ -1,4 +1,4 @@
-use Rattle.yaml_recognizers.proofs.StandingNodes.{flow_found, flow_only, flow_missing}
+use Rattle.yaml_recognizers.proofs.Meanings.StandingNodes.{flow_found, flow_only, flow_missing}
 use Rattle.yaml_recognizers.proofs.flow_nodes.flow_node_stands.Goals as goal
 
 pub returns-clause-found : goal.returns-clause-found

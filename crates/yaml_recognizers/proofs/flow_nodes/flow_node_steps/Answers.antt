@@ -1,6 +1,6 @@
 use Rattle.yaml_recognizers.specs.FlowScalars.{read_scalar}
-use Rattle.yaml_recognizers.proofs.FlowNodesDepth.{flow_step, entries_step, entry_step, value_step}
-use Rattle.yaml_recognizers.proofs.ScalarsInNodes.{reads_scalars}
+use Rattle.yaml_recognizers.proofs.Flow.FlowNodesDepth.{flow_step, entries_step, entry_step, value_step}
+use Rattle.yaml_recognizers.proofs.Scalars.ScalarsInNodes.{reads_scalars}
 use Rattle.yaml_recognizers.proofs.flow_nodes.flow_node_steps.Goals as goal
 
 pub returns-clause-node : goal.returns-clause-node

@@ -1,4 +1,4 @@
-use Rattle.yaml_recognizers.proofs.WholeScalars.{is_scalar, no_scalar}
+use Rattle.yaml_recognizers.proofs.Scalars.WholeScalars.{is_scalar, no_scalar}
 use Rattle.yaml_recognizers.proofs.flow_scalars.flow_scalar_decided.Goals as goal
 
 pub returns-clause-found : goal.returns-clause-found

@@ -1,4 +1,4 @@
-use Rattle.yaml_recognizers.proofs.FlowScalars.{sound}
+use Rattle.yaml_recognizers.proofs.Scalars.FlowScalars.{sound}
 use Rattle.yaml_recognizers.proofs.flow_scalars.flow_scalar_fits.Goals as goal
 
 pub returns : goal.returns

@@ -1,4 +1,4 @@
-use Rattle.yaml_recognizers.proofs.FlowScalars.{scalar_read}
+use Rattle.yaml_recognizers.proofs.Scalars.FlowScalars.{scalar_read}
 use Rattle.yaml_recognizers.proofs.flow_scalars.flow_scalar_found.Goals as goal
 
 pub returns : goal.returns

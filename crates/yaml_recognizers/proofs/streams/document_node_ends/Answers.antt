@@ -1,4 +1,4 @@
-use Rattle.yaml_recognizers.proofs.DocumentEnds.{document_ends}
+use Rattle.yaml_recognizers.proofs.Documents.DocumentEnds.{document_ends}
 use Rattle.yaml_recognizers.proofs.streams.document_node_ends.Goals as goal
 
 pub returns : goal.returns

@@ -1,4 +1,4 @@
-use Rattle.yaml_recognizers.proofs.NestedStreams.{nested_presents, nested_means}
+use Rattle.yaml_recognizers.proofs.Documents.NestedStreams.{nested_presents, nested_means}
 use Rattle.yaml_recognizers.proofs.streams.stream_presents.Goals as goal
 
 pub returns-clause-presents : goal.returns-clause-presents

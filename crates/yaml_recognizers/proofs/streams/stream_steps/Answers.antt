@@ -1,4 +1,4 @@
-use Rattle.yaml_recognizers.proofs.Steps.{stream_steps, pieces_steps}
+use Rattle.yaml_recognizers.proofs.Meanings.Steps.{stream_steps, pieces_steps}
 use Rattle.yaml_recognizers.proofs.streams.stream_steps.Goals as goal
 
 pub returns-clause-stream : goal.returns-clause-stream

@@ -1,4 +1,4 @@
-use Rattle.yaml_recognizers.proofs.StreamsForm.{stream_form, stream_form_is}
+use Rattle.yaml_recognizers.proofs.Documents.StreamsForm.{stream_form, stream_form_is}
 use Rattle.yaml_recognizers.proofs.texts.canonical_forms.Goals as goal
 
 pub returns : goal.returns

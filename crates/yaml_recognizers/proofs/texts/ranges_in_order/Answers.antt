@@ -1,4 +1,4 @@
-use Rattle.yaml_recognizers.proofs.Ranges.{stream_ranges}
+use Rattle.yaml_recognizers.proofs.Meanings.Ranges.{stream_ranges}
 use Rattle.yaml_recognizers.proofs.texts.ranges_in_order.Goals as goal
 
 pub returns : goal.returns

@@ -1,10 +1,10 @@
 use Rattle.std.proofs.Common.{◌-◌, arith, ap, get_or, sym, ◌∙◌}
 use Rattle.yaml_chars.specs.Classes.{line_break}
-use Rattle.yaml_scan.proofs.LineStarts.{starts_at_front, starts_by_break, starts_by_mark}
+use Rattle.yaml_scan.proofs.LineStarts.{starts_at_beginning, starts_by_break, starts_by_mark}
 use Rattle.yaml_scan.proofs.breaks.line_starts.Goals as goal
 
 pub returns-then-at-eq0 : goal.returns-then-at-eq0
-returns-then-at-eq0 c = starts_at_front c.args.text.now c.args.at c.if-at-eq0.true
+returns-then-at-eq0 c = starts_at_beginning c.args.text.now c.args.at c.if-at-eq0.true
 
 pub returns-then-is_break : goal.returns-then-is_break
 returns-then-is_break c =

@@ -1,6 +1,6 @@
 use Rattle.std.proofs.Common.{◌<◌, arith, ap, sym, ◌∙◌, get_or, length}
 use Rattle.yaml_chars.specs.Classes.{nb}
-use Rattle.yaml_scan.specs.Places.{nb_byte}
+use Rattle.yaml_scan.specs.ScanPlaces.{nb_byte}
 use Rattle.yaml_scan.proofs.ByteRuns.{first_at_end, nb_by_byte}
 use Rattle.yaml_scan.proofs.LineRuns.{no_nb_by_byte}
 use Rattle.yaml_scan.proofs.runs.nb_at.Goals as goal

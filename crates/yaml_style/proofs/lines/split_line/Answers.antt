@@ -18,18 +18,18 @@ returns-in_default-clause-ending c = (is_last c.args.text.now c.utf8.text c.in_d
 
 pub returns-clause-cut : goal.returns-clause-cut
 returns-clause-cut c =
-    let front : c.range.result.now ≡ slice_range c.args.text.now 0 c.in-Some.start = c.range.ensures.value in
+    let prefix : c.range.result.now ≡ slice_range c.args.text.now 0 c.in-Some.start = c.range.ensures.value in
     let split = is_split c.args.text.now c.in-Some.start c.in-Some.len c.utf8.text c.in-Some.ensures.line in
-    rw (front, c.range-2.ensures.value, c.range_from.ensures.value) split.line.cut
+    rw (prefix, c.range-2.ensures.value, c.range_from.ensures.value) split.line.cut
 
 pub returns-clause-content : goal.returns-clause-content
 returns-clause-content c =
-    let front : c.range.result.now ≡ slice_range c.args.text.now 0 c.in-Some.start = c.range.ensures.value in
+    let prefix : c.range.result.now ≡ slice_range c.args.text.now 0 c.in-Some.start = c.range.ensures.value in
     let split = is_split c.args.text.now c.in-Some.start c.in-Some.len c.utf8.text c.in-Some.ensures.line in
-    rw (front, c.range-2.ensures.value) split.line.content
+    rw (prefix, c.range-2.ensures.value) split.line.content
 
 pub returns-clause-ending : goal.returns-clause-ending
 returns-clause-ending c =
-    let front : c.range.result.now ≡ slice_range c.args.text.now 0 c.in-Some.start = c.range.ensures.value in
+    let prefix : c.range.result.now ≡ slice_range c.args.text.now 0 c.in-Some.start = c.range.ensures.value in
     let split = is_split c.args.text.now c.in-Some.start c.in-Some.len c.utf8.text c.in-Some.ensures.line in
-    rw (front, c.range-2.ensures.value) split.line.ending
+    rw (prefix, c.range-2.ensures.value) split.line.ending

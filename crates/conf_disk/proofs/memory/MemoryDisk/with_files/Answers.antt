@@ -12,7 +12,7 @@ use Rattle.conf_disk.proofs.memory.MemoryDisk.with_files.Goals.{in-Some+in_ok-pu
 abbrev folder_of_changes : List Change → Folder
 folder_of_changes changes = folder_after (map step_of changes) empty_folder
 
--- with a file put behind these
+-- with a file put after these
 abbrev put : Vec ℕ Global → List Change → List Change
 put bytes changes = changes ++ CreateNext ∷ Append Next bytes ∷ Sync Next ∷ []
 

@@ -2,7 +2,7 @@ use Rattle.std.proofs.Common.{◌≡◌, refl, sym, ◌∙◌, ap, subst, arith,
 use Rattle.std.specs.Prelude.{Option, IfSome, true, false, not, suc, ◌&&◌, ◌⊎◌, List, Some, None, if◌then◌else◌, nat_le}
 use Rattle.std.proofs.lemmas.Bool.{and_parts, not_from_true, not_from_false}
 use Rattle.yaml_chars.specs.Places.{rest}
-use Rattle.yaml_recognizers.specs.Fronts.{sign}
+use Rattle.yaml_recognizers.specs.Prefixes.{sign}
 use Rattle.yaml_scan.proofs.Outcomes.{ok_so, err_so, faults_so, refuses}
 use Rattle.yaml_block.specs.States.{Before, BeforePart, BeforeLeaf, BeforeNode, BeforeNodeLine, Onward, Leads, Fails, is_shallow}
 use Rattle.yaml_block.specs.Frames.{is_colon}

@@ -2,15 +2,15 @@ use Rattle.std.proofs.Common.{◌≡◌, refl, sym, ◌∙◌, ap, subst, arith,
 use Rattle.std.specs.Prelude.{Option, Some, None, MatchOption}
 use Rattle.std.proofs.lemmas.Result.{err_from_is_err_and}
 use Rattle.yaml_chars.specs.Places.{rest}
-use Rattle.yaml_recognizers.proofs.StandingNodes.{block_missing}
-use Rattle.yaml_events.specs.Places.{line_starts}
+use Rattle.yaml_recognizers.proofs.Meanings.StandingNodes.{block_missing}
+use Rattle.yaml_events.specs.EventPlaces.{line_starts}
 use Rattle.yaml_scan.proofs.Outcomes.{fault_passed}
 use Rattle.yaml_block.proofs.EachNode.{each_node}
 use Rattle.yaml_block.specs.States.{BeforeNode, BeforePair, BeforePart, Fails, GoesOn, IsPlaced, Onward, is_shallow, left, place_of}
 use Rattle.yaml_block.specs.declared.frame.Next.{Next}
 use Rattle.yaml_block.specs.declared.frame.Next.TheVariants as next
 use Rattle.yaml_block.proofs.Stacks.{grown_grown}
-use Rattle.yaml_block.proofs.NodeLoop.{all, front_leads, front_fails, part_leads, part_fails, pair_leads, pair_fails, line_leads, line_ends}
+use Rattle.yaml_block.proofs.NodeLoop.{all, prefix_leads, prefix_fails, part_leads, part_fails, pair_leads, pair_fails, line_leads, line_ends}
 use Rattle.yaml_block.proofs.reader.Reader.node.Goals as goal
 
 pub returns-in_err-next-clause-missing : goal.returns-in_err-next-clause-missing
@@ -20,7 +20,7 @@ returns-in_err-next-clause-missing c =
     let shallow = is_shallow c.args.context in
     fault_passed c.from_residual.result c.in_err-next.field-0.0
     (Fails text (BeforeNode text m shallow c.args.at) c.args.self.now) _
-    (front_fails text m c.args.at shallow c.args.self.now c.requires.none_open) c.in_err-next.ensures.none
+    (prefix_fails text m c.args.at shallow c.args.self.now c.requires.none_open) c.in_err-next.ensures.none
     (err_from_is_err_and c.from_residual.result c.from_residual.ensures.1)
 
 pub returns-in_err-next-clause-none : goal.returns-in_err-next-clause-none
@@ -31,15 +31,15 @@ returns-in_err-next-clause-none c =
     fault_passed c.from_residual.result c.in_err-next.field-0.0
     (Fails text (BeforeNode text m shallow c.args.at) c.args.self.now) _
     (λ f. block_missing m shallow (line_starts text c.args.at) (rest text c.args.at)
-    (front_fails text m c.args.at shallow c.args.self.now c.requires.none_open f)) c.in_err-next.ensures.none
+    (prefix_fails text m c.args.at shallow c.args.self.now c.requires.none_open f)) c.in_err-next.ensures.none
     (err_from_is_err_and c.from_residual.result c.from_residual.ensures.1)
 
 pub parts-init : goal.parts-init
 parts-init c =
     let text = c.args.text.now in
     record {
-      goes_on = front_leads text c.args.least c.args.at (is_shallow c.args.context) c.args.self.now
-          c.requires.none_open c.front.new.self c.in_ok-next.next c.in_ok-next.ensures.leads;
+      goes_on = prefix_leads text c.args.least c.args.at (is_shallow c.args.context) c.args.self.now
+          c.requires.none_open c.prefix.new.self c.in_ok-next.next c.in_ok-next.ensures.leads;
       above = (c.in_ok-next.ensures.onward).above;
       placed = (c.in_ok-next.ensures.onward).placed;
       grown = c.in_ok-next.ensures.grown;

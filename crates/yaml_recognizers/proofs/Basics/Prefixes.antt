@@ -1,0 +1,65 @@
+-- Runs of characters at the start of a text.
+use Rattle.std.proofs.Common.{ap, inl, inr, refl, ◌∙◌, ◌≡◌}
+use Rattle.std.specs.Prelude.{Bool, List, [], false, suc, true, zero, ℕ, ◌++◌, ◌==◌, ◌∷◌}
+use Rattle.std.proofs.lemmas.Bool.{and_from, and_parts, cases_Bool, cond_both, eqb-true, false≢true}
+use Rattle.yaml_chars.specs.Classes.{space, white}
+use Rattle.yaml_grammar.specs.BlockScalars.{past_spaces, spaces_before}
+use Rattle.yaml_grammar.specs.Texts.{every, first, spaces}
+use Rattle.yaml_recognizers.specs.Prefixes.{dropped, past, taken}
+
+-- characters that pass, before one that doesn't, are taken whole
+pub taken_all : (p : ℕ → Bool) (xs rest : List ℕ) → every p xs ≡ true → first p rest ≡ false → taken p (xs ++ rest) ≡ xs
+taken_all p [] [] h f = refl
+taken_all p [] (c ∷ cs) h f = rw f
+taken_all p (x ∷ xs) rest h f = let q : (p x ≡ true) × (every p xs ≡ true) = and_parts _ _ h in rw q.0 (ap (λ ys. x ∷ ys) (taken_all p xs rest q.1 f))
+
+-- and what comes after them is left
+pub dropped_all : (p : ℕ → Bool) (xs rest : List ℕ) → every p xs ≡ true → first p rest ≡ false → dropped p (xs ++ rest) ≡ rest
+dropped_all p [] [] h f = refl
+dropped_all p [] (c ∷ cs) h f = rw f
+dropped_all p (x ∷ xs) rest h f = let q : (p x ≡ true) × (every p xs ≡ true) = and_parts _ _ h in rw q.0 (dropped_all p xs rest q.1 f)
+
+-- a text is its longest such prefix and what is left
+pub taken_split : (p : ℕ → Bool) (text : List ℕ) → text ≡ taken p text ++ dropped p text
+taken_split p [] = refl
+taken_split p (c ∷ cs) =
+    elim (cases_Bool (p c)) [ inl e ↦ rw e (ap (λ xs. c ∷ xs) (taken_split p cs)) | inr e ↦ rw e ]
+
+-- all characters that are taken pass
+pub taken_every : (p : ℕ → Bool) (text : List ℕ) → every p (taken p text) ≡ true
+taken_every p [] = refl
+taken_every p (c ∷ cs) =
+    cond_both (p c) (c ∷ taken p cs) [] (λ (t : List ℕ). every p t ≡ true) (λ e. and_from _ _ e (taken_every p cs)) (λ _. refl)
+
+-- a text that starts with a character is that character and the rest
+pub head_is : (k : ℕ) (text : List ℕ) → first (λ x. x == k) text ≡ true → text ≡ k ∷ past text
+head_is k [] h = absurd (false≢true h)
+head_is k (c ∷ cs) h = ap (λ x. x ∷ cs) (eqb-true c k h)
+
+-- ---- spaces
+
+-- the spaces before something else are counted
+pub spaces_counted : (k : ℕ) (rest : List ℕ) → first space rest ≡ false → spaces_before (spaces k ++ rest) ≡ k
+spaces_counted zero [] h = refl
+spaces_counted zero (c ∷ cs) h = rw h
+spaces_counted (suc k) rest h = ap suc (spaces_counted k rest h)
+
+-- and passed
+pub spaces_passed : (k : ℕ) (rest : List ℕ) → first space rest ≡ false → past_spaces (spaces k ++ rest) ≡ rest
+spaces_passed zero [] h = refl
+spaces_passed zero (c ∷ cs) h = rw h
+spaces_passed (suc k) rest h = spaces_passed k rest h
+
+-- a text is its spaces and what comes after them
+pub spaces_split : (text : List ℕ) → text ≡ spaces (spaces_before text) ++ past_spaces text
+spaces_split [] = refl
+spaces_split (c ∷ cs) = elim (cases_Bool (c == 32)) [
+  | inl e ↦ (let i : c ≡ 32 = eqb-true c 32 e in
+      let more : cs ≡ spaces (spaces_before cs) ++ past_spaces cs = spaces_split cs in rw e (ap (λ x. x ∷ cs) i ∙ ap (λ xs. 32 ∷ xs) more))
+  | inr e ↦ rw e
+]
+
+-- spaces are whitespace
+pub every_space : (k : ℕ) → every white (spaces k) ≡ true
+every_space zero = refl
+every_space (suc k) = every_space k

@@ -1,0 +1,206 @@
+-- The indentation: where a body fits its indentation is found, and where one is found it fits.
+use Rattle.std.proofs.Common.{◌≡◌, refl, sym, ◌∙◌, ap, subst, inl, inr, append_assoc, arith, ◌<◌, ◌≤◌}
+use Rattle.std.specs.Prelude.{ℕ, suc, ◌+◌, ◌-◌, max, Bool, true, false, not, ◌&&◌, ◌||◌, ◌==◌, nat_le, nat_lt, List, [], ◌∷◌, ◌++◌, Option, Some, None, if◌then◌else◌}
+use Rattle.std.proofs.lemmas.Bool.{and_parts, and_from, and_left, and_right, or_cases, or_parts, or_from, false≢true, eqb-true, eq-eqb, ne_eqb, cond-true, cond-false, ltb-true, ltb-false, leb-true, le-leb, le-ltb, not-true, not-false, not_from_true, cond_both, cases_Bool}
+use Rattle.yaml_chars.specs.Classes.{between, line_break, space, nb}
+use Rattle.yaml_grammar.specs.Texts.{first, begins, is_empty, spaces, optional, no_marker}
+use Rattle.yaml_grammar.specs.Separation.{break_text}
+use Rattle.yaml_grammar.specs.BlockScalars.{Gap, gaps_text, TextLine, text_lines_text, gaps_fit, text_line_fits, text_lines_fit, spaces_before, past_spaces, goes_on, widest, last_spaces, sets_none, detected, indent_fits}
+use Rattle.yaml_recognizers.proofs.BlockScalars.EmptyLines.{gaps_meet, fit_all, all_fit, GapsOf, gaps_of_read, gaps_of_sound, gaps_at_read}
+use Rattle.yaml_recognizers.proofs.Basics.Spaces.{spaces_added, spaces_past, no_space, nb_unbroken, marked, Ended, ended_parts, TextHere, text_goes_on}
+use Rattle.yaml_recognizers.proofs.BlockScalars.TextLines.{after_indent, TextLineParts, text_line_parts, line_here, LinesOf}
+use Rattle.yaml_recognizers.specs.BlockScalars.{gaps_at, all_gaps, indent_after, find_indent}
+
+-- ---- where the first line that holds something sets none
+
+-- at most q spaces come before such a line, where q is m at least and as many as all spaces up to the end
+none_shallow : (m q : ℕ) (text : List ℕ) → sets_none m text ≡ true → m ≤ q → last_spaces text ≤ q → spaces_before text ≤ q
+none_shallow m q text h l k = elim (or_cases (is_empty (past_spaces text) || nat_lt (spaces_before text) m) (not (no_marker true text)) h) [
+  | inl a ↦ elim (or_cases (is_empty (past_spaces text)) (nat_lt (spaces_before text) m) a) [
+    | inl e ↦ (let j : spaces_before text ≤ q = rw e at k in j)
+    | inr s ↦ (let j : spaces_before text < m = ltb-true (spaces_before text) m s in omega arith)
+  ]
+  | inr u ↦ (let z : spaces_before text ≡ 0 = marked text u in omega arith)
+]
+
+empty_first : (p : ℕ → Bool) (text : List ℕ) → is_empty text ≡ true → first p text ≡ false
+empty_first p [] h = refl
+empty_first p (c ∷ cs) h = absurd (false≢true h)
+
+none_text : (m q : ℕ) (text : List ℕ) → sets_none m text ≡ true → m ≤ q → (spaces_before text == q) && first nb (past_spaces text) && no_marker true text ≡ false
+none_text m q text h l = elim (or_cases (is_empty (past_spaces text) || nat_lt (spaces_before text) m) (not (no_marker true text)) h) [
+  | inl a ↦ elim (or_cases (is_empty (past_spaces text)) (nat_lt (spaces_before text) m) a) [
+    | inl e ↦ and_left _ _ (and_right (spaces_before text == q) (first nb (past_spaces text)) (empty_first nb (past_spaces text) e))
+    | inr s ↦ (let j : spaces_before text < m = ltb-true (spaces_before text) m s in and_left _ _ (and_left _ _ (ne_eqb (spaces_before text) q (λ e. absurd (omega arith)))))
+  ]
+  | inr u ↦ and_right _ _ (not-true (no_marker true text) u)
+]
+
+-- there is no text line of q
+none_ended : (m q : ℕ) (text : List ℕ) → sets_none m text ≡ true → m ≤ q → last_spaces text ≤ q → first line_break (past_spaces text) ≡ false → goes_on q text ≡ false
+none_ended m q text h l k n =
+    or_from _ _ (or_from _ _ (le-ltb q (spaces_before text) (none_shallow m q text h l k)) (and_right (nat_le (spaces_before text) q) (first line_break (past_spaces text)) n)) (none_text m q text h l)
+
+-- and no break comes after its spaces, where the scalar ends there
+none_unbroken : (m q : ℕ) (text : List ℕ) → sets_none m text ≡ true → m ≤ q → last_spaces text ≤ q → goes_on q text ≡ false → first line_break (past_spaces text) ≡ false
+none_unbroken m q text h l k n =
+    let e : Ended q text = ended_parts q text n in
+    let s : spaces_before text ≤ q = none_shallow m q text h l k in
+    subst (λ (b : Bool). b && first line_break (past_spaces text) ≡ false) (le-leb (spaces_before text) q s) e.no_gap
+
+-- ---- where it sets one
+
+-- a line of q spaces, and a character after them that is no space
+pub record SetsIndent (m q : ℕ) (text : List ℕ) : Type 0 where
+  pub counted : spaces_before text ≡ q
+  pub filled : first nb (past_spaces text) ≡ true
+  pub sets : sets_none m text ≡ false
+
+unspaced : (text rest : List ℕ) → not (begins (spaces 1) text) ≡ true → not (is_empty text) ≡ true → first space (text ++ rest) ≡ false
+unspaced [] rest h n = absurd (false≢true n)
+unspaced (c ∷ cs) rest h n = elim (cases_Bool (c == 32)) [
+  | inl e ↦ absurd (false≢true (rw e at h))
+  | inr e ↦ e
+]
+
+first_filled : (text : List ℕ) → first nb text ≡ true → is_empty text ≡ false
+first_filled [] h = absurd (false≢true h)
+first_filled (c ∷ cs) h = refl
+
+line_sets : (m q : ℕ) (line : List ℕ) → m ≤ q → TextHere q line → first space line ≡ false → SetsIndent m q (spaces q ++ line)
+line_sets m q line l t n =
+    let z : (spaces_before line ≡ 0) × (past_spaces line ≡ line) = no_space line n in
+    let s : spaces_before (spaces q ++ line) ≡ q = spaces_added q line ∙ (ap (λ (k : ℕ). q + k) z.0 ∙ omega arith) in
+    let p : past_spaces (spaces q ++ line) ≡ line = spaces_past q line ∙ z.1 in
+    record {
+      counted = s;
+      filled = ap (first nb) p ∙ t.filled;
+      sets = or_from _ _ (or_from _ _ (ap is_empty p ∙ first_filled line t.filled) (le-ltb (spaces_before (spaces q ++ line)) m (omega arith))) (not_from_true _ t.unmarked);
+    }
+
+nb_break : (text : List ℕ) → first nb text ≡ true → first line_break text ≡ false
+nb_break [] h = refl
+nb_break (c ∷ cs) h = nb_unbroken c h
+
+-- ---- where a body fits its indentation is found
+
+found_none : (m q : ℕ) (gaps : List Gap) (rest : List ℕ) → detected m q gaps [] rest ≡ true → gaps_fit q gaps rest ≡ true → goes_on q rest ≡ false
+    → find_indent None m (gaps_text gaps ++ rest) ≡ Some q
+found_none m q gaps rest d f n =
+    let p : (q == max m (max (widest gaps) (last_spaces rest)) ≡ true) × (sets_none m rest ≡ true) = and_parts _ _ d in
+    let i : q ≡ max m (max (widest gaps) (last_spaces rest)) = eqb-true q (max m (max (widest gaps) (last_spaces rest))) p.0 in
+    let b : first line_break (past_spaces rest) ≡ false = none_unbroken m q rest p.1 (omega arith) (omega arith) n in
+    let a : all_gaps (gaps_text gaps ++ rest) ≡ (gaps, rest) = gaps_of_read (λ _. true) gaps rest (fit_all q gaps rest f).0 b in
+    ap (indent_after m) a ∙ (cond-true (sets_none m rest) _ _ p.1 ∙ ap Some (sym i))
+
+found_some : (m q : ℕ) (gaps : List Gap) (text : List ℕ) → SetsIndent m q text → gaps_fit q gaps text ≡ true → find_indent None m (gaps_text gaps ++ text) ≡ Some q
+found_some m q gaps text s f =
+    let w : (gaps_meet (λ _. true) gaps text ≡ true) × (nat_le (widest gaps) q ≡ true) = fit_all q gaps text f in
+    let a : all_gaps (gaps_text gaps ++ text) ≡ (gaps, text) = gaps_of_read (λ _. true) gaps text w.0 (nb_break (past_spaces text) s.filled) in
+    ap (indent_after m) a ∙ (cond-false (sets_none m text) _ _ s.sets
+    ∙ (cond-true (nat_le (widest gaps) (spaces_before text) && first nb (past_spaces text)) _ _
+    (and_from _ _ (subst (λ (k : ℕ). nat_le (widest gaps) k ≡ true) (sym s.counted) w.1) s.filled)
+    ∙ ap Some s.counted))
+
+-- the indentation of a body that fits is found
+pub indent_found : (digit : Option ℕ) (m q : ℕ) (gaps : List Gap) (texts : List TextLine) (rest : List ℕ) → indent_fits digit m q gaps texts rest ≡ true
+    → gaps_fit q gaps (text_lines_text q texts ++ rest) ≡ true → text_lines_fit q texts rest ≡ true → goes_on q rest ≡ false
+    → find_indent digit m (gaps_text gaps ++ (text_lines_text q texts ++ rest)) ≡ Some q
+indent_found (Some d) m q gaps texts rest i f t n = ap Some (sym (eqb-true q ((m - 1) + d) (and_parts (between 1 9 d) (q == (m - 1) + d) i).1))
+indent_found None m q gaps [] rest i f t n = found_none m q gaps rest i f n
+indent_found None m q gaps (l ∷ ls) rest i f t n =
+    let p : (nat_le m q ≡ true) × (not (begins (spaces 1) l.text) ≡ true) = and_parts _ _ i in
+    let fits : (text_line_fits q l (text_lines_text q ls ++ rest) ≡ true) × (text_lines_fit q ls rest ≡ true) = and_parts _ _ t in
+    let after : List ℕ = text_lines_text q ls ++ rest in
+    let parts : TextLineParts q l after = text_line_parts q l after fits.0 in
+    let regrouped : text_lines_text q (l ∷ ls) ++ rest ≡ spaces q ++ after_indent l after = simp append_assoc in
+    let s : SetsIndent m q (spaces q ++ after_indent l after) =
+    line_sets m q (after_indent l after) (leb-true m q p.0) (line_here q l after fits.0) (unspaced l.text (optional break_text l.stop ++ (gaps_text l.gaps ++ after)) p.1 parts.some) in
+    found_some m q gaps (text_lines_text q (l ∷ ls) ++ rest) (subst (SetsIndent m q) (sym regrouped) s) f
+
+-- ---- where an indentation is found it fits
+
+-- the indentation q is found before the lines of spaces g.0 and what comes after them
+pub record Found (m q : ℕ) (text : List ℕ) (g : List Gap × List ℕ) : Type 0 where
+  pub read : gaps_at q text ≡ g
+  pub fits : (texts : List TextLine) (rest : List ℕ) → LinesOf q g.1 texts rest → detected m q g.0 texts rest ≡ true
+
+gaps_narrow : (q : ℕ) (text : List ℕ) (g : List Gap × List ℕ) → GapsOf (λ _. true) text g → nat_le (widest g.0) q ≡ true → gaps_at q text ≡ g
+gaps_narrow q text g a w = ap (gaps_at q) a.0 ∙ gaps_at_read q g.0 g.1 (all_fit q g.0 g.1 a.1 w) (and_right (nat_le (spaces_before g.1) q) (first line_break (past_spaces g.1)) a.2)
+
+-- where lines begin a text line begins
+lines_go_on : (q : ℕ) (l : TextLine) (ls : List TextLine) (text rest : List ℕ) → LinesOf q text (l ∷ ls) rest → goes_on q text ≡ true
+lines_go_on q l ls text rest s =
+    let p : (text_line_fits q l (text_lines_text q ls ++ rest) ≡ true) × (text_lines_fit q ls rest ≡ true) = and_parts _ _ s.fit in
+    let regrouped : text_lines_text q (l ∷ ls) ++ rest ≡ spaces q ++ after_indent l (text_lines_text q ls ++ rest) = simp append_assoc in
+    ap (goes_on q) (s.split ∙ regrouped) ∙ text_goes_on q (after_indent l (text_lines_text q ls ++ rest)) (line_here q l (text_lines_text q ls ++ rest) p.0)
+
+none_detected : (m q : ℕ) (gaps : List Gap) (text : List ℕ) (texts : List TextLine) (rest : List ℕ) → q ≡ max m (max (widest gaps) (last_spaces text)) → sets_none m text ≡ true
+    → first line_break (past_spaces text) ≡ false → LinesOf q text texts rest → detected m q gaps texts rest ≡ true
+none_detected m q gaps text [] rest i h n s =
+    let e : text ≡ rest = s.split in
+    subst (λ (t : List ℕ). (q == max m (max (widest gaps) (last_spaces t))) && sets_none m t ≡ true) e (and_from _ _ (eq-eqb q (max m (max (widest gaps) (last_spaces text))) i) h)
+none_detected m q gaps text (l ∷ ls) rest i h n s =
+    absurd (false≢true (sym (none_ended m q text h (omega arith) (omega arith) n) ∙ lines_go_on q l ls text rest s))
+
+found_where_none : (m : ℕ) (text : List ℕ) (g : List Gap × List ℕ) → GapsOf (λ _. true) text g → sets_none m g.1 ≡ true → Found m (max m (max (widest g.0) (last_spaces g.1))) text g
+found_where_none m text g a h =
+    record {
+      read = gaps_narrow (max m (max (widest g.0) (last_spaces g.1))) text g a (le-leb (widest g.0) (max m (max (widest g.0) (last_spaces g.1))) (omega arith));
+      fits = λ texts rest s. none_detected m (max m (max (widest g.0) (last_spaces g.1))) g.0 g.1 texts rest refl h a.2 s;
+    }
+
+-- what the line here says where it sets one
+sets_parts : (m : ℕ) (text : List ℕ) → sets_none m text ≡ false → (m ≤ spaces_before text) × (no_marker true text ≡ true)
+sets_parts m text h =
+    let p : (is_empty (past_spaces text) || nat_lt (spaces_before text) m ≡ false) × (not (no_marker true text) ≡ false) = or_parts _ _ h in
+    (ltb-false (spaces_before text) m (or_parts (is_empty (past_spaces text)) (nat_lt (spaces_before text) m) p.0).1, not-false (no_marker true text) p.1)
+
+unspaced_text : (text rest : List ℕ) → spaces_before (text ++ rest) ≡ 0 → not (begins (spaces 1) text) ≡ true
+unspaced_text [] rest h = refl
+unspaced_text (c ∷ cs) rest h = elim (cases_Bool (c == 32)) [
+  | inl e ↦ (let k : suc (spaces_before (cs ++ rest)) ≡ 0 = rw e at h in absurd (omega arith))
+  | inr e ↦ rw e
+]
+
+text_unspaced : (q : ℕ) (l : TextLine) (after text : List ℕ) → spaces_before text ≡ q → text ≡ spaces q ++ after_indent l after → not (begins (spaces 1) l.text) ≡ true
+text_unspaced q l after text c e = unspaced_text l.text (optional break_text l.stop ++ (gaps_text l.gaps ++ after)) (omega (arith, spaces_added q (after_indent l after), ap spaces_before e))
+
+set_detected : (m q : ℕ) (gaps : List Gap) (text : List ℕ) (texts : List TextLine) (rest : List ℕ) → q ≡ spaces_before text → sets_none m text ≡ false → first nb (past_spaces text) ≡ true
+    → LinesOf q text texts rest → detected m q gaps texts rest ≡ true
+set_detected m q gaps text [] rest i h f s =
+    let p : (m ≤ spaces_before text) × (no_marker true text ≡ true) = sets_parts m text h in
+    let e : text ≡ rest = s.split in
+    let n : (spaces_before rest == q) && first nb (past_spaces rest) && no_marker true rest ≡ false = (let d : Ended q rest = ended_parts q rest s.end in d.no_text) in
+    absurd (false≢true (sym (subst (λ (t : List ℕ). (spaces_before t == q) && first nb (past_spaces t) && no_marker true t ≡ false) (sym e) n)
+    ∙ and_from _ _ (and_from _ _ (eq-eqb (spaces_before text) q (sym i)) f) p.1))
+set_detected m q gaps text (l ∷ ls) rest i h f s =
+    let p : (m ≤ spaces_before text) × (no_marker true text ≡ true) = sets_parts m text h in
+    let after : List ℕ = text_lines_text q ls ++ rest in
+    let regrouped : text_lines_text q (l ∷ ls) ++ rest ≡ spaces q ++ after_indent l after = simp append_assoc in
+    and_from _ _ (le-leb m q (omega arith)) (text_unspaced q l after text (sym i) (s.split ∙ regrouped))
+
+found_where_set : (m : ℕ) (text : List ℕ) (g : List Gap × List ℕ) → GapsOf (λ _. true) text g → sets_none m g.1 ≡ false → nat_le (widest g.0) (spaces_before g.1) ≡ true
+    → first nb (past_spaces g.1) ≡ true → Found m (spaces_before g.1) text g
+found_where_set m text g a h w f =
+    record {
+      read = gaps_narrow (spaces_before g.1) text g a w;
+      fits = λ texts rest s. set_detected m (spaces_before g.1) g.0 g.1 texts rest refl h f s;
+    }
+
+-- what holds of the indentation that is found, if one is
+abbrev pub IfFound : (ℕ → Type 0) → Option ℕ → Type 0
+IfFound P None = Unit {0}
+IfFound P (Some q) = P q
+
+-- an indentation that is found fits
+pub indent_sound : (m : ℕ) (text : List ℕ) → IfFound (λ q. Found m q text (all_gaps text)) (find_indent None m text)
+indent_sound m text =
+    let g : List Gap × List ℕ = all_gaps text in
+    let a : GapsOf (λ _. true) text g = gaps_of_sound (λ _. true) text in
+    cond_both (sets_none m g.1) (Some (max m (max (widest g.0) (last_spaces g.1)))) (if nat_le (widest g.0) (spaces_before g.1) && first nb (past_spaces g.1) then Some (spaces_before g.1) else None)
+    (IfFound (λ q. Found m q text g))
+    (λ h. found_where_none m text g a h)
+    (λ h. cond_both (nat_le (widest g.0) (spaces_before g.1) && first nb (past_spaces g.1)) (Some (spaces_before g.1)) None (IfFound (λ q. Found m q text g))
+    (λ w. let p : (nat_le (widest g.0) (spaces_before g.1) ≡ true) × (first nb (past_spaces g.1) ≡ true) = and_parts _ _ w in found_where_set m text g a h p.0 p.1)
+    (λ _. tt))

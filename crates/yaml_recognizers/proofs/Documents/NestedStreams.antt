@@ -1,0 +1,217 @@
+-- The nested form of a canonical flat stream fits, spells the same, and means the same.
+use Rattle.std.proofs.Common.{ap, append_assoc, arith, refl, subst, sym, ◌∙◌, ◌≡◌}
+use Rattle.std.specs.Prelude.{Bool, List, None, Option, Some, [], false, if◌then◌else◌, not, true, ℕ, ◌&&◌, ◌++◌, ◌+◌, ◌||◌, ◌∷◌}
+use Rattle.std.proofs.lemmas.Bool.{and_from, and_parts, false≢true}
+use Rattle.std.proofs.lemmas.List.{append-nil}
+use Rattle.yaml_grammar.specs.Events.{Event}
+use Rattle.yaml_grammar.specs.Reads.{CanRead, Presents}
+use Rattle.yaml_grammar.specs.Separation.{LineEnd, comment_fits, comment_line_fits, comments_fit, comments_text, line_end_text}
+use Rattle.yaml_grammar.specs.Streams.{Document, bare, directed, document_events, document_fits, document_text, explicit, explicit_events, explicit_fits, explicit_text, fits, mark_text, meant, optional_document_events, optional_document_fits, part_fits, part_text, parts_events, parts_fit, parts_text, spelled, suffix_fits, suffix_text, suffixes}
+use Rattle.yaml_grammar.specs.Texts.{byte_len, ends_word, is_empty, optional, starts_line}
+use Rattle.yaml_recognizers.specs.CanonicalComments.{canonical_comments}
+use Rattle.yaml_recognizers.specs.CanonicalStreams.{FlatStream, Piece, canonical_document, canonical_explicit, canonical_pieces, canonical_stream, document, flat_meant, flat_text, line, pieces_events, pieces_text, suffix}
+use Rattle.yaml_recognizers.specs.NestedStreams.{Opened, closed_pieces, nested, opened_pieces}
+use Rattle.yaml_recognizers.proofs.Meanings.CanonicalFits.{comments_fit_too, document_fits_too, explicit_fits_too}
+use Rattle.yaml_recognizers.proofs.Separation.LineEnds.{LineParts, line_parts}
+use Rattle.yaml_recognizers.proofs.Basics.LineStarts.{byte_len_joined, comments_start, line_not_end, line_starts, starts_joined}
+use Rattle.yaml_recognizers.proofs.Documents.StreamsComplete.{piece_some}
+
+-- ---- what it spells
+
+suffixes_text : (comments prefix : List LineEnd) (d : Option Document) → part_text (suffixes comments [] prefix d) ≡ suffix_text comments ++ (comments_text prefix ++ optional document_text d)
+suffixes_text comments prefix d =
+    ap (λ t. t ++ comments_text prefix ++ optional document_text d) (append-nil (suffix_text comments)) ∙ append_assoc (suffix_text comments) (comments_text prefix) (optional document_text d)
+
+abbrev opened_text : Opened → List ℕ
+opened_text o = comments_text o.prefix ++ (optional document_text o.document ++ parts_text o.parts)
+
+suffix_opened : (comments : List LineEnd) (o : Opened) (text : List ℕ) → text ≡ opened_text o
+    → suffix_text comments ++ text ≡ parts_text (suffixes comments [] o.prefix o.document ∷ o.parts)
+suffix_opened comments o text t =
+    let regrouped : suffix_text comments ++ opened_text o ≡ (suffix_text comments ++ (comments_text o.prefix ++ optional document_text o.document)) ++ parts_text o.parts = simp append_assoc in
+    ap (λ u. suffix_text comments ++ u) t ∙ (regrouped ∙ ap (λ u. u ++ parts_text o.parts) (sym (suffixes_text comments o.prefix o.document)))
+
+mutual
+  opened_spells : (ps : List Piece) (bol : Bool) → canonical_pieces ps true bol ≡ true → pieces_text ps ≡ opened_text (opened_pieces ps)
+  opened_spells [] bol h = refl
+  opened_spells (line e ∷ ps) bol h =
+      let more : pieces_text ps ≡ opened_text (opened_pieces ps) = opened_spells ps (starts_line bol (line_end_text e)) (and_parts _ _ h).1 in
+      ap (λ u. line_end_text e ++ u) more ∙ sym (append_assoc (line_end_text e) (comments_text (opened_pieces ps).prefix) _)
+  opened_spells (document d ∷ ps) bol h = ap (λ u. document_text d ++ u) (closed_spells ps (starts_line bol (document_text d)) (and_parts _ _ h).1)
+  opened_spells (suffix comments ∷ ps) bol h =
+      suffix_opened comments (opened_pieces ps) (pieces_text ps) (opened_spells ps (starts_line bol (suffix_text comments)) (and_parts _ _ h).1)
+
+  closed_spells : (ps : List Piece) (bol : Bool) → canonical_pieces ps false bol ≡ true → pieces_text ps ≡ parts_text (closed_pieces ps)
+  closed_spells [] bol h = refl
+  closed_spells (line e ∷ ps) bol h = ap (λ u. line_end_text e ++ u) (closed_spells ps (starts_line bol (line_end_text e)) (and_parts _ _ h).1)
+  closed_spells (document (explicit x) ∷ ps) bol h = ap (λ u. explicit_text x ++ u) (closed_spells ps (starts_line bol (explicit_text x)) (and_parts _ _ h).1)
+  closed_spells (document (bare n) ∷ ps) bol h = absurd (false≢true h)
+  closed_spells (document (directed blank first_version comments x) ∷ ps) bol h = absurd (false≢true h)
+  closed_spells (suffix comments ∷ ps) bol h =
+      suffix_opened comments (opened_pieces ps) (pieces_text ps) (opened_spells ps (starts_line bol (suffix_text comments)) (and_parts _ _ h).1)
+
+-- ---- what it has to meet
+
+record OpenedFits (bol : Bool) (o : Opened) : Type 0 where
+  prefix : comments_fit true o.prefix (optional document_text o.document ++ parts_text o.parts) ≡ true
+  document : optional_document_fits o.document true (parts_text o.parts) ≡ true
+  parts : parts_fit o.parts (starts_line bol (comments_text o.prefix ++ optional document_text o.document)) [] ≡ true
+
+-- a line that fits does so at the start of a line
+line_at_start : (bol : Bool) (e : LineEnd) (rest : List ℕ) → comment_line_fits bol e rest ≡ true → comment_line_fits true e rest ≡ true
+line_at_start bol e rest h =
+    let p : LineParts bol e rest = line_parts bol e rest h in
+    and_from _ _ p.some (and_from _ _ (and_from _ _ p.blank_white (comment_at_start e.comment p.comment_fit)) p.stop_fit)
+  where
+    comment_at_start : (c : Option (List ℕ)) → comment_fits (bol || not (is_empty e.blank)) c ≡ true → comment_fits true c ≡ true
+    comment_at_start None k = refl
+    comment_at_start (Some text) k = (and_parts _ _ k).1
+
+-- after a `...`
+suffixes_fit_too : (comments : List LineEnd) (o : Opened) (bol : Bool) (text after : List ℕ) → bol && ends_word (comments_text comments ++ text) && canonical_comments false comments text ≡ true
+    → text ≡ opened_text o → after ≡ parts_text o.parts → OpenedFits (starts_line bol (suffix_text comments)) o → part_fits (suffixes comments [] o.prefix o.document) bol after ≡ true
+suffixes_fit_too comments o bol text after h t b f =
+    let p : (bol && ends_word (comments_text comments ++ text) ≡ true) × (canonical_comments false comments text ≡ true) = and_parts _ _ h in
+    let s : suffix_fits comments bol text ≡ true = and_from _ _ p.0 (comments_fit_too false comments text p.1) in
+    let here : suffix_fits comments bol (opened_text o) ≡ true = subst (λ (u : List ℕ). suffix_fits comments bol u ≡ true) t s in
+    subst (λ (u : List ℕ). part_fits (suffixes comments [] o.prefix o.document) bol u ≡ true) (sym b) (and_from _ _ (and_from _ _ (and_from _ _ here refl) f.prefix) f.document)
+
+suffix_parts : (comments : List LineEnd) (o : Opened) (bol : Bool) (text : List ℕ) → bol && ends_word (comments_text comments ++ text) && canonical_comments false comments text ≡ true
+    → text ≡ opened_text o → OpenedFits (starts_line bol (suffix_text comments)) o → parts_fit (suffixes comments [] o.prefix o.document ∷ o.parts) bol [] ≡ true
+suffix_parts comments o bol text h t f =
+    let e : starts_line bol (part_text (suffixes comments [] o.prefix o.document)) ≡ starts_line (starts_line bol (suffix_text comments)) (comments_text o.prefix ++ optional document_text o.document) =
+    ap (starts_line bol) (suffixes_text comments o.prefix o.document) ∙ starts_joined bol (suffix_text comments) (comments_text o.prefix ++ optional document_text o.document) in
+    and_from _ _ (suffixes_fit_too comments o bol text (parts_text o.parts ++ []) h t (append-nil (parts_text o.parts)) f)
+    (subst (λ (b : Bool). parts_fit o.parts b [] ≡ true) (sym e) f.parts)
+
+suffix_starts : (comments : List LineEnd) (bol : Bool) (text : List ℕ) → bol && ends_word (comments_text comments ++ text) && canonical_comments false comments text ≡ true
+    → starts_line bol (suffix_text comments) || is_empty text ≡ true
+suffix_starts comments bol text h = comments_start false comments text (and_parts _ _ (and_parts _ _ h).1).0
+
+mutual
+  opened_fits : (ps : List Piece) (bol : Bool) → canonical_pieces ps true bol ≡ true → bol || is_empty (pieces_text ps) ≡ true → OpenedFits bol (opened_pieces ps)
+  opened_fits [] bol h b = record { prefix = refl; document = refl; parts = refl }
+  opened_fits (line e ∷ ps) bol h b =
+      let o : Opened = opened_pieces ps in
+      let start : Bool = starts_line bol (line_end_text e) in
+      let q : (comment_line_fits bol e (pieces_text ps) ≡ true) × (canonical_pieces ps true start ≡ true) = and_parts _ _ h in
+      let more : OpenedFits start o = opened_fits ps start q.1 (line_starts bol e (pieces_text ps) q.0) in
+      let here : comment_line_fits true e (opened_text o) ≡ true = subst (λ (u : List ℕ). comment_line_fits true e u ≡ true) (opened_spells ps start q.1) (line_at_start bol e (pieces_text ps) q.0) in
+      let s : starts_line bol (comments_text (e ∷ o.prefix) ++ optional document_text o.document) ≡ starts_line start (comments_text o.prefix ++ optional document_text o.document) =
+      ap (starts_line bol) (append_assoc (line_end_text e) (comments_text o.prefix) (optional document_text o.document))
+      ∙ starts_joined bol (line_end_text e) (comments_text o.prefix ++ optional document_text o.document) in
+      record {
+        prefix = and_from _ _ here more.prefix;
+        document = more.document;
+        parts = subst (λ (c : Bool). parts_fit o.parts c [] ≡ true) (sym s) more.parts;
+      }
+  opened_fits (document d ∷ ps) bol h b =
+      let q : (canonical_document d true bol (pieces_text ps) ≡ true) × (canonical_pieces ps false (starts_line bol (document_text d)) ≡ true) = and_parts _ _ h in
+      let e : is_empty (document_text d ++ pieces_text ps) ≡ false = (piece_some (document d) true bol (pieces_text ps) q.0).0 in
+      let start : bol ≡ true = line_not_end bol (document_text d ++ pieces_text ps) b e in
+      let fit : document_fits d true (pieces_text ps) ≡ true = subst (λ (c : Bool). document_fits d c (pieces_text ps) ≡ true) start (document_fits_too d true bol (pieces_text ps) q.0) in
+      record {
+        prefix = refl;
+        document = subst (λ (u : List ℕ). document_fits d true u ≡ true) (closed_spells ps (starts_line bol (document_text d)) q.1) fit;
+        parts = closed_fits ps (starts_line bol (document_text d)) q.1;
+      }
+  opened_fits (suffix comments ∷ ps) bol h b =
+      let start : Bool = starts_line bol (suffix_text comments) in
+      let q : (bol && ends_word (comments_text comments ++ pieces_text ps) && canonical_comments false comments (pieces_text ps) ≡ true) × (canonical_pieces ps true start ≡ true) = and_parts _ _ h in
+      record {
+        prefix = refl;
+        document = refl;
+        parts = suffix_parts comments (opened_pieces ps) bol (pieces_text ps) q.0 (opened_spells ps start q.1) (opened_fits ps start q.1 (suffix_starts comments bol (pieces_text ps) q.0));
+      }
+
+  closed_fits : (ps : List Piece) (bol : Bool) → canonical_pieces ps false bol ≡ true → parts_fit (closed_pieces ps) bol [] ≡ true
+  closed_fits [] bol h = refl
+  closed_fits (line e ∷ ps) bol h =
+      let start : Bool = starts_line bol (line_end_text e) in
+      let q : (comment_line_fits bol e (pieces_text ps) ≡ true) × (canonical_pieces ps false start ≡ true) = and_parts _ _ h in
+      let t : pieces_text ps ≡ parts_text (closed_pieces ps) ++ [] = closed_spells ps start q.1 ∙ sym (append-nil (parts_text (closed_pieces ps))) in
+      and_from _ _ (subst (λ (u : List ℕ). comment_line_fits bol e u ≡ true) t q.0) (closed_fits ps start q.1)
+  closed_fits (document (explicit x) ∷ ps) bol h =
+      let start : Bool = starts_line bol (explicit_text x) in
+      let q : (canonical_explicit x bol (pieces_text ps) ≡ true) × (canonical_pieces ps false start ≡ true) = and_parts _ _ h in
+      let t : pieces_text ps ≡ parts_text (closed_pieces ps) ++ [] = closed_spells ps start q.1 ∙ sym (append-nil (parts_text (closed_pieces ps))) in
+      and_from _ _ (subst (λ (u : List ℕ). explicit_fits x bol u ≡ true) t (explicit_fits_too x bol (pieces_text ps) q.0)) (closed_fits ps start q.1)
+  closed_fits (document (bare n) ∷ ps) bol h = absurd (false≢true h)
+  closed_fits (document (directed blank first_version comments x) ∷ ps) bol h = absurd (false≢true h)
+  closed_fits (suffix comments ∷ ps) bol h =
+      let start : Bool = starts_line bol (suffix_text comments) in
+      let q : (bol && ends_word (comments_text comments ++ pieces_text ps) && canonical_comments false comments (pieces_text ps) ≡ true) × (canonical_pieces ps true start ≡ true) = and_parts _ _ h in
+      suffix_parts comments (opened_pieces ps) bol (pieces_text ps) q.0 (opened_spells ps start q.1) (opened_fits ps start q.1 (suffix_starts comments bol (pieces_text ps) q.0))
+
+-- ---- what it means
+
+abbrev opened_events : Opened → ℕ → List Event
+opened_events o at =
+    let after = at + byte_len (comments_text o.prefix) in optional_document_events o.document after ++ parts_events o.parts (after + byte_len (optional document_text o.document))
+
+suffix_events : (comments : List LineEnd) (o : Opened) (at : ℕ) → opened_events o (at + byte_len (suffix_text comments)) ≡ parts_events (suffixes comments [] o.prefix o.document ∷ o.parts) at
+suffix_events comments o at =
+    let a : ℕ = byte_len (suffix_text comments) in
+    let b : ℕ = byte_len (comments_text o.prefix) in
+    let c : ℕ = byte_len (optional document_text o.document) in
+    let part : byte_len (part_text (suffixes comments [] o.prefix o.document)) ≡ a + (b + c) =
+    ap byte_len (suffixes_text comments o.prefix o.document) ∙ (byte_len_joined (suffix_text comments) (comments_text o.prefix ++ optional document_text o.document)
+    ∙ ap (λ n. a + n) (byte_len_joined (comments_text o.prefix) (optional document_text o.document))) in
+    let one : at + a + b ≡ at + a + 0 + b = omega arith in
+    let two : at + a + b + c ≡ at + byte_len (part_text (suffixes comments [] o.prefix o.document)) = omega arith in
+    ap (λ n. optional_document_events o.document n ++ parts_events o.parts (at + a + b + c)) one ∙ ap (λ n. optional_document_events o.document (at + a + 0 + b) ++ parts_events o.parts n) two
+
+mutual
+  opened_means : (ps : List Piece) (bol : Bool) (at : ℕ) → canonical_pieces ps true bol ≡ true → pieces_events ps at ≡ opened_events (opened_pieces ps) at
+  opened_means [] bol at h = refl
+  opened_means (line e ∷ ps) bol at h =
+      let o : Opened = opened_pieces ps in
+      let l : ℕ = byte_len (line_end_text e) in
+      let both : byte_len (comments_text (e ∷ o.prefix)) ≡ l + byte_len (comments_text o.prefix) = byte_len_joined (line_end_text e) (comments_text o.prefix) in
+      let n : at + l + byte_len (comments_text o.prefix) ≡ at + byte_len (comments_text (e ∷ o.prefix)) = omega arith in
+      opened_means ps (starts_line bol (line_end_text e)) (at + l) (and_parts _ _ h).1
+      ∙ ap (λ k. optional_document_events o.document k ++ parts_events o.parts (k + byte_len (optional document_text o.document))) n
+  opened_means (document d ∷ ps) bol at h =
+      let n : at ≡ at + 0 = omega arith in
+      ap (λ es. document_events d at ++ es) (closed_means ps (starts_line bol (document_text d)) (at + byte_len (document_text d)) (and_parts _ _ h).1)
+      ∙ ap (λ k. document_events d k ++ parts_events (closed_pieces ps) (k + byte_len (document_text d))) n
+  opened_means (suffix comments ∷ ps) bol at h =
+      let n : at ≡ at + 0 + 0 = omega arith in
+      opened_means ps (starts_line bol (suffix_text comments)) (at + byte_len (suffix_text comments)) (and_parts _ _ h).1
+      ∙ (suffix_events comments (opened_pieces ps) at ∙ ap (parts_events (suffixes comments [] (opened_pieces ps).prefix (opened_pieces ps).document ∷ (opened_pieces ps).parts)) n)
+
+  closed_means : (ps : List Piece) (bol : Bool) (at : ℕ) → canonical_pieces ps false bol ≡ true → pieces_events ps at ≡ parts_events (closed_pieces ps) at
+  closed_means [] bol at h = refl
+  closed_means (line e ∷ ps) bol at h = closed_means ps (starts_line bol (line_end_text e)) (at + byte_len (line_end_text e)) (and_parts _ _ h).1
+  closed_means (document (explicit x) ∷ ps) bol at h =
+      ap (λ es. explicit_events x at ++ es) (closed_means ps (starts_line bol (explicit_text x)) (at + byte_len (explicit_text x)) (and_parts _ _ h).1)
+  closed_means (document (bare n) ∷ ps) bol at h = absurd (false≢true h)
+  closed_means (document (directed blank first_version comments x) ∷ ps) bol at h = absurd (false≢true h)
+  closed_means (suffix comments ∷ ps) bol at h =
+      opened_means ps (starts_line bol (suffix_text comments)) (at + byte_len (suffix_text comments)) (and_parts _ _ h).1 ∙ suffix_events comments (opened_pieces ps) at
+
+-- ---- together
+
+-- the nested form spells the same
+pub nested_spells : (s : FlatStream) → canonical_stream s ≡ true → spelled (nested s) ≡ flat_text s
+nested_spells s h =
+    let o : Opened = opened_pieces s.pieces in
+    let regrouped : spelled (nested s) ≡ mark_text s.mark ++ opened_text o = simp append_assoc in
+    regrouped ∙ ap (λ u. mark_text s.mark ++ u) (sym (opened_spells s.pieces true h))
+
+-- it fits
+pub nested_fits : (s : FlatStream) → canonical_stream s ≡ true → fits (nested s) ≡ true
+nested_fits s h = let f = opened_fits s.pieces true h refl in and_from _ _ (and_from _ _ f.prefix f.document) f.parts
+
+-- it means the same
+pub nested_means : (s : FlatStream) → canonical_stream s ≡ true → meant (nested s) ≡ flat_meant s
+nested_means s h = sym (opened_means s.pieces true (if s.mark then 3 else 0) h)
+
+-- so it is a presentation of the text
+pub nested_presents : (s : FlatStream) → canonical_stream s ≡ true → Presents (nested s) (flat_text s)
+nested_presents s h = record { fits = nested_fits s h; spells = nested_spells s h }
+
+-- so the text can be read as what the flat stream means
+pub can_read : (text : List ℕ) (s : FlatStream) → text ≡ flat_text s → canonical_stream s ≡ true → CanRead text (flat_meant s)
+can_read text s t h =
+    record { presentation = nested s; presents = record { fits = nested_fits s h; spells = nested_spells s h ∙ sym t }; means = nested_means s h }

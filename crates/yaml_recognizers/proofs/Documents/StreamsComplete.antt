@@ -1,0 +1,237 @@
+-- A stream that is canonical is read whole.
+use Rattle.std.proofs.Common.{ap, append_assoc, arith, inl, inr, length-append, refl, subst, sym, ◌<◌, ◌∙◌, ◌≡◌, ◌≤◌}
+use Rattle.std.specs.Prelude.{Bool, List, Some, [], codes, drop, false, if◌then◌else◌, length, not, suc, true, zero, ℕ, ◌&&◌, ◌++◌, ◌==◌, ◌∷◌}
+use Rattle.std.proofs.lemmas.Bool.{and_from, and_parts, and_right, cases_Bool, cases_eq, eqb-true, false≢true, ne_eqb, not-true, or_parts}
+use Rattle.yaml_chars.specs.Classes.{white}
+use Rattle.yaml_grammar.specs.BlockNodes.{Node, node_text}
+use Rattle.yaml_grammar.specs.Separation.{LineEnd, comments_text, line_end_text}
+use Rattle.yaml_grammar.specs.Streams.{Explicit, bare, content, directed, document_text, explicit, explicit_text, mark_text, nothing}
+use Rattle.yaml_grammar.specs.Texts.{begins, ends_word, every, first, is_empty, marker, starts_line}
+use Rattle.yaml_recognizers.specs.BlockNodes.{omits}
+use Rattle.yaml_recognizers.specs.CanonicalBlockNodes.{canonical_node}
+use Rattle.yaml_recognizers.specs.CanonicalComments.{canonical_comments, is_line_end}
+use Rattle.yaml_recognizers.specs.CanonicalStreams.{FlatStream, Piece, canonical_explicit, canonical_piece, canonical_pieces, canonical_stream, document, flat_text, line, opens, piece_text, pieces_text, suffix}
+use Rattle.yaml_recognizers.specs.Comments.{all_comments, closes_line}
+use Rattle.yaml_recognizers.specs.Ends.{ended}
+use Rattle.yaml_recognizers.specs.Reading.{Read, on}
+use Rattle.yaml_recognizers.specs.Streams.{directed_with, mark_at, more_pieces, order_mark, percent, piece_and, read_directed, read_explicit, read_piece, read_pieces, read_version, stream_of, suffix_with, with_mark}
+use Rattle.yaml_recognizers.proofs.Block.BlockNodesBegin.{closes}
+use Rattle.yaml_recognizers.proofs.Separation.CommentsComplete.{comments_all, line_end_read}
+use Rattle.yaml_recognizers.proofs.Separation.CommentsSound.{line_is_end}
+use Rattle.yaml_recognizers.proofs.Flow.FlowNodesBegin.{reserved}
+use Rattle.yaml_recognizers.proofs.Basics.Prefixes.{dropped_all, taken_all}
+use Rattle.yaml_recognizers.proofs.Separation.LineEnds.{line_long}
+use Rattle.yaml_recognizers.proofs.Documents.StreamsBegin.{Bare, bare_prefix, content_given, document_ended, node_prefix, node_long}
+
+-- there is a marker where one is found
+pub begins_split : (cs text : List ℕ) → begins cs text ≡ true → text ≡ cs ++ drop (length cs) text
+begins_split [] text h = refl
+begins_split (c ∷ cs) [] h = absurd (false≢true h)
+begins_split (c ∷ cs) (d ∷ ds) h =
+    let p : (d == c ≡ true) × (begins cs ds ≡ true) = and_parts _ _ h in
+    ap (λ x. x ∷ ds) (eqb-true d c p.0) ∙ ap (λ xs. c ∷ xs) (begins_split cs ds p.1)
+
+dashes_mark : (text : List ℕ) → mark_at 45 text ≡ true → marker text ≡ true
+dashes_mark text h =
+    let p : (begins (codes "---") text ≡ true) × (ends_word (drop 3 text) ≡ true) = and_parts _ _ h in
+    ap marker (begins_split (codes "---") text p.0) ∙ p.1
+
+dots_mark : (text : List ℕ) → mark_at 46 text ≡ true → marker text ≡ true
+dots_mark text h =
+    let p : (begins (codes "...") text ≡ true) × (ends_word (drop 3 text) ≡ true) = and_parts _ _ h in
+    ap marker (begins_split (codes "...") text p.0) ∙ p.1
+
+no_mark_at : (bol : Bool) (x : ℕ) (text : List ℕ) → (mark_at x text ≡ true → marker text ≡ true) → (bol ≡ true → marker text ≡ false) → bol && mark_at x text ≡ false
+no_mark_at false x text f u = refl
+no_mark_at true x text f u = elim (cases_Bool (mark_at x text)) [
+  | inl e ↦ absurd (false≢true (sym (u refl) ∙ f e))
+  | inr e ↦ e
+]
+
+not_reserved : (text : List ℕ) → first reserved text ≡ false → (first percent text ≡ false) × (first order_mark text ≡ false)
+not_reserved [] h = (refl, refl)
+not_reserved (c ∷ cs) h = or_parts _ _ h
+
+-- the line of a comment begins with no byte order mark
+line_no_mark : (text : List ℕ) → is_line_end text ≡ true → first order_mark text ≡ false
+line_no_mark [] h = refl
+line_no_mark (c ∷ cs) h = elim (cases_eq c 0xfeff) [
+  | inl e ↦ absurd (false≢true (subst (λ (x : ℕ). is_line_end (x ∷ cs) ≡ true) e h))
+  | inr n ↦ ne_eqb c 0xfeff n
+]
+
+-- what a piece asks of the text after it
+abbrev pub Follows : Piece → List ℕ → Type 0
+Follows (suffix comments) after = Unit {0}
+Follows (line e) after = Unit {0}
+Follows (document d) after = ended 0 false after ≡ true
+
+-- what follows a piece ends it
+pub follows : (p : Piece) (ps : List Piece) (opened bol : Bool) → canonical_pieces ps (opens opened p) bol ≡ true → Follows p (pieces_text ps)
+follows (suffix comments) ps opened bol h = tt
+follows (line e) ps opened bol h = tt
+follows (document d) ps opened bol h = document_ended ps bol h
+
+-- ---- what pieces begin with
+
+explicit_some : (x : Explicit) (rest : List ℕ) → (is_empty (explicit_text x ++ rest) ≡ false) × (first order_mark (explicit_text x ++ rest) ≡ false)
+explicit_some (content n) rest = (refl, refl)
+explicit_some (nothing comments) rest = (refl, refl)
+
+bare_some : (n : Node) (bol : Bool) (rest : List ℕ) → canonical_node n 0 false bol rest ≡ true → is_line_end (node_text n ++ rest) ≡ false → Bare bol (node_text n ++ rest)
+bare_some n bol rest h l = bare_prefix bol (node_text n ++ rest) (node_prefix n bol rest h) l
+
+line_more : (text rest : List ℕ) → not (is_empty text) ≡ true → is_empty (text ++ rest) ≡ false
+line_more [] rest h = absurd (false≢true h)
+line_more (c ∷ cs) rest h = refl
+
+-- a piece that fits isn't empty, and starts with no byte order mark
+pub piece_some : (p : Piece) (opened bol : Bool) (rest : List ℕ) → canonical_piece p opened bol rest ≡ true
+    → (is_empty (piece_text p ++ rest) ≡ false) × (first order_mark (piece_text p ++ rest) ≡ false)
+piece_some (suffix comments) opened bol rest h = (refl, refl)
+piece_some (line e) opened bol rest h =
+    (line_more (line_end_text e) rest (and_parts _ _ h).0, line_no_mark (line_end_text e ++ rest) (line_is_end bol e rest h))
+piece_some (document (bare n)) opened bol rest h =
+    let p : (opened && not (is_line_end (node_text n ++ rest)) ≡ true) × (canonical_node n 0 false bol rest ≡ true) = and_parts _ _ h in
+    let b : Bare bol (node_text n ++ rest) = bare_some n bol rest p.1 (not-true _ (and_parts _ _ p.0).1) in
+    (b.some, (not_reserved (node_text n ++ rest) b.unreserved).1)
+piece_some (document (explicit x)) opened bol rest h = explicit_some x rest
+piece_some (document (directed blank first_version comments x)) opened bol rest h = (refl, refl)
+
+explicit_long : (x : Explicit) → 1 ≤ length (explicit_text x)
+explicit_long (content n) = omega arith
+explicit_long (nothing comments) = omega arith
+
+-- a piece isn't empty
+pub piece_long : (p : Piece) (opened bol : Bool) (rest : List ℕ) → canonical_piece p opened bol rest ≡ true → 1 ≤ length (piece_text p)
+piece_long (suffix comments) opened bol rest h = omega arith
+piece_long (line e) opened bol rest h = line_long bol e rest h
+piece_long (document (bare n)) opened bol rest h = node_long n 0 false bol rest (and_parts _ _ h).1
+piece_long (document (explicit x)) opened bol rest h = explicit_long x
+piece_long (document (directed blank first_version comments x)) opened bol rest h = omega arith
+
+pieces_long : (ps : List Piece) (opened bol : Bool) → canonical_pieces ps opened bol ≡ true → length ps ≤ length (pieces_text ps)
+pieces_long [] opened bol h = omega arith
+pieces_long (p ∷ ps) opened bol h =
+    let q : (canonical_piece p opened bol (pieces_text ps) ≡ true) × (canonical_pieces ps (opens opened p) (starts_line bol (piece_text p)) ≡ true) = and_parts _ _ h in
+    let l : 1 ≤ length (piece_text p) = piece_long p opened bol (pieces_text ps) q.0 in
+    let m : length ps ≤ length (pieces_text ps) = pieces_long ps (opens opened p) (starts_line bol (piece_text p)) q.1 in
+    omega (arith, l, m, length-append (piece_text p) (pieces_text ps))
+
+-- ---- what is canonical is read
+
+version_read : (first_version : Bool) (rest : List ℕ) → read_version ((if first_version then codes "1.1" else codes "1.2") ++ rest) ≡ Some (first_version, rest)
+version_read true rest = refl
+version_read false rest = refl
+
+version_not_white : (first_version : Bool) (rest : List ℕ) → first white ((if first_version then codes "1.1" else codes "1.2") ++ rest) ≡ false
+version_not_white true rest = refl
+version_not_white false rest = refl
+
+module _ (node_at : Bool → List ℕ → Read Node)
+    (node_read : (n : Node) (bol : Bool) (after : List ℕ) → canonical_node n 0 false bol after ≡ true → ended 0 false after ≡ true → node_at bol (node_text n ++ after) ≡ Some (n, after)) where
+  explicit_read : (x : Explicit) (after : List ℕ) → canonical_explicit x true after ≡ true → ended 0 false after ≡ true → read_explicit node_at (explicit_text x ++ after) ≡ Some (x, after)
+  unfolding read_explicit
+  explicit_read (content n) after h e =
+      let text : List ℕ = node_text n ++ after in
+      let p : (ends_word text ≡ true) × (canonical_node n 0 false false after ≡ true) = and_parts _ _ h in
+      let o : omits 0 false (all_comments false text) ≡ false = content_given text (node_prefix n false after p.1) in
+      rw p.0 (rw o (ap (λ r. on r (λ n' rest. Some (content n', rest))) (node_read n false after p.1 e)))
+  explicit_read (nothing comments) after h e =
+      let text : List ℕ = comments_text comments ++ after in
+      let p : (ends_word text ≡ true) × (canonical_comments false comments after ≡ true) = and_parts _ _ h in
+      let o : omits 0 false (comments, after) ≡ true = and_from _ _ (closes comments after p.1) e in
+      rw p.0 (rw (comments_all false comments after p.1) (rw o refl))
+
+  directed_read : (blank : List ℕ) (first_version : Bool) (comments : List LineEnd) (x : Explicit) (after : List ℕ) → every white blank ≡ true → is_empty blank ≡ false
+      → canonical_comments false comments (explicit_text x ++ after) ≡ true → canonical_explicit x true after ≡ true → ended 0 false after ≡ true
+      → read_directed node_at (document_text (directed blank first_version comments x) ++ after) ≡ Some (directed blank first_version comments x, after)
+  directed_read blank first_version comments x after w b c h e =
+      let rest : List ℕ = explicit_text x ++ after in
+      let version : List ℕ = (if first_version then codes "1.1" else codes "1.2") ++ (comments_text comments ++ rest) in
+      let regrouped : document_text (directed blank first_version comments x) ++ after ≡ codes "%YAML" ++ (blank ++ version) = simp append_assoc in
+      let f : first white version ≡ false = version_not_white first_version (comments_text comments ++ rest) in
+      ap (read_directed node_at) regrouped
+      ∙ rw (taken_all white blank version w f, dropped_all white blank version w f, b)
+      (ap (λ r. on r (λ v rest'. directed_with node_at blank v (all_comments false rest'))) (version_read first_version (comments_text comments ++ rest))
+      ∙ (ap (directed_with node_at blank first_version) (comments_all false comments rest c)
+      ∙ rw (closes comments rest c)
+      (ap (λ r. on r (λ x' rest'. Some (directed blank first_version comments x', rest'))) (explicit_read x after h e))))
+
+  explicit_step : (x : Explicit) (opened : Bool) (text : List ℕ) (r : Read Explicit) → is_line_end text ≡ false → mark_at 46 text ≡ false → mark_at 45 text ≡ true → read_explicit node_at text ≡ r
+      → read_piece node_at opened true text ≡ on r (λ x' rest. Some (document (explicit x'), rest))
+  unfolding read_piece
+  explicit_step x opened text r l m d e = rw (l, m, d) (ap (λ s. on s (λ x' rest. Some (document (explicit x'), rest))) e)
+
+  dashes : (x : Explicit) (after : List ℕ) → canonical_explicit x true after ≡ true
+      → (is_line_end (explicit_text x ++ after) ≡ false) × (mark_at 46 (explicit_text x ++ after) ≡ false) × (mark_at 45 (explicit_text x ++ after) ≡ true)
+  dashes (content n) after h = (refl, refl, (and_parts _ _ h).0)
+  dashes (nothing comments) after h = (refl, refl, (and_parts _ _ h).0)
+
+  -- a piece that is canonical is read
+  piece_read : (p : Piece) (opened bol : Bool) (after : List ℕ) → canonical_piece p opened bol after ≡ true → Follows p after → read_piece node_at opened bol (piece_text p ++ after) ≡ Some (p, after)
+  unfolding read_piece
+  piece_read (suffix comments) opened bol after h f =
+      let text : List ℕ = comments_text comments ++ after in
+      let p : (bol && ends_word text ≡ true) × (canonical_comments false comments after ≡ true) = and_parts _ _ h in
+      let q : (bol ≡ true) × (ends_word text ≡ true) = and_parts _ _ p.0 in
+      let c : closes_line (comments, after) ≡ true = closes comments after p.1 in
+      rw (q.0, q.1) (ap suffix_with (comments_all false comments after p.1) ∙ rw c refl)
+  piece_read (line e) opened bol after h f =
+      rw (line_is_end bol e after h) (ap (λ r. on r (λ e' rest. Some (line e', rest))) (line_end_read bol e after h))
+  piece_read (document (bare n)) opened bol after h f =
+      let text : List ℕ = node_text n ++ after in
+      let p : (opened && not (is_line_end text) ≡ true) × (canonical_node n 0 false bol after ≡ true) = and_parts _ _ h in
+      let q : (opened ≡ true) × (not (is_line_end text) ≡ true) = and_parts _ _ p.0 in
+      let l : is_line_end text ≡ false = not-true _ q.1 in
+      let b : Bare bol text = bare_some n bol after p.1 l in
+      let dots : bol && mark_at 46 text ≡ false = no_mark_at bol 46 text (dots_mark text) b.unmarked in
+      let marks : bol && mark_at 45 text ≡ false = no_mark_at bol 45 text (dashes_mark text) b.unmarked in
+      let o : first percent text ≡ false = (not_reserved text b.unreserved).0 in
+      let d : opened && bol && first percent text ≡ false = and_right _ _ o in
+      rw (l, dots, marks, d, q.0) (ap (λ r. on r (λ n' rest. Some (document (bare n'), rest))) (node_read n bol after p.1 f))
+  piece_read (document (explicit x)) opened false after h f = absurd (no_explicit x after h)
+    where
+      no_explicit : (y : Explicit) (rest : List ℕ) → canonical_explicit y false rest ≡ true → ⊥
+      no_explicit (content n) rest k = false≢true k
+      no_explicit (nothing comments) rest k = false≢true k
+  piece_read (document (explicit x)) opened true after h f =
+      let d = dashes x after h in
+      explicit_step x opened (explicit_text x ++ after) (Some (x, after)) d.0 d.1 d.2 (explicit_read x after h f)
+  piece_read (document (directed blank first_version comments x)) opened bol after h f =
+      let p : (opened && bol && every white blank && not (is_empty blank) && canonical_comments false comments (explicit_text x ++ after) ≡ true) × (canonical_explicit x true after ≡ true) = and_parts _ _ h in
+      let q : (opened && bol && every white blank && not (is_empty blank) ≡ true) × (canonical_comments false comments (explicit_text x ++ after) ≡ true) = and_parts _ _ p.0 in
+      let r : (opened && bol && every white blank ≡ true) × (not (is_empty blank) ≡ true) = and_parts _ _ q.0 in
+      let s : (opened && bol ≡ true) × (every white blank ≡ true) = and_parts _ _ r.0 in
+      let t : (opened ≡ true) × (bol ≡ true) = and_parts _ _ s.0 in
+      rw (t.0, t.1) (ap (λ u. on u (λ d rest. Some (document d, rest))) (directed_read blank first_version comments x after s.1 (not-true _ r.1) q.1 p.1 f))
+
+  pieces_read : (ps : List Piece) (fuel : ℕ) (opened bol : Bool) → length ps < fuel → canonical_pieces ps opened bol ≡ true → read_pieces node_at fuel opened bol (pieces_text ps) ≡ Some ps
+  unfolding read_pieces
+  pieces_read [] zero opened bol l h = absurd (omega arith)
+  pieces_read (p ∷ ps) zero opened bol l h = absurd (omega arith)
+  pieces_read [] (suc fuel) opened bol l h = refl
+  pieces_read (p ∷ ps) (suc fuel) opened bol l h =
+      let rest : List ℕ = pieces_text ps in
+      let q : (canonical_piece p opened bol rest ≡ true) × (canonical_pieces ps (opens opened p) (starts_line bol (piece_text p)) ≡ true) = and_parts _ _ h in
+      let e : is_empty (piece_text p ++ rest) ≡ false = (piece_some p opened bol rest q.0).0 in
+      let one : read_piece node_at opened bol (piece_text p ++ rest) ≡ Some (p, rest) = piece_read p opened bol rest q.0 (follows p ps opened (starts_line bol (piece_text p)) q.1) in
+      let more : read_pieces node_at fuel (opens opened p) (starts_line bol (piece_text p)) rest ≡ Some ps = pieces_read ps fuel (opens opened p) (starts_line bol (piece_text p)) (omega arith) q.1 in
+      rw e (ap (more_pieces (λ p' rest'. read_pieces node_at fuel (opens opened p') (starts_line bol (piece_text p')) rest')) one ∙ ap (piece_and p) more)
+
+  pieces_no_mark : (ps : List Piece) (opened bol : Bool) → canonical_pieces ps opened bol ≡ true → first order_mark (pieces_text ps) ≡ false
+  pieces_no_mark [] opened bol h = refl
+  pieces_no_mark (p ∷ ps) opened bol h = (piece_some p opened bol (pieces_text ps) (and_parts _ _ h).0).1
+
+  stream_read_marked : (mark : Bool) (ps : List Piece) → canonical_pieces ps true true ≡ true → stream_of node_at (mark_text mark ++ pieces_text ps) ≡ Some (record { mark = mark; pieces = ps })
+  stream_read_marked true ps h =
+      let l : length ps ≤ length (pieces_text ps) = pieces_long ps true true h in
+      ap (with_mark true) (pieces_read ps (suc (suc (length (pieces_text ps)))) true true (omega arith) h)
+  stream_read_marked false ps h =
+      let l : length ps ≤ length (pieces_text ps) = pieces_long ps true true h in
+      let m : first order_mark (pieces_text ps) ≡ false = pieces_no_mark ps true true h in
+      rw m (ap (with_mark false) (pieces_read ps (suc (length (pieces_text ps))) true true (omega arith) h))
+
+  -- a canonical stream is read
+  pub stream_read : (s : FlatStream) → canonical_stream s ≡ true → stream_of node_at (flat_text s) ≡ Some s
+  stream_read s h = stream_read_marked s.mark s.pieces h

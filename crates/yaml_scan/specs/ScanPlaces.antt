@@ -1,0 +1,77 @@
+-- What is at a place of a text, which counts bytes from 0, in the words of the recognizers.
+use Rattle.std.specs.Prelude.{◌≡◌, ℕ, ◌-◌, ◌<◌, ◌≤◌, Bool, true, false, ◌||◌, ◌==◌, List, [], ◌∷◌, Option, Some, is_some, slice_index}
+use Rattle.std.specs.Str.{IsCharBoundary}
+use Rattle.yaml_chars.specs.Breaks.{no_break}
+use Rattle.yaml_chars.specs.Classes.{line_break, nb, space, white}
+use Rattle.yaml_chars.specs.Classes.{between as within}
+use Rattle.yaml_chars.specs.Places.{rest, between}
+use Rattle.yaml_grammar.specs.BlockScalars.{past_spaces, spaces_before}
+use Rattle.yaml_grammar.specs.Separation.{Break}
+use Rattle.yaml_grammar.specs.Texts.{every, first}
+use Rattle.yaml_recognizers.specs.Comments.{read_break, read_stop}
+use Rattle.yaml_recognizers.specs.Prefixes.{taken, dropped}
+
+-- ---- runs
+
+-- all spaces from a place on
+pub record AreSpaces (text : List ℕ) (at end : ℕ) : Type 0 where
+  pub above : at ≤ end
+  pub boundary : IsCharBoundary text end
+  pub spaces : (k : ℕ) → at ≤ k → k < end → slice_index text k ≡ 32
+  pub stop : first space (rest text end) ≡ false
+  pub counts : spaces_before (rest text at) ≡ end - at
+  pub leaves : past_spaces (rest text at) ≡ rest text end
+
+-- all characters from a place on that pass a test
+pub record AreTaken (test : ℕ → Bool) (text : List ℕ) (at end : ℕ) : Type 0 where
+  pub above : at ≤ end
+  pub boundary : IsCharBoundary text end
+  pub takes : taken test (rest text at) ≡ between text at end
+  pub leaves : dropped test (rest text at) ≡ rest text end
+
+-- one character that a line may hold
+pub record IsNb (text : List ℕ) (at end : ℕ) : Type 0 where
+  pub above : at < end
+  pub boundary : IsCharBoundary text end
+  pub char : ℕ
+  pub splits : rest text at ≡ char ∷ rest text end
+  pub fits : nb char ≡ true
+
+-- a byte that is by itself a character that a line may hold
+abbrev pub nb_byte : ℕ → Bool
+nb_byte b = (b == 9) || within 32 126 b
+
+-- ---- breaks
+
+-- a break
+pub record IsBreak (text : List ℕ) (at end : ℕ) : Type 0 where
+  pub above : at < end
+  pub boundary : IsCharBoundary text end
+  pub break : Break
+  pub reads : read_break (rest text at) ≡ Some (break, rest text end)
+
+-- a break, or the end of the text
+pub record IsStop (text : List ℕ) (at : ℕ) (has_break : Bool) (end : ℕ) : Type 0 where
+  pub above : at ≤ end
+  pub boundary : IsCharBoundary text end
+  pub stop : Option Break
+  pub reads : read_stop (rest text at) ≡ Some (stop, rest text end)
+  pub is_break : is_some stop ≡ has_break
+
+-- U+FEFF in UTF-8 (5.2)
+abbrev pub byte_order_mark : List ℕ
+byte_order_mark = 0xef ∷ 0xbb ∷ 0xbf ∷ []
+
+-- no break is between the two places
+abbrev pub unbroken_between : List ℕ → ℕ → ℕ → Bool
+unbroken_between text from to = every no_break (between text from to)
+
+-- ---- signs
+
+-- the sign x, at the start of a text
+abbrev pub is_sign : ℕ → ℕ → Bool
+is_sign x c = c == x
+
+-- what may be after the signs of a marker
+abbrev pub ends_word_byte : ℕ → Bool
+ends_word_byte b = white b || line_break b
