@@ -1,4 +1,4 @@
--- The length of a base text: what stands around the configurations, and each of them.
+-- The length of a base text: what is around the configurations, and each of them.
 use Rattle.std.proofs.Common.{◌≡◌, ℕ, ◌+◌, ◌<◌, ◌≤◌, ◌^◌, Bool, true, false, ◌==◌, if◌then◌else◌, List, [], ◌∷◌, ◌++◌, length, codes, decimal, refl, ap, ap₂, ◌∙◌, arith}
 use Rattle.std.proofs.lemmas.Bool.Decides.{nat_tests}
 use Rattle.std.proofs.lemmas.Fmt.{decimal_is_IsNumeral_wide}
@@ -8,12 +8,12 @@ use Rattle.std.specs.Str.Parse.{AllDigits}
 use Rattle.yaml_chars.specs.Classes.{between, is_in}
 use Rattle.yaml_grammar.specs.Texts.{byte_len, spaces}
 use Rattle.yaml_grammar.specs.Trees.{Tree, mapping}
-use Rattle.yaml_grammar.specs.Style.{letter, plain_in_style, literal_in_style, quoted_char, quoted_chars, quoted, scalar_lines, literal_mark, literal_lines, feeds_at_end, key_lines, value_at, members_behind, style_text}
+use Rattle.yaml_grammar.specs.Style.{letter, plain_in_style, literal_in_style, quoted_char, quoted_chars, quoted, scalar_lines, literal_mark, literal_lines, feeds_at_end, key_lines, value_at, members_after, style_text}
 use Rattle.yaml_tree.specs.BudgetLaws.{byte_len-append}
 use Rattle.conf_record.specs.States.{Entry, Contents, base_limit, count_limit}
 use Rattle.conf_record.specs.BaseTexts.{members, base_tree, base_text, base_length, entry_lines, entry_length, entries_length, framed_length}
 
--- ---- digits stand in double quotes, each for itself
+-- ---- in double quotes each digit means itself
 
 digit : (c : ℕ) (cs : List ℕ) → AllDigits 10 (c ∷ cs) → between 48 57 c ≡ true
 digit c cs all = let here = (tells_digits.parts c cs all).0 in grind (arith, nat_tests, here)
@@ -47,8 +47,8 @@ digits_bytes : (ds : List ℕ) → AllDigits 10 ds → byte_len ds ≡ length ds
 digits_bytes [] all = refl
 digits_bytes (c ∷ cs) all =
     let one = one_byte c (digit c cs all) in
-    let behind = digits_bytes cs (tells_digits.parts c cs all).1 in
-    omega (arith, one, behind)
+    let after = digits_bytes cs (tells_digits.parts c cs all).1 in
+    omega (arith, one, after)
 
 digits_not_literal : (ds : List ℕ) → AllDigits 10 ds → literal_in_style ds ≡ false
 digits_not_literal ds all = rw (digits_no_feed ds all) refl
@@ -77,11 +77,11 @@ count_bytes ds all =
 
 -- ---- the configurations
 
-entries_behind : (es : List Entry) → byte_len (members_behind (members es) 2) ≡ entries_length es
+entries_after : (es : List Entry) → byte_len (members_after (members es) 2) ≡ entries_length es
 unfolding entry_length
-entries_behind [] = refl
-entries_behind (e ∷ es) =
-    byte_len-append (entry_lines e.0 e.1) (members_behind (members es) 2) ∙ ap (λ n. byte_len (entry_lines e.0 e.1) + n) (entries_behind es)
+entries_after [] = refl
+entries_after (e ∷ es) =
+    byte_len-append (entry_lines e.0 e.1) (members_after (members es) 2) ∙ ap (λ n. byte_len (entry_lines e.0 e.1) + n) (entries_after es)
 
 -- no configuration has no bytes
 some_bytes : (name : List ℕ) (t : Tree) → 2 ≤ entry_length name t
@@ -89,13 +89,13 @@ unfolding entry_length
 some_bytes name t =
     omega (arith, byte_len-append (spaces 2 ++ key_lines 2 name) (value_at t 2), byte_len-append (spaces 2) (key_lines 2 name))
 
--- behind `configs:`
+-- after `configs:`
 configs_bytes : (es : List Entry) → byte_len (value_at (mapping (members es)) 0) ≡ (if entries_length es == 0 then 4 else 1 + entries_length es)
 configs_bytes [] = refl
 configs_bytes (e ∷ es) =
-    let first = byte_len-append (codes "\n") (entry_lines e.0 e.1 ++ members_behind (members es) 2) in
+    let first = byte_len-append (codes "\n") (entry_lines e.0 e.1 ++ members_after (members es) 2) in
     let some = some_bytes e.0 e.1 in
-    let all = entries_behind (e ∷ es) in
+    let all = entries_after (e ∷ es) in
     grind (arith, nat_tests, first, some, all)
 
 -- ---- the whole

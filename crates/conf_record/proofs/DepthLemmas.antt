@@ -1,11 +1,9 @@
--- The depth of a tree after an edit: a value that is set stands one level deeper than its path has steps.
-use Rattle.std.proofs.Common.{◌≡◌, ℕ, zero, suc, ◌+◌, ◌<◌, ◌≤◌, max, min, nat_le, Bool, true, false, if◌then◌else◌, List, [], ◌∷◌, length, Option, Some, None, option_map, Result, Ok, Err, ap, subst, ◌∙◌, arith}
+-- The depth of a tree after an edit: a value that is set is one level deeper than its path has steps.
+use Rattle.std.proofs.Common.{◌≡◌, ℕ, zero, suc, ◌+◌, ◌<◌, ◌≤◌, max, min, nat_le, Bool, true, false, if◌then◌else◌, List, [], ◌∷◌, length, Some, option_map, Ok, Err, ap, arith}
 use Rattle.std.proofs.lemmas.Bool.Decides.{nat_tests}
 use Rattle.yaml_grammar.specs.Texts.{same_text}
 use Rattle.yaml_grammar.specs.Trees.{Tree, text, sequence, mapping, Elements, no_element, element, Members, no_member, member, depth, elements_depth, members_depth}
-use Rattle.tree_path.specs.Paths.{Index, number, behind_last, no_index, index_of, at_index, present, element_at as child_at, put_element, cut_element, push_element, value_of, put_member, cut_member, child, put, cut, at_step, and_then, edit_from, set, delete}
-use Rattle.tree_path.specs.declared.fault.PathFault.{PathFault}
-use Rattle.tree_path.specs.declared.place.Miss.{Miss}
+use Rattle.tree_path.specs.Paths.{Index, number, after_last, no_index, index_of, at_index, element_at as child_at, put_element, cut_element, push_element, value_of, put_member, cut_member, child, put, cut, at_step, edit_from, set, delete}
 use Rattle.tree_path.specs.declared.place.Miss.TheVariants.{Absent}
 use Rattle.tree_path.proofs.StepLaws.{option_map-Some, present-Ok}
 use Rattle.tree_path.proofs.EditLaws.{at_step-Ok, and_then-Ok, same_Ok}
@@ -27,7 +25,7 @@ member_deep (member other t ms) key u is = by (same_text key other) is (member_d
     by : (b : Bool) → (if b then Some t else value_of ms key) ≡ Some u → (value_of ms key ≡ Some u → depth u ≤ members_depth ms)
         → depth u ≤ members_depth (member other t ms)
     by true e rest = let same : t ≡ u = cc in let deep = ap depth same in omega arith
-    by false e rest = let behind = rest e in omega arith
+    by false e rest = let after = rest e in omega arith
 
 put_element-deepens : (ts us : Elements) (i : ℕ) (v : Tree) → put_element ts i v ≡ Some us → Deepens (elements_depth ts) (depth v) (elements_depth us)
 put_element-deepens no_element us i v is = cc
@@ -83,14 +81,14 @@ cut_member-shallow (member other t ms) ns key is = by (same_text key other) is (
     by false e rest =
         let o = option_map-Some (member other t) (cut_member ms key) ns e in
         let deep = ap members_depth o.2 in
-        let behind = rest o.0 key o.1 in
+        let after = rest o.0 key o.1 in
         omega arith
 
 -- ---- one step
 
 child_index-deep : (index : Index) (ts : Elements) (u : Tree) → at_index index (child_at ts) (Err Absent) ≡ Ok u → depth u ≤ elements_depth ts
 child_index-deep (number i) ts u is = element_deep ts i u (present-Ok _ u is)
-child_index-deep behind_last ts u is = cc
+child_index-deep after_last ts u is = cc
 child_index-deep no_index ts u is = cc
 
 child-deep : (t u : Tree) (token : List ℕ) → child t token ≡ Ok u → depth u < depth t
@@ -109,7 +107,7 @@ put_index-deepens (number i) ts v w is =
     let most = rest.most in
     let least = rest.least in
     record { most = omega arith; least = omega arith }
-put_index-deepens behind_last ts v w is =
+put_index-deepens after_last ts v w is =
     let same : sequence (push_element ts v) ≡ w = cc in
     let deep = ap depth same in
     let rest = push_element-deepens ts v in
@@ -137,7 +135,7 @@ cut_index-shallow (number i) ts w is =
     let deep = ap depth o.2 in
     let rest = cut_element-shallow ts o.0 i o.1 in
     omega arith
-cut_index-shallow behind_last ts w is = cc
+cut_index-shallow after_last ts w is = cc
 cut_index-shallow no_index ts w is = cc
 
 cut-shallow : (t w : Tree) (token : List ℕ) → cut t token ≡ Ok w → depth w ≤ depth t

@@ -1,5 +1,5 @@
 -- What an edit inside a configuration makes of a state's configurations and of their length.
-use Rattle.std.proofs.Common.{◌≡◌, ℕ, ◌+◌, ◌*◌, ◌<◌, ◌≤◌, nat_le, nat_lt, Bool, true, false, if◌then◌else◌, List, [], ◌∷◌, ◌++◌, codes, Option, Some, None, option_map, is_some, Result, Ok, Err, String, Global, string_bytes, bytes_eq, IsUtf8, refl, sym, ap, subst, ◌∙◌, arith}
+use Rattle.std.proofs.Common.{◌≡◌, ℕ, ◌+◌, ◌<◌, ◌≤◌, nat_le, nat_lt, Bool, true, false, if◌then◌else◌, List, [], ◌∷◌, ◌++◌, Option, Some, None, option_map, is_some, Result, Ok, Err, String, Global, string_bytes, bytes_eq, IsUtf8, refl, sym, ap, subst, ◌∙◌, arith}
 use Rattle.std.proofs.lemmas.Bool.Decides.{nat_tests}
 use Rattle.std.specs.Map.{lookup}
 use Rattle.std.specs.Str.{chars}
@@ -20,7 +20,7 @@ use Rattle.conf_record.specs.BaseTexts.{entry_length, entries_length}
 use Rattle.conf_record.specs.Edits.{edited, configs_edited}
 use Rattle.conf_record.specs.Kept.{entries_of, ArePlain}
 use Rattle.conf_record.specs.Limits.{AreConfigs}
-use Rattle.conf_record.specs.States.{Entry, config_named, put_config, cut_config, config_limits}
+use Rattle.conf_record.specs.States.{Entry, config_named, put_config, config_limits}
 use Rattle.conf_record.specs.declared.edit.Edit.{Edit}
 use Rattle.conf_record.specs.declared.fault.StoreFault.TheVariants.{NoConfig, TooDeep, ConfigLarge}
 use Rattle.conf_record.proofs.EntryLemmas.{lookup-named}
@@ -64,7 +64,7 @@ entry_value name t = byte_len-append (spaces 2 ++ key_lines 2 name) (value_at t 
 pub edit-length : (es : List Entry) (name : List ℕ) (old new : grammar.Tree) (change : Change) → config_named es name ≡ Some old → Changes change old new
     → entries_length (put_config es name new) + length_at change.removed 4 ≡ entries_length es + length_at change.added 4
 edit-length es name old new change there is =
-    let value = is.behind_key 2 in
+    let value = is.after_key 2 in
     omega (
       arith,
       value,

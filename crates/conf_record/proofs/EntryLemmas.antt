@@ -12,7 +12,7 @@ use Rattle.yaml_grammar.specs.Texts.{same_text}
 use Rattle.yaml_grammar.specs.Trees as grammar
 use Rattle.yaml_tree.specs.Seen.{tree_of}
 use Rattle.yaml_tree.specs.declared.tree.Tree.{Tree}
-use Rattle.yaml_tree.proofs.TextLemmas.{same_text-Decides}
+use Rattle.yaml_tree.proofs.CharacterLemmas.{same_text-Decides}
 use Rattle.conf_record.specs.States.{Entry, config_named, put_config, cut_config}
 use Rattle.conf_record.specs.Kept.{entries_of, ArePlain}
 
@@ -92,10 +92,10 @@ module _ (q : List ℕ) (utf8 : IsUtf8 q) (t : Tree) where
           else (chars (string_bytes e.0), tree_of e.1) ∷ put_config (entries_of es) (chars q) (tree_of t))
       by true same found rest = rw same refl
       by false same found rest =
-          let behind = rw same at found in
+          let after = rw same at found in
           let n = position_or_len (λ k. bytes_eq q (string_bytes k)) (keys_of es) in
           let next : 1 + n ≡ suc n = omega arith in
-          rw same (ap (λ i. entries_of (set_value_at (e ∷ es) i t)) next ∙ ap (λ xs. (chars (string_bytes e.0), tree_of e.1) ∷ xs) (rest behind))
+          rw same (ap (λ i. entries_of (set_value_at (e ∷ es) i t)) next ∙ ap (λ xs. (chars (string_bytes e.0), tree_of e.1) ∷ xs) (rest after))
 
   pub set_value_at-named : (es : List (String Global × Tree)) (u : grammar.Tree) (i : ℕ) → ArePlain es → config_named (entries_of es) (chars q) ≡ Some u
       → Some i ≡ position (λ k. bytes_eq q (string_bytes k)) (keys_of es)

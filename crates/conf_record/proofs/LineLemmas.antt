@@ -6,8 +6,8 @@ use Rattle.std.specs.Str.{chars}
 use Rattle.std.specs.Str.Parse.{AllDigits}
 use Rattle.yaml_grammar.specs.Texts.{every}
 use Rattle.yaml_grammar.specs.Trees.{Tree, text, no_member, member}
-use Rattle.yaml_grammar.specs.Style.{key_lines, value_at, members_behind}
-use Rattle.yaml_tree.proofs.TextLemmas.{every-IsAscii}
+use Rattle.yaml_grammar.specs.Style.{key_lines, value_at, members_after}
+use Rattle.yaml_tree.proofs.CharacterLemmas.{every-IsAscii}
 use Rattle.conf_record.proofs.BaseLemmas.{count_line}
 
 -- ASCII, by a test that computes
@@ -21,11 +21,11 @@ ascii cs e = chars-IsAscii cs (every-IsAscii (λ c. nat_lt c 128) below cs e)
 abbrev pub line : List ℕ → Tree → List ℕ
 line key t = key_lines 0 key ++ value_at t 0
 
-pub two_lines : (k l : List ℕ) (t u : Tree) → line k t ++ line l u ≡ members_behind (member k t (member l u no_member)) 0
+pub two_lines : (k l : List ℕ) (t u : Tree) → line k t ++ line l u ≡ members_after (member k t (member l u no_member)) 0
 two_lines k l t u = ap (λ xs. line k t ++ xs) (sym (append-nil (line l u)))
 
 pub three_lines : (k l m : List ℕ) (t u v : Tree)
-    → line k t ++ line l u ++ line m v ≡ members_behind (member k t (member l u (member m v no_member))) 0
+    → line k t ++ line l u ++ line m v ≡ members_after (member k t (member l u (member m v no_member))) 0
 three_lines k l m t u v =
     append_assoc (line k t) (line l u) (line m v) ∙ ap (λ xs. line k t ++ xs) (two_lines l m u v)
 
@@ -35,7 +35,7 @@ number_line ds all =
     ap (λ cs. codes "at: \"" ++ cs) (sym (append_assoc ds (codes "\"") (codes "\n")))
     ∙ ap (λ cs. codes "at: " ++ cs) (sym (count_line ds all))
 
--- what stands between the first line of a document and its last
+-- what is between the first line of a document and its last
 pub framed_line : (first rest : List ℕ) → codes "---\n" ++ first ++ rest ++ codes "...\n" ≡ codes "---\n" ++ (first ++ rest) ++ codes "...\n"
 framed_line first rest = ap (λ cs. cs ++ codes "...\n") (append_assoc (codes "---\n") first rest)
 

@@ -4,7 +4,7 @@ use Rattle.std.proofs.lemmas.Bool.{and_parts}
 use Rattle.std.proofs.lemmas.Bool.Decides.{nat_tests}
 use Rattle.std.specs.Str.{chars}
 use Rattle.yaml_grammar.specs.Texts.{every, first}
-use Rattle.yaml_tree.proofs.TextLemmas.{every-IsAscii, chars-same}
+use Rattle.yaml_tree.proofs.CharacterLemmas.{every-IsAscii, chars-same}
 use Rattle.conf_record.specs.Names.{small_letter, name_char, good_name}
 
 pub name_char-below : (c : ℕ) → name_char c ≡ true → c < 128
@@ -12,6 +12,6 @@ name_char-below c e = grind (arith, nat_tests)
 
 pub good_name-ascii : (name : List ℕ) → IsUtf8 name → good_name (chars name) ≡ true → IsAscii name
 good_name-ascii name utf8 good =
-    let front = (and_parts (first small_letter (chars name) && every name_char (chars name)) (nat_le (length (chars name)) 64) good).0 in
-    let ascii = every-IsAscii name_char name_char-below (chars name) (and_parts (first small_letter (chars name)) (every name_char (chars name)) front).1 in
+    let prefix = (and_parts (first small_letter (chars name) && every name_char (chars name)) (nat_le (length (chars name)) 64) good).0 in
+    let ascii = every-IsAscii name_char name_char-below (chars name) (and_parts (first small_letter (chars name)) (every name_char (chars name)) prefix).1 in
     subst IsAscii (chars-same name utf8 ascii) ascii

@@ -7,7 +7,7 @@ use Rattle.yaml_grammar.specs.Texts.{byte_len, same_text}
 use Rattle.yaml_grammar.specs.Trees.{depth}
 use Rattle.yaml_grammar.specs.Style.{style_text}
 use Rattle.yaml_tree.specs.declared.tree.Tree.{Tree}
-use Rattle.yaml_tree.proofs.TextLemmas.{same_text-true, same_text-self}
+use Rattle.yaml_tree.proofs.CharacterLemmas.{same_text-true, same_text-self}
 use Rattle.conf_record.specs.Names.{good_name}
 use Rattle.conf_record.specs.States.{Entry, Contents, names_of, config_named, put_config, config_limits, has_name, names_differ}
 use Rattle.conf_record.specs.BaseTexts.{base_length, entries_length, framed_length}
@@ -42,13 +42,13 @@ pub so_far_more : (all : List Entry) (old new : List (String Global × Tree)) (n
     → length ≡ min (before + added) 18446744073709551615 → SoFar all new left length
 so_far_more all old new name t left before added length so more is =
     let es = entries_of old in
-    let behind = put_absent es name t more.absent in
+    let after = put_absent es name t more.absent in
     let put = entries_length-put es name t in
     let same = entries_length-absent es name more.absent in
     let now = ap entries_length more.entries in
     let a = so.bytes in let b = more.bytes in
     record {
-      whole = ap (λ xs. xs ++ left) (more.entries ∙ behind) ∙ append_assoc es ((name, t) ∷ []) left ∙ so.whole;
+      whole = ap (λ xs. xs ++ left) (more.entries ∙ after) ∙ append_assoc es ((name, t) ∷ []) left ∙ so.whole;
       plain = more.plain;
       configs = subst AreConfigs (sym more.entries) (AreConfigs-put es name t more.named more.within so.configs);
       distinct = ap (λ xs. names_differ (names_of xs)) more.entries ∙ names_differ-put es name t so.distinct;
@@ -61,9 +61,9 @@ one_of : (es : List Entry) (e : Entry) (left : List Entry) → AreConfigs (es ++
 one_of [] e left all = (all.0, all.1)
 one_of (d ∷ es) e left all = one_of es e left all.2
 
-has_name-behind : (es : List Entry) (name : List ℕ) (t : grammar.Tree) (left : List Entry) → has_name name (names_of (es ++ (name, t) ∷ left)) ≡ true
-has_name-behind [] name t left = ap (λ b. b || has_name name (names_of left)) (same_text-self name)
-has_name-behind (e ∷ es) name t left = by (same_text name e.0) (has_name-behind es name t left)
+has_name-after : (es : List Entry) (name : List ℕ) (t : grammar.Tree) (left : List Entry) → has_name name (names_of (es ++ (name, t) ∷ left)) ≡ true
+has_name-after [] name t left = ap (λ b. b || has_name name (names_of left)) (same_text-self name)
+has_name-after (e ∷ es) name t left = by (same_text name e.0) (has_name-after es name t left)
   where
     by : (b : Bool) → has_name name (names_of (es ++ (name, t) ∷ left)) ≡ true → (b || has_name name (names_of (es ++ (name, t) ∷ left))) ≡ true
     by true rest = refl
@@ -81,7 +81,7 @@ twice (e ∷ es) name t left found differ =
     by true same found apart rest =
         let named = same_text-true name e.0 same in
         let there : has_name e.0 (names_of (es ++ (name, t) ∷ left)) ≡ true =
-        ap (λ n. has_name n (names_of (es ++ (name, t) ∷ left))) (sym named) ∙ has_name-behind es name t left in
+        ap (λ n. has_name n (names_of (es ++ (name, t) ∷ left))) (sym named) ∙ has_name-after es name t left in
         clash (has_name e.0 (names_of (es ++ (name, t) ∷ left))) there apart
       where
         clash : (b : Bool) → b ≡ true → not b ≡ true → ⊥

@@ -5,19 +5,19 @@ use Rattle.std.proofs.lemmas.Bool.Decides.{nat_tests}
 use Rattle.std.specs.Char.{len_utf8}
 use Rattle.yaml_grammar.specs.Texts.{byte_len, every, is_empty, same_text}
 use Rattle.yaml_grammar.specs.Trees.{Tree, text, sequence, mapping, Elements, no_element, element, Members, no_member, member, depth, elements_depth, members_depth}
-use Rattle.yaml_grammar.specs.Style.{elements_behind, element_at, members_behind, key_lines, value_at}
+use Rattle.yaml_grammar.specs.Style.{elements_after, element_at, members_after, key_lines, value_at}
 use Rattle.yaml_tree.specs.BudgetLaws.{byte_len-append}
-use Rattle.yaml_tree.proofs.TextLemmas.{same_text-true}
-use Rattle.tree_path.specs.Paths.{digit, is_number, number_behind, Index, number, behind_last, no_index, index_of, at_index, present, element_at as child_at, put_element, cut_element, push_element, value_of, put_member, cut_member, child, put, cut, refusal, at_step, and_then, edit_from, set, delete}
+use Rattle.yaml_tree.proofs.CharacterLemmas.{same_text-true}
+use Rattle.tree_path.specs.Paths.{digit, is_number, number_after, Index, number, after_last, no_index, index_of, at_index, present, element_at as child_at, put_element, cut_element, push_element, value_of, put_member, cut_member, child, put, cut, refusal, at_step, and_then, edit_from, set, delete}
 use Rattle.tree_path.specs.declared.place.Miss.{Miss}
 use Rattle.tree_path.specs.declared.place.Miss.TheVariants.{Absent}
 use Rattle.tree_path.specs.declared.fault.PathFault.{PathFault}
 use Rattle.tree_path.proofs.StepLaws.{option_map-Some, present-Ok, element_at-put_element, value_of-put_member}
 use Rattle.conf_record.proofs.SizeLemmas.{size, key_line_least, element_least, value_size}
 
--- ---- an index has no more digits than elements stand before its own, and one
+-- ---- an index has at most one digit more than there are elements before its own
 
-at_least : (cs : List ℕ) (n : ℕ) → 0 < n → n + length cs ≤ number_behind n cs
+at_least : (cs : List ℕ) (n : ℕ) → 0 < n → n + length cs ≤ number_after n cs
 at_least [] n some = omega arith
 at_least (c ∷ cs) n some =
     let rest = at_least cs (10 * n + (c - 48)) (omega arith) in
@@ -38,14 +38,14 @@ digit_some c is other = grind (arith, nat_tests)
 zero_byte : (c : ℕ) → (c == 48) ≡ true → len_utf8 c ≡ 1
 zero_byte c e = grind (arith, nat_tests)
 
-number_bytes : (cs : List ℕ) → is_number cs ≡ true → byte_len cs ≤ 1 + number_behind 0 cs
+number_bytes : (cs : List ℕ) → is_number cs ≡ true → byte_len cs ≤ 1 + number_after 0 cs
 number_bytes [] e = cc
 number_bytes (c ∷ cs) e = by (c == 48) refl e
   where
-    by : (b : Bool) → (c == 48) ≡ b → (if b then is_empty cs else every digit (c ∷ cs)) ≡ true → byte_len (c ∷ cs) ≤ 1 + number_behind 0 (c ∷ cs)
+    by : (b : Bool) → (c == 48) ≡ b → (if b then is_empty cs else every digit (c ∷ cs)) ≡ true → byte_len (c ∷ cs) ≤ 1 + number_after 0 (c ∷ cs)
     by true is none = alone cs none
       where
-        alone : (ds : List ℕ) → is_empty ds ≡ true → byte_len (c ∷ ds) ≤ 1 + number_behind 0 (c ∷ ds)
+        alone : (ds : List ℕ) → is_empty ds ≡ true → byte_len (c ∷ ds) ≤ 1 + number_after 0 (c ∷ ds)
         alone [] empty = omega (arith, zero_byte c is)
         alone (d ∷ ds) empty = cc
     by false is all =
@@ -53,7 +53,7 @@ number_bytes (c ∷ cs) e = by (c == 48) refl e
         let some = digit_some c parts.0 is in
         let rest = at_least cs (c - 48) some in
         let same : 10 * 0 + (c - 48) ≡ c - 48 = omega arith in
-        let whole = ap (λ n. number_behind n cs) same in
+        let whole = ap (λ n. number_after n cs) same in
         omega (arith, digits_bytes (c ∷ cs) all, rest, whole)
 
 -- what a token says where it is an index
@@ -61,18 +61,18 @@ index_bytes : (token : List ℕ) (n : ℕ) → index_of token ≡ number n → b
 index_bytes token n is = by (same_text token (codes "-")) (is_number token) refl is
   where
     by : (dash numeral : Bool) → is_number token ≡ numeral
-        → (if dash then behind_last else (if numeral then number (number_behind 0 token) else no_index)) ≡ number n → byte_len token ≤ 1 + n
+        → (if dash then after_last else (if numeral then number (number_after 0 token) else no_index)) ≡ number n → byte_len token ≤ 1 + n
     by true numeral e same = cc
     by false true e same =
-        let value : number_behind 0 token ≡ n = cc in
+        let value : number_after 0 token ≡ n = cc in
         omega (arith, number_bytes token e, value)
     by false false e same = cc
 
-dash_bytes : (token : List ℕ) → index_of token ≡ behind_last → byte_len token ≡ 1
+dash_bytes : (token : List ℕ) → index_of token ≡ after_last → byte_len token ≡ 1
 dash_bytes token is = by (same_text token (codes "-")) refl (is_number token) is
   where
     by : (dash : Bool) → same_text token (codes "-") ≡ dash → (numeral : Bool)
-        → (if dash then behind_last else (if numeral then number (number_behind 0 token) else no_index)) ≡ behind_last → byte_len token ≡ 1
+        → (if dash then after_last else (if numeral then number (number_after 0 token) else no_index)) ≡ after_last → byte_len token ≡ 1
     by true e numeral same = ap byte_len (same_text-true token (codes "-") e)
     by false e true same = cc
     by false e false same = cc
@@ -90,23 +90,23 @@ record InLines (beside : ℕ) (inner : Tree) (bytes deep : ℕ) : Type 0 where
   line_deep : depth inner ≤ deep
 
 element_inside : (ts : Elements) (n : ℕ) (u : Tree) → child_at ts n ≡ Some u
-    → InLines (2 + n) u (byte_len (elements_behind ts 0)) (elements_depth ts)
+    → InLines (2 + n) u (byte_len (elements_after ts 0)) (elements_depth ts)
 element_inside no_element n u is = cc
 element_inside (element t ts) zero u is =
     let same : t ≡ u = cc in
     let bytes = ap size same in
     let deep = ap depth same in
     let least = element_least t in
-    let lines = byte_len-append (codes "- " ++ element_at t 0) (elements_behind ts 0) in
+    let lines = byte_len-append (codes "- " ++ element_at t 0) (elements_after ts 0) in
     record { line_bytes = omega arith; line_deep = omega arith }
 element_inside (element t ts) (suc n) u is =
     let rest = element_inside ts n u is in
     let bytes = rest.line_bytes in
     let deep = rest.line_deep in
-    let lines = byte_len-append (codes "- " ++ element_at t 0) (elements_behind ts 0) in
+    let lines = byte_len-append (codes "- " ++ element_at t 0) (elements_after ts 0) in
     record { line_bytes = omega arith; line_deep = omega arith }
 
-pushed_inside : (ts : Elements) (u : Tree) → InLines 2 u (byte_len (elements_behind (push_element ts u) 0)) (elements_depth (push_element ts u))
+pushed_inside : (ts : Elements) (u : Tree) → InLines 2 u (byte_len (elements_after (push_element ts u) 0)) (elements_depth (push_element ts u))
 pushed_inside no_element u =
     let least = element_least u in
     let lines = byte_len-append (codes "- " ++ element_at u 0) [] in
@@ -115,21 +115,21 @@ pushed_inside (element t ts) u =
     let rest = pushed_inside ts u in
     let bytes = rest.line_bytes in
     let deep = rest.line_deep in
-    let lines = byte_len-append (codes "- " ++ element_at t 0) (elements_behind (push_element ts u) 0) in
+    let lines = byte_len-append (codes "- " ++ element_at t 0) (elements_after (push_element ts u) 0) in
     record { line_bytes = omega arith; line_deep = omega arith }
 
 member_inside : (ms : Members) (key : List ℕ) (u : Tree) → value_of ms key ≡ Some u
-    → InLines (1 + byte_len key) u (byte_len (members_behind ms 0)) (members_depth ms)
+    → InLines (1 + byte_len key) u (byte_len (members_after ms 0)) (members_depth ms)
 member_inside no_member key u is = cc
 member_inside (member other t ms) key u is = by (same_text key other) refl is (member_inside ms key u)
   where
-    lines : byte_len (members_behind (member other t ms) 0) ≡ byte_len (key_lines 0 other) + byte_len (value_at t 0) + byte_len (members_behind ms 0)
-    lines = omega (arith, byte_len-append (key_lines 0 other ++ value_at t 0) (members_behind ms 0), byte_len-append (key_lines 0 other) (value_at t 0))
+    lines : byte_len (members_after (member other t ms) 0) ≡ byte_len (key_lines 0 other) + byte_len (value_at t 0) + byte_len (members_after ms 0)
+    lines = omega (arith, byte_len-append (key_lines 0 other ++ value_at t 0) (members_after ms 0), byte_len-append (key_lines 0 other) (value_at t 0))
 
     by : (b : Bool) → same_text key other ≡ b → (if b then Some t else value_of ms key) ≡ Some u
-        → (value_of ms key ≡ Some u → InLines (1 + byte_len key) u (byte_len (members_behind ms 0)) (members_depth ms))
-        → InLines (1 + byte_len key) u (byte_len (members_behind (member other t ms) 0)) (members_depth (member other t ms))
-    by true same found behind =
+        → (value_of ms key ≡ Some u → InLines (1 + byte_len key) u (byte_len (members_after ms 0)) (members_depth ms))
+        → InLines (1 + byte_len key) u (byte_len (members_after (member other t ms) 0)) (members_depth (member other t ms))
+    by true same found after =
         let e : t ≡ u = cc in
         let bytes = ap size e in
         let deep = ap depth e in
@@ -138,22 +138,22 @@ member_inside (member other t ms) key u is = by (same_text key other) refl is (m
         let value = (value_size t).least in
         let all = lines in
         record { line_bytes = omega arith; line_deep = omega arith }
-    by false same found behind =
-        let rest = behind found in
+    by false same found after =
+        let rest = after found in
         let bytes = rest.line_bytes in
         let deep = rest.line_deep in
         let all = lines in
         record { line_bytes = omega arith; line_deep = omega arith }
 
 -- a collection that holds something begins as its lines go on
-elements_hold : (ts : Elements) (u : Tree) (beside : ℕ) → 0 < beside → InLines beside u (byte_len (elements_behind ts 0)) (elements_depth ts)
+elements_hold : (ts : Elements) (u : Tree) (beside : ℕ) → 0 < beside → InLines beside u (byte_len (elements_after ts 0)) (elements_depth ts)
     → Inside beside u (sequence ts)
 elements_hold no_element u beside some inside = let bytes = inside.line_bytes in absurd (omega arith)
 elements_hold (element t ts) u beside some inside =
     let b = inside.line_bytes in let d = inside.line_deep in
     record { bytes = omega arith; deep = omega arith }
 
-members_hold : (ms : Members) (u : Tree) (beside : ℕ) → 0 < beside → InLines beside u (byte_len (members_behind ms 0)) (members_depth ms)
+members_hold : (ms : Members) (u : Tree) (beside : ℕ) → 0 < beside → InLines beside u (byte_len (members_after ms 0)) (members_depth ms)
     → Inside beside u (mapping ms)
 members_hold no_member u beside some inside = let bytes = inside.line_bytes in absurd (omega arith)
 members_hold (member key t ms) u beside some inside =
@@ -178,7 +178,7 @@ child_inside (sequence ts) token u is = by (index_of token) refl is
   where
     by : (index : Index) → index_of token ≡ index → at_index index (child_at ts) (Err Absent) ≡ Ok u → Inside (1 + byte_len token) u (sequence ts)
     by (number n) e found = number_holds ts token n u e (present-Ok (child_at ts n) u found)
-    by behind_last e found = cc
+    by after_last e found = cc
     by no_index e found = cc
 child_inside (mapping ms) token u is =
     members_hold ms u (1 + byte_len token) (omega arith) (member_inside ms token u (present-Ok (value_of ms token) u is))
@@ -193,7 +193,7 @@ put_inside (sequence ts) token v r is = by (index_of token) refl is
     by (number n) e done =
         let o = option_map-Some sequence (put_element ts n v) r (present-Ok (option_map sequence (put_element ts n v)) r done) in
         subst (Inside (1 + byte_len token) v) o.2 (number_holds o.0 token n v e (element_at-put_element ts o.0 n v o.1))
-    by behind_last e done =
+    by after_last e done =
         let same : sequence (push_element ts v) ≡ r = cc in
         let dash = dash_bytes token e in
         subst (Inside (1 + byte_len token) v) same
@@ -233,7 +233,7 @@ child-cut (sequence ts) token r is = by (index_of token) is
         let o = option_map-Some sequence (cut_element ts n) r (present-Ok (option_map sequence (cut_element ts n)) r done) in
         let found = element-cut ts o.0 n o.1 in
         (found.0, ap present found.1)
-    by behind_last done = cc
+    by after_last done = cc
     by no_index done = cc
 child-cut (mapping ms) token r is =
     let o = option_map-Some mapping (cut_member ms token) r (present-Ok (option_map mapping (cut_member ms token)) r is) in

@@ -8,12 +8,12 @@ use Rattle.tree_path.specs.Pointers.{slash, tilde, stray, first_stray, first_pie
 use Rattle.tree_path.specs.declared.fault.PathFault.TheVariants.{BadPath}
 use Rattle.conf_record.proofs.PathLemmas.{tokens_size}
 
--- what stands in front of the first `/`, and the tokens behind it
+-- what comes before the first `/`, and the tokens after it
 abbrev parts_size : List ℕ → ℕ
 parts_size cs = byte_len (unescaped (first_piece cs)) + tokens_size (map unescaped (pieces cs))
 
-kept_behind : (c : ℕ) (cs : List ℕ) → first_stray (c ∷ cs) ≡ None → (stray (c ∷ cs) ≡ false) × (first_stray cs ≡ None)
-kept_behind c cs none = by (stray (c ∷ cs)) (first_stray cs) none
+kept_after : (c : ℕ) (cs : List ℕ) → first_stray (c ∷ cs) ≡ None → (stray (c ∷ cs) ≡ false) × (first_stray cs ≡ None)
+kept_after c cs none = by (stray (c ∷ cs)) (first_stray cs) none
   where
     by : (b : Bool) (o : Option ℕ) → (if b then Some 0 else option_map (λ n. len_utf8 c + n) o) ≡ None → (b ≡ false) × (o ≡ None)
     by true o e = cc
@@ -61,10 +61,10 @@ pieces_bytes (c ∷ []) none = by (c == slash) refl (c == tilde) refl
     by : (s : Bool) → (c == slash) ≡ s → (t : Bool) → (c == tilde) ≡ t → byte_len (c ∷ []) ≤ 2 * parts_size (c ∷ [])
     by true is t e = slash_more c [] is (omega arith)
     by false no_slash false e = itself_more c [] no_slash e (omega arith)
-    by false no_slash true e = let bad = rw e at (kept_behind c [] none).0 in cc
+    by false no_slash true e = let bad = rw e at (kept_after c [] none).0 in cc
 pieces_bytes (c ∷ d ∷ ds) none =
-    let kept = kept_behind c (d ∷ ds) none in
-    by (c == slash) refl (c == tilde) refl kept.0 (pieces_bytes (d ∷ ds) kept.1) (pieces_bytes ds (kept_behind d ds kept.1).1)
+    let kept = kept_after c (d ∷ ds) none in
+    by (c == slash) refl (c == tilde) refl kept.0 (pieces_bytes (d ∷ ds) kept.1) (pieces_bytes ds (kept_after d ds kept.1).1)
   where
     by : (s : Bool) → (c == slash) ≡ s → (t : Bool) → (c == tilde) ≡ t → (t && not ((d == 48) || (d == 49))) ≡ false
         → byte_len (d ∷ ds) ≤ 2 * parts_size (d ∷ ds) → byte_len ds ≤ 2 * parts_size ds → byte_len (c ∷ d ∷ ds) ≤ 2 * parts_size (c ∷ d ∷ ds)
@@ -86,8 +86,8 @@ pointer_bytes (c ∷ cs) tokens is = by (c == slash) refl (first_stray (c ∷ cs
     by true slashed None none told =
         let same : map unescaped (pieces (c ∷ cs)) ≡ tokens = cc in
         let bytes = pieces_bytes (c ∷ cs) none in
-        let front : byte_len (unescaped (first_piece (c ∷ cs))) ≡ 0 = rw slashed refl in
-        let behind = ap tokens_size same in
-        omega (arith, bytes, front, behind)
+        let prefix : byte_len (unescaped (first_piece (c ∷ cs))) ≡ 0 = rw slashed refl in
+        let after = ap tokens_size same in
+        omega (arith, bytes, prefix, after)
     by true slashed (Some n) stray told = let refused : Err (BadPath n) ≡ Ok tokens = told in cc
     by false other o stray told = let refused : Err (BadPath 0) ≡ Ok tokens = told in cc

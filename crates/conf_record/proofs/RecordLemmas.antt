@@ -10,11 +10,11 @@ use Rattle.yaml_chars.specs.Classes.{code_point, between}
 use Rattle.yaml_grammar.specs.Texts.{IsText, byte_len, every, first, same_text}
 use Rattle.yaml_grammar.specs.Trees.{Tree, text, Members, no_member, member, members_depth, distinct, members_distinct, has_key, AreTextMembers}
 use Rattle.yaml_grammar.specs.Reads.{Good}
-use Rattle.yaml_grammar.specs.Style.{scalar_lines, key_lines, value_at, members_behind, style_text}
+use Rattle.yaml_grammar.specs.Style.{scalar_lines, key_lines, value_at, members_after, style_text}
 use Rattle.yaml_laws.specs.Closed.{framed_text}
 use Rattle.yaml_tree.specs.BudgetLaws.{byte_len-append}
 use Rattle.yaml_tree.specs.Kept.{own_limits}
-use Rattle.yaml_tree.proofs.TextLemmas.{same_text-self}
+use Rattle.yaml_tree.proofs.CharacterLemmas.{same_text-self}
 use Rattle.conf_record.specs.Names.{small_letter, name_char, good_name}
 use Rattle.conf_record.specs.Commands.{Command, import_as, set_at, delete_at}
 use Rattle.conf_record.specs.States.{Entry, Contents, count_limit, names_of, has_name, names_differ}
@@ -77,7 +77,7 @@ decimal_bytes : (n : ℕ) → n ≤ count_limit → byte_len (scalar_lines 2 (de
 decimal_bytes n small =
     omega (arith, count_bytes (decimal n) (decimal_is_IsNumeral n (omega arith)).0.1, length-decimal-le 20 n (omega arith) (omega arith) (omega arith))
 
--- ---- a number is told by its decimal text
+-- ---- a number is given by its decimal text
 
 le-true : (a b : ℕ) → a ≤ b → nat_le a b ≡ true
 le-true a b h = grind (arith, nat_tests)
@@ -111,11 +111,11 @@ framed_bytes t =
 
 -- the bytes of a mapping at the top, member by member
 members_bytes : (key : List ℕ) (t : Tree) (ms : Members)
-    → byte_len (members_behind (member key t ms) 0) ≡ byte_len (key_lines 0 key) + byte_len (value_at t 0) + byte_len (members_behind ms 0)
+    → byte_len (members_after (member key t ms) 0) ≡ byte_len (key_lines 0 key) + byte_len (value_at t 0) + byte_len (members_after ms 0)
 members_bytes key t ms =
-    omega (arith, byte_len-append (key_lines 0 key ++ value_at t 0) (members_behind ms 0), byte_len-append (key_lines 0 key) (value_at t 0))
+    omega (arith, byte_len-append (key_lines 0 key ++ value_at t 0) (members_after ms 0), byte_len-append (key_lines 0 key) (value_at t 0))
 
-command_bytes : (command : Command) → IsAccepted command → byte_len (members_behind (command_members command) 0) ≤ 67000000
+command_bytes : (command : Command) → IsAccepted command → byte_len (members_after (command_members command) 0) ≤ 67000000
 command_bytes (import_as name tree) ok =
     let small = ok.1.bytes in
     let value = (value_size tree).most in

@@ -8,7 +8,7 @@ use Rattle.conf_record.specs.Steps.{and_then, configs_after, counted, step, afte
 use Rattle.conf_record.specs.declared.fault.StoreFault.{StoreFault}
 use Rattle.conf_record.specs.declared.fault.StoreFault.TheVariants.{BadName, StoreFull, JournalLong, CountFull}
 
--- a state that is the answer of a call and of another behind it
+-- a state that is the answer of a call and of another after it
 pub and_then-Ok : {A B : Type 0} (r : Result A StoreFault) (next : A → Result B StoreFault) (y : B) → and_then r next ≡ Ok y → (x : A) × (r ≡ Ok x) × (next x ≡ Ok y)
 and_then-Ok (Ok x) next y e = (x, refl, e)
 and_then-Ok (Err fault) next y e = let refused : Err fault ≡ Ok y = e in cc

@@ -6,7 +6,7 @@ use Rattle.std.specs.Char.{len_utf8}
 use Rattle.yaml_chars.specs.Classes.{between}
 use Rattle.yaml_grammar.specs.Texts.{byte_len, spaces}
 use Rattle.yaml_grammar.specs.Trees.{Tree, text, sequence, mapping, Elements, no_element, element, Members, no_member, member}
-use Rattle.yaml_grammar.specs.Style.{shown, plain_in_style, literal_in_style, hex, letter_escape, quoted_char, quoted_chars, quoted, literal_mark, literal_lines, feeds_at_end, scalar_lines, key_text, long_key, key_lines, elements_at, elements_behind, element_at, members_at, members_behind, value_at, style_text}
+use Rattle.yaml_grammar.specs.Style.{shown, plain_in_style, literal_in_style, hex, letter_escape, quoted_char, quoted_chars, quoted, literal_mark, literal_lines, feeds_at_end, scalar_lines, key_text, long_key, key_lines, elements_at, elements_after, element_at, members_at, members_after, value_at, style_text}
 use Rattle.yaml_tree.specs.BudgetLaws.{byte_len-append}
 use Rattle.yaml_tree.proofs.ByteLemmas.{byte_len-spaces}
 
@@ -47,7 +47,7 @@ fresh_grows j c cs false fresh on =
     let less = on.on_less in
     let twice = on.on_twice in
     let before = byte_len-append (spaces j) (c ∷ literal_lines j false cs) in
-    let behind = byte_len-append (spaces (j + 2)) (c ∷ literal_lines (j + 2) false cs) in
+    let after = byte_len-append (spaces (j + 2)) (c ∷ literal_lines (j + 2) false cs) in
     let more = spaces_more j in
     let some = len_utf8_bounds c in
     record { no_less = omega arith; no_twice = omega arith }
@@ -87,7 +87,7 @@ scalar_grows j value = by (plain_in_style value) (literal_in_style value) (liter
         let less = lines.no_less in
         let twice = lines.no_twice in
         let before = three mark (codes "\n") (literal_lines j true value) in
-        let behind = three mark (codes "\n") (literal_lines (j + 2) true value) in
+        let after = three mark (codes "\n") (literal_lines (j + 2) true value) in
         record { no_less = omega arith; no_twice = omega arith }
     by false false mark = record { no_less = omega arith; no_twice = omega arith }
 
@@ -173,7 +173,7 @@ key_least key = by (plain_in_style key)
     by true = omega arith
     by false = let spelled = (quoted_bytes key).esc_less in omega (arith, spelled, quoted_size key)
 
--- a key in front of its value
+-- a key before its value
 record KeyGrows (less more : ℕ) : Type 0 where
   key_less : less ≤ more
   key_twice : more + 2 ≤ 2 * less
@@ -192,7 +192,7 @@ key_grows i key = by (long_key key) (key_text key) (key_some key)
         let less = byte_len-append (codes "? " ++ shown ++ codes "\n" ++ spaces i) (codes ":") in
         let more = byte_len-append (codes "? " ++ shown ++ codes "\n" ++ spaces (i + 2)) (codes ":") in
         let before = four (codes "? ") shown (codes "\n") (spaces i) in
-        let behind = four (codes "? ") shown (codes "\n") (spaces (i + 2)) in
+        let after = four (codes "? ") shown (codes "\n") (spaces (i + 2)) in
         let indented = spaces_more i in
         record { key_less = omega arith; key_twice = omega arith }
     by false shown some =
@@ -204,7 +204,7 @@ first_element : (e es f fs : List ℕ) → Grows (byte_len e) (byte_len f) → G
 first_element e es f fs one rest =
     let a = one.no_less in let b = one.no_twice in let c = rest.no_less in let d = rest.no_twice in
     let before = three (codes "- ") e es in
-    let behind = three (codes "- ") f fs in
+    let after = three (codes "- ") f fs in
     record { no_less = omega arith; no_twice = omega arith }
 
 next_element : (i : ℕ) (e es f fs : List ℕ) → Grows (byte_len e) (byte_len f) → Grows (byte_len es) (byte_len fs)
@@ -212,7 +212,7 @@ next_element : (i : ℕ) (e es f fs : List ℕ) → Grows (byte_len e) (byte_len
 next_element i e es f fs one rest =
     let a = one.no_less in let b = one.no_twice in let c = rest.no_less in let d = rest.no_twice in
     let before = four (spaces i) (codes "- ") e es in
-    let behind = four (spaces (i + 2)) (codes "- ") f fs in
+    let after = four (spaces (i + 2)) (codes "- ") f fs in
     let indented = spaces_more i in
     record { no_less = omega arith; no_twice = omega arith }
 
@@ -222,7 +222,7 @@ first_member k v ms l w ns key value rest =
     let a = value.no_less in let b = value.no_twice in let c = rest.no_less in let d = rest.no_twice in
     let e = key.key_less in let f = key.key_twice in
     let before = three k v ms in
-    let behind = three l w ns in
+    let after = three l w ns in
     record { no_less = omega arith; no_twice = omega arith }
 
 next_member : (i : ℕ) (k v ms l w ns : List ℕ) → KeyGrows (byte_len k) (byte_len l) → Grows (byte_len v) (byte_len w) → Grows (byte_len ms) (byte_len ns)
@@ -231,7 +231,7 @@ next_member i k v ms l w ns key value rest =
     let a = value.no_less in let b = value.no_twice in let c = rest.no_less in let d = rest.no_twice in
     let e = key.key_less in let f = key.key_twice in
     let before = four (spaces i) k v ms in
-    let behind = four (spaces (i + 2)) l w ns in
+    let after = four (spaces (i + 2)) l w ns in
     let indented = spaces_more i in
     record { no_less = omega arith; no_twice = omega arith }
 
@@ -245,7 +245,7 @@ block_grows : (i : ℕ) (v w : List ℕ) → Grows (byte_len v) (byte_len w)
 block_grows i v w one =
     let a = one.no_less in let b = one.no_twice in
     let before = byte_len-append (spaces (i + 2)) v in
-    let behind = byte_len-append (spaces (i + 2 + 2)) w in
+    let after = byte_len-append (spaces (i + 2 + 2)) w in
     let first = byte_len-spaces (i + 2) in
     let second = byte_len-spaces (i + 2 + 2) in
     record { no_less = omega arith; no_twice = omega arith }
@@ -259,24 +259,24 @@ mutual
   elements_grow : (ts : Elements) (i : ℕ) → Grows (byte_len (elements_at ts i)) (byte_len (elements_at ts (i + 2)))
   elements_grow no_element i = record { no_less = omega arith; no_twice = omega arith }
   elements_grow (element t ts) i =
-      first_element (element_at t i) (elements_behind ts i) (element_at t (i + 2)) (elements_behind ts (i + 2)) (element_grows t i) (elements_behind_grow ts i)
+      first_element (element_at t i) (elements_after ts i) (element_at t (i + 2)) (elements_after ts (i + 2)) (element_grows t i) (elements_after_grow ts i)
 
-  elements_behind_grow : (ts : Elements) (i : ℕ) → Grows (byte_len (elements_behind ts i)) (byte_len (elements_behind ts (i + 2)))
-  elements_behind_grow no_element i = record { no_less = omega arith; no_twice = omega arith }
-  elements_behind_grow (element t ts) i =
-      next_element i (element_at t i) (elements_behind ts i) (element_at t (i + 2)) (elements_behind ts (i + 2)) (element_grows t i) (elements_behind_grow ts i)
+  elements_after_grow : (ts : Elements) (i : ℕ) → Grows (byte_len (elements_after ts i)) (byte_len (elements_after ts (i + 2)))
+  elements_after_grow no_element i = record { no_less = omega arith; no_twice = omega arith }
+  elements_after_grow (element t ts) i =
+      next_element i (element_at t i) (elements_after ts i) (element_at t (i + 2)) (elements_after ts (i + 2)) (element_grows t i) (elements_after_grow ts i)
 
   members_grow : (ms : Members) (i : ℕ) → Grows (byte_len (members_at ms i)) (byte_len (members_at ms (i + 2)))
   members_grow no_member i = record { no_less = omega arith; no_twice = omega arith }
   members_grow (member key t ms) i =
-      first_member (key_lines i key) (value_at t i) (members_behind ms i) (key_lines (i + 2) key) (value_at t (i + 2)) (members_behind ms (i + 2))
-      (key_grows i key) (value_grows t i) (members_behind_grow ms i)
+      first_member (key_lines i key) (value_at t i) (members_after ms i) (key_lines (i + 2) key) (value_at t (i + 2)) (members_after ms (i + 2))
+      (key_grows i key) (value_grows t i) (members_after_grow ms i)
 
-  members_behind_grow : (ms : Members) (i : ℕ) → Grows (byte_len (members_behind ms i)) (byte_len (members_behind ms (i + 2)))
-  members_behind_grow no_member i = record { no_less = omega arith; no_twice = omega arith }
-  members_behind_grow (member key t ms) i =
-      next_member i (key_lines i key) (value_at t i) (members_behind ms i) (key_lines (i + 2) key) (value_at t (i + 2)) (members_behind ms (i + 2))
-      (key_grows i key) (value_grows t i) (members_behind_grow ms i)
+  members_after_grow : (ms : Members) (i : ℕ) → Grows (byte_len (members_after ms i)) (byte_len (members_after ms (i + 2)))
+  members_after_grow no_member i = record { no_less = omega arith; no_twice = omega arith }
+  members_after_grow (member key t ms) i =
+      next_member i (key_lines i key) (value_at t i) (members_after ms i) (key_lines (i + 2) key) (value_at t (i + 2)) (members_after ms (i + 2))
+      (key_grows i key) (value_grows t i) (members_after_grow ms i)
 
   value_grows : (t : Tree) (i : ℕ) → Grows (byte_len (value_at t i)) (byte_len (value_at t (i + 2)))
   value_grows (text value) i = text_grows (scalar_lines (i + 2) value) (scalar_lines (i + 2 + 2) value) (scalar_grows (i + 2) value)

@@ -43,6 +43,6 @@ abbrev pub entries_length : List Entry → ℕ
 entries_length [] = 0
 entries_length (e ∷ es) = entry_length e.0 e.1 + entries_length es
 
--- what stands around the configurations has 42 bytes and the digits of the count, and 4 bytes more for none of them, or 1
+-- what is around the configurations has 42 bytes and the digits of the count, and 4 bytes more for none of them, or 1
 abbrev pub framed_length : ℕ → ℕ → ℕ
 framed_length count entries = 42 + length (decimal count) + (if entries == 0 then 4 else 1 + entries)

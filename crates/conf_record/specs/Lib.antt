@@ -7,7 +7,6 @@ pub mod Names
 pub mod PathFaults
 pub mod States
 pub mod Steps
-pub mod Texts
 pub mod TreeCode
 pub mod Records
 pub mod RecordsRead

@@ -4,7 +4,7 @@ use Rattle.tree_path.specs.declared.fault.PathFault.TheVariants as path_faults
 use Rattle.conf_record.specs.declared.fault.StoreFault.{StoreFault}
 use Rattle.conf_record.specs.declared.fault.StoreFault.TheVariants.{Path, OutOfMemory}
 
--- want of memory is the store's own, all else is told as the path's
+-- out of memory is a fault of the store itself, each other fault is one of the path
 abbrev pub told : path.PathFault → StoreFault
 told path_faults.OutOfMemory = OutOfMemory
 told fault = Path fault

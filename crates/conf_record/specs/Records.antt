@@ -4,7 +4,7 @@ use Rattle.yaml_grammar.specs.Trees.{Tree, text, mapping, Members, no_member, me
 use Rattle.conf_record.specs.Commands.{Command, import_as, set_at, delete_at}
 use Rattle.conf_record.specs.BaseTexts.{closed_document}
 
--- what stands behind the number
+-- what comes after the number
 abbrev pub command_members : Command → Members
 command_members (import_as name tree) = member (codes "import") (text name) (member (codes "tree") tree no_member)
 command_members (set_at name path value) =

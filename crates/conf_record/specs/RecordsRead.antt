@@ -63,7 +63,7 @@ abbrev pub delete_of : List Tree → Option (Command × ℕ)
 delete_of (text digits ∷ text name ∷ text path ∷ []) = numbered (delete_at name path) digits
 delete_of ts = None
 
--- the command and the number that a record's tree tells
+-- the command and the number that a record's tree holds
 unfoldable pub record_of : Tree → Option (Command × ℕ)
 record_of (text value) = None
 record_of (sequence ts) = None
@@ -93,7 +93,7 @@ contents_of (text mark ∷ text digits ∷ mapping configs ∷ []) =
     if same_text mark (codes "confstore-1") then option_map (λ number. record { configs = entries configs; count = number }) (number_told digits) else None
 contents_of ts = None
 
--- the state that a base's tree tells, whatever its limits
+-- the state that a base's tree holds, whatever its limits
 unfoldable pub base_of : Tree → Option Contents
 base_of (text value) = None
 base_of (sequence ts) = None

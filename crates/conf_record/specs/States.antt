@@ -50,7 +50,7 @@ abbrev pub has_name : List ℕ → List (List ℕ) → Bool
 has_name name [] = false
 has_name name (n ∷ ns) = same_text name n || has_name name ns
 
--- no name stands twice
+-- no name occurs twice
 abbrev pub names_differ : List (List ℕ) → Bool
 names_differ [] = true
 names_differ (n ∷ ns) = not (has_name n ns) && names_differ ns

@@ -25,7 +25,7 @@ abbrev pub found : Option Tree → Result Tree StoreFault
 found (Some t) = Ok t
 found None = Err NoConfig
 
--- what a path says, as the store tells it
+-- what a path returns, as the store returns it
 abbrev pub by_path : {A : Type 0} → Result A PathFault → Result A StoreFault
 by_path (Ok x) = Ok x
 by_path (Err fault) = Err (Path fault)

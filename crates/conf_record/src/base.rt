@@ -33,7 +33,8 @@ pub(crate) fn write_entry<S: Sink>(
     config: &Config,
     sink: &mut S,
 ) -> Result<(), S::Fault>
-    ensures { OnOk result (S.Takes sink.old (entry_lines (chars name.now) (tree_of config.now)) sink.new) }
+    ensures { OnOk result (S.Takes sink.old (entry_lines (chars name.now)
+        (tree_of config.now)) sink.new) }
 {
     let tree = config.tree();
     sink.put_spaces(2)?;

@@ -5,7 +5,6 @@ ghost use Rattle.conf_record.specs.BaseTexts.{base_text, base_bytes};
 
 use crate::State;
 use crate::record::write_number;
-use crate::text_buffer::TextBuffer;
 use std::alloc::{AllocError, Global};
 use yaml_tree::Sink;
 
@@ -18,9 +17,9 @@ pub fn base_text(alloc: Global, state: &State) -> Result<String, AllocError>
     ensures text { IfOk result (λ text. chars (string_bytes text) ≡ base_text state.now) }
     ensures bytes { IfOk result (λ text. string_bytes text ≡ base_bytes state.now) }
 {
-    let mut buffer = TextBuffer::with_capacity(alloc, state.base_length())?;
-    write_base(state, &mut buffer)?;
-    Ok(buffer.into_text())
+    let mut text = String::with_capacity(alloc, state.base_length() as usize)?;
+    write_base(state, &mut text)?;
+    Ok(text)
 }
 
 fn write_base<S: Sink>(state: &State, sink: &mut S) -> Result<(), S::Fault>

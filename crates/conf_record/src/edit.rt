@@ -36,8 +36,10 @@ impl Edit {
     pub(crate) fn change(&self, config: &Config, path: &Path) -> Result<Change, PathFault>
         requires { 0 < length path.now }
         ensures ok { IfOk result (λ change. (new : Meant)
-            × (edited self.now (tree_of config.now) path.now ≡ Ok new) × Changes change (tree_of config.now) new) }
-        ensures refused { IfErr result (λ fault. edited self.now (tree_of config.now) path.now ≡ Err fault) }
+            × (edited self.now (tree_of config.now) path.now ≡ Ok new)
+            × Changes change (tree_of config.now) new) }
+        ensures refused { IfErr result (λ fault. edited self.now (tree_of config.now) path.now
+            ≡ Err fault) }
     {
         match self {
             Edit::Set(value) => set_change(config, path, value.tree()),
@@ -69,8 +71,10 @@ impl Edit {
     ) -> Result<(), StoreFault>
         requires steps { 0 < length path.now }
         requires leaves { (new : Meant) × (edited self (tree_of config.old) path.now ≡ Ok new)
-            × (depth new ≤ DEPTH_LIMIT) × (byte_len (style_text new) ≤ STYLE_LIMIT) × (bytes ≡ byte_len (style_text new)) }
-        ensures ok { OnOk result (edited self (tree_of config.old) path.now ≡ Ok (tree_of config.new)) }
+            × (depth new ≤ DEPTH_LIMIT) × (byte_len (style_text new) ≤ STYLE_LIMIT)
+            × (bytes ≡ byte_len (style_text new)) }
+        ensures ok { OnOk result (edited self (tree_of config.old) path.now
+            ≡ Ok (tree_of config.new)) }
         ensures within { OnOk result (Good (tree_of config.new) config_limits) }
         ensures refused { IfErr result (λ fault. fault ≡ StoreFault.OutOfMemory) }
         ensures unchanged { OnErr result (tree_of config.new ≡ tree_of config.old) }
@@ -92,7 +96,8 @@ impl Edit {
     fn edit_tree(self, alloc: Global, tree: &mut Tree, path: &Path) -> Result<(), StoreFault>
         requires { 0 < length path.now }
         ensures ok { OnOk result (edited self (tree_of tree.old) path.now ≡ Ok (tree_of tree.new)) }
-        ensures distinct { OnOk result (distinct (tree_of tree.old) ≡ true → distinct (tree_of tree.new) ≡ true) }
+        ensures distinct { OnOk result (distinct (tree_of tree.old) ≡ true
+            → distinct (tree_of tree.new) ≡ true) }
         ensures refused { IfErr result (λ fault. (fault ≡ StoreFault.OutOfMemory)
             ⊎ (by_path (edited self (tree_of tree.old) path.now) ≡ Err fault)) }
         ensures unchanged { OnErr result (tree_of tree.new ≡ tree_of tree.old) }

@@ -22,7 +22,8 @@ pub fn accepted_commands_are_counted()
 /// refused, the fault is one of the command and the state: never one of a text that is read, of the disk, of memory,
 /// or that the store has to be opened again.
 pub fn steps_are_counted_or_refused()
-    ensures room { (s new : Contents) (command : Command) (fits : Bool) → step s command fits ≡ Ok new → fits ≡ true }
+    ensures room { (s new : Contents) (command : Command) (fits : Bool)
+        → step s command fits ≡ Ok new → fits ≡ true }
     ensures count { (s new : Contents) (command : Command) (fits : Bool)
         → step s command fits ≡ Ok new → new.count ≡ s.count + 1 }
     ensures refused { (s : Contents) (command : Command) (fits : Bool) (fault : StoreFault)
@@ -40,12 +41,17 @@ pub fn runs_are_joined()
 /// of a `Config`: at most 67,108,864 bytes, also in the one style, and at most 66 deep.
 pub fn records_read()
     ensures base { (s : Contents) → IsState s → ReadsBase (base_text s) s }
-    ensures one_base { (s other : Contents) → IsState s → ReadsBase (base_text s) other → other ≡ s }
-    ensures record { (s new : Contents) (command : Command) (fits : Bool) (number : ℕ) → IsState s → IsCommand command
-        → step s command fits ≡ Ok new → number ≤ count_limit → ReadsRecord (record_text command number) command number }
-    ensures one_record { (s new : Contents) (command other : Command) (fits : Bool) (number told : ℕ) → IsState s
+    ensures one_base { (s other : Contents) → IsState s → ReadsBase (base_text s) other
+        → other ≡ s }
+    ensures record { (s new : Contents) (command : Command) (fits : Bool) (number : ℕ) → IsState s
+        → IsCommand command
+        → step s command fits ≡ Ok new → number ≤ count_limit
+        → ReadsRecord (record_text command number) command number }
+    ensures one_record { (s new : Contents) (command other : Command) (fits : Bool)
+        (number told : ℕ) → IsState s
         → IsCommand command → step s command fits ≡ Ok new → number ≤ count_limit
-        → ReadsRecord (record_text command number) other told → (other ≡ command) × (told ≡ number) }
+        → ReadsRecord (record_text command number) other told
+        → (other ≡ command) × (told ≡ number) }
 {
     one_tree();
     style_reads();

@@ -14,7 +14,6 @@ mod name;
 mod record;
 mod state;
 mod steps;
-mod text_buffer;
 
 pub use base_writer::base_text;
 pub use command::Command;

@@ -117,7 +117,8 @@ impl State {
 
     /// The configuration under a name.
     pub fn get(&self, name: &str) -> Option<&Config>
-        ensures { option_map (λ config. tree_of config.now) result ≡ config_named self.now.configs (chars name.now) }
+        ensures { option_map (λ config. tree_of config.now) result
+            ≡ config_named self.now.configs (chars name.now) }
     {
         self.configs.get(name)
     }
@@ -136,9 +137,11 @@ impl State {
         requires named { good_name (text_of name) ≡ true }
         requires within { Good (tree_of config) config_limits }
         ensures ok { OnOk result
-            (counted self.old fits (put_config self.old.configs (text_of name) (tree_of config)) ≡ Ok self.new) }
+            (counted self.old fits (put_config self.old.configs (text_of name) (tree_of config))
+            ≡ Ok self.new) }
         ensures refused { IfErr result (λ fault. (fault ≡ StoreFault.OutOfMemory)
-            ⊎ (counted self.old fits (put_config self.old.configs (text_of name) (tree_of config)) ≡ Err fault)) }
+            ⊎ (counted self.old fits (put_config self.old.configs (text_of name) (tree_of config))
+            ≡ Err fault)) }
         ensures unchanged { OnErr result (self.new ≡ self.old) }
     {
         let entries = self.length_with(&name, &config);
@@ -164,9 +167,11 @@ impl State {
         requires named { good_name (chars name.now) ≡ true }
         requires steps { 0 < length path.now }
         ensures ok { OnOk result
-            (and_then (configs_edited self.old.configs (chars name.now) edit path.now) (counted self.old fits) ≡ Ok self.new) }
+            (and_then (configs_edited self.old.configs (chars name.now) edit path.now)
+            (counted self.old fits) ≡ Ok self.new) }
         ensures refused { IfErr result (λ fault. (fault ≡ StoreFault.OutOfMemory)
-            ⊎ (and_then (configs_edited self.old.configs (chars name.now) edit path.now) (counted self.old fits) ≡ Err fault)) }
+            ⊎ (and_then (configs_edited self.old.configs (chars name.now) edit path.now)
+            (counted self.old fits) ≡ Err fault)) }
         ensures unchanged { OnErr result (self.new ≡ self.old) }
     {
         let Some(index) = self.configs.get_index_of(name) else {
@@ -183,7 +188,8 @@ impl State {
     /// The lengths that an edit would leave, where the configuration then keeps to its limits.
     fn lengths_after(&self, name: &str, path: &Path, edit: &Edit) -> Result<Lengths, StoreFault>
         requires { 0 < length path.now }
-        ensures ok { IfOk result (λ lengths. LeavesLengths self.now.configs (chars name.now) edit.now path.now lengths) }
+        ensures ok { IfOk result (λ lengths.
+            LeavesLengths self.now.configs (chars name.now) edit.now path.now lengths) }
         ensures refused { IfErr result (λ fault. (fault ≡ StoreFault.OutOfMemory)
             ⊎ (configs_edited self.now.configs (chars name.now) edit.now path.now ≡ Err fault)) }
     {
@@ -207,9 +213,11 @@ impl State {
 
     /// Removes the configuration under a name.
     pub(crate) fn take_out(&mut self, name: &str, fits: bool) -> Result<(), StoreFault>
-        ensures ok { OnOk result (counted self.old fits (cut_config self.old.configs (chars name.now)) ≡ Ok self.new) }
+        ensures ok { OnOk result (counted self.old fits
+            (cut_config self.old.configs (chars name.now)) ≡ Ok self.new) }
         ensures refused { IfErr result
-            (λ fault. counted self.old fits (cut_config self.old.configs (chars name.now)) ≡ Err fault) }
+            (λ fault. counted self.old fits (cut_config self.old.configs (chars name.now))
+            ≡ Err fault) }
         ensures unchanged { OnErr result (self.new ≡ self.old) }
     {
         let entries = self.length_without(name);
@@ -223,11 +231,14 @@ impl State {
     /// Whether the store has room for one more command, after which the configurations have `entries` bytes in the base
     /// text.
     fn check_room(&self, entries: u64, fits: bool) -> Result<(), StoreFault>
-        ensures ok { OnOk result ((configs : List Entry) → entries ≡ min (entries_length configs) u64.MAX
-            → counted self.now fits configs ≡ Ok (record { configs = configs; count = self.now.count + 1 })) }
+        ensures ok { OnOk result ((configs : List Entry)
+            → entries ≡ min (entries_length configs) u64.MAX
+            → counted self.now fits configs
+            ≡ Ok (record { configs = configs; count = self.now.count + 1 })) }
         ensures counts { OnOk result (self.now.count < u64.MAX) }
         ensures short { OnOk result (entries ≤ BASE_LIMIT) }
-        ensures refused { IfErr result (λ fault. (configs : List Entry) → entries ≡ min (entries_length configs) u64.MAX
+        ensures refused { IfErr result (λ fault. (configs : List Entry)
+            → entries ≡ min (entries_length configs) u64.MAX
             → counted self.now fits configs ≡ Err fault) }
     {
         if base_length(u128::from(self.count) + 1, entries) > BASE_LIMIT {
@@ -248,7 +259,6 @@ impl State {
         ensures short { result ≤ BASE_LIMIT }
         ensures kept { IsState self.now }
     {
-        let _ = self.count;
         self.entries
     }
 
@@ -261,7 +271,8 @@ impl State {
 
     /// Writes the configurations as a base text has them after `configs:`.
     pub(crate) fn write_configs<S: Sink>(&self, sink: &mut S) -> Result<(), S::Fault>
-        ensures { OnOk result (S.Takes sink.old (value_at (mapping (members self.now.configs)) 0) sink.new) }
+        ensures { OnOk result (S.Takes sink.old (value_at
+            (mapping (members self.now.configs)) 0) sink.new) }
     {
         if self.configs.is_empty() {
             return sink.put_text(" {}\n");
@@ -275,10 +286,10 @@ impl State {
 
     /// How many bytes the configuration under a name has in the base text; 0 where there is none.
     fn length_of(&self, name: &str) -> u64
-        ensures { result + entries_length (cut_config self.now.configs (chars name.now)) ≡ entries_length self.now.configs }
+        ensures { result + entries_length (cut_config self.now.configs (chars name.now))
+            ≡ entries_length self.now.configs }
     {
-        let _ = &self.count;
-        match self.get(name) {
+        match self.configs.get(name) {
             Some(config) => entry_length(name, config),
             None => 0,
         }
@@ -287,7 +298,8 @@ impl State {
     /// How many bytes the configurations would have in the base text with this one under its name; at most the greatest
     /// `u64`.
     fn length_with(&self, name: &str, config: &Config) -> u64
-        ensures { result ≡ min (entries_length (put_config self.now.configs (chars name.now) (tree_of config.now))) u64.MAX }
+        ensures { result ≡ min (entries_length (put_config self.now.configs (chars name.now)
+            (tree_of config.now))) u64.MAX }
     {
         self.length_without(name)
             .saturating_add(entry_length(name, config))
@@ -341,7 +353,8 @@ fn insert(
     name: String,
     config: Config,
 ) -> Result<(), AllocError>
-    ensures ok { OnOk result (configs.new.entries ≡ insert_entry string_eq configs.old.entries name config) }
+    ensures ok { OnOk result (configs.new.entries
+        ≡ insert_entry string_eq configs.old.entries name config) }
     ensures unchanged { OnErr result (configs.new.entries ≡ configs.old.entries) }
 {
     let _ = configs.insert(name, config)?;

@@ -28,7 +28,8 @@ pub fn step(
 ) -> Result<(), StoreFault>
     ensures ok { OnOk result (step state.old (command_of command) fits ≡ Ok state.new) }
     ensures refused { IfErr result
-        (λ fault. (fault ≡ StoreFault.OutOfMemory) ⊎ (step state.old (command_of command) fits ≡ Err fault)) }
+        (λ fault. (fault ≡ StoreFault.OutOfMemory)
+        ⊎ (step state.old (command_of command) fits ≡ Err fault)) }
     ensures unchanged { OnErr result (state.new ≡ state.old) }
 {
     if !good_name(command.name()) {
@@ -43,7 +44,8 @@ pub fn step(
 
 fn import(state: &mut State, name: String, config: Config, fits: bool) -> Result<(), StoreFault>
     requires { good_name (text_of name) ≡ true }
-    ensures ok { OnOk result (performed state.old (import_as (text_of name) (tree_of config)) fits ≡ Ok state.new) }
+    ensures ok { OnOk result (performed state.old (import_as (text_of name) (tree_of config)) fits
+        ≡ Ok state.new) }
     ensures refused { IfErr result (λ fault. (fault ≡ StoreFault.OutOfMemory)
         ⊎ (performed state.old (import_as (text_of name) (tree_of config)) fits ≡ Err fault)) }
     ensures unchanged { OnErr result (state.new ≡ state.old) }
@@ -61,9 +63,11 @@ fn set(
     fits: bool,
 ) -> Result<(), StoreFault>
     requires { good_name (text_of name) ≡ true }
-    ensures ok { OnOk result (performed state.old (set_at (text_of name) (chars path.now) (tree_of value)) fits ≡ Ok state.new) }
+    ensures ok { OnOk result (performed state.old (set_at (text_of name) (chars path.now)
+        (tree_of value)) fits ≡ Ok state.new) }
     ensures refused { IfErr result (λ fault. (fault ≡ StoreFault.OutOfMemory)
-        ⊎ (performed state.old (set_at (text_of name) (chars path.now) (tree_of value)) fits ≡ Err fault)) }
+        ⊎ (performed state.old (set_at (text_of name) (chars path.now) (tree_of value)) fits
+        ≡ Err fault)) }
     ensures unchanged { OnErr result (state.new ≡ state.old) }
 {
     if state.get(&name).is_none() {
@@ -84,7 +88,8 @@ fn delete(
     fits: bool,
 ) -> Result<(), StoreFault>
     requires { good_name (chars name.now) ≡ true }
-    ensures ok { OnOk result (performed state.old (delete_at (chars name.now) (chars path.now)) fits ≡ Ok state.new) }
+    ensures ok { OnOk result (performed state.old (delete_at (chars name.now) (chars path.now)) fits
+        ≡ Ok state.new) }
     ensures refused { IfErr result (λ fault. (fault ≡ StoreFault.OutOfMemory)
         ⊎ (performed state.old (delete_at (chars name.now) (chars path.now)) fits ≡ Err fault)) }
     ensures unchanged { OnErr result (state.new ≡ state.old) }
@@ -105,7 +110,6 @@ pub(crate) fn check_limits(config: &Config) -> Result<(), StoreFault>
     ensures within { OnOk result (Good (tree_of config.now) config_limits) }
     ensures refused { IfErr result (λ fault. limited (tree_of config.now) ≡ Err fault) }
 {
-    let _ = config.tree();
     if config.depth() > DEPTH_LIMIT {
         return Err(StoreFault::TooDeep);
     }

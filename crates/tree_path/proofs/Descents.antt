@@ -15,6 +15,7 @@ use Rattle.tree_path.proofs.StepLaws.{child-put, put-put, put-child}
 Ok-same : {E : Type 0} (r : Result Tree E) (x y : Tree) → r ≡ Ok x → r ≡ Ok y → x ≡ y
 Ok-same r x y p q = cc
 
+-- one step further down
 pub Lowered-push : (tokens : List (List ℕ)) (token : List ℕ) (t a u b next left : Tree)
     → Lowered tokens t a u b → child u token ≡ Ok next → put u token b ≡ Ok left → Lowered (tokens ++ token ∷ []) t a next left
 Lowered-push [] token t a u b next left low found is = (
@@ -27,6 +28,7 @@ Lowered-push [] token t a u b next left low found is = (
 Lowered-push (first ∷ tokens) token t a u b next left low found is =
     (low.0, low.1, low.2, low.3, Lowered-push tokens token low.0 low.1 u b next left low.4 found is)
 
+-- one step back up
 pub Lowered-pop : (tokens : List (List ℕ)) (token : List ℕ) (t a u b : Tree) → Lowered (tokens ++ token ∷ []) t a u b
     → (c : Tree) × (d : Tree) × Lowered tokens t a c d × (child c token ≡ Ok u) × (put c token d ≡ Ok b)
 Lowered-pop [] token t a u b low =
@@ -35,6 +37,7 @@ Lowered-pop (first ∷ tokens) token t a u b low =
     let p = Lowered-pop tokens token low.0 low.1 u b low.4 in
     (p.0, p.1, (low.0, low.1, low.2, low.3, p.2), p.3, p.4)
 
+-- one step further, with the trees on the way
 pub Rebuilt-push : (tokens : List (List ℕ)) (token : List ℕ) (t a c d u v w r : Tree)
     → Lowered tokens t a c d → child c token ≡ Ok u → put c token v ≡ Ok w → Rebuilt tokens t w r → Rebuilt (tokens ++ token ∷ []) t v r
 Rebuilt-push [] token t a c d u v w r low found is built = (
@@ -54,6 +57,7 @@ pub Lowered-there : (tokens : List (List ℕ)) (token : List ℕ) (t a u b : Tre
 Lowered-there tokens token t a u b low =
     let p = Lowered-pop tokens token t a u b low in (p.1, child-put p.0 b token u p.1 p.3 p.4)
 
+-- on the way up the tree is put into its parent
 pub Rebuilt-step : (tokens : List (List ℕ)) (token : List ℕ) (t a u b here above left : Tree) → Lowered (tokens ++ token ∷ []) t a u b
     → child b token ≡ Ok above → put b token here ≡ Ok left
     → (c : Tree) × Lowered tokens t a c above × ((r : Tree) → Rebuilt tokens t left r → Rebuilt (tokens ++ token ∷ []) t here r)
@@ -75,6 +79,7 @@ Rebuilt-same (token ∷ tokens) t a u b r low built =
 
 -- ---- the definitions of paths
 
+-- the value at two paths in turn
 pub at_from-append : (xs ys : List (List ℕ)) (step : ℕ) (t : Tree)
     → at_from step t (xs ++ ys) ≡ and_then (at_from step t xs) (λ u. at_from (step + length xs) u ys)
 at_from-append [] ys step t = ap (λ s. at_from s t ys) (sym (add-zero step))
@@ -86,6 +91,7 @@ at_from-append (x ∷ xs) ys step t =
       | Err miss ↦ refl
     ]
 
+-- the value at a path that was gone down
 pub at_from-Lowered : (tokens : List (List ℕ)) (step : ℕ) (t a u b : Tree) → Lowered tokens t a u b → at_from step t tokens ≡ Ok u
 at_from-Lowered [] step t a u b low = ap Ok (sym low.0)
 at_from-Lowered (token ∷ tokens) step t a u b low = rw low.2 (at_from-Lowered tokens (suc step) low.0 low.1 u b low.4)
@@ -95,6 +101,7 @@ abbrev pub edit_path : (Tree → List ℕ → Result Tree Miss) → ℕ → Tree
 edit_path edit step t [] = Ok t
 edit_path edit step t (token ∷ tokens) = edit_from edit step t token tokens
 
+-- an edit one step further down
 pub edit_path-step : (edit : Tree → List ℕ → Result Tree Miss) (step : ℕ) (t : Tree) (token last : List ℕ) (tokens : List (List ℕ))
     → edit_path edit step t (token ∷ (tokens ++ last ∷ []))
     ≡ at_step step (child t token) (λ u. and_then (edit_path edit (suc step) u (tokens ++ last ∷ [])) (λ v. at_step step (put t token v) Ok))
@@ -136,10 +143,12 @@ edit_path-refused edit (token ∷ parents) last step t fault is =
 
 -- ---- the tokens of the code
 
+-- the texts of two lists of strings
 pub texts-append : (xs ys : List (String Global)) → texts (xs ++ ys) ≡ texts xs ++ texts ys
 texts-append [] ys = refl
 texts-append (x ∷ xs) ys = ap (λ ts. chars (string_bytes x) ∷ ts) (texts-append xs ys)
 
+-- the text of the string at a place
 pub texts-turn : (tokens : List (String Global)) (n : ℕ) (token : String Global) → n < length tokens → token ≡ get_or tokens n token
     → texts (take (n + 1) tokens) ≡ texts (take n tokens) ++ chars (string_bytes token) ∷ []
 texts-turn tokens n token within is =
@@ -153,6 +162,7 @@ texts-split tokens n token within is =
     ∙ ap (λ ts. texts (take n tokens) ++ ts) (at_drop_more texts tokens n token within)
     ∙ ap (λ x. texts (take n tokens) ++ chars (string_bytes x) ∷ texts (drop (n + 1) tokens)) (sym is)
 
+-- the value one step further down
 pub at_from-turn : (tokens : List (String Global)) (n : ℕ) (token : String Global) (t u w : Tree) → n < length tokens → token ≡ get_or tokens n token
     → at_from 1 t (texts (take n tokens)) ≡ Ok u → child u (chars (string_bytes token)) ≡ Ok w → at_from 1 t (texts (take (n + 1) tokens)) ≡ Ok w
 at_from-turn tokens n token t u w within is before found =

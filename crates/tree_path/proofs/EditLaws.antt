@@ -3,7 +3,7 @@ use Rattle.std.proofs.Common.{◌≡◌, ℕ, zero, suc, Bool, true, false, cond
 use Rattle.std.proofs.lemmas.Bool.Decides.{nat_tests}
 use Rattle.yaml_grammar.specs.Texts.{same_text}
 use Rattle.yaml_grammar.specs.Trees.{Tree, text, sequence, mapping, Elements, no_element, element, Members, no_member, member, distinct, elements_distinct, members_distinct, has_key}
-use Rattle.tree_path.specs.Paths.{Index, number, behind_last, no_index, index_of, at_index, present, element_at, put_element, cut_element, push_element, value_of, put_member, cut_member, child, put, cut, at_step, and_then, at_from, at, edit_from, set, delete}
+use Rattle.tree_path.specs.Paths.{Index, number, after_last, no_index, index_of, at_index, present, element_at, put_element, cut_element, push_element, value_of, put_member, cut_member, child, put, cut, at_step, and_then, at_from, at, edit_from, set, delete}
 use Rattle.tree_path.specs.declared.fault.PathFault.{PathFault}
 use Rattle.tree_path.specs.declared.place.Miss.{Miss}
 use Rattle.tree_path.specs.declared.place.Miss.TheVariants.{Absent}
@@ -143,7 +143,7 @@ child-distinct (sequence ts) u token d is = in_sequence (index_of token) is
   where
     in_sequence : (index : Index) → at_index index (element_at ts) (Err Absent) ≡ Ok u → distinct u ≡ true
     in_sequence (number n) e = element_at-distinct ts n u d (present-Ok _ u e)
-    in_sequence behind_last e = cc
+    in_sequence after_last e = cc
     in_sequence no_index e = cc
 child-distinct (mapping ms) u token d is = value_of-distinct ms token u d (present-Ok _ u is)
 
@@ -152,7 +152,7 @@ put_index-distinct : (index : Index) (ts : Elements) (v u : Tree) → elements_d
 put_index-distinct (number n) ts v u d e is =
     let o = option_map-Some sequence (put_element ts n v) u (present-Ok _ u is) in
     subst (λ x. distinct x ≡ true) o.2 (put_element-distinct ts o.0 n v d e o.1)
-put_index-distinct behind_last ts v u d e is =
+put_index-distinct after_last ts v u d e is =
     let same : sequence (push_element ts v) ≡ u = cc in subst (λ x. distinct x ≡ true) same (push_element-distinct ts v d e)
 put_index-distinct no_index ts v u d e is = cc
 
@@ -168,7 +168,7 @@ cut_index-distinct : (index : Index) (ts : Elements) (u : Tree) → elements_dis
 cut_index-distinct (number n) ts u d is =
     let o = option_map-Some sequence (cut_element ts n) u (present-Ok _ u is) in
     subst (λ x. distinct x ≡ true) o.2 (cut_element-distinct ts o.0 n d o.1)
-cut_index-distinct behind_last ts u d is = cc
+cut_index-distinct after_last ts u d is = cc
 cut_index-distinct no_index ts u d is = cc
 
 cut-distinct : (t u : Tree) (token : List ℕ) → distinct t ≡ true → cut t token ≡ Ok u → distinct u ≡ true
@@ -181,19 +181,23 @@ cut-distinct (mapping ms) u token d is =
 
 -- ---- along a path
 
+-- a step that succeeds leads on
 pub at_step-Ok : (step : ℕ) (r : Result Tree Miss) (next : Tree → Result Tree PathFault) (u : Tree) → at_step step r next ≡ Ok u
     → (t : Tree) × (r ≡ Ok t) × (next t ≡ Ok u)
 at_step-Ok step (Ok t) next u is = (t, refl, is)
 at_step-Ok step (Err miss) next u is = cc
 
+-- so does a tree
 pub and_then-Ok : (r : Result Tree PathFault) (next : Tree → Result Tree PathFault) (u : Tree) → and_then r next ≡ Ok u
     → (t : Tree) × (r ≡ Ok t) × (next t ≡ Ok u)
 and_then-Ok (Ok t) next u is = (t, refl, is)
 and_then-Ok (Err fault) next u is = cc
 
+-- a tree as a result
 abbrev pub done : Tree → Result Tree PathFault
 done t = Ok t
 
+-- equal results of one step are one
 pub same_Ok : (a b : Tree) (r : Result Tree Miss) → r ≡ Ok a → done a ≡ done b → r ≡ Ok b
 same_Ok a b r is same = let e : a ≡ b = cc in is ∙ ap Ok e
 
@@ -208,27 +212,29 @@ edit_from-distinct edit keeps (next ∷ tokens) step t u token d is =
     put-distinct t u b.0 token d (edit_from-distinct edit keeps tokens (suc step) a.0 b.0 next (child-distinct t a.0 token d a.1) b.1)
     (same_Ok c.0 u (put t token b.0) c.1 c.2)
 
+-- a set keeps keys different
 pub set-distinct : (t v u : Tree) (path : List (List ℕ)) → distinct t ≡ true → distinct v ≡ true → set t path v ≡ Ok u → distinct u ≡ true
 set-distinct t v u [] d e is = let same : v ≡ u = cc in subst (λ x. distinct x ≡ true) same e
 set-distinct t v u (token ∷ tokens) d e is =
     edit_from-distinct (λ x last. put x last v) (λ x y last xd p. put-distinct x y v last xd e p) tokens 1 t u token d is
 
+-- so does a delete
 pub delete-distinct : (t u : Tree) (path : List (List ℕ)) → distinct t ≡ true → delete t path ≡ Ok u → distinct u ≡ true
 delete-distinct t u [] d is = let same : t ≡ u = cc in subst (λ x. distinct x ≡ true) same d
 delete-distinct t u (token ∷ tokens) d is = edit_from-distinct cut cut-distinct tokens 1 t u token d is
 
 -- ---- what is set is found there
 
-put_index-found : (index : Index) (ts : Elements) (v u : Tree) → (index ≡ behind_last → ⊥)
+put_index-found : (index : Index) (ts : Elements) (v u : Tree) → (index ≡ after_last → ⊥)
     → at_index index (λ n. option_map sequence (put_element ts n v)) (Ok (sequence (push_element ts v))) ≡ Ok u
     → (us : Elements) × (sequence us ≡ u) × (at_index index (element_at us) (Err Absent) ≡ Ok v)
 put_index-found (number n) ts v u inside is =
     let o = option_map-Some sequence (put_element ts n v) u (present-Ok _ u is) in
     (o.0, o.2, ap present (element_at-put_element ts o.0 n v o.1))
-put_index-found behind_last ts v u inside is = absurd (inside refl)
+put_index-found after_last ts v u inside is = absurd (inside refl)
 put_index-found no_index ts v u inside is = cc
 
-put-found : (t u v : Tree) (token : List ℕ) → (index_of token ≡ behind_last → ⊥) → put t token v ≡ Ok u → child u token ≡ Ok v
+put-found : (t u v : Tree) (token : List ℕ) → (index_of token ≡ after_last → ⊥) → put t token v ≡ Ok u → child u token ≡ Ok v
 unfolding child put
 put-found (text value) u v token inside is = cc
 put-found (sequence ts) u v token inside is =
@@ -236,7 +242,7 @@ put-found (sequence ts) u v token inside is =
 put-found (mapping ms) u v token inside is =
     let same : mapping (put_member ms token v) ≡ u = cc in subst (λ x. child x token ≡ Ok v) same (ap present (value_of-put_member ms token v))
 
-set_path-found : (parents : List (List ℕ)) (last : List ℕ) (step : ℕ) (t u v : Tree) → (index_of last ≡ behind_last → ⊥)
+set_path-found : (parents : List (List ℕ)) (last : List ℕ) (step : ℕ) (t u v : Tree) → (index_of last ≡ after_last → ⊥)
     → edit_path (λ x token. put x token v) step t (parents ++ last ∷ []) ≡ Ok u → at_from step u (parents ++ last ∷ []) ≡ Ok v
 set_path-found [] last step t u v inside is =
     let a = at_step-Ok step (put t last v) Ok u is in
@@ -249,6 +255,7 @@ set_path-found (token ∷ parents) last step t u v inside is =
     let found = child-put t u token a.0 b.0 a.1 (same_Ok c.0 u (put t token b.0) c.1 c.2) in
     rw found (set_path-found parents last (suc step) a.0 b.0 v inside b.1)
 
-pub set-at : (t u v : Tree) (parents : List (List ℕ)) (last : List ℕ) → (index_of last ≡ behind_last → ⊥)
+-- what is set is found again
+pub set-at : (t u v : Tree) (parents : List (List ℕ)) (last : List ℕ) → (index_of last ≡ after_last → ⊥)
     → set t (parents ++ last ∷ []) v ≡ Ok u → at u (parents ++ last ∷ []) ≡ Ok v
 set-at t u v parents last inside is = set_path-found parents last 1 t u v inside (sym (set-edit parents last t v) ∙ is)

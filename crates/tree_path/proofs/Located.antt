@@ -3,11 +3,11 @@ use Rattle.std.proofs.Common.{◌≡◌, ℕ, zero, suc, ◌+◌, ◌*◌, ◌^�
 use Rattle.std.proofs.Math.Nat.{mul-le-mul_left, mul-le-mul_right}
 use Rattle.yaml_grammar.specs.Texts.{byte_len, same_text, spaces}
 use Rattle.yaml_grammar.specs.Trees.{Tree, text, sequence, mapping, Elements, no_element, element, Members, no_member, member, depth, elements_depth, members_depth}
-use Rattle.yaml_grammar.specs.Style.{scalar_lines, key_lines, elements_at, elements_behind, element_at, members_at, members_behind, value_at, style_text}
+use Rattle.yaml_grammar.specs.Style.{scalar_lines, key_lines, elements_at, elements_after, element_at, members_at, members_after, value_at, style_text}
 use Rattle.yaml_tree.specs.Sizes.{length_at}
 use Rattle.yaml_tree.specs.declared.size.Size.{Size}
 use Rattle.yaml_tree.proofs.SizeLaws.{three, four, elements_law, members_law}
-use Rattle.tree_path.specs.Paths.{Index, number, behind_last, no_index, index_of, at_index, present, element_at as child_at, value_of, child, put, cut, refusal, at_step, and_then, at_from, edit_from}
+use Rattle.tree_path.specs.Paths.{Index, number, after_last, no_index, index_of, at_index, present, element_at as child_at, value_of, child, put, cut, refusal, at_step, and_then, at_from, edit_from}
 use Rattle.tree_path.specs.Changes.{IsCollection, Changes, ChangesNode, ChangesSmall, node_length, slot_in, Located, shifted, shifted_size}
 use Rattle.tree_path.specs.declared.change.Change.{Change}
 use Rattle.tree_path.specs.declared.change.Slot.{Slot}
@@ -21,6 +21,7 @@ use Rattle.tree_path.proofs.ChangeLaws.{put-leads, put-collection, style-node, n
 
 -- ---- down a path
 
+-- one step further down, with the slots
 pub Located-push : (tokens : List (List ℕ)) (token : List ℕ) (s r : Slot) (t u next : Tree)
     → Located tokens s t r u → child u token ≡ Ok next → Located (tokens ++ token ∷ []) s t (slot_in u) next
 Located-push [] token s r t u next low found =
@@ -28,6 +29,7 @@ Located-push [] token s r t u next low found =
 Located-push (first ∷ tokens) token s r t u next low found =
     (low.0, low.1, Located-push tokens token (slot_in t) r low.0 u next low.2 found)
 
+-- the value at a path that was gone down
 pub at_from-Located : (tokens : List (List ℕ)) (step : ℕ) (s r : Slot) (t u : Tree) → Located tokens s t r u → at_from step t tokens ≡ Ok u
 at_from-Located [] step s r t u low = ap Ok (sym low.0)
 at_from-Located (token ∷ tokens) step s r t u low = rw low.1 (at_from-Located tokens (suc step) (slot_in t) r low.0 u low.2)
@@ -37,6 +39,7 @@ at_from-Located (token ∷ tokens) step s r t u low = rw low.1 (at_from-Located 
 deeper : (n k : ℕ) → n + 2 + 2 * k ≡ n + 2 * suc k
 deeper n k = omega arith
 
+-- an edit at the end of the path changes the whole tree so
 pub edit-Located : (edit : Tree → List ℕ → Result Tree Miss) (parents : List (List ℕ)) (last : List ℕ) (step : ℕ) (s r : Slot) (t u v : Tree)
     → Located parents s t r u → edit u last ≡ Ok v
     → (w : Tree) × (edit_path edit step t (parents ++ last ∷ []) ≡ Ok w)
@@ -69,6 +72,7 @@ edit-Located edit (token ∷ parents) last step s r t u v low is =
       λ _. put-collection t inner.0 whole.0 token whole.1,
     )
 
+-- an edit whose last step fails
 pub missed-Located : (edit : Tree → List ℕ → Result Tree Miss) (parents : List (List ℕ)) (last : List ℕ) (step : ℕ) (s r : Slot) (t u : Tree) (miss : Miss)
     → Located parents s t r u → edit u last ≡ Err miss
     → edit_path edit step t (parents ++ last ∷ []) ≡ Err (refusal miss (step + length parents))
@@ -86,6 +90,7 @@ product_fits k l few small =
     let b : k ≤ 2 ^ 65 = omega arith in
     omega (arith, mul-le-mul_left k a, mul-le-mul_right (2 ^ 34) b)
 
+-- the length of the whole tree after a change
 pub changes-whole : (k : ℕ) (r : Slot) (change : Change) (t u v w : Tree) → k < 2 ^ 64
     → ((n : ℕ) → node_length Value w n + node_length r u (n + 2 * k) ≡ node_length Value t n + node_length r v (n + 2 * k))
     → IsCollection t → IsCollection w → ChangesSmall r change u v → Changes (shifted (2 * k) change) t w
@@ -98,7 +103,7 @@ changes-whole k r change t u v w few whole was is node =
           let above = whole 0 in
           let below = node.changes (0 + 2 * k) in
           omega (arith, above, below, style-node t was, style-node w is);
-      behind_key = λ i.
+      after_key = λ i.
           let above = whole (i + 2) in
           let below = node.changes (i + 2 + 2 * k) in
           omega (arith, above, below, node-value t i, node-value w i);
@@ -126,57 +131,58 @@ value_least (mapping no_member) = omega arith
 value_least (mapping (member key t ms)) =
     omega (arith, members_law (member key t ms) 2, three (codes "\n") (spaces 2) (members_at (member key t ms) 2))
 
-element_within : (ts : Elements) (i : ℕ) (u : Tree) → child_at ts i ≡ Some u → Within u (byte_len (elements_behind ts 0)) (elements_depth ts)
+element_within : (ts : Elements) (i : ℕ) (u : Tree) → child_at ts i ≡ Some u → Within u (byte_len (elements_after ts 0)) (elements_depth ts)
 element_within no_element i u is = cc
 element_within (element t ts) zero u is =
     let same : t ≡ u = cc in
     let bytes = ap (λ x. byte_len (style_text x)) same in
     let deep = ap depth same in
     let least = element_least t in
-    let lines = three (codes "- ") (element_at t 0) (elements_behind ts 0) in
+    let lines = three (codes "- ") (element_at t 0) (elements_after ts 0) in
     record { within_bytes = omega arith; within_deep = omega arith }
 element_within (element t ts) (suc i) u is =
     let rest = element_within ts i u is in
     let bytes = rest.within_bytes in
     let deep = rest.within_deep in
-    let lines = three (codes "- ") (element_at t 0) (elements_behind ts 0) in
+    let lines = three (codes "- ") (element_at t 0) (elements_after ts 0) in
     record { within_bytes = omega arith; within_deep = omega arith }
 
-member_within : (ms : Members) (key : List ℕ) (u : Tree) → value_of ms key ≡ Some u → Within u (byte_len (members_behind ms 0)) (members_depth ms)
+member_within : (ms : Members) (key : List ℕ) (u : Tree) → value_of ms key ≡ Some u → Within u (byte_len (members_after ms 0)) (members_depth ms)
 member_within no_member key u is = cc
 member_within (member other t ms) key u is = by (same_text key other) is (member_within ms key u)
   where
     by : (b : Bool) → (if b then Some t else value_of ms key) ≡ Some u
-        → (value_of ms key ≡ Some u → Within u (byte_len (members_behind ms 0)) (members_depth ms))
-        → Within u (byte_len (members_behind (member other t ms) 0)) (members_depth (member other t ms))
-    by true e behind =
+        → (value_of ms key ≡ Some u → Within u (byte_len (members_after ms 0)) (members_depth ms))
+        → Within u (byte_len (members_after (member other t ms) 0)) (members_depth (member other t ms))
+    by true e after =
         let same : t ≡ u = cc in
         let bytes = ap (λ x. byte_len (style_text x)) same in
         let deep = ap depth same in
         let least = value_least t in
-        let lines = three (key_lines 0 other) (value_at t 0) (members_behind ms 0) in
+        let lines = three (key_lines 0 other) (value_at t 0) (members_after ms 0) in
         record { within_bytes = omega arith; within_deep = omega arith }
-    by false e behind =
-        let rest = behind e in
+    by false e after =
+        let rest = after e in
         let bytes = rest.within_bytes in
         let deep = rest.within_deep in
-        let lines = three (key_lines 0 other) (value_at t 0) (members_behind ms 0) in
+        let lines = three (key_lines 0 other) (value_at t 0) (members_after ms 0) in
         record { within_bytes = omega arith; within_deep = omega arith }
 
-elements_whole : (ts : Elements) → byte_len (elements_behind ts 0) ≤ byte_len (style_text (sequence ts))
+elements_whole : (ts : Elements) → byte_len (elements_after ts 0) ≤ byte_len (style_text (sequence ts))
 elements_whole no_element = omega arith
 elements_whole (element t ts) = omega arith
 
-members_whole : (ms : Members) → byte_len (members_behind ms 0) ≤ byte_len (style_text (mapping ms))
+members_whole : (ms : Members) → byte_len (members_after ms 0) ≤ byte_len (style_text (mapping ms))
 members_whole no_member = omega arith
 members_whole (member key t ms) = omega arith
 
 child_index : (index : Index) (ts : Elements) (u : Tree) → at_index index (child_at ts) (Err Absent) ≡ Ok u
-    → Within u (byte_len (elements_behind ts 0)) (elements_depth ts)
+    → Within u (byte_len (elements_after ts 0)) (elements_depth ts)
 child_index (number i) ts u is = element_within ts i u (present-Ok _ u is)
-child_index behind_last ts u is = cc
+child_index after_last ts u is = cc
 child_index no_index ts u is = cc
 
+-- a value that a step leads to is no longer than the tree
 pub child-within : (t u : Tree) (token : List ℕ) → child t token ≡ Ok u
     → (byte_len (style_text u) ≤ byte_len (style_text t)) × (depth u ≤ depth t)
 unfolding child
@@ -192,6 +198,7 @@ child-within (mapping ms) u token is =
     let deep = inside.within_deep in
     (omega (arith, members_whole ms), omega arith)
 
+-- nor is one that a path leads to
 pub Located-within : (tokens : List (List ℕ)) (s r : Slot) (t u : Tree) → Located tokens s t r u
     → (byte_len (style_text u) ≤ byte_len (style_text t)) × (depth u ≤ depth t)
 Located-within [] s r t u low =

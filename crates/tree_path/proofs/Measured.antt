@@ -7,7 +7,7 @@ use Rattle.yaml_tree.specs.Seen.{Pair, tree_of, elements_of, members_of}
 use Rattle.yaml_tree.specs.Sizes.{length_at}
 use Rattle.yaml_tree.specs.declared.size.Size.{Size}
 use Rattle.yaml_tree.specs.declared.tree.Tree.{Tree}
-use Rattle.tree_path.specs.Paths.{behind_last, index_of, push_element, put_member, child, put, cut, refusal, at, set, delete}
+use Rattle.tree_path.specs.Paths.{after_last, index_of, push_element, put_member, child, put, cut, refusal, at, set, delete}
 use Rattle.tree_path.specs.Changes.{Changes, ChangesNode, ChangesSmall, Located, node_length, slot_in, child_size, element_row, member_row, first_row, growth, reversed, shifted}
 use Rattle.tree_path.specs.declared.change.Change.{Change}
 use Rattle.tree_path.specs.declared.change.Slot.{Slot}
@@ -29,20 +29,24 @@ members_counted : (ps : List Pair) → member_count (members_of ps) ≡ length p
 members_counted [] = refl
 members_counted (p ∷ ps) = ap suc (members_counted ps)
 
+-- the length of a vector is the length of its list
 pub vec_counted : {A : Type 0} (v : Vec A Global) (count : ℕ) → count ≡ vec_len v → length v.items ≡ count
 vec_counted v count counted = search rules
 
-pub dash_index : (token : List ℕ) → same_text token (codes "-") ≡ true → index_of token ≡ behind_last
+-- `-` is the place after the last element
+pub dash_index : (token : List ℕ) → same_text token (codes "-") ≡ true → index_of token ≡ after_last
 dash_index token is = rw is refl
 
 -- ---- small numbers
 
+-- the numbers of the size fit the code's type
 pub record IsSmallSize (size : Size) : Type 0 where
   pub bytes : size.bytes < 2 ^ 80
   pub lines : size.lines < 2 ^ 33
 
 record IsSmallChange (change : Change) : Type 0 where
   removed : IsSmallSize change.removed
+  -- a member that is added at the end
   added : IsSmallSize change.added
 
 first_row-small : (slot : Slot) (row : Size) → IsSmallSize row → IsSmallSize (first_row slot row)
@@ -74,6 +78,7 @@ Put slot change t token v = (w : grammar.Tree) × (put t token v ≡ Ok w) × Ch
 abbrev Cut : Slot → Change → grammar.Tree → List ℕ → Type 0
 Cut slot change t token = (w : grammar.Tree) × (cut t token ≡ Ok w) × ChangesSmall slot change t w
 
+-- a value that is replaced
 pub replaced : (slot : Slot) (t u v : grammar.Tree) (token : List ℕ) (removed added : Size) → child t token ≡ Ok u
     → removed ≡ child_size (slot_in t) u → added ≡ child_size (slot_in t) v → IsSmallSize removed → IsSmallSize added
     → Put slot (record { removed = removed; added = added }) t token v
@@ -89,8 +94,9 @@ replaced slot t u v token removed added found out in_ small_out small_in =
           omega arith),
     )
 
+-- an element that is added at the end
 pub pushed : (slot : Slot) (t : grammar.Tree) (ts : List Tree) (v : grammar.Tree) (token : List ℕ) (count : ℕ) (row : Size) (change : Change)
-    → t ≡ sequence (elements_of ts) → index_of token ≡ behind_last → length ts ≡ count → row ≡ element_row v → IsSmallSize row
+    → t ≡ sequence (elements_of ts) → index_of token ≡ after_last → length ts ≡ count → row ≡ element_row v → IsSmallSize row
     → change ≡ growth count row slot → Put slot change t token v
 pushed slot t ts v token count row change is last counted sized small grown =
     let k : element_count (elements_of ts) ≡ count = elements_counted ts ∙ counted in
@@ -123,16 +129,19 @@ added slot t ps v token miss count row change is missed counted sized small grow
           (λ n. put-grows slot (members_of ps) token v n new.1),
     ))
 
+-- a step into a sequence finds an element
 pub some_elements : (t u : grammar.Tree) (ts : List Tree) (token : List ℕ) → t ≡ sequence (elements_of ts) → child t token ≡ Ok u → 1 ≤ length ts
 some_elements t u ts token is found =
     let p = cut_sequence-there Value (elements_of ts) u token (subst (λ x. child x token ≡ Ok u) is found) in
     omega (arith, p.2, elements_counted ts)
 
+-- a step into a mapping finds a member
 pub some_members : (t u : grammar.Tree) (ps : List Pair) (token : List ℕ) → t ≡ mapping (members_of ps) → child t token ≡ Ok u → 1 ≤ length ps
 some_members t u ps token is found =
     let p = cut_mapping-there Value (members_of ps) u token (subst (λ x. child x token ≡ Ok u) is found) in
     omega (arith, p.2, members_counted ps)
 
+-- an element that is taken out
 pub taken_element : (slot : Slot) (t u : grammar.Tree) (ts : List Tree) (token : List ℕ) (count : ℕ) (row : Size) (grown change : Change)
     → t ≡ sequence (elements_of ts) → child t token ≡ Ok u → length ts ≡ count → row ≡ element_row u → IsSmallSize row
     → grown ≡ growth (count - 1) row slot → change ≡ reversed grown → Cut slot change t token
@@ -148,6 +157,7 @@ taken_element slot t u ts token count row grown change is found counted sized sm
     (subst (λ c. Cut slot c (sequence (elements_of ts)) token) (sym same)
     (sequence p.0, p.1, changed slot _ (sequence (elements_of ts)) (sequence p.0) bounds.added bounds.removed p.3))
 
+-- a member that is taken out
 pub taken_member : (slot : Slot) (t u : grammar.Tree) (ps : List Pair) (token : List ℕ) (count : ℕ) (row : Size) (grown change : Change)
     → t ≡ mapping (members_of ps) → child t token ≡ Ok u → length ps ≡ count → row ≡ member_row token u → IsSmallSize row
     → grown ≡ growth (count - 1) row slot → change ≡ reversed grown → Cut slot change t token
@@ -165,6 +175,7 @@ taken_member slot t u ps token count row grown change is found counted sized sma
 
 -- ---- whole paths
 
+-- the change of a set
 pub set_changes : (path parents : List (List ℕ)) (last : List ℕ) (slot : Slot) (t u v : grammar.Tree) (change : Change)
     → path ≡ parents ++ last ∷ [] → length parents < 2 ^ 64 → Located parents Value t slot u → Put slot change u last v
     → (w : grammar.Tree) × (set t path v ≡ Ok w) × Changes (shifted (2 * length parents) change) t w
@@ -176,6 +187,7 @@ set_changes path parents last slot t u v change split few low is =
       changes-whole (length parents) slot change t u is.0 e.0 few e.2 kinds.0 kinds.1 is.2,
     )
 
+-- the change of a delete
 pub delete_changes : (path parents : List (List ℕ)) (last : List ℕ) (slot : Slot) (t u : grammar.Tree) (change : Change)
     → path ≡ parents ++ last ∷ [] → length parents < 2 ^ 64 → Located parents Value t slot u → Cut slot change u last
     → (w : grammar.Tree) × (delete t path ≡ Ok w) × Changes (shifted (2 * length parents) change) t w
@@ -187,6 +199,7 @@ delete_changes path parents last slot t u change split few low is =
       changes-whole (length parents) slot change t u is.0 e.0 few e.2 kinds.0 kinds.1 is.2,
     )
 
+-- a set that fails has no change
 pub set_misses : (path parents : List (List ℕ)) (last : List ℕ) (step : ℕ) (slot : Slot) (t u v : grammar.Tree) (miss : Miss)
     → path ≡ parents ++ last ∷ [] → step ≡ length parents + 1 → Located parents Value t slot u → put u last v ≡ Err miss
     → set t path v ≡ Err (refusal miss step)
@@ -195,6 +208,7 @@ set_misses path parents last step slot t u v miss split count low is =
     ∙ missed-Located (λ x token. put x token v) parents last 1 Value slot t u miss low is
     ∙ ap (λ k. Err (refusal miss k)) (let n : 1 + length parents ≡ step = omega arith in n)
 
+-- nor has a delete that fails
 pub delete_misses : (path parents : List (List ℕ)) (last : List ℕ) (step : ℕ) (slot : Slot) (t u : grammar.Tree) (miss : Miss)
     → path ≡ parents ++ last ∷ [] → step ≡ length parents + 1 → Located parents Value t slot u → cut u last ≡ Err miss
     → delete t path ≡ Err (refusal miss step)

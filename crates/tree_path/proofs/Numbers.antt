@@ -1,4 +1,4 @@
--- Indices read digit by digit: a number so far, and what the digits behind it make of it.
+-- Indices read digit by digit: a number so far, and what the digits after it make of it.
 use Rattle.std.proofs.Common.{◌≡◌, ℕ, zero, suc, ◌+◌, ◌-◌, ◌*◌, ◌<◌, Bool, true, false, cond, ◌&&◌, ◌==◌, List, [], ◌∷◌, length, get_or, drop, Option, Some, None, option_map, refl, sym, ap, subst, ◌∙◌, arith}
 use Rattle.std.specs.Char.{digit_value}
 use Rattle.std.specs.Option.{option_and_then}
@@ -6,28 +6,29 @@ use Rattle.std.proofs.lemmas.Bool.{eqb-true}
 use Rattle.std.proofs.lemmas.Bool.Decides.{nat_tests}
 use Rattle.std.proofs.lemmas.List.{at_drop_more}
 use Rattle.yaml_grammar.specs.Texts.{every, is_empty}
-use Rattle.tree_path.specs.Paths.{digit, number_behind}
+use Rattle.tree_path.specs.Paths.{digit, number_after}
 use Rattle.tree_path.specs.Steps.{number_of, saturated}
 
--- the number with one more digit; nothing stands behind a leading zero
-abbrev pub digit_behind : Option ℕ → ℕ → Option ℕ
-digit_behind None d = Some d
-digit_behind (Some zero) d = None
-digit_behind (Some (suc n)) d = Some (10 * suc n + d)
+-- the number with one more digit; nothing comes after a leading zero
+abbrev pub digit_after : Option ℕ → ℕ → Option ℕ
+digit_after None d = Some d
+digit_after (Some zero) d = None
+digit_after (Some (suc n)) d = Some (10 * suc n + d)
 
+-- the number after further digits
 abbrev pub read_on : Option ℕ → List ℕ → Option ℕ
 read_on so_far [] = so_far
-read_on so_far (c ∷ cs) = cond (digit c) (option_and_then (λ n. read_on (Some n) cs) (digit_behind so_far (c - 48))) None
+read_on so_far (c ∷ cs) = cond (digit c) (option_and_then (λ n. read_on (Some n) cs) (digit_after so_far (c - 48))) None
 
-read_on-Some : (cs : List ℕ) (n : ℕ) → 0 < n → read_on (Some n) cs ≡ cond (every digit cs) (Some (number_behind n cs)) None
+read_on-Some : (cs : List ℕ) (n : ℕ) → 0 < n → read_on (Some n) cs ≡ cond (every digit cs) (Some (number_after n cs)) None
 read_on-Some [] n positive = refl
 read_on-Some (c ∷ cs) zero positive = absurd (omega arith)
 read_on-Some (c ∷ cs) (suc n) positive =
     let P : Bool → Type 0 = λ b. cond b (read_on (Some (10 * suc n + (c - 48))) cs) None
-    ≡ cond (b && every digit cs) (Some (number_behind (10 * suc n + (c - 48)) cs)) None in
+    ≡ cond (b && every digit cs) (Some (number_after (10 * suc n + (c - 48)) cs)) None in
     elim (digit c) as P [ true ↦ read_on-Some cs (10 * suc n + (c - 48)) (omega arith) | false ↦ refl ]
 
--- behind a leading zero stands nothing
+-- after a leading zero is nothing
 read_on-zero : (cs : List ℕ) → read_on (Some 0) cs ≡ cond (is_empty cs) (Some 0) None
 read_on-zero [] = refl
 read_on-zero (c ∷ cs) =
@@ -37,46 +38,51 @@ read_on-zero (c ∷ cs) =
 digit-above : (c : ℕ) → digit c ≡ true → (c == 48) ≡ false → 0 < c - 48
 digit-above c is other = grind (arith, nat_tests)
 
-read_on-0 : (cs : List ℕ) → read_on (Some 0) cs ≡ cond (is_empty cs) (Some (number_behind 0 cs)) None
+read_on-0 : (cs : List ℕ) → read_on (Some 0) cs ≡ cond (is_empty cs) (Some (number_after 0 cs)) None
 read_on-0 [] = refl
 read_on-0 (c ∷ cs) = read_on-zero (c ∷ cs)
 
+-- before the first digit nothing is read
 pub read_on-None : (cs : List ℕ) → read_on None cs ≡ number_of cs
 read_on-None [] = refl
 read_on-None (c ∷ cs) =
-    let value : Bool → Option ℕ = λ number. cond number (Some (number_behind (10 * 0 + (c - 48)) cs)) None in
+    let value : Bool → Option ℕ = λ number. cond number (Some (number_after (10 * 0 + (c - 48)) cs)) None in
     let P : Bool → Type 0 = λ z. (c == 48) ≡ z → cond (digit c) (read_on (Some (c - 48)) cs) None ≡ value (cond z (is_empty cs) (digit c && every digit cs)) in
     let Q : Bool → Type 0 = λ d. digit c ≡ d → (c == 48) ≡ false → cond d (read_on (Some (c - 48)) cs) None ≡ value (d && every digit cs) in
     (elim (c == 48) as P [
-      | true ↦ λ e. subst (λ d. cond (digit d) (read_on (Some (d - 48)) cs) None ≡ cond (is_empty cs) (Some (number_behind (10 * 0 + (d - 48)) cs)) None)
+      | true ↦ λ e. subst (λ d. cond (digit d) (read_on (Some (d - 48)) cs) None ≡ cond (is_empty cs) (Some (number_after (10 * 0 + (d - 48)) cs)) None)
           (sym (eqb-true c 48 e)) (read_on-0 cs)
       | false ↦ (elim (digit c) as Q [
         | true ↦ λ d e. read_on-Some cs (c - 48) (digit-above c d e)
-            ∙ ap (λ n. cond (every digit cs) (Some (number_behind n cs)) None) (omega arith)
+            ∙ ap (λ n. cond (every digit cs) (Some (number_after n cs)) None) (omega arith)
         | false ↦ λ d e. refl
       ]) refl
     ]) refl
 
+-- a digit, by its value
 pub digit-true : (c : ℕ) → digit_value c < 10 → (digit c ≡ true) × (digit_value c ≡ c - 48)
 digit-true c small = (grind (arith, nat_tests), grind (arith, nat_tests))
 
+-- a character without such a value is no digit
 pub digit-false : (c : ℕ) → (digit_value c < 10 → ⊥) → digit c ≡ false
 digit-false c large = grind (arith, nat_tests)
 
 -- ---- one turn of the loop over the characters
 
 read_on-more : (cs : List ℕ) (n c : ℕ) (so_far : Option ℕ) → (n < length cs) × (c ≡ get_or cs n c)
-    → read_on so_far (drop n cs) ≡ cond (digit c) (option_and_then (λ m. read_on (Some m) (drop (n + 1) cs)) (digit_behind so_far (c - 48))) None
+    → read_on so_far (drop n cs) ≡ cond (digit c) (option_and_then (λ m. read_on (Some m) (drop (n + 1) cs)) (digit_after so_far (c - 48))) None
 read_on-more cs n c so_far turn =
     at_drop_more (read_on so_far) cs n c turn.0
-    ∙ ap (λ d. cond (digit d) (option_and_then (λ m. read_on (Some m) (drop (n + 1) cs)) (digit_behind so_far (d - 48))) None) (sym turn.1)
+    ∙ ap (λ d. cond (digit d) (option_and_then (λ m. read_on (Some m) (drop (n + 1) cs)) (digit_after so_far (d - 48))) None) (sym turn.1)
 
+-- another character ends the number
 pub read_on-other : (cs : List ℕ) (n c : ℕ) (so_far : Option ℕ) → (n < length cs) × (c ≡ get_or cs n c) → digit c ≡ false
     → read_on so_far (drop n cs) ≡ None
 read_on-other cs n c so_far turn is = rw (read_on-more cs n c so_far turn, is)
 
+-- a digit goes on with it
 pub read_on-digit : (cs : List ℕ) (n c : ℕ) (so_far : Option ℕ) → (n < length cs) × (c ≡ get_or cs n c) → digit c ≡ true
-    → read_on so_far (drop n cs) ≡ option_and_then (λ m. read_on (Some m) (drop (n + 1) cs)) (digit_behind so_far (c - 48))
+    → read_on so_far (drop n cs) ≡ option_and_then (λ m. read_on (Some m) (drop (n + 1) cs)) (digit_after so_far (c - 48))
 read_on-digit cs n c so_far turn is = rw (read_on-more cs n c so_far turn, is)
 
 -- no digit yet: this one is the number
@@ -99,7 +105,7 @@ next-Some cs n m c d old new (Some (suc k)) target turn more is nonzero adds see
     let e : old ≡ saturated (suc k) = cc in
     (Some (10 * suc k + (c - 48)), rw more (sym (read_on-digit cs n c (Some (suc k)) turn is.0) ∙ before), ap Some (omega arith))
 
--- a zero so far: no number has this digit behind it
+-- a zero so far: no number has this digit after it
 pub next-zero : (cs : List ℕ) (n c : ℕ) (so_far target : Option ℕ) → (n < length cs) × (c ≡ get_or cs n c)
     → digit c ≡ true → Some 0 ≡ option_map saturated so_far → read_on so_far (drop n cs) ≡ target → None ≡ target
 next-zero cs n c None target turn is seen before = cc

@@ -17,11 +17,13 @@ use Rattle.tree_path.specs.declared.fault.PathFault.TheVariants.{BadPath}
 
 -- ---- a character's spelling: two characters, or itself
 
+-- how a character of a token is written
 pub data Spelling (c : ℕ) : Type 0 where
   as_tilde : spelled c ≡ 126 ∷ 48 ∷ [] → c ≡ 126 → Spelling c
   as_slash : spelled c ≡ 126 ∷ 49 ∷ [] → c ≡ 47 → Spelling c
   as_itself : spelled c ≡ c ∷ [] → (c == 126) ≡ false → (c == 47) ≡ false → Spelling c
 
+-- each character is written so
 pub spelling : (c : ℕ) → Spelling c
 spelling c =
     let P : Bool → Type 0 = λ b. (c == 126) ≡ b → Spelling c in
@@ -121,14 +123,15 @@ bad_place-pointer : (tokens : List (List ℕ)) → bad_place (pointer_text token
 bad_place-pointer [] = refl
 bad_place-pointer (token ∷ tokens) = first_stray-none (token ∷ tokens)
 
+-- the text of a path reads as the path
 pub path_of-pointer_text : (tokens : List (List ℕ)) → path_of (pointer_text tokens) ≡ Ok tokens
 path_of-pointer_text tokens =
     ap (λ o. tokens_or_place o (pointer_text tokens)) (bad_place-pointer tokens) ∙ ap Ok (unescaped-pieces tokens)
 
--- behind a path's text that isn't empty stands a stray `~`
-pub path_of-stray : (text behind : List ℕ) (tokens : List (List ℕ)) (at : ℕ) → text ≡ pointer_text tokens ++ behind → 0 < length tokens
-    → stray behind ≡ true → at ≡ byte_len (pointer_text tokens) → path_of text ≡ Err (BadPath at)
-path_of-stray text behind [] at split some is place = absurd (omega arith)
+-- a stray `~` comes after the text of a path that isn't empty
+pub path_of-stray : (text after : List ℕ) (tokens : List (List ℕ)) (at : ℕ) → text ≡ pointer_text tokens ++ after → 0 < length tokens
+    → stray after ≡ true → at ≡ byte_len (pointer_text tokens) → path_of text ≡ Err (BadPath at)
+path_of-stray text after [] at split some is place = absurd (omega arith)
 path_of-stray text [] (token ∷ tokens) at split some is place = cc
 path_of-stray text (c ∷ cs) (token ∷ tokens) at split some is place =
     let found : first_stray (c ∷ cs) ≡ Some 0 = rw is in
@@ -138,8 +141,8 @@ path_of-stray text (c ∷ cs) (token ∷ tokens) at split some is place =
     ap (λ o. tokens_or_place o text) here
 
 -- the text begins with something else than `/`
-pub path_of-front : (text cs : List ℕ) (c : ℕ) → text ≡ c ∷ cs → (c == 47) ≡ false → path_of text ≡ Err (BadPath 0)
-path_of-front text cs c split other =
+pub path_of-prefix : (text cs : List ℕ) (c : ℕ) → text ≡ c ∷ cs → (c == 47) ≡ false → path_of text ≡ Err (BadPath 0)
+path_of-prefix text cs c split other =
     let here : bad_place (c ∷ cs) ≡ Some 0 = rw other in
     ap path_of split ∙ ap (λ o. tokens_or_place o (c ∷ cs)) here
 
@@ -159,7 +162,7 @@ byte_len-encodes [] = refl
 byte_len-encodes (c ∷ cs) =
     let e = byte_len-encodes cs in omega (arith, e, length-encode c, length-append (encode c) (encodes cs))
 
--- how many bytes a text has, behind a path's text
+-- how many bytes a text has, after a path's text
 pub length-read : (text rest read : List ℕ) → IsUtf8 text → IsUtf8 rest → chars text ≡ read ++ chars rest → length text ≡ byte_len read + length rest
 length-read text rest read utf8 rest_utf8 split =
     let e : text ≡ encodes read ++ rest =
@@ -192,6 +195,7 @@ pointer_text-lengthened (x ∷ y ∷ ys) (suc i) c s longer count is scalar push
     ap (λ t. 47 ∷ (escaped (chars (string_bytes x)) ++ t)) (pointer_text-lengthened (y ∷ ys) i c s longer (omega arith) is scalar pushed)
     ∙ ap (λ t. 47 ∷ t) (sym (append_assoc (escaped (chars (string_bytes x))) (pointer_text (texts (y ∷ ys))) (spelled c)))
 
+-- what is pushed, if the call succeeds
 pub pushed-OnOk : {E : Type 0} (r : Result (Unit {0}) E) (bytes old : List ℕ) (c : ℕ) → bytes ≡ cond (is_ok r) (old ++ encode c) old → OnOk r (bytes ≡ old ++ encode c)
 pushed-OnOk (Ok x) bytes old c is = is
 pushed-OnOk (Err e) bytes old c is = tt
@@ -209,10 +213,11 @@ pub next_read : (text old new read : List ℕ) (c : ℕ) → IsUtf8 old → old 
 next_read text old new read c utf8 is split =
     (split ∙ ap (λ cs. read ++ cs) (chars_past_char old new c utf8 is), IsUtf8-past_char old new c utf8 is)
 
+-- one part more is read
 pub read_more : (text read cs ds : List ℕ) → text ≡ read ++ (cs ++ ds) → text ≡ (read ++ cs) ++ ds
 read_more text read cs ds is = is ∙ sym (append_assoc read cs ds)
 
--- what `~` and the digit behind it spell
+-- what `~` and the digit after it spell
 pub escaped_by-spelled : (digit : Option ℕ) (c : ℕ) → escaped_by digit ≡ Some c → (d : ℕ) × (digit ≡ Some d) × (spelled c ≡ 126 ∷ d ∷ [])
 escaped_by-spelled None c is = cc
 escaped_by-spelled (Some d) c is =
@@ -229,6 +234,7 @@ escaped_by-spelled (Some d) c is =
 some_none : (a : ℕ) → Some a ≡ None → ⊥
 some_none a is = cc
 
+-- `~` before another digit is stray
 pub stray-digit : (d : ℕ) (cs : List ℕ) → escaped_by (Some d) ≡ None → stray (126 ∷ d ∷ cs) ≡ true
 stray-digit d cs is =
     let P : Bool → Type 0 = λ b. cond {A = Option ℕ} b (Some 126) (cond {A = Option ℕ} (d == 49) (Some 47) None) ≡ None → not (b || (d == 49)) ≡ true in
@@ -240,9 +246,11 @@ stray-digit d cs is =
 
 -- ---- one turn of the loop: what is read, and what is left
 
+-- what is read of a text, and what is left
 abbrev pub Read : List ℕ → List ℕ → List ℕ → Type 0
 Read text read left = (chars text ≡ read ++ chars left) × IsUtf8 left
 
+-- a `/` is read
 pub slash-read : (text old new : List ℕ) (tokens longer : List (String Global)) (s : String Global) (c : ℕ) → Read text (pointer_text (texts tokens)) old
     → old ≡ encode c ++ new → c ≡ 47 → longer ≡ tokens ++ s ∷ [] → string_bytes s ≡ [] → Read text (pointer_text (texts longer)) new
 slash-read text old new tokens longer s c read is slash pushed empty =
@@ -260,6 +268,7 @@ spelled-itself c no_slash no_tilde = elim (spelling c) [
   | as_itself is other none ↦ is
 ]
 
+-- a character that means itself is read
 pub itself-read : (text old new before longer : List ℕ) (c : ℕ) → Read text before old → old ≡ encode c ++ new → (c ≡ 47 → ⊥) → (c ≡ 126 → ⊥)
     → longer ≡ before ++ spelled c → Read text longer new
 itself-read text old new before longer c read is no_slash no_tilde pushed =
@@ -269,13 +278,14 @@ itself-read text old new before longer c read is no_slash no_tilde pushed =
       n.1,
     )
 
--- a `~` is read, and the character behind it
+-- a `~` is read, and the character after it
 pub tilde-read : (text old new : List ℕ) (before : List ℕ) (c : ℕ) → Read text before old → old ≡ encode c ++ new → c ≡ 126
     → (chars text ≡ before ++ 126 ∷ chars new) × IsUtf8 new
 tilde-read text old new before c read is tilde =
     let n = next_read text old new before c read.1 is read.0 in
     (subst (λ d. chars text ≡ before ++ d ∷ chars new) tilde n.0, n.1)
 
+-- an escape is read
 pub escape-read : (text new left before longer : List ℕ) (digit : Option ℕ) (k : ℕ) (A : Type 0) → chars text ≡ before ++ 126 ∷ chars new → IsUtf8 new
     → MatchOption digit A (λ d. new ≡ encode d ++ left) → Some k ≡ escaped_by digit → longer ≡ before ++ spelled k → Read text longer left
 escape-read text new left before longer digit k A split utf8 steps is pushed =
@@ -287,6 +297,7 @@ escape-read text new left before longer digit k A split utf8 steps is pushed =
       IsUtf8-past_char new left e.0 utf8 step,
     )
 
+-- a stray `~` is found
 pub escape-stray : (new left : List ℕ) (digit : Option ℕ) (A : Type 0) → IsUtf8 new → MatchOption digit ((length new ≡ 0) × A) (λ d. new ≡ encode d ++ left)
     → None ≡ escaped_by digit → stray (126 ∷ chars new) ≡ true
 escape-stray [] left None A utf8 steps is = ap (λ cs. stray (126 ∷ cs)) chars-nil
@@ -294,7 +305,7 @@ escape-stray (b ∷ bs) left None A utf8 steps is = absurd (omega (arith, steps.
 escape-stray new left (Some d) A utf8 steps is =
     ap (λ cs. stray (126 ∷ cs)) (chars_past_char new left d utf8 steps) ∙ stray-digit d (chars left) (sym is)
 
--- where that `~` stands
+-- where that `~` is
 pub tilde-place : (text old new before : List ℕ) (c : ℕ) → IsUtf8 text → Read text before old → old ≡ encode c ++ new → c ≡ 126
     → length text ≡ byte_len before + (1 + length new)
 tilde-place text old new before c utf8 read is tilde =
@@ -302,14 +313,15 @@ tilde-place text old new before c utf8 read is tilde =
     let one : length (encode c) ≡ 1 = length-encode c ∙ ap len_utf8 tilde in
     omega (arith, n, ap length is, length-append (encode c) new, one)
 
+-- at the end everything is read
 pub end-read : (text old before : List ℕ) → Read text before old → length old ≡ 0 → chars text ≡ before
 end-read text [] before read empty = read.0 ∙ ap (λ cs. before ++ cs) chars-nil ∙ append-none before
 end-read text (b ∷ bs) before read empty = absurd (omega arith)
 
 -- nothing is read yet, and no `/` comes
-pub front-read : (text old new : List ℕ) (tokens : List (String Global)) (c : ℕ) → Read text (pointer_text (texts tokens)) old → old ≡ encode c ++ new
+pub prefix-read : (text old new : List ℕ) (tokens : List (String Global)) (c : ℕ) → Read text (pointer_text (texts tokens)) old → old ≡ encode c ++ new
     → length tokens ≡ 0 → (c ≡ 47 → ⊥) → path_of (chars text) ≡ Err (BadPath 0)
-front-read text old new [] c read is empty other =
+prefix-read text old new [] c read is empty other =
     let n = next_read text old new [] c read.1 is read.0 in
-    path_of-front (chars text) (chars new) c n.0 (grind (arith, nat_tests))
-front-read text old new (s ∷ ss) c read is empty other = absurd (omega arith)
+    path_of-prefix (chars text) (chars new) c n.0 (grind (arith, nat_tests))
+prefix-read text old new (s ∷ ss) c read is empty other = absurd (omega arith)

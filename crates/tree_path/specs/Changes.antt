@@ -10,22 +10,23 @@ use Rattle.tree_path.specs.declared.change.Change.{Change}
 use Rattle.tree_path.specs.declared.change.Slot.{Slot}
 use Rattle.tree_path.specs.declared.change.Slot.TheVariants.{Value, Element}
 
--- The change leads from the first tree to the second: what is taken out and what is put in make up for the difference, of the
--- tree by itself and of the tree after the `:` of a key at any indentation.
+-- The change leads from the first tree to the second: what is taken out and what is put in make up for the difference,
+-- of the tree by itself and of the tree after the `:` of a key at any indentation.
 pub record Changes (change : Change) (old new : Tree) : Type 0 where
   pub alone : byte_len (style_text new) + change.removed.bytes ≡ byte_len (style_text old) + change.added.bytes
-  pub behind_key : (i : ℕ) → byte_len (value_at new i) + length_at change.removed (i + 2) ≡ byte_len (value_at old i) + length_at change.added (i + 2)
+  pub after_key : (i : ℕ) → byte_len (value_at new i) + length_at change.removed (i + 2) ≡ byte_len (value_at old i) + length_at change.added (i + 2)
   pub bytes_fit : change.added.bytes < 2 ^ 100
   pub lines_fit : change.added.lines < 2 ^ 100
 
 -- ---- one node
 
+-- the tree is a sequence or a mapping
 abbrev pub IsCollection : Tree → Type 0
 IsCollection (text value) = ⊥
 IsCollection (sequence ts) = Unit {0}
 IsCollection (mapping ms) = Unit {0}
 
--- its lines at the indentation n, without the spaces before the first; a literal's lines stand after n spaces
+-- its lines at the indentation n, without the spaces before the first; a literal's lines come after n spaces
 abbrev pub node_at : Tree → ℕ → List ℕ
 node_at (text value) n = scalar_lines n value
 node_at (sequence ts) n = elements_at ts n
@@ -44,6 +45,7 @@ abbrev pub node_length : Slot → Tree → ℕ → ℕ
 node_length Value t n = byte_len (node_at t n) + n * own_line t
 node_length Element t n = byte_len (node_at t n)
 
+-- in this slot, the change makes the size of the new tree from that of the old one
 abbrev pub ChangesNode : Slot → Change → Tree → Tree → Type 0
 ChangesNode slot change old new =
     (n : ℕ) → node_length slot new n + length_at change.removed n ≡ node_length slot old n + length_at change.added n
@@ -56,13 +58,13 @@ pub record ChangesSmall (slot : Slot) (change : Change) (old new : Tree) : Type 
   pub added_bytes : change.added.bytes < 2 ^ 90
   pub added_lines : change.added.lines < 2 ^ 34
 
--- where the values in a collection stand
+-- where the values in a collection are
 abbrev pub slot_in : Tree → Slot
 slot_in (text value) = Element
 slot_in (sequence ts) = Element
 slot_in (mapping ms) = Value
 
--- the steps lead from t to u; these stand in the slots s and r
+-- the steps lead from t to u; these are in the slots s and r
 abbrev pub Located : List (List ℕ) → Slot → Tree → Slot → Tree → Type 0
 Located [] s t r u = (u ≡ t) × (r ≡ s)
 Located (token ∷ tokens) s t r u = (next : Tree) × (child t token ≡ Ok next) × Located tokens (slot_in t) next r u
@@ -85,7 +87,7 @@ member_row key t = record {
   lines = 1 + (key_size key).lines + (value_size t).lines;
 }
 
--- the same where it is the first: in a collection that stands after a `- ` no spaces are before it
+-- the same if it is the first: in a collection after `- ` no spaces come before it
 abbrev pub first_row : Slot → Size → Size
 first_row Value row = row
 first_row Element row = record { bytes = row.bytes; lines = row.lines - 1 }
@@ -96,6 +98,7 @@ growth count row slot =
     if count == 0 then record { removed = record { bytes = 3; lines = 0 }; added = first_row slot row }
     else record { removed = record { bytes = 0; lines = 0 }; added = row }
 
+-- the change back
 abbrev pub reversed : Change → Change
 reversed change = record { removed = change.added; added = change.removed }
 
@@ -103,5 +106,6 @@ reversed change = record { removed = change.added; added = change.removed }
 abbrev pub shifted_size : ℕ → Size → Size
 shifted_size n size = record { bytes = size.bytes + n * size.lines; lines = size.lines }
 
+-- the change n columns further to the right
 abbrev pub shifted : ℕ → Change → Change
 shifted n change = record { removed = shifted_size n change.removed; added = shifted_size n change.added }

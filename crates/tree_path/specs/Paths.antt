@@ -1,5 +1,5 @@
--- What paths do in trees: the value at a place, and the trees after a `set` and a `delete`. Each is a tree, or the first
--- refusal on the way; steps count from 1.
+-- What paths do in trees: the value at a place, and the trees after a `set` and a `delete`. Each is a tree, or the
+-- first refusal on the way; steps count from 1.
 use Rattle.std.specs.Prelude.{ℕ, zero, suc, ◌+◌, ◌-◌, ◌*◌, Bool, false, ◌==◌, if◌then◌else◌, List, [], ◌∷◌, codes, Option, Some, None, option_map, Result, Ok, Err}
 use Rattle.yaml_chars.specs.Classes.{between}
 use Rattle.yaml_grammar.specs.Texts.{every, is_empty, same_text}
@@ -11,6 +11,7 @@ use Rattle.tree_path.specs.declared.place.Miss.TheVariants.{Absent, NoIndex}
 
 -- ---- indices (RFC 6901, 4)
 
+-- an ASCII digit
 abbrev pub digit : ℕ → Bool
 digit c = between 48 57 c
 
@@ -19,37 +20,42 @@ abbrev pub is_number : List ℕ → Bool
 is_number [] = false
 is_number (c ∷ cs) = if c == 48 then is_empty cs else every digit (c ∷ cs)
 
--- the number that digits spell behind a number n
-abbrev pub number_behind : ℕ → List ℕ → ℕ
-number_behind n [] = n
-number_behind n (c ∷ cs) = number_behind (10 * n + (c - 48)) cs
+-- the number that digits spell after a number n
+abbrev pub number_after : ℕ → List ℕ → ℕ
+number_after n [] = n
+number_after n (c ∷ cs) = number_after (10 * n + (c - 48)) cs
 
--- what a token is in a sequence: the index of an element, from 0; `-`, the place behind the last one; or neither
+-- what a token is in a sequence: the index of an element, from 0; `-`, the place after the last one; or neither
 pub data Index : Type 0 where
   number : ℕ → Index
-  behind_last no_index : Index
+  after_last no_index : Index
 
+-- what a token is in a sequence
 abbrev pub index_of : List ℕ → Index
 index_of token =
-    if same_text token (codes "-") then behind_last else (if is_number token then number (number_behind 0 token) else no_index)
+    if same_text token (codes "-") then after_last else (if is_number token then number (number_after 0 token) else no_index)
 
 -- ---- one step: the value that it leads to, and the tree with another value there, or without it
 
+-- the element at an index
 abbrev pub element_at : Elements → ℕ → Option Tree
 element_at no_element n = None
 element_at (element t ts) zero = Some t
 element_at (element t ts) (suc n) = element_at ts n
 
+-- the elements with one replaced
 abbrev pub put_element : Elements → ℕ → Tree → Option Elements
 put_element no_element n v = None
 put_element (element t ts) zero v = Some (element v ts)
 put_element (element t ts) (suc n) v = option_map (element t) (put_element ts n v)
 
+-- the elements without one
 abbrev pub cut_element : Elements → ℕ → Option Elements
 cut_element no_element n = None
 cut_element (element t ts) zero = Some ts
 cut_element (element t ts) (suc n) = option_map (element t) (cut_element ts n)
 
+-- the elements with one more at the end
 abbrev pub push_element : Elements → Tree → Elements
 push_element no_element v = element v no_element
 push_element (element t ts) v = element t (push_element ts v)
@@ -64,31 +70,36 @@ abbrev pub put_member : Members → List ℕ → Tree → Members
 put_member no_member key v = member key v no_member
 put_member (member other t ms) key v = if same_text key other then member other v ms else member other t (put_member ms key v)
 
+-- the members without one
 abbrev pub cut_member : Members → List ℕ → Option Members
 cut_member no_member key = None
 cut_member (member other t ms) key = if same_text key other then Some ms else option_map (member other t) (cut_member ms key)
 
+-- a value, or the fault that it is missing
 abbrev pub present : {A : Type 0} → Option A → Result A Miss
 present (Some x) = Ok x
 present None = Err Absent
 
--- what a token stands for in a sequence: what is at the number, or behind the last element
+-- what a token means in a sequence: what is at the number, or after the last element
 abbrev pub at_index : {A : Type 0} → Index → (ℕ → Option A) → Result A Miss → Result A Miss
-at_index (number n) inside behind = present (inside n)
-at_index behind_last inside behind = behind
-at_index no_index inside behind = Err NoIndex
+at_index (number n) inside after = present (inside n)
+at_index after_last inside after = after
+at_index no_index inside after = Err NoIndex
 
+-- the value that one step leads to
 unfoldable pub child : Tree → List ℕ → Result Tree Miss
 child (text value) token = Err Absent
 child (sequence ts) token = at_index (index_of token) (element_at ts) (Err Absent)
 child (mapping ms) token = present (value_of ms token)
 
+-- the tree with the value of one step replaced or added
 unfoldable pub put : Tree → List ℕ → Tree → Result Tree Miss
 put (text value) token v = Err Absent
 put (sequence ts) token v =
     at_index (index_of token) (λ n. option_map sequence (put_element ts n v)) (Ok (sequence (push_element ts v)))
 put (mapping ms) token v = Ok (mapping (put_member ms token v))
 
+-- the tree without the value of one step
 unfoldable pub cut : Tree → List ℕ → Result Tree Miss
 cut (text value) token = Err Absent
 cut (sequence ts) token = at_index (index_of token) (λ n. option_map sequence (cut_element ts n)) (Err Absent)
@@ -96,18 +107,22 @@ cut (mapping ms) token = present (option_map mapping (cut_member ms token))
 
 -- ---- paths: what each step does, or the refusal of the first one that leads nowhere
 
+-- the fault of a step, with its number
 abbrev pub refusal : Miss → ℕ → PathFault
 refusal Absent step = NoSuchPlace step
 refusal NoIndex step = NotIndex step
 
+-- what comes after a step, or the step's fault
 abbrev pub at_step : ℕ → Result Tree Miss → (Tree → Result Tree PathFault) → Result Tree PathFault
 at_step step (Ok t) next = next t
 at_step step (Err miss) next = Err (refusal miss step)
 
+-- what comes after a tree, or its fault
 abbrev pub and_then : Result Tree PathFault → (Tree → Result Tree PathFault) → Result Tree PathFault
 and_then (Ok t) next = next t
 and_then (Err fault) next = Err fault
 
+-- the value at the end of a path, where its first step has this number
 abbrev pub at_from : ℕ → Tree → List (List ℕ) → Result Tree PathFault
 at_from step t [] = Ok t
 at_from step t (token ∷ tokens) = at_step step (child t token) (λ u. at_from (suc step) u tokens)
@@ -122,7 +137,7 @@ edit_from edit step t token (next ∷ tokens) =
 abbrev pub at : Tree → List (List ℕ) → Result Tree PathFault
 at t path = at_from 1 t path
 
--- the tree with v at the path; the empty path stands for the whole
+-- the tree with v at the path; the empty path means the whole
 abbrev pub set : Tree → List (List ℕ) → Tree → Result Tree PathFault
 set t [] v = Ok v
 set t (token ∷ tokens) v = edit_from (λ u last. put u last v) 1 t token tokens

@@ -5,21 +5,26 @@ use Rattle.yaml_grammar.specs.Texts.{first, is_empty}
 use Rattle.tree_path.specs.declared.fault.PathFault.{PathFault}
 use Rattle.tree_path.specs.declared.fault.PathFault.TheVariants.{BadPath}
 
+-- `/`
 abbrev pub slash : ℕ
 slash = 47
 
+-- `~`
 abbrev pub tilde : ℕ
 tilde = 126
 
 -- ---- the text of a path
 
+-- a character of a token as it is written
 abbrev pub spelled : ℕ → List ℕ
 spelled c = if c == tilde then codes "~0" else (if c == slash then codes "~1" else c ∷ [])
 
+-- a token as it is written
 abbrev pub escaped : List ℕ → List ℕ
 escaped [] = []
 escaped (c ∷ cs) = spelled c ++ escaped cs
 
+-- the text of a path: a `/` before each token (RFC 6901, 3)
 abbrev pub pointer_text : List (List ℕ) → List ℕ
 pointer_text [] = []
 pointer_text (token ∷ tokens) = slash ∷ (escaped token ++ pointer_text tokens)
@@ -31,32 +36,33 @@ abbrev pub stray : List ℕ → Bool
 stray [] = false
 stray (c ∷ cs) = (c == tilde) && not (first (λ d. (d == 48) || (d == 49)) cs)
 
--- where the first such `~` stands, in bytes
+-- where the first such `~` is, in bytes
 abbrev pub first_stray : List ℕ → Option ℕ
 first_stray [] = None
 first_stray (c ∷ cs) = if stray (c ∷ cs) then Some 0 else option_map (λ n. len_utf8 c + n) (first_stray cs)
 
--- where a text is wrong, in bytes: at its front, if there is one other than `/`, and else at its first stray `~`
+-- where a text is wrong, in bytes: at its start, if there is one other than `/`, and else at its first stray `~`
 abbrev pub bad_place : List ℕ → Option ℕ
 bad_place text = if is_empty text || first (λ c. c == slash) text then first_stray text else Some 0
 
 -- ---- the path of a text
 
--- what stands in front of the first `/`
+-- what comes before the first `/`
 abbrev pub first_piece : List ℕ → List ℕ
 first_piece [] = []
 first_piece (c ∷ cs) = if c == slash then [] else c ∷ first_piece cs
 
--- what stands behind each `/`, up to the next one
+-- what comes after each `/`, up to the next one
 abbrev pub pieces : List ℕ → List (List ℕ)
 pieces [] = []
 pieces (c ∷ cs) = if c == slash then first_piece cs ∷ pieces cs else pieces cs
 
--- the character that a `~` and the digit behind it spell, and what is behind them
+-- the character that a `~` and the digit after it spell, and what is after them
 abbrev pub unspelled : List ℕ → List ℕ
 unspelled [] = []
 unspelled (d ∷ cs) = (if d == 48 then tilde else slash) ∷ cs
 
+-- a token from its text: `~1` is `/`, and then `~0` is `~` (RFC 6901, 4)
 abbrev pub unescaped : List ℕ → List ℕ
 unescaped [] = []
 unescaped (c ∷ cs) = if c == tilde then unspelled (unescaped cs) else c ∷ unescaped cs
@@ -66,5 +72,6 @@ abbrev pub tokens_or_place : Option ℕ → List ℕ → Result (List (List ℕ)
 tokens_or_place None text = Ok (map unescaped (pieces text))
 tokens_or_place (Some at) text = Err (BadPath at)
 
+-- the path that a text means, or where it is wrong
 abbrev pub path_of : List ℕ → Result (List (List ℕ)) PathFault
 path_of text = tokens_or_place (bad_place text) text

@@ -6,12 +6,13 @@ use Rattle.yaml_grammar.specs.Texts.{same_text}
 use Rattle.yaml_grammar.specs.Trees.{Tree}
 use Rattle.yaml_tree.specs.Seen.{Pair}
 use Rattle.tree_path.specs.Pointers.{tilde, slash}
-use Rattle.tree_path.specs.Paths.{is_number, number_behind, index_of, at_index, child, put}
+use Rattle.tree_path.specs.Paths.{is_number, number_after, index_of, at_index, child, put}
 use Rattle.tree_path.specs.declared.place.Miss.{Miss}
 use Rattle.tree_path.specs.declared.place.Miss.TheVariants.{Absent}
 
+-- the number that a token spells
 abbrev pub number_of : List ℕ → Option ℕ
-number_of token = if is_number token then Some (number_behind 0 token) else None
+number_of token = if is_number token then Some (number_after 0 token) else None
 
 -- a number as a `usize` has it: at most the greatest one
 abbrev pub saturated : ℕ → ℕ
@@ -38,8 +39,8 @@ escaped_by (Some d) = if d == 48 then Some tilde else (if d == 49 then Some slas
 
 -- ---- a tree taken apart along a path
 
--- From t and above, one step after another: the child is taken out, what is above goes into its place, and the tree so left
--- is what is above the child. The last child and what is above it are u and b.
+-- From t and above, one step after another: the child is taken out, what is above goes into its place, and the tree so
+-- left is what is above the child. The last child and what is above it are u and b.
 abbrev pub Lowered : List (List ℕ) → Tree → Tree → Tree → Tree → Type 0
 Lowered [] t above u b = (u ≡ t) × (b ≡ above)
 Lowered (token ∷ tokens) t above u b =

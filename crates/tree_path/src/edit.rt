@@ -34,7 +34,8 @@ pub fn set(
     path: &Path,
     value: Tree,
 ) -> Result<(), (Tree, PathFault)>
-    ensures ok { OnOk result (set (tree_of tree.old) path.now (tree_of value) ≡ Ok (tree_of tree.new)) }
+    ensures ok { OnOk result (set (tree_of tree.old) path.now (tree_of value)
+        ≡ Ok (tree_of tree.new)) }
     ensures refused { IfErr result
         (λ refused. (refused.1 ≡ PathFault.OutOfMemory)
         ⊎ (set (tree_of tree.old) path.now (tree_of value) ≡ Err refused.1)) }
@@ -49,7 +50,8 @@ pub fn set(
 pub fn delete(tree: &mut Tree, path: &Path) -> Result<Tree, PathFault>
     requires { 0 < length path.now }
     ensures ok { OnOk result (delete (tree_of tree.old) path.now ≡ Ok (tree_of tree.new)) }
-    ensures removed { IfOk result (λ removed. at (tree_of tree.old) path.now ≡ Ok (tree_of removed)) }
+    ensures removed { IfOk result (λ removed.
+        at (tree_of tree.old) path.now ≡ Ok (tree_of removed)) }
     ensures refused { IfErr result (λ fault. delete (tree_of tree.old) path.now ≡ Err fault) }
     ensures unchanged { OnErr result (tree_of tree.new ≡ tree_of tree.old) }
 {
@@ -57,7 +59,8 @@ pub fn delete(tree: &mut Tree, path: &Path) -> Result<Tree, PathFault>
 }
 
 fn value_at<'t>(tree: &'t Tree, tokens: &[String]) -> Result<&'t Tree, PathFault>
-    ensures ok { IfOk result (λ value. at (tree_of tree.now) (texts tokens.now) ≡ Ok (tree_of value.now)) }
+    ensures ok { IfOk result (λ value. at (tree_of tree.now) (texts tokens.now)
+        ≡ Ok (tree_of value.now)) }
     ensures refused { IfErr result (λ fault. at (tree_of tree.now) (texts tokens.now) ≡ Err fault) }
 {
     let mut value = tree;
@@ -76,7 +79,8 @@ fn set_at(
     tokens: &[String],
     value: Tree,
 ) -> Result<(), (Tree, PathFault)>
-    ensures ok { OnOk result (set (tree_of tree.old) (texts tokens.now) (tree_of value) ≡ Ok (tree_of tree.new)) }
+    ensures ok { OnOk result (set (tree_of tree.old) (texts tokens.now) (tree_of value)
+        ≡ Ok (tree_of tree.new)) }
     ensures refused { IfErr result
         (λ refused. (refused.1 ≡ PathFault.OutOfMemory)
         ⊎ (set (tree_of tree.old) (texts tokens.now) (tree_of value) ≡ Err refused.1)) }
@@ -98,9 +102,12 @@ fn set_at(
 
 fn delete_at(alloc: Global, tree: &mut Tree, tokens: &[String]) -> Result<Tree, PathFault>
     requires { 0 < length tokens.now }
-    ensures ok { OnOk result (delete (tree_of tree.old) (texts tokens.now) ≡ Ok (tree_of tree.new)) }
-    ensures removed { IfOk result (λ removed. at (tree_of tree.old) (texts tokens.now) ≡ Ok (tree_of removed)) }
-    ensures refused { IfErr result (λ fault. delete (tree_of tree.old) (texts tokens.now) ≡ Err fault) }
+    ensures ok { OnOk result (delete (tree_of tree.old) (texts tokens.now)
+        ≡ Ok (tree_of tree.new)) }
+    ensures removed { IfOk result (λ removed. at (tree_of tree.old) (texts tokens.now)
+        ≡ Ok (tree_of removed)) }
+    ensures refused { IfErr result (λ fault. delete (tree_of tree.old) (texts tokens.now)
+        ≡ Err fault) }
     ensures unchanged { OnErr result (tree_of tree.new ≡ tree_of tree.old) }
 {
     let (last, parents) = tokens.split_last().unwrap();
@@ -118,7 +125,8 @@ fn delete_at(alloc: Global, tree: &mut Tree, tokens: &[String]) -> Result<Tree, 
 /// `above`, together with what was there. A refusal changes neither.
 fn descend(tree: &mut Tree, above: &mut Tree, tokens: &[String]) -> Result<(), PathFault>
     ensures ok { OnOk result
-        (Lowered (texts tokens.now) (tree_of tree.old) (tree_of above.old) (tree_of tree.new) (tree_of above.new)) }
+        (Lowered (texts tokens.now) (tree_of tree.old) (tree_of above.old) (tree_of tree.new)
+        (tree_of above.new)) }
     ensures refused { IfErr result (λ fault. at (tree_of tree.old) (texts tokens.now) ≡ Err fault) }
     ensures unchanged { OnErr result (tree_of tree.new ≡ tree_of tree.old) }
 {
@@ -138,7 +146,8 @@ fn descend(tree: &mut Tree, above: &mut Tree, tokens: &[String]) -> Result<(), P
 fn ascend(tree: &mut Tree, above: &mut Tree, tokens: &[String])
     requires { (t a u : Meant) × Lowered (texts tokens.now) t a u (tree_of above.old) }
     ensures { (t a u : Meant) → Lowered (texts tokens.now) t a u (tree_of above.old)
-        → Rebuilt (texts tokens.now) t (tree_of tree.old) (tree_of tree.new) × (tree_of above.new ≡ a) }
+        → Rebuilt (texts tokens.now) t (tree_of tree.old) (tree_of tree.new)
+        × (tree_of above.new ≡ a) }
 {
     let mut left = tokens;
     while let Some((token, rest)) = left.split_last() {
@@ -156,10 +165,12 @@ fn put(
     step: usize,
     value: Tree,
 ) -> Result<(), (Tree, PathFault)>
-    ensures ok { OnOk result (put (tree_of tree.old) (chars token.now) (tree_of value) ≡ Ok (tree_of tree.new)) }
+    ensures ok { OnOk result (put (tree_of tree.old) (chars token.now) (tree_of value)
+        ≡ Ok (tree_of tree.new)) }
     ensures refused { IfErr result
         (λ refused. (refused.1 ≡ PathFault.OutOfMemory)
-        ⊎ (at_step step (put (tree_of tree.old) (chars token.now) (tree_of value)) Ok ≡ Err refused.1)) }
+        ⊎ (at_step step (put (tree_of tree.old) (chars token.now) (tree_of value)) Ok
+        ≡ Err refused.1)) }
     ensures value_back { IfErr result (λ refused. refused.0 ≡ value) }
     ensures unchanged { OnErr result (tree_of tree.new ≡ tree_of tree.old) }
 {
@@ -182,7 +193,8 @@ fn put_element(
         ≡ Ok (sequence (elements_of items.new.items))) }
     ensures refused { IfErr result
         (λ refused. (refused.1 ≡ PathFault.OutOfMemory)
-        ⊎ (at_step step (put (sequence (elements_of items.old.items)) (chars token.now) (tree_of value)) Ok
+        ⊎ (at_step step (put (sequence (elements_of items.old.items)) (chars token.now)
+        (tree_of value)) Ok
         ≡ Err refused.1)) }
     ensures value_back { IfErr result (λ refused. refused.0 ≡ value) }
     ensures unchanged { OnErr result (items.new.items ≡ items.old.items) }
@@ -232,7 +244,8 @@ fn put_pair(
 /// Takes out the value to which a step leads.
 fn cut(tree: &mut Tree, token: &str) -> Result<Tree, Miss>
     ensures ok { OnOk result (cut (tree_of tree.old) (chars token.now) ≡ Ok (tree_of tree.new)) }
-    ensures removed { IfOk result (λ removed. child (tree_of tree.old) (chars token.now) ≡ Ok (tree_of removed)) }
+    ensures removed { IfOk result (λ removed. child (tree_of tree.old) (chars token.now)
+        ≡ Ok (tree_of removed)) }
     ensures missed { IfErr result (λ miss. cut (tree_of tree.old) (chars token.now) ≡ Err miss) }
     ensures unchanged { OnErr result (tree.new ≡ tree.old) }
 {
@@ -246,9 +259,11 @@ fn cut(tree: &mut Tree, token: &str) -> Result<Tree, Miss>
 /// Takes out the element at an index.
 fn cut_element(items: &mut Vec<Tree>, token: &str) -> Result<Tree, Miss>
     ensures ok { OnOk result
-        (cut (sequence (elements_of items.old.items)) (chars token.now) ≡ Ok (sequence (elements_of items.new.items))) }
+        (cut (sequence (elements_of items.old.items)) (chars token.now)
+        ≡ Ok (sequence (elements_of items.new.items))) }
     ensures removed { IfOk result
-        (λ removed. child (sequence (elements_of items.old.items)) (chars token.now) ≡ Ok (tree_of removed)) }
+        (λ removed. child (sequence (elements_of items.old.items)) (chars token.now)
+        ≡ Ok (tree_of removed)) }
     ensures missed { IfErr result
         (λ miss. cut (sequence (elements_of items.old.items)) (chars token.now) ≡ Err miss) }
     ensures unchanged { OnErr result (items.new ≡ items.old) }
@@ -260,10 +275,13 @@ fn cut_element(items: &mut Vec<Tree>, token: &str) -> Result<Tree, Miss>
 /// Takes out the first pair with the key.
 fn cut_pair(pairs: &mut Vec<(String, Tree)>, key: &str) -> Result<Tree, Miss>
     ensures ok { OnOk result
-        (cut (mapping (members_of pairs.old.items)) (chars key.now) ≡ Ok (mapping (members_of pairs.new.items))) }
+        (cut (mapping (members_of pairs.old.items)) (chars key.now)
+        ≡ Ok (mapping (members_of pairs.new.items))) }
     ensures removed { IfOk result
-        (λ removed. child (mapping (members_of pairs.old.items)) (chars key.now) ≡ Ok (tree_of removed)) }
-    ensures missed { IfErr result (λ miss. cut (mapping (members_of pairs.old.items)) (chars key.now) ≡ Err miss) }
+        (λ removed. child (mapping (members_of pairs.old.items)) (chars key.now)
+        ≡ Ok (tree_of removed)) }
+    ensures missed { IfErr result (λ miss.
+        cut (mapping (members_of pairs.old.items)) (chars key.now) ≡ Err miss) }
     ensures unchanged { OnErr result (pairs.new ≡ pairs.old) }
 {
     let place = place::key_place(pairs, key).ok_or(Miss::Absent)?;

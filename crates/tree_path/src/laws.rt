@@ -1,7 +1,7 @@
 // Laws of paths and edits, over the definitions alone.
 ghost use Rattle.std.specs.Prelude.{◌≡◌, ◌≢◌, ℕ, true, List, [], ◌∷◌, ◌++◌, Ok};
 ghost use Rattle.yaml_grammar.specs.Trees.{Tree, distinct};
-ghost use Rattle.tree_path.specs.Paths.{index_of, behind_last, at, set, delete};
+ghost use Rattle.tree_path.specs.Paths.{index_of, after_last, at, set, delete};
 ghost use Rattle.tree_path.specs.Pointers.{path_of, pointer_text};
 
 /// The text of a path is read as that path, so no two paths have one text.
@@ -11,13 +11,14 @@ pub fn text_is_read_back()
 
 /// What is set at a path is found there, unless the last step is `-`.
 pub fn set_is_found()
-    ensures { (t u v : Tree) (parents : List (List ℕ)) (last : List ℕ) → index_of last ≢ behind_last
+    ensures { (t u v : Tree) (parents : List (List ℕ)) (last : List ℕ) → index_of last ≢ after_last
         → set t (parents ++ last ∷ []) v ≡ Ok u → at u (parents ++ last ∷ []) ≡ Ok v }
 {}
 
 /// Where no mapping holds a key twice, none does after an edit.
 pub fn keys_stay_distinct()
-    ensures set { (t u v : Tree) (path : List (List ℕ)) → distinct t ≡ true → distinct v ≡ true → set t path v ≡ Ok u
+    ensures set { (t u v : Tree) (path : List (List ℕ)) → distinct t ≡ true → distinct v ≡ true
+        → set t path v ≡ Ok u
         → distinct u ≡ true }
     ensures delete { (t u : Tree) (path : List (List ℕ)) → distinct t ≡ true → delete t path ≡ Ok u
         → distinct u ≡ true }

@@ -30,8 +30,10 @@ pub fn set_change(config: &Config, path: &Path, value: &Tree) -> Result<Change, 
     requires steps { 0 < length path.now }
     requires kept { IsKept (tree_of value.now) }
     ensures ok { IfOk result (λ change. (new : Meant)
-        × (set (tree_of config.now) path.now (tree_of value.now) ≡ Ok new) × Changes change (tree_of config.now) new) }
-    ensures refused { IfErr result (λ fault. set (tree_of config.now) path.now (tree_of value.now) ≡ Err fault) }
+        × (set (tree_of config.now) path.now (tree_of value.now) ≡ Ok new)
+        × Changes change (tree_of config.now) new) }
+    ensures refused { IfErr result (λ fault. set (tree_of config.now) path.now (tree_of value.now)
+        ≡ Err fault) }
 {
     let tree = config.tree();
     set_change_at(tree, &path.tokens, value)
@@ -43,7 +45,8 @@ pub fn set_change(config: &Config, path: &Path, value: &Tree) -> Result<Change, 
 pub fn delete_change(config: &Config, path: &Path) -> Result<Change, PathFault>
     requires { 0 < length path.now }
     ensures ok { IfOk result (λ change. (new : Meant)
-        × (delete (tree_of config.now) path.now ≡ Ok new) × Changes change (tree_of config.now) new) }
+        × (delete (tree_of config.now) path.now ≡ Ok new)
+        × Changes change (tree_of config.now) new) }
     ensures refused { IfErr result (λ fault. delete (tree_of config.now) path.now ≡ Err fault) }
 {
     let tree = config.tree();
@@ -56,8 +59,10 @@ pub fn delete_change(config: &Config, path: &Path) -> Result<Change, PathFault>
 pub fn set_len(config: &Config, path: &Path, value: &Tree) -> Result<u128, PathFault>
     requires { IsKept (tree_of value.now) }
     ensures ok { IfOk result (λ bytes. (new : Meant)
-        × (set (tree_of config.now) path.now (tree_of value.now) ≡ Ok new) × (bytes ≡ byte_len (style_text new))) }
-    ensures refused { IfErr result (λ fault. set (tree_of config.now) path.now (tree_of value.now) ≡ Err fault) }
+        × (set (tree_of config.now) path.now (tree_of value.now) ≡ Ok new)
+        × (bytes ≡ byte_len (style_text new))) }
+    ensures refused { IfErr result (λ fault. set (tree_of config.now) path.now (tree_of value.now)
+        ≡ Err fault) }
 {
     if path.steps() == 0 {
         return Ok(u128::from(style_len(value, u64::MAX).unwrap()));
@@ -84,8 +89,10 @@ fn set_change_at(tree: &Tree, tokens: &[String], value: &Tree) -> Result<Change,
     requires tree { IsKept (tree_of tree.now) }
     requires value { IsKept (tree_of value.now) }
     ensures ok { IfOk result (λ change. (new : Meant)
-        × (set (tree_of tree.now) (texts tokens.now) (tree_of value.now) ≡ Ok new) × Changes change (tree_of tree.now) new) }
-    ensures refused { IfErr result (λ fault. set (tree_of tree.now) (texts tokens.now) (tree_of value.now) ≡ Err fault) }
+        × (set (tree_of tree.now) (texts tokens.now) (tree_of value.now) ≡ Ok new)
+        × Changes change (tree_of tree.now) new) }
+    ensures refused { IfErr result (λ fault.
+        set (tree_of tree.now) (texts tokens.now) (tree_of value.now) ≡ Err fault) }
 {
     let (last, parents) = tokens.split_last().unwrap();
     let parent = parent_at(tree, parents)?;
@@ -99,8 +106,10 @@ fn delete_change_at(tree: &Tree, tokens: &[String]) -> Result<Change, PathFault>
     requires steps { 0 < length tokens.now }
     requires tree { IsKept (tree_of tree.now) }
     ensures ok { IfOk result (λ change. (new : Meant)
-        × (delete (tree_of tree.now) (texts tokens.now) ≡ Ok new) × Changes change (tree_of tree.now) new) }
-    ensures refused { IfErr result (λ fault. delete (tree_of tree.now) (texts tokens.now) ≡ Err fault) }
+        × (delete (tree_of tree.now) (texts tokens.now) ≡ Ok new)
+        × Changes change (tree_of tree.now) new) }
+    ensures refused { IfErr result (λ fault. delete (tree_of tree.now) (texts tokens.now)
+        ≡ Err fault) }
 {
     let (last, parents) = tokens.split_last().unwrap();
     let parent = parent_at(tree, parents)?;
@@ -113,7 +122,8 @@ fn delete_change_at(tree: &Tree, tokens: &[String]) -> Result<Change, PathFault>
 /// The node to which the tokens lead, and its context.
 fn parent_at<'t>(tree: &'t Tree, tokens: &[String]) -> Result<Parent<'t>, PathFault>
     ensures ok { IfOk result (λ parent.
-        Located (texts tokens.now) Slot.Value (tree_of tree.now) parent.slot (tree_of parent.node.now)) }
+        Located (texts tokens.now) Slot.Value (tree_of tree.now) parent.slot
+        (tree_of parent.node.now)) }
     ensures refused { IfErr result (λ fault. at (tree_of tree.now) (texts tokens.now) ≡ Err fault) }
 {
     let mut node = tree;
@@ -139,7 +149,8 @@ fn put_change(parent: &Parent<'_>, token: &str, value: &Tree) -> Result<Change, 
         × (put (tree_of parent.now.node.now) (chars token.now) (tree_of value.now) ≡ Ok new)
         × ChangesSmall parent.now.slot change (tree_of parent.now.node.now) new) }
     ensures missed { IfErr result
-        (λ miss. put (tree_of parent.now.node.now) (chars token.now) (tree_of value.now) ≡ Err miss) }
+        (λ miss. put (tree_of parent.now.node.now) (chars token.now) (tree_of value.now)
+        ≡ Err miss) }
 {
     let miss = match place::child(parent.node, token) {
         Ok(old) => {
@@ -170,7 +181,8 @@ fn cut_change(parent: &Parent<'_>, token: &str) -> Result<Change, Miss>
     ensures ok { IfOk result (λ change. (new : Meant)
         × (cut (tree_of parent.now.node.now) (chars token.now) ≡ Ok new)
         × ChangesSmall parent.now.slot change (tree_of parent.now.node.now) new) }
-    ensures missed { IfErr result (λ miss. cut (tree_of parent.now.node.now) (chars token.now) ≡ Err miss) }
+    ensures missed { IfErr result (λ miss. cut (tree_of parent.now.node.now) (chars token.now)
+        ≡ Err miss) }
 {
     let old = place::child(parent.node, token)?;
     match parent.node {

@@ -30,7 +30,8 @@ impl Path {
         ensures met { (result ≡ Err PathFault.OutOfMemory) ⊎ (result ≡ path_of (chars text.now)) }
         ensures ok { IfOk result (λ path. chars text.now ≡ pointer_text path) }
         ensures refused { IfErr result
-            (λ fault. fault ≢ PathFault.OutOfMemory → (tokens : List (List ℕ)) → chars text.now ≢ pointer_text tokens) }
+            (λ fault. fault ≢ PathFault.OutOfMemory → (tokens : List (List ℕ))
+            → chars text.now ≢ pointer_text tokens) }
     {
         let mut tokens = Vec::new(alloc);
         let mut rest = text.chars();
@@ -78,7 +79,8 @@ fn escaped(digit: Option<char>) -> Option<char>
 fn lengthen(tokens: &mut Vec<String>, c: char) -> Result<(), AllocError>
     requires { 0 < length tokens.old.items }
     ensures ok { OnOk result
-        (pointer_text (texts tokens.new.items) ≡ pointer_text (texts tokens.old.items) ++ spelled c) }
+        (pointer_text (texts tokens.new.items) ≡ pointer_text (texts tokens.old.items)
+        ++ spelled c) }
     ensures count { length tokens.new.items ≡ length tokens.old.items }
 {
     let last = tokens.len() - 1;

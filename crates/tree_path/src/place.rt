@@ -76,7 +76,8 @@ pub fn key_place(pairs: &[(String, Tree)], key: &str) -> Option<usize>
 
 /// The value to which a step leads.
 pub fn child<'t>(tree: &'t Tree, token: &str) -> Result<&'t Tree, Miss>
-    ensures ok { IfOk result (λ value. child (tree_of tree.now) (chars token.now) ≡ Ok (tree_of value.now)) }
+    ensures ok { IfOk result (λ value. child (tree_of tree.now) (chars token.now)
+        ≡ Ok (tree_of value.now)) }
     ensures missed { IfErr result (λ miss. child (tree_of tree.now) (chars token.now) ≡ Err miss) }
 {
     match tree {
@@ -94,7 +95,8 @@ pub fn child<'t>(tree: &'t Tree, token: &str) -> Result<&'t Tree, Miss>
 
 /// Swaps the value to which a step leads with another one.
 pub fn exchange(tree: &mut Tree, token: &str, other: &mut Tree) -> Result<(), Miss>
-    ensures taken { OnOk result (child (tree_of tree.old) (chars token.now) ≡ Ok (tree_of other.new)) }
+    ensures taken { OnOk result (child (tree_of tree.old) (chars token.now)
+        ≡ Ok (tree_of other.new)) }
     ensures put_there { OnOk result
         (put (tree_of tree.old) (chars token.now) (tree_of other.old) ≡ Ok (tree_of tree.new)) }
     ensures missed { IfErr result (λ miss. child (tree_of tree.old) (chars token.now) ≡ Err miss) }
@@ -110,7 +112,8 @@ pub fn exchange(tree: &mut Tree, token: &str, other: &mut Tree) -> Result<(), Mi
 
 fn exchange_element(items: &mut Vec<Tree>, token: &str, other: &mut Tree) -> Result<(), Miss>
     ensures taken { OnOk result
-        (child (sequence (elements_of items.old.items)) (chars token.now) ≡ Ok (tree_of other.new)) }
+        (child (sequence (elements_of items.old.items)) (chars token.now)
+        ≡ Ok (tree_of other.new)) }
     ensures put_there { OnOk result
         (put (sequence (elements_of items.old.items)) (chars token.now) (tree_of other.old)
         ≡ Ok (sequence (elements_of items.new.items))) }

@@ -4,11 +4,12 @@ use Rattle.std.proofs.lemmas.Str.{length-encode, encodes-chars}
 use Rattle.std.specs.Str.{chars}
 use Rattle.yaml_grammar.specs.Texts.{byte_len, spaces}
 
-byte_len-encoded : (cs : List ℕ) → byte_len cs ≡ length (encode_utf8_all cs)
+-- a text has as many bytes as its characters
+pub byte_len-encoded : (cs : List ℕ) → byte_len cs ≡ length (encode_utf8_all cs)
 byte_len-encoded [] = refl
 byte_len-encoded (c ∷ cs) =
-    let behind = byte_len-encoded cs in
-    omega (arith, behind, length-append (encode_utf8 c) (encode_utf8_all cs), length-encode c)
+    let after = byte_len-encoded cs in
+    omega (arith, after, length-append (encode_utf8 c) (encode_utf8_all cs), length-encode c)
 
 -- the characters of a text have as many bytes as it
 pub byte_len-chars : (bs : List ℕ) → IsUtf8 bs → byte_len (chars bs) ≡ length bs
@@ -16,4 +17,4 @@ byte_len-chars bs utf8 = byte_len-encoded (chars bs) ∙ ap length (encodes-char
 
 pub byte_len-spaces : (n : ℕ) → byte_len (spaces n) ≡ n
 byte_len-spaces zero = refl
-byte_len-spaces (suc n) = let behind = byte_len-spaces n in omega (arith, behind)
+byte_len-spaces (suc n) = let after = byte_len-spaces n in omega (arith, after)

@@ -160,21 +160,21 @@ pub record InSeq (fs rest : List Frame) : Type 0 where
   pub elements : Elements
   pub outer : List Frame
   pub is : fs ≡ in_seq elements ∷ outer
-  pub behind : rest ≡ emptied_frames outer
+  pub after : rest ≡ emptied_frames outer
 
 pub record InMap (fs : List Frame) (ms : Members) (rest : List Frame) : Type 0 where
   pub members : Members
   pub outer : List Frame
   pub is : fs ≡ at_key members ∷ outer
   pub emptied_is : ms ≡ emptied_members members
-  pub behind : rest ≡ emptied_frames outer
+  pub after : rest ≡ emptied_frames outer
 
 pub in_seq_parts : (fs : List Frame) (es : Elements) (rest : List Frame) → emptied_frames fs ≡ in_seq es ∷ rest → InSeq fs rest
 in_seq_parts [] es rest e = cc
 in_seq_parts (awaiting ∷ fs) es rest e = cc
 in_seq_parts (root u ∷ fs) es rest e = cc
 in_seq_parts (whole u ∷ fs) es rest e = cc
-in_seq_parts (in_seq ts ∷ fs) es rest e = record { elements = ts; outer = fs; is = refl; behind = cc }
+in_seq_parts (in_seq ts ∷ fs) es rest e = record { elements = ts; outer = fs; is = refl; after = cc }
 in_seq_parts (at_key ms ∷ fs) es rest e = cc
 in_seq_parts (at_value ms key ∷ fs) es rest e = cc
 
@@ -184,20 +184,20 @@ in_map_parts (awaiting ∷ fs) ns rest e = cc
 in_map_parts (root u ∷ fs) ns rest e = cc
 in_map_parts (whole u ∷ fs) ns rest e = cc
 in_map_parts (in_seq ts ∷ fs) ns rest e = cc
-in_map_parts (at_key ms ∷ fs) ns rest e = record { members = ms; outer = fs; is = refl; emptied_is = cc; behind = cc }
+in_map_parts (at_key ms ∷ fs) ns rest e = record { members = ms; outer = fs; is = refl; emptied_is = cc; after = cc }
 in_map_parts (at_value ms key ∷ fs) ns rest e = cc
 
 pub seq_stepped : (fs rest new : List Frame) → InSeq fs rest → put rest (sequence no_element) ≡ Some new → Stepped new (frames_distinct fs) (seq_ended fs)
 seq_stepped fs rest new i e =
     let found = stepped (put i.outer (sequence i.elements)) new (elements_distinct i.elements && frames_distinct i.outer)
-    (sym (put_emptied i.outer (sequence i.elements)) ∙ ap (λ gs. put gs (sequence no_element)) (sym i.behind) ∙ e)
+    (sym (put_emptied i.outer (sequence i.elements)) ∙ ap (λ gs. put gs (sequence no_element)) (sym i.after) ∙ e)
     (put_differs i.outer (sequence i.elements)) in
     subst (λ gs. Stepped new (frames_distinct gs) (seq_ended gs)) (sym i.is) found
 
 pub seq_put_none : (fs rest : List Frame) → InSeq fs rest → put rest (sequence no_element) ≡ None → seq_ended fs ≡ None
 seq_put_none fs rest i e =
     ap seq_ended i.is
-    ∙ none_emptied (put i.outer (sequence i.elements)) (sym (put_emptied i.outer (sequence i.elements)) ∙ ap (λ gs. put gs (sequence no_element)) (sym i.behind) ∙ e)
+    ∙ none_emptied (put i.outer (sequence i.elements)) (sym (put_emptied i.outer (sequence i.elements)) ∙ ap (λ gs. put gs (sequence no_element)) (sym i.after) ∙ e)
 
 keys_of_mapping : (ms : Members) (d : Bool) (fs : List Frame) → d ≡ (values_distinct ms && frames_distinct fs)
     → (d && keys_differ ms) ≡ (members_distinct ms && frames_distinct fs)
@@ -222,7 +222,7 @@ map_stepped fs rest new ns d i e was =
     let flag : (d && keys_differ ns) ≡ (members_distinct i.members && frames_distinct i.outer) =
     ap (λ b. d && b) keys ∙ keys_of_mapping i.members d i.outer (was ∙ ap frames_distinct i.is) in
     let found = stepped (put i.outer (mapping i.members)) new (members_distinct i.members && frames_distinct i.outer)
-    (sym (put_emptied i.outer (mapping i.members)) ∙ ap (λ gs. put gs (mapping no_member)) (sym i.behind) ∙ e)
+    (sym (put_emptied i.outer (mapping i.members)) ∙ ap (λ gs. put gs (mapping no_member)) (sym i.after) ∙ e)
     (put_differs i.outer (mapping i.members)) in
     let there : Stepped new (members_distinct i.members && frames_distinct i.outer) (map_ended fs) =
     subst (λ gs. Stepped new (members_distinct i.members && frames_distinct i.outer) (map_ended gs)) (sym i.is) found in
@@ -231,7 +231,7 @@ map_stepped fs rest new ns d i e was =
 pub map_put_none : (fs rest : List Frame) (ns : Members) → InMap fs ns rest → put rest (mapping no_member) ≡ None → map_ended fs ≡ None
 map_put_none fs rest ns i e =
     ap map_ended i.is
-    ∙ none_emptied (put i.outer (mapping i.members)) (sym (put_emptied i.outer (mapping i.members)) ∙ ap (λ gs. put gs (mapping no_member)) (sym i.behind) ∙ e)
+    ∙ none_emptied (put i.outer (mapping i.members)) (sym (put_emptied i.outer (mapping i.members)) ∙ ap (λ gs. put gs (mapping no_member)) (sym i.after) ∙ e)
 
 -- no sequence, no mapping is innermost, or its place is none for a collection
 

@@ -14,9 +14,9 @@ use Rattle.yaml_tree.proofs.FrameLemmas.{after, run, run-append, run-None, docum
 -- the list of which xs and x are the first items
 pub items_on : {X : Type 0} (xs all : List X) (x : X) → xs ≡ take (length xs) all → length xs < length all → x ≡ get_or all (length xs) x
     → all ≡ xs ++ x ∷ [] ++ drop (length xs + 1) all
-items_on xs all x front within here =
+items_on xs all x prefix within here =
     sym (take-append-drop (length xs + 1) all) ∙ ap (λ ys. ys ++ drop (length xs + 1) all) (take_more all (length xs) x within)
-    ∙ ap (λ ys. ys ++ get_or all (length xs) x ∷ [] ++ drop (length xs + 1) all) (sym front)
+    ∙ ap (λ ys. ys ++ get_or all (length xs) x ∷ [] ++ drop (length xs + 1) all) (sym prefix)
     ∙ ap (λ y. xs ++ y ∷ [] ++ drop (length xs + 1) all) (sym here)
 
 pub shapes_of-append : (xs ys : List Event) → shapes (events_of (xs ++ ys)) ≡ shapes (events_of xs) ++ shapes (events_of ys)

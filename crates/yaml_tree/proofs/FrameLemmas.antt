@@ -110,21 +110,21 @@ abbrev Writes : Option (List Frame) → List Shape → Type 0
 Writes None ss = Unit {0}
 Writes (Some gs) ss = written gs ≡ ss
 
-behind : (fs : List Frame) (s : Shape) (xs ys : List Shape) → written fs ++ s ∷ (xs ++ ys) ≡ written fs ++ s ∷ xs ++ ys
-behind fs s xs ys = sym (append_assoc (written fs) (s ∷ xs) ys)
+written_joined : (fs : List Frame) (s : Shape) (xs ys : List Shape) → written fs ++ s ∷ (xs ++ ys) ≡ written fs ++ s ∷ xs ++ ys
+written_joined fs s xs ys = sym (append_assoc (written fs) (s ∷ xs) ys)
 
 put_writes : (fs : List Frame) (t : Tree) → Writes (put fs t) (written fs ++ tree_shapes t)
 put_writes [] t = tt
-put_writes (awaiting ∷ fs) t = behind fs document_from [] (tree_shapes t)
+put_writes (awaiting ∷ fs) t = written_joined fs document_from [] (tree_shapes t)
 put_writes (root u ∷ fs) t = tt
 put_writes (whole u ∷ fs) t = tt
-put_writes (in_seq ts ∷ fs) t = ap (λ ss. written fs ++ seq_from ∷ ss) (elements_and-shapes ts t) ∙ behind fs seq_from (elements_shapes ts) (tree_shapes t)
-put_writes (at_key ms ∷ fs) (text key) = behind fs map_from (members_shapes ms) (scalar_of key ∷ [])
+put_writes (in_seq ts ∷ fs) t = ap (λ ss. written fs ++ seq_from ∷ ss) (elements_and-shapes ts t) ∙ written_joined fs seq_from (elements_shapes ts) (tree_shapes t)
+put_writes (at_key ms ∷ fs) (text key) = written_joined fs map_from (members_shapes ms) (scalar_of key ∷ [])
 put_writes (at_key ms ∷ fs) (sequence ts) = tt
 put_writes (at_key ms ∷ fs) (mapping ns) = tt
 put_writes (at_value ms key ∷ fs) t =
     ap (λ ss. written fs ++ map_from ∷ ss) (members_and-shapes ms key t ∙ sym (append_assoc (members_shapes ms) (scalar_of key ∷ []) (tree_shapes t)))
-    ∙ behind fs map_from (members_shapes ms ++ scalar_of key ∷ []) (tree_shapes t)
+    ∙ written_joined fs map_from (members_shapes ms ++ scalar_of key ∷ []) (tree_shapes t)
 
 same_writes : (o : Option (List Frame)) (xs ys : List Shape) → xs ≡ ys → Writes o xs → Writes o ys
 same_writes o xs ys e h = subst (Writes o) e h
@@ -133,7 +133,7 @@ step_writes : (fs : List Frame) (s : Shape) → Writes (step fs s) (written fs +
 step_writes fs document_from = refl
 step_writes [] document_to = tt
 step_writes (awaiting ∷ fs) document_to = tt
-step_writes (root t ∷ fs) document_to = behind fs document_from (tree_shapes t) (document_to ∷ [])
+step_writes (root t ∷ fs) document_to = written_joined fs document_from (tree_shapes t) (document_to ∷ [])
 step_writes (whole t ∷ fs) document_to = tt
 step_writes (in_seq ts ∷ fs) document_to = tt
 step_writes (at_key ms ∷ fs) document_to = tt
@@ -144,7 +144,7 @@ step_writes (awaiting ∷ fs) seq_to = tt
 step_writes (root t ∷ fs) seq_to = tt
 step_writes (whole t ∷ fs) seq_to = tt
 step_writes (in_seq ts ∷ fs) seq_to =
-    same_writes (put fs (sequence ts)) _ _ (behind fs seq_from (elements_shapes ts) (seq_to ∷ [])) (put_writes fs (sequence ts))
+    same_writes (put fs (sequence ts)) _ _ (written_joined fs seq_from (elements_shapes ts) (seq_to ∷ [])) (put_writes fs (sequence ts))
 step_writes (at_key ms ∷ fs) seq_to = tt
 step_writes (at_value ms key ∷ fs) seq_to = tt
 step_writes fs map_from = refl
@@ -154,7 +154,7 @@ step_writes (root t ∷ fs) map_to = tt
 step_writes (whole t ∷ fs) map_to = tt
 step_writes (in_seq ts ∷ fs) map_to = tt
 step_writes (at_key ms ∷ fs) map_to =
-    same_writes (put fs (mapping ms)) _ _ (behind fs map_from (members_shapes ms) (map_to ∷ [])) (put_writes fs (mapping ms))
+    same_writes (put fs (mapping ms)) _ _ (written_joined fs map_from (members_shapes ms) (map_to ∷ [])) (put_writes fs (mapping ms))
 step_writes (at_value ms key ∷ fs) map_to = tt
 step_writes fs (scalar_of value) = put_writes fs (text value)
 

@@ -14,7 +14,7 @@ use Rattle.yaml_grammar.specs.Texts.{same_text}
 use Rattle.yaml_grammar.specs.Trees.{Members, no_member, member, has_key, distinct, members_distinct}
 use Rattle.yaml_tree.specs.Keys.{keys_differ, values_distinct}
 use Rattle.yaml_tree.specs.Seen.{Pair, members_of}
-use Rattle.yaml_tree.proofs.TextLemmas.{same_text-Decides}
+use Rattle.yaml_tree.proofs.CharacterLemmas.{same_text-Decides}
 
 abbrev pub Key : Type 0
 Key = Bor (List ℕ)

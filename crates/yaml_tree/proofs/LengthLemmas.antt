@@ -4,11 +4,11 @@ use Rattle.std.proofs.lemmas.Str.{len_utf8_bounds}
 use Rattle.std.proofs.lemmas.Bool.{and_parts}
 use Rattle.yaml_grammar.specs.Texts.{byte_len, spaces, first}
 use Rattle.yaml_grammar.specs.Trees.{Tree, text, sequence, mapping, Elements, no_element, element, Members, no_member, member, depth, elements_depth, members_depth}
-use Rattle.yaml_grammar.specs.Style.{letter, plain_in_style, literal_in_style, quoted, quoted_chars, literal_mark, literal_lines, feeds_at_end, scalar_lines, key_text, long_key, key_lines, elements_at, elements_behind, element_at, members_at, members_behind, value_at, style_text}
+use Rattle.yaml_grammar.specs.Style.{letter, plain_in_style, literal_in_style, quoted, quoted_chars, literal_mark, literal_lines, feeds_at_end, scalar_lines, key_text, long_key, key_lines, elements_at, elements_after, element_at, members_at, members_after, value_at, style_text}
 
 pub length-byte_len : (cs : List ℕ) → length cs ≤ byte_len cs
 length-byte_len [] = omega arith
-length-byte_len (c ∷ cs) = let behind = length-byte_len cs in omega (arith, behind, len_utf8_bounds c)
+length-byte_len (c ∷ cs) = let after = length-byte_len cs in omega (arith, after, len_utf8_bounds c)
 
 if_two : (n : ℕ) (b : Bool) (xs ys : List ℕ) → (b ≡ true → n ≤ length xs) → n ≤ length ys → n ≤ length (if b then xs else ys)
 if_two n true xs ys p q = p refl
@@ -57,7 +57,7 @@ key_two i key =
     two_more : (xs : List ℕ) → 2 ≤ length xs → 2 ≤ length (xs ++ codes ":")
     two_more xs h = omega (arith, h, length-append xs (codes ":"))
 
--- the parts of a line and what stands behind it, by their lengths
+-- the parts of a line and what comes after it, by their lengths
 parts : (xs ys zs : List ℕ) → length (xs ++ ys ++ zs) ≡ length xs + length ys + length zs
 parts xs ys zs = omega (arith, length-append (xs ++ ys) zs, length-append xs ys)
 
@@ -79,22 +79,22 @@ mutual
   deep_elements : (ts : Elements) (i : ℕ) → 2 * suc (elements_depth ts) ≤ length (elements_at ts i)
   deep_elements no_element i = omega arith
   deep_elements (element t ts) i =
-      omega (arith, deep_element t i, deep_behind ts i, parts (codes "- ") (element_at t i) (elements_behind ts i))
+      omega (arith, deep_element t i, deep_after ts i, parts (codes "- ") (element_at t i) (elements_after ts i))
 
-  deep_behind : (ts : Elements) (i : ℕ) → 2 * elements_depth ts ≤ length (elements_behind ts i)
-  deep_behind no_element i = omega arith
-  deep_behind (element t ts) i =
-      omega (arith, deep_element t i, deep_behind ts i, parts (spaces i ++ codes "- ") (element_at t i) (elements_behind ts i))
+  deep_after : (ts : Elements) (i : ℕ) → 2 * elements_depth ts ≤ length (elements_after ts i)
+  deep_after no_element i = omega arith
+  deep_after (element t ts) i =
+      omega (arith, deep_element t i, deep_after ts i, parts (spaces i ++ codes "- ") (element_at t i) (elements_after ts i))
 
   deep_members : (ms : Members) (i : ℕ) → 2 * suc (members_depth ms) ≤ length (members_at ms i)
   deep_members no_member i = omega arith
   deep_members (member key t ms) i =
-      omega (arith, key_two i key, deep_value t i, deep_members_behind ms i, parts (key_lines i key) (value_at t i) (members_behind ms i))
+      omega (arith, key_two i key, deep_value t i, deep_members_after ms i, parts (key_lines i key) (value_at t i) (members_after ms i))
 
-  deep_members_behind : (ms : Members) (i : ℕ) → 2 * members_depth ms ≤ length (members_behind ms i)
-  deep_members_behind no_member i = omega arith
-  deep_members_behind (member key t ms) i =
-      omega (arith, deep_value t i, deep_members_behind ms i, parts (spaces i ++ key_lines i key) (value_at t i) (members_behind ms i))
+  deep_members_after : (ms : Members) (i : ℕ) → 2 * members_depth ms ≤ length (members_after ms i)
+  deep_members_after no_member i = omega arith
+  deep_members_after (member key t ms) i =
+      omega (arith, deep_value t i, deep_members_after ms i, parts (spaces i ++ key_lines i key) (value_at t i) (members_after ms i))
 
 pub deep_text : (t : Tree) → 2 * depth t ≤ length (style_text t)
 deep_text (text value) = scalar_two 2 value

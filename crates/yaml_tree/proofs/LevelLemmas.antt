@@ -19,7 +19,7 @@ levels_distinct-append (x ∷ xs) l = ap (λ b. level_distinct x && b) (levels_d
 
 pub steps_left-append : (ls : List Level) (l : Level) → steps_left (ls ++ l ∷ []) ≡ steps_left ls + 1 + level_nodes l + level_nodes l
 steps_left-append [] l = omega arith
-steps_left-append (x ∷ xs) l = let behind = steps_left-append xs l in omega (arith, behind)
+steps_left-append (x ∷ xs) l = let after = steps_left-append xs l in omega (arith, after)
 
 -- a step: the level gives way to what comes after its first value, and to what is inside that
 pub step_distinct : (all others level first rest inside own : Bool) → all ≡ (others && level) → level ≡ (first && rest) → first ≡ (own && inside) → own ≡ true

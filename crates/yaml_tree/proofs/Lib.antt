@@ -7,12 +7,13 @@ pub mod LiteralLemmas
 pub mod QuotedLemmas
 pub mod ScalarLemmas
 pub mod SeenLemmas
+pub mod SpacesLemmas
 pub mod SizeLaws
 pub mod SizeBounds
 pub mod SpecialWords
 pub mod StyleLemmas
-pub mod TextLemmas
-pub mod TextsLemmas
+pub mod CharacterLemmas
+pub mod TextTreeLemmas
 pub mod WalkLemmas
 pub mod FrameLemmas
 pub mod PartLemmas

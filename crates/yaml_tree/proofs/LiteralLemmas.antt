@@ -19,7 +19,7 @@ within_last : (j : ℕ) (xs : List ℕ) → IsOneLine xs → literal_lines j fal
 within_last j [] one = refl
 within_last j (x ∷ xs) one = rw one.0 (ap (λ cs. x ∷ cs) (within_last j xs one.1))
 
--- a line and what stands behind it
+-- a line and what comes after it
 pub literal_line : (j : ℕ) (xs ys : List ℕ) → IsOneLine xs → line_text j xs ++ literal_lines j true ys ≡ literal_lines j true (xs ++ 10 ∷ ys)
 literal_line j [] ys one = refl
 literal_line j (x ∷ xs) ys one =
@@ -33,12 +33,12 @@ literal_last j (x ∷ xs) one some =
 
 -- ---- the same of bytes
 
-pub line_IsUtf8 : (bs front behind : List ℕ) → IsUtf8 bs → bs ≡ front ++ 10 ∷ behind → IsUtf8 front
-line_IsUtf8 bs front behind utf8 e =
-    let within : length front < length bs = omega (arith, ap length e, length-append front (10 ∷ behind)) in
-    let feed : get_or bs (length front) 0 ≡ 10 = rw e (get_or-append_seam front 10 behind 0) in
-    subst IsUtf8 (ap (take (length front)) e ∙ take-append_seam front (10 ∷ behind))
-    (IsUtf8-take bs (length front) utf8 (IsCharBoundary-before_ascii bs (length front) within (omega (arith, feed))))
+pub line_IsUtf8 : (bs prefix after : List ℕ) → IsUtf8 bs → bs ≡ prefix ++ 10 ∷ after → IsUtf8 prefix
+line_IsUtf8 bs prefix after utf8 e =
+    let within : length prefix < length bs = omega (arith, ap length e, length-append prefix (10 ∷ after)) in
+    let feed : get_or bs (length prefix) 0 ≡ 10 = rw e (get_or-append_seam prefix 10 after 0) in
+    subst IsUtf8 (ap (take (length prefix)) e ∙ take-append_seam prefix (10 ∷ after))
+    (IsUtf8-take bs (length prefix) utf8 (IsCharBoundary-before_ascii bs (length prefix) within (omega (arith, feed))))
 
 pub chars-feed : (bs : List ℕ) → chars (10 ∷ bs) ≡ 10 ∷ chars bs
 unfolding chars
@@ -48,18 +48,18 @@ chars-feed (b ∷ bs) = refl
 pub line_is_one : (bs : List ℕ) → IsUtf8 bs → NoCharPasses (λ d. d == 10) bs → IsOneLine (chars bs)
 line_is_one bs utf8 none = subst IsOneLine (chars_from_encodes none.0 bs utf8 none.1) none.2
 
-pub chars-lines : (bs front behind : List ℕ) → IsUtf8 bs → bs ≡ front ++ 10 ∷ behind → chars bs ≡ chars front ++ 10 ∷ chars behind
-chars-lines bs front behind utf8 e =
-    ap chars e ∙ chars-append front (10 ∷ behind) (line_IsUtf8 bs front behind utf8 e)
-    ∙ ap (λ cs. chars front ++ cs) (chars-feed behind)
+pub chars-lines : (bs prefix after : List ℕ) → IsUtf8 bs → bs ≡ prefix ++ 10 ∷ after → chars bs ≡ chars prefix ++ 10 ∷ chars after
+chars-lines bs prefix after utf8 e =
+    ap chars e ∙ chars-append prefix (10 ∷ after) (line_IsUtf8 bs prefix after utf8 e)
+    ∙ ap (λ cs. chars prefix ++ cs) (chars-feed after)
 
 pub line_filled : (j : ℕ) (cs : List ℕ) → (length cs ≡ 0 → ⊥) → spaces j ++ cs ++ codes "\n" ≡ line_text j cs
 line_filled j [] some = absurd (some refl)
 line_filled j (c ∷ cs) some = refl
 
-pub behind_IsUtf8 : (bs front behind : List ℕ) → IsUtf8 bs → bs ≡ front ++ 10 ∷ behind → IsUtf8 behind
-behind_IsUtf8 bs front behind utf8 e =
-    let within : length front < length bs = omega (arith, ap length e, length-append front (10 ∷ behind)) in
-    let feed : get_or bs (length front) 0 ≡ 10 = rw e (get_or-append_seam front 10 behind 0) in
-    let cut = IsUtf8-drop bs (length front + 1) utf8 (IsCharBoundary-after_ascii bs (length front) utf8 within (omega (arith, feed))) in
-    subst IsUtf8 (ap (drop (length front + 1)) e ∙ drop-append-add front (10 ∷ behind) 1) cut
+pub after_IsUtf8 : (bs prefix after : List ℕ) → IsUtf8 bs → bs ≡ prefix ++ 10 ∷ after → IsUtf8 after
+after_IsUtf8 bs prefix after utf8 e =
+    let within : length prefix < length bs = omega (arith, ap length e, length-append prefix (10 ∷ after)) in
+    let feed : get_or bs (length prefix) 0 ≡ 10 = rw e (get_or-append_seam prefix 10 after 0) in
+    let cut = IsUtf8-drop bs (length prefix + 1) utf8 (IsCharBoundary-after_ascii bs (length prefix) utf8 within (omega (arith, feed))) in
+    subst IsUtf8 (ap (drop (length prefix + 1)) e ∙ drop-append-add prefix (10 ∷ after) 1) cut

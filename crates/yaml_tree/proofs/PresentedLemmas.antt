@@ -31,17 +31,17 @@ abbrev mutual
   seq_values : Entries → Values
   seq_values flows.none = no_value
   seq_values (flows.last e gap) = value (entry_value e) no_value
-  seq_values (flows.next e before behind es) = value (entry_value e) (seq_values es)
+  seq_values (flows.next e before after es) = value (entry_value e) (seq_values es)
 
   map_pairs : Entries → Pairs
   map_pairs flows.none = no_pair
   map_pairs (flows.last e gap) = entry_pair e no_pair
-  map_pairs (flows.next e before behind es) = entry_pair e (map_pairs es)
+  map_pairs (flows.next e before after es) = entry_pair e (map_pairs es)
 
   entry_value : Entry → Nested
   entry_value (flows.entry None key flows.absent) = flow_value key
   entry_value (flows.entry None key (flows.empty gap)) = mapping (pair (flow_value key) (text []) no_pair)
-  entry_value (flows.entry None key (flows.given before behind f)) = mapping (pair (flow_value key) (flow_value f) no_pair)
+  entry_value (flows.entry None key (flows.given before after f)) = mapping (pair (flow_value key) (flow_value f) no_pair)
   entry_value (flows.entry (Some sep) key v) = mapping (pair (flow_value key) (given_value v) no_pair)
 
   entry_pair : Entry → Pairs → Pairs
@@ -50,7 +50,7 @@ abbrev mutual
   given_value : Value → Nested
   given_value flows.absent = text []
   given_value (flows.empty gap) = text []
-  given_value (flows.given before behind f) = flow_value f
+  given_value (flows.given before after f) = flow_value f
 
 -- a key and a value, and what follows
 two_shapes : (xs ys : List Event) (k v : Nested) (ps : Pairs) → shapes xs ≡ nested_shapes k → shapes ys ≡ nested_shapes v
@@ -84,19 +84,19 @@ mutual
   seq_entries : (es : Entries) (at : ℕ) → shapes (entries_events es true at) ≡ values_shapes (seq_values es)
   seq_entries flows.none at = refl
   seq_entries (flows.last e gap) at = seq_entry e at ∙ sym (append-nil (nested_shapes (entry_value e)))
-  seq_entries (flows.next e before behind es) at =
+  seq_entries (flows.next e before after es) at =
       values_more (entry_events e true at) _ (entry_value e) (seq_values es) (seq_entry e at) (seq_entries es _)
 
   map_entries : (es : Entries) (at : ℕ) → shapes (entries_events es false at) ≡ pairs_shapes (map_pairs es)
   map_entries flows.none at = refl
   map_entries (flows.last e gap) at = sym (append-nil (shapes (entry_events e false at))) ∙ map_entry e at no_pair
-  map_entries (flows.next e before behind es) at =
+  map_entries (flows.next e before after es) at =
       shapes-append (entry_events e false at) _ ∙ ap (λ ss. shapes (entry_events e false at) ++ ss) (map_entries es _) ∙ map_entry e at (map_pairs es)
 
   seq_entry : (e : Entry) (at : ℕ) → shapes (entry_events e true at) ≡ nested_shapes (entry_value e)
   seq_entry (flows.entry None key flows.absent) at = flow_shapes key _
   seq_entry (flows.entry None key (flows.empty gap)) at = one_pair _ _ (flow_value key) (text []) (flow_shapes key _) refl
-  seq_entry (flows.entry None key (flows.given before behind f)) at =
+  seq_entry (flows.entry None key (flows.given before after f)) at =
       one_pair _ _ (flow_value key) (flow_value f) (flow_shapes key _) (flow_shapes f _)
   seq_entry (flows.entry (Some sep) key v) at = one_pair _ _ (flow_value key) (given_value v) (flow_shapes key _) (given_shapes v _)
 
@@ -106,7 +106,7 @@ mutual
   given_shapes : (v : Value) (at : ℕ) → shapes (value_events v at) ≡ nested_shapes (given_value v)
   given_shapes flows.absent at = refl
   given_shapes (flows.empty gap) at = refl
-  given_shapes (flows.given before behind f) at = flow_shapes f _
+  given_shapes (flows.given before after f) at = flow_shapes f _
 
 -- ---- block nodes
 
@@ -196,7 +196,7 @@ optional_values None = []
 optional_values (Some d) = document_value d ∷ []
 
 abbrev part_values : Part → List Nested
-part_values (suffixes one more front document) = optional_values document
+part_values (suffixes one more prefix document) = optional_values document
 part_values (line e) = []
 part_values (further x) = explicit_value x ∷ []
 
@@ -218,7 +218,7 @@ optional_shapes None at = refl
 optional_shapes (Some d) at = document_shapes d at
 
 part_shapes : (p : Part) (at : ℕ) → shapes (part_events p at) ≡ documents_shapes (part_values p)
-part_shapes (suffixes one more front document) at = optional_shapes document _
+part_shapes (suffixes one more prefix document) at = optional_shapes document _
 part_shapes (line e) at = refl
 part_shapes (further x) at = explicit_shapes x at
 

@@ -1,4 +1,4 @@
--- What stands between double quotes.
+-- What is between double quotes.
 use Rattle.std.proofs.Common.{◌≡◌, ℕ, ◌/◌, ◌%◌, ◌<◌, ◌≤◌, true, List, [], ◌∷◌, ◌++◌, codes, length, take, drop, IsUtf8, encode_utf8, refl, sym, ap, ap₂, ◌∙◌, append_assoc, arith}
 use Rattle.std.proofs.lemmas.List.{take-append-drop}
 use Rattle.std.proofs.lemmas.Str.{IsUtf8-from_ascii, IsCharBoundary-from_take, chars-IsAscii, chars-append, chars_past_char}
@@ -8,7 +8,7 @@ use Rattle.std.proofs.lemmas.Bool.Decides.{nat_tests}
 use Rattle.yaml_grammar.specs.Texts.{every}
 use Rattle.yaml_grammar.specs.Style.{hex, quoted_char, quoted_chars}
 use Rattle.yaml_tree.specs.Runs.{stands_alone, number_escape}
-use Rattle.yaml_tree.proofs.TextLemmas.{every-IsAscii}
+use Rattle.yaml_tree.proofs.CharacterLemmas.{every-IsAscii}
 
 pub number_escape-two : (c : ℕ) → c ≤ 255 → number_escape c ≡ codes "\\x" ++ hex (c / 16) ∷ hex (c % 16) ∷ []
 number_escape-two c h = rw (le-leb c 255 h) refl
@@ -36,9 +36,9 @@ pub quoted_chars-alone : (cs : List ℕ) → every stands_alone cs ≡ true → 
 quoted_chars-alone [] e = refl
 quoted_chars-alone (c ∷ cs) e =
     let parts = and_parts (stands_alone c) (every stands_alone cs) e in
-    ap₂ (λ front rest. front ++ rest) (quoted_char-alone c parts.0) (quoted_chars-alone cs parts.1)
+    ap₂ (λ prefix rest. prefix ++ rest) (quoted_char-alone c parts.0) (quoted_chars-alone cs parts.1)
 
--- a run at the front of a text stands for itself, and the text may be cut behind it
+-- a run at the start of a text means itself, and the text may be cut after it
 pub run_IsUtf8 : (bs : List ℕ) → every stands_alone bs ≡ true → IsUtf8 bs
 run_IsUtf8 bs alone = IsUtf8-from_ascii bs (every-IsAscii stands_alone stands_alone-below bs alone)
 

@@ -9,7 +9,7 @@ use Rattle.std.specs.Str.{chars}
 use Rattle.yaml_chars.specs.Classes.{between}
 use Rattle.yaml_grammar.specs.Texts.{every}
 use Rattle.yaml_grammar.specs.Style.{word_char, lower, feeds_at_end}
-use Rattle.yaml_tree.proofs.TextLemmas.{every-push}
+use Rattle.yaml_tree.proofs.CharacterLemmas.{every-push}
 
 pub word_char-below : (c : ℕ) → word_char c ≡ true → c < 128
 word_char-below c e = grind (arith, nat_tests)
@@ -37,41 +37,41 @@ feeds_at_end-feed (x ∷ xs) =
     if-suc true m n p q e f = e
     if-suc false m n p q e f = f
 
-ends_in_feed : (x : ℕ) (xs : List ℕ) → every is_feed (x ∷ xs) ≡ true → (front : List ℕ) × (x ∷ xs ≡ front ++ 10 ∷ [])
+ends_in_feed : (x : ℕ) (xs : List ℕ) → every is_feed (x ∷ xs) ≡ true → (prefix : List ℕ) × (x ∷ xs ≡ prefix ++ 10 ∷ [])
 ends_in_feed x [] e = ([], ap (λ d. d ∷ []) (eqb-true x 10 (and_parts (x == 10) true e).0))
 ends_in_feed x (y ∷ ys) e =
-    let behind = ends_in_feed y ys (and_parts (x == 10) (every is_feed (y ∷ ys)) e).1 in
-    (x ∷ behind.0, ap (λ zs. x ∷ zs) behind.1)
+    let after = ends_in_feed y ys (and_parts (x == 10) (every is_feed (y ∷ ys)) e).1 in
+    (x ∷ after.0, ap (λ zs. x ∷ zs) after.1)
 
 -- none where the text doesn't end in one
-pub feeds_at_end-none : (xs : List ℕ) → ((front : List ℕ) → xs ≡ front ++ 10 ∷ [] → ⊥) → feeds_at_end xs ≡ 0
+pub feeds_at_end-none : (xs : List ℕ) → ((prefix : List ℕ) → xs ≡ prefix ++ 10 ∷ [] → ⊥) → feeds_at_end xs ≡ 0
 feeds_at_end-none [] none = refl
 feeds_at_end-none (x ∷ xs) none =
     if-zero (every is_feed (x ∷ xs)) _ _
     (λ e. let ends = ends_in_feed x xs e in none ends.0 ends.1)
-    (feeds_at_end-none xs (λ front e. none (x ∷ front) (ap (λ zs. x ∷ zs) e)))
+    (feeds_at_end-none xs (λ prefix e. none (x ∷ prefix) (ap (λ zs. x ∷ zs) e)))
   where
     if-zero : (b : Bool) (m n : ℕ) → (b ≡ true → ⊥) → n ≡ 0 → (if b then m else n) ≡ 0
     if-zero true m n never e = absurd (never refl)
     if-zero false m n never e = e
 
 -- the same of a text's bytes
-pub no_feed_at_end : (bs : List ℕ) → IsUtf8 bs → ((front : List ℕ) → bs ≡ front ++ 10 ∷ [] → ⊥) → feeds_at_end (chars bs) ≡ 0
+pub no_feed_at_end : (bs : List ℕ) → IsUtf8 bs → ((prefix : List ℕ) → bs ≡ prefix ++ 10 ∷ [] → ⊥) → feeds_at_end (chars bs) ≡ 0
 no_feed_at_end bs utf8 none =
     feeds_at_end-none (chars bs)
-    (λ front e. none (encode_utf8_all front) (sym (encodes-chars bs utf8) ∙ ap encode_utf8_all e ∙ encodes-append front (10 ∷ [])
-    ∙ ap (λ bytes. encode_utf8_all front ++ (bytes ++ [])) (encode_ascii 10 (lit< tt))))
+    (λ prefix e. none (encode_utf8_all prefix) (sym (encodes-chars bs utf8) ∙ ap encode_utf8_all e ∙ encodes-append prefix (10 ∷ [])
+    ∙ ap (λ bytes. encode_utf8_all prefix ++ (bytes ++ [])) (encode_ascii 10 (lit< tt))))
 
-pub front_IsUtf8 : (bs front : List ℕ) → IsUtf8 bs → bs ≡ front ++ 10 ∷ [] → IsUtf8 front
-front_IsUtf8 bs front utf8 e =
-    let within : length front < length bs = omega (arith, ap length e, length-append front (10 ∷ [])) in
-    let feed : get_or bs (length front) 0 ≡ 10 = rw e (get_or-append_seam front 10 [] 0) in
-    subst IsUtf8 (ap (take (length front)) e ∙ take-append_seam front (10 ∷ []))
-    (IsUtf8-take bs (length front) utf8 (IsCharBoundary-before_ascii bs (length front) within (omega (arith, feed))))
+pub prefix_IsUtf8 : (bs prefix : List ℕ) → IsUtf8 bs → bs ≡ prefix ++ 10 ∷ [] → IsUtf8 prefix
+prefix_IsUtf8 bs prefix utf8 e =
+    let within : length prefix < length bs = omega (arith, ap length e, length-append prefix (10 ∷ [])) in
+    let feed : get_or bs (length prefix) 0 ≡ 10 = rw e (get_or-append_seam prefix 10 [] 0) in
+    subst IsUtf8 (ap (take (length prefix)) e ∙ take-append_seam prefix (10 ∷ []))
+    (IsUtf8-take bs (length prefix) utf8 (IsCharBoundary-before_ascii bs (length prefix) within (omega (arith, feed))))
 
-pub feed_at_end : (bs front : List ℕ) → IsUtf8 bs → bs ≡ front ++ 10 ∷ [] → feeds_at_end (chars bs) ≡ suc (feeds_at_end (chars front))
+pub feed_at_end : (bs prefix : List ℕ) → IsUtf8 bs → bs ≡ prefix ++ 10 ∷ [] → feeds_at_end (chars bs) ≡ suc (feeds_at_end (chars prefix))
 unfolding chars
-feed_at_end bs front utf8 e =
+feed_at_end bs prefix utf8 e =
     ap (λ xs. feeds_at_end (chars xs)) e
-    ∙ ap feeds_at_end (chars-append front (10 ∷ []) (front_IsUtf8 bs front utf8 e))
-    ∙ feeds_at_end-feed (chars front)
+    ∙ ap feeds_at_end (chars-append prefix (10 ∷ []) (prefix_IsUtf8 bs prefix utf8 e))
+    ∙ feeds_at_end-feed (chars prefix)

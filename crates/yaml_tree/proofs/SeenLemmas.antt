@@ -16,7 +16,7 @@ tree_of-Seq v = search (rules, the_lemmas)
 pub tree_of-Map : (v : Vec Pair Global) → tree_of (Map v) ≡ grammar.mapping (members_of v.items)
 tree_of-Map v = search (rules, the_lemmas)
 
--- ---- lists of trees, one behind another
+-- ---- lists of trees, one after another
 
 abbrev pub join_elements : Elements → Elements → Elements
 join_elements no_element us = us

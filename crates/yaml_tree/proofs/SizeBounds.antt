@@ -5,9 +5,9 @@ use Rattle.std.proofs.lemmas.Str.{len_utf8_bounds}
 use Rattle.yaml_chars.specs.Classes.{between}
 use Rattle.yaml_grammar.specs.Texts.{byte_len, spaces}
 use Rattle.yaml_grammar.specs.Trees.{Tree, text, sequence, mapping, Elements, no_element, element, Members, no_member, member}
-use Rattle.yaml_grammar.specs.Style.{shown as is_shown, hex, letter_escape, quoted_char, quoted_chars, plain_in_style, literal_in_style, quoted, literal_mark, literal_lines, feeds_at_end, scalar_lines, key_text, long_key, key_lines, elements_at, elements_behind, element_at, members_at, members_behind, value_at, style_text}
+use Rattle.yaml_grammar.specs.Style.{shown as is_shown, hex, letter_escape, quoted_char, quoted_chars, plain_in_style, literal_in_style, quoted, literal_mark, literal_lines, feeds_at_end, scalar_lines, key_text, long_key, key_lines, elements_at, elements_after, element_at, members_at, members_after, value_at, style_text}
 use Rattle.yaml_tree.specs.BudgetLaws.{byte_len-append}
-use Rattle.yaml_tree.specs.Sizes.{literal_indented, scalar_indented, key_indented, indented, elements_indented, elements_behind_indented, members_indented, members_behind_indented, value_indented}
+use Rattle.yaml_tree.specs.Sizes.{literal_indented, scalar_indented, key_indented, indented, elements_indented, elements_after_indented, members_indented, members_after_indented, value_indented}
 use Rattle.yaml_tree.proofs.SizeLaws.{three, four, scalar_law, elements_law, members_law}
 
 literal_bound : (fresh : Bool) (cs : List ℕ) → literal_indented fresh cs ≤ byte_len (literal_lines 0 fresh cs)
@@ -125,12 +125,12 @@ mutual
   pub elements_bound : (ts : Elements) → elements_indented ts ≤ byte_len (elements_at ts 0)
   elements_bound no_element = omega arith
   elements_bound (element t ts) =
-      omega (arith, element_bound t, elements_behind_bound ts, three (codes "- ") (element_at t 0) (elements_behind ts 0))
+      omega (arith, element_bound t, elements_after_bound ts, three (codes "- ") (element_at t 0) (elements_after ts 0))
 
-  pub elements_behind_bound : (ts : Elements) → elements_behind_indented ts ≤ byte_len (elements_behind ts 0)
-  elements_behind_bound no_element = omega arith
-  elements_behind_bound (element t ts) =
-      omega (arith, element_bound t, elements_behind_bound ts, three (codes "- ") (element_at t 0) (elements_behind ts 0))
+  pub elements_after_bound : (ts : Elements) → elements_after_indented ts ≤ byte_len (elements_after ts 0)
+  elements_after_bound no_element = omega arith
+  elements_after_bound (element t ts) =
+      omega (arith, element_bound t, elements_after_bound ts, three (codes "- ") (element_at t 0) (elements_after ts 0))
 
   pub members_bound : (ms : Members) → members_indented ms ≤ byte_len (members_at ms 0)
   members_bound no_member = omega arith
@@ -139,19 +139,19 @@ mutual
         arith,
         key_bound key,
         value_bound t,
-        members_behind_bound ms,
-        three (key_lines 0 key) (value_at t 0) (members_behind ms 0),
+        members_after_bound ms,
+        three (key_lines 0 key) (value_at t 0) (members_after ms 0),
       )
 
-  pub members_behind_bound : (ms : Members) → members_behind_indented ms ≤ byte_len (members_behind ms 0)
-  members_behind_bound no_member = omega arith
-  members_behind_bound (member key t ms) =
+  pub members_after_bound : (ms : Members) → members_after_indented ms ≤ byte_len (members_after ms 0)
+  members_after_bound no_member = omega arith
+  members_after_bound (member key t ms) =
       omega (
         arith,
         key_bound key,
         value_bound t,
-        members_behind_bound ms,
-        three (key_lines 0 key) (value_at t 0) (members_behind ms 0),
+        members_after_bound ms,
+        three (key_lines 0 key) (value_at t 0) (members_after ms 0),
       )
 
   pub value_bound : (t : Tree) → value_indented t ≤ byte_len (value_at t 0)

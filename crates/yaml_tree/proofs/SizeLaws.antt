@@ -2,14 +2,14 @@
 use Rattle.std.proofs.Common.{◌≡◌, ℕ, zero, suc, ◌+◌, ◌*◌, ◌==◌, Bool, true, false, if◌then◌else◌, List, [], ◌∷◌, ◌++◌, codes, refl, ap₂, arith}
 use Rattle.yaml_grammar.specs.Texts.{byte_len, spaces}
 use Rattle.yaml_grammar.specs.Trees.{Tree, text, sequence, mapping, Elements, no_element, element, Members, no_member, member}
-use Rattle.yaml_grammar.specs.Style.{plain_in_style, literal_in_style, quoted, literal_mark, literal_lines, feeds_at_end, scalar_lines, key_text, long_key, key_lines, elements_at, elements_behind, element_at, members_at, members_behind, value_at}
+use Rattle.yaml_grammar.specs.Style.{plain_in_style, literal_in_style, quoted, literal_mark, literal_lines, feeds_at_end, scalar_lines, key_text, long_key, key_lines, elements_at, elements_after, element_at, members_at, members_after, value_at}
 use Rattle.yaml_tree.specs.declared.size.Size.{Size}
 use Rattle.yaml_tree.specs.BudgetLaws.{byte_len-append}
-use Rattle.yaml_tree.specs.Sizes.{literal_indented, scalar_indented, key_indented, indented, elements_indented, elements_behind_indented, members_indented, members_behind_indented, value_indented}
+use Rattle.yaml_tree.specs.Sizes.{literal_indented, scalar_indented, key_indented, indented, elements_indented, elements_after_indented, members_indented, members_after_indented, value_indented}
 
 pub spaces_bytes : (n : ℕ) → byte_len (spaces n) ≡ n
 spaces_bytes zero = refl
-spaces_bytes (suc n) = let behind = spaces_bytes n in omega (arith, behind)
+spaces_bytes (suc n) = let after = spaces_bytes n in omega (arith, after)
 
 pub three : (a b c : List ℕ) → byte_len (a ++ b ++ c) ≡ byte_len a + byte_len b + byte_len c
 three a b c = omega (arith, byte_len-append (a ++ b) c, byte_len-append a b)
@@ -84,21 +84,21 @@ mutual
       omega (
         arith,
         element_law t i,
-        elements_behind_law ts i,
-        three (codes "- ") (element_at t i) (elements_behind ts i),
-        three (codes "- ") (element_at t 0) (elements_behind ts 0),
+        elements_after_law ts i,
+        three (codes "- ") (element_at t i) (elements_after ts i),
+        three (codes "- ") (element_at t 0) (elements_after ts 0),
       )
 
-  pub elements_behind_law : (ts : Elements) (i : ℕ)
-      → byte_len (elements_behind ts i) ≡ byte_len (elements_behind ts 0) + i * elements_behind_indented ts
-  elements_behind_law no_element i = omega arith
-  elements_behind_law (element t ts) i =
+  pub elements_after_law : (ts : Elements) (i : ℕ)
+      → byte_len (elements_after ts i) ≡ byte_len (elements_after ts 0) + i * elements_after_indented ts
+  elements_after_law no_element i = omega arith
+  elements_after_law (element t ts) i =
       omega (
         arith,
         element_law t i,
-        elements_behind_law ts i,
-        four (spaces i) (codes "- ") (element_at t i) (elements_behind ts i),
-        four (spaces 0) (codes "- ") (element_at t 0) (elements_behind ts 0),
+        elements_after_law ts i,
+        four (spaces i) (codes "- ") (element_at t i) (elements_after ts i),
+        four (spaces 0) (codes "- ") (element_at t 0) (elements_after ts 0),
         spaces_bytes i,
       )
 
@@ -109,22 +109,22 @@ mutual
         arith,
         key_law i key,
         value_law t i,
-        members_behind_law ms i,
-        three (key_lines i key) (value_at t i) (members_behind ms i),
-        three (key_lines 0 key) (value_at t 0) (members_behind ms 0),
+        members_after_law ms i,
+        three (key_lines i key) (value_at t i) (members_after ms i),
+        three (key_lines 0 key) (value_at t 0) (members_after ms 0),
       )
 
-  pub members_behind_law : (ms : Members) (i : ℕ)
-      → byte_len (members_behind ms i) ≡ byte_len (members_behind ms 0) + i * members_behind_indented ms
-  members_behind_law no_member i = omega arith
-  members_behind_law (member key t ms) i =
+  pub members_after_law : (ms : Members) (i : ℕ)
+      → byte_len (members_after ms i) ≡ byte_len (members_after ms 0) + i * members_after_indented ms
+  members_after_law no_member i = omega arith
+  members_after_law (member key t ms) i =
       omega (
         arith,
         key_law i key,
         value_law t i,
-        members_behind_law ms i,
-        four (spaces i) (key_lines i key) (value_at t i) (members_behind ms i),
-        four (spaces 0) (key_lines 0 key) (value_at t 0) (members_behind ms 0),
+        members_after_law ms i,
+        four (spaces i) (key_lines i key) (value_at t i) (members_after ms i),
+        four (spaces 0) (key_lines 0 key) (value_at t 0) (members_after ms 0),
         spaces_bytes i,
       )
 

@@ -79,7 +79,7 @@ module _ (j : ℕ) (value : List ℕ) where
   pub value_keep : value_style value ≡ LiteralKeep → codes "|+\n" ++ literal_lines j true value ≡ scalar_lines j value
   value_keep e = sym (as_keep _ (literal_lines j true value) _ (plain_in_style value) (literal_in_style value) (feeds_at_end value) e)
 
--- ---- the characters of what is written as it stands
+-- ---- the characters of what is written as it is
 
 pub chars-strip : chars (codes "|-\n") ≡ codes "|-\n"
 unfolding chars

@@ -1,25 +1,25 @@
--- The lines of a collection, written from its front: here `lead` spaces stand before the first line that is left.
+-- The lines of a collection, written from its start: here `lead` spaces come before the first line that is left.
 use Rattle.std.proofs.Common.{◌≡◌, ℕ, ◌+◌, List, [], ◌∷◌, ◌++◌, length, codes, refl, arith}
 use Rattle.yaml_grammar.specs.Texts.{spaces}
 use Rattle.yaml_grammar.specs.Trees.{sequence, mapping, Elements, no_element, element, Members, no_member, member}
-use Rattle.yaml_grammar.specs.Style.{key_lines, elements_at, elements_behind, element_at, members_at, members_behind, value_at}
+use Rattle.yaml_grammar.specs.Style.{key_lines, elements_at, elements_after, element_at, members_at, members_after, value_at}
 use Rattle.yaml_tree.specs.Seen.{Pair, elements_of, members_of}
 use Rattle.yaml_tree.specs.declared.tree.Tree.{Tree}
 
 abbrev pub elements_led : ℕ → Elements → ℕ → List ℕ
 elements_led lead no_element i = []
-elements_led lead (element t ts) i = spaces lead ++ codes "- " ++ element_at t i ++ elements_behind ts i
+elements_led lead (element t ts) i = spaces lead ++ codes "- " ++ element_at t i ++ elements_after ts i
 
 abbrev pub members_led : ℕ → Members → ℕ → List ℕ
 members_led lead no_member i = []
-members_led lead (member key t ms) i = spaces lead ++ key_lines i key ++ value_at t i ++ members_behind ms i
+members_led lead (member key t ms) i = spaces lead ++ key_lines i key ++ value_at t i ++ members_after ms i
 
--- behind the first, each line has its indentation
-pub elements_led-same : (ts : Elements) (i : ℕ) → elements_led i ts i ≡ elements_behind ts i
+-- after the first, each line has its indentation
+pub elements_led-same : (ts : Elements) (i : ℕ) → elements_led i ts i ≡ elements_after ts i
 elements_led-same no_element i = refl
 elements_led-same (element t ts) i = refl
 
-pub members_led-same : (ms : Members) (i : ℕ) → members_led i ms i ≡ members_behind ms i
+pub members_led-same : (ms : Members) (i : ℕ) → members_led i ms i ≡ members_after ms i
 members_led-same no_member i = refl
 members_led-same (member key t ms) i = refl
 

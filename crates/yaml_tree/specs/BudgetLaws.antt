@@ -26,7 +26,7 @@ left_after-both (Some left) m n = by_cases (cases_lt left m)
 
 pub byte_len-append : (xs ys : List ℕ) → byte_len (xs ++ ys) ≡ byte_len xs + byte_len ys
 byte_len-append [] ys = omega arith
-byte_len-append (x ∷ xs) ys = let behind = byte_len-append xs ys in omega (arith, behind)
+byte_len-append (x ∷ xs) ys = let after = byte_len-append xs ys in omega (arith, after)
 
 -- a text, and then another
 pub left_after-more : (a b c : Option ℕ) (xs ys : List ℕ) → b ≡ left_after a (byte_len xs) → c ≡ left_after b (byte_len ys)

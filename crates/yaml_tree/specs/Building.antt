@@ -1,4 +1,4 @@
--- What the open parts of src/build.rt stand for, and how events are refused that are those of no tree.
+-- What the open parts of src/build.rt mean, and how events of no tree are refused.
 use Rattle.std.specs.Prelude.{◌≡◌, true, false, List, [], ◌∷◌, Option, None, string_bytes}
 use Rattle.std.specs.Str.{chars}
 use Rattle.yaml_docs.specs.declared.fault.ReadFault.{ReadFault}
@@ -19,7 +19,7 @@ frame_of (Seq items) = in_seq (elements_of items.items)
 frame_of (Map pairs) = at_key (members_of pairs.items)
 frame_of (Value pairs key) = at_value (members_of pairs.items) (chars (string_bytes key))
 
--- those of a list whose last one is the innermost, put in front of others
+-- those of a list whose last one is the innermost, put before others
 abbrev pub frames_onto : List Part → List Frame → List Frame
 frames_onto [] fs = fs
 frames_onto (x ∷ xs) fs = frames_onto xs (frame_of x ∷ fs)

@@ -20,7 +20,7 @@ own_limits = record { bytes = 67108864; depth = 66; style = 67108864 }
 abbrev pub IsKept : Tree → Type 0
 IsKept t = Good t own_limits
 
--- What a tree is refused for: no earlier fault holds. Want of memory may come of any tree.
+-- What a tree is refused for: no earlier fault holds. Memory may run out with any tree.
 abbrev pub IsFirstFault : grammar.Limits → Tree → ReadFault → Type 0
 IsFirstFault limits t KeyTwice = distinct t ≡ false
 IsFirstFault limits t TooDeep = IsTrue (distinct t) × (limits.depth < depth t)

@@ -2,6 +2,7 @@ pub mod Budget
 pub mod BudgetLaws
 pub mod Building
 pub mod Emptied
+pub mod Encoded
 pub mod Frames
 pub mod Keys
 pub mod Kept

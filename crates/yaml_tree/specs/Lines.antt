@@ -1,4 +1,4 @@
--- A literal's line, with its end: behind j spaces, or with none where it is empty.
+-- A literal's line, with its end: after j spaces, or with none where it is empty.
 use Rattle.std.specs.Prelude.{ℕ, List, [], ◌∷◌, ◌++◌, codes}
 use Rattle.yaml_grammar.specs.Texts.{spaces}
 

@@ -34,19 +34,19 @@ abbrev mutual
 
   pub elements_indented : Elements → ℕ
   elements_indented no_element = 0
-  elements_indented (element t ts) = indented t + elements_behind_indented ts
+  elements_indented (element t ts) = indented t + elements_after_indented ts
 
-  pub elements_behind_indented : Elements → ℕ
-  elements_behind_indented no_element = 0
-  elements_behind_indented (element t ts) = 1 + indented t + elements_behind_indented ts
+  pub elements_after_indented : Elements → ℕ
+  elements_after_indented no_element = 0
+  elements_after_indented (element t ts) = 1 + indented t + elements_after_indented ts
 
   pub members_indented : Members → ℕ
   members_indented no_member = 0
-  members_indented (member key t ms) = key_indented key + value_indented t + members_behind_indented ms
+  members_indented (member key t ms) = key_indented key + value_indented t + members_after_indented ms
 
-  pub members_behind_indented : Members → ℕ
-  members_behind_indented no_member = 0
-  members_behind_indented (member key t ms) = 1 + key_indented key + value_indented t + members_behind_indented ms
+  pub members_after_indented : Members → ℕ
+  members_after_indented no_member = 0
+  members_after_indented (member key t ms) = 1 + key_indented key + value_indented t + members_after_indented ms
 
   -- after the `:` of a key, a collection that holds something begins a line
   pub value_indented : Tree → ℕ
@@ -58,11 +58,11 @@ abbrev mutual
 
 -- ---- sizes
 
--- an element after its `- `, which stands at the indentation
+-- an element after its `- `, which is at the indentation
 abbrev pub element_size : Tree → Size
 element_size t = record { bytes = byte_len (element_at t 0); lines = indented t }
 
--- a value after the `:` of its key, which stands at the indentation
+-- a value after the `:` of its key, which is at the indentation
 abbrev pub value_size : Tree → Size
 value_size t = record { bytes = byte_len (value_at t 0); lines = value_indented t }
 

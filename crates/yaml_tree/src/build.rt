@@ -88,7 +88,8 @@ impl Builder {
     /// Removes the innermost part and returns it. Returns `KeyNotText` if there is none.
     fn pop(&mut self) -> Result<Part, ReadFault>
         ensures { MatchResult result
-            (λ part. frames_of self.old.parts.items ≡ frame_of part ∷ frames_of self.new.parts.items)
+            (λ part. frames_of self.old.parts.items
+            ≡ frame_of part ∷ frames_of self.new.parts.items)
             (λ fault. (fault ≡ ReadFault.KeyNotText) × (frames_of self.old.parts.items ≡ [])) }
     {
         match self.parts.pop() {
@@ -100,7 +101,8 @@ impl Builder {
     /// Puts a value into the innermost part. Returns `KeyNotText` if it has no place there.
     pub(crate) fn put(&mut self, tree: Tree) -> Result<(), ReadFault>
         ensures { MatchResult result
-            (λ _. put (frames_of self.old.parts.items) (tree_of tree) ≡ Some (frames_of self.new.parts.items))
+            (λ _. put (frames_of self.old.parts.items) (tree_of tree)
+            ≡ Some (frames_of self.new.parts.items))
             (HasNone (put (frames_of self.old.parts.items) (tree_of tree))) }
     {
         let part = self.pop()?;
@@ -111,7 +113,8 @@ impl Builder {
     /// Ends the innermost part. Returns `KeyNotText` if it is no document that has its value.
     fn end_document(&mut self) -> Result<(), ReadFault>
         ensures { MatchResult result
-            (λ _. document_ended (frames_of self.old.parts.items) ≡ Some (frames_of self.new.parts.items))
+            (λ _. document_ended (frames_of self.old.parts.items)
+            ≡ Some (frames_of self.new.parts.items))
             (HasNone (document_ended (frames_of self.old.parts.items))) }
     {
         let part = self.pop()?;

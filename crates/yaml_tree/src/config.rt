@@ -70,7 +70,8 @@ impl Config {
     ) -> Result<Config, (Tree, ReadFault)>
         requires depth { limits.now.depth ≤ 66 }
         requires style { limits.now.style ≤ 67108864 }
-        ensures ok { IfOk result (λ config. (config ≡ tree) × Good (tree_of tree) (limits_of limits.now)) }
+        ensures ok { IfOk result (λ config. (config ≡ tree)
+            × Good (tree_of tree) (limits_of limits.now)) }
         ensures refused { IfErr result (λ refused. (refused.0 ≡ tree)
             × IsFirstFault (limits_of limits.now) (tree_of tree) refused.1) }
     {
@@ -126,7 +127,8 @@ impl Config {
 
     /// How deep the tree is, at most 66.
     pub fn depth(&self) -> u64
-        ensures { result ≡ depth (tree_of self.now) }
+        ensures depth { result ≡ depth (tree_of self.now) }
+        ensures kept { IsKept (tree_of self.now) }
     {
         self.tree.depth()
     }

@@ -167,7 +167,8 @@ impl Sink for ByteBudget {
 pub fn style_len(tree: &Tree, max: u64) -> Option<u64>
     requires { depth (tree_of tree.now) ≤ 66 }
     ensures { SomeIff result
-        (byte_len (style_text (tree_of tree.now)) ≤ max) (byte_len (style_text (tree_of tree.now))) }
+        (byte_len (style_text (tree_of tree.now)) ≤ max)
+        (byte_len (style_text (tree_of tree.now))) }
 {
     let mut budget = ByteBudget { left: Some(max) };
     match write_style(tree, &mut budget) {

@@ -43,7 +43,8 @@ enum Level<'t> {
 impl<'t> Level<'t> {
     /// The values directly inside a tree; a text has none.
     fn inside(tree: &'t Tree) -> Level<'t>
-        ensures keys { distinct (tree_of tree.now) ≡ (own_keys_differ (tree_of tree.now) && level_distinct result) }
+        ensures keys { distinct (tree_of tree.now)
+            ≡ (own_keys_differ (tree_of tree.now) && level_distinct result) }
         ensures size { nodes (tree_of tree.now) ≡ 1 + level_nodes result }
     {
         match tree {
@@ -57,7 +58,8 @@ impl<'t> Level<'t> {
     fn split_first(self) -> Option<(&'t Tree, Level<'t>)>
         ensures { MatchOption result
             ((level_distinct self.entry ≡ true))
-            (λ parts. (level_distinct self.entry ≡ (distinct (tree_of parts.0.now) && level_distinct parts.1))
+            (λ parts. (level_distinct self.entry ≡ (distinct (tree_of parts.0.now)
+            && level_distinct parts.1))
             × (level_nodes self.entry ≡ nodes (tree_of parts.0.now) + level_nodes parts.1)) }
     {
         match self {

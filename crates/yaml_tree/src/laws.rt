@@ -9,6 +9,7 @@ ghost use Rattle.yaml_tree.specs.Sizes.{length_at, key_size, element_size, value
 /// has at the indentation 0, and the indentation once more for each of its lines that is indented.
 pub fn lengths_follow_indentation()
     ensures key { (key : List ℕ) (i : ℕ) → byte_len (key_lines i key) ≡ length_at (key_size key) i }
-    ensures element { (t : Tree) (i : ℕ) → byte_len (element_at t i) ≡ length_at (element_size t) i }
+    ensures element { (t : Tree) (i : ℕ) → byte_len (element_at t i)
+        ≡ length_at (element_size t) i }
     ensures value { (t : Tree) (i : ℕ) → byte_len (value_at t i) ≡ length_at (value_size t) i }
 {}

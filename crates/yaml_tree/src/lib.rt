@@ -21,6 +21,7 @@ mod scalar;
 mod sink;
 mod size;
 mod style;
+mod text_sink;
 mod tree;
 
 pub use config::Config;
@@ -32,7 +33,7 @@ pub use read_laws::{bytes_give_one, refused_bytes_give_none};
 pub use scalar::{ScalarStyle, scalar_style};
 pub use sink::Sink;
 pub use size::Size;
-pub use style::{write_key, write_style, write_value};
+pub use style::{write_key, write_style, write_text, write_value};
 pub use tree::Tree;
 pub use yaml_docs::ReadFault;
 

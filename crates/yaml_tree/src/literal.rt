@@ -15,9 +15,9 @@ pub(crate) fn write_literal_lines<S: Sink>(
     ensures { OnOk result (S.Takes sink.old (literal_lines indent true (chars text.now)) sink.new) }
 {
     let mut rest = text;
-    while let Some((line, behind)) = rest.split_once('\n') {
+    while let Some((line, after)) = rest.split_once('\n') {
         write_line(line, indent, sink)?;
-        rest = behind;
+        rest = after;
     }
     if rest.is_empty() {
         return Ok(());

@@ -27,7 +27,8 @@ use yaml_events::Events;
 pub fn read_one(alloc: Global, bytes: &[u8], limits: &Limits) -> Result<Config, ReadFault>
     requires deep { limits.now.depth ≤ 66 }
     requires long { limits.now.style ≤ 67108864 }
-    ensures given { IfOk result (λ config. IsRead bytes.now (limits_of limits.now) (tree_of config)) }
+    ensures given { IfOk result (λ config.
+        IsRead bytes.now (limits_of limits.now) (tree_of config)) }
     ensures too_long { (result ≡ Err ReadFault.TooLong) ↔ (limits.now.bytes < length bytes.now) }
     ensures refused { IfErr result (Refuses bytes.now (limits_of limits.now)) }
 {

@@ -12,7 +12,7 @@ pub fn bytes_give_one()
         → IsRead bytes limits t → IsRead bytes limits u → t ≡ u }
 {}
 
-/// Bytes that are refused give no tree, unless they are refused for out of memory.
+/// Bytes that are refused give no tree, unless memory ran out.
 pub fn refused_bytes_give_none()
     ensures { (bytes : List ℕ) (limits : Limits) (fault : ReadFault) → fault ≢ OutOfMemory
         → Refuses bytes limits fault → GivesNone bytes limits }

@@ -25,7 +25,8 @@ pub enum ScalarStyle {
 
 /// How the one style writes a text as a value, or as a key. A key is plain or double-quoted.
 pub fn scalar_style(text: &str, is_key: bool) -> ScalarStyle
-    ensures { result ≡ (if is_key then key_style (chars text.now) else value_style (chars text.now)) }
+    ensures { result ≡ (if is_key then key_style (chars text.now)
+        else value_style (chars text.now)) }
 {
     if is_plain(text) {
         ScalarStyle::Plain
@@ -150,8 +151,8 @@ fn literal_style(text: &str) -> ScalarStyle
 {
     match text.strip_suffix('\n') {
         None => ScalarStyle::LiteralStrip,
-        Some(front) => {
-            if front.ends_with('\n') {
+        Some(prefix) => {
+            if prefix.ends_with('\n') {
                 ScalarStyle::LiteralKeep
             } else {
                 ScalarStyle::LiteralClip

@@ -22,5 +22,6 @@ pub trait Sink {
 
     ghost takes_none: { (s : Self) → Takes s [] s };
 
-    ghost takes_both: { (a b c : Self) (xs ys : List ℕ) → Takes a xs b → Takes b ys c → Takes a (xs ++ ys) c };
+    ghost takes_both: { (a b c : Self) (xs ys : List ℕ) → Takes a xs b → Takes b ys c
+        → Takes a (xs ++ ys) c };
 }

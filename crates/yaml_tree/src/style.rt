@@ -2,6 +2,7 @@
 ghost use Rattle.std.specs.Prelude.{◌+◌, ◌*◌, ◌^◌, ◌<◌, ◌≤◌, ◌++◌, true, codes, OnOk};
 ghost use Rattle.std.specs.Str.{chars};
 ghost use Rattle.yaml_grammar.specs.Texts.{spaces};
+ghost use Rattle.yaml_grammar.specs.Trees as grammar;
 ghost use Rattle.yaml_grammar.specs.Trees.{depth, elements_depth, members_depth};
 ghost use Rattle.yaml_grammar.specs.Style.{literal_lines, scalar_lines, key_text, key_lines, elements_at, element_at, members_at, value_at, style_text};
 ghost use Rattle.yaml_tree.specs.Seen.{tree_of, elements_of, members_of};
@@ -22,6 +23,16 @@ pub fn write_style<S: Sink>(tree: &Tree, sink: &mut S) -> Result<(), S::Fault>
         Tree::Seq(items) => write_elements(items, 0, sink),
         Tree::Map(pairs) => write_members(pairs, 0, sink),
     }
+}
+
+/// Writes a text as the value after the `:` of its key at `indent`, with the end of its last line.
+pub fn write_text<S: Sink>(text: &str, indent: u64, sink: &mut S) -> Result<(), S::Fault>
+    requires { indent + 2 < 2 ^ 64 }
+    ensures { OnOk result (S.Takes sink.old (value_at
+        (grammar.text (chars text.now)) indent) sink.new) }
+{
+    sink.put_char(' ')?;
+    write_scalar(text, indent + 2, sink)
 }
 
 /// Writes a value with the end of its last line; a literal's lines come after `indent` spaces.
@@ -79,7 +90,8 @@ pub fn write_key<S: Sink>(key: &str, indent: u64, sink: &mut S) -> Result<(), S:
 
 fn write_long_key<S: Sink>(key: &str, indent: u64, sink: &mut S) -> Result<(), S::Fault>
     ensures { OnOk result (S.Takes sink.old
-        (codes "? " ++ key_text (chars key.now) ++ codes "\n" ++ spaces indent ++ codes ":") sink.new) }
+        (codes "? " ++ key_text (chars key.now) ++ codes "\n" ++ spaces indent ++ codes ":")
+        sink.new) }
 {
     sink.put_text("? ")?;
     write_key_text(key, sink)?;
@@ -160,10 +172,7 @@ fn write_value_lines<S: Sink>(tree: &Tree, indent: u64, sink: &mut S) -> Result<
     ensures { OnOk result (S.Takes sink.old (value_at (tree_of tree.now) indent) sink.new) }
 {
     match tree {
-        Tree::Text(text) => {
-            sink.put_char(' ')?;
-            write_scalar(text, indent + 2, sink)
-        }
+        Tree::Text(text) => write_text(text, indent, sink),
         Tree::Seq(items) => {
             if items.is_empty() {
                 return sink.put_text(" []\n");

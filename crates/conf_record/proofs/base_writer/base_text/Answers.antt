@@ -1,19 +1,17 @@
 use Rattle.std.proofs.Common.{◌++◌, string_bytes, encode_utf8_all, ap, sym, ◌∙◌}
 use Rattle.std.proofs.lemmas.Str.{chars_from_encodes, IsUtf8-string_bytes}
-use Rattle.std.specs.Str.{chars}
 use Rattle.conf_record.specs.BaseTexts.{base_text, base_bytes}
 use Rattle.conf_record.proofs.base_writer.base_text.Goals as goal
 
 pub returns-clause-text : goal.returns-clause-text
 returns-clause-text c =
-    let written = c.write_base.new.sink.text in
-    let told = base_text c.args.state.now in
-    let bytes = c.in_ok-write_base.ensures ∙ ap (λ front. front ++ encode_utf8_all told) c.in_ok-buffer.ensures in
-    ap (λ text. chars (string_bytes text)) c.into_text.ensures
-    ∙ sym (chars_from_encodes told (string_bytes written) (IsUtf8-string_bytes written) (sym bytes))
+    let written = c.write_base.new.sink in
+    let text = base_text c.args.state.now in
+    let bytes = c.in_ok-write_base.ensures ∙ ap (λ prefix. prefix ++ encode_utf8_all text) c.in_ok-text.ensures.bytes in
+    sym (chars_from_encodes text (string_bytes written) (IsUtf8-string_bytes written) (sym bytes))
 
 pub returns-clause-bytes : goal.returns-clause-bytes
 unfolding base_bytes
 returns-clause-bytes c =
-    let written = base_text c.args.state.now in
-    ap string_bytes c.into_text.ensures ∙ c.in_ok-write_base.ensures ∙ ap (λ front. front ++ encode_utf8_all written) c.in_ok-buffer.ensures
+    let text = base_text c.args.state.now in
+    c.in_ok-write_base.ensures ∙ ap (λ prefix. prefix ++ encode_utf8_all text) c.in_ok-text.ensures.bytes

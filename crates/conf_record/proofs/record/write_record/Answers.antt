@@ -1,22 +1,25 @@
 use Rattle.std.proofs.Common.{codes, decimal, refl, subst}
 use Rattle.std.proofs.lemmas.Result.{on_ok_weaker}
-use Rattle.yaml_grammar.specs.Style.{members_behind}
+use Rattle.yaml_grammar.specs.Style.{members_after}
 use Rattle.yaml_grammar.specs.Trees.{text}
 use Rattle.conf_record.specs.Commands.{command_of}
 use Rattle.conf_record.specs.Records.{command_members, record_text}
 use Rattle.conf_record.proofs.LineLemmas.{ascii, line, framed_line}
 use Rattle.conf_record.proofs.record.write_record.Goals as goal
 
-pub returns : goal.returns
+pub returns-clause-takes : goal.returns-clause-takes
 unfolding record_text
-returns g c =
+returns-clause-takes g c =
     let both = g.met.S.Sink.takes_both in
     let start = c.args.sink.now in
     let end = c.put_text-2.new.self in
-    let front = subst (λ cs. g.S.Sink.Takes start cs c.put_text.new.self) (ascii (codes "---\n") refl) c.in_ok-put_text.ensures in
+    let prefix = subst (λ cs. g.S.Sink.Takes start cs c.put_text.new.self) (ascii (codes "---\n") refl) c.in_ok-put_text.ensures in
     on_ok_weaker c.put_text-2.result
     (λ written. subst (λ cs. g.S.Sink.Takes start cs end)
-    (framed_line (line (codes "at") (text (decimal c.args.number))) (members_behind (command_members (command_of c.args.command.now)) 0))
-    (both _ _ _ _ _ (both _ _ _ _ _ (both _ _ _ _ _ front c.in_ok-write_number.ensures) c.in_ok-write_command.ensures)
+    (framed_line (line (codes "at") (text (decimal c.args.number))) (members_after (command_members (command_of c.args.command.now)) 0))
+    (both _ _ _ _ _ (both _ _ _ _ _ (both _ _ _ _ _ prefix c.in_ok-write_number.ensures) c.in_ok-write_command.ensures.takes)
     (subst (λ cs. g.S.Sink.Takes c.write_command.new.sink cs end) (ascii (codes "...\n") refl) written)))
     c.put_text-2.ensures
+
+pub returns-clause-kept : goal.returns-clause-kept
+returns-clause-kept g c = on_ok_weaker c.put_text-2.result (λ written. c.in_ok-write_command.ensures.kept) c.put_text-2.ensures

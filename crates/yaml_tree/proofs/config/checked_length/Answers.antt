@@ -2,7 +2,7 @@ use Rattle.std.proofs.Common.{◌≡◌, ◌≤◌, true, sym, ◌∙◌}
 use Rattle.yaml_grammar.specs.Trees.{depth, distinct}
 use Rattle.yaml_tree.specs.Seen.{tree_of}
 use Rattle.yaml_tree.proofs.DepthTests.{not_deeper}
-use Rattle.yaml_tree.proofs.TextsLemmas.{tree_of-IsTextTree}
+use Rattle.yaml_tree.proofs.TextTreeLemmas.{tree_of-IsTextTree}
 use Rattle.yaml_tree.proofs.config.checked_length.Goals as goal
 
 pub returns-in-Some-clause-good : goal.returns-in-Some-clause-good

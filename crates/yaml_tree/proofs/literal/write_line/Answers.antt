@@ -4,7 +4,7 @@ use Rattle.std.proofs.lemmas.Result.{on_ok_weaker}
 use Rattle.std.specs.Str.{chars}
 use Rattle.yaml_tree.specs.Lines.{line_text}
 use Rattle.yaml_tree.proofs.LiteralLemmas.{line_filled}
-use Rattle.yaml_tree.proofs.TextLemmas.{chars_empty, chars_filled}
+use Rattle.yaml_tree.proofs.CharacterLemmas.{chars_empty, chars_filled}
 use Rattle.yaml_tree.proofs.literal.write_line.Goals as goal
 
 pub returns-then-is_empty : goal.returns-then-is_empty

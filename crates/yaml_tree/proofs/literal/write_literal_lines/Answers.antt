@@ -4,8 +4,8 @@ use Rattle.std.proofs.lemmas.Result.{on_ok_weaker}
 use Rattle.std.proofs.lemmas.Str.Pattern.{split_parts}
 use Rattle.std.specs.Str.{chars, NoCharPasses}
 use Rattle.yaml_grammar.specs.Style.{literal_lines}
-use Rattle.yaml_tree.proofs.LiteralLemmas.{literal_line, literal_last, line_IsUtf8, behind_IsUtf8, line_is_one, chars-lines}
-use Rattle.yaml_tree.proofs.TextLemmas.{chars_empty, chars_filled}
+use Rattle.yaml_tree.proofs.LiteralLemmas.{literal_line, literal_last, line_IsUtf8, after_IsUtf8, line_is_one, chars-lines}
+use Rattle.yaml_tree.proofs.CharacterLemmas.{chars_empty, chars_filled}
 use Rattle.yaml_tree.proofs.literal.write_literal_lines.Goals as goal
 
 pub loop-line-preserved : goal.loop-line-preserved
@@ -13,15 +13,15 @@ loop-line-preserved g c =
     let rest = c.loop-line.rest.now in
     let utf8 = c.loop-line.invariant.0 in
     let line = c.in-Some.line.now in
-    let behind = c.in-Some.behind.now in
+    let after = c.in-Some.after.now in
     let clause = c.in-Some.ensures.cases in
-    let cut = (split_parts 10 rest (Some (c.in-Some.line, c.in-Some.behind)) clause (lit< tt)).0 in
-    let one = line_is_one line (line_IsUtf8 rest line behind utf8 cut) (subst (NoCharPasses (λ d. d == 10)) (sym clause.3) clause.2.0) in (
-      behind_IsUtf8 rest line behind utf8 cut,
+    let cut = (split_parts 10 rest (Some (c.in-Some.line, c.in-Some.after)) clause (lit< tt)).0 in
+    let one = line_is_one line (line_IsUtf8 rest line after utf8 cut) (subst (NoCharPasses (λ d. d == 10)) (sym clause.3) clause.2.0) in (
+      after_IsUtf8 rest line after utf8 cut,
       λ end left. c.loop-line.invariant.1 end
           (subst (λ cs. g.S.Sink.Takes c.loop-line.sink cs end)
-          (literal_line c.args.indent (chars line) (chars behind) one
-          ∙ ap (literal_lines c.args.indent true) (sym (chars-lines rest line behind utf8 cut)))
+          (literal_line c.args.indent (chars line) (chars after) one
+          ∙ ap (literal_lines c.args.indent true) (sym (chars-lines rest line after utf8 cut)))
           (g.met.S.Sink.takes_both _ _ _ _ _ c.in_ok-write_line.ensures left)),
     )
 

@@ -2,7 +2,7 @@ use Rattle.std.proofs.Common.{◌≡◌, ◌++◌, length, take, drop, subst, ap
 use Rattle.std.specs.Str.{chars}
 use Rattle.yaml_grammar.specs.Style.{quoted_char, quoted_chars}
 use Rattle.yaml_tree.proofs.QuotedLemmas.{run_boundary, quoted_run, quoted_one}
-use Rattle.yaml_tree.proofs.TextLemmas.{boundary_past_char, drop_char, chars_empty}
+use Rattle.yaml_tree.proofs.CharacterLemmas.{boundary_past_char, drop_char, chars_empty}
 use Rattle.yaml_tree.proofs.quoted.write_quoted_chars.Goals as goal
 
 pub range-requires-clause-end_boundary : goal.range-requires-clause-end_boundary
@@ -22,11 +22,11 @@ pub loop-c-preserved-then-run-gt0 : goal.loop-c-preserved-then-run-gt0
 loop-c-preserved-then-run-gt0 g c =
     let rest = c.loop-c.rest.now in
     let n = c.run_len-run.result in
-    let front : c.range.result.now ≡ take n rest = grind (arith, c.range.ensures.value) in (
+    let prefix : c.range.result.now ≡ take n rest = grind (arith, c.range.ensures.value) in (
       c.range_from-rest.utf8,
       λ end left. c.loop-c.invariant.1 end
           (subst (λ cs. g.S.Sink.Takes c.loop-c.sink cs end)
-          (ap₂ (λ xs ys. chars xs ++ quoted_chars (chars ys)) front c.range_from-rest.ensures.value
+          (ap₂ (λ xs ys. chars xs ++ quoted_chars (chars ys)) prefix c.range_from-rest.ensures.value
           ∙ quoted_run rest n c.loop-c.invariant.0 c.run_len-run.ensures.alone)
           (g.met.S.Sink.takes_both _ _ _ _ _ c.in_ok-put_text.ensures left)),
     )
@@ -35,11 +35,11 @@ pub loop-c-preserved : goal.loop-c-preserved
 loop-c-preserved g c =
     let rest = c.loop-c.rest.now in
     let split = sym c.chars.ensures.rest ∙ c.in-Some.ensures.steps.0 in
-    let behind = c.range_from-rest-else-run-gt0.ensures.value ∙ ap (λ n. drop n rest) c.len_utf8.ensures.value ∙ drop_char rest _ c.in-Some.c split in (
+    let after = c.range_from-rest-else-run-gt0.ensures.value ∙ ap (λ n. drop n rest) c.len_utf8.ensures.value ∙ drop_char rest _ c.in-Some.c split in (
       c.range_from-rest-else-run-gt0.utf8,
       λ end left. c.loop-c.invariant.1 end
           (subst (λ cs. g.S.Sink.Takes c.loop-c.sink cs end)
-          (ap (λ xs. quoted_char c.in-Some.c ++ quoted_chars (chars xs)) behind ∙ quoted_one rest _ c.in-Some.c c.loop-c.invariant.0 split)
+          (ap (λ xs. quoted_char c.in-Some.c ++ quoted_chars (chars xs)) after ∙ quoted_one rest _ c.in-Some.c c.loop-c.invariant.0 split)
           (g.met.S.Sink.takes_both _ _ _ _ _ c.in_ok-write_quoted_char.ensures left)),
     )
 

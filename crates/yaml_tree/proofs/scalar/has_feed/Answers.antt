@@ -3,7 +3,7 @@ use Rattle.std.proofs.lemmas.Iterator.{YieldsList-from_chars}
 use Rattle.std.proofs.lemmas.Iterator.Search.{any_from_yields_List}
 use Rattle.std.specs.Str.{chars}
 use borrow.Author.Tests.{tests}
-use Rattle.yaml_tree.proofs.TextLemmas.{list_any-is_in}
+use Rattle.yaml_tree.proofs.CharacterLemmas.{list_any-is_in}
 use Rattle.yaml_tree.proofs.scalar.has_feed.Goals as goal
 
 pub returns : goal.returns

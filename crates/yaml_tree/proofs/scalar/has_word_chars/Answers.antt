@@ -5,7 +5,7 @@ use Rattle.std.specs.Str.{chars}
 use borrow.Author.Tests.{tests}
 use Rattle.std.proofs.Common.{rules}
 use Rattle.yaml_grammar.specs.Style.{word_char}
-use Rattle.yaml_tree.proofs.TextLemmas.{list_all-every, every-IsAscii, chars-same, every-bytes}
+use Rattle.yaml_tree.proofs.CharacterLemmas.{list_all-every, every-IsAscii, chars-same, every-bytes}
 use Rattle.yaml_tree.proofs.ScalarLemmas.{word_char-below}
 use Rattle.yaml_tree.proofs.scalar.has_word_chars.Goals as goal
 

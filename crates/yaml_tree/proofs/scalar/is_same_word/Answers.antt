@@ -1,5 +1,5 @@
 use Rattle.std.proofs.lemmas.Bool.Decides.{same_from_decides}
-use Rattle.yaml_tree.proofs.TextLemmas.{same_text-Decides}
+use Rattle.yaml_tree.proofs.CharacterLemmas.{same_text-Decides}
 use Rattle.yaml_tree.proofs.ScalarLemmas.{map-lower}
 use Rattle.yaml_tree.proofs.scalar.is_same_word.Goals as goal
 

@@ -5,8 +5,9 @@ use Rattle.std.proofs.lemmas.Result.{on_ok_weaker}
 use Rattle.std.specs.Str.{chars}
 use denote.Param.Weighed.{at_most}
 use Rattle.yaml_grammar.specs.Texts.{spaces}
+use Rattle.yaml_grammar.specs.Trees as grammar
 use Rattle.yaml_grammar.specs.Trees.{depth, elements_depth, members_depth}
-use Rattle.yaml_grammar.specs.Style.{scalar_lines, key_lines, elements_at, element_at, members_at, value_at}
+use Rattle.yaml_grammar.specs.Style.{key_lines, elements_at, element_at, members_at, value_at}
 use Rattle.yaml_tree.specs.Seen.{tree_of, elements_of, members_of}
 use Rattle.yaml_tree.proofs.SeenLemmas.{tree_of-Text, tree_of-Seq, tree_of-Map}
 use Rattle.yaml_tree.proofs.StyleLemmas.{chars-dash, chars-no_element, chars-no_member, chars-no_element_value, chars-no_member_value}
@@ -110,14 +111,13 @@ write_element-returns-in-Map g t c =
     ∙ sym (ap (λ tree. element_at tree c.args.indent) seen)))
     c.write_members.ensures
 
-pub write_value_lines-returns-in_ok-put_char-in-Text : goal.write_value_lines-returns-in_ok-put_char-in-Text
-write_value_lines-returns-in_ok-put_char-in-Text g t c =
-    let text = ap (λ bytes. codes " " ++ scalar_lines (c.args.indent + 2) (chars bytes)) c.deref.ensures in
+pub write_value_lines-returns-in-Text : goal.write_value_lines-returns-in-Text
+write_value_lines-returns-in-Text g t c =
+    let text = ap (λ bytes. value_at (grammar.text (chars bytes)) c.args.indent) c.deref.ensures in
     let seen = ap (λ tree. value_at tree c.args.indent) (ap tree_of c.in-Text.is ∙ tree_of-Text c.in-Text.text) in
-    on_ok_weaker c.write_scalar.result
-    (λ written. subst (λ cs. g.S.Sink.Takes c.args.sink.now cs c.write_scalar.new.sink) (text ∙ sym seen)
-    (g.met.S.Sink.takes_both _ _ _ _ _ c.in_ok-put_char-in-Text.ensures written))
-    c.write_scalar.ensures
+    on_ok_weaker c.write_text.result
+    (subst (λ cs. g.S.Sink.Takes c.args.sink.now cs c.write_text.new.sink) (text ∙ sym seen))
+    c.write_text.ensures
 
 pub write_value_lines-returns-then-is_empty : goal.write_value_lines-returns-then-is_empty
 write_value_lines-returns-then-is_empty g t c =

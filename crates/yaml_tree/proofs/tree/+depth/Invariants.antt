@@ -3,7 +3,7 @@ use Rattle.yaml_grammar.specs.Trees.{elements_depth, members_depth}
 use Rattle.yaml_tree.specs.Seen.{elements_of, members_of}
 use Rattle.yaml_tree.proofs.tree.+depth.Given as goal
 
--- what is left is as deep as all, or the answer stands already
+-- the deepest part is left, or its depth is already known
 abbrev pub invariant-deepest_item-loop-item : goal.invariant-deepest_item-loop-item
 invariant-deepest_item-loop-item l =
     max l.deepest (min (elements_depth (elements_of (drop l.item-index l.items))) 18446744073709551615)

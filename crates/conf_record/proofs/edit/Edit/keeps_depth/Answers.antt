@@ -1,5 +1,4 @@
-use Rattle.std.proofs.Common.{◌≡◌, ◌+◌, Ok, nat_le, length, min, ap, subst, ◌∙◌, arith}
-use Rattle.std.proofs.lemmas.Bool.Decides.{nat_tests}
+use Rattle.std.proofs.Common.{◌≡◌, ◌+◌, Ok, nat_le, length, ap, subst, ◌∙◌, arith}
 use Rattle.yaml_grammar.specs.Trees.{depth}
 use Rattle.yaml_tree.specs.Seen.{tree_of}
 use Rattle.conf_record.specs.Edits.{edited}

@@ -1,9 +1,9 @@
-use Rattle.std.proofs.Common.{◌≡◌, ◌≤◌, Ok, ap, subst, ◌∙◌, sym, arith}
+use Rattle.std.proofs.Common.{◌≡◌, ◌≤◌, Ok, ap, subst, ◌∙◌, arith}
 use Rattle.yaml_grammar.specs.Style.{style_text}
 use Rattle.yaml_grammar.specs.Texts.{byte_len}
 use Rattle.yaml_grammar.specs.Trees.{depth, distinct}
 use Rattle.yaml_tree.specs.Seen.{tree_of}
-use Rattle.yaml_tree.proofs.TextsLemmas.{tree_of-IsTextTree}
+use Rattle.yaml_tree.proofs.TextTreeLemmas.{tree_of-IsTextTree}
 use Rattle.conf_record.specs.Edits.{edited}
 use Rattle.conf_record.proofs.EditLemmas.{same_edit}
 use Rattle.conf_record.proofs.edit.Edit.perform.Goals as goal

@@ -1,12 +1,10 @@
-use Rattle.std.proofs.Common.{◌≡◌, ◌+◌, ◌≤◌, Ok, Some, None, min, inr, refl, ap, subst, ◌∙◌, sym, arith}
+use Rattle.std.proofs.Common.{◌≡◌, ◌+◌, Ok, Some, inr, refl, ap, subst, ◌∙◌, sym, arith}
 use Rattle.std.proofs.lemmas.Result.{err_from_is_err_and}
 use Rattle.std.specs.Str.{chars}
-use Rattle.yaml_grammar.specs.Trees.{depth}
 use Rattle.yaml_tree.specs.Seen.{tree_of}
 use Rattle.tree_path.proofs.StepLaws.{none-other}
 use Rattle.conf_record.specs.BaseTexts.{entries_length}
-use Rattle.conf_record.specs.Edits.{edited, configs_edited}
-use Rattle.conf_record.specs.Kept.{entries_of}
+use Rattle.conf_record.specs.Edits.{edited}
 use Rattle.conf_record.specs.States.{config_named, put_config}
 use Rattle.conf_record.specs.Steps.{and_then, counted}
 use Rattle.conf_record.proofs.EditLemmas.{found-named, absent-named, same_tree, same_edit, edited-nothing, edited-new}

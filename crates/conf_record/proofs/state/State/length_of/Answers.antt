@@ -1,14 +1,20 @@
-use Rattle.std.proofs.Common.{◌≤◌, sym, subst, arith}
+use Rattle.std.proofs.Common.{◌≤◌, option_map, ap, sym, subst, ◌∙◌, arith}
 use Rattle.std.specs.Str.{chars}
-use Rattle.conf_record.specs.States.{base_limit}
+use Rattle.yaml_tree.specs.Seen.{tree_of}
+use Rattle.conf_record.specs.States.{base_limit, config_named}
 use Rattle.conf_record.specs.BaseTexts.{entries_length}
 use Rattle.conf_record.specs.Kept.{entries_of}
+use Rattle.conf_record.proofs.EntryLemmas.{lookup-named}
 use Rattle.conf_record.proofs.BaseLemmas.{entries_length-short}
 use Rattle.conf_record.proofs.LimitLemmas.{entries_length-found, entries_length-absent}
 use Rattle.conf_record.proofs.state.State.length_of.Goals as goal
 
 pub returns-in-Some : goal.returns-in-Some
 returns-in-Some c =
+    let named =
+    ap (option_map tree_of) c.in-Some.ensures.value
+    ∙ lookup-named c.args.name.now c.utf8.name c.self.inside.configs.entries c.self.invariant.plain
+    ∙ ap (λ s. config_named s.configs (chars c.args.name.now)) c.self.view_is in
     let state = c.self.invariant.state in
     let short : entries_length c.args.self.now.configs ≤ base_limit =
     subst (λ s. entries_length s.configs ≤ base_limit) c.self.view_is
@@ -17,8 +23,13 @@ returns-in-Some c =
       arith,
       short,
       c.entry_length.ensures,
-      entries_length-found c.args.self.now.configs (chars c.args.name.now) _ (sym c.in-Some.ensures),
+      entries_length-found c.args.self.now.configs (chars c.args.name.now) _ (sym named),
     )
 
 pub returns-in-None : goal.returns-in-None
-returns-in-None c = omega (arith, entries_length-absent c.args.self.now.configs (chars c.args.name.now) (sym c.in-None.ensures))
+returns-in-None c =
+    let named =
+    ap (option_map tree_of) c.in-None.ensures.value
+    ∙ lookup-named c.args.name.now c.utf8.name c.self.inside.configs.entries c.self.invariant.plain
+    ∙ ap (λ s. config_named s.configs (chars c.args.name.now)) c.self.view_is in
+    omega (arith, entries_length-absent c.args.self.now.configs (chars c.args.name.now) (sym named))

@@ -1,11 +1,9 @@
-use Rattle.std.proofs.Common.{◌≡◌, ◌≤◌, ◌+◌, Ok, Some, true, inr, ap, subst, ◌∙◌, sym, arith}
+use Rattle.std.proofs.Common.{◌≤◌, inr, ◌∙◌, sym, arith}
 use Rattle.std.specs.Str.{chars}
 use Rattle.yaml_grammar.specs.Style.{style_text}
 use Rattle.yaml_grammar.specs.Texts.{byte_len}
 use Rattle.yaml_grammar.specs.Trees.{depth}
 use Rattle.yaml_tree.specs.Seen.{tree_of}
-use Rattle.conf_record.specs.BaseTexts.{entries_length}
-use Rattle.conf_record.specs.States.{put_config}
 use Rattle.conf_record.proofs.EditLemmas.{named-good, edit-length, edit-short, edited-deep, edited-large, at_most}
 use Rattle.conf_record.proofs.state.State.lengths_after.Goals as goal
 

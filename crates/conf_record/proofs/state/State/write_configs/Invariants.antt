@@ -1,4 +1,4 @@
-use Rattle.yaml_grammar.specs.Style.{members_behind}
+use Rattle.yaml_grammar.specs.Style.{members_after}
 use Rattle.conf_record.specs.BaseTexts.{members}
 use Rattle.conf_record.specs.Kept.{entries_of}
 use Rattle.conf_record.proofs.state.State.write_configs.Given as goal
@@ -6,5 +6,5 @@ use Rattle.conf_record.proofs.state.State.write_configs.Given as goal
 -- what ends the configurations from here ends them all from the start
 abbrev pub invariant-loop-name : goal.invariant-loop-name
 invariant-loop-name g l =
-    (end : _) → g.S.Sink.Takes l.sink (members_behind (members (entries_of l.name-iterator)) 2) end
-    → g.S.Sink.Takes l.initial.sink (members_behind (members l.self.configs) 2) end
+    (end : _) → g.S.Sink.Takes l.sink (members_after (members (entries_of l.name-iterator)) 2) end
+    → g.S.Sink.Takes l.initial.sink (members_after (members l.self.configs) 2) end

@@ -4,7 +4,7 @@ use Rattle.std.specs.Str.Iter.{chars_rest}
 use Rattle.yaml_grammar.specs.Texts.{byte_len}
 use Rattle.tree_path.specs.Pointers.{pointer_text, path_of}
 use Rattle.tree_path.specs.Steps.{texts}
-use Rattle.tree_path.proofs.Pointers.{slash-read, itself-read, tilde-read, escape-read, escape-stray, tilde-place, end-read, front-read, path_of-stray, path_of-pointer_text, no_path}
+use Rattle.tree_path.proofs.Pointers.{slash-read, itself-read, tilde-read, escape-read, escape-stray, tilde-place, end-read, prefix-read, path_of-stray, path_of-pointer_text, no_path}
 use Rattle.tree_path.specs.declared.fault.PathFault.TheVariants.{BadPath}
 use Rattle.std.proofs.lemmas.Bool.Decides.{nat_tests}
 use Rattle.std.proofs.lemmas.List.{length-map}
@@ -19,7 +19,7 @@ pub returns-then-is_empty-clause-refused : goal.returns-then-is_empty-clause-ref
 returns-then-is_empty-clause-refused c = λ _ tokens is.
     let empty : length c.loop-c.tokens.items ≡ 0 = search (rules, nat_tests) in
     no_path (chars c.args.text.now) (BadPath 0) tokens
-    (front-read c.args.text.now (chars_rest c.loop-c.rest) (chars_rest c.next.new.self) c.loop-c.tokens.items c.in-Some.c c.loop-c.invariant c.in-Some.ensures.steps.0 empty c.if-c-eq47.false)
+    (prefix-read c.args.text.now (chars_rest c.loop-c.rest) (chars_rest c.next.new.self) c.loop-c.tokens.items c.in-Some.c c.loop-c.invariant c.in-Some.ensures.steps.0 empty c.if-c-eq47.false)
     is
 
 pub loop-c-preserved-then-c-ne126 : goal.loop-c-preserved-then-c-ne126

@@ -1,7 +1,7 @@
 use Rattle.std.proofs.Common.{◌≡◌, ℕ, ◌+◌, ◌-◌, ◌++◌, take, string_bytes, append_assoc, ap, ◌∙◌, arith}
 use Rattle.std.proofs.lemmas.List.{replicate-append-replicate, take-replicate, get_or-replicate}
 use Rattle.yaml_grammar.specs.Texts.{spaces}
-use Rattle.yaml_emit.proofs.text.push_spaces.Goals as goal
+use Rattle.yaml_tree.proofs.text_sink.push_spaces.Goals as goal
 
 pub loop-left-preserved : goal.loop-left-preserved
 loop-left-preserved c =
@@ -21,6 +21,6 @@ pub returns : goal.returns
 returns c =
     let left = c.loop-left.left in
     let same : left - 0 ≡ left = omega arith in
-    let front : c.range.result.now ≡ spaces left =
+    let prefix : c.range.result.now ≡ spaces left =
     c.range.ensures.value ∙ ap (λ n. take n (spaces 64)) same ∙ take-replicate left 64 32 (omega arith) in
-    c.in_ok-push_str-2.ensures.bytes ∙ ap (λ bytes. string_bytes c.loop-left.text ++ bytes) front ∙ c.loop-left.invariant
+    c.in_ok-push_str-2.ensures.bytes ∙ ap (λ bytes. string_bytes c.loop-left.text ++ bytes) prefix ∙ c.loop-left.invariant

@@ -1,6 +1,6 @@
 use Rattle.std.proofs.Common.{◌≡◌, ◌++◌, string_bytes}
 use Rattle.yaml_grammar.specs.Texts.{spaces}
-use Rattle.yaml_emit.proofs.text.push_spaces.Given as goal
+use Rattle.yaml_tree.proofs.text_sink.push_spaces.Given as goal
 
 abbrev pub invariant-loop-left : goal.invariant-loop-left
 invariant-loop-left l = string_bytes l.text ++ spaces l.left ≡ string_bytes l.initial.text ++ spaces l.count

@@ -63,7 +63,7 @@ every-bytes p below bs utf8 =
     same_truth false true f g = g refl
     same_truth false false f g = refl
 
--- a text behind its first character
+-- a text after its first character
 pub boundary_past_char : (bs rest : List ℕ) (c : ℕ) → IsUtf8 bs → bs ≡ encode_utf8 c ++ rest → IsCharBoundary bs (len_utf8 c)
 boundary_past_char bs rest c utf8 e =
     let at : ℕ → Type 0 = λ n. IsCharBoundary bs n in
