@@ -2,12 +2,13 @@
 use Rattle.std.proofs.Common.{◌≡◌, ◌≢◌, ℕ, List, [], ◌∷◌, ◌++◌, length, get_or, set, Option, Some, None, option_map, refl, sym, ◌∙◌, ap, subst}
 use Rattle.std.proofs.lemmas.List.{append-nil, get_or-set_same, get_or-set_other, get_or_append_left}
 use Rattle.std.proofs.lemmas.List.Elements.{All-contains, All-push, All-nil}
-use Rattle.conf_disk.specs.Folder.{File, empty_file, file_bytes, Stage, Folder, stages, CreateNext, Append, Sync, RenameNext, RemoveNext, SyncFolder, with_file, appended, synced_whole, removed, created, renamed, after, bytes_at, bytes_under}
+use Rattle.conf_disk.specs.Folder.{File, empty_file, file_bytes, Stage, Folder, stages, CreateNext, Append, Sync, RenameNext, RemoveNext, SyncFolder, with_file, appended, synced_whole, removed, created, renamed, after, bytes_at, bytes_under, Tells, Reads}
 use Rattle.conf_disk.specs.Image.{Image, IsImage, IsTornAt, synced_file, IsMade, IsApartFrom, IsWhole}
 use Rattle.conf_disk.specs.LogLaws.{now_staged, after-whole}
 use Rattle.conf_disk.specs.declared.disk.Name.TheVariants.{Store, Next}
 use Rattle.conf_disk.proofs.Stops.{IsTorn-synced}
-use Rattle.conf_journal.specs.Store.{IsSynced, IsSyncedAt}
+use Rattle.conf_disk.specs.declared.disk.Content.TheVariants.{Missing}
+use Rattle.conf_journal.specs.Store.{IsStoreOf, IsSynced, IsSyncedAt}
 use Rattle.conf_journal.specs.Held.{file_at, HoldsStore, IsLeftOf}
 
 left_of_torn : (files : List File) (place : Option ℕ) (store : Option (List ℕ)) → IsTornAt files place store → IsLeftOf (file_at files place) store
@@ -28,6 +29,34 @@ synced_left bytes (Some torn) left = ap Some (IsTorn-synced (synced_file bytes) 
 
 pub synced-left : (folder : Folder) (bytes : List ℕ) → HoldsStore folder (Some (synced_file bytes)) → (image : Image) → IsImage folder image → image.store ≡ Some bytes
 synced-left folder bytes holds image is = synced_left bytes image.store (held-left folder (Some (synced_file bytes)) holds image is)
+
+-- one file with nothing pending, or none
+left_only : (held store : Option (List ℕ)) → IsLeftOf (option_map synced_file held) store → store ≡ held
+left_only (Some bytes) store left = synced_left bytes store left
+left_only None None left = refl
+left_only None (Some torn) left = absurd left
+
+pub only-held : (folder : Folder) (held store : Option (List ℕ)) → HoldsStore folder (option_map synced_file held) → IsStoreOf folder store → store ≡ held
+only-held folder held store holds is =
+    sym is.same ∙ left_only held is.image.store (held-left folder (option_map synced_file held) holds is.image is.is)
+
+missing_none : (store : Option (List ℕ)) (max : ℕ) → Tells store max Missing → store ≡ None
+missing_none None max tells = refl
+missing_none (Some bytes) max tells = absurd tells
+
+pub missing-none : (folder : Folder) (max : ℕ) → Reads folder Store max Missing → bytes_under folder Store ≡ None
+missing-none folder max reads = missing_none (bytes_under folder Store) max reads
+
+file_read : (files : List File) (place : Option ℕ) (held : Option (List ℕ)) → file_at files place ≡ option_map synced_file held → bytes_at files place ≡ held
+file_read files None None is = refl
+file_read files None (Some bytes) is = cc
+file_read files (Some id) None is = cc
+file_read files (Some id) (Some bytes) is =
+    let same : get_or files id empty_file ≡ synced_file bytes = cc in
+    ap (λ (x : File). Some (file_bytes x)) same ∙ ap Some (append-nil bytes)
+
+pub held-read : (folder : Folder) (held : Option (List ℕ)) → HoldsStore folder (option_map synced_file held) → bytes_under folder Store ≡ held
+held-read folder held holds = file_read folder.files folder.now.store held holds.is
 
 -- a change of the file
 with_file-holds : (folder : Folder) (place : Option ℕ) (change : File → File) (file : Option File) → folder.now.store ≡ place → IsMade (length folder.files) place → HoldsStore folder file

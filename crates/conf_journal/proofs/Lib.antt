@@ -1,3 +1,5 @@
 pub mod Reading
 pub mod Stores
 pub mod Held
+pub mod Appends
+pub mod Joins

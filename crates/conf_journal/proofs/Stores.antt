@@ -1,4 +1,4 @@
--- What a stop may leave under `store.yaml` when a call changed something else, or put bytes behind it.
+-- What a crash may leave of `store.yaml` when a call changed something else, or appended to it.
 use Rattle.std.proofs.Common.{◌≡◌, ◌≢◌, ◌⊎◌, inl, inr, ⊎_elim, ℕ, ◌<◌, List, [], ◌∷◌, ◌++◌, length, get_or, set, take, replicate, Option, Some, None, Contains, Result, Ok, Err, OnOk, refl, sym, ◌∙◌, ap, subst, arith, length-append}
 use Rattle.std.proofs.lemmas.List.{append-nil, get_or-set_same, get_or-set_other, get_or_append_left}
 use Rattle.std.proofs.lemmas.List.Elements.{All-contains, Contains-append_right, Contains-append_cases}
@@ -135,7 +135,7 @@ finished-leaves folder whole some image is =
     (λ staged. inr (staged ∙ ap (λ (now : Image). now.next) (synced-reads_same Next folder)))
     (renamed-leaves synced (synced-is_synced Next folder whole some) image is)
 
--- more bytes behind a file of which nothing is pending
+-- more bytes after a file of which nothing is pending
 appended_tail : (file : File) (bytes torn : List ℕ) → file.pending ≡ [] → IsTorn (appended bytes file) torn → IsTail (Some (file_bytes file)) bytes (Some torn)
 appended_tail file bytes torn none is = record {
   start = file_bytes file;

@@ -1,7 +1,10 @@
--- One file that stands under `store.yaml` in every stage.
-use Rattle.std.specs.Prelude.{◌≡◌, ℕ, List, get_or, All, Option, Some, None}
-use Rattle.conf_disk.specs.Folder.{File, empty_file, Stage, Folder, stages}
+-- One file that is `store.yaml` in every stage.
+use Rattle.std.specs.Prelude.{◌≡◌, ℕ, List, get_or, All, Option, Some, None, option_map}
+use Rattle.conf_disk.specs.Folder.{File, empty_file, Stage, Folder, stages, bytes_under, Reads}
 use Rattle.conf_disk.specs.Image.{Image, IsImage, IsTorn, synced_file}
+use Rattle.conf_disk.specs.declared.disk.Content.TheVariants.{Missing}
+use Rattle.conf_disk.specs.declared.disk.Name.TheVariants.{Store}
+use Rattle.conf_journal.specs.Store.{IsStoreOf}
 
 abbrev pub file_at : List File → Option ℕ → Option File
 file_at files None = None
@@ -26,3 +29,17 @@ HeldIsLeft = (folder : Folder) (file : Option File) → HoldsStore folder file �
 -- and of one of which nothing is pending just its bytes
 abbrev pub SyncedIsLeft : Type 0
 SyncedIsLeft = (folder : Folder) (bytes : List ℕ) → HoldsStore folder (Some (synced_file bytes)) → (image : Image) → IsImage folder image → image.store ≡ Some bytes
+
+-- ---- every stage has the same file with nothing pending, or none has a file: `held` is its bytes
+
+-- a stop leaves just that
+abbrev pub OnlyHeldIsLeft : Type 0
+OnlyHeldIsLeft = (folder : Folder) (held store : Option (List ℕ)) → HoldsStore folder (option_map synced_file held) → IsStoreOf folder store → store ≡ held
+
+-- and that is what reads
+abbrev pub HeldIsRead : Type 0
+HeldIsRead = (folder : Folder) (held : Option (List ℕ)) → HoldsStore folder (option_map synced_file held) → bytes_under folder Store ≡ held
+
+-- a read that finds no file says that there is none
+abbrev pub MissingIsNone : Type 0
+MissingIsNone = (folder : Folder) (max : ℕ) → Reads folder Store max Missing → bytes_under folder Store ≡ None

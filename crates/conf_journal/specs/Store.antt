@@ -1,7 +1,8 @@
 -- What a stop may leave under `store.yaml`, in plain words.
-use Rattle.std.specs.Prelude.{◌≡◌, ℕ, ◌+◌, ◌≤◌, List, [], ◌++◌, length, get_or, take, replicate, Option, Some, None, option_map}
+use Rattle.std.specs.Prelude.{◌≡◌, ◌⊎◌, ℕ, ◌+◌, ◌≤◌, List, [], ◌++◌, length, get_or, take, replicate, Option, Some, None, option_map}
 use Rattle.conf_disk.specs.Folder.{File, empty_file, Folder, under}
 use Rattle.conf_disk.specs.Image.{Image, IsImage, image_now}
+use Rattle.conf_disk.specs.Moments.{LeavesOnly}
 use Rattle.conf_disk.specs.declared.disk.Name.{Name}
 
 -- the most bytes of `store.yaml`
@@ -14,7 +15,15 @@ pub record IsStoreOf (folder : Folder) (store : Option (List ℕ)) : Type 0 wher
   pub is : IsImage folder image
   pub same : image.store ≡ store
 
--- the old bytes, some first ones of the new, and zeros, together no more than the old and the new
+-- a crash at any moment since `old` leaves an old store
+abbrev pub LeavesOldStore : {D : Type 0} → (D → Folder) → (D → ℕ) → (D → ℕ → Image → Type 0) → D → D → Type 0
+LeavesOldStore folder moment left old new = LeavesOnly moment left old new (λ image. IsStoreOf (folder old) image.store)
+
+-- an old store, or this one
+abbrev pub LeavesStoreOr : {D : Type 0} → (D → Folder) → (D → ℕ) → (D → ℕ → Image → Type 0) → Option (List ℕ) → D → D → Type 0
+LeavesStoreOr folder moment left other old new = LeavesOnly moment left old new (λ image. IsStoreOf (folder old) image.store ⊎ (image.store ≡ other))
+
+-- the old bytes, a prefix of the new, and zeros, together no more than the old and the new
 pub record IsTail (old : Option (List ℕ)) (bytes : List ℕ) (store : Option (List ℕ)) : Type 0 where
   pub start : List ℕ
   pub was : old ≡ Some start
@@ -31,7 +40,7 @@ IsSyncedAt files (Some id) = (get_or files id empty_file).pending ≡ []
 abbrev pub IsSynced : Folder → Name → Type 0
 IsSynced folder name = IsSyncedAt folder.files (under folder.now name)
 
--- with more bytes behind those of a file, where there is one
+-- with more bytes after those of a file, where there is one
 abbrev pub extended : Option (List ℕ) → List ℕ → Option (List ℕ)
 extended old bytes = option_map (λ (start : List ℕ). start ++ bytes) old
 

@@ -1,9 +1,44 @@
-// A fact about the model, the contract of a function that does nothing.
-ghost use Rattle.conf_journal.specs.Held.{HeldIsLeft, SyncedIsLeft};
+// Facts about the model, each the contract of a function that does nothing.
+ghost use Rattle.std.specs.Prelude.{ℕ, List, Option};
+ghost use Rattle.conf_disk.specs.Folder.{Folder};
+ghost use Rattle.conf_disk.specs.Image.{IsImage};
+ghost use Rattle.conf_disk.specs.Moments.{LeavesOnly};
+ghost use Rattle.conf_journal.specs.Held.{HeldIsLeft, SyncedIsLeft, OnlyHeldIsLeft, HeldIsRead, MissingIsNone};
+ghost use Rattle.conf_journal.specs.Store.{LeavesOldStore, LeavesStoreOr};
+
+use conf_disk::Disk;
 
 /// A law: where every stage has the same file under `store.yaml`, a crash leaves of the store what it leaves of that
 /// file, and exactly its bytes if none are pending.
 pub fn held_store_is_left()
     ensures held { HeldIsLeft }
     ensures synced { SyncedIsLeft }
+{}
+
+/// A law: where every stage has the same file under `store.yaml` with nothing pending, or none has a file, that is
+/// the only store that a crash can leave, and what is read. A read that finds no file says that there is none.
+pub fn held_store_is_the_only_one()
+    ensures left { OnlyHeldIsLeft }
+    ensures reads { HeldIsRead }
+    ensures missing { MissingIsNone }
+{}
+
+/// A law of two runs of calls on an honest disk, one after the other.
+///
+/// If a crash during either run leaves an image of one folder, so does a crash during both. If a crash during the
+/// first run leaves an old store, and one during the second leaves a store of the folder between them, a crash during
+/// both leaves an old store; and if the second may leave another store as well, so may both.
+pub fn runs_of_calls_are_joined<D: Disk>()
+    ensures images { D.honest → (old between new : D) (folder : Folder)
+        → LeavesOnly D.moment D.left old between (IsImage folder)
+        → LeavesOnly D.moment D.left between new (IsImage folder)
+        → LeavesOnly D.moment D.left old new (IsImage folder) }
+    ensures old_store { D.honest → (old between new : D)
+        → LeavesOldStore D.folder D.moment D.left old between
+        → LeavesOldStore D.folder D.moment D.left between new
+        → LeavesOldStore D.folder D.moment D.left old new }
+    ensures other_store { D.honest → (old between new : D) (other : Option (List ℕ))
+        → LeavesOldStore D.folder D.moment D.left old between
+        → LeavesStoreOr D.folder D.moment D.left other between new
+        → LeavesStoreOr D.folder D.moment D.left other old new }
 {}

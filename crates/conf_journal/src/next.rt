@@ -4,7 +4,7 @@ ghost use Rattle.conf_disk.specs.Folder.{File, CreateNext, Append, Sync, RenameN
 ghost use Rattle.conf_disk.specs.Image.{IsImage, synced_file};
 ghost use Rattle.conf_disk.specs.Log.{folder_after};
 ghost use Rattle.conf_disk.specs.Moments.{CountsFailures, LeavesOnly};
-ghost use Rattle.conf_journal.specs.Store.{IsStoreOf, IsSynced, ReadsAs, extended};
+ghost use Rattle.conf_journal.specs.Store.{IsSynced, LeavesOldStore, LeavesStoreOr, ReadsAs, extended};
 ghost use Rattle.conf_journal.specs.Held.{HoldsStore};
 
 use conf_disk::{Disk, DiskFault, Name};
@@ -20,7 +20,8 @@ pub fn begin_next<D: Disk>(disk: &mut D) -> Result<(), DiskFault>
     ensures any_moment { D.honest →
         LeavesOnly D.moment D.left disk.old disk.new
         (IsImage (folder_after (RemoveNext ∷ CreateNext ∷ []) (D.folder disk.old))) }
-    ensures spent { D.honest → D.failure_count disk.old ≡ u64.MAX → D.folder disk.new ≡ D.folder disk.old }
+    ensures spent { D.honest → D.failure_count disk.old ≡ u64.MAX
+        → D.folder disk.new ≡ D.folder disk.old }
     ensures failures { CountsFailures (D.failure_count disk.old) (D.failure_count disk.new) result }
     ensures fault { result ≢ Err DiskFault.OutOfMemory }
 
@@ -31,9 +32,7 @@ pub fn begin_next<D: Disk>(disk: &mut D) -> Result<(), DiskFault>
     ensures left_alone { D.honest →
         bytes_under (D.folder disk.new) Name.Store ≡ bytes_under (D.folder disk.old) Name.Store }
     // A crash leaves an old store.
-    ensures store { D.honest →
-        LeavesOnly D.moment D.left disk.old disk.new
-        (λ image. IsStoreOf (D.folder disk.old) image.store) }
+    ensures store { D.honest → LeavesOldStore D.folder D.moment D.left disk.old disk.new }
     ensures holds { D.honest → (file : Option File) → HoldsStore (D.folder disk.old) file →
         OnOk result (HoldsStore (D.folder disk.new) file) }
 {
@@ -52,7 +51,8 @@ pub fn append_next<D: Disk>(disk: &mut D, bytes: &[u8]) -> Result<(), DiskFault>
     ensures any_moment { D.honest →
         LeavesOnly D.moment D.left disk.old disk.new
         (IsImage (after (Append Name.Next bytes.now) (D.folder disk.old))) }
-    ensures spent { D.honest → D.failure_count disk.old ≡ u64.MAX → D.folder disk.new ≡ D.folder disk.old }
+    ensures spent { D.honest → D.failure_count disk.old ≡ u64.MAX
+        → D.folder disk.new ≡ D.folder disk.old }
     ensures failures { CountsFailures (D.failure_count disk.old) (D.failure_count disk.new) result }
     ensures fault { result ≢ Err DiskFault.OutOfMemory }
 
@@ -64,9 +64,7 @@ pub fn append_next<D: Disk>(disk: &mut D, bytes: &[u8]) -> Result<(), DiskFault>
     ensures left_alone { D.honest →
         bytes_under (D.folder disk.new) Name.Store ≡ bytes_under (D.folder disk.old) Name.Store }
     // A crash leaves an old store.
-    ensures store { D.honest →
-        LeavesOnly D.moment D.left disk.old disk.new
-        (λ image. IsStoreOf (D.folder disk.old) image.store) }
+    ensures store { D.honest → LeavesOldStore D.folder D.moment D.left disk.old disk.new }
     ensures holds { D.honest → (file : Option File) → HoldsStore (D.folder disk.old) file →
         OnOk result (HoldsStore (D.folder disk.new) file) }
 {
@@ -88,7 +86,8 @@ pub fn stage_next<D: Disk>(disk: &mut D, bytes: &[u8]) -> Result<(), DiskFault>
         (IsImage
         (folder_after (RemoveNext ∷ CreateNext ∷ Append Name.Next bytes.now ∷ [])
         (D.folder disk.old))) }
-    ensures spent { D.honest → D.failure_count disk.old ≡ u64.MAX → D.folder disk.new ≡ D.folder disk.old }
+    ensures spent { D.honest → D.failure_count disk.old ≡ u64.MAX
+        → D.folder disk.new ≡ D.folder disk.old }
     ensures failures { CountsFailures (D.failure_count disk.old) (D.failure_count disk.new) result }
     ensures fault { result ≢ Err DiskFault.OutOfMemory }
 
@@ -101,9 +100,7 @@ pub fn stage_next<D: Disk>(disk: &mut D, bytes: &[u8]) -> Result<(), DiskFault>
     ensures left_alone { D.honest →
         bytes_under (D.folder disk.new) Name.Store ≡ bytes_under (D.folder disk.old) Name.Store }
     // A crash leaves an old store.
-    ensures store { D.honest →
-        LeavesOnly D.moment D.left disk.old disk.new
-        (λ image. IsStoreOf (D.folder disk.old) image.store) }
+    ensures store { D.honest → LeavesOldStore D.folder D.moment D.left disk.old disk.new }
     ensures holds { D.honest → (file : Option File) → HoldsStore (D.folder disk.old) file →
         OnOk result (HoldsStore (D.folder disk.new) file) }
 {
@@ -124,7 +121,8 @@ pub fn swap_next<D: Disk>(disk: &mut D) -> Result<(), DiskFault>
     ensures any_moment { D.honest →
         LeavesOnly D.moment D.left disk.old disk.new
         (IsImage (after RenameNext (D.folder disk.old))) }
-    ensures spent { D.honest → D.failure_count disk.old ≡ u64.MAX → D.folder disk.new ≡ D.folder disk.old }
+    ensures spent { D.honest → D.failure_count disk.old ≡ u64.MAX
+        → D.folder disk.new ≡ D.folder disk.old }
     ensures failures { CountsFailures (D.failure_count disk.old) (D.failure_count disk.new) result }
     ensures fault { result ≢ Err DiskFault.OutOfMemory }
 
@@ -132,10 +130,10 @@ pub fn swap_next<D: Disk>(disk: &mut D) -> Result<(), DiskFault>
         OnOk result (ReadsAs (D.folder disk.new) (bytes_under (D.folder disk.old) Name.Next) None) }
     // A crash leaves an old store, or the whole staged file.
     ensures store { D.honest →
-        LeavesOnly D.moment D.left disk.old disk.new
-        (λ image. IsStoreOf (D.folder disk.old) image.store
-        ⊎ (image.store ≡ bytes_under (D.folder disk.old) Name.Next)) }
-    ensures holds { D.honest → (bytes : List ℕ) → bytes_under (D.folder disk.old) Name.Next ≡ Some bytes →
+        LeavesStoreOr D.folder D.moment D.left (bytes_under
+        (D.folder disk.old) Name.Next) disk.old disk.new }
+    ensures holds { D.honest → (bytes : List ℕ) → bytes_under (D.folder disk.old) Name.Next
+        ≡ Some bytes →
         OnOk result (HoldsStore (D.folder disk.new) (Some (synced_file bytes))) }
 {
     disk.rename_next()?;
@@ -157,7 +155,8 @@ pub fn finish_next<D: Disk>(disk: &mut D) -> Result<(), DiskFault>
         (λ image. IsImage (D.folder disk.old) image
         ⊎ IsImage
         (folder_after (Sync Name.Next ∷ RenameNext ∷ []) (D.folder disk.old)) image) }
-    ensures spent { D.honest → D.failure_count disk.old ≡ u64.MAX → D.folder disk.new ≡ D.folder disk.old }
+    ensures spent { D.honest → D.failure_count disk.old ≡ u64.MAX
+        → D.folder disk.new ≡ D.folder disk.old }
     ensures failures { CountsFailures (D.failure_count disk.old) (D.failure_count disk.new) result }
     ensures fault { result ≢ Err DiskFault.OutOfMemory }
 
@@ -165,10 +164,10 @@ pub fn finish_next<D: Disk>(disk: &mut D) -> Result<(), DiskFault>
         OnOk result (ReadsAs (D.folder disk.new) (bytes_under (D.folder disk.old) Name.Next) None) }
     // A crash leaves an old store, or the whole staged file.
     ensures store { D.honest →
-        LeavesOnly D.moment D.left disk.old disk.new
-        (λ image. IsStoreOf (D.folder disk.old) image.store
-        ⊎ (image.store ≡ bytes_under (D.folder disk.old) Name.Next)) }
-    ensures holds { D.honest → (bytes : List ℕ) → bytes_under (D.folder disk.old) Name.Next ≡ Some bytes →
+        LeavesStoreOr D.folder D.moment D.left (bytes_under
+        (D.folder disk.old) Name.Next) disk.old disk.new }
+    ensures holds { D.honest → (bytes : List ℕ) → bytes_under (D.folder disk.old) Name.Next
+        ≡ Some bytes →
         OnOk result (HoldsStore (D.folder disk.new) (Some (synced_file bytes))) }
 {
     disk.sync(Name::Next)?;

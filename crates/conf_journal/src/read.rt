@@ -18,15 +18,18 @@ pub const STORE_LIMIT: u64 = 1_073_741_824;
 /// # Errors
 /// `Device`: what is read is unchanged. `OutOfMemory`: all is synced, and the bytes were not read.
 pub fn load<D: Disk>(alloc: Global, disk: &mut D) -> Result<Content, DiskFault>
-    ensures content { D.honest → IfOk result (λ content. Reads (D.folder disk.old) Name.Store store_limit content) }
+    ensures content { D.honest → IfOk result (λ content.
+        Reads (D.folder disk.old) Name.Store store_limit content) }
     ensures folder { D.honest →
         OnOk result
         (D.folder disk.new ≡ folder_after (SyncFolder ∷ Sync Name.Store ∷ [])
         (D.folder disk.old)) }
     ensures unread { D.honest → result ≡ Err DiskFault.OutOfMemory →
         D.folder disk.new ≡ folder_after (SyncFolder ∷ Sync Name.Store ∷ []) (D.folder disk.old) }
-    ensures any_moment { D.honest → LeavesOnly D.moment D.left disk.old disk.new (IsImage (D.folder disk.old)) }
-    ensures spent { D.honest → D.failure_count disk.old ≡ u64.MAX → D.folder disk.new ≡ D.folder disk.old }
+    ensures any_moment { D.honest → LeavesOnly D.moment D.left disk.old disk.new
+        (IsImage (D.folder disk.old)) }
+    ensures spent { D.honest → D.failure_count disk.old ≡ u64.MAX
+        → D.folder disk.new ≡ D.folder disk.old }
     ensures failures { CountsFailures (D.failure_count disk.old) (D.failure_count disk.new) result }
 
     ensures reads { D.honest → image_now (D.folder disk.new) ≡ image_now (D.folder disk.old) }

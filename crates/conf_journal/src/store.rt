@@ -1,11 +1,12 @@
 // The procedures that append to the live file.
-ghost use Rattle.std.specs.Prelude.{◌≡◌, ◌≢◌, ◌⊎◌, [], ◌∷◌, Option, IsSome, OnOk, Err, option_map};
+ghost use Rattle.std.specs.Prelude.{◌≡◌, ◌≢◌, [], ◌∷◌, Option, IsSome, OnOk, Err, option_map};
 ghost use Rattle.conf_disk.specs.Folder.{File, Append, Sync, after, appended, synced_whole, bytes_under};
 ghost use Rattle.conf_disk.specs.Image.{IsImage, image_now};
 ghost use Rattle.conf_disk.specs.Log.{folder_after};
 ghost use Rattle.conf_disk.specs.Moments.{CountsFailures, LeavesOnly};
-ghost use Rattle.conf_journal.specs.Store.{IsStoreOf, IsTail, IsSynced, ReadsAs, extended};
-ghost use Rattle.conf_journal.specs.Held.{HoldsStore, IsLeftOf};
+ghost use Rattle.conf_journal.specs.Appends.{LeavesAppended};
+ghost use Rattle.conf_journal.specs.Store.{ReadsAs, extended};
+ghost use Rattle.conf_journal.specs.Held.{HoldsStore};
 
 use conf_disk::{Disk, DiskFault, Name};
 
@@ -17,10 +18,11 @@ pub fn append_store<D: Disk>(disk: &mut D, bytes: &[u8]) -> Result<(), DiskFault
     requires { D.honest → IsSome (D.folder disk.old).now.store }
     ensures folder { D.honest →
         OnOk result (D.folder disk.new ≡ after (Append Name.Store bytes.now) (D.folder disk.old)) }
-    ensures any_moment { D.honest →
-        LeavesOnly D.moment D.left disk.old disk.new
-        (IsImage (after (Append Name.Store bytes.now) (D.folder disk.old))) }
-    ensures spent { D.honest → D.failure_count disk.old ≡ u64.MAX → D.folder disk.new ≡ D.folder disk.old }
+    // What a crash at any moment leaves, whatever this returns.
+    ensures leaves { D.honest
+        → LeavesAppended D.folder D.moment D.left bytes.now disk.old disk.new }
+    ensures spent { D.honest → D.failure_count disk.old ≡ u64.MAX
+        → D.folder disk.new ≡ D.folder disk.old }
     ensures failures { CountsFailures (D.failure_count disk.old) (D.failure_count disk.new) result }
     ensures fault { result ≢ Err DiskFault.OutOfMemory }
 
@@ -29,15 +31,6 @@ pub fn append_store<D: Disk>(disk: &mut D, bytes: &[u8]) -> Result<(), DiskFault
         (ReadsAs (D.folder disk.new)
         (extended (bytes_under (D.folder disk.old) Name.Store) bytes.now)
         (bytes_under (D.folder disk.old) Name.Next)) }
-    // Where nothing was pending, a crash leaves an old store, or the old bytes with some of the new.
-    ensures store { D.honest → IsSynced (D.folder disk.old) Name.Store →
-        LeavesOnly D.moment D.left disk.old disk.new
-        (λ image. IsStoreOf (D.folder disk.old) image.store
-        ⊎ IsTail (bytes_under (D.folder disk.old) Name.Store) bytes.now image.store) }
-    // Where every stage has the same file there, a crash leaves what it leaves of that file with the bytes after it.
-    ensures held { D.honest → (file : Option File) → HoldsStore (D.folder disk.old) file →
-        LeavesOnly D.moment D.left disk.old disk.new
-        (λ image. IsLeftOf (option_map (appended bytes.now) file) image.store) }
     ensures holds { D.honest → (file : Option File) → HoldsStore (D.folder disk.old) file →
         OnOk result (HoldsStore (D.folder disk.new) (option_map (appended bytes.now) file)) }
 {
@@ -49,9 +42,12 @@ pub fn append_store<D: Disk>(disk: &mut D, bytes: &[u8]) -> Result<(), DiskFault
 /// # Errors
 /// `Device`: what is read is unchanged.
 pub fn sync_store<D: Disk>(disk: &mut D) -> Result<(), DiskFault>
-    ensures folder { D.honest → OnOk result (D.folder disk.new ≡ after (Sync Name.Store) (D.folder disk.old)) }
-    ensures any_moment { D.honest → LeavesOnly D.moment D.left disk.old disk.new (IsImage (D.folder disk.old)) }
-    ensures spent { D.honest → D.failure_count disk.old ≡ u64.MAX → D.folder disk.new ≡ D.folder disk.old }
+    ensures folder { D.honest → OnOk result (D.folder disk.new
+        ≡ after (Sync Name.Store) (D.folder disk.old)) }
+    ensures any_moment { D.honest → LeavesOnly D.moment D.left disk.old disk.new
+        (IsImage (D.folder disk.old)) }
+    ensures spent { D.honest → D.failure_count disk.old ≡ u64.MAX
+        → D.folder disk.new ≡ D.folder disk.old }
     ensures failures { CountsFailures (D.failure_count disk.old) (D.failure_count disk.new) result }
     ensures fault { result ≢ Err DiskFault.OutOfMemory }
 
@@ -72,10 +68,11 @@ pub fn append_closed<D: Disk>(disk: &mut D, bytes: &[u8]) -> Result<(), DiskFaul
         OnOk result
         (D.folder disk.new ≡ folder_after (Append Name.Store bytes.now ∷ Sync Name.Store ∷ [])
         (D.folder disk.old)) }
-    ensures any_moment { D.honest →
-        LeavesOnly D.moment D.left disk.old disk.new
-        (IsImage (after (Append Name.Store bytes.now) (D.folder disk.old))) }
-    ensures spent { D.honest → D.failure_count disk.old ≡ u64.MAX → D.folder disk.new ≡ D.folder disk.old }
+    // What a crash at any moment leaves, whatever this returns.
+    ensures leaves { D.honest
+        → LeavesAppended D.folder D.moment D.left bytes.now disk.old disk.new }
+    ensures spent { D.honest → D.failure_count disk.old ≡ u64.MAX
+        → D.folder disk.new ≡ D.folder disk.old }
     ensures failures { CountsFailures (D.failure_count disk.old) (D.failure_count disk.new) result }
     ensures fault { result ≢ Err DiskFault.OutOfMemory }
 
@@ -84,15 +81,6 @@ pub fn append_closed<D: Disk>(disk: &mut D, bytes: &[u8]) -> Result<(), DiskFaul
         (ReadsAs (D.folder disk.new)
         (extended (bytes_under (D.folder disk.old) Name.Store) bytes.now)
         (bytes_under (D.folder disk.old) Name.Next)) }
-    // Where nothing was pending, a crash leaves an old store, or the old bytes with some of the new.
-    ensures store { D.honest → IsSynced (D.folder disk.old) Name.Store →
-        LeavesOnly D.moment D.left disk.old disk.new
-        (λ image. IsStoreOf (D.folder disk.old) image.store
-        ⊎ IsTail (bytes_under (D.folder disk.old) Name.Store) bytes.now image.store) }
-    // Where every stage has the same file there, a crash leaves what it leaves of that file with the bytes after it.
-    ensures held { D.honest → (file : Option File) → HoldsStore (D.folder disk.old) file →
-        LeavesOnly D.moment D.left disk.old disk.new
-        (λ image. IsLeftOf (option_map (appended bytes.now) file) image.store) }
     ensures holds { D.honest → (file : Option File) → HoldsStore (D.folder disk.old) file →
         OnOk result
         (HoldsStore (D.folder disk.new)

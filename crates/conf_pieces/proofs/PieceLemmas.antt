@@ -2,7 +2,7 @@
 use Rattle.std.proofs.Common.{◌≡◌, ◌≤◌, ℕ, ◌+◌, true, ◌&&◌, List, [], ◌∷◌, ◌++◌, length, max, not, String, Global, append_assoc, append-nil, arith, refl, sym, ap, ◌∙◌}
 use Rattle.std.proofs.lemmas.Bool.{and_parts}
 use Rattle.yaml_grammar.specs.Texts.{byte_len}
-use Rattle.yaml_grammar.specs.Style.{key_lines, value_at, members_behind}
+use Rattle.yaml_grammar.specs.Style.{key_lines, value_at, members_after}
 use Rattle.yaml_grammar.specs.Trees.{Tree, mapping, Members, no_member, member, has_key, distinct, members_distinct, depth, members_depth, AreTextMembers}
 use Rattle.yaml_tree.specs.BudgetLaws.{byte_len-append}
 use Rattle.yaml_tree.specs.Kept.{IsKept}
@@ -12,21 +12,21 @@ use Rattle.conf_record.specs.RecordsRead.{values}
 use Rattle.conf_record.proofs.SizeLemmas.{value_size}
 use Rattle.conf_pieces.specs.Reading.{AreKept, trees_of}
 
-behind_bytes : (key : List ℕ) (t : Tree) (ms : Members)
-    → byte_len (members_behind (member key t ms) 0) ≡ byte_len (key_lines 0 key) + byte_len (value_at t 0) + byte_len (members_behind ms 0)
-behind_bytes key t ms =
-    omega (arith, byte_len-append (key_lines 0 key ++ value_at t 0) (members_behind ms 0), byte_len-append (key_lines 0 key) (value_at t 0))
+after_bytes : (key : List ℕ) (t : Tree) (ms : Members)
+    → byte_len (members_after (member key t ms) 0) ≡ byte_len (key_lines 0 key) + byte_len (value_at t 0) + byte_len (members_after ms 0)
+after_bytes key t ms =
+    omega (arith, byte_len-append (key_lines 0 key ++ value_at t 0) (members_after ms 0), byte_len-append (key_lines 0 key) (value_at t 0))
 
 max_parts : (a b c : ℕ) → max a b ≤ c → (a ≤ c) × (b ≤ c)
 max_parts a b c h = (omega arith, omega arith)
 
-values_kept : (ms : Members) → AreTextMembers ms → members_distinct ms ≡ true → members_depth ms ≤ 65 → byte_len (members_behind ms 0) ≤ 67108864 → AreKept (values ms)
+values_kept : (ms : Members) → AreTextMembers ms → members_distinct ms ≡ true → members_depth ms ≤ 65 → byte_len (members_after ms 0) ≤ 67108864 → AreKept (values ms)
 values_kept no_member are keys deep long = tt
 values_kept (member key t ms) are keys deep long =
     let parts = and_parts (not (has_key key ms) && distinct t) (members_distinct ms) keys in
     let own = (and_parts (not (has_key key ms)) (distinct t) parts.0).1 in
     let levels = max_parts (depth t) (members_depth ms) 65 deep in
-    let bytes = behind_bytes key t ms in
+    let bytes = after_bytes key t ms in
     let alone = (value_size t).least in
     let low = levels.0 in (
       record { texts = are.1; keys = own; deep = omega (arith, low); long = omega (arith, bytes, alone, long) },

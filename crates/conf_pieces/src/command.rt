@@ -6,7 +6,7 @@ ghost use Rattle.conf_record.specs.RecordsRead.{values, import_of, set_of, delet
 ghost use Rattle.conf_pieces.specs.Reading.{AreKept, command_seen};
 
 use crate::fields::{is_path, keys_are, next_text, next_value, number_from};
-use crate::part::part;
+use crate::parts::part;
 use conf_record::{Command, good_name};
 use std::alloc::{AllocError, Global};
 use yaml_tree::Tree;
@@ -35,7 +35,8 @@ pub(crate) fn command_from(alloc: Global, tree: Tree) -> Result<Option<(Command,
 /// The import of these values: the number, the name and the tree.
 fn import_from(pairs: Vec<(String, Tree)>) -> Result<Option<(Command, u64)>, AllocError>
     requires kept { AreKept (values (members_of pairs.items)) }
-    ensures { IfOk result (λ read. command_seen read ≡ import_of (values (members_of pairs.items))) }
+    ensures { IfOk result (λ read. command_seen read
+        ≡ import_of (values (members_of pairs.items))) }
 {
     let mut values = pairs.into_iter();
     let Some(digits) = next_text(&mut values) else {
@@ -99,7 +100,8 @@ fn delete_from(
     alloc: Global,
     pairs: Vec<(String, Tree)>,
 ) -> Result<Option<(Command, u64)>, AllocError>
-    ensures { IfOk result (λ read. command_seen read ≡ delete_of (values (members_of pairs.items))) }
+    ensures { IfOk result (λ read. command_seen read
+        ≡ delete_of (values (members_of pairs.items))) }
 {
     let mut values = pairs.into_iter();
     let Some(digits) = next_text(&mut values) else {

@@ -16,8 +16,8 @@ use std::vec::IntoIter;
 use tree_path::{Path, PathFault};
 use yaml_tree::Tree;
 
-/// Whether the keys of a mapping are these, in this order.
-pub(crate) fn keys_are(keys: &[&str], pairs: &[(String, Tree)]) -> bool
+/// Whether the keys of a mapping's pairs are these, in this order, and no others.
+pub fn keys_are(keys: &[&str], pairs: &[(String, Tree)]) -> bool
     ensures { result ≡ keys_are (texts (map (λ k. k.now) keys.now)) (members_of pairs.now) }
 {
     if keys.len() != pairs.len() {
@@ -31,15 +31,15 @@ pub(crate) fn keys_are(keys: &[&str], pairs: &[(String, Tree)]) -> bool
     true
 }
 
-/// Whether two texts are the same.
-pub(crate) fn is_same(one: &str, other: &str) -> bool
+/// Whether two texts have the same characters.
+pub fn is_same(one: &str, other: &str) -> bool
     ensures { result ≡ same_text (chars one.now) (chars other.now) }
 {
     one == other
 }
 
-/// Takes the next value, where there is one.
-pub(crate) fn next_value(pairs: &mut IntoIter<(String, Tree)>) -> Option<Tree>
+/// Takes the next pair off, and returns its value; `None` if no pair is left.
+pub fn next_value(pairs: &mut IntoIter<(String, Tree)>) -> Option<Tree>
     ensures { MatchOption result
         (values (members_of (into_iter_items pairs.old)) ≡ [])
         (λ t. values (members_of (into_iter_items pairs.old))
@@ -49,8 +49,8 @@ pub(crate) fn next_value(pairs: &mut IntoIter<(String, Tree)>) -> Option<Tree>
     Some(value)
 }
 
-/// Takes the next value, where it is a text.
-pub(crate) fn next_text(pairs: &mut IntoIter<(String, Tree)>) -> Option<String>
+/// Takes the next pair off, and returns its value if that is a text; `None` if it is none, or no pair is left.
+pub fn next_text(pairs: &mut IntoIter<(String, Tree)>) -> Option<String>
     ensures { MatchOption result
         (text_first (values (members_of (into_iter_items pairs.old))) ≡ None)
         (λ t. values (members_of (into_iter_items pairs.old))
@@ -63,7 +63,8 @@ pub(crate) fn next_text(pairs: &mut IntoIter<(String, Tree)>) -> Option<String>
     }
 }
 
-/// Takes the pairs of the next value, where it is a mapping.
+/// Takes the next pair off, and returns the pairs of its value if that is a mapping; `None` if it is none, or no pair
+/// is left.
 pub(crate) fn next_pairs(pairs: &mut IntoIter<(String, Tree)>) -> Option<Vec<(String, Tree)>>
     ensures { MatchOption result
         (mapping_first (values (members_of (into_iter_items pairs.old))) ≡ None)

@@ -8,7 +8,7 @@ ghost use Rattle.conf_pieces.specs.Documents.{IsRecord, IsBase, IsNoRecord, IsNo
 
 use crate::base::base_from;
 use crate::command::command_from;
-use crate::part::configurations;
+use crate::parts::configurations;
 use conf_record::{Command, State};
 use std::alloc::{AllocError, Global};
 use yaml_tree::{Limits, ReadFault, Tree, bytes_give_one, read_one, refused_bytes_give_none};
@@ -31,7 +31,8 @@ const LIMITS: Limits = Limits {
 ///
 /// Only running out of memory can fail. It is linear in the bytes, and moves the texts and trees that were read.
 pub fn read_record(alloc: Global, bytes: &[u8]) -> Result<Option<(Command, u64)>, AllocError>
-    ensures some { IfOk result (λ read. IfSome read (λ r. IsRecord bytes.now (command_of r.0) r.1)) }
+    ensures some { IfOk result (λ read. IfSome read (λ r.
+        IsRecord bytes.now (command_of r.0) r.1)) }
     ensures none { IfOk result (λ read. IfNone read (IsNoRecord bytes.now)) }
 {
     bytes_give_one();

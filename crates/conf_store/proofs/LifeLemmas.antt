@@ -1,12 +1,12 @@
 -- What a life keeps, and what lives keep.
-use Rattle.std.proofs.Common.{◌≡◌, ◌⊎◌, inl, inr, refl, sym, ◌∙◌, ap, subst}
-use Rattle.std.specs.Prelude.{ℕ, zero, suc, true, false, Bool, List, [], ◌∷◌, ◌++◌, take, drop, map, if◌then◌else◌, Result, Ok, Err, is_ok}
+use Rattle.std.proofs.Common.{◌≡◌, inl, inr, refl, sym, ◌∙◌, ap, subst}
+use Rattle.std.specs.Prelude.{suc, true, false, Bool, List, [], ◌∷◌, ◌++◌, if◌then◌else◌, Result, Ok, is_ok}
 use Rattle.std.specs.List.{AllByRecursion}
 use Rattle.conf_record.specs.Commands.{Command}
 use Rattle.conf_record.specs.States.{Contents}
 use Rattle.conf_record.specs.Steps.{step, after, and_then}
 use Rattle.conf_record.specs.declared.fault.StoreFault.{StoreFault}
-use Rattle.conf_store.specs.Lives.{Call, opening, performing, checkpointing, Answer, ok, refused, device, reopen, crashed, Event, Succeeds, MayRemainDuring, state_or, after_call, accepted_in, MayEnd, MayEndBy, accepted, accepted_by, Life, AreLives, Keeps, EachKeeps, joined, LivesHold}
+use Rattle.conf_store.specs.Lives.{Call, opening, performing, checkpointing, Answer, ok, refused, device, reopen, crashed, Event, Succeeds, MayRemainDuring, state_or, after_call, accepted_in, MayEnd, MayEndBy, accepted, accepted_by, Keeps, joined, LivesHold}
 use Rattle.conf_store.proofs.MeaningLemmas.{after-joined, after-done}
 
 -- what a life that began in a state keeps

@@ -1,22 +1,19 @@
 -- What bytes mean: at most one state. After a crash it is the state after the records that are whole.
-use Rattle.std.proofs.Common.{◌≡◌, ◌⊎◌, ◌↔◌, inl, inr, refl, sym, ◌∙◌, ap, subst, arith, ◌<◌, ◌≤◌, append_assoc, length-append, length-take}
-use Rattle.std.specs.Prelude.{ℕ, true, zero, suc, ◌+◌, List, [], ◌∷◌, ◌++◌, length, take, drop, replicate, Option, Some, None, Result, Ok, Err}
+use Rattle.std.proofs.Common.{◌≡◌, ◌⊎◌, inl, inr, refl, sym, ◌∙◌, ap, subst, arith, ◌≤◌, append_assoc, length-append, length-take}
+use Rattle.std.specs.Prelude.{ℕ, true, zero, suc, ◌+◌, List, [], ◌∷◌, ◌++◌, length, take, replicate, Option, Some, Result, Ok}
 use Rattle.std.proofs.lemmas.List.{length-replicate}
 use Rattle.yaml_grammar.specs.Closings.{ClosesOnce, Pieces}
 use Rattle.yaml_laws.specs.Closed.{OnePieces}
-use Rattle.conf_disk.specs.Folder.{File, Folder}
-use Rattle.conf_disk.specs.Image.{Image, IsImage, IsTorn, synced_file}
+use Rattle.conf_disk.specs.Folder.{File}
+use Rattle.conf_disk.specs.Image.{IsTorn}
 use Rattle.conf_record.specs.Commands.{Command}
 use Rattle.conf_record.specs.States.{Contents}
-use Rattle.conf_record.specs.Limits.{IsState}
 use Rattle.conf_record.specs.Steps.{step, after, and_then}
 use Rattle.conf_record.specs.declared.fault.StoreFault.{StoreFault}
 use Rattle.conf_record.proofs.RunLaws.{after-append, after-count, and_then-Ok}
 use Rattle.conf_pieces.specs.Documents.{IsRecord, IsBase, record_pieces, records_bytes, TornRecords, OneBase, OneRecord, RecordsTear}
-use Rattle.conf_record.specs.BaseTexts.{base_bytes}
-use Rattle.conf_record.specs.Records.{record_bytes}
 use Rattle.conf_journal.specs.Store.{store_limit}
-use Rattle.conf_store.specs.Meaning.{AreRecords, PiecesMean, Means, FileMeans, MeanTheSame, empty_state}
+use Rattle.conf_store.specs.Meaning.{AreRecords, PiecesMean, Means, FileMeans}
 use Rattle.conf_store.specs.Durable.{IsWholeStore, IsJournal, AfterPrefix}
 use Rattle.conf_store.proofs.PieceLemmas.{pieces-joined, pieces-one}
 
@@ -35,21 +32,21 @@ records-joined count (p ∷ ps) qs [] ds first second = absurd first
 records-joined count (p ∷ ps) qs (c ∷ cs) ds first second =
     (first.0, records-joined (count + 1) ps qs cs ds first.1 (subst (λ n. AreRecords n qs ds) (omega arith) second))
 
-records-front : (count k : ℕ) (commands : List Command) → AreRecords count (record_pieces count commands) commands
+records-prefix : (count k : ℕ) (commands : List Command) → AreRecords count (record_pieces count commands) commands
     → AreRecords count (record_pieces count (take k commands)) (take k commands)
-records-front count zero commands are = tt
-records-front count (suc k) [] are = tt
-records-front count (suc k) (c ∷ cs) are = (are.0, records-front (count + 1) k cs are.1)
+records-prefix count zero commands are = tt
+records-prefix count (suc k) [] are = tt
+records-prefix count (suc k) (c ∷ cs) are = (are.0, records-prefix (count + 1) k cs are.1)
 
 -- ---- lists of commands
 
 -- a prefix of accepted commands is accepted
-pub after-front : (s end : Contents) (commands : List Command) (k : ℕ) → after s commands ≡ Ok end → (mid : Contents) × (after s (take k commands) ≡ Ok mid)
-after-front s end commands zero leads = (s, refl)
-after-front s end [] (suc k) leads = (s, refl)
-after-front s end (c ∷ cs) (suc k) leads =
+pub after-prefix : (s end : Contents) (commands : List Command) (k : ℕ) → after s commands ≡ Ok end → (mid : Contents) × (after s (take k commands) ≡ Ok mid)
+after-prefix s end commands zero leads = (s, refl)
+after-prefix s end [] (suc k) leads = (s, refl)
+after-prefix s end (c ∷ cs) (suc k) leads =
     let first = and_then-Ok (step s c true) (λ t. after t cs) end leads in
-    let more = after-front first.0 end cs k first.2 in
+    let more = after-prefix first.0 end cs k first.2 in
     (more.0, ap (λ r. and_then r (λ t. after t (take k cs))) first.1 ∙ more.1)
 
 pub after-joined : (s mid end : Contents) (first second : List Command) → after s first ≡ Ok mid → after mid second ≡ Ok end → after s (first ++ second) ≡ Ok end
@@ -151,7 +148,7 @@ journal-left tear file flushed end since bytes journal torn =
     let pending = records_bytes flushed.count since in
     let tail = take torn.keep pending ++ replicate torn.zeros 0 in
     let t : TornRecords flushed.count since tail = tear flushed.count since torn.keep torn.zeros in
-    let mid = after-front flushed end since t.whole journal.leads in
+    let mid = after-prefix flushed end since t.whole journal.leads in
     let zeros : List ℕ = replicate torn.zeros 0 in
     let is : bytes ≡ file.synced ++ tail =
     torn.is ∙ append_assoc file.synced (take torn.keep file.pending) zeros ∙ ap (λ l. file.synced ++ (take torn.keep l ++ zeros)) journal.pending in
@@ -166,7 +163,7 @@ journal-left tear file flushed end since bytes journal torn =
         cut = subst (λ b. Pieces b (journal.whole.pieces ++ record_pieces flushed.count (take t.whole since)) t.rest) (sym is)
             (pieces-joined file.synced tail journal.whole.pieces (record_pieces flushed.count (take t.whole since)) t.rest journal.whole.cut t.pieces);
         mean = pieces-mean-more journal.whole.pieces (record_pieces flushed.count (take t.whole since)) flushed mid.0 (take t.whole since)
-            journal.whole.mean (records-front flushed.count t.whole since journal.are_records) mid.1;
+            journal.whole.mean (records-prefix flushed.count t.whole since journal.are_records) mid.1;
       };
     }
 

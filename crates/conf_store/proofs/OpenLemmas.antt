@@ -1,32 +1,30 @@
 -- What opening finds, and that it changes no meaning.
-use Rattle.std.proofs.Common.{◌≡◌, ◌≢◌, ◌⊎◌, ◌↔◌, inl, inr, ⊎_elim, refl, sym, ◌∙◌, ap, subst, arith, ◌<◌, ◌≤◌}
-use Rattle.std.specs.Prelude.{ℕ, zero, suc, List, [], ◌∷◌, length, Option, Some, None, option_map}
+use Rattle.std.proofs.Common.{◌≡◌, ◌≢◌, inl, inr, ⊎_elim, refl, sym, ◌∙◌, ap, subst, arith, ◌≤◌}
+use Rattle.std.specs.Prelude.{ℕ, zero, suc, List, [], length, Option, Some, None, option_map}
 use Rattle.std.specs.Prelude.{Vec}
 use Rattle.std.specs.declared.alloc.Global.{Global}
-use Rattle.yaml_grammar.specs.Closings.{ClosesOnce, Pieces}
 use Rattle.yaml_laws.specs.Closed.{OnePieces}
 use Rattle.conf_disk.specs.Folder.{Folder, Tells, bytes_under}
 use Rattle.conf_disk.specs.Image.{Image, IsImage, image_now, synced_file}
 use Rattle.conf_disk.specs.Laws.{ReadingIsAnImage}
 use Rattle.conf_disk.specs.declared.disk.Content.TheVariants.{Missing, Bytes, TooLong}
 use Rattle.conf_disk.specs.declared.disk.Name.TheVariants.{Store}
-use Rattle.conf_journal.specs.Held.{HoldsStore, IsLeftOf, HeldIsLeft, SyncedIsLeft}
+use Rattle.conf_journal.specs.Held.{HoldsStore, OnlyHeldIsLeft}
 use Rattle.conf_journal.specs.Store.{IsStoreOf, store_limit}
 use Rattle.conf_record.specs.States.{Contents}
-use Rattle.conf_pieces.specs.Documents.{IsBase, OneBase, OneRecord}
+use Rattle.conf_pieces.specs.Documents.{OneBase, OneRecord}
 use Rattle.conf_record.specs.BaseTexts.{base_bytes}
-use Rattle.conf_record.specs.Limits.{IsState}
 use Rattle.std.proofs.lemmas.Bool.{cases_lt}
 use Rattle.conf_disk.specs.declared.disk.DiskFault.{DiskFault}
 use Rattle.conf_disk.specs.declared.disk.DiskFault.TheVariants as disk
 use Rattle.conf_store.specs.Faults.{open_fault}
 use Rattle.conf_store.specs.Calls.{HasFailed}
-use Rattle.conf_store.specs.Meaning.{Means, FileMeans, MeanTheSame, empty_state}
-use Rattle.conf_store.specs.Durable.{IsWholeStore, IsDurable}
+use Rattle.conf_store.specs.Meaning.{FileMeans, MeanTheSame, empty_state}
+use Rattle.conf_store.specs.Durable.{IsDurable}
 use Rattle.conf_store.specs.Opens.{RecoversTo, FileRecoversTo, HasNoBase, RefusesBytes, IsFound, RefusesOpening, RefusalMeans, RefusedMeansNothing, ReadsAfterOpening, MeantAtEntry}
 use Rattle.conf_store.specs.declared.fault.OpenFault.{OpenFault}
 use Rattle.conf_store.specs.declared.fault.OpenFault.TheVariants.{NotAStore, Damaged, Device, OutOfMemory}
-use Rattle.conf_store.proofs.MeaningLemmas.{means-one, whole-means, base-whole}
+use Rattle.conf_store.proofs.MeaningLemmas.{means-one}
 use Rattle.conf_store.proofs.RecoveryLemmas.{recovers-means, recovers-whole}
 
 -- ---- what is found
@@ -103,19 +101,10 @@ pub read-meant : ReadingIsAnImage → (folder : Folder) (store : Option (List �
 read-meant reading folder store alike = record { entry = image_now folder; is = reading folder; alike = alike }
 
 -- every image of a loaded folder has the file that was read
-left-same : HeldIsLeft → SyncedIsLeft → (folder : Folder) (store : Option (List ℕ)) → HoldsStore folder (option_map synced_file store) → (image : Image) → IsImage folder image → image.store ≡ store
-left-same held synced folder (Some bytes) holds image is = synced folder bytes holds image is
-left-same held synced folder None holds image is = none image.store (held folder None holds image is)
-  where
-    none : (store : Option (List ℕ)) → IsLeftOf None store → store ≡ None
-    none None left = refl
-    none (Some bytes) left = absurd left
-
-pub loaded-meant : ReadingIsAnImage → HeldIsLeft → SyncedIsLeft → (entry now : Folder) → HoldsStore now (option_map synced_file (bytes_under entry Store))
+pub loaded-meant : ReadingIsAnImage → OnlyHeldIsLeft → (entry now : Folder) → HoldsStore now (option_map synced_file (bytes_under entry Store))
     → (store : Option (List ℕ)) → IsStoreOf now store → MeantAtEntry entry store
-loaded-meant reading held synced entry now holds store is =
-    read-meant reading entry store
-    (same-alike store (bytes_under entry Store) (sym is.same ∙ left-same held synced now (bytes_under entry Store) holds is.image is.is))
+loaded-meant reading only entry now holds store is =
+    read-meant reading entry store (same-alike store (bytes_under entry Store) (only now (bytes_under entry Store) store holds is))
 
 -- a file with the state that was found
 pub state-meant : OnePieces → OneBase → OneRecord → ReadingIsAnImage → (entry : Folder) (s : Contents) (records dropped : ℕ) (size : Option ℕ)
@@ -144,9 +133,6 @@ failed-later old mid new first second (inr stood) = elim (cases_lt old mid) [
 ]
 
 -- ---- what `store.yaml` holds after opening
-
-pub reads-same : ReadingIsAnImage → HeldIsLeft → SyncedIsLeft → (folder : Folder) (store : Option (List ℕ)) → HoldsStore folder (option_map synced_file store) → bytes_under folder Store ≡ store
-reads-same reading held synced folder store holds = left-same held synced folder store holds (image_now folder) (reading folder)
 
 pub reads-stays : (store now : Option (List ℕ)) (s : Contents) (records dropped n : ℕ) (size : Option ℕ) → IsFound store s records dropped size → size ≡ Some n → now ≡ store → ReadsAfterOpening store s dropped now
 reads-stays None now s records dropped n size found is same = (let stays = found.stays n is in absurd (cc stays.2))

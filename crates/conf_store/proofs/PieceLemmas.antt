@@ -5,9 +5,9 @@ use Rattle.std.specs.List.{All, concat}
 use Rattle.std.proofs.lemmas.List.{append-nil, take-take, drop-take, length-take-le}
 use Rattle.std.proofs.lemmas.List.Folds.{concat-append}
 use Rattle.std.proofs.lemmas.List.Elements.{All-nil, All-cons, All-append, All-push}
-use Rattle.yaml_grammar.specs.Closings.{ends_line, ClosesAt, ClosesOnce, Pieces}
+use Rattle.yaml_grammar.specs.Closings.{ClosesAt, ClosesOnce, Pieces}
 use Rattle.yaml_laws.specs.Closed.{PieceBetween, RestUnclosed}
-use Rattle.yaml_docs.specs.NextClosing.{IsNextClosing, StartsLine, NoClosingBehind}
+use Rattle.yaml_docs.specs.NextClosing.{IsNextClosing, StartsLine, NoClosingAfter}
 
 -- bytes after others that have no rest
 pub pieces-joined : (a b : List ℕ) (ps qs : List (List ℕ)) (rest : List ℕ) → Pieces a ps [] → Pieces b qs rest → Pieces (a ++ b) (ps ++ qs) rest
@@ -53,25 +53,25 @@ apart bytes at place le =
     ∙ append_assoc (take at bytes) (slice_range bytes at place) (drop place bytes)
 
 closes-within : (bytes : List ℕ) (place : ℕ) → ClosesAt bytes place → place ≤ length bytes
-closes-within bytes place c = omega (arith, c.ends, ap length c.is, length-append c.before (codes "...\n" ++ c.behind), length-append (codes "...\n") c.behind)
+closes-within bytes place c = omega (arith, c.ends, ap length c.is, length-append c.before (codes "...\n" ++ c.after), length-append (codes "...\n") c.after)
 
 -- the next closing line ends one more piece
 pub further-piece : PieceBetween → (bytes : List ℕ) (at place : ℕ) (pieces : List (List ℕ)) → StartsLine bytes at → IsNextClosing bytes at place → SoFar bytes at pieces
     → SoFar bytes place (pieces ++ slice_range bytes at place ∷ [])
 further-piece piece_between bytes at place pieces starts next so_far =
-    let le : at ≤ place = omega (arith, next.behind) in
+    let le : at ≤ place = omega (arith, next.after) in
     let within = closes-within bytes place next.closes in
     let piece = slice_range bytes at place in
     let is = apart bytes at place le in
-    let front : length (take at bytes) ≡ at = length-take-le at bytes starts.within in
+    let prefix : length (take at bytes) ≡ at = length-take-le at bytes starts.within in
     let upto : length (take place bytes) ≡ place = length-take-le place bytes within in
     let size : length (take at bytes) + length piece ≡ place =
     sym (length-append (take at bytes) piece) ∙ ap length (sym (take-further bytes at place le)) ∙ upto in
-    let some : 0 < length piece = omega (arith, size, front, next.behind) in
+    let some : 0 < length piece = omega (arith, size, prefix, next.after) in
     let closes = piece_between (take at bytes) piece (drop place bytes) starts.line some
     (subst (λ b. ClosesAt b (length (take at bytes) + length piece)) is (subst (λ p. ClosesAt bytes p) (sym size) next.closes))
-    (λ other behind c.
-    (let first = next.first other (omega (arith, behind, front)) (subst (λ b. ClosesAt b other) (sym is) c) in omega (arith, first, size))) in
+    (λ other after c.
+    (let first = next.first other (omega (arith, after, prefix)) (subst (λ b. ClosesAt b other) (sym is) c) in omega (arith, first, size))) in
     record {
       joined = take-further bytes at place le ∙ ap (λ l. l ++ piece) so_far.joined
           ∙ sym (concat-append pieces (piece ∷ []) ∙ ap (λ l. concat pieces ++ l) (append-nil piece));
@@ -79,14 +79,14 @@ further-piece piece_between bytes at place pieces starts next so_far =
     }
 
 -- if there is no further closing line, the other bytes are the rest
-pub no-further-piece : RestUnclosed → (bytes : List ℕ) (at : ℕ) (pieces : List (List ℕ)) → StartsLine bytes at → NoClosingBehind bytes at → SoFar bytes at pieces
+pub no-further-piece : RestUnclosed → (bytes : List ℕ) (at : ℕ) (pieces : List (List ℕ)) → StartsLine bytes at → NoClosingAfter bytes at → SoFar bytes at pieces
     → Pieces bytes pieces (drop at bytes)
 no-further-piece rest_unclosed bytes at pieces starts none so_far =
     let is = take-append-drop at bytes in
-    let front : length (take at bytes) ≡ at = length-take-le at bytes starts.within in
+    let prefix : length (take at bytes) ≡ at = length-take-le at bytes starts.within in
     record {
       joined = sym is ∙ ap (λ l. l ++ drop at bytes) so_far.joined;
       closed = so_far.closed;
       unclosed = rest_unclosed (take at bytes) (drop at bytes) starts.line
-          (λ place behind c. none place (omega (arith, behind, front)) (subst (λ b. ClosesAt b place) is c));
+          (λ place after c. none place (omega (arith, after, prefix)) (subst (λ b. ClosesAt b place) is c));
     }

@@ -1,11 +1,11 @@
 -- Reading a store's bytes piece by piece.
-use Rattle.std.proofs.Common.{◌≡◌, ◌⊎◌, inl, inr, refl, sym, ◌∙◌, ap, subst, arith, ◌<◌, ◌≤◌, length-append, append_assoc, take-append-drop}
+use Rattle.std.proofs.Common.{◌≡◌, ◌⊎◌, inl, inr, refl, sym, ◌∙◌, ap, subst, arith, ◌≤◌, length-append, append_assoc, take-append-drop}
 use Rattle.std.specs.Prelude.{ℕ, ◌+◌, ◌-◌, suc, List, [], ◌∷◌, ◌++◌, length, take, drop, slice_range, true, Ok, Err}
 use Rattle.std.specs.List.{concat}
 use Rattle.std.proofs.lemmas.List.{append-nil}
-use Rattle.yaml_grammar.specs.Closings.{ClosesOnce, Pieces}
+use Rattle.yaml_grammar.specs.Closings.{Pieces}
 use Rattle.yaml_laws.specs.Closed.{PieceBetween, RestUnclosed, SomePieces}
-use Rattle.yaml_docs.specs.NextClosing.{IsNextClosing, StartsLine, NoClosingBehind}
+use Rattle.yaml_docs.specs.NextClosing.{IsNextClosing, StartsLine, NoClosingAfter}
 use Rattle.conf_record.specs.Commands.{Command}
 use Rattle.conf_record.specs.States.{Contents}
 use Rattle.conf_record.specs.Steps.{step}
@@ -55,15 +55,15 @@ next-read piece_between bytes at place s end records command starts next read is
       counted = length-append read.pieces (piece ∷ []) ∙ omega (arith, read.counted);
     }
 
-pub all-read : RestUnclosed → (bytes : List ℕ) (at : ℕ) (s : Contents) (records : ℕ) → StartsLine bytes at → NoClosingBehind bytes at → ReadSoFar bytes at s records
+pub all-read : RestUnclosed → (bytes : List ℕ) (at : ℕ) (s : Contents) (records : ℕ) → StartsLine bytes at → NoClosingAfter bytes at → ReadSoFar bytes at s records
     → (dropped : ℕ) → length (drop at bytes) ≡ dropped → RecoversTo bytes s records dropped
-all-read rest_unclosed bytes at s records starts none read dropped behind = record {
+all-read rest_unclosed bytes at s records starts none read dropped after = record {
   pieces = read.pieces;
   rest = drop at bytes;
   cut = no-further-piece rest_unclosed bytes at read.pieces starts none read.so_far;
   mean = read.mean;
   counted = read.counted;
-  behind = behind;
+  after = after;
 }
 
 -- ---- bytes that mean no state
@@ -73,11 +73,11 @@ pub pieces-all : SomePieces → (bytes : List ℕ) (at : ℕ) (pieces : List (Li
     → (further : List (List ℕ)) × (rest : List ℕ) × Pieces bytes (pieces ++ further) rest
 pieces-all some bytes at pieces so_far =
     let left = some (drop at bytes) in
-    let front : Pieces (take at bytes) pieces [] = record { joined = so_far.joined ∙ sym (append-nil (concat pieces)); closed = so_far.closed; unclosed = no_closing } in
-    let all = pieces-joined (take at bytes) (drop at bytes) pieces left.0 left.1 front left.2 in
+    let prefix : Pieces (take at bytes) pieces [] = record { joined = so_far.joined ∙ sym (append-nil (concat pieces)); closed = so_far.closed; unclosed = no_closing } in
+    let all = pieces-joined (take at bytes) (drop at bytes) pieces left.0 left.1 prefix left.2 in
     (left.0, left.1, subst (λ b. Pieces b (pieces ++ left.0) left.1) (take-append-drop at bytes) all)
 
-pub no-closing-no-base : RestUnclosed → (bytes : List ℕ) → StartsLine bytes 0 → NoClosingBehind bytes 0 → HasNoBase bytes
+pub no-closing-no-base : RestUnclosed → (bytes : List ℕ) → StartsLine bytes 0 → NoClosingAfter bytes 0 → HasNoBase bytes
 no-closing-no-base rest_unclosed bytes starts none = record {
   pieces = [];
   rest = bytes;
@@ -181,7 +181,7 @@ recovers-means bytes s records dropped r short = record { short = short; pieces 
 
 pub recovers-whole : (bytes : List ℕ) (s : Contents) (records dropped : ℕ) → RecoversTo bytes s records dropped → dropped ≡ 0 → IsWholeStore bytes s
 recovers-whole bytes s records dropped r none =
-    let empty : r.rest ≡ [] = length-none r.rest (r.behind ∙ none) in
+    let empty : r.rest ≡ [] = length-none r.rest (r.after ∙ none) in
     record { pieces = r.pieces; cut = subst (λ rest. Pieces bytes r.pieces rest) empty r.cut; mean = r.mean }
   where
     length-none : (rest : List ℕ) → length rest ≡ 0 → rest ≡ []

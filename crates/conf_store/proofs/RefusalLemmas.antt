@@ -1,6 +1,6 @@
 -- The faults of a command on a state, and what a store makes of them.
 use Rattle.std.proofs.Common.{◌≡◌, ◌⊎◌, inl, inr, refl, subst}
-use Rattle.std.specs.Prelude.{Bool, Result, Ok, Err}
+use Rattle.std.specs.Prelude.{Bool, Err}
 use Rattle.conf_record.specs.Commands.{Command}
 use Rattle.conf_record.specs.States.{Contents}
 use Rattle.conf_record.specs.Steps.{step, IsRefusal}

@@ -1,6 +1,6 @@
 -- Commands that are accepted: the journal has room for them, and the next number is the count plus one.
-use Rattle.std.proofs.Common.{◌≡◌, sym, ◌∙◌, ap, arith, ◌≤◌}
-use Rattle.std.specs.Prelude.{ℕ, true, ◌+◌, Bool, Ok}
+use Rattle.std.proofs.Common.{◌≡◌, sym, ◌∙◌, ap, arith}
+use Rattle.std.specs.Prelude.{true, ◌+◌, Bool, Ok}
 use Rattle.conf_record.specs.Commands.{Command}
 use Rattle.conf_record.specs.States.{Contents}
 use Rattle.conf_record.specs.Limits.{IsState}

@@ -1,10 +1,10 @@
 -- What an open store keeps on its disk, and what a crash during its calls leaves.
-use Rattle.std.proofs.Common.{◌≡◌, ◌⊎◌, inl, inr, refl, sym, ◌∙◌, ap, subst, arith, ◌<◌, ◌≤◌, append_assoc, length-append}
-use Rattle.std.specs.Prelude.{ℕ, true, false, ◌+◌, min, Bool, nat_le, nat_lt, List, [], ◌∷◌, ◌++◌, length, Option, Some, None, option_map, Result, Ok, Err}
+use Rattle.std.proofs.Common.{◌≡◌, ◌⊎◌, refl, sym, ◌∙◌, ap, subst, arith, ◌≤◌, length-append}
+use Rattle.std.specs.Prelude.{ℕ, true, ◌+◌, Bool, nat_le, List, [], ◌∷◌, ◌++◌, length, Option, Some, None, option_map, Ok, Err}
 use Rattle.std.proofs.lemmas.List.{append-nil}
-use Rattle.yaml_grammar.specs.Closings.{ClosesOnce, Pieces}
-use Rattle.conf_disk.specs.Folder.{File, Folder, appended, synced_whole}
-use Rattle.conf_disk.specs.Image.{Image, IsImage, IsTorn, synced_file}
+use Rattle.yaml_grammar.specs.Closings.{ClosesOnce}
+use Rattle.conf_disk.specs.Folder.{Folder, appended, synced_whole}
+use Rattle.conf_disk.specs.Image.{Image, IsImage, synced_file}
 use Rattle.conf_disk.specs.Moments.{LeavesOnly}
 use Rattle.conf_disk.proofs.Moments.{LeavesOnly-start, LeavesOnly-weaker}
 use Rattle.conf_journal.specs.Held.{HoldsStore, IsLeftOf, SyncedIsLeft}
@@ -12,8 +12,8 @@ use Rattle.conf_journal.specs.Store.{IsStoreOf, store_limit}
 use Rattle.conf_record.specs.Commands.{Command}
 use Rattle.conf_record.specs.States.{Contents, count_limit}
 use Rattle.conf_record.specs.Limits.{IsState}
-use Rattle.conf_record.specs.Steps.{step, after}
-use Rattle.conf_pieces.specs.Documents.{IsRecord, IsBase, record_pieces, records_bytes, BasesAreRead, BasesClose, BasesFit, RecordsAreRead, RecordsClose, RecordsTear}
+use Rattle.conf_record.specs.Steps.{step}
+use Rattle.conf_pieces.specs.Documents.{IsRecord, IsBase, BasesAreRead, BasesClose, BasesFit, RecordsAreRead, RecordsClose, RecordsTear}
 use Rattle.conf_record.specs.BaseTexts.{base_bytes}
 use Rattle.conf_record.specs.Records.{record_bytes}
 use Rattle.conf_record.specs.RecordsRead.{IsCommand}
@@ -22,7 +22,7 @@ use Rattle.conf_record.specs.declared.fault.StoreFault.{StoreFault}
 use Rattle.conf_store.specs.Accepting.{IsAccepted, IsBaseOf}
 use Rattle.conf_store.specs.Calls.{next_number, next_record, has_room, outcome}
 use Rattle.conf_store.proofs.StepLemmas.{StepsNeedRoom, StepsCount, accepted-anyway, accepted-number}
-use Rattle.conf_store.specs.Meaning.{PiecesMean, Means, FileMeans}
+use Rattle.conf_store.specs.Meaning.{FileMeans}
 use Rattle.conf_store.specs.Durable.{IsWholeStore, IsJournal, IsDurable, AllImagesMean}
 use Rattle.conf_store.proofs.MeaningLemmas.{whole-means, base-whole, record-whole, journal-left, after-one, after-done}
 
@@ -117,6 +117,7 @@ accepted need_room counts are_read close s new command fits bytes size kept kept
     record {
       outcome = ap (step s command) (sym (room-is size s command fits bytes room is)) ∙ done;
       done = accepted-anyway need_room s new command fits done;
+      kept = kept_new;
       count = counts s new command fits done;
       number = number;
       is = is;

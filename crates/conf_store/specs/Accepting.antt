@@ -4,6 +4,7 @@ use Rattle.yaml_grammar.specs.Closings.{ClosesOnce}
 use Rattle.conf_journal.specs.Store.{store_limit}
 use Rattle.conf_record.specs.Commands.{Command}
 use Rattle.conf_record.specs.States.{Contents}
+use Rattle.conf_record.specs.Limits.{IsState}
 use Rattle.conf_record.specs.Steps.{step}
 use Rattle.conf_record.specs.declared.fault.StoreFault.{StoreFault}
 use Rattle.conf_record.specs.declared.fault.StoreFault.TheVariants.{Reopen, Device}
@@ -11,11 +12,12 @@ use Rattle.conf_pieces.specs.Documents.{IsRecord, IsBase}
 use Rattle.conf_record.specs.BaseTexts.{base_bytes}
 use Rattle.conf_store.specs.Calls.{outcome, next_number, next_record}
 
--- The command leads from `s` to `new`, a file of `size` bytes has room for its record, and the bytes are that record: one closed
--- piece, which reads as the command with the next number.
+-- The command leads from `s` to `new`, which keeps its limits; a file of `size` bytes has room for its record, and the bytes are
+-- that record: one closed piece, which reads as the command with the next number.
 pub record IsAccepted (s : Contents) (command : Command) (new : Contents) (size : ℕ) (bytes : List ℕ) : Type 0 where
   pub outcome : outcome size s command ≡ Ok new
   pub done : step s command true ≡ Ok new
+  pub kept : IsState new
   pub count : new.count ≡ s.count + 1
   pub number : next_number s ≡ s.count + 1
   pub is : bytes ≡ next_record s command

@@ -1,5 +1,5 @@
 -- What the calls of an open store return, and how they change it.
-use Rattle.std.specs.Prelude.{◌≡◌, ◌≢◌, ◌⊎◌, ℕ, ◌+◌, ◌<◌, ◌≤◌, min, Bool, true, false, nat_le, if◌then◌else◌, List, length, Result, Ok, Err}
+use Rattle.std.specs.Prelude.{◌≡◌, ◌⊎◌, ℕ, ◌+◌, ◌<◌, ◌≤◌, min, Bool, false, nat_le, if◌then◌else◌, List, length, Result, Ok, Err}
 use Rattle.conf_disk.specs.Moments.{greatest}
 use Rattle.conf_journal.specs.Store.{store_limit}
 use Rattle.conf_record.specs.Commands.{Command}
@@ -21,6 +21,11 @@ next_number s = min (s.count + 1) count_limit
 -- the bytes of the next command's record
 abbrev pub next_record : Contents → Command → List ℕ
 next_record s command = record_bytes command (next_number s)
+
+-- It is as long as the record with the number after the count, also at the greatest count.
+abbrev pub RecordsAreMeasured : Type 0
+RecordsAreMeasured = (s : Contents) (command : Command) → s.count ≤ count_limit
+    → length (next_record s command) ≡ length (record_bytes command (s.count + 1))
 
 -- whether a `store.yaml` of `size` bytes has room for the command's record
 abbrev pub has_room : ℕ → Contents → Command → Bool

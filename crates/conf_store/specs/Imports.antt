@@ -1,5 +1,5 @@
 -- What an import returns, and how it changes a store.
-use Rattle.std.specs.Prelude.{◌≡◌, ◌≢◌, ◌⊎◌, ℕ, true, false, List, Option}
+use Rattle.std.specs.Prelude.{◌≡◌, ◌≢◌, ℕ, true, false, List, Option}
 use Rattle.yaml_grammar.specs.Trees.{Tree}
 use Rattle.yaml_tree.specs.Reading.{IsRead, Refuses}
 use Rattle.yaml_docs.specs.declared.fault.ReadFault.TheVariants as read_faults

@@ -1,5 +1,5 @@
 -- What opening finds, and why it is refused.
-use Rattle.std.specs.Prelude.{◌≡◌, ◌≢◌, ◌≤◌, ◌⊎◌, ◌<◌, ℕ, ◌+◌, zero, suc, List, [], ◌∷◌, ◌++◌, length, true, Option, Some, None, Result, Ok, Err}
+use Rattle.std.specs.Prelude.{◌≡◌, ◌≢◌, ◌≤◌, ◌⊎◌, ◌<◌, ℕ, ◌+◌, zero, suc, List, ◌∷◌, ◌++◌, length, true, Option, Some, None, Result, Ok, Err}
 use Rattle.yaml_grammar.specs.Closings.{Pieces}
 use Rattle.conf_journal.specs.Store.{store_limit}
 use Rattle.conf_record.specs.Commands.{Command}
@@ -22,7 +22,7 @@ pub record RecoversTo (bytes : List ℕ) (s : Contents) (records dropped : ℕ) 
   pub cut : Pieces bytes pieces rest
   pub mean : PiecesMean pieces s
   pub counted : length pieces ≡ suc records
-  pub behind : length rest ≡ dropped
+  pub after : length rest ≡ dropped
 
 -- the same of `store.yaml`; a missing file is the empty state, without records
 abbrev pub FileRecoversTo : Option (List ℕ) → Contents → ℕ → ℕ → Type 0

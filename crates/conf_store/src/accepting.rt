@@ -10,7 +10,8 @@ use conf_pieces::{documents_are_read, documents_close, record_text};
 use conf_record::{Command, State, StoreFault, step, steps_are_counted_or_refused};
 use std::alloc::Global;
 
-/// Performs a command on the state of a store whose file has `size` bytes, and returns the command's record.
+/// Performs a command on the state of a store whose file has `size` bytes. Returns the command's record and the new
+/// count.
 ///
 /// # Errors
 /// As [`step`], with the state unchanged.
@@ -19,12 +20,14 @@ pub fn accept(
     state: &mut State,
     command: Command,
     size: u64,
-) -> Result<String, StoreFault>
+) -> Result<(String, u64), StoreFault>
     requires { size ≤ store_limit }
-    ensures ok { IfOk result (λ text.
-        IsAccepted state.old (command_of command) state.new size (string_bytes text)) }
+    ensures ok { IfOk result (λ r.
+        IsAccepted state.old (command_of command) state.new size (string_bytes r.0)
+        × (r.1 ≡ state.new.count)) }
     ensures refused { IfErr result (λ fault.
-        (fault ≡ StoreFault.OutOfMemory) ⊎ (outcome size state.old (command_of command) ≡ Err fault)) }
+        (fault ≡ StoreFault.OutOfMemory) ⊎ (outcome size state.old (command_of command)
+        ≡ Err fault)) }
     ensures of_state { IfErr result IsOfState }
     ensures unchanged { OnErr result (state.new ≡ state.old) }
 {
@@ -36,10 +39,7 @@ pub fn accept(
     let record = record_text(alloc, &command, number)?;
     let fits = size + record.len() as u64 <= STORE_LIMIT;
     match step(alloc, state, command, fits) {
-        Ok(()) => {
-            let _ = state.count();
-            Ok(record)
-        }
+        Ok(()) => Ok((record, state.count())),
         Err(fault) => Err(fault),
     }
 }

@@ -1,4 +1,5 @@
 // Laws of the definitions.
+ghost use Rattle.conf_store.specs.Calls.{RecordsAreMeasured};
 ghost use Rattle.conf_store.specs.Lives.{LivesHold};
 ghost use Rattle.conf_store.specs.Opens.{OneMeaning, RefusedMeansNothing, RecoveredIsMeant};
 
@@ -30,3 +31,10 @@ pub fn bytes_mean_one_state()
     documents_are_read();
     one_list_of_pieces();
 }
+
+/// The record that is made for a command, to be measured and then appended, is as long as the record with the number
+/// after the count. At the greatest count no number comes after it, so the record is made with the count itself; both
+/// numbers have 20 digits.
+pub fn records_are_measured()
+    ensures { RecordsAreMeasured }
+{}

@@ -14,6 +14,6 @@ mod recovery;
 mod store;
 
 pub use fault::OpenFault;
-pub use laws::{bytes_mean_one_state, lives_hold};
+pub use laws::{bytes_mean_one_state, lives_hold, records_are_measured};
 pub use recovery::Opened;
 pub use store::Store;

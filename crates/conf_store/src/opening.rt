@@ -5,6 +5,7 @@ ghost use Rattle.conf_disk.specs.Image.{IsImage, synced_file};
 ghost use Rattle.conf_disk.specs.Moments.{LeavesOnly};
 ghost use Rattle.conf_journal.specs.Held.{HoldsStore};
 ghost use Rattle.conf_journal.specs.Store.{store_limit};
+ghost use Rattle.conf_record.specs.Limits.{IsState};
 ghost use Rattle.conf_store.specs.Calls.{HasFailed};
 ghost use Rattle.conf_store.specs.Opens.{IsFound, RefusesOpening};
 
@@ -30,13 +31,16 @@ pub fn find_store<D: Disk>(alloc: Global, disk: &mut D) -> Result<Found, OpenFau
     ensures ok { D.honest → IfOk result (λ found.
         IsFound (bytes_under (D.folder disk.old) Name.Store)
         found.state found.opened.commands found.opened.dropped found.size) }
-    // This holds also if the disk isn't honest.
+    // These hold also if the disk isn't honest.
+    ensures limits { IfOk result (λ found. IsState found.state) }
     ensures bound { IfOk result (λ found. IfSome found.size (λ n. n ≤ store_limit)) }
     ensures refused { D.honest → IfErr result (λ fault.
         RefusesOpening fault (bytes_under (D.folder disk.old) Name.Store)) }
     ensures holds { D.honest →
-        OnOk result (HoldsStore (D.folder disk.new) (option_map synced_file (bytes_under (D.folder disk.old) Name.Store))) }
-    ensures any_moment { D.honest → LeavesOnly D.moment D.left disk.old disk.new (IsImage (D.folder disk.old)) }
+        OnOk result (HoldsStore (D.folder disk.new)
+        (option_map synced_file (bytes_under (D.folder disk.old) Name.Store))) }
+    ensures any_moment { D.honest → LeavesOnly D.moment D.left disk.old disk.new
+        (IsImage (D.folder disk.old)) }
     ensures cause { IsErrOf result OpenFault.Device →
         HasFailed (D.failure_count disk.old) (D.failure_count disk.new) }
     ensures risen { D.failure_count disk.old ≤ D.failure_count disk.new }

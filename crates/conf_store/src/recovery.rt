@@ -1,5 +1,6 @@
 // Reading the state that bytes mean.
 ghost use Rattle.std.specs.Prelude.{◌≡◌, ◌≢◌, ◌⊎◌, OnOk, IfOk, IfErr};
+ghost use Rattle.conf_record.specs.Limits.{IsState};
 ghost use Rattle.conf_store.specs.Opens.{RecoversTo, RefusesBytes, IsNextRecord, IsNoNextRecord};
 
 use crate::OpenFault;
@@ -20,7 +21,9 @@ pub struct Opened {
 
 /// Reads the state that the bytes mean.
 pub fn recover(alloc: Global, bytes: &[u8]) -> Result<(State, Opened), OpenFault>
-    ensures ok { IfOk result (λ found. RecoversTo bytes.now found.0 found.1.commands found.1.dropped) }
+    ensures ok { IfOk result (λ found.
+        RecoversTo bytes.now found.0 found.1.commands found.1.dropped) }
+    ensures limits { IfOk result (λ found. IsState found.0) }
     ensures refused { IfErr result (RefusesBytes bytes.now) }
 {
     piece_between_closings();
@@ -45,7 +48,8 @@ pub fn recover(alloc: Global, bytes: &[u8]) -> Result<(State, Opened), OpenFault
     Ok((state, Opened { commands, dropped }))
 }
 
-/// Performs the command of the piece after the base that has this number, if it is the next record.
+/// Performs the command of the piece after the base that has this number, if it is the next record: the count after
+/// the command is the record's number.
 fn perform_record(
     alloc: Global,
     state: &mut State,
@@ -53,6 +57,7 @@ fn perform_record(
     number: u64,
 ) -> Result<(), OpenFault>
     ensures ok { OnOk result (IsNextRecord piece.now state.old state.new) }
+    ensures limits { OnOk result (IsState state.new) }
     ensures refused { IfErr result (λ fault. (fault ≡ OpenFault.OutOfMemory)
         ⊎ ((fault ≡ OpenFault.Damaged number) × IsNoNextRecord piece.now state.old)) }
 {
@@ -60,18 +65,17 @@ fn perform_record(
     let Some((command, told)) = read_record(alloc, piece)? else {
         return Err(OpenFault::Damaged { number });
     };
-    if u128::from(told) != u128::from(state.count()) + 1 {
-        return Err(OpenFault::Damaged { number });
-    }
     match step(alloc, state, command, true) {
-        Ok(()) => Ok(()),
+        Ok(()) if state.count() == told => Ok(()),
+        Ok(()) => Err(OpenFault::Damaged { number }),
         Err(fault) => Err(refusal(fault, number)),
     }
 }
 
 /// The fault of opening for a command that is refused in the piece of this number.
 fn refusal(fault: StoreFault, number: u64) -> OpenFault
-    ensures { (result ≡ OpenFault.OutOfMemory) ⊎ ((result ≡ OpenFault.Damaged number) × (fault ≢ StoreFault.OutOfMemory)) }
+    ensures { (result ≡ OpenFault.OutOfMemory) ⊎ ((result ≡ OpenFault.Damaged number)
+        × (fault ≢ StoreFault.OutOfMemory)) }
 {
     match fault {
         StoreFault::OutOfMemory => OpenFault::OutOfMemory,

@@ -7,6 +7,7 @@ ghost use Rattle.conf_disk.specs.Moments.{LeavesOnly};
 ghost use Rattle.conf_journal.specs.Store.{extended};
 ghost use Rattle.conf_record.specs.Commands.{command_of};
 ghost use Rattle.conf_record.specs.Names.{good_name};
+ghost use Rattle.conf_record.specs.Limits.{IsState};
 ghost use Rattle.conf_record.specs.States.{names_of};
 ghost use Rattle.conf_record.specs.BaseTexts.{base_bytes};
 ghost use Rattle.conf_store.specs.Meaning.{FileMeans};
@@ -21,7 +22,7 @@ use crate::opening::{Found, find_store};
 use crate::recovery::Opened;
 use crate::{OpenFault, bytes_mean_one_state};
 use conf_disk::{Disk, DiskFault, Name, reading_is_an_image};
-use conf_journal::{append_closed, held_store_is_left};
+use conf_journal::{append_closed, held_store_is_left, held_store_is_the_only_one};
 use conf_pieces::{documents_are_read, documents_close};
 use conf_record::{Command, Names, State, StoreFault, good_name};
 use std::alloc::Global;
@@ -55,6 +56,7 @@ pub struct Store<D: Disk> {
 impl<D: Disk> Model for Store<D> {
     ghost use Rattle.std.specs.Prelude.{◌≡◌, ◌≤◌, false};
     ghost use Rattle.conf_journal.specs.Store.{store_limit};
+    ghost use Rattle.conf_record.specs.Limits.{IsState};
     ghost use Rattle.conf_store.specs.Durable.{IsDurable};
     ghost use Rattle.conf_store.specs.View.{StoreView, store_view_code};
 
@@ -64,7 +66,7 @@ impl<D: Disk> Model for Store<D> {
 
     ghost view = { λ s. record { disk = s.disk; state = s.state; size = s.size; reopen = s.reopen } };
 
-    ghost invariant = { λ s. (s.size ≤ store_limit) × (D.honest → s.reopen ≡ false → IsDurable (D.folder s.disk) s.state s.size) };
+    ghost invariant = { λ s. (s.size ≤ store_limit) × IsState s.state × (D.honest → s.reopen ≡ false → IsDurable (D.folder s.disk) s.state s.size) };
 }
 
 impl<D: Disk> Store<D> {
@@ -82,9 +84,11 @@ impl<D: Disk> Store<D> {
     /// they were; such a file means nothing. `Device` and `OutOfMemory` may come at any point.
     pub fn open(alloc: Global, disk: D) -> Result<(Store<D>, Opened), (D, OpenFault)>
         ensures found { D.honest → IfOk result (λ r.
-            FileRecoversTo (bytes_under (D.folder disk) Name.Store) r.0.state r.1.commands r.1.dropped) }
+            FileRecoversTo (bytes_under (D.folder disk) Name.Store)
+            r.0.state r.1.commands r.1.dropped) }
         // The state is what `store.yaml` means.
-        ensures means { D.honest → IfOk result (λ r. FileMeans (bytes_under (D.folder disk) Name.Store) r.0.state) }
+        ensures means { D.honest → IfOk result (λ r.
+            FileMeans (bytes_under (D.folder disk) Name.Store) r.0.state) }
         ensures no_reopen { IfOk result (λ r. r.0.reopen ≡ false) }
         ensures reads { D.honest → IfOk result (λ r.
             ReadsAfterOpening (bytes_under (D.folder disk) Name.Store) r.0.state r.1.dropped
@@ -105,6 +109,7 @@ impl<D: Disk> Store<D> {
         documents_are_read();
         bytes_mean_one_state();
         held_store_is_left();
+        held_store_is_the_only_one();
         one_list_of_pieces();
         reading_is_an_image();
         let mut disk = disk;
@@ -148,7 +153,8 @@ impl<D: Disk> Store<D> {
         ensures ok { IfOk result (λ count.
             Accepts self.old (command_of command) self.new × (count ≡ self.new.state.count)) }
         ensures refused { IfErr result (RefusesCommand self.old (command_of command) self.new) }
-        ensures unchanged { IfErr result (λ fault. fault ≢ StoreFault.Device → self.new ≡ self.old) }
+        ensures unchanged { IfErr result (λ fault.
+            fault ≢ StoreFault.Device → self.new ≡ self.old) }
         ensures device { IsErrOf result StoreFault.Device → self.new.reopen ≡ true }
         ensures cause { IsErrOf result StoreFault.Device →
             HasFailed (D.failure_count self.old.disk) (D.failure_count self.new.disk) }
@@ -171,14 +177,14 @@ impl<D: Disk> Store<D> {
         if self.reopen {
             return Err(StoreFault::Reopen);
         }
-        let record = match accept(self.alloc, &mut self.state, command, self.size) {
-            Ok(record) => record,
+        let (record, count) = match accept(self.alloc, &mut self.state, command, self.size) {
+            Ok(accepted) => accepted,
             Err(fault) => return Err(fault),
         };
         match append_closed(&mut self.disk, record.as_bytes()) {
             Ok(()) => {
                 self.size += record.len() as u64;
-                Ok(self.state.count())
+                Ok(count)
             }
             Err(_) => {
                 self.reopen = true;
@@ -200,7 +206,8 @@ impl<D: Disk> Store<D> {
         ensures bad_name { self.old.reopen ≡ false → good_name (chars name.now) ≡ false
             → result ≡ Err StoreFault.BadName }
         ensures refused { IfErr result (RefusesImport self.old (chars name.now) text.now self.new) }
-        ensures unchanged { IfErr result (λ fault. fault ≢ StoreFault.Device → self.new ≡ self.old) }
+        ensures unchanged { IfErr result (λ fault.
+            fault ≢ StoreFault.Device → self.new ≡ self.old) }
         ensures device { IsErrOf result StoreFault.Device → self.new.reopen ≡ true }
         ensures cause { IsErrOf result StoreFault.Device →
             HasFailed (D.failure_count self.old.disk) (D.failure_count self.new.disk) }
@@ -243,10 +250,13 @@ impl<D: Disk> Store<D> {
     /// again.
     pub fn checkpoint(&mut self) -> Result<(), StoreFault>
         ensures reopen { IsErrOf result StoreFault.Reopen ↔ (self.old.reopen ≡ true) }
-        ensures ok { OnOk result ((self.new.reopen ≡ false) × (self.new.size ≡ length (base_bytes self.old.state))) }
+        ensures ok { OnOk result ((self.new.reopen ≡ false)
+            × (self.new.size ≡ length (base_bytes self.old.state))) }
         ensures refused { IfErr result (λ fault.
-            (fault ≡ StoreFault.Reopen) ⊎ (fault ≡ StoreFault.Device) ⊎ (fault ≡ StoreFault.OutOfMemory)) }
-        ensures unchanged { IfErr result (λ fault. fault ≢ StoreFault.Device → self.new ≡ self.old) }
+            (fault ≡ StoreFault.Reopen) ⊎ (fault ≡ StoreFault.Device)
+            ⊎ (fault ≡ StoreFault.OutOfMemory)) }
+        ensures unchanged { IfErr result (λ fault.
+            fault ≢ StoreFault.Device → self.new ≡ self.old) }
         ensures state { self.new.state ≡ self.old.state }
         ensures device { IsErrOf result StoreFault.Device → self.new.reopen ≡ true }
         ensures cause { IsErrOf result StoreFault.Device →
@@ -254,10 +264,12 @@ impl<D: Disk> Store<D> {
         // The device's failures never fall.
         ensures risen { D.failure_count self.old.disk ≤ D.failure_count self.new.disk }
         ensures reads { D.honest →
-            OnOk result (bytes_under (D.folder self.new.disk) Name.Store ≡ Some (base_bytes self.old.state)) }
+            OnOk result (bytes_under (D.folder self.new.disk) Name.Store
+            ≡ Some (base_bytes self.old.state)) }
         // A crash at any moment of the call leaves the state.
         ensures any_moment { D.honest → self.old.reopen ≡ false →
-            LeavesOnly D.moment D.left self.old.disk self.new.disk (λ image. FileMeans image.store self.old.state) }
+            LeavesOnly D.moment D.left self.old.disk self.new.disk (λ image.
+            FileMeans image.store self.old.state) }
         // From its return on, whatever a crash leaves means the state, unless the store has to be opened again.
         ensures now { D.honest → self.new.reopen ≡ false →
             AllImagesMean (D.folder self.new.disk) self.new.state }
@@ -284,9 +296,12 @@ impl<D: Disk> Store<D> {
     /// # Errors
     /// `BadName`, `NoConfig` and `OutOfMemory`.
     pub fn export(&self, name: &str) -> Result<String, StoreFault>
-        ensures ok { IfOk result (λ text. Exports self.now.state (chars name.now) (chars (string_bytes text))) }
+        ensures limits { OnOk result (IsState self.now.state) }
+        ensures ok { IfOk result (λ text.
+            Exports self.now.state (chars name.now) (chars (string_bytes text))) }
         ensures refused { IfErr result (λ fault.
-            (fault ≡ StoreFault.OutOfMemory) ⊎ (tree_named self.now.state (chars name.now) ≡ Err fault)) }
+            (fault ≡ StoreFault.OutOfMemory) ⊎ (tree_named self.now.state (chars name.now)
+            ≡ Err fault)) }
     {
         let config = self.config(name)?;
         Ok(style_text(self.alloc, config)?)
@@ -299,8 +314,10 @@ impl<D: Disk> Store<D> {
     /// # Errors
     /// `BadName`, `NoConfig`, and `Path` with the path's own fault.
     pub fn get(&self, name: &str, path: &Path) -> Result<&Tree, StoreFault>
-        ensures ok { IfOk result (λ tree. tree_at self.now.state (chars name.now) path.now ≡ Ok (tree_of tree.now)) }
-        ensures refused { IfErr result (λ fault. tree_at self.now.state (chars name.now) path.now ≡ Err fault) }
+        ensures ok { IfOk result (λ tree. tree_at self.now.state (chars name.now) path.now
+            ≡ Ok (tree_of tree.now)) }
+        ensures refused { IfErr result (λ fault. tree_at self.now.state (chars name.now) path.now
+            ≡ Err fault) }
     {
         let config = self.config(name)?;
         match at(config.tree(), path) {
@@ -314,8 +331,11 @@ impl<D: Disk> Store<D> {
     /// # Errors
     /// `BadName` and `NoConfig`.
     pub fn config(&self, name: &str) -> Result<&Config, StoreFault>
-        ensures ok { IfOk result (λ config. tree_named self.now.state (chars name.now) ≡ Ok (tree_of config.now)) }
-        ensures refused { IfErr result (λ fault. tree_named self.now.state (chars name.now) ≡ Err fault) }
+        ensures limits { OnOk result (IsState self.now.state) }
+        ensures ok { IfOk result (λ config. tree_named self.now.state (chars name.now)
+            ≡ Ok (tree_of config.now)) }
+        ensures refused { IfErr result (λ fault. tree_named self.now.state (chars name.now)
+            ≡ Err fault) }
     {
         if !good_name(name) {
             return Err(StoreFault::BadName);
@@ -328,14 +348,17 @@ impl<D: Disk> Store<D> {
 
     /// The names of the configurations, in order.
     pub fn names(&self) -> Names<'_>
-        ensures { result ≡ names_of self.now.state.configs }
+        ensures names { result ≡ names_of self.now.state.configs }
+        ensures limits { IsState self.now.state }
     {
         self.state.names()
     }
 
     /// The number of commands that were accepted since the store was made.
     pub fn count(&self) -> u64
-        ensures { result ≡ self.now.state.count }
+        ensures count { result ≡ self.now.state.count }
+        // The state of a store keeps its limits.
+        ensures limits { IsState self.now.state }
     {
         self.state.count()
     }
@@ -344,7 +367,8 @@ impl<D: Disk> Store<D> {
     pub fn needs_reopen(&self) -> bool
         ensures reopen { result ≡ self.now.reopen }
         // Unless it has to be, whatever a crash leaves means the state.
-        ensures now { D.honest → self.now.reopen ≡ false → AllImagesMean (D.folder self.now.disk) self.now.state }
+        ensures now { D.honest → self.now.reopen ≡ false
+            → AllImagesMean (D.folder self.now.disk) self.now.state }
     {
         held_store_is_left();
         self.reopen

@@ -1,4 +1,4 @@
-use Rattle.std.proofs.Common.{rules, ◌≡◌, ◌⊎◌, inl, inr, ⊎_elim, ℕ, ◌+◌, ◌≤◌, min, Bool, List, length, Ok, Err, refl, sym, ◌∙◌, ap, subst, arith}
+use Rattle.std.proofs.Common.{rules, ◌≡◌, inl, inr, ⊎_elim, ◌+◌, min, length, ◌∙◌, ap}
 use Rattle.std.specs.Prelude.{nat_le, string_bytes}
 use Rattle.conf_journal.specs.Store.{store_limit}
 use Rattle.conf_record.specs.Commands.{command_of}
@@ -16,10 +16,12 @@ returns-in-Ok-clause-ok c =
     let bytes = string_bytes c.in_ok-record.record in
     let is : bytes ≡ next_record s command =
     c.in_ok-record.ensures.bytes ∙ ap (record_bytes command) (c.saturating_add-number.ensures ∙ ap (λ n. min (n + 1) count_limit) c.count.ensures.count) in
-    let long : c.len.result ≡ length bytes = search rules in
-    accepted c.steps_are_counted_or_refused.ensures.room c.steps_are_counted_or_refused.ensures.count c.documents_are_read.ensures.records c.documents_close.ensures.records s c.step.new.state command _ bytes c.args.size
-    c.count.ensures.limits c.count-in-Ok.ensures.limits c.in_ok-record.ensures.kept c.in-Ok.ensures.ok is
-    (ap (λ n. nat_le (c.args.size + n) store_limit) long)
+    let long : c.len.result ≡ length bytes = search rules in (
+      accepted c.steps_are_counted_or_refused.ensures.room c.steps_are_counted_or_refused.ensures.count c.documents_are_read.ensures.records c.documents_close.ensures.records s c.step.new.state command _ bytes c.args.size
+          c.count.ensures.limits c.count-in-Ok.ensures.limits c.in_ok-record.ensures.kept c.in-Ok.ensures.ok is
+          (ap (λ n. nat_le (c.args.size + n) store_limit) long),
+      c.count-in-Ok.ensures.count,
+    )
 
 pub returns-in-Err-clause-refused : goal.returns-in-Err-clause-refused
 returns-in-Err-clause-refused c =

@@ -1,12 +1,8 @@
-use Rattle.std.proofs.Common.{rules, ◌≡◌, ◌⊎◌, inl, inr, ⊎_elim, ℕ, ◌≤◌, List, length, Some, None, Option, refl, sym, ◌∙◌, ap, subst, arith}
-use Rattle.std.proofs.lemmas.Result.{on_ok_weaker}
-use Rattle.conf_disk.specs.Folder.{bytes_under}
-use Rattle.conf_disk.specs.Image.{Image, IsImage, image_now}
-use Rattle.conf_disk.specs.Moments.{LeavesOnly}
+use Rattle.std.proofs.Common.{rules, ◌≡◌, ◌⊎◌, inl, inr, ⊎_elim, ◌≤◌, length, Some, refl, sym, ◌∙◌, ap, subst}
+use Rattle.conf_disk.specs.Image.{Image}
 use Rattle.conf_disk.proofs.Moments.{LeavesOnly-start, LeavesOnly-weaker}
 use Rattle.conf_journal.specs.Store.{IsStoreOf, store_limit}
 use Rattle.conf_record.specs.BaseTexts.{base_bytes}
-use Rattle.conf_store.specs.Accepting.{IsBaseOf}
 use Rattle.conf_store.specs.Durable.{IsDurable}
 use Rattle.conf_store.specs.Meaning.{FileMeans}
 use Rattle.conf_store.proofs.StoreLemmas.{base-of, base-durable, base-file-means}
@@ -33,7 +29,7 @@ returns-in-Ok-replace-clause-short g c =
     let bytes = c.as_bytes.result.now in
     let is : bytes ≡ base_bytes s = c.as_bytes.ensures.value ∙ c.in-Ok.ensures.bytes in
     let long : c.len.result ≡ length bytes = search rules in
-    let base = base-of c.documents_are_read.ensures.bases c.documents_close.ensures.bases c.documents_are_read.ensures.fit s bytes c.count.ensures.limits is in
+    let base = base-of c.documents_are_read.ensures.bases c.documents_close.ensures.bases c.documents_are_read.ensures.fit s bytes c.requires is in
     let short = base.short in
     subst (λ n. n ≤ store_limit) (sym long) short
 
@@ -43,7 +39,7 @@ returns-in-Ok-replace-clause-durable g c h =
     let s = c.args.state.now in
     let bytes = c.as_bytes.result.now in
     let is : bytes ≡ base_bytes s = c.as_bytes.ensures.value ∙ c.in-Ok.ensures.bytes in
-    let base = base-of c.documents_are_read.ensures.bases c.documents_close.ensures.bases c.documents_are_read.ensures.fit s bytes c.count.ensures.limits is in
+    let base = base-of c.documents_are_read.ensures.bases c.documents_close.ensures.bases c.documents_are_read.ensures.fit s bytes c.requires is in
     let long : c.len.result ≡ length bytes = search rules in
     subst (IsDurable (d.folder c.replace.new.disk) s) (sym long) (base-durable (d.folder c.replace.new.disk) s bytes base (c.in-Ok-replace.ensures.holds h))
 
@@ -59,7 +55,7 @@ returns-in-Ok-replace-clause-any_moment g c h =
     let s = c.args.state.now in
     let bytes = c.as_bytes.result.now in
     let is : bytes ≡ base_bytes s = c.as_bytes.ensures.value ∙ c.in-Ok.ensures.bytes in
-    let base = base-of c.documents_are_read.ensures.bases c.documents_close.ensures.bases c.documents_are_read.ensures.fit s bytes c.count.ensures.limits is in
+    let base = base-of c.documents_are_read.ensures.bases c.documents_close.ensures.bases c.documents_are_read.ensures.fit s bytes c.requires is in
     LeavesOnly-weaker d.moment d.left old c.replace.new.disk (λ image. IsStoreOf (d.folder old) image.store ⊎ (image.store ≡ Some bytes))
     (λ image. IsStoreOf (d.folder old) image.store ⊎ FileMeans image.store s) (c.replace.ensures.any_moment h)
     (λ image. ⊎_elim (λ was. inl was) (λ same. inr (base-file-means s bytes base image.store same)))
@@ -71,7 +67,7 @@ returns-clause-any_moment g c h =
     let s = c.args.state.now in
     let bytes = c.as_bytes.result.now in
     let is : bytes ≡ base_bytes s = c.as_bytes.ensures.value ∙ c.in-Ok.ensures.bytes in
-    let base = base-of c.documents_are_read.ensures.bases c.documents_close.ensures.bases c.documents_are_read.ensures.fit s bytes c.count.ensures.limits is in
+    let base = base-of c.documents_are_read.ensures.bases c.documents_close.ensures.bases c.documents_are_read.ensures.fit s bytes c.requires is in
     LeavesOnly-weaker d.moment d.left old c.replace.new.disk (λ image. IsStoreOf (d.folder old) image.store ⊎ (image.store ≡ Some bytes))
     (λ image. IsStoreOf (d.folder old) image.store ⊎ FileMeans image.store s) (c.replace.ensures.any_moment h)
     (λ image. ⊎_elim (λ was. inl was) (λ same. inr (base-file-means s bytes base image.store same)))

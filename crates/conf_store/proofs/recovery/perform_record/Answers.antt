@@ -1,6 +1,7 @@
-use Rattle.std.proofs.Common.{rules, inl, inr, ⊎_elim, refl, sym, ◌∙◌, ap, ◌≡◌, ◌⊎◌, ℕ, ◌+◌, arith}
+use Rattle.std.proofs.Common.{rules, inl, inr, ⊎_elim, refl, sym, ◌∙◌, ◌≡◌, ◌+◌, true, subst}
 use Rattle.conf_pieces.specs.Documents.{IsNoRecord, IsRecord}
 use Rattle.conf_record.specs.Commands.{command_of}
+use Rattle.conf_record.proofs.RunLaws.{step-one}
 use Rattle.conf_store.proofs.RecoveryLemmas.{no-next-refused, no-next-numbered}
 use Rattle.conf_store.proofs.recovery.perform_record.Goals as goal
 
@@ -9,13 +10,23 @@ returns-in_default-clause-refused c =
     let none : IsNoRecord c.args.piece.now = search rules in
     inr (refl, λ new next. none next.0 (c.args.state.now.count + 1) next.1)
 
-pub returns-then-from-clause-refused : goal.returns-then-from-clause-refused
-returns-then-from-clause-refused c =
-    let is : IsRecord c.args.piece.now (command_of c.in-Some.command) c.in-Some.told = search rules in
+pub returns-in-Ok-clause-ok : goal.returns-in-Ok-clause-ok
+returns-in-Ok-clause-ok c =
+    let s = c.args.state.now in
+    let command = command_of c.in-Some.command in
+    let is : IsRecord c.args.piece.now command c.in-Some.told = search rules in
+    let told : c.in-Some.told ≡ s.count + 1 = sym c.if-count-told.true ∙ c.count.ensures.count ∙ step-one s c.step.new.state command true c.in-Ok.ensures.ok in
+    (command, subst (IsRecord c.args.piece.now command) told is, c.in-Ok.ensures.ok)
+
+pub returns-in-Ok-2-clause-refused : goal.returns-in-Ok-2-clause-refused
+returns-in-Ok-2-clause-refused c =
+    let s = c.args.state.now in
+    let command = command_of c.in-Some.command in
+    let is : IsRecord c.args.piece.now command c.in-Some.told = search rules in
     inr (
       refl,
-      no-next-numbered c.documents_are_read.ensures.one_record c.args.piece.now c.args.state.now (command_of c.in-Some.command) c.in-Some.told is
-          (λ e. c.if-from.true (c.from.ensures ∙ e ∙ ap (λ n. n + 1) (sym (c.from-2.ensures ∙ c.count.ensures.count)))),
+      no-next-numbered c.documents_are_read.ensures.one_record c.args.piece.now s command c.in-Some.told is
+          (λ e. c.if-count-told.false (c.count.ensures.count ∙ step-one s c.step.new.state command true c.in-Ok.ensures.ok ∙ sym e)),
     )
 
 pub returns-in-Err-clause-refused : goal.returns-in-Err-clause-refused

@@ -1,12 +1,11 @@
-use Rattle.std.proofs.Common.{rules, ◌≡◌, ◌⊎◌, inl, inr, ⊎_elim, ℕ, ◌+◌, ◌≤◌, true, false, List, length, string_bytes, Some, Ok, Err, refl, sym, ◌∙◌, ap, subst, arith}
-use Rattle.conf_disk.specs.Image.{Image, IsImage, synced_file}
+use Rattle.std.proofs.Common.{rules, ◌≡◌, ◌⊎◌, inl, inr, ⊎_elim, ◌+◌, ◌≤◌, false, length, string_bytes, Some, Ok, Err, sym, ◌∙◌, ap, subst}
+use Rattle.conf_disk.specs.Image.{Image, synced_file}
 use Rattle.conf_disk.specs.Folder.{bytes_under}
 use Rattle.conf_disk.specs.Moments.{LeavesOnly}
 use Rattle.conf_disk.specs.declared.disk.Name.TheVariants.{Store}
 use Rattle.conf_journal.specs.Store.{store_limit, extended}
 use Rattle.conf_record.specs.Commands.{command_of}
-use Rattle.conf_record.specs.declared.fault.StoreFault.{StoreFault}
-use Rattle.conf_record.specs.declared.fault.StoreFault.TheVariants.{Reopen, Device, OutOfMemory}
+use Rattle.conf_record.specs.declared.fault.StoreFault.TheVariants.{Reopen, Device}
 use Rattle.conf_store.specs.Meaning.{FileMeans}
 use Rattle.conf_store.specs.Durable.{IsDurable}
 use Rattle.conf_store.specs.View.{StoreView}
@@ -43,26 +42,27 @@ returns-in-Err-clause-any_moment g c h on =
     let inside = c.self.inside in
     subst (λ (s : StoreView g.row.D.Denot). LeavesOnly d.moment d.left s.disk inside.disk (λ image. FileMeans image.store s.state ⊎ FileMeans image.store c.accept.new.state)) c.self.view_is
     (start-leaves d.folder d.moment d.left inside.disk inside.state inside.size (λ image. FileMeans image.store inside.state ⊎ FileMeans image.store c.accept.new.state)
-    c.held_store_is_left.ensures.synced (λ image left. g.met.D.Disk.only_now inside.disk image h left) (c.self.invariant.1 h c.if-self.false) (λ image is. inl is))
+    c.held_store_is_left.ensures.synced (λ image left. g.met.D.Disk.only_now inside.disk image h left) (c.self.invariant.2 h c.if-self.false) (λ image is. inl is))
 
 pub returns-in-Err-clause-now : goal.returns-in-Err-clause-now
 returns-in-Err-clause-now g c h on image is =
     let d = g.D.Disk in
     let inside = c.self.inside in
     subst (λ s. FileMeans image.store s) (sym c.in-Err.ensures.unchanged)
-    (durable-means c.held_store_is_left.ensures.synced (d.folder inside.disk) inside.state inside.size (c.self.invariant.1 h c.if-self.false) image is)
+    (durable-means c.held_store_is_left.ensures.synced (d.folder inside.disk) inside.state inside.size (c.self.invariant.2 h c.if-self.false) image is)
 
 pub invariant_of-self-in-Ok-append_closed : goal.invariant_of-self-in-Ok-append_closed
 invariant_of-self-in-Ok-append_closed g c =
     let d = g.D.Disk in
     let inside = c.self.inside in
     let bytes = c.as_bytes.result.now in
-    let ok = subst (λ b. IsAccepted inside.state (command_of c.args.command) c.accept.new.state inside.size b) (sym c.as_bytes.ensures.value) c.in-Ok.ensures.ok in
+    let ok = subst (λ b. IsAccepted inside.state (command_of c.args.command) c.accept.new.state inside.size b) (sym c.as_bytes.ensures.value) c.in-Ok.ensures.ok.0 in
     let long : c.len.result ≡ length bytes = search rules in
     let short = ok.short in (
       subst (λ n. inside.size + n ≤ store_limit) (sym long) short,
+      ok.kept,
       λ h on.
-          (let durable = c.self.invariant.1 h c.if-self.false in
+          (let durable = c.self.invariant.2 h c.if-self.false in
           subst (λ n. IsDurable (d.folder c.append_closed.new.disk) c.accept.new.state (inside.size + n)) (sym long)
           (append-durable (d.folder inside.disk) (d.folder c.append_closed.new.disk) inside.state c.accept.new.state (command_of c.args.command) bytes inside.size durable ok
           (c.in-Ok-append_closed.ensures.holds h (Some (synced_file durable.bytes)) durable.holds))),
@@ -73,8 +73,8 @@ returns-in-Ok-append_closed-clause-now g c h on =
     let d = g.D.Disk in
     let inside = c.self.inside in
     let bytes = c.as_bytes.result.now in
-    let ok = subst (λ b. IsAccepted inside.state (command_of c.args.command) c.accept.new.state inside.size b) (sym c.as_bytes.ensures.value) c.in-Ok.ensures.ok in
-    let durable = c.self.invariant.1 h c.if-self.false in
+    let ok = subst (λ b. IsAccepted inside.state (command_of c.args.command) c.accept.new.state inside.size b) (sym c.as_bytes.ensures.value) c.in-Ok.ensures.ok.0 in
+    let durable = c.self.invariant.2 h c.if-self.false in
     durable-means c.held_store_is_left.ensures.synced (d.folder c.append_closed.new.disk) c.accept.new.state (inside.size + length bytes)
     (append-durable (d.folder inside.disk) (d.folder c.append_closed.new.disk) inside.state c.accept.new.state (command_of c.args.command) bytes inside.size durable ok
     (c.in-Ok-append_closed.ensures.holds h (Some (synced_file durable.bytes)) durable.holds))
@@ -84,32 +84,32 @@ returns-in-Ok-append_closed-clause-any_moment g c h on =
     let d = g.D.Disk in
     let inside = c.self.inside in
     let bytes = c.as_bytes.result.now in
-    let ok = subst (λ b. IsAccepted inside.state (command_of c.args.command) c.accept.new.state inside.size b) (sym c.as_bytes.ensures.value) c.in-Ok.ensures.ok in
-    let durable = c.self.invariant.1 h c.if-self.false in
+    let ok = subst (λ b. IsAccepted inside.state (command_of c.args.command) c.accept.new.state inside.size b) (sym c.as_bytes.ensures.value) c.in-Ok.ensures.ok.0 in
+    let durable = c.self.invariant.2 h c.if-self.false in
     subst (λ (s : StoreView g.row.D.Denot). LeavesOnly d.moment d.left s.disk c.append_closed.new.disk (λ image. FileMeans image.store s.state ⊎ FileMeans image.store c.accept.new.state)) c.self.view_is
     (append-leaves d.moment d.left inside.disk c.append_closed.new.disk (d.folder inside.disk) inside.state c.accept.new.state (command_of c.args.command) bytes inside.size c.documents_close.ensures.torn durable ok
-    (c.append_closed.ensures.held h (Some (synced_file durable.bytes)) durable.holds))
+    ((c.append_closed.ensures.leaves h).held (Some (synced_file durable.bytes)) durable.holds))
 
 pub returns-clause-any_moment : goal.returns-clause-any_moment
 returns-clause-any_moment g c h on =
     let d = g.D.Disk in
     let inside = c.self.inside in
     let bytes = c.as_bytes.result.now in
-    let ok = subst (λ b. IsAccepted inside.state (command_of c.args.command) c.accept.new.state inside.size b) (sym c.as_bytes.ensures.value) c.in-Ok.ensures.ok in
-    let durable = c.self.invariant.1 h c.if-self.false in
+    let ok = subst (λ b. IsAccepted inside.state (command_of c.args.command) c.accept.new.state inside.size b) (sym c.as_bytes.ensures.value) c.in-Ok.ensures.ok.0 in
+    let durable = c.self.invariant.2 h c.if-self.false in
     subst (λ (s : StoreView g.row.D.Denot). LeavesOnly d.moment d.left s.disk c.append_closed.new.disk (λ image. FileMeans image.store s.state ⊎ FileMeans image.store c.accept.new.state)) c.self.view_is
     (append-leaves d.moment d.left inside.disk c.append_closed.new.disk (d.folder inside.disk) inside.state c.accept.new.state (command_of c.args.command) bytes inside.size c.documents_close.ensures.torn durable ok
-    (c.append_closed.ensures.held h (Some (synced_file durable.bytes)) durable.holds))
+    ((c.append_closed.ensures.leaves h).held (Some (synced_file durable.bytes)) durable.holds))
 
 pub returns-in-Ok-append_closed-clause-ok : goal.returns-in-Ok-append_closed-clause-ok
 returns-in-Ok-append_closed-clause-ok g c =
     let inside = c.self.inside in
     let command = command_of c.args.command in
-    let ok = c.in-Ok.ensures.ok in
-    let long : c.len.result ≡ length (string_bytes c.in-Ok.record) = search rules in (
+    let ok = c.in-Ok.ensures.ok.0 in
+    let long : c.len.result ≡ length (string_bytes c.in-Ok.accepted.0) = search rules in (
       subst (λ (s : StoreView g.row.D.Denot). Accepts s command (record { disk = c.append_closed.new.disk; state = c.accept.new.state; size = inside.size + c.len.result; reopen = inside.reopen })) c.self.view_is
           (record { step = ok.outcome; count = ok.count; size = ap (λ n. inside.size + n) (long ∙ ap length ok.is); reopen = c.if-self.false }),
-      c.count.ensures.count,
+      c.in-Ok.ensures.ok.1,
     )
 
 pub returns-in-Ok-append_closed-clause-reads : goal.returns-in-Ok-append_closed-clause-reads
@@ -120,8 +120,8 @@ returns-in-Ok-append_closed-clause-reads g c h on =
     let now = bytes_under (d.folder c.append_closed.new.disk) Store in
     subst (λ (s : StoreView g.row.D.Denot). now ≡ extended (bytes_under (d.folder s.disk) Store) (next_record s.state command)) c.self.view_is
     (ap (λ (image : Image). image.store) (c.in-Ok-append_closed.ensures.reads h)
-    ∙ ap (extended (bytes_under (d.folder inside.disk) Store)) (c.as_bytes.ensures.value ∙ c.in-Ok.ensures.ok.is))
+    ∙ ap (extended (bytes_under (d.folder inside.disk) Store)) (c.as_bytes.ensures.value ∙ c.in-Ok.ensures.ok.0.is))
 
 pub returns-clause-refused : goal.returns-clause-refused
 returns-clause-refused g c =
-    subst (λ (s : StoreView g.row.D.Denot). outcome s.size s.state (command_of c.args.command) ≡ Ok c.accept.new.state) c.self.view_is c.in-Ok.ensures.ok.outcome
+    subst (λ (s : StoreView g.row.D.Denot). outcome s.size s.state (command_of c.args.command) ≡ Ok c.accept.new.state) c.self.view_is c.in-Ok.ensures.ok.0.outcome

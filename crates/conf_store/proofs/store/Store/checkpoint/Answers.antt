@@ -1,10 +1,8 @@
-use Rattle.std.proofs.Common.{rules, ◌≡◌, ◌⊎◌, inl, inr, ⊎_elim, ℕ, ◌≤◌, true, false, List, length, Some, Err, refl, sym, ◌∙◌, ap, subst, arith}
-use Rattle.conf_disk.specs.Image.{Image, IsImage}
+use Rattle.std.proofs.Common.{◌⊎◌, ⊎_elim, subst}
 use Rattle.conf_disk.specs.Moments.{LeavesOnly}
 use Rattle.conf_disk.proofs.Moments.{LeavesOnly-weaker}
 use Rattle.conf_journal.specs.Store.{IsStoreOf}
 use Rattle.conf_store.specs.Meaning.{FileMeans}
-use Rattle.conf_store.specs.Durable.{IsDurable}
 use Rattle.conf_store.specs.View.{StoreView}
 use Rattle.conf_store.proofs.StoreLemmas.{durable-means, store-means}
 use Rattle.conf_store.proofs.store.Store.checkpoint.Goals as goal
@@ -19,7 +17,7 @@ pub returns-in-Ok-clause-any_moment : goal.returns-in-Ok-clause-any_moment
 returns-in-Ok-clause-any_moment g c h on =
     let d = g.D.Disk in
     let inside = c.self.inside in
-    let durable = c.self.invariant.1 h c.if-self.false in
+    let durable = c.self.invariant.2 h c.if-self.false in
     subst (λ (s : StoreView g.row.D.Denot). LeavesOnly d.moment d.left s.disk c.write_base.new.disk (λ image. FileMeans image.store s.state)) c.self.view_is
     (LeavesOnly-weaker d.moment d.left inside.disk c.write_base.new.disk (λ image. IsStoreOf (d.folder inside.disk) image.store ⊎ FileMeans image.store inside.state)
     (λ image. FileMeans image.store inside.state) (c.write_base.ensures.any_moment h)

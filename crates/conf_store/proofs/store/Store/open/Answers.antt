@@ -1,4 +1,4 @@
-use Rattle.std.proofs.Common.{rules, ◌≡◌, ◌⊎◌, inl, inr, ⊎_elim, ℕ, ◌≤◌, List, Some, Err, refl, sym, ◌∙◌, ap, subst, arith}
+use Rattle.std.proofs.Common.{◌≡◌, ◌⊎◌, ⊎_elim, ◌≤◌, Some, Err, refl, sym, ◌∙◌, ap, subst}
 use Rattle.std.specs.Prelude.{IfSome}
 use Rattle.conf_disk.specs.Folder.{bytes_under}
 use Rattle.conf_disk.specs.Image.{Image, IsImage}
@@ -10,7 +10,7 @@ use Rattle.conf_record.specs.BaseTexts.{base_bytes}
 use Rattle.conf_store.specs.Durable.{IsDurable}
 use Rattle.conf_store.specs.Meaning.{FileMeans}
 use Rattle.conf_store.specs.Opens.{MeantAtEntry}
-use Rattle.conf_store.proofs.OpenLemmas.{image-meant, loaded-meant, state-meant, found-means, found-durable, failed-later, reads-same, reads-stays, reads-staged, refused-nothing, disk-refused, disk-no-meaning, disk-device}
+use Rattle.conf_store.proofs.OpenLemmas.{image-meant, loaded-meant, state-meant, found-means, found-durable, failed-later, reads-stays, reads-staged, refused-nothing, disk-refused, disk-no-meaning, disk-device}
 use Rattle.conf_store.proofs.StoreLemmas.{durable-means}
 use Rattle.conf_store.proofs.store.Store.open.Goals as goal
 
@@ -42,7 +42,7 @@ returns-in-Err-write_base-clause-any_moment g c h =
     (λ image. IsStoreOf (d.folder mid) image.store ⊎ FileMeans image.store s) (λ image. MeantAtEntry (d.folder old) image.store)
     (c.find_store.ensures.any_moment h) (c.write_base.ensures.any_moment h) (image-meant (d.folder old))
     (λ image. ⊎_elim
-    (loaded-meant c.reading_is_an_image.ensures c.held_store_is_left.ensures.held c.held_store_is_left.ensures.synced (d.folder old) (d.folder mid) (c.in-Ok.ensures.holds h) image.store)
+    (loaded-meant c.reading_is_an_image.ensures c.held_store_is_the_only_one.ensures.left (d.folder old) (d.folder mid) (c.in-Ok.ensures.holds h) image.store)
     (state-meant c.one_list_of_pieces.ensures.one c.documents_are_read.ensures.one_base c.documents_are_read.ensures.one_record
     c.reading_is_an_image.ensures (d.folder old) s _ _ _ (c.in-Ok.ensures.ok h) image.store))
 
@@ -55,6 +55,7 @@ invariant_of-store g c =
             subst (λ n. n ≤ store_limit) (sym w.size-is) bound)
         | goal.in-None+in-Ok-write_base w ↦ (let short = w.in-Ok-write_base.ensures.short in subst (λ n. n ≤ store_limit) (sym w.size-is) short)
       ],
+      c.in-Ok.ensures.limits,
       λ h same. elim c.match-size.branch [
         | goal.in-Some w ↦
             subst (λ n. IsDurable (d.folder c.match-size.disk) s n) (sym w.size-is)
@@ -84,7 +85,7 @@ returns-clause-any_moment g c h =
           (λ image. IsStoreOf (d.folder mid) image.store ⊎ FileMeans image.store s) R
           (c.find_store.ensures.any_moment h) (w.write_base.ensures.any_moment h) (image-meant (d.folder old))
           (λ image. ⊎_elim
-          (loaded-meant c.reading_is_an_image.ensures c.held_store_is_left.ensures.held c.held_store_is_left.ensures.synced (d.folder old) (d.folder mid) (c.in-Ok.ensures.holds h) image.store)
+          (loaded-meant c.reading_is_an_image.ensures c.held_store_is_the_only_one.ensures.left (d.folder old) (d.folder mid) (c.in-Ok.ensures.holds h) image.store)
           (state-meant c.one_list_of_pieces.ensures.one c.documents_are_read.ensures.one_base c.documents_are_read.ensures.one_record
           c.reading_is_an_image.ensures (d.folder old) s _ _ _ (c.in-Ok.ensures.ok h) image.store)))
     ]
@@ -97,7 +98,7 @@ pub returns-clause-now : goal.returns-clause-now
 returns-clause-now g c h image is =
     let d = g.D.Disk in
     let s = c.in-Ok.found.state in
-    durable-means c.held_store_is_left.ensures.synced (d.folder c.match-size.disk) s c.match-size.size ((invariant_of-store g c).1 h refl) image is
+    durable-means c.held_store_is_left.ensures.synced (d.folder c.match-size.disk) s c.match-size.size ((invariant_of-store g c).2 h refl) image is
 
 pub returns-clause-reads : goal.returns-clause-reads
 returns-clause-reads g c h =
@@ -108,7 +109,7 @@ returns-clause-reads g c h =
       | goal.in-Some w ↦
           reads-stays store _ s c.in-Ok.found.opened.commands c.in-Ok.found.opened.dropped w.in-Some.size c.in-Ok.found.size (c.in-Ok.ensures.ok h) w.in-Some.is
           (subst (λ (x : g.row.D.Denot). bytes_under (d.folder x) Store ≡ store) (sym w.disk-is)
-          (reads-same c.reading_is_an_image.ensures c.held_store_is_left.ensures.held c.held_store_is_left.ensures.synced (d.folder c.find_store.new.disk) store (c.in-Ok.ensures.holds h)))
+          (c.held_store_is_the_only_one.ensures.reads (d.folder c.find_store.new.disk) store (c.in-Ok.ensures.holds h)))
       | goal.in-None+in-Ok-write_base w ↦
           reads-staged store _ s c.in-Ok.found.opened.commands c.in-Ok.found.opened.dropped c.in-Ok.found.size (c.in-Ok.ensures.ok h) w.in-None.is
           (subst (λ (x : g.row.D.Denot). bytes_under (d.folder x) Store ≡ Some (base_bytes s)) (sym w.disk-is) (w.in-Ok-write_base.ensures.reads h))

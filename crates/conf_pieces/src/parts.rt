@@ -7,8 +7,9 @@ ghost use Rattle.conf_pieces.specs.Reading.{AreKept, trees_of};
 use std::alloc::{AllocError, Global};
 use yaml_tree::{ByteCount, Config, Tree, write_style};
 
-/// The configuration that a part of a configuration's tree is. It takes no memory, and counts the part's length.
-pub(crate) fn part(tree: Tree) -> Config
+/// A part of a configuration's tree as a configuration of its own. It keeps all limits of a [`Config`]. Its length is
+/// counted, and no memory is taken.
+pub fn part(tree: Tree) -> Config
     requires { IsKept (tree_of tree) }
     ensures { result ≡ tree }
 {

@@ -2,7 +2,7 @@ use Rattle.std.proofs.Common.{rules, [], length, ap, sym, subst, ◌∙◌, arit
 use Rattle.std.specs.Vec.Iter.{into_iter_items}
 use Rattle.conf_pieces.specs.Reading.{AreKept, trees_of}
 use Rattle.conf_pieces.proofs.PieceLemmas.{MovedSoFar, none_moved, one_moved, all_moved}
-use Rattle.conf_pieces.proofs.part.configurations.Goals as goal
+use Rattle.conf_pieces.proofs.parts.configurations.Goals as goal
 
 pub loop-name-init : goal.loop-name-init
 loop-name-init c = (
