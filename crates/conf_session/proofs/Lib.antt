@@ -1,10 +1,10 @@
 pub mod OutputLemmas
 pub mod InputLemmas
 pub mod WordLemmas
+pub mod LengthLemmas
 pub mod RequestLemmas
 pub mod PassedLemmas
 pub mod SessionLemmas
 pub mod SaidLemmas
 pub mod AnswerLemmas
 pub mod ReplyLemmas
-pub mod RoomLemmas

@@ -19,7 +19,8 @@ use Rattle.conf_record.specs.declared.fault.StoreFault.{StoreFault}
 use Rattle.conf_store.specs.Calls.{outcome, has_room, tree_named}
 use Rattle.conf_store.specs.Durable.{AfterPrefix, AllImagesMean}
 use Rattle.conf_store.specs.View.{StoreView}
-use Rattle.conf_session.proofs.RoomLemmas.{accepted-anyway}
+use Rattle.conf_record.proofs.RefusalLemmas.{accepted-room}
+use Rattle.conf_store.proofs.StepLemmas.{accepted-anyway}
 use Rattle.conf_store.proofs.MeaningLemmas.{after-done, after-joined}
 use Rattle.conf_session.specs.Input.{piece_limit}
 use Rattle.conf_session.specs.Requests.{Request, Asks, AllAsk, changing, unread, getting, exporting, naming, checkpointing, bad}
@@ -104,7 +105,7 @@ leads-one : (now : Stored) (r : Request) → after now.state (accepted_of now r)
 leads-one now (changing command) = by (outcome now.size now.state command) refl
   where
     by : (j : Result Contents StoreFault) → outcome now.size now.state command ≡ j → after now.state (accepted_by j command) ≡ Ok (changed now command j).state
-    by (Ok new) e = after-done now.state new command (accepted-anyway now.state new command (has_room now.size now.state command) e)
+    by (Ok new) e = after-done now.state new command (accepted-anyway accepted-room now.state new command (has_room now.size now.state command) e)
     by (Err fault) e = refl
 leads-one now (unread name fault) = refl
 leads-one now (getting name path) = refl

@@ -1,5 +1,5 @@
 -- What is answered to requests that change nothing.
-use Rattle.std.proofs.Common.{◌≡◌, refl, sym, ◌∙◌, ap, ◌≤◌}
+use Rattle.std.proofs.Common.{◌≡◌, refl, sym, ◌∙◌, ap, subst, ◌≤◌}
 use Rattle.std.specs.Prelude.{ℕ, List, codes, length, String, string_bytes, Ok, Err}
 use Rattle.std.specs.declared.alloc.Global.{Global}
 use Rattle.yaml_grammar.specs.Trees.{Tree, text, sequence}
@@ -8,24 +8,26 @@ use Rattle.yaml_laws.specs.Closed.{framed}
 use Rattle.tree_path.specs.Paths.{at}
 use Rattle.tree_path.specs.Pointers.{path_of}
 use Rattle.tree_path.specs.declared.fault.PathFault.{PathFault}
+use Rattle.conf_record.specs.Limits.{IsState}
 use Rattle.conf_record.specs.States.{names_of}
 use Rattle.conf_record.specs.Steps.{and_then, by_path}
 use Rattle.conf_record.specs.declared.fault.StoreFault.{StoreFault}
 use Rattle.conf_record.specs.declared.fault.StoreFault.TheVariants.{Path}
 use Rattle.conf_store.specs.Calls.{tree_named}
 use Rattle.conf_session.specs.Requests.{getting, exporting, naming}
-use Rattle.conf_session.specs.Answers.{Stored, one, text_elements, answer_or_refusal, value_at_path, is_refused}
-use Rattle.conf_session.specs.Replies.{Replies, reply_limit}
+use Rattle.conf_session.specs.Answers.{Stored, one, text_elements, answer_or_refusal, answer_limit, value_at_path, is_refused}
+use Rattle.conf_session.specs.Replies.{Replies}
+use Rattle.conf_session.proofs.LengthLemmas.{refusal-short, answer-short}
 use Rattle.conf_session.specs.declared.reply.Reply.TheVariants.{Done, Refused}
 
 module _ (now : Stored) (name : List ℕ) where
   value-reply : (p : List ℕ) (v : Tree) (written : String Global) → value_at_path now.state name p ≡ Ok v → string_bytes written ≡ framed (one (codes "value") v)
-      → length (string_bytes written) ≤ reply_limit → Replies now (getting name p) (Done written)
-  value-reply p v written e bytes short = record {
+      → IsState now.state → Replies now (getting name p) (Done written)
+  value-reply p v written e bytes kept = record {
     bytes = bytes ∙ ap (λ r. framed (answer_or_refusal (one (codes "value")) r)) (sym e);
     accepted = refl;
     refused = ap is_refused (sym e);
-    short = short;
+    short = answer-short now (getting name p) kept;
   }
 
   value-refused : (p : List ℕ) (f : StoreFault) → value_at_path now.state name p ≡ Err f → Replies now (getting name p) (Refused f)
@@ -33,7 +35,7 @@ module _ (now : Stored) (name : List ℕ) where
     bytes = ap (λ r. framed (answer_or_refusal (one (codes "value")) r)) (sym e);
     accepted = refl;
     refused = ap is_refused (sym e);
-    short = tt;
+    short = subst (λ r. length (framed (answer_or_refusal (one (codes "value")) r)) ≤ answer_limit) (sym e) (refusal-short f);
   }
 
   pub get-no_config : (p : List ℕ) (f : StoreFault) → tree_named now.state name ≡ Err f → Replies now (getting name p) (Refused f)
@@ -51,19 +53,19 @@ module _ (now : Stored) (name : List ℕ) where
         ∙ ap (λ r. and_then (by_path r) (λ ts. by_path (at t ts))) path
 
     pub get-value : (v : Tree) (written : String Global) → at t tokens ≡ Ok v → string_bytes written ≡ framed (one (codes "value") v)
-        → length (string_bytes written) ≤ reply_limit → Replies now (getting name p) (Done written)
+        → IsState now.state → Replies now (getting name p) (Done written)
     get-value v written there = value-reply p v written (leads ∙ ap by_path there)
 
     pub get-no_place : (f : PathFault) → at t tokens ≡ Err f → Replies now (getting name p) (Refused (Path f))
     get-no_place f there = value-refused p (Path f) (leads ∙ ap by_path there)
 
   pub export-text : (t : Tree) (written : String Global) → tree_named now.state name ≡ Ok t → string_bytes written ≡ framed (one (codes "text") (text (style_text t)))
-      → length (string_bytes written) ≤ reply_limit → Replies now (exporting name) (Done written)
-  export-text t written e bytes short = record {
+      → IsState now.state → Replies now (exporting name) (Done written)
+  export-text t written e bytes kept = record {
     bytes = bytes ∙ ap (λ r. framed (answer_or_refusal (λ u. one (codes "text") (text (style_text u))) r)) (sym e);
     accepted = refl;
     refused = ap is_refused (sym e);
-    short = short;
+    short = answer-short now (exporting name) kept;
   }
 
   pub export-refused : (f : StoreFault) → tree_named now.state name ≡ Err f → Replies now (exporting name) (Refused f)
@@ -71,9 +73,9 @@ module _ (now : Stored) (name : List ℕ) where
     bytes = ap (λ r. framed (answer_or_refusal (λ u. one (codes "text") (text (style_text u))) r)) (sym e);
     accepted = refl;
     refused = ap is_refused (sym e);
-    short = tt;
+    short = subst (λ r. length (framed (answer_or_refusal (λ t. one (codes "text") (text (style_text t))) r)) ≤ answer_limit) (sym e) (refusal-short f);
   }
 
-pub names-listed : (now : Stored) (written : String Global) → string_bytes written ≡ framed (one (codes "names") (sequence (text_elements (names_of now.state.configs))))
-    → length (string_bytes written) ≤ reply_limit → Replies now naming (Done written)
-names-listed now written bytes short = record { bytes = bytes; accepted = refl; refused = refl; short = short }
+pub names-listed : (now : Stored) → IsState now.state → (written : String Global) → string_bytes written ≡ framed (one (codes "names") (sequence (text_elements (names_of now.state.configs))))
+    → Replies now naming (Done written)
+names-listed now kept written bytes = record { bytes = bytes; accepted = refl; refused = refl; short = answer-short now naming kept }

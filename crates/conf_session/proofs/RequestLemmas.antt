@@ -1,9 +1,8 @@
 -- What one request does.
-use Rattle.std.proofs.Common.{◌≡◌, ◌≢◌, ◌<◌, ◌⊎◌, inl, inr, ⊎_elim, refl, sym, ◌∙◌, ap, subst, arith, ◌≤◌}
-use Rattle.std.specs.Prelude.{ℕ, ◌+◌, min, Bool, not, nat_le, nat_lt, if◌then◌else◌, true, false, List, [], ◌∷◌, length, decimal, codes, Option, Some, Result, Ok, Err, String, string_bytes}
+use Rattle.std.proofs.Common.{◌≡◌, ◌≢◌, ◌⊎◌, inl, inr, ⊎_elim, refl, sym, ◌∙◌, ap, subst, arith}
+use Rattle.std.specs.Prelude.{ℕ, ◌+◌, min, Bool, false, List, [], ◌∷◌, length, decimal, codes, Option, Some, Result, Ok, Err, String, string_bytes}
 use Rattle.std.specs.Str.{chars, IsUtf8}
 use Rattle.std.specs.declared.alloc.Global.{Global}
-use Rattle.std.proofs.lemmas.Bool.Decides.{nat_tests}
 use Rattle.std.proofs.lemmas.Str.{encodes-chars}
 use Rattle.yaml_grammar.specs.Trees.{Tree, text}
 use Rattle.yaml_tree.specs.Reading.{IsRead, Refuses}
@@ -17,24 +16,23 @@ use Rattle.conf_disk.specs.declared.disk.Name.TheVariants.{Store}
 use Rattle.conf_journal.specs.Store.{extended}
 use Rattle.conf_disk.proofs.Moments.{LeavesOnly-start, LeavesOnly-weaker}
 use Rattle.conf_record.specs.BaseTexts.{base_bytes}
-use Rattle.conf_record.specs.Commands.{Command, import_as, name_of}
-use Rattle.conf_record.specs.Names.{good_name}
-use Rattle.conf_record.specs.BaseTexts.{base_length}
-use Rattle.conf_record.specs.States.{Entry, Contents, config_limits, count_limit, base_limit}
-use Rattle.conf_record.specs.Steps.{step, after, counted, configs_after, and_then}
+use Rattle.conf_record.specs.Commands.{Command, import_as}
+use Rattle.conf_record.specs.Limits.{IsState}
+use Rattle.conf_record.specs.States.{Contents, config_limits, count_limit}
+use Rattle.conf_record.specs.Steps.{step, after}
 use Rattle.conf_record.specs.declared.fault.StoreFault.{StoreFault}
-use Rattle.conf_record.specs.declared.fault.StoreFault.TheVariants.{BadName, StoreFull, JournalLong, CountFull}
-use Rattle.conf_record.proofs.RunLaws.{and_then-Ok}
 use Rattle.conf_store.specs.Calls.{outcome, has_room, next_record}
 use Rattle.conf_store.specs.Meaning.{FileMeans}
 use Rattle.conf_store.specs.Durable.{AfterPrefix, AllImagesMean}
 use Rattle.conf_store.specs.View.{StoreView}
-use Rattle.conf_session.proofs.RoomLemmas.{accepted-anyway}
+use Rattle.conf_record.proofs.RefusalLemmas.{accepted-room}
+use Rattle.conf_store.proofs.StepLemmas.{accepted-anyway}
 use Rattle.conf_store.proofs.MeaningLemmas.{after-done}
 use Rattle.conf_session.specs.Requests.{Said, import_text, Says, MeansRequest, Request, changing, unread, getting, exporting, naming, checkpointing, bad}
 use Rattle.conf_session.specs.Answers.{Stored, one, change_answer, changed, stored_after, file_changed, accepted_by, accepted_of, is_refused}
 use Rattle.conf_session.specs.Runs.{stored_of}
-use Rattle.conf_session.specs.Replies.{OnlyReads, Performs, Replies, Did, DidSaid, DidPiece, reply_limit}
+use Rattle.conf_session.specs.Replies.{OnlyReads, Performs, Replies, Did, DidSaid, DidPiece}
+use Rattle.conf_session.proofs.LengthLemmas.{step-few, answer-short}
 use Rattle.conf_session.specs.declared.fault.SessionFault.{SessionFault}
 use Rattle.conf_session.specs.declared.fault.SessionFault.TheVariants as fault
 use Rattle.conf_session.specs.declared.reply.Reply.{Reply}
@@ -75,14 +73,14 @@ module _ {D : Type 0} (honest : Type 0) (folder : D → Folder) (moment : D → 
       let now = stored_of old in
       let goes : stored_after now (changing command) ≡ changed now command (Ok new.state) = ap (changed now command) done in
       let one : accepted_of now (changing command) ≡ command ∷ [] = ap (λ r. accepted_by r command) done in
-      let leads : after old.state (command ∷ []) ≡ Ok new.state = after-done old.state new.state command (accepted-anyway old.state new.state command (has_room old.size old.state command) done) in
+      let leads : after old.state (command ∷ []) ≡ Ok new.state = after-done old.state new.state command (accepted-anyway accepted-room old.state new.state command (has_room old.size old.state command) done) in
       record {
         state = sym (ap (λ (t : Stored). t.state) goes);
         size = λ on. long on ∙ sym (ap (λ (t : Stored). t.size) goes);
         reads = λ h on. grown h on ∙ sym (ap (file_changed (bytes_under (folder old.disk) Store) now command) done);
         any_moment = λ h. subst (λ cs. LeavesOnly moment since old.disk new.disk (λ image. AfterPrefix old.state cs image.store)) (sym one)
             (LeavesOnly-weaker moment since old.disk new.disk _ _ (moments h)
-            (λ image. ⊎_elim (none-after old.state image.store (command ∷ [])) (λ behind. record { count = 1; state = new.state; leads = leads; means = behind })));
+            (λ image. ⊎_elim (none-after old.state image.store (command ∷ [])) (λ means. record { count = 1; state = new.state; leads = leads; means = means })));
       }
 
   pub command-refused : (store : StoreView D) → store.reopen ≡ false → (command : Command) (f : StoreFault) → outcome store.size store.state command ≡ Err f
@@ -150,46 +148,24 @@ text-refused name bytes f utf8 some refuses = inr (f, some, subst (λ b. Refuses
 
 -- ---- the count that is answered, which is known before the command
 
-le-false : (a b : ℕ) → nat_le a b ≡ false → b < a
-le-false a b e = grind (arith, nat_tests)
-
-counted-few : (s new : Contents) (fits : Bool) (configs : List Entry) → counted s fits configs ≡ Ok new → nat_le count_limit s.count ≡ false
-counted-few s new fits configs e =
-    by (nat_lt base_limit (base_length (record { configs = configs; count = s.count + 1 }))) fits (nat_le count_limit s.count) e
-  where
-    by : (full room last : Bool)
-        → (if full then Err StoreFull else if not room then Err JournalLong else if last then Err CountFull else Ok (record { configs = configs; count = s.count + 1 })) ≡ Ok new
-        → last ≡ false
-    by true room last is = cc
-    by false false last is = cc
-    by false true true is = cc
-    by false true false is = refl
-
-step-few : (s new : Contents) (command : Command) (fits : Bool) → step s command fits ≡ Ok new → nat_le count_limit s.count ≡ false
-step-few s new command fits e = by (good_name (name_of command)) e
-  where
-    by : (good : Bool) → (if good then and_then (configs_after s.configs command) (counted s fits) else Err BadName) ≡ Ok new → nat_le count_limit s.count ≡ false
-    by true is = (let done = and_then-Ok (configs_after s.configs command) (counted s fits) new is in counted-few s new fits done.0 done.2)
-    by false is = cc
-
 pub count-after : (s new : Contents) (command : Command) (fits : Bool) (count : ℕ) → step s command fits ≡ Ok new → new.count ≡ s.count + 1 → count ≡ min (s.count + 1) count_limit → count ≡ new.count
-count-after s new command fits count e one is = let few = le-false count_limit s.count (step-few s new command fits e) in omega (arith, one, few, is)
+count-after s new command fits count e one is = let few = step-few s new command fits e in omega (arith, one, few, is)
 
 -- ---- replies
 
-pub accepted-reply : (now : Stored) (new : Contents) (command : Command) (written : String Global) (count : ℕ) → outcome now.size now.state command ≡ Ok new → count ≡ new.count
-    → string_bytes written ≡ framed (one (codes "ok") (text (decimal count))) → length (string_bytes written) ≤ reply_limit → Replies now (changing command) (Accepted written)
-accepted-reply now new command written count done is bytes short = record {
+pub accepted-reply : (now : Stored) → IsState now.state → (new : Contents) (command : Command) (written : String Global) (count : ℕ) → outcome now.size now.state command ≡ Ok new → count ≡ new.count
+    → string_bytes written ≡ framed (one (codes "ok") (text (decimal count))) → Replies now (changing command) (Accepted written)
+accepted-reply now kept new command written count done is bytes = record {
   bytes = bytes ∙ ap (λ n. framed (one (codes "ok") (text (decimal n)))) is ∙ ap (λ r. framed (change_answer r)) (sym done);
   accepted = ap (λ r. length (accepted_by r command)) (sym done);
   refused = ap is_refused (sym done);
-  short = short;
+  short = answer-short now (changing command) kept;
 }
 
-pub refused-reply : (now : Stored) (command : Command) (f : StoreFault) → outcome now.size now.state command ≡ Err f → Replies now (changing command) (Refused f)
-refused-reply now command f refused = record {
+pub refused-reply : (now : Stored) → IsState now.state → (command : Command) (f : StoreFault) → outcome now.size now.state command ≡ Err f → Replies now (changing command) (Refused f)
+refused-reply now kept command f refused = record {
   bytes = ap (λ r. framed (change_answer r)) (sym refused);
   accepted = ap (λ r. length (accepted_by r command)) (sym refused);
   refused = ap is_refused (sym refused);
-  short = tt;
+  short = answer-short now (changing command) kept;
 }

@@ -1,6 +1,6 @@
 -- The loop over the pieces of an input, and each of its exits.
 use Rattle.std.proofs.Common.{◌≡◌, refl, sym, ◌∙◌, ap, subst, arith, ◌≤◌, ◌<◌, append_assoc, length-append}
-use Rattle.std.specs.Prelude.{ℕ, ◌+◌, false, true, List, [], ◌∷◌, ◌++◌, length, take, Option, Ok, Err}
+use Rattle.std.specs.Prelude.{ℕ, ◌+◌, ◌*◌, false, true, List, [], ◌∷◌, ◌++◌, length, take, Option, Ok, Err}
 use Rattle.std.specs.List.{concat}
 use Rattle.std.specs.Io.KnownBytes.{Appends, Keeps, Consumes}
 use Rattle.std.proofs.KnownBytes.{Appends-nil, Appends-trans, Appends-kept, Consumes-nil, Consumes-trans, Keeps-refl}
@@ -15,7 +15,7 @@ use Rattle.conf_store.specs.Durable.{AllImagesMean}
 use Rattle.conf_store.specs.View.{StoreView}
 use Rattle.conf_session.specs.Input.{piece_limit, session_limit, ahead, held as piece_of, AdvancesToPiece, AdvancesToEnd, FailsToRead, FindsTooLong, FindsSessionLong, RunsOutOfMemory, Advances}
 use Rattle.conf_session.specs.Requests.{Request, Asks}
-use Rattle.conf_session.specs.Answers.{Stored, answer, output, stored_after_all, accepted, accepted_of, refused_of}
+use Rattle.conf_session.specs.Answers.{Stored, answer, answer_limit, output, stored_after_all, accepted, accepted_of, refused_of}
 use Rattle.conf_session.specs.Runs.{stored_of, ArePieces, Runs, BeginsWith}
 use Rattle.conf_session.specs.Replies.{Performs}
 use Rattle.conf_session.specs.Progress.{AreCounted, Passed, Answered, Fails}
@@ -38,9 +38,9 @@ pub record SoFar {D : Type 0} (honest : Type 0) (folder : D → Folder) (moment 
   pub read : total ≡ length (concat pieces ++ further)
 
 -- more bytes were read
-taken-more : (given mid left : Option (List ℕ)) (front further more : List ℕ) → Consumes given mid (front ++ further) → Consumes mid left more → Consumes given left (front ++ (further ++ more))
-taken-more given mid left front further more one two =
-    subst (Consumes given left) (append_assoc front further more) (Consumes-trans given mid left (front ++ further) more one two)
+taken-more : (given mid left : Option (List ℕ)) (prefix further more : List ℕ) → Consumes given mid (prefix ++ further) → Consumes mid left more → Consumes given left (prefix ++ (further ++ more))
+taken-more given mid left prefix further more one two =
+    subst (Consumes given left) (append_assoc prefix further more) (Consumes-trans given mid left (prefix ++ further) more one two)
 
 module _ {D : Type 0} (honest : Type 0) (folder : D → Folder) (moment : D → ℕ) (since : D → ℕ → Image → Type 0) where
   pub so_far-none : (given held : Option (List ℕ)) (store : StoreView D) (further : List ℕ) (counts : Counts) (total : ℕ) → store.reopen ≡ false
@@ -74,8 +74,8 @@ module _ {D : Type 0} (honest : Type 0) (folder : D → Folder) (moment : D → 
         rest = piece_of then;
         taken = taken-more given mid left (concat s.pieces) (ahead was) end.more s.taken end.taken;
         at_end = end.at_end;
-        within = (let total = s.read in let size = length-append (concat s.pieces) (ahead was ++ end.more) in let front = length-append (concat s.pieces) (ahead was) in
-            let back = length-append (ahead was) end.more in let few = end.total in omega (arith, total, size, front, back, few));
+        within = (let total = s.read in let size = length-append (concat s.pieces) (ahead was ++ end.more) in let prefix = length-append (concat s.pieces) (ahead was) in
+            let back = length-append (ahead was) end.more in let few = end.total in omega (arith, total, size, prefix, back, few));
         input = record {
           pieces = s.pieces;
           cut = record { joined = ap (λ l. concat s.pieces ++ l) end.joined; closed = s.are.closed; unclosed = end.unclosed };
@@ -141,13 +141,13 @@ module _ {D : Type 0} (honest : Type 0) (folder : D → Folder) (moment : D → 
         → Runs honest folder moment since given left held between old now (Err fault.SessionLong)
     ends-session_long finds means =
         let rest = ahead was ++ finds.more in
-        let front = concat s.pieces ++ rest in
+        let prefix = concat s.pieces ++ rest in
         let bytes = concat s.pieces ++ (ahead was ++ (finds.more ++ finds.beyond)) in
-        let split : bytes ≡ front ++ finds.beyond = ap (λ l. concat s.pieces ++ l) (sym (append_assoc (ahead was) finds.more finds.beyond)) ∙ sym (append_assoc (concat s.pieces) rest finds.beyond) in
-        let size : length front ≡ session_limit = (let total = s.read in let full = finds.full in let one = length-append (concat s.pieces) rest in let two = length-append (concat s.pieces) (ahead was) in
+        let split : bytes ≡ prefix ++ finds.beyond = ap (λ l. concat s.pieces ++ l) (sym (append_assoc (ahead was) finds.more finds.beyond)) ∙ sym (append_assoc (concat s.pieces) rest finds.beyond) in
+        let size : length prefix ≡ session_limit = (let total = s.read in let full = finds.full in let one = length-append (concat s.pieces) rest in let two = length-append (concat s.pieces) (ahead was) in
         let three = length-append (ahead was) finds.more in omega (arith, total, full, one, two, three)) in
-        let within : take session_limit bytes ≡ front =
-        ap (take session_limit) split ∙ take-append-le session_limit front finds.beyond (omega (arith, size)) ∙ take_all session_limit front (omega (arith, size)) in
+        let within : take session_limit bytes ≡ prefix =
+        ap (take session_limit) split ∙ take-append-le session_limit prefix finds.beyond (omega (arith, size)) ∙ take_all session_limit prefix (omega (arith, size)) in
         record {
           answered = s.requests;
           performed = s.requests;
@@ -159,7 +159,7 @@ module _ {D : Type 0} (honest : Type 0) (folder : D → Folder) (moment : D → 
                 rest = rest;
                 input = record { pieces = s.pieces; cut = record { joined = within; closed = s.are.closed; unclosed = finds.unclosed }; are = s.are; short = finds.short };
               };
-              long = (let all = ap length split in let more = length-append front finds.beyond in let some = finds.some in omega (arith, all, more, size, some));
+              long = (let all = ap length split in let more = length-append prefix finds.beyond in let some = finds.some in omega (arith, all, more, size, some));
             };
             all = refl;
             out = s.passed.out;
@@ -204,7 +204,7 @@ module _ {D : Type 0} (honest : Type 0) (folder : D → Folder) (moment : D → 
     -- ---- a piece more
 
     module _ (advances : AdvancesToPiece mid left was then) where
-      -- what was read, with the piece behind the others
+      -- what was read, with the piece after the others
       joined-more : concat s.pieces ++ (ahead was ++ advances.more) ≡ concat (s.pieces ++ piece_of then ∷ []) ++ ahead then
       joined-more =
           ap (λ l. concat s.pieces ++ l) advances.joined ∙ sym (append_assoc (concat s.pieces) (piece_of then) (ahead then))
@@ -300,9 +300,10 @@ module _ {D : Type 0} (honest : Type 0) (folder : D → Folder) (moment : D → 
 
       ends-write : (written : Option (List ℕ)) (new : StoreView D) (r : Request) (count total : ℕ) → Asks (piece_of then) r → new.reopen ≡ false → Performs honest folder moment since now new r
           → total ≡ counts.written + count → count < length (framed (answer (stored_of now) r)) → Appends between written (take count (framed (answer (stored_of now) r)))
+          → length (framed (answer (stored_of now) r)) ≤ answer_limit → counts.written ≤ counts.tally.documents * answer_limit
           → (honest → new.reopen ≡ false → AllImagesMean (folder new.disk) new.state)
           → Runs honest folder moment since given left held written old new (Err (fault.Write total))
-      ends-write written new r count total asks off does is short out means =
+      ends-write written new r count total asks off does is short out small room means =
           let start = stored_of old in
           let rs = s.requests in
           let before = output start rs in
@@ -310,7 +311,7 @@ module _ {D : Type 0} (honest : Type 0) (folder : D → Folder) (moment : D → 
           let all : output start (rs ++ r ∷ []) ≡ before ++ one = output-last start rs r ∙ ap (λ t. before ++ framed (answer t r)) (sym s.passed.stored) in
           let long = ap length all ∙ length-append before one in
           let sum = s.counted.written in
-          let front : take total (output start (rs ++ r ∷ [])) ≡ before ++ take count one =
+          let prefix : take total (output start (rs ++ r ∷ [])) ≡ before ++ take count one =
           ap (take total) all ∙ ap (λ n. take n (before ++ one)) (is ∙ ap (λ n. n + count) sum) ∙ take-beyond count before one in
           let stored = stored-more honest folder moment since held between old now new rs r s.passed does off in
           record {
@@ -322,9 +323,10 @@ module _ {D : Type 0} (honest : Type 0) (folder : D → Folder) (moment : D → 
               last = r;
               begins = begins-more r asks;
               all = refl;
-              out = subst (Appends held written) (sym front) (Appends-trans held between written before (take count one) s.passed.out out);
+              out = subst (Appends held written) (sym prefix) (Appends-trans held between written before (take count one) s.passed.out out);
               whole = omega (arith, is, sum);
               cut = omega (arith, is, sum, long, short);
+              bound = (let documents = s.counted.documents in let more = length-append rs (r ∷ []) in omega (arith, is, short, small, room, documents, more));
             };
             state = ap (λ (t : Stored). t.state) stored;
             size = λ on. ap (λ (t : Stored). t.size) stored;
@@ -336,17 +338,18 @@ module _ {D : Type 0} (honest : Type 0) (folder : D → Folder) (moment : D → 
 
       -- the piece has no answer that was written whole
       pub ends-failing : (written : Option (List ℕ)) (new : StoreView D) (f : SessionFault) → Fails honest folder moment since between written now new (piece_of then) counts.written f
+          → counts.written ≤ counts.tally.documents * answer_limit
           → (honest → new.reopen ≡ false → AllImagesMean (folder new.disk) new.state)
           → ((t : ℕ) (image : Image) → honest → t ≤ moment new.disk → IsImage (folder new.disk) image → since new.disk t image)
           → Runs honest folder moment since given left held written old new (Err f)
-      ends-failing written new fault.OutOfMemory fails means counts_now = ends-memory written new fails.0 fails.1 means
-      ends-failing written new fault.Device fails means counts_now = ends-device written new fails.0 fails.1 fails.2 fails.3 fails.4 counts_now
-      ends-failing written new (fault.Write total) fails means counts_now =
-          ends-write written new fails.0 fails.4 total fails.1 fails.2 fails.3 fails.5 fails.6 fails.7 means
-      ends-failing written new fault.Read fails means counts_now = absurd fails
-      ends-failing written new fault.TooLong fails means counts_now = absurd fails
-      ends-failing written new fault.SessionLong fails means counts_now = absurd fails
-      ends-failing written new fault.Reopen fails means counts_now = absurd fails
+      ends-failing written new fault.OutOfMemory fails room means counts_now = ends-memory written new fails.0 fails.1 means
+      ends-failing written new fault.Device fails room means counts_now = ends-device written new fails.0 fails.1 fails.2 fails.3 fails.4 counts_now
+      ends-failing written new (fault.Write total) fails room means counts_now =
+          ends-write written new fails.0 fails.4 total fails.1 fails.2 fails.3 fails.5 fails.6 fails.7 fails.8 room means
+      ends-failing written new fault.Read fails room means counts_now = absurd fails
+      ends-failing written new fault.TooLong fails room means counts_now = absurd fails
+      ends-failing written new fault.SessionLong fails room means counts_now = absurd fails
+      ends-failing written new fault.Reopen fails room means counts_now = absurd fails
 
   -- ---- nothing is done
 

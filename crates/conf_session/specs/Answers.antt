@@ -1,5 +1,5 @@
 -- What a session answers, and what is stored then. All of it is computed from the requests.
-use Rattle.std.specs.Prelude.{ℕ, ◌+◌, if◌then◌else◌, List, [], ◌∷◌, ◌++◌, length, codes, decimal, Option, Some, Result, Ok, Err}
+use Rattle.std.specs.Prelude.{◌≤◌, ℕ, ◌+◌, if◌then◌else◌, List, [], ◌∷◌, ◌++◌, length, codes, decimal, Option, Some, Result, Ok, Err}
 use Rattle.std.specs.List.{concat}
 use Rattle.yaml_grammar.specs.Trees.{Tree, text, sequence, mapping, Elements, no_element, element, no_member, member}
 use Rattle.yaml_grammar.specs.Style.{style_text}
@@ -13,7 +13,8 @@ use Rattle.tree_path.specs.Pointers.{path_of}
 use Rattle.conf_journal.specs.Store.{extended}
 use Rattle.conf_record.specs.Commands.{Command}
 use Rattle.conf_record.specs.Names.{good_name}
-use Rattle.conf_record.specs.States.{Contents, names_of}
+use Rattle.conf_record.specs.Limits.{IsState}
+use Rattle.conf_record.specs.States.{Contents, names_of, base_limit}
 use Rattle.conf_record.specs.Steps.{and_then, by_path}
 use Rattle.conf_record.specs.declared.fault.StoreFault.{StoreFault}
 use Rattle.conf_record.specs.declared.fault.StoreFault.TheVariants as store
@@ -94,6 +95,14 @@ answer now (exporting name) = answer_or_refusal (λ t. one (codes "text") (text 
 answer now naming = one (codes "names") (sequence (text_elements (names_of now.state.configs)))
 answer now checkpointing = one (codes "ok") (text (decimal now.state.count))
 answer now bad = refusal (codes "BadCommand")
+
+-- the most bytes of an answer: as many as of a base
+abbrev pub answer_limit : ℕ
+answer_limit = base_limit
+
+-- no answer on a state that keeps its limits is longer
+abbrev pub AnswersAreShort : Type 0
+AnswersAreShort = (now : Stored) (request : Request) → IsState now.state → length (framed (answer now request)) ≤ answer_limit
 
 -- ---- what is stored after a request
 

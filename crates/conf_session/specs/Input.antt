@@ -109,7 +109,7 @@ pub record AdvancesToEnd (given left : Option (List ℕ)) (old new : Input) : Ty
   pub short : length (held new) ≤ piece_limit
   pub total : old.total + length more ≤ session_limit
 
--- a read failed behind an unclosed rest
+-- a read failed after an unclosed rest
 pub record FailsToRead (given left : Option (List ℕ)) (old : Input) : Type 0 where
   pub more : List ℕ
   pub taken : Consumes given left more

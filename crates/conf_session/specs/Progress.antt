@@ -10,9 +10,9 @@ use Rattle.conf_store.specs.Durable.{AfterPrefix}
 use Rattle.conf_store.specs.View.{StoreView}
 use Rattle.conf_session.specs.Input.{session_limit}
 use Rattle.conf_session.specs.Requests.{Request, Asks}
-use Rattle.conf_session.specs.Answers.{Stored, answer, output, stored_after_all, file_after_all, accepted, accepted_of, refusals, refused_of}
+use Rattle.conf_session.specs.Answers.{Stored, answer, answer_limit, output, stored_after_all, file_after_all, accepted, accepted_of, refusals, refused_of}
 use Rattle.conf_session.specs.Runs.{stored_of}
-use Rattle.conf_session.specs.Replies.{Performs, reply_limit}
+use Rattle.conf_session.specs.Replies.{Performs}
 use Rattle.conf_session.specs.declared.fault.SessionFault.{SessionFault}
 use Rattle.conf_session.specs.declared.fault.SessionFault.TheVariants as fault
 use Rattle.conf_session.specs.declared.pieces.Counts.{Counts}
@@ -45,7 +45,7 @@ pub record Answered {D : Type 0} (honest : Type 0) (folder : D → Folder) (mome
   pub accepted : after.tally.accepted ≡ before.tally.accepted + length (accepted_of (stored_of old) request)
   pub refused : after.tally.refused ≡ before.tally.refused + refused_of (stored_of old) request
   pub sent : after.written ≡ before.written + length (framed (answer (stored_of old) request))
-  pub short : length (framed (answer (stored_of old) request)) ≤ reply_limit
+  pub short : length (framed (answer (stored_of old) request)) ≤ answer_limit
 
 -- what became of a piece whose answer is not written whole
 abbrev pub Fails : {D : Type 0} → Type 0 → (D → Folder) → (D → ℕ) → (D → ℕ → Image → Type 0) → Option (List ℕ) → Option (List ℕ) → StoreView D → StoreView D → List ℕ → ℕ → SessionFault → Type 0
@@ -56,6 +56,7 @@ Fails honest folder moment since held written old new piece sent (fault.Write to
     (request : Request) × Asks piece request × (new.reopen ≡ false) × Performs honest folder moment since old new request
     × (count : ℕ) × (total ≡ sent + count) × (count < length (framed (answer (stored_of old) request)))
     × Appends held written (take count (framed (answer (stored_of old) request)))
+    × (length (framed (answer (stored_of old) request)) ≤ answer_limit)
 Fails honest folder moment since held written old new piece sent fault = ⊥
 
 -- No count exceeds its type: there are no more pieces than bytes of the input, and an answer is no longer than allowed.
@@ -63,4 +64,4 @@ pub record HasRoom (counts : Counts) : Type 0 where
   pub few : counts.tally.documents ≤ session_limit
   pub accepted : counts.tally.accepted ≤ counts.tally.documents
   pub refused : counts.tally.refused ≤ counts.tally.documents
-  pub out : counts.written ≤ counts.tally.documents * reply_limit
+  pub out : counts.written ≤ counts.tally.documents * answer_limit

@@ -9,7 +9,7 @@ use Rattle.conf_record.specs.Commands.{command_of, text_of}
 use Rattle.conf_store.specs.Durable.{AfterPrefix}
 use Rattle.conf_store.specs.View.{StoreView}
 use Rattle.conf_session.specs.Requests.{Said, import_text, change, get_at, export_of, all_names, checkpoint_now, nothing, Request, changing, checkpointing, MeansRequest, Asks}
-use Rattle.conf_session.specs.Answers.{Stored, answer, refusal, word, stored_after, file_after, accepted_of, refused_of}
+use Rattle.conf_session.specs.Answers.{Stored, answer, answer_limit, refusal, word, stored_after, file_after, accepted_of, refused_of}
 use Rattle.conf_session.specs.Runs.{stored_of}
 use Rattle.conf_session.specs.declared.said.Said as code
 use Rattle.conf_session.specs.declared.said.Said.TheVariants as code_said
@@ -49,15 +49,6 @@ refuses (Refused fault) = 1
 refuses NoCommand = 1
 refuses reply = 0
 
--- the most bytes of a reply
-abbrev pub reply_limit : ℕ
-reply_limit = 4294967295
-
-abbrev pub IsShort : Reply → Type 0
-IsShort (Accepted text) = length (string_bytes text) ≤ reply_limit
-IsShort (Done text) = length (string_bytes text) ≤ reply_limit
-IsShort reply = Unit {0}
-
 -- A request is performed: the state, the size and the file are those after it, and a crash leaves the state before it or after it.
 pub record Performs {D : Type 0} (honest : Type 0) (folder : D → Folder) (moment : D → ℕ) (since : D → ℕ → Image → Type 0) (old new : StoreView D) (request : Request) : Type 0 where
   pub state : new.state ≡ (stored_after (stored_of old) request).state
@@ -70,7 +61,7 @@ pub record Replies (now : Stored) (request : Request) (reply : Reply) : Type 0 w
   pub bytes : reply_bytes reply ≡ framed (answer now request)
   pub accepted : accepts reply ≡ length (accepted_of now request)
   pub refused : refuses reply ≡ refused_of now request
-  pub short : IsShort reply
+  pub short : length (framed (answer now request)) ≤ answer_limit
 
 -- what became of a request
 abbrev pub Did : {D : Type 0} → Type 0 → (D → Folder) → (D → ℕ) → (D → ℕ → Image → Type 0) → StoreView D → StoreView D → Request → Result Reply SessionFault → Type 0

@@ -1,5 +1,5 @@
 -- What a run of a session has read, answered and stored, for each of its results.
-use Rattle.std.specs.Prelude.{◌≡◌, ℕ, ◌<◌, ◌≤◌, false, List, [], ◌∷◌, ◌++◌, length, take, Option, Result, Ok, Err, All}
+use Rattle.std.specs.Prelude.{◌≡◌, ℕ, ◌*◌, ◌<◌, ◌≤◌, false, List, [], ◌∷◌, ◌++◌, length, take, Option, Result, Ok, Err, All}
 use Rattle.std.specs.List.{concat}
 use Rattle.std.specs.Io.KnownBytes.{Consumes, IsAtEnd, Keeps, Appends}
 use Rattle.yaml_grammar.specs.Closings.{ClosesOnce, Pieces}
@@ -15,7 +15,7 @@ use Rattle.conf_store.specs.Durable.{AfterPrefix}
 use Rattle.conf_store.specs.View.{StoreView}
 use Rattle.conf_session.specs.Input.{piece_limit, session_limit, IsOverlong}
 use Rattle.conf_session.specs.Requests.{Request, AllAsk}
-use Rattle.conf_session.specs.Answers.{Stored, output, stored_after_all, file_after_all, accepted, refusals}
+use Rattle.conf_session.specs.Answers.{Stored, answer_limit, output, stored_after_all, file_after_all, accepted, refusals}
 use Rattle.conf_session.specs.declared.fault.SessionFault.{SessionFault}
 use Rattle.conf_session.specs.declared.fault.SessionFault.TheVariants as fault
 use Rattle.conf_session.specs.declared.session.Tally.{Tally}
@@ -86,7 +86,8 @@ pub record EndsInInput (given left held written : Option (List ℕ)) (start : St
   pub all : performed ≡ answered
   pub out : Appends held written (output start answered)
 
--- Exactly so many bytes of the answers were written. The first piece whose answer was not written whole is performed, and none after it.
+-- Exactly so many bytes of the answers were written, at most the limit of an answer for each piece. The first piece whose answer was not
+-- written whole is performed, and none after it.
 pub record EndsInOutput (given left held written : Option (List ℕ)) (start : Stored) (answered performed : List Request) (count : ℕ) : Type 0 where
   pub bytes : List ℕ
   pub taken : Consumes given left bytes
@@ -96,6 +97,7 @@ pub record EndsInOutput (given left held written : Option (List ℕ)) (start : S
   pub out : Appends held written (take count (output start performed))
   pub whole : length (output start answered) ≤ count
   pub cut : count < length (output start performed)
+  pub bound : count ≤ length performed * answer_limit
 
 -- a prefix of the pieces is performed and answered, and these are performed without an answer
 pub record EndsEarly (given left held written : Option (List ℕ)) (start : Stored) (answered performed : List Request) (unanswered : List Request) : Type 0 where

@@ -1,5 +1,5 @@
 // The texts of answers.
-ghost use Rattle.std.specs.Prelude.{◌≡◌, ◌≤◌, IfOk, OnOk, length, string_bytes, decimal, codes};
+ghost use Rattle.std.specs.Prelude.{◌≡◌, ◌≤◌, IfOk, OnOk, string_bytes, decimal, codes};
 ghost use Rattle.std.specs.Str.{chars};
 ghost use Rattle.yaml_grammar.specs.Trees.{depth, text};
 ghost use Rattle.yaml_laws.specs.Closed.{framed, framed_text};
@@ -7,10 +7,9 @@ ghost use Rattle.yaml_tree.specs.Seen.{tree_of};
 ghost use Rattle.conf_session.specs.Requests.{getting, exporting, naming};
 ghost use Rattle.conf_session.specs.Answers.{one};
 ghost use Rattle.conf_session.specs.Runs.{stored_of};
-ghost use Rattle.conf_session.specs.Replies.{Replies, reply_limit};
+ghost use Rattle.conf_session.specs.Replies.{Replies};
 
 use crate::reply::Reply;
-use crate::text_buffer::TextBuffer;
 use conf_disk::Disk;
 use conf_record::StoreFault;
 use conf_store::Store;
@@ -19,23 +18,15 @@ use std::alloc::{AllocError, Global};
 use tree_path::{Path, PathFault, at};
 use yaml_tree::{Sink, Tree, write_key, write_value};
 
-/// The most bytes of an answer. No state has an answer that is nearly as long.
-const ANSWER_LIMIT: usize = 4_294_967_295;
-
 /// The document of a mapping with one key: a line of `---`, the mapping in the one style, and a line
-/// of `...`. A document over the limit counts as out of memory.
+/// of `...`.
 fn answer(alloc: Global, key: &str, value: &Tree) -> Result<String, AllocError>
     requires { depth (tree_of value.now) ≤ 66 }
-    ensures bytes { IfOk result (λ text.
-        string_bytes text ≡ framed (one (chars key.now) (tree_of value.now))) }
-    ensures short { IfOk result (λ text. length (string_bytes text) ≤ reply_limit) }
+    ensures { IfOk result (λ text. string_bytes text
+        ≡ framed (one (chars key.now) (tree_of value.now))) }
 {
-    let mut buffer = TextBuffer::new(alloc);
-    write_answer(key, value, &mut buffer)?;
-    let text = buffer.into_text();
-    if text.len() > ANSWER_LIMIT {
-        return Err(AllocError);
-    }
+    let mut text = String::new(alloc);
+    write_answer(key, value, &mut text)?;
     Ok(text)
 }
 
@@ -53,9 +44,8 @@ fn write_answer<S: Sink>(key: &str, value: &Tree, sink: &mut S) -> Result<(), S:
 
 /// The answer to an accepted command or a checkpoint: the count.
 pub fn count_answer(alloc: Global, count: u64) -> Result<String, AllocError>
-    ensures bytes { IfOk result (λ reply.
+    ensures { IfOk result (λ reply.
         string_bytes reply ≡ framed (one (codes "ok") (text (decimal count)))) }
-    ensures short { IfOk result (λ reply. length (string_bytes reply) ≤ reply_limit) }
 {
     let mut digits = Buffer::new();
     let count = Tree::Text(String::from_str(alloc, digits.format(count))?);

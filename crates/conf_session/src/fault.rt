@@ -10,7 +10,8 @@ pub enum SessionFault {
     /// A read failed.
     #[error("Input")]
     Read,
-    /// A write failed, or took nothing. Exactly the first `written` bytes of the answers were written.
+    /// A write failed, or took nothing. Exactly the first `written` bytes of the answers were written, at most
+    /// 67,108,864 for each piece.
     #[error("Output")]
     Write { written: u64 },
     /// A piece, or what comes after the last closing line, has more than 4,194,304 bytes.

@@ -96,7 +96,7 @@ impl Input {
         ensures { Fills (R.remaining reader.old) (R.remaining reader.new) self.old self.new result }
     {
         let room = CHUNK.min(SESSION_LIMIT - self.total).max(1);
-        match read_front(reader, &mut self.chunk, room) {
+        match read_prefix(reader, &mut self.chunk, room) {
             Ok(0) => Ok(false),
             Ok(_) if self.total == SESSION_LIMIT => Err(SessionFault::SessionLong),
             Ok(count) => {
@@ -111,7 +111,7 @@ impl Input {
 }
 
 /// Reads once, into the first `room` bytes of the chunk.
-fn read_front<R: Read>(reader: &mut R, chunk: &mut [u8], room: usize) -> io::Result<usize>
+fn read_prefix<R: Read>(reader: &mut R, chunk: &mut [u8], room: usize) -> io::Result<usize>
     requires { room ≤ length chunk.old }
     ensures bound { IfOk result (λ count. count ≤ room) }
     ensures bytes { ReadConsumes (R.remaining reader.old) (R.remaining reader.new)

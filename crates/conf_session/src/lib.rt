@@ -5,17 +5,17 @@
 
 mod answer;
 mod fault;
-mod fields;
 mod input;
+mod laws;
 mod output;
 mod pieces;
 mod reply;
 mod said;
 mod session;
-mod text_buffer;
 mod words;
 
 pub use fault::SessionFault;
+pub use laws::answers_are_short;
 pub use session::{Tally, run};
 
 #[cfg(test)]

@@ -8,11 +8,11 @@ use std::test::Fail;
 /// An input with so many letters `x` between two parts.
 fn with_letters(
     alloc: Global,
-    front: &[u8],
+    prefix: &[u8],
     count: usize,
     back: &[u8],
 ) -> Result<Vec<u8>, AllocError> {
-    let mut input = Vec::from_slice(alloc, front)?;
+    let mut input = Vec::from_slice(alloc, prefix)?;
     input.extend_from_slice(vec![in alloc; b'x'; count]?.as_slice())?;
     input.extend_from_slice(back)?;
     Ok(input)
@@ -47,9 +47,9 @@ fn limits_hold_to_the_byte(rt: HostRuntime) -> Result<(), Fail> {
         ),
         (b"#", 4_194_298, end, b"---\nrefused: BadCommand\n...\n"),
     ];
-    for (front, count, back, answers) in cases {
+    for (prefix, count, back, answers) in cases {
         let mut store = open(alloc, MemoryDisk::new(alloc))?;
-        let input = with_letters(alloc, front, count, back)?;
+        let input = with_letters(alloc, prefix, count, back)?;
         let mut output = Vec::new(alloc);
         let mut reader = input.as_slice();
         run(alloc, &mut store, &mut reader, &mut output)?;
@@ -65,9 +65,9 @@ fn a_piece_that_is_too_long_ends_it(rt: HostRuntime) -> Result<(), Fail> {
         (b"names:\n...\n#", 4_194_299, b"\n...\n"),
         (b"names:\n...\n", 4_194_305, b""),
     ];
-    for (front, count, back) in cases {
+    for (prefix, count, back) in cases {
         let mut store = open(alloc, MemoryDisk::new(alloc))?;
-        let input = with_letters(alloc, front, count, back)?;
+        let input = with_letters(alloc, prefix, count, back)?;
         let mut output = Vec::new(alloc);
         let mut reader = input.as_slice();
         let ended = run(alloc, &mut store, &mut reader, &mut output);

@@ -12,7 +12,7 @@ pub fn write_whole<W: Write>(writer: &mut W, bytes: &[u8]) -> Result<(), usize>
     ensures whole { OnOk result
         (Appends (W.contents writer.old) (W.contents writer.new) bytes.now) }
     ensures cut { IfErr result (λ count. count < length bytes.now) }
-    ensures front { IfErr result (λ count.
+    ensures prefix { IfErr result (λ count.
         Appends (W.contents writer.old) (W.contents writer.new) (take count bytes.now)) }
 {
     let mut done = 0;

@@ -1,8 +1,8 @@
 // One piece: performed, and answered.
-ghost use Rattle.std.specs.Prelude.{◌≡◌, ◌≤◌, false, IfOk, IfErr, IsErrOf, length};
+ghost use Rattle.std.specs.Prelude.{◌≡◌, ◌≤◌, false, IfOk, IfErr, IsErrOf};
 ghost use Rattle.conf_store.specs.Calls.{HasFailed};
 ghost use Rattle.conf_store.specs.Durable.{AllImagesMean};
-ghost use Rattle.conf_session.specs.Replies.{accepts, refuses, reply_bytes, reply_limit, IsShort};
+ghost use Rattle.conf_session.specs.Replies.{accepts, refuses, reply_bytes};
 ghost use Rattle.conf_session.specs.Progress.{Answered, Fails, HasRoom};
 
 use crate::SessionFault;
@@ -64,8 +64,7 @@ fn count_refused(reply: &Reply) -> u64
 
 /// The bytes of a reply.
 fn bytes_of(reply: &Reply) -> &[u8]
-    ensures bytes { result.now ≡ reply_bytes reply.now }
-    ensures short { IsShort reply.now → length result.now ≤ reply_limit }
+    ensures { result.now ≡ reply_bytes reply.now }
 {
     match reply {
         Reply::Accepted(text) => text.as_bytes(),

@@ -8,10 +8,10 @@ ghost use Rattle.conf_session.specs.Requests.{Says, said_by, import_said, set_sa
 ghost use Rattle.conf_session.specs.Requests.{export_said, names_said, checkpoint_said, is_empty_text};
 ghost use Rattle.conf_session.specs.Replies.{said_of};
 
-use crate::fields::{is_same, keys_are, next_text, next_value};
+use conf_pieces::{is_same, keys_are, next_text, next_value, part};
 use conf_record::Command;
 use std::alloc::{AllocError, Global};
-use yaml_tree::{Config, Limits, ReadFault, Tree, read_one, style_len};
+use yaml_tree::{Limits, ReadFault, Tree, read_one};
 
 /// The limits of a command document: its bytes, its depth, and its bytes in the one style.
 const COMMAND_LIMITS: Limits = Limits {
@@ -113,17 +113,8 @@ fn set_said(pairs: Vec<(String, Tree)>) -> Said
     if next_value(&mut values).is_some() {
         return Said::Nothing;
     }
-    let value = config_of(value);
+    let value = part(value);
     Said::Change(Command::Set { name, path, value })
-}
-
-/// The configuration that a part of a configuration is.
-fn config_of(tree: Tree) -> Config
-    requires { IsKept (tree_of tree) }
-    ensures { tree_of result ≡ tree_of tree }
-{
-    let length = style_len(&tree, u64::MAX).unwrap();
-    Config::from_parts(tree, length)
 }
 
 fn delete_said(pairs: Vec<(String, Tree)>) -> Said

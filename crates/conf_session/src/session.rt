@@ -49,7 +49,8 @@ pub fn run<D: Disk, R: Read, W: Write>(
     writer: &mut W,
 ) -> Result<Tally, SessionFault>
     ensures runs { Runs D.honest D.folder D.moment D.left
-        (R.remaining reader.old) (R.remaining reader.new) (W.contents writer.old) (W.contents writer.new)
+        (R.remaining reader.old) (R.remaining reader.new) (W.contents writer.old)
+        (W.contents writer.new)
         store.old store.new result }
     ensures reopen { IsErrOf result SessionFault.Reopen ↔ (store.old.reopen ≡ true) }
     ensures unchanged { IsErrOf result SessionFault.Reopen → store.new ≡ store.old }

@@ -251,13 +251,13 @@ fn accepted_commands_are_in_the_file(rt: HostRuntime) -> Result<(), Fail> {
         ),
         (b"import: a\ntext: x\n...\ncheckpoint:\n...\n", base, b""),
     ];
-    for (input, front, rest) in cases {
+    for (input, prefix, rest) in cases {
         let mut store = open(alloc, MemoryDisk::new(alloc))?;
         let mut reader = input;
         run(alloc, &mut store, &mut reader, &mut Vec::new(alloc))?;
         let bytes = file(alloc, store)?;
-        assert!(rt; bytes.starts_with(front));
-        assert_eq!(rt; &bytes[front.len()..], rest);
+        assert!(rt; bytes.starts_with(prefix));
+        assert_eq!(rt; &bytes[prefix.len()..], rest);
     }
     Ok(())
 }

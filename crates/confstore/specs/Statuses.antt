@@ -17,6 +17,7 @@ use Rattle.confstore.specs.declared.program.Status.TheVariants.{Done, Found, Ref
 use Rattle.confstore.specs.declared.tools.ToolFault.{ToolFault}
 use Rattle.confstore.specs.declared.tools.ToolFault.TheVariants.{Input, Output, Read}
 
+-- the number of a status
 abbrev pub code_of : Status → ℕ
 code_of Done = 0
 code_of Found = 1
@@ -24,11 +25,13 @@ code_of Refused = 1
 code_of WrongWords = 2
 code_of Device = 3
 
+-- the status after a fault of `format` or `check`
 abbrev pub status_of : ToolFault → Status
 status_of Input = Device
 status_of Output = Device
 status_of (Read fault) = Refused
 
+-- the status after a fault of `run` or `export`
 abbrev pub status_of_store : StoreToolFault → Status
 status_of_store (InFolder FolderFault.Device) = Device
 status_of_store (InFolder FolderFault.Locked) = Device
@@ -57,9 +60,9 @@ AnswersAll given left held written = (start : Stored) × (tally : Tally) × Answ
 abbrev pub AnswersSome : Option (List ℕ) → Option (List ℕ) → Option (List ℕ) → Option (List ℕ) → Type 0
 AnswersSome given left held written = (start : Stored) × (fault : SessionFault) × Answers given left held written start (Err fault)
 
--- Where it is done, the input was formatted, or checked and nothing found in it, or its commands were answered, or none was read, as for
--- help and `export`. At 1 the findings of the input were written, or some answers, or nothing: the input was refused, or memory ran out.
--- Where the words are wrong, nothing was written.
+-- Where it is done, the input was formatted, or checked and nothing found in it, or its commands were answered, or none
+-- was read, as for help and `export`. At 1 the findings of the input were written, or some answers, or nothing: the
+-- input was refused, or memory ran out. Where the words are wrong, nothing was written.
 pub record Performs (given left held written : Option (List ℕ)) (status : ℕ) : Type 0 where
   pub known : status ≤ 3
   pub done : status ≡ 0 → Formats given left held written ⊎ Checks given left held written 0 ⊎ AnswersAll given left held written ⊎ Keeps given left

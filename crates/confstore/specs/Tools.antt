@@ -1,4 +1,5 @@
--- What a tool has read from its reader, and what it has written to its writer. Each knows its bytes, or says nothing of them.
+-- What a tool has read from its reader, and what it has written to its writer. Each knows its bytes, or says nothing of
+-- them.
 use Rattle.std.specs.Prelude.{◌≡◌, ℕ, ◌<◌, ◌≤◌, List, [], ◌∷◌, ◌++◌, Option, length, codes, decimal, encode_utf8_all}
 use Rattle.std.specs.Io.KnownBytes.{Consumes, IsAtEnd, Keeps, Appends}
 use Rattle.yaml_grammar.specs.Style.{style_text}
@@ -26,10 +27,11 @@ pub record Formats (given left held written : Option (List ℕ)) : Type 0 where
   pub reads : IsRead bytes configuration tree
   pub writes : Appends held written (encode_utf8_all (style_text tree))
 
--- the line that tells a finding: the rule's name, a space, and the number of the line
+-- the line for a finding: the rule's name, a space, and the number of the line
 abbrev pub report_line : Finding → List ℕ
 report_line f = name_of f.rule ++ codes " " ++ decimal f.line ++ codes "\n"
 
+-- the lines for all findings
 abbrev pub report : List Finding → List ℕ
 report [] = []
 report (f ∷ fs) = report_line f ++ report fs
@@ -59,7 +61,7 @@ pub record StopsInOutput (given left : Option (List ℕ)) : Type 0 where
   pub at_end : IsAtEnd left
   pub reads : IsRead bytes configuration tree
 
--- what holds where a tool stops; want of memory may come before all is read
+-- what holds where a tool ends with a fault; it may run out of memory before everything is read
 abbrev pub Stops : Option (List ℕ) → Option (List ℕ) → Option (List ℕ) → Option (List ℕ) → ToolFault → Type 0
 Stops given left held written Input = Keeps held written
 Stops given left held written Output = StopsInOutput given left

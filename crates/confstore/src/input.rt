@@ -14,8 +14,10 @@ const CHUNK: usize = 65_536;
 ///
 /// `Input` where a read fails, and `Read(OutOfMemory)` where there is no memory for the bytes.
 pub fn read_up_to<R: Read>(alloc: Global, reader: &mut R, most: usize) -> Result<Vec<u8>, ToolFault>
-    ensures ok { IfOk result (λ bytes. HasRead (R.remaining reader.old) (R.remaining reader.new) bytes.items most) }
-    ensures faults { IfErr result (λ fault. (fault ≡ ToolFault.Input) ⊎ (fault ≡ ToolFault.Read ReadFault.OutOfMemory)) }
+    ensures ok { IfOk result (λ bytes.
+        HasRead (R.remaining reader.old) (R.remaining reader.new) bytes.items most) }
+    ensures faults { IfErr result (λ fault. (fault ≡ ToolFault.Input)
+        ⊎ (fault ≡ ToolFault.Read ReadFault.OutOfMemory)) }
 {
     let mut bytes = Vec::new(alloc);
     let mut chunk = [0; CHUNK];

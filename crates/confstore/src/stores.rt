@@ -38,9 +38,11 @@ pub enum StoreToolFault {
 
 /// Opens the store on `disk`.
 fn open_store<D: Disk + Drop>(alloc: Global, disk: D) -> Result<Store<D>, StoreToolFault>
-    ensures means { D.honest → IfOk result (λ store. FileMeans (bytes_under (D.folder disk) Name.Store) store.state) }
+    ensures means { D.honest → IfOk result (λ store.
+        FileMeans (bytes_under (D.folder disk) Name.Store) store.state) }
     ensures no_reopen { IfOk result (λ store. store.reopen ≡ false) }
-    ensures fault { IfErr result (λ fault. (cause : OpenFault) × (fault ≡ StoreToolFault.Open cause)) }
+    ensures fault { IfErr result (λ fault. (cause : OpenFault)
+        × (fault ≡ StoreToolFault.Open cause)) }
 {
     match Store::open(alloc, disk) {
         Ok((store, _)) => Ok(store),

@@ -197,8 +197,8 @@ fn keys_have_1024_characters(rt: HostRuntime) -> Result<(), Fail> {
         ("", 1_025, ": v\n", 0),
         ("? ", 1_025, "\n: v\n", 1_034),
     ];
-    for (front, letters, end, length) in cases {
-        let mut text = String::from_str(alloc, front)?;
+    for (prefix, letters, end, length) in cases {
+        let mut text = String::from_str(alloc, prefix)?;
         for _ in 0..letters {
             text.push('k')?;
         }

@@ -11,11 +11,11 @@ use Rattle.conf_record.proofs.LineLemmas.{ascii}
 use Rattle.conf_session.specs.Answers.{one}
 use Rattle.conf_session.proofs.answer.count_answer.Goals as goal
 
-pub returns-clause-bytes : goal.returns-clause-bytes
-returns-clause-bytes c =
+pub returns : goal.returns
+returns c =
     let digits = c.in_ok-from_str.field-0 in
     let spelled : tree_of (Text digits) ≡ text (decimal c.args.count) =
     tree_of-Text digits ∙ ap (λ b. text (chars b)) c.in_ok-from_str.ensures.ok ∙ ap text (chars-IsAscii c.format.result.now c.format.ensures.ascii ∙ c.format.ensures.text) in
     IfOk-weaker c.answer.result _ _
     (λ reply e. e ∙ ap (λ k. framed (one k (tree_of (Text digits)))) (ascii (codes "ok") refl) ∙ ap (λ t. framed (one (codes "ok") t)) spelled)
-    c.answer.ensures.bytes
+    c.answer.ensures

@@ -20,8 +20,7 @@ returns-in_ok-answer-in-Ok g c =
     let exports = c.in-Ok.ensures.ok in
     let spelled : tree_of (Text written) ≡ text (style_text exports.tree) = tree_of-Text written ∙ ap text exports.style in
     export-text (stored_of c.args.store.now) (chars c.args.name.now) exports.tree c.in_ok-answer-in-Ok.field-0 exports.is
-    (c.in_ok-answer-in-Ok.ensures.bytes ∙ ap (λ k. framed (one k (tree_of (Text written)))) (ascii (codes "text") refl) ∙ ap (λ t. framed (one (codes "text") t)) spelled)
-    c.in_ok-answer-in-Ok.ensures.short
+    (c.in_ok-answer-in-Ok.ensures ∙ ap (λ k. framed (one k (tree_of (Text written)))) (ascii (codes "text") refl) ∙ ap (λ t. framed (one (codes "text") t)) spelled) c.in-Ok.ensures.limits
 
 pub returns-in-Err : goal.returns-in-Err
 returns-in-Err g c =

@@ -29,6 +29,5 @@ returns g c =
     let all = names_of c.args.store.now.state.configs in
     let listed : tree_of (Seq c.loop-name.names) ≡ sequence (text_elements all) =
     names-all c.loop-name.names c.loop-name.name-iterator all c.loop-name.invariant c.in-None.ensures.steps.0 in
-    names-listed (stored_of c.args.store.now) c.in_ok-answer.field-0
-    (c.in_ok-answer.ensures.bytes ∙ ap (λ k. framed (one k (tree_of (Seq c.loop-name.names)))) (ascii (codes "names") refl) ∙ ap (λ t. framed (one (codes "names") t)) listed)
-    c.in_ok-answer.ensures.short
+    names-listed (stored_of c.args.store.now) c.names-name-items.ensures.limits c.in_ok-answer.field-0
+    (c.in_ok-answer.ensures ∙ ap (λ k. framed (one k (tree_of (Seq c.loop-name.names)))) (ascii (codes "names") refl) ∙ ap (λ t. framed (one (codes "names") t)) listed)

@@ -5,6 +5,7 @@ use Rattle.conf_record.specs.Commands.{text_of}
 use Rattle.conf_session.specs.Requests.{import_text, get_at, export_of, MeansRequest, getting, exporting, bad}
 use Rattle.conf_session.specs.Replies.{DidSaid, said_of}
 use Rattle.conf_session.specs.declared.reply.Reply.TheVariants.{NoCommand}
+use Rattle.conf_session.proofs.LengthLemmas.{bad-short}
 use Rattle.conf_session.proofs.RequestLemmas.{said-read}
 use Rattle.conf_session.proofs.reply.answer_said.Goals as goal
 
@@ -37,4 +38,4 @@ pub returns-in-Nothing-clause-did : goal.returns-in-Nothing-clause-did
 returns-in-Nothing-clause-did g c off =
     let d = g.D.Disk in
     said-read d.honest d.folder d.moment d.left c.args.store.now off (λ image h is. g.met.D.Disk.only_now c.args.store.now.disk image h is) c.requires.means
-    (said_of c.args.said) bad (subst (λ s. MeansRequest s bad) (sym (ap said_of c.in-Nothing.is)) refl) tt NoCommand (record { bytes = refl; accepted = refl; refused = refl; short = tt })
+    (said_of c.args.said) bad (subst (λ s. MeansRequest s bad) (sym (ap said_of c.in-Nothing.is)) refl) tt NoCommand (record { bytes = refl; accepted = refl; refused = refl; short = bad-short })

@@ -1,11 +1,14 @@
 -- What the store did with the command.
-use Rattle.std.proofs.Common.{◌≡◌, ap, ◌∙◌, subst, true, ◌+◌}
+use Rattle.std.proofs.Common.{rules, ◌≡◌, ap, sym, ◌∙◌, subst, true, ◌+◌}
 use Rattle.std.specs.Prelude.{min, Ok, Err}
 use Rattle.conf_record.specs.Commands.{command_of}
 use Rattle.conf_record.specs.States.{count_limit}
 use Rattle.conf_store.specs.Calls.{RefusesCommand, outcome, has_room}
+use Rattle.conf_store.specs.View.{StoreView}
+use Rattle.conf_session.specs.Requests.{changing}
+use Rattle.conf_session.specs.Replies.{Performs}
 use Rattle.conf_session.specs.Runs.{stored_of}
-use Rattle.conf_session.proofs.RequestLemmas.{count-after, accepted-reply, command-performed}
+use Rattle.conf_session.proofs.RequestLemmas.{count-after, accepted-reply, refused-reply, command-performed, command-refused}
 use Rattle.conf_session.proofs.reply.change.Goals as goal
 
 pub returns-in-Ok-clause-did : goal.returns-in-Ok-clause-did
@@ -15,9 +18,9 @@ returns-in-Ok-clause-did g c off =
     let new = c.apply.new.self in
     let command = command_of c.args.command in
     let ok = c.in-Ok.ensures.ok.0 in
-    let next : c.saturating_add-next.result ≡ min (old.state.count + 1) count_limit = c.saturating_add-next.ensures ∙ ap (λ n. min (n + 1) count_limit) c.count.ensures in
+    let next : c.saturating_add-next.result ≡ min (old.state.count + 1) count_limit = c.saturating_add-next.ensures ∙ ap (λ n. min (n + 1) count_limit) c.count.ensures.count in
     let same = count-after old.state new.state command (has_room old.size old.state command) c.saturating_add-next.result ok.step ok.count next in (
-      accepted-reply (stored_of old) new.state command c.in_ok-answer.answer c.saturating_add-next.result ok.step same c.in_ok-answer.ensures.bytes c.in_ok-answer.ensures.short,
+      accepted-reply (stored_of old) c.count.ensures.limits new.state command c.in_ok-answer.answer c.saturating_add-next.result ok.step same c.in_ok-answer.ensures,
       ok.reopen,
       command-performed d.honest d.folder d.moment d.left old new command ok.step (λ on. ok.size) (λ h on. c.in-Ok.ensures.reads h off) (λ h. c.in-Ok.ensures.any_moment h off),
     )
@@ -32,4 +35,18 @@ returns-in-Err-Device-clause-did g c off =
     let done : outcome old.size old.state command ≡ Ok new.state = subst (RefusesCommand old command new) c.in-Err-Device.field-0-is c.in-Err-Device.ensures.refused in (
       broken,
       command-performed d.honest d.folder d.moment d.left old new command done (λ on. absurd (cc (on, broken))) (λ h on. absurd (cc (on, broken))) (λ h. c.in-Err-Device.ensures.any_moment h off),
+    )
+
+pub returns-clause-did : goal.returns-clause-did
+returns-clause-did g c off =
+    let d = g.D.Disk in
+    let old = c.args.store.now in
+    let new = c.apply.new.self in
+    let command = command_of c.args.command in
+    let refused : outcome old.size old.state command ≡ Err c.in-Err.fault = search rules in
+    let same : new ≡ old = search rules in (
+      refused-reply (stored_of old) c.count.ensures.limits command c.in-Err.fault refused,
+      ap (λ (s : StoreView g.row.D.Denot). s.reopen) same ∙ off,
+      subst (λ s. Performs d.honest d.folder d.moment d.left old s (changing command)) (sym same)
+          (command-refused d.honest d.folder d.moment d.left old off command c.in-Err.fault refused (λ image h is. g.met.D.Disk.only_now old.disk image h is) c.requires.means),
     )

@@ -4,6 +4,9 @@ use Rattle.std.specs.Prelude.{decimal, codes, Err}
 use Rattle.yaml_grammar.specs.Trees.{text}
 use Rattle.yaml_laws.specs.Closed.{framed}
 use Rattle.conf_session.specs.Answers.{one}
+use Rattle.conf_session.specs.Requests.{checkpointing}
+use Rattle.conf_session.specs.Runs.{stored_of}
+use Rattle.conf_session.proofs.LengthLemmas.{answer-short}
 use Rattle.conf_session.proofs.RequestLemmas.{checkpointed}
 use Rattle.conf_session.proofs.reply.checkpoint.Goals as goal
 
@@ -14,10 +17,10 @@ returns-in-Ok-clause-did g c off =
     let new = c.checkpoint.new.self in
     let ok = c.in-Ok.ensures.ok in (
       record {
-        bytes = c.in_ok-answer.ensures.bytes ∙ ap (λ n. framed (one (codes "ok") (text (decimal n)))) c.count.ensures;
+        bytes = c.in_ok-answer.ensures ∙ ap (λ n. framed (one (codes "ok") (text (decimal n)))) c.count.ensures.count;
         accepted = refl;
         refused = refl;
-        short = c.in_ok-answer.ensures.short;
+        short = answer-short (stored_of old) checkpointing c.count.ensures.limits;
       },
       ok.0,
       checkpointed d.honest d.folder d.moment d.left old new c.checkpoint.ensures.state (λ on. ok.1) (λ h on. c.in-Ok.ensures.reads h) (λ h. c.in-Ok.ensures.any_moment h off),

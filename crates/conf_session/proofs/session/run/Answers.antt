@@ -64,7 +64,7 @@ returns-in_err-counts-clause-runs g c =
     c.piece.ensures (c.in_err-counts.ensures.fails inv.sound) in
     let ends = ends-failing d.honest d.folder d.moment d.left (given c.args.reader.now) (given c.pieces.reader) (given c.advance.new.reader)
     (held c.args.writer.now) (held c.pieces.writer) c.args.store.now c.pieces.store c.pieces.input c.advance.new.self c.pieces.counts inv.so_far advances
-    (held c.perform_piece.new.writer) c.perform_piece.new.store f fails c.in_err-counts.ensures.now
+    (held c.perform_piece.new.writer) c.perform_piece.new.store f fails inv.out c.in_err-counts.ensures.now
     (λ t image h le is. g.met.D.Disk.counts_now c.perform_piece.new.store.disk t image h le is) in
     let p = err_from_is_err_and c.from_residual-in_err-counts.result c.from_residual-in_err-counts.ensures.1 in
     rw (p.1, p.2) ends

@@ -2,7 +2,7 @@
 use Rattle.std.proofs.Common.{◌≡◌, ◌≤◌, ◌+◌, ◌-◌, ◌*◌, false, length}
 use Rattle.conf_store.specs.Durable.{AllImagesMean}
 use Rattle.conf_session.specs.Input.{IsSound, ahead, session_limit}
-use Rattle.conf_session.specs.Replies.{reply_limit}
+use Rattle.conf_session.specs.Answers.{answer_limit}
 use Rattle.conf_session.proofs.SessionLemmas.{SoFar}
 use Rattle.conf_session.proofs.session.run.Given as goal
 
@@ -18,7 +18,7 @@ invariant-pieces g l = let d = g.D.Disk in record {
   few : l.counts.tally.documents + length (ahead l.input) ≤ l.input.total;
   accepted : l.counts.tally.accepted ≤ l.counts.tally.documents;
   refused : l.counts.tally.refused ≤ l.counts.tally.documents;
-  out : l.counts.written ≤ l.counts.tally.documents * reply_limit;
+  out : l.counts.written ≤ l.counts.tally.documents * answer_limit;
 }
 
 abbrev pub decreases-pieces : goal.decreases-pieces

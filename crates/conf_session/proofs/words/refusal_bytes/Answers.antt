@@ -4,5 +4,5 @@ use Rattle.conf_session.specs.Answers.{refusal, word}
 use Rattle.conf_session.proofs.WordLemmas.{spelled-JournalLong}
 use Rattle.conf_session.proofs.words.refusal_bytes.Goals as goal
 
-pub returns-in-JournalLong-clause-bytes : goal.returns-in-JournalLong-clause-bytes
-returns-in-JournalLong-clause-bytes c = sym (ap (λ f. framed (refusal (word f))) c.in-JournalLong.is ∙ spelled-JournalLong)
+pub returns-in-JournalLong : goal.returns-in-JournalLong
+returns-in-JournalLong c = sym (ap (λ f. framed (refusal (word f))) c.in-JournalLong.is ∙ spelled-JournalLong)

@@ -1,0 +1,305 @@
+-- How many bytes answers have: no more than a base.
+use Rattle.std.proofs.Common.{◌≡◌, refl, ◌∙◌, ap, arith, ◌≤◌, ◌<◌}
+use Rattle.std.specs.Prelude.{ℕ, suc, ◌+◌, ◌==◌, Bool, true, false, not, ◌&&◌, nat_le, nat_lt, if◌then◌else◌, List, [], ◌∷◌, ◌++◌, length, codes, decimal, Option, Some, None, Result, Ok, Err}
+use Rattle.std.proofs.lemmas.Bool.{and_parts}
+use Rattle.std.proofs.lemmas.Bool.Decides.{nat_tests}
+use Rattle.std.proofs.lemmas.Fmt.{decimal_is_IsNumeral, length-decimal-le}
+use Rattle.yaml_chars.specs.Classes.{is_in}
+use Rattle.yaml_grammar.specs.Texts.{byte_len, spaces, every, first, same_text}
+use Rattle.yaml_grammar.specs.Trees.{Tree, text, sequence, mapping, no_element, element, no_member, member}
+use Rattle.yaml_grammar.specs.Style.{plain_in_style, literal_in_style, literal_mark, literal_lines, feeds_at_end, quoted, scalar_lines, key_text, long_key, key_lines, elements_after, value_at, style_text}
+use Rattle.yaml_laws.specs.Closed.{framed, framed_text}
+use Rattle.yaml_docs.specs.declared.fault.ReadFault.{ReadFault}
+use Rattle.yaml_docs.specs.declared.fault.ReadFault.TheVariants as read
+use Rattle.yaml_tree.specs.BudgetLaws.{byte_len-append}
+use Rattle.tree_path.specs.declared.fault.PathFault.{PathFault}
+use Rattle.tree_path.specs.declared.fault.PathFault.TheVariants as path
+use Rattle.tree_path.specs.declared.place.Miss.{Miss}
+use Rattle.tree_path.specs.Paths.{at, at_from, at_step, child, refusal as step_refusal}
+use Rattle.tree_path.specs.Pointers.{path_of}
+use Rattle.tree_path.proofs.Located.{child-within}
+use Rattle.conf_record.specs.Commands.{Command, name_of}
+use Rattle.conf_record.specs.Names.{small_letter, name_char, good_name}
+use Rattle.conf_record.specs.States.{Entry, Contents, names_of, config_named, base_limit, count_limit}
+use Rattle.conf_record.specs.Limits.{AreConfigs, IsState}
+use Rattle.conf_record.specs.Steps.{step, counted, configs_after, and_then, found, by_path}
+use Rattle.conf_record.specs.BaseTexts.{base_length, entry_length, entries_length}
+use Rattle.conf_record.specs.declared.fault.StoreFault.{StoreFault}
+use Rattle.conf_record.specs.declared.fault.StoreFault.TheVariants as store
+use Rattle.conf_record.proofs.BaseLemmas.{count_bytes, base_length-framed}
+use Rattle.conf_record.proofs.RunLaws.{and_then-Ok, step-one}
+use Rattle.conf_record.proofs.SizeLemmas.{size, scalar_most, value_size}
+use Rattle.yaml_tree.proofs.ByteLemmas.{byte_len-encoded}
+use Rattle.conf_store.specs.Calls.{outcome, has_room, tree_named}
+use Rattle.conf_session.specs.Requests.{Request, changing, unread, getting, exporting, naming, checkpointing, bad}
+use Rattle.conf_session.specs.Answers.{Stored, one, text_elements, read_word, path_word, word, refusal, answer_or_refusal, value_at_path, unread_fault, change_answer, answer, answer_limit}
+use Rattle.conf_session.proofs.WordLemmas.{spelled-BadName, spelled-BadPath, spelled-ConfigLarge, spelled-CountFull, spelled-Documents, spelled-JournalLong, spelled-KeyNotText, spelled-KeyTwice, spelled-LargeInStyle, spelled-NoConfig, spelled-NoSuchPlace, spelled-NotIndex, spelled-NotUtf8, spelled-StoreFull, spelled-Syntax, spelled-TooDeep, spelled-TooLong, spelled-none, spelled-BadCommand}
+
+-- ---- a document of one key
+
+-- its key, its value, and 8 bytes around them
+pub document-length : (key : List ℕ) (v : Tree) → length (framed (one key v)) ≡ 8 + byte_len (key_lines 0 key) + byte_len (value_at v 0)
+document-length key v =
+    let style = key_lines 0 key ++ value_at v 0 ++ [] in
+    omega (
+      arith,
+      byte_len-encoded (framed_text (one key v)),
+      byte_len-append style (codes "...\n"),
+      byte_len-append (key_lines 0 key ++ value_at v 0) [],
+      byte_len-append (key_lines 0 key) (value_at v 0),
+    )
+
+-- ---- the value at a path
+
+at-size : (step : ℕ) (t v : Tree) (tokens : List (List ℕ)) → at_from step t tokens ≡ Ok v → size v ≤ size t
+at-size step t v [] e = let same : t ≡ v = cc in let bytes = ap size same in omega (arith, bytes)
+at-size step t v (token ∷ tokens) e = by (child t token) (λ u. at-size (suc step) u v tokens) refl e
+  where
+    by : (r : Result Tree Miss) → ((u : Tree) → at_from (suc step) u tokens ≡ Ok v → size v ≤ size u) → child t token ≡ r
+        → at_step step r (λ u. at_from (suc step) u tokens) ≡ Ok v → size v ≤ size t
+    by (Ok u) rest is e = let deeper = rest u e in let here = (child-within t u token is).0 in omega (arith, deeper, here)
+    by (Err miss) rest is e = let never : Err (step_refusal miss step) ≡ Ok v = e in cc
+
+pub value-short : (t v : Tree) (tokens : List (List ℕ)) → at t tokens ≡ Ok v → size v ≤ size t
+value-short t v tokens e = at-size 1 t v tokens e
+
+pub named-short : (es : List Entry) (name : List ℕ) (t : Tree) → AreConfigs es → config_named es name ≡ Some t → size t ≤ 1048576
+named-short [] name t all is = cc
+named-short (e ∷ es) name t all is = by (same_text name e.0) is (named-short es name t all.2)
+  where
+    by : (b : Bool) → (if b then Some e.1 else config_named es name) ≡ Some t → (config_named es name ≡ Some t → size t ≤ 1048576) → size t ≤ 1048576
+    by true here rest =
+        let same : e.1 ≡ t = cc in
+        let bytes = ap size same in
+        let long = all.1.long in
+        omega arith
+    by false there rest = rest there
+
+-- a text as a value
+pub text-value-length : (value : List ℕ) → byte_len (value_at (text value) 0) ≡ 1 + byte_len (scalar_lines 2 value)
+text-value-length value = omega arith
+
+-- ---- names
+
+name_no_feed : (c : ℕ) → name_char c ≡ true → (10 == c) ≡ false
+name_no_feed c e = grind (arith, nat_tests)
+
+names_no_feed : (cs : List ℕ) → every name_char cs ≡ true → is_in 10 cs ≡ false
+names_no_feed [] all = refl
+names_no_feed (c ∷ cs) all =
+    let parts = and_parts (name_char c) (every name_char cs) all in
+    rw (name_no_feed c parts.0) (names_no_feed cs parts.1)
+
+-- a name as an element has the bytes of its key, and a line feed
+name-element : (name : List ℕ) → good_name name ≡ true → byte_len (scalar_lines 4 name) ≡ 1 + byte_len (key_text name)
+name-element name good = by (plain_in_style name) (literal_in_style name) no_literal
+  where
+    no_literal : literal_in_style name ≡ false
+    no_literal =
+        let outer = and_parts (first small_letter name && every name_char name) _ good in
+        rw (names_no_feed name (and_parts (first small_letter name) (every name_char name) outer.0).1) refl
+
+    by : (plain literal : Bool) → literal ≡ false
+        → byte_len (if plain then name ++ codes "\n" else if literal then literal_mark (feeds_at_end name) ++ codes "\n" ++ literal_lines 4 true name else quoted name ++ codes "\n")
+        ≡ 1 + byte_len (if plain then name else quoted name)
+    by true literal e = omega (arith, byte_len-append name (codes "\n"))
+    by false false e = omega (arith, byte_len-append (quoted name) (codes "\n"))
+    by false true e = cc
+
+key-bytes : (key : List ℕ) → 1 + byte_len (key_text key) ≤ byte_len (key_lines 2 key)
+key-bytes key = by (long_key key) (key_text key)
+  where
+    by : (long : Bool) (shown : List ℕ)
+        → 1 + byte_len shown ≤ byte_len (if long then codes "? " ++ shown ++ codes "\n" ++ spaces 2 ++ codes ":" else shown ++ codes ":")
+    by true shown =
+        omega (
+          arith,
+          byte_len-append (codes "? " ++ shown ++ codes "\n" ++ spaces 2) (codes ":"),
+          byte_len-append (codes "? " ++ shown ++ codes "\n") (spaces 2),
+          byte_len-append (codes "? " ++ shown) (codes "\n"),
+        )
+    by false shown = omega (arith, byte_len-append shown (codes ":"))
+
+scalar-bytes : (j : ℕ) (value : List ℕ) → 1 ≤ byte_len (scalar_lines j value)
+scalar-bytes j value = by (plain_in_style value) (literal_in_style value)
+  where
+    by : (plain literal : Bool)
+        → 1 ≤ byte_len (if plain then value ++ codes "\n" else if literal then literal_mark (feeds_at_end value) ++ codes "\n" ++ literal_lines j true value else quoted value ++ codes "\n")
+    by true literal = omega (arith, byte_len-append value (codes "\n"))
+    by false true =
+        omega (
+          arith,
+          byte_len-append (literal_mark (feeds_at_end value) ++ codes "\n") (literal_lines j true value),
+          byte_len-append (literal_mark (feeds_at_end value)) (codes "\n"),
+        )
+    by false false = omega (arith, byte_len-append (quoted value) (codes "\n"))
+
+value-bytes : (t : Tree) → 2 ≤ byte_len (value_at t 2)
+value-bytes (text value) = omega (arith, scalar-bytes 4 value)
+value-bytes (sequence no_element) = omega arith
+value-bytes (sequence (element t ts)) = omega arith
+value-bytes (mapping no_member) = omega arith
+value-bytes (mapping (member key t ms)) = omega arith
+
+-- a name in a list has no more bytes than its configuration in a base text
+name-bytes : (name : List ℕ) (t : Tree) → good_name name ≡ true → byte_len (spaces 2 ++ codes "- " ++ scalar_lines 4 name) ≤ entry_length name t
+unfolding entry_length
+name-bytes name t good =
+    omega (
+      arith,
+      name-element name good,
+      key-bytes name,
+      value-bytes t,
+      byte_len-append (spaces 2 ++ key_lines 2 name) (value_at t 2),
+      byte_len-append (spaces 2) (key_lines 2 name),
+    )
+
+names-bytes : (es : List Entry) → AreConfigs es → byte_len (elements_after (text_elements (names_of es)) 2) ≤ entries_length es
+names-bytes [] all = omega arith
+names-bytes (e ∷ es) all =
+    omega (
+      arith,
+      name-bytes e.0 e.1 all.0,
+      names-bytes es all.2,
+      byte_len-append (spaces 2 ++ codes "- " ++ scalar_lines 4 e.0) (elements_after (text_elements (names_of es)) 2),
+    )
+
+-- the list of the names, as a value
+pub names-value-length : (es : List Entry) → AreConfigs es → byte_len (value_at (sequence (text_elements (names_of es))) 0) ≤ 4 + entries_length es
+names-value-length [] all = omega arith
+names-value-length (e ∷ es) all = omega (arith, names-bytes (e ∷ es) all)
+
+pub entries-short : (s : Contents) → IsState s → entries_length s.configs + 42 ≤ base_limit
+entries-short s kept =
+    let whole = base_length-framed s.count s.configs (let numbered = kept.numbered in omega arith) in
+    let short = kept.short in
+    grind (arith, nat_tests, whole, short)
+
+-- ---- counts
+
+pub count-value-length : (n : ℕ) → n ≤ count_limit → byte_len (value_at (text (decimal n)) 0) ≤ 24
+count-value-length n small =
+    omega (arith, count_bytes (decimal n) (decimal_is_IsNumeral n (omega arith)).0.1, length-decimal-le 20 n (omega arith) (omega arith) (omega arith))
+
+-- ---- the count after a command
+
+le-false : (a b : ℕ) → nat_le a b ≡ false → b < a
+le-false a b e = grind (arith, nat_tests)
+
+counted-few : (s new : Contents) (fits : Bool) (configs : List Entry) → counted s fits configs ≡ Ok new → s.count < count_limit
+counted-few s new fits configs e =
+    le-false count_limit s.count
+    (by (nat_lt base_limit (base_length (record { configs = configs; count = s.count + 1 }))) fits (nat_le count_limit s.count) e)
+  where
+    by : (full room last : Bool)
+        → (if full then Err store.StoreFull else if not room then Err store.JournalLong else if last then Err store.CountFull else Ok (record { configs = configs; count = s.count + 1 })) ≡ Ok new
+        → last ≡ false
+    by true room last is = cc
+    by false false last is = cc
+    by false true true is = cc
+    by false true false is = refl
+
+pub step-few : (s new : Contents) (command : Command) (fits : Bool) → step s command fits ≡ Ok new → s.count < count_limit
+step-few s new command fits e = by (good_name (name_of command)) e
+  where
+    by : (good : Bool) → (if good then and_then (configs_after s.configs command) (counted s fits) else Err store.BadName) ≡ Ok new → s.count < count_limit
+    by true is = (let done = and_then-Ok (configs_after s.configs command) (counted s fits) new is in counted-few s new fits done.0 done.2)
+    by false is = cc
+
+-- ---- refusals
+
+refused : (word spelled : List ℕ) → framed (refusal word) ≡ spelled → length spelled ≤ answer_limit → length (framed (refusal word)) ≤ answer_limit
+refused word spelled is few = let bytes = ap length is in omega (arith, bytes, few)
+
+read_refused : (fault : ReadFault) → length (framed (refusal (read_word fault))) ≤ answer_limit
+read_refused read.TooLong = refused (codes "TooLong") _ spelled-TooLong (omega arith)
+read_refused (read.NotUtf8 at) = refused (codes "NotUtf8") _ spelled-NotUtf8 (omega arith)
+read_refused (read.Syntax line column why) = refused (codes "Syntax") _ spelled-Syntax (omega arith)
+read_refused (read.Documents count) = refused (codes "Documents") _ spelled-Documents (omega arith)
+read_refused read.KeyNotText = refused (codes "KeyNotText") _ spelled-KeyNotText (omega arith)
+read_refused read.KeyTwice = refused (codes "KeyTwice") _ spelled-KeyTwice (omega arith)
+read_refused read.TooDeep = refused (codes "TooDeep") _ spelled-TooDeep (omega arith)
+read_refused read.LargeInStyle = refused (codes "LargeInStyle") _ spelled-LargeInStyle (omega arith)
+read_refused read.OutOfMemory = refused [] _ spelled-none (omega arith)
+
+path_refused : (fault : PathFault) → length (framed (refusal (path_word fault))) ≤ answer_limit
+path_refused (path.BadPath at) = refused (codes "BadPath") _ spelled-BadPath (omega arith)
+path_refused (path.NoSuchPlace step) = refused (codes "NoSuchPlace") _ spelled-NoSuchPlace (omega arith)
+path_refused (path.NotIndex step) = refused (codes "NotIndex") _ spelled-NotIndex (omega arith)
+path_refused path.OutOfMemory = refused [] _ spelled-none (omega arith)
+
+pub refusal-short : (fault : StoreFault) → length (framed (refusal (word fault))) ≤ answer_limit
+refusal-short (store.Path fault) = path_refused fault
+refusal-short (store.Read fault) = read_refused fault
+refusal-short store.BadName = refused (codes "BadName") _ spelled-BadName (omega arith)
+refusal-short store.NoConfig = refused (codes "NoConfig") _ spelled-NoConfig (omega arith)
+refusal-short store.TooDeep = refused (codes "TooDeep") _ spelled-TooDeep (omega arith)
+refusal-short store.ConfigLarge = refused (codes "ConfigLarge") _ spelled-ConfigLarge (omega arith)
+refusal-short store.StoreFull = refused (codes "StoreFull") _ spelled-StoreFull (omega arith)
+refusal-short store.JournalLong = refused (codes "JournalLong") _ spelled-JournalLong (omega arith)
+refusal-short store.CountFull = refused (codes "CountFull") _ spelled-CountFull (omega arith)
+refusal-short store.Reopen = refused [] _ spelled-none (omega arith)
+refusal-short store.Device = refused [] _ spelled-none (omega arith)
+refusal-short store.OutOfMemory = refused [] _ spelled-none (omega arith)
+
+pub bad-short : length (framed (refusal (codes "BadCommand"))) ≤ answer_limit
+bad-short = refused (codes "BadCommand") _ spelled-BadCommand (omega arith)
+
+-- ---- answers
+
+by_path-Ok : {A : Type 0} (r : Result A PathFault) (x : A) → by_path r ≡ Ok x → r ≡ Ok x
+by_path-Ok (Ok y) x is = cc
+by_path-Ok (Err fault) x is = let refused : Err (store.Path fault) ≡ Ok x = is in cc
+
+named-size : (s : Contents) (name : List ℕ) (t : Tree) → IsState s → tree_named s name ≡ Ok t → size t ≤ 1048576
+named-size s name t kept is = by (good_name name) (config_named s.configs name) refl is
+  where
+    by : (good : Bool) (o : Option Tree) → config_named s.configs name ≡ o → (if good then found o else Err store.BadName) ≡ Ok t → size t ≤ 1048576
+    by true (Some u) there e = let same : u ≡ t = cc in named-short s.configs name t kept.configs (there ∙ ap Some same)
+    by true None there e = cc
+    by false o there e = cc
+
+value-size : (s : Contents) (name p : List ℕ) (v : Tree) → IsState s → value_at_path s name p ≡ Ok v → size v ≤ 1048576
+value-size s name p v kept is =
+    let named = and_then-Ok (tree_named s name) _ v is in
+    let parsed = and_then-Ok (by_path (path_of p)) _ v named.2 in
+    let inner = value-short named.0 v parsed.0 (by_path-Ok (at named.0 parsed.0) v parsed.2) in
+    let outer = named-size s name named.0 kept named.1 in
+    omega (arith, inner, outer)
+
+value-answer-short : (s : Contents) → IsState s → (name p : List ℕ) (r : Result Tree StoreFault) → value_at_path s name p ≡ r
+    → length (framed (answer_or_refusal (one (codes "value")) r)) ≤ answer_limit
+value-answer-short s kept name p (Ok v) is =
+    let bytes = value-size s name p v kept is in
+    let most = (value_size v).most in
+    omega (arith, document-length (codes "value") v, bytes, most)
+value-answer-short s kept name p (Err fault) is = refusal-short fault
+
+text-answer-short : (s : Contents) → IsState s → (name : List ℕ) (r : Result Tree StoreFault) → tree_named s name ≡ r
+    → length (framed (answer_or_refusal (λ t. one (codes "text") (text (style_text t))) r)) ≤ answer_limit
+text-answer-short s kept name (Ok t) is =
+    omega (arith, document-length (codes "text") (text (style_text t)), scalar_most (style_text t), text-value-length (style_text t), named-size s name t kept is)
+text-answer-short s kept name (Err fault) is = refusal-short fault
+
+count-answer-short : (n : ℕ) → n ≤ count_limit → length (framed (one (codes "ok") (text (decimal n)))) ≤ answer_limit
+count-answer-short n small = omega (arith, document-length (codes "ok") (text (decimal n)), count-value-length n small)
+
+change-answer-short : (now : Stored) (command : Command) (r : Result Contents StoreFault) → outcome now.size now.state command ≡ r
+    → length (framed (change_answer r)) ≤ answer_limit
+change-answer-short now command (Ok new) is =
+    let fits = has_room now.size now.state command in
+    let few = step-few now.state new command fits is in
+    let counts = step-one now.state new command fits is in
+    count-answer-short new.count (omega (arith, few, counts))
+change-answer-short now command (Err fault) is = refusal-short fault
+
+pub answer-short : (now : Stored) (request : Request) → IsState now.state → length (framed (answer now request)) ≤ answer_limit
+answer-short now (changing command) kept = change-answer-short now command (outcome now.size now.state command) refl
+answer-short now (unread name fault) kept = refusal-short (unread_fault name fault)
+answer-short now (getting name p) kept = value-answer-short now.state kept name p (value_at_path now.state name p) refl
+answer-short now (exporting name) kept = text-answer-short now.state kept name (tree_named now.state name) refl
+answer-short now naming kept =
+    let names = sequence (text_elements (names_of now.state.configs)) in
+    omega (arith, document-length (codes "names") names, names-value-length now.state.configs kept.configs, entries-short now.state kept)
+answer-short now checkpointing kept = count-answer-short now.state.count kept.numbered
+answer-short now bad kept = bad-short
