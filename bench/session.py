@@ -9,6 +9,7 @@ time beside the stub's. Run it from the repository's root after the program is b
 """
 
 import os
+import statistics
 import subprocess
 import sys
 import tempfile
@@ -16,7 +17,7 @@ import time
 
 TOP = os.path.dirname(os.path.dirname(os.path.abspath(__file__)))
 PROGRAM = os.path.join(TOP, "crates", "confstore", "out", "confstore")
-RUNS = 3
+RUNS = 9
 FIRST = b'import: app\ntext: "n: v0\\n"\n...\n'
 
 
@@ -57,18 +58,20 @@ def one_by_one(words, pieces):
 
 
 def compare(name, measure, top, stub, count):
-    """Prints the least time of a session and of the stub."""
-    times = {"session": [], "stub": []}
+    """Prints the least time of a session and of the stub, and the median of their ratios: they take turns, since a disk
+    that others use is slower for a while and faster again."""
+    sessions, stubs = [], []
     for run in range(RUNS):
         folder = os.path.join(top, f"{name}-{run}".replace(" ", "-"))
         os.mkdir(folder)
         subprocess.run([PROGRAM, "run", folder], input=FIRST, stdout=subprocess.DEVNULL, check=True)
-        times["session"].append(measure([PROGRAM, "run", folder], [command(number) for number in range(count)]))
-        times["stub"].append(measure([stub, os.path.join(folder, "stub")], [record_bytes(number) for number in range(count)]))
-    session, stubbed = min(times["session"]), min(times["stub"])
+        sessions.append(measure([PROGRAM, "run", folder], [command(number) for number in range(count)]))
+        stubs.append(measure([stub, os.path.join(folder, "stub")], [record_bytes(number) for number in range(count)]))
+    ratios = [session / stubbed for session, stubbed in zip(sessions, stubs)]
     print(
-        f"  {name}: {count / session:9.0f} commands a second, stub {count / stubbed:9.0f}; an answer takes"
-        f" {session / count * 1e6:7.1f} us, {session / stubbed:4.2f} times the stub's"
+        f"  {name}: {count / min(sessions):9.0f} commands a second, stub {count / min(stubs):9.0f}; an answer takes"
+        f" {min(sessions) / count * 1e6:7.1f} us, {min(sessions) / min(stubs):4.2f} times the stub's"
+        f" (median of the ratios {statistics.median(ratios):4.2f})"
     )
 
 
@@ -79,7 +82,7 @@ def main():
         stub = os.path.join(tools, "append")
         source = os.path.join(TOP, "bench", "peers", "append.c")
         subprocess.run(["cc", "-O2", "-o", stub, source], check=True)
-        for place, count in (("/dev/shm", 20_000), (tempfile.gettempdir(), 2_000)):
+        for place, count in (("/dev/shm", 10_000), (tempfile.gettempdir(), 1_000)):
             with tempfile.TemporaryDirectory(dir=place) as top:
                 print(place)
                 compare("all at once", all_at_once, top, stub, count)

@@ -1,9 +1,10 @@
 #!/usr/bin/env python3
 """Looks up each name that docs/RULES.md and README.md give, and fails if one is gone.
 
-In RULES.md `File.name` is a definition, `crate::name` a function or a test, `crate/name` a must-fail edit, and a bare name a law
-(a public function) or a crate. In the tables of claims in README.md each name is looked for in the sources of the crates of
-its row. It takes less than a second.
+In the lists of RULES.md `File.name` is a definition, `crate::name` a function or a test, and `crate::name` in `file.rt`
+a function and its file. `crate/name` is a must-fail edit, and a bare name a law (a public function) or a crate. In the
+tables of claims in README.md each name is looked for in the sources of the crates of its row. It takes less than a
+second.
 """
 
 import glob
@@ -31,8 +32,8 @@ def is_definition(file, name):
     return has_word(name, text_of(f"*/specs/{file}.antt"))
 
 
-def is_function(crate, name):
-    return re.search(rf"\bfn {re.escape(name)}\b", text_of(f"{crate}/src/**/*.rt")) is not None
+def is_function(crate, name, file="*.rt"):
+    return re.search(rf"\bfn {re.escape(name)}\b", text_of(f"{crate}/src/**/{file}")) is not None
 
 
 def is_edit(crate, name):
@@ -52,9 +53,19 @@ def rows_of(path):
                 yield [cell.strip() for cell in line.strip().strip("|").split(" | ")]
 
 
+def items_of(path):
+    """The names below each rule of the page: the items of its inner lists, each as one line."""
+    with open(os.path.join(TOP, path), encoding="utf-8") as file:
+        page = file.read()
+    return [" ".join(item.split()) for item in re.findall(r"^  - (.*(?:\n    .*)*)", page, re.M)]
+
+
 def missing_in_rules():
-    for row in rows_of("docs/RULES.md"):
-        for token in CODE.findall(" | ".join(row[1:])):
+    for item in items_of("docs/RULES.md"):
+        for crate, name, file in re.findall(r"`(\w+)::(\w+)` in `(\w+\.rt)`", item):
+            if not is_function(crate, name, file):
+                yield f"docs/RULES.md: `{crate}::{name}` in `{file}`"
+        for token in CODE.findall(item):
             if re.fullmatch(r"\w+::\w+", token):
                 found = is_function(*token.split("::"))
             elif re.fullmatch(r"[A-Z]\w+\.\w+", token):

@@ -24,43 +24,13 @@ import sys
 import tempfile
 import time
 
-TOP = os.path.dirname(os.path.dirname(os.path.abspath(__file__)))
-PROGRAM = os.path.join(TOP, "crates", "confstore", "out", "confstore")
+from store_runs import EMPTY, IMPORT, PROGRAM, WORKED, Failures, need_program, read_file, session, write_file
 
-# A worked session over an empty store: each command with its answer.
-WORKED = [
-    ('import: app\ntext: "port: 80\\n"\n...\n', '---\nok: "1"\n...\n'),
-    ("set: app\npath: /port\nvalue: 81\n...\n", '---\nok: "2"\n...\n'),
-    ("export: app\n...\n", '---\ntext: |\n  port: "81"\n...\n'),
-    ('delete: app\npath: ""\n...\n', '---\nok: "3"\n...\n'),
-    ('get: app\npath: ""\n...\n', "---\nrefused: NoConfig\n...\n"),
-    ("names:\n...\n", "---\nnames: []\n...\n"),
-]
-
-# The file of a state with the text `x` under `a`, imported into an empty store.
-SMALL = b'---\nstore: confstore-1\nat: "0"\nconfigs: {}\n...\n---\nat: "1"\nimport: a\ntree: x\n...\n'
+# The user that owns no folder here.
+NOBODY = "nobody"
 
 KILLED = 200
 COMMANDS = 50
-
-
-class Failures:
-    """What was tried, and what went wrong."""
-
-    def __init__(self):
-        self.tried = 0
-        self.wrong = []
-
-    def expect(self, name, found, wanted):
-        self.tried += 1
-        if found != wanted:
-            self.wrong.append(f"{name}: {found!r} instead of {wanted!r}")
-
-
-def session(folder, commands):
-    """A session from start to end: its status, its answers and its faults."""
-    done = subprocess.run([PROGRAM, "run", folder], input=commands, capture_output=True, check=False)
-    return done.returncode, done.stdout, done.stderr.decode()
 
 
 def started(folder, **more):
@@ -163,11 +133,27 @@ def outputs_and_folders_fail(top, failures):
     process.stdin.close()
     process.wait()
     failures.expect("a folder that is free again", session(held, b"")[0], 0)
-    if os.geteuid() != 0:
-        read_only = os.path.join(top, "read-only")
-        os.mkdir(read_only)
-        os.chmod(read_only, 0o555)
-        failures.expect("a read-only folder", session(read_only, b""), (3, b"", "confstore: Device\n"))
+
+
+def read_only_folders_are_refused(top, failures):
+    """Run as root, this is tried as `nobody`, with a copy of the program that it can reach."""
+    who = {"user": NOBODY, "cwd": top, "env": {}} if os.geteuid() == 0 else {}
+    os.chmod(top, 0o755)
+    program = shutil.copy(PROGRAM, os.path.join(top, "confstore"))
+    os.chmod(program, 0o755)
+    for name, files in (("empty", {}), ("with a store", {"store.yaml": EMPTY + IMPORT, "store.lock": b""})):
+        folder = os.path.join(top, f"read-only, {name}")
+        os.mkdir(folder)
+        for file, content in files.items():
+            write_file(os.path.join(folder, file), content)
+            os.chmod(os.path.join(folder, file), 0o444)
+        os.chmod(folder, 0o555)
+        done = subprocess.run([program, "run", folder], input=b"names:\n...\n", capture_output=True, check=False, **who)
+        wanted = (3, b"", b"confstore: Device\n")
+        failures.expect(f"a read-only folder, {name}", (done.returncode, done.stdout, done.stderr), wanted)
+        left = {file: read_file(os.path.join(folder, file)) for file in os.listdir(folder)}
+        failures.expect(f"the files of a read-only folder, {name}", left, files)
+        os.chmod(folder, 0o755)
 
 
 def damage_is_named_or_harmless(top, failures):
@@ -175,20 +161,19 @@ def damage_is_named_or_harmless(top, failures):
     os.mkdir(folder)
     store = os.path.join(folder, "store.yaml")
     opened = refused = 0
-    for place in range(len(SMALL)):
-        damaged = bytearray(SMALL)
+    small = EMPTY + IMPORT
+    for place in range(len(small)):
+        damaged = bytearray(small)
         damaged[place] ^= 1
-        with open(store, "wb") as target:
-            target.write(damaged)
+        write_file(store, damaged)
         status, _, faults = session(folder, b"")
         if status == 0:
             opened += 1
             continue
         refused += 1
         failures.expect(f"the fault with byte {place} changed", (status, faults in ("confstore: NotAStore\n", "confstore: Damaged\n")), (1, True))
-        with open(store, "rb") as source:
-            failures.expect(f"the file with byte {place} changed", source.read(), bytes(damaged))
-    print(f"  {len(SMALL)} damaged stores: {opened} opened, {refused} refused and left as they were")
+        failures.expect(f"the file with byte {place} changed", read_file(store), bytes(damaged))
+    print(f"  {len(small)} damaged stores: {opened} opened, {refused} refused and left as they were")
 
 
 def a_command_is_synced_before_its_answer(top, failures):
@@ -212,8 +197,7 @@ def a_command_is_synced_before_its_answer(top, failures):
 
 
 def main():
-    if not os.access(PROGRAM, os.X_OK):
-        sys.exit("the program is not built: run ./confstore --version first")
+    need_program()
     seed = int(sys.argv[1]) if len(sys.argv) > 1 else random.randrange(10**6)
     print(f"seed {seed}")
     failures = Failures()
@@ -222,12 +206,10 @@ def main():
         input_comes_byte_by_byte(top, failures)
         killed_sessions_lose_nothing(top, failures, random.Random(seed))
         outputs_and_folders_fail(top, failures)
+        read_only_folders_are_refused(top, failures)
         damage_is_named_or_harmless(top, failures)
         a_command_is_synced_before_its_answer(top, failures)
-    for wrong in failures.wrong:
-        print(f"WRONG {wrong}")
-    print(f"{failures.tried - len(failures.wrong)} passed, {len(failures.wrong)} failed")
-    return 1 if failures.wrong else 0
+    return failures.report()
 
 
 if __name__ == "__main__":

@@ -18,6 +18,8 @@ pub(crate) enum Order<'a> {
     },
     /// The events of each line are printed.
     Show,
+    /// The tree of each line is printed in the one style.
+    Style,
 }
 
 impl<'a> Order<'a> {
@@ -25,6 +27,7 @@ impl<'a> Order<'a> {
     pub(crate) fn of(words: &'a [String]) -> Option<Order<'a>> {
         match words {
             [_, word] if word.as_str() == "show" => Some(Order::Show),
+            [_, word] if word.as_str() == "style" => Some(Order::Style),
             [_, word, file, rounds] => Some(Order::Read {
                 what: What::of(word)?,
                 file: file.as_str(),

@@ -1,0 +1,172 @@
+// Lets one system call of a program go wrong. Load it with LD_PRELOAD; the environment says what happens. Writes to
+// standard error are neither counted nor changed.
+//
+//   FAULT_CALL    the number of the call, from 1; without it every call is made as it is
+//   FAULT_DONE    what of the call is done: none, half (of the bytes), whole
+//   FAULT_ANSWER  what it returns: count (what was done), zero, error; or exit, which ends the process
+//   FAULT_ERROR   the error's number
+//   FAULT_LATER   if set, every later call fails with that error and does nothing
+//   FAULT_MOST    if set, a read or a write moves at most so many bytes
+//   FAULT_LOG     a file to which each call adds a line, as `write store.yaml 47`
+#define _GNU_SOURCE
+#include <dlfcn.h>
+#include <errno.h>
+#include <fcntl.h>
+#include <stdarg.h>
+#include <stdio.h>
+#include <stdlib.h>
+#include <string.h>
+#include <sys/stat.h>
+#include <sys/syscall.h>
+#include <unistd.h>
+
+#define REAL(name) ((__typeof__(&name))dlsym(RTLD_NEXT, #name))
+#define STATUS_OF_EXIT 99
+#define HANDLES 64
+
+// How a call goes: as it is, by the fault, or after the fault with every call failing.
+enum turn { CLEAR, HIT, LATER };
+
+// The name that each handle was opened under, without its folder.
+static char names[HANDLES][64] = {"input", "output"};
+
+static long number(const char *name) {
+    const char *given = getenv(name);
+    return given ? atol(given) : 0;
+}
+
+static int is(const char *name, const char *value) {
+    const char *given = getenv(name);
+    return given && !strcmp(given, value);
+}
+
+static const char *name_of(int handle) {
+    return handle >= 0 && handle < HANDLES ? names[handle] : "";
+}
+
+static const char *last_part(const char *path) {
+    const char *slash = strrchr(path, '/');
+    return slash ? slash + 1 : path;
+}
+
+static void write_log(const char *call, const char *name, size_t size) {
+    const char *path = getenv("FAULT_LOG");
+    char line[128];
+    if (!path) {
+        return;
+    }
+    int length = snprintf(line, sizeof line, "%s %s %zu\n", call, name, size);
+    int log = (int)syscall(SYS_openat, AT_FDCWD, path, O_WRONLY | O_CREAT | O_APPEND, 0600);
+    syscall(SYS_write, log, line, (size_t)length);
+    syscall(SYS_close, log);
+}
+
+static enum turn next_turn(const char *call, const char *name, size_t size) {
+    static long count;
+    long wanted = number("FAULT_CALL");
+    write_log(call, name, size);
+    count++;
+    if (wanted == 0 || count < wanted) {
+        return CLEAR;
+    }
+    if (count == wanted) {
+        return HIT;
+    }
+    return getenv("FAULT_LATER") ? LATER : CLEAR;
+}
+
+// Whether the call is made, if it moves no bytes.
+static int is_made(enum turn turn) {
+    return turn == CLEAR || (turn == HIT && is("FAULT_DONE", "whole"));
+}
+
+// How many of the bytes the call moves.
+static size_t moved(enum turn turn, size_t size) {
+    size_t most = (size_t)number("FAULT_MOST");
+    if (most && size > most) {
+        size = most;
+    }
+    if (turn == HIT && is("FAULT_DONE", "half")) {
+        return size / 2;
+    }
+    return is_made(turn) ? size : 0;
+}
+
+// What the call returns after it has done its part.
+static long answer(enum turn turn, long done) {
+    if (turn == CLEAR || (turn == HIT && is("FAULT_ANSWER", "count"))) {
+        return done;
+    }
+    if (turn == HIT && is("FAULT_ANSWER", "zero")) {
+        return 0;
+    }
+    if (turn == HIT && is("FAULT_ANSWER", "exit")) {
+        syscall(SYS_exit_group, STATUS_OF_EXIT);
+    }
+    errno = (int)number("FAULT_ERROR");
+    return -1;
+}
+
+int open(const char *path, int flags, ...) {
+    va_list more;
+    va_start(more, flags);
+    mode_t mode = flags & O_CREAT ? va_arg(more, mode_t) : 0;
+    va_end(more);
+    enum turn turn = next_turn(flags & O_EXCL ? "create" : "open", last_part(path), 0);
+    int handle = (int)answer(turn, is_made(turn) ? REAL(open)(path, flags, mode) : -1);
+    if (handle >= 0 && handle < HANDLES) {
+        snprintf(names[handle], sizeof names[handle], "%s", last_part(path));
+    }
+    return handle;
+}
+
+int statx(int handle, const char *path, int flags, unsigned mask, struct statx *out) {
+    enum turn turn = next_turn("statx", name_of(handle), 0);
+    return (int)answer(turn, is_made(turn) ? REAL(statx)(handle, path, flags, mask, out) : -1);
+}
+
+int flock(int handle, int operation) {
+    enum turn turn = next_turn("flock", name_of(handle), 0);
+    return (int)answer(turn, is_made(turn) ? REAL(flock)(handle, operation) : -1);
+}
+
+int fsync(int handle) {
+    enum turn turn = next_turn("fsync", name_of(handle), 0);
+    return (int)answer(turn, is_made(turn) ? REAL(fsync)(handle) : -1);
+}
+
+int close(int handle) {
+    enum turn turn = next_turn("close", name_of(handle), 0);
+    return (int)answer(turn, is_made(turn) ? REAL(close)(handle) : -1);
+}
+
+int unlink(const char *path) {
+    enum turn turn = next_turn("unlink", last_part(path), 0);
+    return (int)answer(turn, is_made(turn) ? REAL(unlink)(path) : -1);
+}
+
+int rename(const char *from, const char *to) {
+    enum turn turn = next_turn("rename", last_part(from), 0);
+    int done = is_made(turn) ? REAL(rename)(from, to) : -1;
+    for (int handle = 0; done == 0 && handle < HANDLES; handle++) {
+        if (!strcmp(names[handle], last_part(from))) {
+            snprintf(names[handle], sizeof names[handle], "%s", last_part(to));
+        }
+    }
+    return (int)answer(turn, done);
+}
+
+ssize_t read(int handle, void *bytes, size_t size) {
+    enum turn turn = next_turn("read", name_of(handle), size);
+    size_t part = moved(turn, size);
+    return answer(turn, turn == CLEAR || part ? REAL(read)(handle, bytes, part) : 0);
+}
+
+ssize_t write(int handle, const void *bytes, size_t size) {
+    if (handle == STDERR_FILENO) {
+        return REAL(write)(handle, bytes, size);
+    }
+    enum turn turn = next_turn("write", name_of(handle), size);
+    size_t part = moved(turn, size);
+    return answer(turn, turn == CLEAR || part ? REAL(write)(handle, bytes, part) : 0);
+}

@@ -1,0 +1,284 @@
+#!/usr/bin/env python3
+"""Lets each system call of two sessions go wrong in turn, and looks at what they answer and at what is left.
+
+A library under the built program (fail_calls.c) makes one call fail, with its effect or without it, moves only a part
+of its bytes, or ends the process before, in the middle of, or after it. The sessions are in stories.py: one over a new
+folder, and one over a torn store with checkpoints. Both are run once more with 7 bytes at most to each read and write.
+
+Each time the status and the fault are the promised ones, and the output is exactly the answers that were written
+before. A new session then has to find the state after a prefix of the commands, which holds each one that was
+answered.
+
+Run it from the repository's root after the program is built. It takes half a minute, and needs a C compiler:
+
+    ./confstore --version && python3 checks/fail_calls.py
+
+The status is 0 if all is as it should be.
+"""
+
+import errno
+import os
+import shutil
+import sys
+import tempfile
+from collections import Counter
+from concurrent.futures import ThreadPoolExecutor
+
+from stories import LOOK, NEW, TORN
+from store_runs import PROGRAM, Failures, compiled, need_program, read_file, session, write_file
+
+# The status of a process that the library ended.
+ENDED = 99
+
+# How a session ends: its status and its line on standard error.
+DONE = (0, "")
+DEVICE = (3, "confstore: Device\n")
+LOCKED = (3, "confstore: Locked\n")
+INPUT = (3, "confstore: Input\n")
+OUTPUT = (3, "confstore: Output\n")
+STOPPED = (ENDED, "")
+
+# The calls that change the folder or make a change last, of the session over a new folder, by docs/DISK.md and
+# docs/STORE.md: opening writes a base, and each of the three changes appends and syncs a record before its answer.
+CHANGES_OF_NEW = [
+    "fsync folder", "unlink next.yaml", "create next.yaml", "write next.yaml", "fsync next.yaml", "rename next.yaml",
+    "fsync folder",
+    "write store.yaml", "fsync store.yaml", "write output",
+    "write store.yaml", "fsync store.yaml", "write output",
+    "write output",
+    "write store.yaml", "fsync store.yaml", "write output",
+    "write output",
+    "write output",
+]
+
+
+class Kind:
+    """A way in which a call goes wrong: what of it is done, what it returns, and the error's number. With `later`,
+    all later calls fail."""
+
+    def __init__(self, done, answer, error=0, later=False):
+        self.done = done
+        self.answer = answer
+        self.error = error
+        self.later = later
+
+    def __str__(self):
+        error = f" {errno.errorcode[self.error]}" if self.error else ""
+        return f"{self.done} done, {self.answer}{error}{', then every call fails' if self.later else ''}"
+
+    def environment(self, call):
+        names = {"FAULT_CALL": str(call), "FAULT_DONE": self.done, "FAULT_ANSWER": self.answer, "FAULT_ERROR": str(self.error)}
+        return {**names, **({"FAULT_LATER": "1"} if self.later else {})}
+
+
+ANY_CALL = [
+    Kind("none", "error", errno.EIO),
+    Kind("none", "error", errno.EIO, later=True),
+    Kind("whole", "error", errno.EIO),
+    Kind("none", "exit"),
+    Kind("whole", "exit"),
+]
+INTERRUPTED = Kind("none", "error", errno.EINTR)
+HALF = Kind("half", "count")
+OF_WRITES = [
+    Kind("none", "error", errno.ENOSPC),
+    Kind("half", "error", errno.ENOSPC),
+    Kind("half", "count", errno.ENOSPC, later=True),
+    Kind("none", "zero"),
+    Kind("half", "exit"),
+    HALF,
+    INTERRUPTED,
+]
+OF_CALLS = {
+    "write": ANY_CALL + OF_WRITES,
+    "read": ANY_CALL + [HALF, INTERRUPTED],
+    "flock": ANY_CALL + [Kind("none", "error", errno.EWOULDBLOCK)],
+    "fsync": ANY_CALL + [INTERRUPTED],
+    "open": ANY_CALL + [INTERRUPTED],
+    "create": ANY_CALL + [INTERRUPTED],
+}
+
+
+class Call:
+    """A call of a session without faults: its number from 1, its name, the file that it is made on, and its place in
+    the session: whether input was read before, and how many bytes of output were written."""
+
+    def __init__(self, number, name, file, size, begun, written):
+        self.number = number
+        self.name = name
+        self.file = file
+        self.size = size
+        self.begun = begun
+        self.written = written
+
+    def __str__(self):
+        return f"call {self.number}, {self.name} {self.file}"
+
+    def kinds(self):
+        """The faults of this call. The input may end anywhere, a file may not. One byte has no half. A handle that is
+        not closed shows nothing before the next call."""
+        kinds = OF_CALLS.get(self.name, ANY_CALL)
+        if self.reads_input():
+            kinds = kinds + [Kind("none", "zero")]
+        return [
+            kind for kind in kinds
+            if not (kind.done == "half" and self.size == 1) and not (kind.later and self.name == "close")
+        ]
+
+    def reads_input(self):
+        return (self.name, self.file) == ("read", "input")
+
+    def answers(self):
+        return (self.name, self.file) == ("write", "output")
+
+
+class Trial:
+    """A story in a folder of its own, where a read or a write moves at most so many bytes (0: any number)."""
+
+    def __init__(self, top, story, most):
+        self.top = top
+        self.story = story
+        self.most = most
+        self.library = os.path.join(top, "fail_calls.so")
+
+    def folder(self, name):
+        """A new folder with the story's files."""
+        folder = os.path.join(self.top, name)
+        os.mkdir(folder)
+        for file, content in self.story.files.items():
+            write_file(os.path.join(folder, file), content)
+        return folder
+
+    def run(self, folder, faults):
+        environment = {**os.environ, "LD_PRELOAD": self.library, **faults}
+        if self.most:
+            environment["FAULT_MOST"] = str(self.most)
+        return session(folder, self.story.commands, env=environment)
+
+    def calls(self):
+        """The calls of the session without faults, and what it answers."""
+        log = os.path.join(self.top, "log")
+        folder = self.folder("folder")
+        ended = self.run(folder, {"FAULT_LOG": log})
+        lines = read_file(log).decode().split("\n")[:-1]
+        os.remove(log)
+        shutil.rmtree(folder)
+        return ended, list(self.placed(lines))
+
+    def placed(self, lines):
+        begun, written = False, 0
+        for number, line in enumerate(lines, 1):
+            name, file, asked = line.split(" ")
+            size = min(int(asked), self.most or int(asked))
+            begun = begun or file == "input"
+            yield Call(number, name, file, size, begun, written)
+            written += size if (name, file) == ("write", "output") else 0
+
+
+class Expected:
+    """How a session with a fault ends, how many bytes of output it writes, and how many commands may be held."""
+
+    def __init__(self, story, call, kind):
+        self.story = story
+        self.ended, whole = ending(call, kind)
+        self.written = len(story.output) if whole else call.written + written_by(call, kind)
+        performed = len(story.changes) if whole else story.answered(call.written)
+        self.least = story.accepted(performed)
+        self.most = story.accepted(performed + 1) if call.begun else self.least
+        if call.answers() and not whole:
+            self.least = self.most
+        if call.reads_input() and not whole:
+            self.most = self.least
+
+
+def written_by(call, kind):
+    """How many bytes of output the call writes."""
+    if not call.answers():
+        return 0
+    return {"none": 0, "half": call.size // 2, "whole": call.size}[kind.done]
+
+
+def ending(call, kind):
+    """How a session with this fault ends, and whether it is performed whole."""
+    if kind.answer == "exit":
+        return STOPPED, False
+    if call.reads_input():
+        return {"count": (DONE, True), "zero": (DONE, False)}.get(kind.answer, (INPUT, False))
+    if call.answers():
+        return (DONE, True) if goes_on(call, kind) else (OUTPUT, False)
+    if kind.error == errno.EWOULDBLOCK:
+        return LOCKED, False
+    return (DONE, True) if goes_on(call, kind) else (DEVICE, False)
+
+
+def goes_on(call, kind):
+    """Whether the program finishes the call, or does without it: one that was cut short, one on the folder that was
+    interrupted, and a handle that is closed."""
+    if kind.later:
+        return False
+    if kind.error == errno.EINTR:
+        return call.file != "output"
+    return kind.answer == "count" or call.name == "close"
+
+
+def try_fault(trial, call, kind):
+    """A session with a fault: what is wrong with it, and how many commands are held after it."""
+    name = f"{trial.story.name}, {call}, {kind}"
+    folder = trial.folder(f"{call.number} {kind}")
+    status, output, errors = trial.run(folder, kind.environment(call.number))
+    failures = Failures()
+    expected = Expected(trial.story, call, kind)
+    failures.expect(f"{name}: ending", (status, errors), expected.ended)
+    failures.expect(f"{name}: output", output, trial.story.output[: expected.written])
+    status, output, errors = session(folder, LOOK)
+    held = trial.story.states.index(output) if output in trial.story.states else output
+    allowed = range(expected.least, expected.most + 1)
+    failures.expect(f"{name}: opened again", (status, errors), DONE)
+    failures.expect(f"{name}: held {held}, of {list(allowed)}", held in allowed, True)
+    shutil.rmtree(folder)
+    return failures, expected.ended
+
+
+def try_story(top, story, most, failures):
+    """Tries each kind of fault at each call of a story."""
+    trial = Trial(top, story, most)
+    ended, calls = trial.calls()
+    failures.expect(f"{story.name} without faults", ended, (0, story.output, ""))
+    if story is NEW and not most:
+        changing = [f"{call.name} {call.file}" for call in calls if is_change(call)]
+        failures.expect("the calls that change a new folder", changing, CHANGES_OF_NEW)
+    pairs = [(call, kind) for call in calls for kind in call.kinds()]
+    with ThreadPoolExecutor(os.cpu_count()) as workers:
+        results = list(workers.map(lambda pair: try_fault(trial, *pair), pairs))
+    endings = Counter(ending for _, ending in results)
+    for found, _ in results:
+        failures.tried += found.tried
+        failures.wrong += found.wrong
+    told = ", ".join(f"{count} {name_of(ending)}" for ending, count in sorted(endings.items()))
+    parts = f", at most {most} bytes at a time" if most else ""
+    print(f"  {story.name}{parts}: {len(calls)} calls, {len(pairs)} faults: {told}")
+
+
+def is_change(call):
+    """Whether a call changes the folder, makes a change last, or answers."""
+    return call.name in ("fsync", "unlink", "create", "rename", "write")
+
+
+def name_of(ending):
+    status, fault = ending
+    return {0: "done", ENDED: "ended"}.get(status) or fault.removeprefix("confstore: ").strip()
+
+
+def main():
+    need_program()
+    failures = Failures()
+    with tempfile.TemporaryDirectory() as top:
+        compiled("fail_calls.c", top)
+        for story in (NEW, TORN):
+            for most in (0, 7):
+                try_story(top, story, most, failures)
+    return failures.report()
+
+
+if __name__ == "__main__":
+    sys.exit(main())

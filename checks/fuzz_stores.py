@@ -1,0 +1,253 @@
+#!/usr/bin/env python3
+"""Opens 100,000 changed store files with the built program.
+
+Ten stores are made by sessions. Their files are changed at random: bits flipped, bytes and words changed, pieces
+swapped, doubled, taken out or exchanged with those of another store, cut anywhere, and followed by zeros. Then a
+checkpoint is made, and the state is read from the new base.
+
+- Each file is opened, or refused by `NotAStore` or `Damaged`. A refused file stays as it is.
+- After a change of whole pieces, a cut, or zeros, the state or the refusal has to be that of store_model.py.
+- After a change of bytes, the states have to be the same where both find one. store_model.py reads by libyaml, which
+  reads another YAML in places. Files that only one of them opens are counted, and so are those with breaks of YAML
+  1.1 alone on which they differ.
+- Of the files with one flipped bit it counts how many are refused, how many differ in one text, and how many do not.
+
+Run it from the repository's root after the program is built; it takes two minutes, and needs PyYAML:
+
+    ./confstore --version && python3 checks/fuzz_stores.py
+
+A number of files and a seed may follow. The status is 0 if all is as it should be.
+"""
+
+import os
+import random
+import subprocess
+import sys
+import tempfile
+from collections import Counter
+from concurrent.futures import ProcessPoolExecutor
+
+from mutations import changed, flip_bit, place
+from store_model import OLD_BREAKS, Damaged, NotAStore, Refused, meaning, pieces_of, read_base
+from store_runs import EMPTY, Failures, need_program, read_file, session, write_file
+
+COUNT = 100_000
+CHUNK = 500
+
+# How long one opening may take, in seconds.
+HANGS = 20
+
+# One file in so many is also opened by a session without commands, to see that opening changes no file.
+LOOKED_AT = 10
+
+MEMORY = "/dev/shm"
+
+
+def imports(name, text):
+    lines = "".join(f"  {line}\n" for line in text.split("\n"))
+    return f"import: {name}\ntext: |\n{lines}...\n"
+
+
+def sets(name, path, value):
+    return f'set: {name}\npath: "{path}"\nvalue: {value}\n...\n'
+
+
+def deletes(name, path):
+    return f'delete: {name}\npath: "{path}"\n...\n'
+
+
+WEB = imports("web", "host: example\nports: [80, 443]\nlimits: {files: 1024, time: '30'}")
+NOTES = imports("notes", 'first: "line\\n...\\nline\\n"\nlast: |+\n  kept\n\n')
+
+# The commands that make each store.
+SESSIONS = [
+    "",
+    imports("a", "x"),
+    WEB,
+    WEB + sets("web", "/ports/-", "8080") + sets("web", "/ports/0", "81") + deletes("web", "/limits/time"),
+    "".join(imports(f"c{number}", f"[{number}]") for number in range(8)) + deletes("c3", "") + sets("c5", "", "{}"),
+    NOTES + sets("notes", "/first", '"\\x07 \\u2028 \\"quoted\\""') + sets("notes", "/é", "ÿ😀"),
+    imports("deep", "[" * 20 + "x" + "]" * 20) + sets("deep", "/0/0/0/-", "[y, {z: ''}]") + "checkpoint:\n...\n",
+    WEB + NOTES + "checkpoint:\n...\n" + sets("web", "/host", "other") + sets("notes", "/a~1b", "[]") + deletes("notes", "/last"),
+    imports("keys", f"? {'k' * 1100}\n: v\n'': empty\n'yes': 'no'") + sets("keys", "/~0~1", '"- not a list"'),
+    imports("log", "[]") + "".join(sets("log", "/-", f"n{number}") for number in range(20)),
+]
+
+
+def made_stores():
+    """The files that the sessions make."""
+    stores = []
+    for commands in SESSIONS:
+        with tempfile.TemporaryDirectory() as folder:
+            status, _, errors = session(folder, commands.encode())
+            if status != 0:
+                sys.exit(f"a store could not be made: {errors}")
+            stores.append(read_file(os.path.join(folder, "store.yaml")))
+    return stores
+
+
+def change_pieces(chance, store, other):
+    """The store with whole pieces swapped, doubled, taken out, or put in from another store."""
+    pieces = pieces_of(store)[0]
+    at, to = chance.randrange(len(pieces)), chance.randrange(len(pieces))
+    kind = chance.randrange(4)
+    if kind == 0:
+        pieces[at], pieces[to] = pieces[to], pieces[at]
+    elif kind == 1:
+        pieces.insert(to, pieces[at])
+    elif kind == 2:
+        del pieces[at]
+    else:
+        pieces.insert(at, chance.choice(pieces_of(other)[0]))
+    return b"".join(pieces)
+
+
+def cut_off(chance, store, _other):
+    return store[: place(chance, store)]
+
+
+def with_zeros(chance, store, _other):
+    """The store cut off, with zeros in the place of what is gone, or more."""
+    return store[: place(chance, store)] + bytes(chance.randrange(1, 100))
+
+
+def with_flipped_bit(chance, store, _other):
+    return flip_bit(chance, store)
+
+
+def with_changed_bytes(chance, store, _other):
+    return changed(chance, store)
+
+
+# The ways to change a store, and whether the model has to agree with the program on every file.
+EXACT = {change_pieces: True, cut_off: True, with_zeros: True, with_flipped_bit: False, with_changed_bytes: False}
+
+
+def outcome_of_model(content):
+    """The state that the model finds, or the name of a refusal."""
+    try:
+        configs, count, rest = meaning(content)
+        return list(configs.items()), count, rest
+    except NotAStore:
+        return "NotAStore"
+    except Damaged:
+        return "Damaged"
+
+
+def outcome_of_program(folder, content, failures):
+    """The state that the program finds, or the name of its refusal."""
+    file = os.path.join(folder, "store.yaml")
+    write_file(file, content)
+    try:
+        status, output, errors = session(folder, b"checkpoint:\n...\n", timeout=HANGS)
+    except subprocess.TimeoutExpired:
+        failures.expect(f"the session over {content!r}", "hangs", "ends")
+        return "hangs"
+    left = read_file(file)
+    if (status, output, errors) in ((1, b"", "confstore: NotAStore\n"), (1, b"", "confstore: Damaged\n")):
+        failures.expect(f"the refused file {content!r}", left, content)
+        return errors.removeprefix("confstore: ").strip()
+    failures.expect(f"the session over {content!r}", (status, errors), (0, ""))
+    try:
+        configs, count = read_base(left)
+    except Refused:
+        failures.expect(f"the base of {content!r}", left, "a base")
+        return "no base"
+    failures.expect(f"the answer over {content!r}", output, f'---\nok: "{count}"\n...\n'.encode())
+    return list(configs.items()), count, len(pieces_of(content)[1])
+
+
+def opening_changes_nothing(folder, content, outcome, failures):
+    """A session without commands leaves the file, unless it drops bytes after the last piece."""
+    file = os.path.join(folder, "store.yaml")
+    write_file(file, content)
+    session(folder, b"", timeout=HANGS)
+    left = read_file(file)
+    if isinstance(outcome, str) or outcome[2] == 0:
+        failures.expect(f"the file {content!r} after opening", left, content)
+    else:
+        configs, count = read_base(left)
+        failures.expect(f"the base of {content!r} after opening", (list(configs.items()), count), outcome[:2])
+
+
+def texts_of(tree):
+    """The texts of a tree, and its shape without them."""
+    if isinstance(tree, str):
+        return [tree], "text"
+    if isinstance(tree, list):
+        parts = [texts_of(value) for value in tree]
+        return sum((texts for texts, _ in parts), []), [shape for _, shape in parts]
+    parts = [(key, *texts_of(value)) for key, value in tree]
+    return sum((texts for _, texts, _ in parts), []), tuple((key, shape) for key, _, shape in parts)
+
+
+def difference(before, after):
+    """How the state of a store with a flipped bit differs from the state before."""
+    if isinstance(after, str):
+        return after
+    if before[:2] == after[:2]:
+        return "no difference"
+    if after[2]:
+        return "the last records dropped"
+    (texts, shape), (others, other) = texts_of(tuple(before[0])), texts_of(tuple(after[0]))
+    if shape == other and before[1] == after[1] and sum(map(str.__ne__, texts, others)) == 1:
+        return "one text changed"
+    return "a key, a name, a path or a list changed"
+
+
+def agreement(change, content, model, program):
+    """How the model and the program agree on a file."""
+    if model == program:
+        return "agreed"
+    if OLD_BREAKS.search(content):
+        return "read by other rules, for its breaks of YAML 1.1"
+    if EXACT[change] or not (isinstance(model, str) or isinstance(program, str)):
+        return "disagreed"
+    if isinstance(model, str) and isinstance(program, str):
+        return "refused by both, by other names"
+    return "opened by libyaml's reading alone" if isinstance(program, str) else "opened by the program alone"
+
+
+def try_files(stores, seed, count):
+    """Opens so many changed files. Returns what was counted, and what went wrong."""
+    chance, failures, counts = random.Random(seed), Failures(), Counter()
+    with tempfile.TemporaryDirectory(dir=MEMORY if os.path.isdir(MEMORY) else None) as folder:
+        for number in range(count):
+            store = chance.choice(stores)
+            change = chance.choice(list(EXACT))
+            content = change(chance, store, chance.choice(stores))
+            model = outcome_of_model(content)
+            program = outcome_of_program(folder, content, failures)
+            agreed = agreement(change, content, model, program)
+            failures.expect(f"{change.__name__}: {content!r}: {program}, {model}", agreed == "disagreed", False)
+            counts["all files", program if isinstance(program, str) else "opened"] += 1
+            counts["the model and the program", agreed] += 1
+            if change is with_flipped_bit:
+                counts["one flipped bit", difference(outcome_of_model(store), program)] += 1
+            if number % LOOKED_AT == 0:
+                opening_changes_nothing(folder, content, program, failures)
+    return counts, failures.tried, failures.wrong
+
+
+def main():
+    need_program()
+    count = int(sys.argv[1]) if len(sys.argv) > 1 else COUNT
+    seed = int(sys.argv[2]) if len(sys.argv) > 2 else random.randrange(10**6)
+    print(f"seed {seed}")
+    failures, counts, stores = Failures(), Counter(), made_stores()
+    failures.expect("the empty store", stores[0], EMPTY)
+    with ProcessPoolExecutor() as workers:
+        parts = [workers.submit(try_files, stores, f"{seed} {part}", min(CHUNK, count - part)) for part in range(0, count, CHUNK)]
+        for part in parts:
+            found, tried, wrong = part.result()
+            counts += found
+            failures.tried += tried
+            failures.wrong += wrong
+    for subject in ("all files", "the model and the program", "one flipped bit"):
+        told = [f"{number} {word}" for (about, word), number in counts.most_common() if about == subject]
+        print(f"  {subject}: {', '.join(told)}")
+    return failures.report()
+
+
+if __name__ == "__main__":
+    sys.exit(main())

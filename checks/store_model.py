@@ -1,0 +1,173 @@
+"""What the bytes of a store file mean, by docs/STORE.md, with libyaml as the reader of its pieces. It needs PyYAML.
+
+libyaml reads YAML 1.1, and it reads anchors and tags, which the profile refuses. Its limits are not those of a store.
+So it may read a piece that the program refuses, or the other way round; where both read it, the trees are the same.
+"""
+
+import re
+
+import yaml
+
+CLOSING = re.compile(rb"^\.\.\.\n", re.MULTILINE)
+
+# The characters x85, x2028 and x2029 are breaks in YAML 1.1, and none in YAML 1.2.
+OLD_BREAKS = re.compile(rb"\xc2\x85|\xe2\x80[\xa8\xa9]")
+
+NUMBER = re.compile(r"0|[1-9][0-9]*")
+NAME = re.compile(r"[a-z][a-z0-9_-]{0,63}")
+GREATEST = 2**64 - 1
+
+
+class NotAStore(Exception):
+    """There is no piece, or the first one is no base."""
+
+
+class Damaged(Exception):
+    """A piece after the base is no record, has the wrong number, or is refused."""
+
+
+class Refused(Exception):
+    """A command is refused, or a text has no tree."""
+
+
+def pieces_of(content):
+    """The pieces, each through its closing line, and the bytes after the last one."""
+    pieces, start = [], 0
+    for closing in CLOSING.finditer(content):
+        pieces.append(content[start : closing.end()])
+        start = closing.end()
+    return pieces, content[start:]
+
+
+def tree_of(node):
+    """A text, a list of trees, or a tuple of pairs of a key and a tree."""
+    if isinstance(node, yaml.ScalarNode):
+        return node.value
+    if isinstance(node, yaml.SequenceNode):
+        return [tree_of(value) for value in node.value]
+    if not all(isinstance(key, yaml.ScalarNode) for key, _ in node.value):
+        raise Refused
+    pairs = tuple((key.value, tree_of(value)) for key, value in node.value)
+    if len({key for key, _ in pairs}) != len(pairs):
+        raise Refused
+    return pairs
+
+
+def read_tree(piece):
+    """The tree of a piece."""
+    try:
+        documents = list(yaml.compose_all(piece, yaml.CBaseLoader))
+    except (yaml.YAMLError, UnicodeError) as error:
+        raise Refused from error
+    if len(documents) != 1 or documents[0] is None:
+        raise Refused
+    return tree_of(documents[0])
+
+
+def read_mapping(piece):
+    """The keys and the values of a piece that is a mapping."""
+    tree = read_tree(piece)
+    if not isinstance(tree, tuple) or not tree:
+        raise Refused
+    return zip(*tree)
+
+
+def number_of(text):
+    if not isinstance(text, str) or not NUMBER.fullmatch(text) or int(text) > GREATEST:
+        raise Refused
+    return int(text)
+
+
+def read_base(piece):
+    """The configurations of a base, in order, and its count."""
+    keys, values = read_mapping(piece)
+    if keys != ("store", "at", "configs") or values[0] != "confstore-1" or not isinstance(values[2], tuple):
+        raise Refused
+    if not all(NAME.fullmatch(name) for name, _ in values[2]):
+        raise Refused
+    return dict(values[2]), number_of(values[1])
+
+
+def steps_of(path):
+    """The steps of a pointer."""
+    if not isinstance(path, str) or (path and path[0] != "/") or re.search("~(?![01])", path):
+        raise Refused
+    return [step.replace("~1", "/").replace("~0", "~") for step in path.split("/")[1:]]
+
+
+def index_of(tree, step):
+    if not NUMBER.fullmatch(step) or int(step) >= len(tree):
+        raise Refused
+    return int(step)
+
+
+def with_change(tree, steps, change):
+    """The tree with the value at a path changed: `change` takes the collection there and the last step."""
+    if len(steps) == 1:
+        return change(tree, steps[0])
+    if isinstance(tree, list):
+        at = index_of(tree, steps[0])
+        return tree[:at] + [with_change(tree[at], steps[1:], change)] + tree[at + 1 :]
+    if not isinstance(tree, tuple) or steps[0] not in dict(tree):
+        raise Refused
+    return tuple((key, with_change(value, steps[1:], change) if key == steps[0] else value) for key, value in tree)
+
+
+def setting(value):
+    """A change that sets a value."""
+
+    def change(tree, step):
+        if isinstance(tree, list):
+            at = len(tree) if step == "-" else index_of(tree, step)
+            return tree[:at] + [value] + tree[at + 1 :]
+        if not isinstance(tree, tuple):
+            raise Refused
+        if step in dict(tree):
+            return tuple((key, value if key == step else old) for key, old in tree)
+        return tree + ((step, value),)
+
+    return change
+
+
+def deletion(tree, step):
+    """The change that takes a value out."""
+    if isinstance(tree, list):
+        at = index_of(tree, step)
+        return tree[:at] + tree[at + 1 :]
+    if not isinstance(tree, tuple) or step not in dict(tree):
+        raise Refused
+    return tuple(pair for pair in tree if pair[0] != step)
+
+
+def perform(configs, keys, values):
+    """The configurations after a record's command."""
+    name = values[1]
+    if not isinstance(name, str) or not NAME.fullmatch(name):
+        raise Refused
+    if keys == ("at", "import", "tree"):
+        return {**configs, name: values[2]}
+    steps = steps_of(values[2]) if len(values) > 2 else None
+    if keys not in (("at", "set", "path", "value"), ("at", "delete", "path")) or name not in configs:
+        raise Refused
+    if keys[1] == "delete" and not steps:
+        return {other: tree for other, tree in configs.items() if other != name}
+    changed = setting(values[3]) if keys[1] == "set" else deletion
+    return {**configs, name: with_change(configs[name], steps, changed) if steps else values[3]}
+
+
+def meaning(content):
+    """The configurations and the count that a store file means, and how many bytes come after its last piece."""
+    pieces, rest = pieces_of(content)
+    try:
+        configs, count = read_base(pieces[0])
+    except (IndexError, Refused) as error:
+        raise NotAStore from error
+    for piece in pieces[1:]:
+        try:
+            keys, values = read_mapping(piece)
+            if len(values) < 3 or number_of(values[0]) != count + 1:
+                raise Refused
+            configs, count = perform(configs, keys, values), count + 1
+        except Refused as error:
+            raise Damaged from error
+    return configs, count, len(rest)

@@ -1,0 +1,74 @@
+"""What the scripts on stores share: the built program, a worked session, and how what went wrong is kept."""
+
+import os
+import subprocess
+import sys
+
+TOP = os.path.dirname(os.path.dirname(os.path.abspath(__file__)))
+PROGRAM = os.path.join(TOP, "crates", "confstore", "out", "confstore")
+
+# The file of an empty state.
+EMPTY = b'---\nstore: confstore-1\nat: "0"\nconfigs: {}\n...\n'
+
+# The record of an import of the text `x` under `a`, as the first command.
+IMPORT = b'---\nat: "1"\nimport: a\ntree: x\n...\n'
+
+# A worked session over an empty store: each command with its answer.
+WORKED = [
+    ('import: app\ntext: "port: 80\\n"\n...\n', '---\nok: "1"\n...\n'),
+    ("set: app\npath: /port\nvalue: 81\n...\n", '---\nok: "2"\n...\n'),
+    ("export: app\n...\n", '---\ntext: |\n  port: "81"\n...\n'),
+    ('delete: app\npath: ""\n...\n', '---\nok: "3"\n...\n'),
+    ('get: app\npath: ""\n...\n', "---\nrefused: NoConfig\n...\n"),
+    ("names:\n...\n", "---\nnames: []\n...\n"),
+]
+
+
+class Failures:
+    """What was tried, and what went wrong."""
+
+    def __init__(self):
+        self.tried = 0
+        self.wrong = []
+
+    def expect(self, name, found, wanted):
+        self.tried += 1
+        if found != wanted:
+            self.wrong.append(f"{name}: {found!r} instead of {wanted!r}")
+
+    def report(self):
+        """Prints what went wrong and the last line. Returns the status."""
+        for wrong in self.wrong:
+            print(f"WRONG {wrong}")
+        print(f"{self.tried - len(self.wrong)} passed, {len(self.wrong)} failed")
+        return 1 if self.wrong else 0
+
+
+def need_program():
+    if not os.access(PROGRAM, os.X_OK):
+        sys.exit("the program is not built: run ./confstore --version first")
+
+
+def session(folder, commands, **more):
+    """A session from start to end: its status, its answers and its faults."""
+    words = [PROGRAM, "run", folder]
+    done = subprocess.run(words, input=commands, capture_output=True, check=False, **more)
+    return done.returncode, done.stdout, done.stderr.decode()
+
+
+def compiled(source, folder):
+    """A library made of a C file of checks/, to be loaded with LD_PRELOAD."""
+    library = os.path.join(folder, os.path.splitext(source)[0] + ".so")
+    path = os.path.join(TOP, "checks", source)
+    subprocess.run(["cc", "-shared", "-fPIC", "-O1", "-o", library, path, "-ldl"], check=True)
+    return library
+
+
+def write_file(path, content):
+    with open(path, "wb") as target:
+        target.write(content)
+
+
+def read_file(path):
+    with open(path, "rb") as source:
+        return source.read()

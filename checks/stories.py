@@ -1,0 +1,66 @@
+"""Two sessions whose every fault is tried: their commands, what is answered, and what the store then holds."""
+
+from store_runs import EMPTY, IMPORT, WORKED
+
+
+class Story:
+    """A session over a folder. `files` is what is in the folder before. `changes` has for each command whether it is
+    accepted and changes the state. `states` has for each number of such commands what `LOOK` is answered then."""
+
+    def __init__(self, name, files, steps, changes, states):
+        self.name = name
+        self.files = files
+        self.commands = "".join(command for command, _ in steps).encode()
+        self.answers = [answer.encode() for _, answer in steps]
+        self.changes = changes
+        self.states = [state.encode() for state in states]
+
+    def accepted(self, performed):
+        """How many of the first so many commands changed the state."""
+        return sum(self.changes[:performed])
+
+    def answered(self, written):
+        """How many answers are whole in the first so many bytes of output."""
+        ends = [len(b"".join(self.answers[: count + 1])) for count in range(len(self.answers))]
+        return sum(end <= written for end in ends)
+
+    @property
+    def output(self):
+        return b"".join(self.answers)
+
+
+# Looks at a store: its count, its names, and the configuration of the story.
+LOOK = b'checkpoint:\n...\nnames:\n...\nexport: app\n...\n'
+
+
+def looked(count, text):
+    """What `LOOK` is answered."""
+    end = "---\nnames: []\n...\n---\nrefused: NoConfig\n...\n"
+    if text is not None:
+        end = f"---\nnames:\n  - app\n...\n---\ntext: |\n  {text}\n...\n"
+    return f'---\nok: "{count}"\n...\n{end}'
+
+
+# The worked session over a new folder.
+NEW = Story(
+    "a new folder",
+    {},
+    WORKED,
+    [True, True, False, True, False, False],
+    [looked(0, None), looked(1, 'port: "80"'), looked(2, 'port: "81"'), looked(3, None)],
+)
+
+# A store with a torn record, beside a left-over `next.yaml`: opening drops the record. Then come a checkpoint and edits.
+TORN = Story(
+    "a torn store",
+    {"store.yaml": EMPTY + IMPORT.replace(b"import: a", b"import: app") + b'---\nat: "2"\nset: app\npa', "next.yaml": b"left over"},
+    [
+        ("checkpoint:\n...\n", '---\nok: "1"\n...\n'),
+        ('set: app\npath: ""\nvalue: z\n...\n', '---\nok: "2"\n...\n'),
+        ("checkpoint:\n...\n", '---\nok: "2"\n...\n'),
+        ('get: app\npath: ""\n...\n', "---\nvalue: z\n...\n"),
+        ('delete: app\npath: ""\n...\n', '---\nok: "3"\n...\n'),
+    ],
+    [False, True, False, False, True],
+    [looked(1, "x"), looked(2, "z"), looked(3, None)],
+)
