@@ -1,60 +1,107 @@
 #!/usr/bin/env python3
 """Times edits at the end of a path, in a mapping of many pairs and in mappings in mappings.
 
-A pair is set behind all others and deleted again, over and over: in a tree by itself, and in a configuration of a store's
-state by commands. It prints the processor time an edit, the least of nine runs, beside the tree's size: what a run of many
-edits takes more than a run of one round, which builds the same tree. `rt run`, in
-crates/edit_bench, builds the program:
+A pair is set after all others and deleted again, over and over: in a tree by itself, and in a configuration of a
+store's state by commands. It prints the processor time of an edit, the least of nine runs, beside the tree's size:
+what a run of many edits takes more than a run of one round, which builds the same tree. With `-i` it counts
+instructions instead, as valgrind does (`apt-get install valgrind`). They are the same in each run, however busy the
+machine is. After each shape it prints how many times as much an edit takes by a command as in the tree; it may be 3.
 
-    (cd crates/edit_bench && rt run -- tree wide 1 1) && python3 bench/edits.py
+Instructions of an edit, counted on 2026-11-23:
+
+    shape           in the tree     by a command    times
+    100 pairs             1,011            2,921     2.89
+    1,000 pairs           6,411            8,320     1.30
+    10,000 pairs         60,411           62,320     1.03
+    8 deep                2,081            4,928     2.37
+    64 deep              17,537           29,279     1.67
+
+`rt run`, in crates/edit_bench, builds the program:
+
+    (cd crates/edit_bench && rt run -- tree wide 1 1) && python3 bench/edits.py [-i]
 """
 
 import os
+import re
+import shutil
 import subprocess
 import sys
 
 TOP = os.path.dirname(os.path.dirname(os.path.abspath(__file__)))
 PROGRAM = os.path.join(TOP, "crates", "edit_bench", "out", "edit_bench")
-# The rounds are so many that a run takes some tenths of a second.
-RUNS = [
-    ("tree", "wide", 100, 100_000),
-    ("tree", "wide", 1_000, 20_000),
-    ("tree", "wide", 10_000, 2_000),
-    ("tree", "deep", 8, 100_000),
-    ("tree", "deep", 64, 50_000),
-    ("state", "wide", 100, 50_000),
-    ("state", "wide", 1_000, 10_000),
-    ("state", "wide", 10_000, 1_000),
-    ("state", "deep", 8, 50_000),
-    ("state", "deep", 64, 20_000),
+# Shapes with their size. The rounds, in a tree and by commands, are so many that a run takes some tenths of a second.
+SHAPES = [
+    ("wide", 100, 100_000, 50_000),
+    ("wide", 1_000, 20_000, 10_000),
+    ("wide", 10_000, 2_000, 1_000),
+    ("deep", 8, 100_000, 50_000),
+    ("deep", 64, 50_000, 20_000),
 ]
+# How many rounds are counted: valgrind makes a run some fifty times slower.
+COUNTED = 100
+# How many times an edit in the tree an edit by a command may take.
+GOAL = 3
 
 
-def run(target, shape, size, rounds):
-    """The processor time of one run, and what it told."""
-    words = [PROGRAM, target, shape, str(size), str(rounds)]
-    process = subprocess.Popen(words, stdout=subprocess.PIPE, text=True)
-    told = process.stdout.read()
+def run(*words):
+    """The processor time of one run, and what it printed."""
+    process = subprocess.Popen([PROGRAM, *map(str, words)], stdout=subprocess.PIPE, text=True)
+    printed = process.stdout.read()
     _, status, usage = os.wait4(process.pid, 0)
     if status != 0:
-        sys.exit(f"{' '.join(words)} failed")
-    return usage.ru_utime + usage.ru_stime, told
+        sys.exit(f"{' '.join(map(str, words))} failed")
+    return usage.ru_utime + usage.ru_stime, printed
 
 
-def least(*words, times=9):
-    return min(run(*words)[0] for _ in range(times))
+def microseconds(*words, rounds):
+    """The processor time of an edit: the least of nine runs, less the least of runs with one round."""
+
+    def least(rounds):
+        return min(run(*words, rounds)[0] for _ in range(9))
+
+    return max(least(rounds) - least(1), 0) / (2 * (rounds - 1)) * 1e6
+
+
+def instructions(*words):
+    """How many instructions an edit takes, as callgrind counts them."""
+
+    def collected(rounds):
+        tool = ["valgrind", "--tool=callgrind", "--callgrind-out-file=/dev/null"]
+        command = [*tool, PROGRAM, *map(str, words), str(rounds)]
+        done = subprocess.run(command, capture_output=True, text=True, check=True)
+        return int(re.search(r"Collected : (\d+)", done.stderr)[1])
+
+    return (collected(2 + COUNTED) - collected(2)) / (2 * COUNTED)
+
+
+def cost(target, shape, size, rounds, counts):
+    """Prints what an edit costs, and returns it."""
+    _, printed = run(target, shape, size, 1)
+    length = int(printed.split()[-2])
+    what = f"{size} pairs" if shape == "wide" else f"{size} deep"
+    if counts:
+        number = instructions(target, shape, size)
+        shown = f"{number:10.0f} instructions an edit"
+    else:
+        number = microseconds(target, shape, size, rounds=rounds)
+        shown = f"{number:10.3f} us an edit  ({2 * (rounds - 1)} edits)"
+    print(f"{target:5} {what:>12} {length:8} bytes  {shown}", flush=True)
+    return number
 
 
 def main():
     if not os.access(PROGRAM, os.X_OK):
         sys.exit("the program is not built: `rt run`, in crates/edit_bench, builds it")
-    for target, shape, size, rounds in RUNS:
-        _, told = run(target, shape, size, 1)
-        length = int(told.split()[-2])
-        seconds = max(least(target, shape, size, rounds) - least(target, shape, size, 1), 0)
-        edits = 2 * (rounds - 1)
-        what = f"{size} pairs" if shape == "wide" else f"{size} deep"
-        print(f"{target:5} {what:>12} {length:8} bytes  {seconds / edits * 1e6:10.3f} us an edit  ({edits} edits)")
+    counts = "-i" in sys.argv[1:]
+    if counts and shutil.which("valgrind") is None:
+        sys.exit("valgrind is missing, which counts the instructions")
+    ratios = []
+    for shape, size, in_tree, by_command in SHAPES:
+        alone = cost("tree", shape, size, in_tree, counts)
+        ratios.append(cost("state", shape, size, by_command, counts) / alone)
+        print(f"  by a command {ratios[-1]:.2f} times an edit in the tree", flush=True)
+    within = "within" if max(ratios) <= GOAL else "MORE THAN"
+    print(f"an edit by a command takes at most {max(ratios):.2f} times one in the tree: {within} {GOAL} times")
     return 0
 
 

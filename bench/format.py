@@ -50,10 +50,10 @@ def processor_seconds(words, path):
 
 
 def greatest_memory(words, path):
-    """The greatest memory of one run in bytes, as `time` tells it."""
+    """The greatest memory of one run in bytes, as `time` reports it."""
     with open(path, "rb") as source:
-        told = subprocess.run(["/usr/bin/time", "-f", "%M", *words], stdin=source, stdout=subprocess.DEVNULL, stderr=subprocess.PIPE, text=True)
-    return int(told.stderr.split()[-1]) * 1024
+        ended = subprocess.run(["/usr/bin/time", "-f", "%M", *words], stdin=source, stdout=subprocess.DEVNULL, stderr=subprocess.PIPE, text=True)
+    return int(ended.stderr.split()[-1]) * 1024
 
 
 def best(words, path, times=15):

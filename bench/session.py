@@ -17,7 +17,8 @@ import time
 
 TOP = os.path.dirname(os.path.dirname(os.path.abspath(__file__)))
 PROGRAM = os.path.join(TOP, "crates", "confstore", "out", "confstore")
-RUNS = 9
+# A place, how many commands a run sends there, and how many runs there are.
+PLACES = [("/dev/shm", 10_000, 9), (tempfile.gettempdir(), 500, 31)]
 FIRST = b'import: app\ntext: "n: v0\\n"\n...\n'
 
 
@@ -57,16 +58,22 @@ def one_by_one(words, pieces):
     return seconds
 
 
-def compare(name, measure, top, stub, count):
-    """Prints the least time of a session and of the stub, and the median of their ratios: they take turns, since a disk
-    that others use is slower for a while and faster again."""
+def compare(name, measure, top, stub, count, runs):
+    """Prints the least time of a session and of the stub, and the median of their ratios. They take turns in going
+    first, since a disk that others use is slower for a while and faster again."""
     sessions, stubs = [], []
-    for run in range(RUNS):
+    commands = [command(number) for number in range(count)]
+    records = [record_bytes(number) for number in range(count)]
+    for run in range(runs):
         folder = os.path.join(top, f"{name}-{run}".replace(" ", "-"))
         os.mkdir(folder)
         subprocess.run([PROGRAM, "run", folder], input=FIRST, stdout=subprocess.DEVNULL, check=True)
-        sessions.append(measure([PROGRAM, "run", folder], [command(number) for number in range(count)]))
-        stubs.append(measure([stub, os.path.join(folder, "stub")], [record_bytes(number) for number in range(count)]))
+        turns = [
+            lambda: sessions.append(measure([PROGRAM, "run", folder], commands)),
+            lambda: stubs.append(measure([stub, os.path.join(folder, "stub")], records)),
+        ]
+        for turn in turns if run % 2 == 0 else reversed(turns):
+            turn()
     ratios = [session / stubbed for session, stubbed in zip(sessions, stubs)]
     print(
         f"  {name}: {count / min(sessions):9.0f} commands a second, stub {count / min(stubs):9.0f}; an answer takes"
@@ -82,11 +89,11 @@ def main():
         stub = os.path.join(tools, "append")
         source = os.path.join(TOP, "bench", "peers", "append.c")
         subprocess.run(["cc", "-O2", "-o", stub, source], check=True)
-        for place, count in (("/dev/shm", 10_000), (tempfile.gettempdir(), 1_000)):
+        for place, count, runs in PLACES:
             with tempfile.TemporaryDirectory(dir=place) as top:
                 print(place)
-                compare("all at once", all_at_once, top, stub, count)
-                compare("one by one", one_by_one, top, stub, count)
+                compare("all at once", all_at_once, top, stub, count, runs)
+                compare("one by one", one_by_one, top, stub, count, runs)
     return 0
 
 

@@ -48,11 +48,11 @@ RUNS = 5
 def run(*words):
     """The processor time of a run in seconds, and the number that it printed."""
     process = subprocess.Popen([PROGRAM, *map(str, words)], stdout=subprocess.PIPE, text=True)
-    told = process.stdout.read()
+    printed = process.stdout.read()
     _, status, usage = os.wait4(process.pid, 0)
     if status != 0:
         sys.exit(f"{' '.join(map(str, words))} failed")
-    return usage.ru_utime + usage.ru_stime, int(told)
+    return usage.ru_utime + usage.ru_stime, int(printed)
 
 
 def seconds(*words, more):
@@ -91,8 +91,8 @@ def opening(folder, edits, counts_instructions):
             shown += f", {instructions(work, path, more=1) / edits:9.0f} instructions an edit"
         print(shown)
     ratio = costs["open"] / costs["read"]
-    told = "within" if ratio <= GOAL else "MORE THAN"
-    print(f"  opening takes {ratio:.2f} times what finding and reading the pieces takes: {told} {GOAL} times")
+    verdict = "within" if ratio <= GOAL else "MORE THAN"
+    print(f"  opening takes {ratio:.2f} times what finding and reading the pieces takes: {verdict} {GOAL} times")
     return costs["open"] / edits
 
 

@@ -254,9 +254,9 @@ def try_story(top, story, most, failures):
     for found, _ in results:
         failures.tried += found.tried
         failures.wrong += found.wrong
-    told = ", ".join(f"{count} {name_of(ending)}" for ending, count in sorted(endings.items()))
+    summary = ", ".join(f"{count} {name_of(ending)}" for ending, count in sorted(endings.items()))
     parts = f", at most {most} bytes at a time" if most else ""
-    print(f"  {story.name}{parts}: {len(calls)} calls, {len(pairs)} faults: {told}")
+    print(f"  {story.name}{parts}: {len(calls)} calls, {len(pairs)} faults: {summary}")
 
 
 def is_change(call):

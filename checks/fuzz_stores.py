@@ -244,8 +244,8 @@ def main():
             failures.tried += tried
             failures.wrong += wrong
     for subject in ("all files", "the model and the program", "one flipped bit"):
-        told = [f"{number} {word}" for (about, word), number in counts.most_common() if about == subject]
-        print(f"  {subject}: {', '.join(told)}")
+        counted = [f"{number} {word}" for (about, word), number in counts.most_common() if about == subject]
+        print(f"  {subject}: {', '.join(counted)}")
     return failures.report()
 
 

@@ -1,4 +1,5 @@
-// Refuses the allocation whose number REFUSE_ALLOCATION gives, counted from 1, and tells in REFUSE_TOLD whether it came to that.
+// Refuses the allocation whose number REFUSE_ALLOCATION gives, counted from 1. If it came to that, it makes the file
+// that REFUSED_FILE names.
 #define _GNU_SOURCE
 #include <dlfcn.h>
 #include <fcntl.h>
@@ -19,9 +20,9 @@ static int refused(void) {
     if (++count != wanted()) {
         return 0;
     }
-    const char *told = getenv("REFUSE_TOLD");
-    if (told) {
-        int file = open(told, O_WRONLY | O_CREAT | O_TRUNC, 0600);
+    const char *refused_file = getenv("REFUSED_FILE");
+    if (refused_file) {
+        int file = open(refused_file, O_WRONLY | O_CREAT | O_TRUNC, 0600);
         if (file >= 0) {
             close(file);
         }

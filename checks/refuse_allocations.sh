@@ -16,11 +16,11 @@ cc -shared -fPIC -O1 -o "$work/refuse.so" "$top/checks/refuse.c" -ldl || exit 1
 refuse_each() {
     local word=$1 done_status=$2 wrong=0 spared=0 number status
     for ((number = 1; number <= 10000; number++)); do
-        rm -f "$work/told"
-        REFUSE_ALLOCATION=$number REFUSE_TOLD=$work/told LD_PRELOAD=$work/refuse.so \
+        rm -f "$work/refused"
+        REFUSE_ALLOCATION=$number REFUSED_FILE=$work/refused LD_PRELOAD=$work/refuse.so \
             "$program" "$word" <"$work/input" >"$work/output" 2>"$work/errors"
         status=$?
-        [ -e "$work/told" ] || break
+        [ -e "$work/refused" ] || break
         if [ "$status" -eq "$done_status" ] && cmp -s "$work/output" "$work/wanted" && [ ! -s "$work/errors" ]; then
             spared=$((spared + 1))
             continue

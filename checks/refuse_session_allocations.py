@@ -29,15 +29,15 @@ def refuse(top, story, number):
     """A session with one allocation refused: whether it came to that, how it ended, its output, and the state that a
     new session finds."""
     folder = os.path.join(top, "folder")
-    told = os.path.join(top, "told")
+    refused_file = os.path.join(top, "refused")
     os.mkdir(folder)
     for file, content in story.files.items():
         write_file(os.path.join(folder, file), content)
-    names = {"LD_PRELOAD": os.path.join(top, "refuse.so"), "REFUSE_ALLOCATION": str(number), "REFUSE_TOLD": told}
+    names = {"LD_PRELOAD": os.path.join(top, "refuse.so"), "REFUSE_ALLOCATION": str(number), "REFUSED_FILE": refused_file}
     status, output, errors = session(folder, story.commands, env={**os.environ, **names})
-    was_refused = os.path.exists(told)
+    was_refused = os.path.exists(refused_file)
     if was_refused:
-        os.remove(told)
+        os.remove(refused_file)
     left = session(folder, LOOK)
     shutil.rmtree(folder)
     return was_refused, (status, errors), output, left

@@ -41,11 +41,11 @@ accepted_lines() {
 wanted=$top/crates/store_bench/stdout
 memory=0 device=0 spared=0 own=0 wrong=0
 for ((number = 1; number <= 10000; number++)); do
-    rm -f "$work/told"
-    REFUSE_ALLOCATION=$number REFUSE_TOLD=$work/told LD_PRELOAD=$work/refuse.so \
+    rm -f "$work/refused"
+    REFUSE_ALLOCATION=$number REFUSED_FILE=$work/refused LD_PRELOAD=$work/refuse.so \
         "$program" run >"$work/output" 2>/dev/null </dev/null
     status=$?
-    [ -e "$work/told" ] || break
+    [ -e "$work/refused" ] || break
     if [ "$status" -eq 1 ] && [ ! -s "$work/output" ]; then
         own=$((own + 1))
     elif [ "$status" -ne 0 ] || ! accepted_lines <"$work/output" >"$work/lines" ||

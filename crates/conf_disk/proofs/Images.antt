@@ -3,7 +3,7 @@ use Rattle.std.proofs.Common.{◌≡◌, ◌⊎◌, inl, inr, ⊎_elim, ℕ, zer
 use Rattle.std.proofs.lemmas.List.{get_or-set_same, get_or-set_other, set_past, take_all, drop_all, take-append-le, get_or_append_left, get_or_past, get_or-append_right}
 use Rattle.std.proofs.lemmas.List.Elements.{Contains-append_left, Contains-append_right, Contains-append_cases}
 use Rattle.std.proofs.lemmas.Bool.{cases_eq, cases_lt}
-use Rattle.conf_disk.specs.Folder.{Stage, File, empty_file, Folder, stages, under, Step, CreateNext, Append, Sync, RenameNext, RemoveNext, SyncFolder, with_file, appended, synced_whole, synced_first, created, renamed, removed, after, partly, Performs}
+use Rattle.conf_disk.specs.Folder.{Stage, File, empty_file, Folder, stages, under, Step, CreateNext, Append, Sync, RenameNext, RemoveNext, SyncFolder, with_file, with_pending, synced_whole, synced_first, after_create, after_rename, after_remove, after, after_part, Performs}
 use Rattle.conf_disk.specs.Image.{Image, IsImage, IsTorn, IsTornAt}
 use Rattle.conf_disk.specs.declared.disk.DiskFault.{DiskFault}
 
@@ -71,7 +71,7 @@ TearInto-set_both files id a b more place bytes is = elim (cases_eq place id) [
 ]
 
 -- with more bytes after it
-TearsInto-appended : (bytes : List ℕ) (file : File) → TearsInto file (appended bytes file)
+TearsInto-appended : (bytes : List ℕ) (file : File) → TearsInto file (with_pending bytes file)
 TearsInto-appended bytes file torn is = record {
   keep = is.keep;
   zeros = is.zeros;
@@ -80,7 +80,7 @@ TearsInto-appended bytes file torn is = record {
 }
 
 -- with the first of some bytes, and with all of them
-TearsInto-appended_first : (k : ℕ) (bytes : List ℕ) (file : File) → TearsInto (appended (take k bytes) file) (appended bytes file)
+TearsInto-appended_first : (k : ℕ) (bytes : List ℕ) (file : File) → TearsInto (with_pending (take k bytes) file) (with_pending bytes file)
 TearsInto-appended_first k bytes file torn is = record {
   keep = is.keep;
   zeros = is.zeros;
@@ -151,16 +151,16 @@ with_file-between : (folder : Folder) (place : Option ℕ) (one two : File → F
 with_file-between folder None one two more image is = is
 with_file-between folder (Some id) one two more image is = IsImage-into (with_file folder (Some id) one) (with_file folder (Some id) two) (TearInto-set_both folder.files id _ _ (more (get_or folder.files id empty_file))) (λ stage has. has) image is
 
-renamed-grows : (folder : Folder) (place : Option ℕ) (image : Image) → IsImage folder image → IsImage (renamed folder place) image
-renamed-grows folder None image is = is
-renamed-grows folder (Some id) image is = IsImage-into folder (renamed folder (Some id)) (TearInto-same folder.files) (λ stage has. Contains-append_left (stages folder) _ stage has) image is
+after_rename-grows : (folder : Folder) (place : Option ℕ) (image : Image) → IsImage folder image → IsImage (after_rename folder place) image
+after_rename-grows folder None image is = is
+after_rename-grows folder (Some id) image is = IsImage-into folder (after_rename folder (Some id)) (TearInto-same folder.files) (λ stage has. Contains-append_left (stages folder) _ stage has) image is
 
-removed-grows : (folder : Folder) (place : Option ℕ) (image : Image) → IsImage folder image → IsImage (removed folder place) image
-removed-grows folder None image is = is
-removed-grows folder (Some id) image is = IsImage-into folder (removed folder (Some id)) (TearInto-same folder.files) (λ stage has. Contains-append_left (stages folder) _ stage has) image is
+after_remove-grows : (folder : Folder) (place : Option ℕ) (image : Image) → IsImage folder image → IsImage (after_remove folder place) image
+after_remove-grows folder None image is = is
+after_remove-grows folder (Some id) image is = IsImage-into folder (after_remove folder (Some id)) (TearInto-same folder.files) (λ stage has. Contains-append_left (stages folder) _ stage has) image is
 
-created-grows : (folder : Folder) (image : Image) → IsImage folder image → IsImage (created folder) image
-created-grows folder image is = IsImage-into folder (created folder) (TearInto-created folder.files) (λ stage has. Contains-append_left (stages folder) _ stage has) image is
+after_create-grows : (folder : Folder) (image : Image) → IsImage folder image → IsImage (after_create folder) image
+after_create-grows folder image is = IsImage-into folder (after_create folder) (TearInto-created folder.files) (λ stage has. Contains-append_left (stages folder) _ stage has) image is
 
 -- a stage of those that are left is one of all
 Contains-drop : (k : ℕ) (xs : List Stage) (stage : Stage) → Contains (drop k xs) stage → Contains xs stage
@@ -177,11 +177,11 @@ last_stage folder image is = IsImage-into _ folder (TearInto-same folder.files) 
 
 -- what may be left stays possible
 pub grown-grows : (step : Step) (folder : Folder) (image : Image) → IsImage folder image → IsImage (grown step folder) image
-grown-grows CreateNext folder image is = created-grows folder image is
-grown-grows (Append name bytes) folder image is = with_file-grows folder (under folder.now name) (appended bytes) (TearsInto-appended bytes) image is
+grown-grows CreateNext folder image is = after_create-grows folder image is
+grown-grows (Append name bytes) folder image is = with_file-grows folder (under folder.now name) (with_pending bytes) (TearsInto-appended bytes) image is
 grown-grows (Sync name) folder image is = is
-grown-grows RenameNext folder image is = renamed-grows folder folder.now.next image is
-grown-grows RemoveNext folder image is = removed-grows folder folder.now.next image is
+grown-grows RenameNext folder image is = after_rename-grows folder folder.now.next image is
+grown-grows RemoveNext folder image is = after_remove-grows folder folder.now.next image is
 grown-grows SyncFolder folder image is = is
 
 -- after a call that answers Ok
@@ -194,22 +194,22 @@ after-grown RemoveNext folder image is = is
 after-grown SyncFolder folder image is = last_stage folder image is
 
 -- after a call that failed
-pub partly-grown : (k : ℕ) (step : Step) (folder : Folder) (image : Image) → IsImage (partly k step folder) image → IsImage (grown step folder) image
-partly-grown zero step folder image is = grown-grows step folder image is
-partly-grown (suc k) CreateNext folder image is = is
-partly-grown (suc k) (Append name bytes) folder image is = with_file-between folder (under folder.now name) (appended (take (suc k) bytes)) (appended bytes) (TearsInto-appended_first (suc k) bytes) image is
-partly-grown (suc k) (Sync name) folder image is = with_file-shrinks folder (under folder.now name) (synced_first (suc k)) (TearsInto-synced_first (suc k)) image is
-partly-grown (suc k) RenameNext folder image is = is
-partly-grown (suc k) RemoveNext folder image is = is
-partly-grown (suc k) SyncFolder folder image is = fewer_stages folder (suc k) image is
+pub after_part-grown : (k : ℕ) (step : Step) (folder : Folder) (image : Image) → IsImage (after_part k step folder) image → IsImage (grown step folder) image
+after_part-grown zero step folder image is = grown-grows step folder image is
+after_part-grown (suc k) CreateNext folder image is = is
+after_part-grown (suc k) (Append name bytes) folder image is = with_file-between folder (under folder.now name) (with_pending (take (suc k) bytes)) (with_pending bytes) (TearsInto-appended_first (suc k) bytes) image is
+after_part-grown (suc k) (Sync name) folder image is = with_file-shrinks folder (under folder.now name) (synced_first (suc k)) (TearsInto-synced_first (suc k)) image is
+after_part-grown (suc k) RenameNext folder image is = is
+after_part-grown (suc k) RemoveNext folder image is = is
+after_part-grown (suc k) SyncFolder folder image is = fewer_stages folder (suc k) image is
 
 -- whatever a call answers
 pub Performs-grown : {T : Type 0} (step : Step) (old new : Folder) (result : Result T DiskFault) → Performs step old new result → (image : Image) → IsImage new image → IsImage (grown step old) image
 Performs-grown step old new (Ok x) is image left = after-grown step old image (subst (λ (folder : Folder). IsImage folder image) is left)
-Performs-grown step old new (Err x) is image left = partly-grown is.0 step old image (subst (λ (folder : Folder). IsImage folder image) is.1 left)
+Performs-grown step old new (Err x) is image left = after_part-grown is.0 step old image (subst (λ (folder : Folder). IsImage folder image) is.1 left)
 
 -- an image of what a call grows to is one of the folder before it or of the one after it
-grown-cases : (step : Step) (folder : Folder) (image : Image) → IsImage (grown step folder) image → IsImage folder image ⊎ IsImage (after step folder) image
+pub grown-cases : (step : Step) (folder : Folder) (image : Image) → IsImage (grown step folder) image → IsImage folder image ⊎ IsImage (after step folder) image
 grown-cases CreateNext folder image is = inr is
 grown-cases (Append name bytes) folder image is = inr is
 grown-cases (Sync name) folder image is = inl is
@@ -218,8 +218,8 @@ grown-cases RemoveNext folder image is = inr is
 grown-cases SyncFolder folder image is = inl is
 
 -- A stop within a call leaves nothing that one before it or after it doesn't.
-pub partly-cases : (k : ℕ) (step : Step) (folder : Folder) (image : Image) → IsImage (partly k step folder) image → IsImage folder image ⊎ IsImage (after step folder) image
-partly-cases k step folder image is = grown-cases step folder image (partly-grown k step folder image is)
+pub after_part-cases : (k : ℕ) (step : Step) (folder : Folder) (image : Image) → IsImage (after_part k step folder) image → IsImage folder image ⊎ IsImage (after step folder) image
+after_part-cases k step folder image is = grown-cases step folder image (after_part-grown k step folder image is)
 
 synced_first-past : (folder : Folder) (place : Option ℕ) → (k : ℕ) × (with_file folder place synced_whole ≡ with_file folder place (synced_first (suc k)))
 synced_first-past folder None = (0, refl)
@@ -228,15 +228,15 @@ synced_first-past folder (Some id) =
     (length file.pending, ap (λ (x : File). record { files = set folder.files id x; earlier = folder.earlier; now = folder.now }) (sym (synced_first-all (suc (length file.pending)) file (omega arith))))
 
 -- a call that is done whole has come as far as it can
-pub after-partly : (step : Step) (folder : Folder) → (k : ℕ) × (after step folder ≡ partly k step folder)
-after-partly CreateNext folder = (1, refl)
-after-partly (Append name bytes) folder = (suc (length bytes), ap (λ (l : List ℕ). with_file folder (under folder.now name) (appended l)) (sym (take_all (suc (length bytes)) bytes (omega arith))))
-after-partly (Sync name) folder = let past = synced_first-past folder (under folder.now name) in (suc past.0, past.1)
-after-partly RenameNext folder = (1, refl)
-after-partly RemoveNext folder = (1, refl)
-after-partly SyncFolder folder = (suc (length folder.earlier), ap (λ (l : List Stage). record { files = folder.files; earlier = l; now = folder.now }) (sym (drop_all (suc (length folder.earlier)) folder.earlier (omega arith))))
+pub after-part : (step : Step) (folder : Folder) → (k : ℕ) × (after step folder ≡ after_part k step folder)
+after-part CreateNext folder = (1, refl)
+after-part (Append name bytes) folder = (suc (length bytes), ap (λ (l : List ℕ). with_file folder (under folder.now name) (with_pending l)) (sym (take_all (suc (length bytes)) bytes (omega arith))))
+after-part (Sync name) folder = let past = synced_first-past folder (under folder.now name) in (suc past.0, past.1)
+after-part RenameNext folder = (1, refl)
+after-part RemoveNext folder = (1, refl)
+after-part SyncFolder folder = (suc (length folder.earlier), ap (λ (l : List Stage). record { files = folder.files; earlier = l; now = folder.now }) (sym (drop_all (suc (length folder.earlier)) folder.earlier (omega arith))))
 
 -- A call whose result is a failure.
-pub Performs-failed : {T : Type 0} (step : Step) (old new : Folder) (result : Result T DiskFault) → Performs step old new result → (k : ℕ) × (new ≡ partly k step old)
-Performs-failed step old new (Ok x) is = let whole = after-partly step old in (whole.0, is ∙ whole.1)
+pub Performs-failed : {T : Type 0} (step : Step) (old new : Folder) (result : Result T DiskFault) → Performs step old new result → (k : ℕ) × (new ≡ after_part k step old)
+Performs-failed step old new (Ok x) is = let whole = after-part step old in (whole.0, is ∙ whole.1)
 Performs-failed step old new (Err x) is = is

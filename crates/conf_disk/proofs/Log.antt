@@ -2,12 +2,12 @@
 use Rattle.std.proofs.Common.{◌≡◌, ◌⊎◌, inl, inr, ⊎_elim, ℕ, zero, suc, ◌+◌, ◌≤◌, ◌<◌, List, [], ◌∷◌, ◌++◌, length, take, slice_get, Option, Some, refl, sym, ◌∙◌, ap, subst, arith, length-append}
 use Rattle.std.proofs.lemmas.List.{take_all, take-append-le}
 use Rattle.std.proofs.lemmas.Bool.{cases_lt, cases_eq}
-use Rattle.conf_disk.specs.Folder.{Folder, empty_folder, Step, after, partly}
+use Rattle.conf_disk.specs.Folder.{Folder, empty_folder, Step, after, after_part}
 use Rattle.conf_disk.specs.Image.{Image, IsImage}
 use Rattle.conf_disk.specs.Log.{folder_after, folder_within, folder_at, IsLeftSince}
 use Rattle.conf_disk.specs.LogLaws.{folder_at-length, left_now}
 use Rattle.conf_disk.specs.Moments.{Elapses}
-use Rattle.conf_disk.proofs.Images.{partly-cases}
+use Rattle.conf_disk.proofs.Images.{after_part-cases}
 
 folder_after-push : (steps : List Step) (step : Step) (folder : Folder) → folder_after (steps ++ step ∷ []) folder ≡ after step (folder_after steps folder)
 folder_after-push [] step folder = refl
@@ -33,10 +33,10 @@ folder_at-before steps step done part lt =
     ∙ ap (λ (l : List Step). folder_within (slice_get steps done) part (folder_after l empty_folder)) (take-append-le done steps (step ∷ []) (omega (arith, lt)))
 
 -- within the last step
-folder_at-within : (steps : List Step) (step : Step) (part : ℕ) → folder_at (steps ++ step ∷ []) (length steps) part ≡ partly part step (folder_after steps empty_folder)
+folder_at-within : (steps : List Step) (step : Step) (part : ℕ) → folder_at (steps ++ step ∷ []) (length steps) part ≡ after_part part step (folder_after steps empty_folder)
 folder_at-within steps step part =
     ap (λ (at : Option Step). folder_within at part (folder_after (take (length steps) (steps ++ step ∷ [])) empty_folder)) (slice_get-push_at steps step)
-    ∙ ap (λ (l : List Step). partly part step (folder_after l empty_folder)) (take-append-le (length steps) steps (step ∷ []) (omega arith) ∙ take_all (length steps) steps (omega arith))
+    ∙ ap (λ (l : List Step). after_part part step (folder_after l empty_folder)) (take-append-le (length steps) steps (step ∷ []) (omega arith) ∙ take_all (length steps) steps (omega arith))
 
 -- time goes on when no step is done
 pub Elapses-same : (steps : List Step) → Elapses (length steps) (length steps) (IsLeftSince steps) (IsLeftSince steps) (IsImage (folder_after steps empty_folder))
@@ -58,7 +58,7 @@ module _ (steps : List Step) (step : Step) where
   last_step : (t : ℕ) (image : Image) → t ≤ n → (part : ℕ) → IsImage (folder_at more n part) image → IsLeftSince steps t image ⊎ Now image
   last_step t image le part is =
       ⊎_elim (λ before. inl (left_now steps t image le before)) (λ now. inr (subst (λ (folder : Folder). IsImage folder image) (sym (folder_after-push steps step empty_folder)) now))
-      (partly-cases part step (folder_after steps empty_folder) image (subst (λ (folder : Folder). IsImage folder image) (folder_at-within steps step part) is))
+      (after_part-cases part step (folder_after steps empty_folder) image (subst (λ (folder : Folder). IsImage folder image) (folder_at-within steps step part) is))
 
   nothing_else : (t : ℕ) (image : Image) → t ≤ n → IsLeftSince more t image → IsLeftSince steps t image ⊎ Now image
   nothing_else t image le left = elim (cases_lt left.done n) [

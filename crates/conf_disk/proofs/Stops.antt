@@ -5,66 +5,54 @@ use Rattle.std.proofs.lemmas.List.Elements.{Contains-append_right}
 use Rattle.std.proofs.lemmas.Bool.{le-leb, leb-true}
 use Rattle.std.proofs.lemmas.Option.{slice_get-get_or, slice_get_within, get_or_from_slice_get}
 use Rattle.conf_disk.specs.Folder.{File, empty_file, file_bytes, Stage, Folder, stages, bytes_at}
-use Rattle.conf_disk.specs.Image.{Image, IsImage, IsTorn, IsTornAt, torn_bytes, image_now, folder_of_image, folder_with_files, cut_file, cut_at, both_cut, image_of_stage, image_at}
+use Rattle.conf_disk.specs.Image.{Image, IsImage, IsTorn, IsTornAt, image_now, folder_of_image, folder_with_files, fits_at, torn_at, image_of_stage, image_at}
 use Rattle.conf_disk.specs.declared.memory.Cuts.{Cuts}
 
--- a torn file is a cut one
-cut_file-torn : (file : File) (bytes : List ℕ) (torn : IsTorn file bytes) → cut_file file torn.keep torn.zeros ≡ Some (Some bytes)
-cut_file-torn file bytes torn =
-    rw (le-leb (torn.keep + torn.zeros) (length file.pending) torn.fits) (ap (λ (l : List ℕ). Some (Some l)) (sym torn.is))
+-- a torn file is one under a cut that fits
+fits-torn : (files : List File) (place : Option ℕ) (bytes : Option (List ℕ)) → IsTornAt files place bytes
+    → (keep : ℕ) × ((zero_count : ℕ) × ((fits_at files place keep zero_count ≡ true) × (torn_at files place keep zero_count ≡ bytes)))
+fits-torn files None None torn = (0, (0, (refl, refl)))
+fits-torn files None (Some bytes) torn = absurd torn
+fits-torn files (Some id) None torn = absurd torn
+fits-torn files (Some id) (Some bytes) torn =
+    (torn.keep, (torn.zeros, (le-leb (torn.keep + torn.zeros) (length (get_or files id empty_file).pending) torn.fits, ap Some (sym torn.is))))
 
-cut_at-torn : (files : List File) (place : Option ℕ) (bytes : Option (List ℕ)) → IsTornAt files place bytes → (keep : ℕ) × ((zero_count : ℕ) × (cut_at files place keep zero_count ≡ Some bytes))
-cut_at-torn files None None torn = (0, (0, refl))
-cut_at-torn files None (Some bytes) torn = absurd torn
-cut_at-torn files (Some id) None torn = absurd torn
-cut_at-torn files (Some id) (Some bytes) torn = (torn.keep, (torn.zeros, cut_file-torn (get_or files id empty_file) bytes torn))
+-- and a cut that fits leaves a torn file
+torn-fits : (files : List File) (place : Option ℕ) (keep zero_count : ℕ) → fits_at files place keep zero_count ≡ true → IsTornAt files place (torn_at files place keep zero_count)
+torn-fits files None keep zero_count fits = tt
+torn-fits files (Some id) keep zero_count fits =
+    record { keep = keep; zeros = zero_count; fits = leb-true (keep + zero_count) (length (get_or files id empty_file).pending) fits; is = refl }
 
--- a cut file is a torn one
-torn-cut_file : (file : File) (keep zero_count : ℕ) (bytes : Option (List ℕ)) (fits : Bool) → nat_le (keep + zero_count) (length file.pending) ≡ fits
-    → (if fits then Some (Some (torn_bytes file keep zero_count)) else None) ≡ Some bytes → (l : List ℕ) × ((bytes ≡ Some l) × IsTorn file l)
-torn-cut_file file keep zero_count bytes true fits is =
-    (torn_bytes file keep zero_count, (cc, record { keep = keep; zeros = zero_count; fits = leb-true (keep + zero_count) (length file.pending) fits; is = refl }))
-torn-cut_file file keep zero_count bytes false fits is = cc
+abbrev cut_image : Folder → Stage → Cuts → Image
+cut_image folder stage cuts = record { store = torn_at folder.files stage.store cuts.store.0 cuts.store.1; next = torn_at folder.files stage.next cuts.next.0 cuts.next.1 }
 
-torn-cut_none : (bytes : Option (List ℕ)) (none : Bool) → let no_file : Option (Option (List ℕ)) = Some None in (if none then no_file else None) ≡ Some bytes → bytes ≡ None
-torn-cut_none bytes true is = cc
-torn-cut_none bytes false is = cc
-
-torn-cut_at : (files : List File) (place : Option ℕ) (keep zero_count : ℕ) (bytes : Option (List ℕ)) → cut_at files place keep zero_count ≡ Some bytes → IsTornAt files place bytes
-torn-cut_at files None keep zero_count bytes is = subst (λ (b : Option (List ℕ)). IsTornAt files None b) (sym (torn-cut_none bytes ((keep == 0) && (zero_count == 0)) is)) tt
-torn-cut_at files (Some id) keep zero_count bytes is =
-    let torn = torn-cut_file (get_or files id empty_file) keep zero_count bytes (nat_le (keep + zero_count) (length (get_or files id empty_file).pending)) refl is in
-    subst (λ (b : Option (List ℕ)). IsTornAt files (Some id) b) (sym torn.1.0) torn.1.1
-
-both_cut-some : (store next : Option (Option (List ℕ))) (image : Image) → both_cut store next ≡ Some image → (store ≡ Some image.store) × (next ≡ Some image.next)
-both_cut-some None next image is = cc
-both_cut-some (Some store) None image is = cc
-both_cut-some (Some store) (Some next) image is =
-    let same : record { store = store; next = next } ≡ image = cc in
-    (ap (λ (i : Image). Some i.store) same, ap (λ (i : Image). Some i.next) same)
+image_of_stage-is : (folder : Folder) (stage : Stage) (cuts : Cuts) (image : Image) (store next : Bool) → Contains (stages folder) stage
+    → fits_at folder.files stage.store cuts.store.0 cuts.store.1 ≡ store → fits_at folder.files stage.next cuts.next.0 cuts.next.1 ≡ next
+    → (if store && next then Some (cut_image folder stage cuts) else None) ≡ Some image → IsImage folder image
+image_of_stage-is folder stage cuts image true true among store next is =
+    let same : cut_image folder stage cuts ≡ image = cc in
+    subst (λ (i : Image). IsImage folder i) same
+    (record { stage = stage; among = among; store = torn-fits folder.files stage.store cuts.store.0 cuts.store.1 store; next = torn-fits folder.files stage.next cuts.next.0 cuts.next.1 next })
+image_of_stage-is folder stage cuts image true false among store next is = cc
+image_of_stage-is folder stage cuts image false next among s n is = cc
 
 image_at-stage : (folder : Folder) (place : ℕ) (cuts : Cuts) (image : Image) (stage : Option Stage) → slice_get (stages folder) place ≡ stage → image_of_stage folder.files stage cuts ≡ Some image → IsImage folder image
 image_at-stage folder place cuts image None at is = cc
 image_at-stage folder place cuts image (Some stage) at is =
-    let both = both_cut-some (cut_at folder.files stage.store cuts.store.0 cuts.store.1) (cut_at folder.files stage.next cuts.next.0 cuts.next.1) image is in
-    record {
-      stage = stage;
-      among = (place, slice_get_within (stages folder) place stage at, get_or_from_slice_get (stages folder) place stage _ at);
-      store = torn-cut_at folder.files stage.store cuts.store.0 cuts.store.1 image.store both.0;
-      next = torn-cut_at folder.files stage.next cuts.next.0 cuts.next.1 image.next both.1;
-    }
+    image_of_stage-is folder stage cuts image _ _ (place, slice_get_within (stages folder) place stage at, get_or_from_slice_get (stages folder) place stage _ at) refl refl is
 
 image-cuts : (folder : Folder) (image : Image) → IsImage folder image → (stage : ℕ) × ((cuts : Cuts) × (image_at folder stage cuts ≡ Some image))
 image-cuts folder image is =
-    let store = cut_at-torn folder.files is.stage.store image.store is.store in
-    let next = cut_at-torn folder.files is.stage.next image.next is.next in
+    let store = fits-torn folder.files is.stage.store image.store is.store in
+    let next = fits-torn folder.files is.stage.next image.next is.next in
     let at : slice_get (stages folder) is.among.0 ≡ Some is.stage = slice_get-get_or (stages folder) is.among.0 _ is.among.1 ∙ ap Some is.among.2 in
     let cuts : Cuts = record { store = (store.0, store.1.0); next = (next.0, next.1.0) } in (
       is.among.0,
       (
         cuts,
         ap (λ (stage : Option Stage). image_of_stage folder.files stage cuts) at
-            ∙ (λ i. both_cut (store.1.1 i) (next.1.1 i)),
+            ∙ (λ i. if store.1.1.0 i && next.1.1.0 i then Some (cut_image folder is.stage cuts) else None)
+            ∙ (λ i. Some (record { store = store.1.1.1 i; next = next.1.1.1 i })),
       ),
     )
 

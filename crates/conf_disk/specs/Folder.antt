@@ -77,8 +77,8 @@ abbrev pub with_stage : Folder → Stage → Folder
 with_stage folder stage = record { files = folder.files; earlier = stages folder; now = stage }
 
 -- the file with more pending bytes
-abbrev pub appended : List ℕ → File → File
-appended bytes file = record { synced = file.synced; pending = file.pending ++ bytes }
+abbrev pub with_pending : List ℕ → File → File
+with_pending bytes file = record { synced = file.synced; pending = file.pending ++ bytes }
 
 -- the file with all bytes synced
 abbrev pub synced_whole : File → File
@@ -89,46 +89,46 @@ abbrev pub synced_first : ℕ → File → File
 synced_first count file = record { synced = file.synced ++ take count file.pending; pending = drop count file.pending }
 
 -- the folder with a new, empty `next.yaml`
-abbrev pub created : Folder → Folder
-created folder = record {
+abbrev pub after_create : Folder → Folder
+after_create folder = record {
   files = folder.files ++ empty_file ∷ [];
   earlier = stages folder;
   now = record { store = folder.now.store; next = Some (length folder.files) };
 }
 
 -- the file of the one name is put under the other
-abbrev pub renamed : Folder → Option ℕ → Folder
-renamed folder None = folder
-renamed folder (Some id) = with_stage folder (record { store = Some id; next = None })
+abbrev pub after_rename : Folder → Option ℕ → Folder
+after_rename folder None = folder
+after_rename folder (Some id) = with_stage folder (record { store = Some id; next = None })
 
 -- the folder without `next.yaml`
-abbrev pub removed : Folder → Option ℕ → Folder
-removed folder None = folder
-removed folder (Some id) = with_stage folder (record { store = folder.now.store; next = None })
+abbrev pub after_remove : Folder → Option ℕ → Folder
+after_remove folder None = folder
+after_remove folder (Some id) = with_stage folder (record { store = folder.now.store; next = None })
 
 -- the folder after a call that returned Ok
 abbrev pub after : Step → Folder → Folder
-after CreateNext folder = created folder
-after (Append name bytes) folder = with_file folder (under folder.now name) (appended bytes)
+after CreateNext folder = after_create folder
+after (Append name bytes) folder = with_file folder (under folder.now name) (with_pending bytes)
 after (Sync name) folder = with_file folder (under folder.now name) synced_whole
-after RenameNext folder = renamed folder folder.now.next
-after RemoveNext folder = removed folder folder.now.next
+after RenameNext folder = after_rename folder folder.now.next
+after RemoveNext folder = after_remove folder folder.now.next
 after SyncFolder folder = record { files = folder.files; earlier = []; now = folder.now }
 
 -- The folder after a call that failed when it had come so far: nowhere at 0, and else to its end, or to a part of it:
 -- of an append a prefix of the bytes, of a sync a prefix of the bytes or of the stages.
-abbrev pub partly : ℕ → Step → Folder → Folder
-partly zero step folder = folder
-partly (suc k) CreateNext folder = after CreateNext folder
-partly (suc k) (Append name bytes) folder = with_file folder (under folder.now name) (appended (take (suc k) bytes))
-partly (suc k) (Sync name) folder = with_file folder (under folder.now name) (synced_first (suc k))
-partly (suc k) RenameNext folder = after RenameNext folder
-partly (suc k) RemoveNext folder = after RemoveNext folder
-partly (suc k) SyncFolder folder = record { files = folder.files; earlier = drop (suc k) folder.earlier; now = folder.now }
+abbrev pub after_part : ℕ → Step → Folder → Folder
+after_part zero step folder = folder
+after_part (suc k) CreateNext folder = after CreateNext folder
+after_part (suc k) (Append name bytes) folder = with_file folder (under folder.now name) (with_pending (take (suc k) bytes))
+after_part (suc k) (Sync name) folder = with_file folder (under folder.now name) (synced_first (suc k))
+after_part (suc k) RenameNext folder = after RenameNext folder
+after_part (suc k) RemoveNext folder = after RemoveNext folder
+after_part (suc k) SyncFolder folder = record { files = folder.files; earlier = drop (suc k) folder.earlier; now = folder.now }
 
 -- what a call that changes something makes of the folder
 abbrev pub Performs : {T : Type 0} → Step → Folder → Folder → Result T DiskFault → Type 0
-Performs step old new result = MatchResult result (λ _. new ≡ after step old) (λ _. (k : ℕ) × (new ≡ partly k step old))
+Performs step old new result = MatchResult result (λ _. new ≡ after step old) (λ _. (k : ℕ) × (new ≡ after_part k step old))
 
 -- the bytes of a file, where there is one
 abbrev pub bytes_at : List File → Option ℕ → Option (List ℕ)

@@ -1,5 +1,5 @@
 -- A disk with a fuse: which calls pass to the disk below, and what becomes of the others.
-use Rattle.std.specs.Prelude.{◌≡◌, ◌≢◌, ℕ, ◌+◌, ◌-◌, min, true, false, Option, Some, None, Result, Err, ◌==◌, if◌then◌else◌}
+use Rattle.std.specs.Prelude.{◌≡◌, ◌≢◌, ℕ, ◌+◌, min, true, false, Result, Err, ◌==◌, nat_lt, if◌then◌else◌}
 use Rattle.conf_disk.specs.Folder.{Folder, Step, CreateNext, Append, Sync, RenameNext, RemoveNext, SyncFolder, Performs}
 use Rattle.conf_disk.specs.Moments.{CountsFailures, greatest}
 use Rattle.conf_disk.specs.declared.disk.Name.{Name}
@@ -13,7 +13,7 @@ use Rattle.conf_disk.specs.declared.fused.FuseCounter.{FuseCounter}
 use Rattle.conf_disk.specs.declared.fused.Call.{Call}
 use Rattle.conf_disk.specs.declared.fused.Call.TheVariants as call
 use Rattle.conf_disk.specs.declared.fused.Outcome.{Outcome}
-use Rattle.conf_disk.specs.declared.fused.Outcome.TheVariants as outcome
+use Rattle.conf_disk.specs.declared.fused.Outcome.TheVariants.{Passes, Fails, FailsDone}
 
 -- what a call does
 abbrev pub call_step : Call → Step
@@ -24,59 +24,36 @@ call_step call.RenameNext = RenameNext
 call_step call.RemoveNext = RemoveNext
 call_step call.SyncFolder = SyncFolder
 
--- How many calls are still to pass before it is the fuse's turn; the fuse, unless it failed its one call; how many
--- calls passed, and how many the fuse failed.
+-- How many calls pass before it is the fuse's turn, and the fuse, which both stay as they are; how many calls passed,
+-- and how many the fuse failed, each up to the greatest number.
 pub record FuseState : Type 0 where
   pub calls : ℕ
-  pub fuse : Option Fuse
+  pub fuse : Fuse
   pub passed : ℕ
   pub blown : ℕ
 
--- what becomes of a call: it passes, it fails without its effect, or it fails with it
-pub data Trip : Type 0 where
-  Passes : Trip
-  Fails : Trip
-  FailsDone : Trip
+-- What a fuse that failed so many calls makes of the next one: `Stop` fails each, and `FailOnce` the first.
+abbrev pub outcome_of_fuse : Fuse → ℕ → Outcome
+outcome_of_fuse Stop blown = Fails
+outcome_of_fuse (FailOnce false) blown = if blown == 0 then Fails else Passes
+outcome_of_fuse (FailOnce true) blown = if blown == 0 then FailsDone else Passes
 
--- what the fuse makes of a call once it is its turn; nothing, where it failed its one call already
-abbrev pub trip_of_fuse : Option Fuse → Trip
-trip_of_fuse None = Passes
-trip_of_fuse (Some Stop) = Fails
-trip_of_fuse (Some (FailOnce false)) = Fails
-trip_of_fuse (Some (FailOnce true)) = FailsDone
-
--- the fuse after its turn
-abbrev pub fuse_left : Option Fuse → Option Fuse
-fuse_left None = None
-fuse_left (Some Stop) = Some Stop
-fuse_left (Some (FailOnce done)) = None
-
--- so many calls pass before it
-abbrev pub trip_of_calls : ℕ → Option Fuse → Trip
-trip_of_calls calls fuse = if calls == 0 then trip_of_fuse fuse else Passes
-
--- one call less passes before it, or it had its turn
-abbrev pub next_turn : FuseState → FuseState
-next_turn state = record {
-  calls = state.calls - 1;
-  fuse = if state.calls == 0 then fuse_left state.fuse else state.fuse;
-  passed = state.passed;
-  blown = state.blown;
-}
+-- the first calls pass, and the fuse decides on the others
+abbrev pub outcome_of_call : FuseState → Outcome
+outcome_of_call state = if nat_lt state.passed state.calls then Passes else outcome_of_fuse state.fuse state.blown
 
 -- the call is counted among those that passed, or among the fuse's own failures
-abbrev pub with_trip : Trip → FuseState → FuseState
-with_trip Passes state = record state { passed = min (state.passed + 1) greatest }
-with_trip Fails state = record state { blown = min (state.blown + 1) greatest }
-with_trip FailsDone state = record state { blown = min (state.blown + 1) greatest }
+abbrev pub with_outcome : Outcome → FuseState → FuseState
+with_outcome Passes state = record state { passed = min (state.passed + 1) greatest }
+with_outcome Fails state = record state { blown = min (state.blown + 1) greatest }
+with_outcome FailsDone state = record state { blown = min (state.blown + 1) greatest }
 
--- a disk that has failed the greatest number of times does nothing more
-abbrev pub trip_of : ℕ → FuseState → Trip
-trip_of failures state = if failures == greatest then Fails else trip_of_calls state.calls state.fuse
+-- a disk that has failed the greatest number of times does nothing more, and counts no call
+abbrev pub outcome_of : ℕ → FuseState → Outcome
+outcome_of failures state = if failures == greatest then Fails else outcome_of_call state
 
--- the fuse's state after a call
 abbrev pub state_after : ℕ → FuseState → FuseState
-state_after failures state = if failures == greatest then state else with_trip (trip_of_calls state.calls state.fuse) (next_turn state)
+state_after failures state = if failures == greatest then state else with_outcome (outcome_of_call state) state
 
 -- what the trait's clauses say of a call of the disk below that changes something
 pub record IsCall {D : Type 0} (honest : Type 0) (folder : D → Folder) (failure_count : D → ℕ)
@@ -88,12 +65,11 @@ pub record IsCall {D : Type 0} (honest : Type 0) (folder : D → Folder) (failur
   pub also : also_changes old step result new
 
 -- A call that passes is one of the disk below. One that fails returns Device, and the disk below is as it was, or has
--- had
--- the call.
-abbrev pub Trips : {T : Type 0} → Trip → (Result T DiskFault → Type 0) → Type 0 → Result T DiskFault → Type 0
-Trips Passes Calls Unchanged result = Calls result
-Trips Fails Calls Unchanged result = (result ≡ Err Device) × Unchanged
-Trips {T = T} FailsDone Calls Unchanged result = (result ≡ Err Device) × ((answer : Result T DiskFault) × Calls answer)
+-- had the call.
+abbrev pub Goes : {T : Type 0} → Outcome → (Result T DiskFault → Type 0) → Type 0 → Result T DiskFault → Type 0
+Goes Passes Calls Unchanged result = Calls result
+Goes Fails Calls Unchanged result = (result ≡ Err Device) × Unchanged
+Goes {T = T} FailsDone Calls Unchanged result = (result ≡ Err Device) × ((answer : Result T DiskFault) × Calls answer)
 
 -- the disk below
 abbrev pub fused_inner : {D : Type 0} → FusedDisk D → D
@@ -106,12 +82,6 @@ counter_state counter = record { calls = counter.calls; fuse = counter.fuse; pas
 -- the state of a disk's fuse
 abbrev pub fuse_of : {D : Type 0} → FusedDisk D → FuseState
 fuse_of disk = counter_state disk.counter
-
--- the trip that the code's outcome means
-abbrev pub trip_of_outcome : Outcome → Trip
-trip_of_outcome outcome.Passes = Passes
-trip_of_outcome outcome.Fails = Fails
-trip_of_outcome outcome.FailsDone = FailsDone
 
 -- how many calls went through to the disk below, up to the greatest number
 abbrev pub passed_count : {D : Type 0} → FusedDisk D → ℕ
@@ -126,12 +96,12 @@ pub record FusesChange {D : Type 0} (honest : Type 0) (folder : D → Folder) (f
     (also_changes : D → Step → Result (Unit {0}) DiskFault → D → Type 0)
     (old : FusedDisk D) (step : Step) (result : Result (Unit {0}) DiskFault) (new : FusedDisk D) : Type 0 where
   pub fuse : fuse_of new ≡ state_after (fused_failures failure_count old) (fuse_of old)
-  pub trip : Trips (trip_of (fused_failures failure_count old) (fuse_of old))
+  pub outcome : Goes (outcome_of (fused_failures failure_count old) (fuse_of old))
       (λ answer. IsCall honest folder failure_count also_changes (fused_inner old) step answer (fused_inner new))
       (fused_inner new ≡ fused_inner old) result
 
 -- a read has no effect that it could have had
-abbrev pub without_effect : Trip → Trip
+abbrev pub without_effect : Outcome → Outcome
 without_effect Passes = Passes
 without_effect Fails = Fails
 without_effect FailsDone = Fails
@@ -141,7 +111,7 @@ pub record FusesRead {D : Type 0} (failure_count : D → ℕ)
     (also_reads : D → Name → ℕ → Result Content DiskFault → D → Type 0)
     (old : FusedDisk D) (name : Name) (max : ℕ) (result : Result Content DiskFault) (new : FusedDisk D) : Type 0 where
   pub fuse : fuse_of new ≡ state_after (fused_failures failure_count old) (fuse_of old)
-  pub trip : Trips (without_effect (trip_of (fused_failures failure_count old) (fuse_of old)))
+  pub outcome : Goes (without_effect (outcome_of (fused_failures failure_count old) (fuse_of old)))
       (λ answer. also_reads (fused_inner old) name max answer (fused_inner new)
       × CountsFailures (failure_count (fused_inner old)) (failure_count (fused_inner new)) answer)
       (fused_inner new ≡ fused_inner old) result

@@ -1,5 +1,5 @@
 -- What a crash may leave of a folder.
-use Rattle.std.specs.Prelude.{◌≡◌, ◌≢◌, ℕ, ◌+◌, ◌≤◌, ◌<◌, List, [], ◌∷◌, ◌++◌, length, get_or, slice_get, take, replicate, Contains, All, Option, Some, None, if◌then◌else◌, ◌&&◌, ◌==◌, nat_le}
+use Rattle.std.specs.Prelude.{◌≡◌, ◌≢◌, ℕ, ◌+◌, ◌≤◌, ◌<◌, List, [], ◌∷◌, ◌++◌, length, get_or, slice_get, take, replicate, Contains, All, Bool, Option, Some, None, if◌then◌else◌, ◌&&◌, ◌==◌, nat_le}
 use Rattle.conf_disk.specs.declared.disk.Name.TheVariants.{Store, Next}
 use Rattle.conf_disk.specs.declared.memory.Cuts.{Cuts}
 use Rattle.conf_disk.specs.Folder.{Stage, File, empty_file, Folder, stages, bytes_under}
@@ -53,26 +53,23 @@ folder_with_files (Some s) (Some n) = record { files = synced_file s ∷ synced_
 abbrev pub folder_of_image : Image → Folder
 folder_of_image image = folder_with_files image.store image.next
 
--- a file's bytes under a cut of so many kept bytes and zeros, where it has room for them
-abbrev pub cut_file : File → ℕ → ℕ → Option (Option (List ℕ))
-cut_file file keep zeros = if nat_le (keep + zeros) (length file.pending) then Some (Some (torn_bytes file keep zeros)) else None
+-- whether a file has room for so many kept bytes and zeros; where there is no file, both are 0
+abbrev pub fits_at : List File → Option ℕ → ℕ → ℕ → Bool
+fits_at files None keep zeros = (keep == 0) && (zeros == 0)
+fits_at files (Some id) keep zeros = nat_le (keep + zeros) (length (get_or files id empty_file).pending)
 
--- where there is no file, nothing is kept and there are no zeros
-abbrev pub cut_at : List File → Option ℕ → ℕ → ℕ → Option (Option (List ℕ))
-cut_at files None keep zeros = if (keep == 0) && (zeros == 0) then Some None else None
-cut_at files (Some id) keep zeros = cut_file (get_or files id empty_file) keep zeros
+-- the bytes that such a cut leaves, where there is a file
+abbrev pub torn_at : List File → Option ℕ → ℕ → ℕ → Option (List ℕ)
+torn_at files None _ _ = None
+torn_at files (Some id) keep zeros = Some (torn_bytes (get_or files id empty_file) keep zeros)
 
--- an image, if both cuts are possible
-abbrev pub both_cut : Option (Option (List ℕ)) → Option (Option (List ℕ)) → Option Image
-both_cut None next = None
-both_cut (Some store) None = None
-both_cut (Some store) (Some next) = Some (record { store = store; next = next })
-
--- the image of a stage under these cuts
+-- the image of a stage under these cuts, if both fit
 abbrev pub image_of_stage : List File → Option Stage → Cuts → Option Image
 image_of_stage files None cuts = None
 image_of_stage files (Some stage) cuts =
-    both_cut (cut_at files stage.store cuts.store.0 cuts.store.1) (cut_at files stage.next cuts.next.0 cuts.next.1)
+    if fits_at files stage.store cuts.store.0 cuts.store.1 && fits_at files stage.next cuts.next.0 cuts.next.1
+    then Some (record { store = torn_at files stage.store cuts.store.0 cuts.store.1; next = torn_at files stage.next cuts.next.0 cuts.next.1 })
+    else None
 
 -- the image of a stage, counted from 0, under these cuts, if the choice is one
 abbrev pub image_at : Folder → ℕ → Cuts → Option Image

@@ -1,6 +1,6 @@
 -- Facts about the model that hold of every folder.
 use Rattle.std.specs.Prelude.{◌≡◌, ◌⊎◌, ◌↔◌, ℕ, Some}
-use Rattle.conf_disk.specs.Folder.{Folder, Step, after, partly}
+use Rattle.conf_disk.specs.Folder.{Folder, Step, after, after_part}
 use Rattle.conf_disk.specs.Image.{Image, IsImage, image_now, folder_of_image, image_at}
 use Rattle.conf_disk.specs.declared.memory.Cuts.{Cuts}
 
@@ -22,4 +22,4 @@ ReadingIsAnImage = (folder : Folder) → IsImage folder (image_now folder)
 
 -- a crash within a call, however far it has come, leaves nothing that a crash before or after the call wouldn't
 abbrev pub CallsLeaveNoOther : Type 0
-CallsLeaveNoOther = (k : ℕ) (step : Step) (folder : Folder) (image : Image) → IsImage (partly k step folder) image → IsImage folder image ⊎ IsImage (after step folder) image
+CallsLeaveNoOther = (k : ℕ) (step : Step) (folder : Folder) (image : Image) → IsImage (after_part k step folder) image → IsImage folder image ⊎ IsImage (after step folder) image

@@ -1,6 +1,6 @@
 -- The folder after a list of steps, and what a crash on the way leaves.
 use Rattle.std.specs.Prelude.{ℕ, ◌≤◌, List, [], ◌∷◌, length, slice_get, take, Option, Some, None}
-use Rattle.conf_disk.specs.Folder.{Folder, empty_folder, Step, after, partly}
+use Rattle.conf_disk.specs.Folder.{Folder, empty_folder, Step, after, after_part}
 use Rattle.conf_disk.specs.Image.{Image, IsImage}
 
 -- the first of them first
@@ -11,7 +11,7 @@ folder_after (step ∷ steps) folder = folder_after steps (after step folder)
 -- the folder when a step has come so far, if there is one
 abbrev pub folder_within : Option Step → ℕ → Folder → Folder
 folder_within None part folder = folder
-folder_within (Some step) part folder = partly part step folder
+folder_within (Some step) part folder = after_part part step folder
 
 -- the folder when so many of the steps are done, and the one after them has come so far
 abbrev pub folder_at : List Step → ℕ → ℕ → Folder

@@ -4,7 +4,7 @@ use Rattle.std.proofs.Common.{refl, sym, ◌∙◌, ap, subst, arith, length-app
 use Rattle.std.proofs.lemmas.List.{take_all, length-set}
 use Rattle.std.proofs.lemmas.List.Elements.{All-weaker, All-contains, All-push, All-nil, Contains-append_right}
 use Rattle.std.proofs.lemmas.Option.{slice_get_past}
-use Rattle.conf_disk.specs.Folder.{Stage, File, empty_file, Folder, empty_folder, stages, under, Step, CreateNext, Append, Sync, RenameNext, RemoveNext, SyncFolder, after, with_file, with_stage, created, renamed, removed}
+use Rattle.conf_disk.specs.Folder.{Stage, File, empty_file, Folder, empty_folder, stages, under, Step, CreateNext, Append, Sync, RenameNext, RemoveNext, SyncFolder, after, with_file, with_stage, after_create, after_rename, after_remove}
 use Rattle.conf_disk.specs.Image.{Image, IsImage, IsMade, IsApartFrom, IsStage, IsWhole}
 use Rattle.conf_disk.specs.Log.{folder_after, folder_within, folder_at, IsLeftSince}
 
@@ -77,32 +77,32 @@ with_stage-whole folder store made whole =
     (All-weaker (IsStage (length folder.files) folder.now.next) (IsStage (length folder.files) None) (IsStage-no_next (length folder.files) folder.now.next) (stages folder) whole)
     (record { store = made; next = tt; apart = tt })
 
-renamed-whole : (folder : Folder) (place : Option ℕ) → IsMade (length folder.files) place → IsWhole folder → IsWhole (renamed folder place)
-renamed-whole folder None made whole = whole
-renamed-whole folder (Some id) made whole = with_stage-whole folder (Some id) made whole
+after_rename-whole : (folder : Folder) (place : Option ℕ) → IsMade (length folder.files) place → IsWhole folder → IsWhole (after_rename folder place)
+after_rename-whole folder None made whole = whole
+after_rename-whole folder (Some id) made whole = with_stage-whole folder (Some id) made whole
 
-removed-whole : (folder : Folder) (place : Option ℕ) → IsWhole folder → IsWhole (removed folder place)
-removed-whole folder None whole = whole
-removed-whole folder (Some id) whole = with_stage-whole folder folder.now.store (now_staged folder whole).store whole
+after_remove-whole : (folder : Folder) (place : Option ℕ) → IsWhole folder → IsWhole (after_remove folder place)
+after_remove-whole folder None whole = whole
+after_remove-whole folder (Some id) whole = with_stage-whole folder folder.now.store (now_staged folder whole).store whole
 
-created-whole : (folder : Folder) → IsWhole folder → IsWhole (created folder)
-created-whole folder whole =
+after_create-whole : (folder : Folder) → IsWhole folder → IsWhole (after_create folder)
+after_create-whole folder whole =
     let n = length folder.files in
     let m = length (folder.files ++ empty_file ∷ []) in
     let longer : m ≡ n + 1 = length-append folder.files (empty_file ∷ []) in
     let le : n ≤ m = omega (arith, longer) in
     let here = now_staged folder whole in
-    All-push (IsStage m (Some n)) (stages folder) (created folder).now
+    All-push (IsStage m (Some n)) (stages folder) (after_create folder).now
     (All-weaker (IsStage n folder.now.next) (IsStage m (Some n)) (IsStage-made n m folder.now.next le) (stages folder) whole)
     (record { store = IsMade-more n m folder.now.store le here.store; next = omega (arith, longer); apart = made_apart n folder.now.store here.store })
 
 -- a step leaves a folder whole
 pub after-whole : (step : Step) (folder : Folder) → IsWhole folder → IsWhole (after step folder)
-after-whole CreateNext folder whole = created-whole folder whole
+after-whole CreateNext folder whole = after_create-whole folder whole
 after-whole (Append name bytes) folder whole = with_file-whole folder (under folder.now name) _ whole
 after-whole (Sync name) folder whole = with_file-whole folder (under folder.now name) _ whole
-after-whole RenameNext folder whole = renamed-whole folder folder.now.next (now_staged folder whole).next whole
-after-whole RemoveNext folder whole = removed-whole folder folder.now.next whole
+after-whole RenameNext folder whole = after_rename-whole folder folder.now.next (now_staged folder whole).next whole
+after-whole RemoveNext folder whole = after_remove-whole folder folder.now.next whole
 after-whole SyncFolder folder whole =
     All-push (IsStage (length folder.files) folder.now.next) [] folder.now (All-nil (IsStage (length folder.files) folder.now.next)) (now_staged folder whole)
 

@@ -1,5 +1,5 @@
 -- A folder's data as the folder of the model.
-use Rattle.std.specs.Prelude.{ℕ, List, map, Option, Some, None, option_map, Vec}
+use Rattle.std.specs.Prelude.{ℕ, List, map, Option, Some, None, Vec}
 use Rattle.std.specs.declared.alloc.Global.{Global}
 use Rattle.conf_disk.specs.Folder.{File, Stage, Folder, Step, CreateNext, Append, Sync, RenameNext, RemoveNext, SyncFolder}
 use Rattle.conf_disk.specs.declared.folder.FileData.{FileData}
@@ -37,7 +37,3 @@ step_of change.SyncFolder = SyncFolder
 abbrev pub items_of : Option (Vec ℕ Global) → Option (List ℕ)
 items_of None = None
 items_of (Some bytes) = Some bytes.items
-
--- the bytes of a cut, if it is possible
-abbrev pub bytes_of_cut : Option (Option (Vec ℕ Global)) → Option (Option (List ℕ))
-bytes_of_cut bytes = option_map items_of bytes

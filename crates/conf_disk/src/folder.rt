@@ -1,8 +1,8 @@
 // A folder as data: its files, and its stages since its last sync.
-ghost use Rattle.std.specs.Prelude.{◌≡◌, [], ◌∷◌, ◌++◌, map, set, get_or, Some, None, OnOk, IfOk, option_map, slice_get};
-ghost use Rattle.conf_disk.specs.Folder.{CreateNext, under, after, appended, synced_whole, empty_file, empty_folder, file_bytes, stages};
-ghost use Rattle.conf_disk.specs.Image.{cut_at};
-ghost use Rattle.conf_disk.specs.Replay.{file_of, files_of, stage_of, folder_of, step_of, bytes_of_cut};
+ghost use Rattle.std.specs.Prelude.{◌≡◌, ◌<◌, length, true, [], ◌∷◌, ◌++◌, map, set, get_or, Some, None, OnOk, IfOk, option_map, slice_get};
+ghost use Rattle.conf_disk.specs.Folder.{CreateNext, under, after, with_pending, synced_whole, empty_file, empty_folder, file_bytes, stages};
+ghost use Rattle.conf_disk.specs.Image.{IsWhole, fits_at, torn_at};
+ghost use Rattle.conf_disk.specs.Replay.{file_of, files_of, stage_of, folder_of, step_of, items_of};
 
 use crate::Name;
 use std::alloc::{AllocError, Global};
@@ -64,6 +64,7 @@ impl FolderData {
     }
 
     pub(crate) fn apply(&mut self, alloc: Global, change: &Change) -> Result<(), AllocError>
+        requires { IsWhole (folder_of self.old) }
         ensures { OnOk result (folder_of self.new ≡ after (step_of change.now)
             (folder_of self.old)) }
     {
@@ -142,60 +143,66 @@ impl FolderData {
         Ok(bytes)
     }
 
+    // Whether a file has room for so many kept bytes and zeros. Where there is none, both are 0.
+    pub(crate) fn fits(&self, id: Option<usize>, cut: (usize, usize)) -> bool
+        ensures { result ≡ fits_at (files_of self.now.files) id cut.0 cut.1 }
+    {
+        let (keep, zeros) = cut;
+        let Some(id) = id else {
+            return keep == 0 && zeros == 0;
+        };
+        let room = if id < self.files.len() {
+            self.files[id].pending.len()
+        } else {
+            0
+        };
+        keep <= room && zeros <= room - keep
+    }
+
     // What a crash leaves of a file, if there is one: its synced bytes, so many pending ones and so many zeros.
     pub(crate) fn torn_bytes(
         &self,
         alloc: Global,
         id: Option<usize>,
-        keep: usize,
-        zeros: usize,
-    ) -> Result<Option<Option<Vec<u8>>>, AllocError>
+        cut: (usize, usize),
+    ) -> Result<Option<Vec<u8>>, AllocError>
+        requires { fits_at (files_of self.now.files) id cut.0 cut.1 ≡ true }
         ensures { IfOk result
-            (λ bytes. bytes_of_cut bytes ≡ cut_at (files_of self.now.files) id keep zeros) }
+            (λ bytes. items_of bytes ≡ torn_at (files_of self.now.files) id cut.0 cut.1) }
     {
+        let (keep, zeros) = cut;
         let Some(id) = id else {
-            return Ok(if keep == 0 && zeros == 0 {
-                Some(None)
-            } else {
-                None
-            });
+            return Ok(None);
         };
         let mut bytes = Vec::new(alloc);
         if id < self.files.len() {
             let file = &self.files[id];
-            if keep > file.pending.len() || zeros > file.pending.len() - keep {
-                return Ok(None);
-            }
             bytes.extend_from_slice(&file.synced)?;
             bytes.extend_from_slice(&file.pending[..keep])?;
             bytes.resize(bytes.len() + zeros, 0)?;
-        } else if keep > 0 || zeros > 0 {
-            return Ok(None);
         }
-        Ok(Some(Some(bytes)))
+        Ok(Some(bytes))
     }
 }
 
 fn append_to(files: &mut Vec<FileData>, id: usize, bytes: &[u8]) -> Result<(), AllocError>
+    requires { id < length files.old.items }
     ensures { OnOk result
         (files_of files.new ≡ set (files_of files.old) id
-        (appended bytes.now (get_or (files_of files.old) id empty_file))) }
+        (with_pending bytes.now (get_or (files_of files.old) id empty_file))) }
 {
-    if id < files.len() {
-        files[id].pending.extend_from_slice(bytes)?;
-    }
+    files[id].pending.extend_from_slice(bytes)?;
     Ok(())
 }
 
 fn sync_whole(files: &mut Vec<FileData>, id: usize) -> Result<(), AllocError>
+    requires { id < length files.old.items }
     ensures { OnOk result
         (files_of files.new ≡ set (files_of files.old) id
         (synced_whole (get_or (files_of files.old) id empty_file))) }
 {
-    if id < files.len() {
-        let file = &mut files[id];
-        file.synced.extend_from_slice(&file.pending)?;
-        file.pending.clear();
-    }
+    let file = &mut files[id];
+    file.synced.extend_from_slice(&file.pending)?;
+    file.pending.clear();
     Ok(())
 }

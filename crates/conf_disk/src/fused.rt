@@ -1,7 +1,7 @@
 // A disk that fails from a call on, or once.
-ghost use Rattle.std.specs.Prelude.{◌≡◌, ℕ, Some};
+ghost use Rattle.std.specs.Prelude.{◌≡◌, ℕ};
 ghost use Rattle.conf_disk.specs.Folder.{MayBeMade};
-ghost use Rattle.conf_disk.specs.Fused.{trip_of, state_after, trip_of_calls, next_turn, trip_of_outcome, counter_state, call_step};
+ghost use Rattle.conf_disk.specs.Fused.{outcome_of, outcome_of_call, state_after, counter_state, call_step};
 ghost use Rattle.conf_disk.specs.Moments.{IsChange};
 
 use crate::{Content, Disk, DiskFault, Name};
@@ -27,12 +27,11 @@ pub struct FusedDisk<D> {
     counter: FuseCounter,
 }
 
-// How many calls are still to pass before it is the fuse's turn; the fuse, if it still fails a call; how many calls
-// passed, and how many the fuse failed.
+// How many calls pass before it is the fuse's turn, and the fuse; how many calls passed, and how many the fuse failed.
 #[derive(Clone, Copy, Debug, PartialEq, Eq)]
 pub(crate) struct FuseCounter {
     pub(crate) calls: u64,
-    pub(crate) fuse: Option<Fuse>,
+    pub(crate) fuse: Fuse,
     pub(crate) passed: u64,
     pub(crate) blown: u64,
 }
@@ -77,13 +76,13 @@ impl Call<'_> {
 impl FuseCounter {
     // What becomes of the next call of a disk that failed so often. At the greatest number it does nothing more.
     fn next_outcome(&mut self, failures: u64) -> Outcome
-        ensures outcome { trip_of_outcome result ≡ trip_of failures (counter_state self.old) }
+        ensures outcome { result ≡ outcome_of failures (counter_state self.old) }
         ensures state { counter_state self.new ≡ state_after failures (counter_state self.old) }
     {
         if failures == u64::MAX {
             return Outcome::Fails;
         }
-        let outcome = self.turn();
+        let outcome = self.outcome();
         match outcome {
             Outcome::Passes => self.passed = self.passed.saturating_add(1),
             Outcome::Fails | Outcome::FailsDone => self.blown = self.blown.saturating_add(1),
@@ -91,21 +90,19 @@ impl FuseCounter {
         outcome
     }
 
-    // What the calls that are still to pass, and then the fuse, make of the next call.
-    fn turn(&mut self) -> Outcome
-        ensures outcome { trip_of_outcome result ≡ trip_of_calls self.old.calls self.old.fuse }
-        ensures state { counter_state self.new ≡ next_turn (counter_state self.old) }
+    // What becomes of the next call: the first calls pass, and the fuse decides on the others.
+    fn outcome(&self) -> Outcome
+        ensures { result ≡ outcome_of_call (counter_state self.now) }
     {
-        if self.calls > 0 {
-            self.calls -= 1;
+        if self.passed < self.calls {
             return Outcome::Passes;
         }
         match self.fuse {
-            None => Outcome::Passes,
-            Some(Fuse::Stop) => Outcome::Fails,
-            Some(Fuse::FailOnce { done }) => {
-                self.fuse = None;
-                if done {
+            Fuse::Stop => Outcome::Fails,
+            Fuse::FailOnce { done } => {
+                if self.blown > 0 {
+                    Outcome::Passes
+                } else if done {
                     Outcome::FailsDone
                 } else {
                     Outcome::Fails
@@ -122,13 +119,13 @@ impl<D: Disk> FusedDisk<D> {
     pub fn new(inner: D, calls: u64, fuse: Fuse) -> Self
         ensures inner { fused_inner result ≡ inner }
         ensures fuse { fuse_of result ≡ record
-            { calls = calls; fuse = Some fuse; passed = 0; blown = 0 } }
+            { calls = calls; fuse = fuse; passed = 0; blown = 0 } }
     {
         FusedDisk {
             inner,
             counter: FuseCounter {
                 calls,
-                fuse: Some(fuse),
+                fuse,
                 passed: 0,
                 blown: 0,
             },
@@ -152,7 +149,7 @@ impl<D: Disk> FusedDisk<D> {
     }
 
     fn next_outcome(&mut self) -> Outcome
-        ensures outcome { trip_of_outcome result ≡ trip_of (fused_failures D.failure_count self.old)
+        ensures outcome { result ≡ outcome_of (fused_failures D.failure_count self.old)
             (fuse_of self.old) }
         ensures state { fuse_of self.new ≡ state_after (fused_failures D.failure_count self.old)
             (fuse_of self.old) }

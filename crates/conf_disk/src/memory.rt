@@ -20,8 +20,8 @@ pub struct Cuts {
     pub next: (usize, usize),
 }
 
-/// A disk in memory, for tests. It keeps a record of the changes that were made, in its allocator's memory; where there
-/// is none for a change it counts a failure, returns [`DiskFault::Device`] and changes nothing.
+/// A disk in memory, for tests. It keeps a record of the changes that were made, in its allocator's memory. Where there
+/// is none for a change, it counts a failure, returns [`DiskFault::Device`] and changes nothing.
 #[derive(Drop)]
 pub struct MemoryDisk {
     alloc: Global,
@@ -69,8 +69,9 @@ impl MemoryDisk {
         })
     }
 
-    /// Returns the disk that a crash would leave at stage `stage` (0 is the first since the last folder sync), with the
-    /// files torn as `cuts` says, or `None` if no crash can leave that. It has no pending bytes, and one stage.
+    /// Returns the disk that a crash would leave at stage `stage`, with the files torn as `cuts` says, or `None` if no
+    /// crash can leave that. Stage 0 is the first since the last folder sync. The disk has no pending bytes, and one
+    /// stage.
     pub fn image(&self, stage: usize, cuts: Cuts) -> Result<Option<MemoryDisk>, AllocError>
         ensures folder { IfOk result
             (λ image. option_map memory_folder image ≡ option_map folder_of_image
@@ -81,14 +82,11 @@ impl MemoryDisk {
         let Some(names) = folder.stage_at(stage) else {
             return Ok(None);
         };
-        let (keep, zeros) = cuts.store;
-        let Some(store) = folder.torn_bytes(self.alloc, names.store, keep, zeros)? else {
+        if !folder.fits(names.store, cuts.store) || !folder.fits(names.next, cuts.next) {
             return Ok(None);
-        };
-        let (keep, zeros) = cuts.next;
-        let Some(next) = folder.torn_bytes(self.alloc, names.next, keep, zeros)? else {
-            return Ok(None);
-        };
+        }
+        let store = folder.torn_bytes(self.alloc, names.store, cuts.store)?;
+        let next = folder.torn_bytes(self.alloc, names.next, cuts.next)?;
         Ok(Some(MemoryDisk::with_files(self.alloc, store, next)?))
     }
 

@@ -14,11 +14,13 @@ module _ {D : Type 0} (folder : D → Folder) (moment : D → ℕ) (left : D →
       subst (IsStoreOf (folder old)) was.same
       (LeavesOnly-now folder moment left old between (λ image. IsStoreOf (folder old) image.store) (counts between) first was.image was.is)
 
+  -- after a run that leaves an old store, another one that does so leaves it in all
   pub old-joined : LeavesOldStore folder moment left between new → LeavesOldStore folder moment left old new
   old-joined second =
       LeavesOnly-joined moment left old between new _ _ (λ image. IsStoreOf (folder old) image.store) first second
       (λ image is. is) (λ image is. was-old image.store is)
 
+  -- after a run that leaves an old store, one that leaves that or another store leaves one of the two in all
   pub other-joined : (other : Option (List ℕ)) → LeavesStoreOr folder moment left other between new → LeavesStoreOr folder moment left other old new
   other-joined other second =
       LeavesOnly-joined moment left old between new (λ image. IsStoreOf (folder old) image.store)

@@ -1,4 +1,5 @@
 pub mod Reading
+pub mod Runs
 pub mod Stores
 pub mod Held
 pub mod Appends

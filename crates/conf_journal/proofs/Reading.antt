@@ -1,17 +1,18 @@
 -- What reads after a call.
-use Rattle.std.proofs.Common.{◌≡◌, inl, inr, ℕ, zero, suc, ◌<◌, List, [], ◌∷◌, ◌++◌, length, get_or, set, take, drop, Option, Some, None, Result, Ok, Err, OnOk, refl, sym, ◌∙◌, ap, append_assoc, take-append-drop}
-use Rattle.std.proofs.lemmas.List.{append-nil, get_or-set_same, get_or-set_other, get_or_append_left, get_or_at}
-use Rattle.conf_disk.specs.Folder.{File, empty_file, file_bytes, Folder, Step, CreateNext, Append, Sync, RenameNext, RemoveNext, SyncFolder, with_file, appended, synced_whole, synced_first, removed, created, renamed, after, partly, Performs, bytes_at, bytes_under, under}
+use Rattle.std.proofs.Common.{◌≡◌, inl, inr, ℕ, zero, suc, ◌<◌, List, ◌++◌, length, get_or, set, take, drop, Option, Some, None, Result, Ok, Err, OnOk, refl, sym, ◌∙◌, ap, append_assoc, take-append-drop}
+use Rattle.std.proofs.lemmas.List.{append-nil, get_or-set_same, get_or-set_other}
+use Rattle.conf_disk.specs.Folder.{File, empty_file, file_bytes, Folder, Step, Append, Sync, SyncFolder, with_file, with_pending, synced_whole, synced_first, after, after_part, Performs, bytes_at, bytes_under, under}
 use Rattle.conf_disk.specs.Image.{Image, image_now, IsMade, IsApartFrom, IsWhole}
 use Rattle.conf_disk.specs.LogLaws.{now_staged}
 use Rattle.conf_disk.specs.declared.disk.Name.{Name}
 use Rattle.conf_disk.specs.declared.disk.Name.TheVariants.{Store, Next}
 use Rattle.conf_disk.specs.declared.disk.DiskFault.{DiskFault}
 use Rattle.conf_disk.proofs.Images.{get_or-set_cases}
-use Rattle.conf_journal.specs.Store.{extended}
+use Rattle.conf_journal.specs.Store.{file_with_bytes}
 
-pub file_bytes-appended : (bytes : List ℕ) (file : File) → file_bytes (appended bytes file) ≡ file_bytes file ++ bytes
-file_bytes-appended bytes file = sym (append_assoc file.synced file.pending bytes)
+-- a file with more pending bytes reads as its bytes and then those
+pub file_bytes-with_pending : (bytes : List ℕ) (file : File) → file_bytes (with_pending bytes file) ≡ file_bytes file ++ bytes
+file_bytes-with_pending bytes file = sym (append_assoc file.synced file.pending bytes)
 
 file_bytes-synced_whole : (file : File) → file_bytes (synced_whole file) ≡ file_bytes file
 file_bytes-synced_whole file = append-nil (file.synced ++ file.pending)
@@ -34,10 +35,11 @@ with_file-reads_same folder (Some id) change same =
     let kept = bytes_at-set_same_bytes folder.files id (change (get_or folder.files id empty_file)) (same (get_or folder.files id empty_file)) in
     λ i. record { store = kept folder.now.store i; next = kept folder.now.next i }
 
+-- a sync of a file changes nothing that is read
 pub synced-reads_same : (name : Name) (folder : Folder) → image_now (after (Sync name) folder) ≡ image_now folder
 synced-reads_same name folder = with_file-reads_same folder (under folder.now name) synced_whole file_bytes-synced_whole
 
-partly_synced-reads_same : (k : ℕ) (name : Name) (folder : Folder) → image_now (partly k (Sync name) folder) ≡ image_now folder
+partly_synced-reads_same : (k : ℕ) (name : Name) (folder : Folder) → image_now (after_part k (Sync name) folder) ≡ image_now folder
 partly_synced-reads_same zero name folder = refl
 partly_synced-reads_same (suc k) name folder = with_file-reads_same folder (under folder.now name) (synced_first (suc k)) (file_bytes-synced_first (suc k))
 
@@ -47,11 +49,11 @@ sync-reads_same name old new (Ok x) is = ap image_now is ∙ synced-reads_same n
 sync-reads_same name old new (Err x) is = ap image_now is.1 ∙ partly_synced-reads_same is.0 name old
 
 -- the file at a place gets more bytes
-bytes_at-appended : (files : List File) (id : ℕ) (bytes : List ℕ) → id < length files
-    → bytes_at (set files id (appended bytes (get_or files id empty_file))) (Some id) ≡ extended (bytes_at files (Some id)) bytes
-bytes_at-appended files id bytes within =
-    ap (λ (x : File). Some (file_bytes x)) (get_or-set_same files id (appended bytes (get_or files id empty_file)) empty_file within)
-    ∙ ap Some (file_bytes-appended bytes (get_or files id empty_file))
+bytes_at-with_pending : (files : List File) (id : ℕ) (bytes : List ℕ) → id < length files
+    → bytes_at (set files id (with_pending bytes (get_or files id empty_file))) (Some id) ≡ file_with_bytes (bytes_at files (Some id)) bytes
+bytes_at-with_pending files id bytes within =
+    ap (λ (x : File). Some (file_bytes x)) (get_or-set_same files id (with_pending bytes (get_or files id empty_file)) empty_file within)
+    ∙ ap Some (file_bytes-with_pending bytes (get_or files id empty_file))
 
 bytes_at-set_other : (files : List File) (id : ℕ) (file : File) (place : Option ℕ) → (place ≡ Some id → ⊥) → bytes_at (set files id file) place ≡ bytes_at files place
 bytes_at-set_other files id file None other = refl
@@ -63,26 +65,22 @@ next_apart None store id apart is at = cc
 next_apart (Some k) store id apart is at = apart (is ∙ sym at)
 
 append_store-at : (files : List File) (store next : Option ℕ) (bytes : List ℕ) → IsMade (length files) store → IsApartFrom next store → (folder : Folder) → folder.files ≡ files
-    → (bytes_at (with_file folder store (appended bytes)).files store ≡ extended (bytes_at files store) bytes) × (bytes_at (with_file folder store (appended bytes)).files next ≡ bytes_at files next)
+    → (bytes_at (with_file folder store (with_pending bytes)).files store ≡ file_with_bytes (bytes_at files store) bytes) × (bytes_at (with_file folder store (with_pending bytes)).files next ≡ bytes_at files next)
 append_store-at files None next bytes made apart folder is = (refl, ap (λ (l : List File). bytes_at l next) is)
 append_store-at files (Some id) next bytes made apart folder is =
-    let changed : (with_file folder (Some id) (appended bytes)).files ≡ set files id (appended bytes (get_or files id empty_file)) = ap (λ (l : List File). set l id (appended bytes (get_or l id empty_file))) is in (
-      ap (λ (l : List File). bytes_at l (Some id)) changed ∙ bytes_at-appended files id bytes made,
+    let changed : (with_file folder (Some id) (with_pending bytes)).files ≡ set files id (with_pending bytes (get_or files id empty_file)) = ap (λ (l : List File). set l id (with_pending bytes (get_or l id empty_file))) is in (
+      ap (λ (l : List File). bytes_at l (Some id)) changed ∙ bytes_at-with_pending files id bytes made,
       ap (λ (l : List File). bytes_at l next) changed ∙ bytes_at-set_other files id _ next (λ at. next_apart next (Some id) id apart refl at),
     )
 
 append_next-at : (files : List File) (store next : Option ℕ) (bytes : List ℕ) → IsMade (length files) next → IsApartFrom next store → (folder : Folder) → folder.files ≡ files
-    → (bytes_at (with_file folder next (appended bytes)).files store ≡ bytes_at files store) × (bytes_at (with_file folder next (appended bytes)).files next ≡ extended (bytes_at files next) bytes)
+    → (bytes_at (with_file folder next (with_pending bytes)).files store ≡ bytes_at files store) × (bytes_at (with_file folder next (with_pending bytes)).files next ≡ file_with_bytes (bytes_at files next) bytes)
 append_next-at files store None bytes made apart folder is = (ap (λ (l : List File). bytes_at l store) is, refl)
 append_next-at files store (Some id) bytes made apart folder is =
-    let changed : (with_file folder (Some id) (appended bytes)).files ≡ set files id (appended bytes (get_or files id empty_file)) = ap (λ (l : List File). set l id (appended bytes (get_or l id empty_file))) is in (
+    let changed : (with_file folder (Some id) (with_pending bytes)).files ≡ set files id (with_pending bytes (get_or files id empty_file)) = ap (λ (l : List File). set l id (with_pending bytes (get_or l id empty_file))) is in (
       ap (λ (l : List File). bytes_at l store) changed ∙ bytes_at-set_other files id _ store apart,
-      ap (λ (l : List File). bytes_at l (Some id)) changed ∙ bytes_at-appended files id bytes made,
+      ap (λ (l : List File). bytes_at l (Some id)) changed ∙ bytes_at-with_pending files id bytes made,
     )
-
-now_same : (folder : Folder) (place : Option ℕ) (change : File → File) → (with_file folder place change).now ≡ folder.now
-now_same folder None change = refl
-now_same folder (Some id) change = refl
 
 image_now-with_file : (folder : Folder) (place : Option ℕ) (change : File → File) (store next : Option (List ℕ))
     → bytes_at (with_file folder place change).files folder.now.store ≡ store → bytes_at (with_file folder place change).files folder.now.next ≡ next
@@ -90,92 +88,47 @@ image_now-with_file : (folder : Folder) (place : Option ℕ) (change : File → 
 image_now-with_file folder None change store next s n = λ i. record { store = s i; next = n i }
 image_now-with_file folder (Some id) change store next s n = λ i. record { store = s i; next = n i }
 
-pub appended_store-reads : (bytes : List ℕ) (folder : Folder) → IsWhole folder → image_now (after (Append Store bytes) folder) ≡ record { store = extended (bytes_under folder Store) bytes; next = bytes_under folder Next }
+-- after an append to the store, its bytes are read and then the new ones
+pub appended_store-reads : (bytes : List ℕ) (folder : Folder) → IsWhole folder → image_now (after (Append Store bytes) folder) ≡ record { store = file_with_bytes (bytes_under folder Store) bytes; next = bytes_under folder Next }
 appended_store-reads bytes folder whole =
     let here = now_staged folder whole in
     let both = append_store-at folder.files folder.now.store folder.now.next bytes here.store here.apart folder refl in
-    image_now-with_file folder folder.now.store (appended bytes) _ _ both.0 both.1
+    image_now-with_file folder folder.now.store (with_pending bytes) _ _ both.0 both.1
 
-pub appended_next-reads : (bytes : List ℕ) (folder : Folder) → IsWhole folder → image_now (after (Append Next bytes) folder) ≡ record { store = bytes_under folder Store; next = extended (bytes_under folder Next) bytes }
+-- after an append to `next.yaml`, its bytes are read and then the new ones
+pub appended_next-reads : (bytes : List ℕ) (folder : Folder) → IsWhole folder → image_now (after (Append Next bytes) folder) ≡ record { store = bytes_under folder Store; next = file_with_bytes (bytes_under folder Next) bytes }
 appended_next-reads bytes folder whole =
     let here = now_staged folder whole in
     let both = append_next-at folder.files folder.now.store folder.now.next bytes here.next here.apart folder refl in
-    image_now-with_file folder folder.now.next (appended bytes) _ _ both.0 both.1
-
-bytes_at-created : (files : List File) (place : Option ℕ) → IsMade (length files) place → bytes_at (files ++ empty_file ∷ []) place ≡ bytes_at files place
-bytes_at-created files None made = refl
-bytes_at-created files (Some id) made = ap (λ (x : File). Some (file_bytes x)) (get_or_append_left files (empty_file ∷ []) empty_file id made)
-
-pub created-reads : (folder : Folder) → IsWhole folder → image_now (created folder) ≡ record { store = bytes_under folder Store; next = Some [] }
-created-reads folder whole =
-    let here = now_staged folder whole in
-    let old = bytes_at-created folder.files folder.now.store here.store in
-    let new = get_or_at folder.files empty_file [] empty_file (length folder.files) refl in
-    λ i. record { store = old i; next = Some (file_bytes (new i)) }
-
-removed-store : (folder : Folder) (place : Option ℕ) → bytes_under (removed folder place) Store ≡ bytes_under folder Store
-removed-store folder None = refl
-removed-store folder (Some id) = refl
-
-pub removed-reads_store : (folder : Folder) → bytes_under (after RemoveNext folder) Store ≡ bytes_under folder Store
-removed-reads_store folder = removed-store folder folder.now.next
-
-renamed-at : (folder : Folder) (next : Option ℕ) → (next ≡ None → ⊥) → image_now (renamed folder next) ≡ record { store = bytes_at folder.files next; next = None }
-renamed-at folder None some = absurd (some refl)
-renamed-at folder (Some id) some = refl
-
-pub renamed-reads : (folder : Folder) → (folder.now.next ≡ None → ⊥) → image_now (after RenameNext folder) ≡ record { store = bytes_under folder Next; next = None }
-renamed-reads folder some = renamed-at folder folder.now.next some
+    image_now-with_file folder folder.now.next (with_pending bytes) _ _ both.0 both.1
 
 -- what reads when a call answers Ok
 pub performed-reads : {T : Type 0} (step : Step) (old new : Folder) (result : Result T DiskFault) (reads : Image) → image_now (after step old) ≡ reads → Performs step old new result → OnOk result (image_now new ≡ reads)
 performed-reads step old new (Ok x) reads same is = ap image_now is ∙ same
 performed-reads step old new (Err x) reads same is = tt
 
+-- what holds anyway holds after success
 pub OnOk-always : {T E P : Type 0} (result : Result T E) → P → OnOk result P
 OnOk-always (Ok x) is = is
 OnOk-always (Err x) is = tt
 
--- a name that reads as bytes has a file
-pub file_there : (files : List File) (place : Option ℕ) (bytes : List ℕ) → bytes_at files place ≡ Some bytes → place ≡ None → ⊥
-file_there files None bytes is none = cc
-file_there files (Some id) bytes is none = cc
-
-partly_folder-reads_same : (k : ℕ) (folder : Folder) → image_now (partly k SyncFolder folder) ≡ image_now folder
+partly_folder-reads_same : (k : ℕ) (folder : Folder) → image_now (after_part k SyncFolder folder) ≡ image_now folder
 partly_folder-reads_same zero folder = refl
 partly_folder-reads_same (suc k) folder = refl
 
--- nor does a sync of the folder
+-- nor does a sync of the folder, whatever it answers
 pub sync_folder-reads_same : {T : Type 0} (old new : Folder) (result : Result T DiskFault) → Performs SyncFolder old new result → image_now new ≡ image_now old
 sync_folder-reads_same old new (Ok x) is = ap image_now is
 sync_folder-reads_same old new (Err x) is = ap image_now is.1 ∙ partly_folder-reads_same is.0 old
 
--- ---- calls on the staged file leave what `store.yaml` reads as, whatever they answer
+-- ---- an append to the staged file leaves what `store.yaml` reads as, whatever it answers
 
-created-reads_store : (k : ℕ) (folder : Folder) → IsWhole folder → bytes_under (partly k CreateNext folder) Store ≡ bytes_under folder Store
-created-reads_store zero folder whole = refl
-created-reads_store (suc k) folder whole = ap (λ (i : Image). i.store) (created-reads folder whole)
-
-appended_next-reads_store : (k : ℕ) (bytes : List ℕ) (folder : Folder) → IsWhole folder → bytes_under (partly k (Append Next bytes) folder) Store ≡ bytes_under folder Store
+appended_next-reads_store : (k : ℕ) (bytes : List ℕ) (folder : Folder) → IsWhole folder → bytes_under (after_part k (Append Next bytes) folder) Store ≡ bytes_under folder Store
 appended_next-reads_store zero bytes folder whole = refl
 appended_next-reads_store (suc k) bytes folder whole = ap (λ (i : Image). i.store) (appended_next-reads (take (suc k) bytes) folder whole)
 
-partly_removed-reads_store : (k : ℕ) (folder : Folder) → bytes_under (partly k RemoveNext folder) Store ≡ bytes_under folder Store
-partly_removed-reads_store zero folder = refl
-partly_removed-reads_store (suc k) folder = removed-reads_store folder
-
-pub create-leaves_store : {T : Type 0} (old new : Folder) (result : Result T DiskFault) → IsWhole old → Performs CreateNext old new result → bytes_under new Store ≡ bytes_under old Store
-create-leaves_store old new (Ok x) whole is = ap (λ (f : Folder). bytes_under f Store) is ∙ created-reads_store 1 old whole
-create-leaves_store old new (Err x) whole is = ap (λ (f : Folder). bytes_under f Store) is.1 ∙ created-reads_store is.0 old whole
-
-pub remove-leaves_store : {T : Type 0} (old new : Folder) (result : Result T DiskFault) → Performs RemoveNext old new result → bytes_under new Store ≡ bytes_under old Store
-remove-leaves_store old new (Ok x) is = ap (λ (f : Folder). bytes_under f Store) is ∙ removed-reads_store old
-remove-leaves_store old new (Err x) is = ap (λ (f : Folder). bytes_under f Store) is.1 ∙ partly_removed-reads_store is.0 old
-
+-- so does appending to it
 pub append_next-leaves_store : {T : Type 0} (bytes : List ℕ) (old new : Folder) (result : Result T DiskFault) → IsWhole old → Performs (Append Next bytes) old new result
     → bytes_under new Store ≡ bytes_under old Store
 append_next-leaves_store bytes old new (Ok x) whole is = ap (λ (f : Folder). bytes_under f Store) is ∙ ap (λ (i : Image). i.store) (appended_next-reads bytes old whole)
 append_next-leaves_store bytes old new (Err x) whole is = ap (λ (f : Folder). bytes_under f Store) is.1 ∙ appended_next-reads_store is.0 bytes old whole
-
-pub sync-leaves_store : {T : Type 0} (name : Name) (old new : Folder) (result : Result T DiskFault) → Performs (Sync name) old new result → bytes_under new Store ≡ bytes_under old Store
-sync-leaves_store name old new result is = ap (λ (i : Image). i.store) (sync-reads_same name old new result is)

@@ -1,18 +1,22 @@
 -- What a crash may leave of `store.yaml` when a call changed something else, or appended to it.
-use Rattle.std.proofs.Common.{◌≡◌, ◌≢◌, ◌⊎◌, inl, inr, ⊎_elim, ℕ, ◌<◌, List, [], ◌∷◌, ◌++◌, length, get_or, set, take, replicate, Option, Some, None, Contains, Result, Ok, Err, OnOk, refl, sym, ◌∙◌, ap, subst, arith, length-append}
+use Rattle.std.proofs.Common.{◌≡◌, ◌≢◌, ◌⊎◌, inl, inr, ⊎_elim, ℕ, ◌<◌, List, [], ◌∷◌, ◌++◌, length, get_or, set, take, replicate, Option, Some, None, Contains, IsSome, Result, Ok, Err, OnOk, refl, sym, ◌∙◌, ap, subst, arith, length-append}
 use Rattle.std.proofs.lemmas.List.{append-nil, get_or-set_same, get_or-set_other, get_or_append_left}
 use Rattle.std.proofs.lemmas.List.Elements.{All-contains, Contains-append_right, Contains-append_cases}
 use Rattle.std.proofs.lemmas.Bool.{cases_eq}
-use Rattle.conf_disk.specs.Folder.{File, empty_file, file_bytes, Stage, Folder, stages, CreateNext, Append, Sync, RenameNext, RemoveNext, with_file, appended, synced_whole, removed, created, renamed, after, Performs, bytes_at, bytes_under, under}
+use Rattle.conf_disk.specs.Folder.{File, empty_file, file_bytes, Stage, Folder, stages, Step, CreateNext, Append, Sync, RenameNext, RemoveNext, SyncFolder, with_file, with_pending, synced_whole, after_remove, after_create, after_rename, after, Performs, bytes_at, bytes_under, under}
 use Rattle.conf_disk.specs.Image.{Image, IsImage, IsTorn, IsTornAt, IsMade, IsApartFrom, IsStage, IsWhole}
 use Rattle.conf_disk.specs.LogLaws.{now_staged, after-whole}
+use Rattle.conf_disk.specs.Moments.{LeavesOnly}
+use Rattle.conf_disk.specs.declared.disk.Disk.{Ghosts}
 use Rattle.conf_disk.specs.declared.disk.Name.{Name}
 use Rattle.conf_disk.specs.declared.disk.Name.TheVariants.{Store, Next}
 use Rattle.conf_disk.specs.declared.disk.DiskFault.{DiskFault}
 use Rattle.conf_disk.proofs.Images.{after-grown}
+use Rattle.conf_disk.proofs.Moments.{LeavesOnly-weaker}
 use Rattle.conf_disk.proofs.Stops.{IsTornAt-whole, IsTorn-synced, only_stage}
-use Rattle.conf_journal.specs.Store.{IsStoreOf, IsTail, IsSynced, IsSyncedAt}
+use Rattle.conf_journal.specs.Store.{IsStoreOf, IsTail, IsSynced, IsSyncedAt, LeavesOldStore}
 use Rattle.conf_journal.proofs.Reading.{synced-reads_same}
+use Rattle.conf_journal.proofs.Runs.{LeftDuring, SyncsLast, grown_after, grown-left}
 
 -- one of the folder's stages has this store
 IsStoreOf-stage : (folder : Folder) (stage : Stage) (store : Option (List ℕ)) → Contains (stages folder) stage → IsTornAt folder.files stage.store store → IsStoreOf folder store
@@ -22,6 +26,7 @@ IsStoreOf-stage folder stage store among torn = record {
   same = refl;
 }
 
+-- each image has a store that some stage leaves
 pub IsStoreOf-image : (folder : Folder) (image : Image) → IsImage folder image → IsStoreOf folder image.store
 IsStoreOf-image folder image is = record { image = image; is = is; same = refl }
 
@@ -46,9 +51,9 @@ one_more folder files stage last store same back whole among torn = elim (Contai
       IsStoreOf-stage folder folder.now store (now_among folder) (back folder.now.store (now_staged folder whole).store (subst (λ (place : Option ℕ). IsTornAt files place store) at_last torn))
 ]
 
-removed-keeps : (folder : Folder) (place : Option ℕ) → IsWhole folder → (image : Image) → IsImage (removed folder place) image → IsStoreOf folder image.store
-removed-keeps folder None whole image is = IsStoreOf-image folder image is
-removed-keeps folder (Some id) whole image is =
+after_remove-keeps : (folder : Folder) (place : Option ℕ) → IsWhole folder → (image : Image) → IsImage (after_remove folder place) image → IsStoreOf folder image.store
+after_remove-keeps folder None whole image is = IsStoreOf-image folder image is
+after_remove-keeps folder (Some id) whole image is =
     one_more folder folder.files is.stage (record { store = folder.now.store; next = None }) image.store refl (λ place made torn. torn) whole is.among is.store
 
 created_back : (files : List File) (store : Option (List ℕ)) (place : Option ℕ) → IsMade (length files) place → IsTornAt (files ++ empty_file ∷ []) place store → IsTornAt files place store
@@ -57,9 +62,9 @@ created_back files (Some bytes) None made torn = absurd torn
 created_back files None (Some id) made torn = absurd torn
 created_back files (Some bytes) (Some id) made torn = subst (λ (x : File). IsTorn x bytes) (get_or_append_left files (empty_file ∷ []) empty_file id made) torn
 
-created-keeps : (folder : Folder) → IsWhole folder → (image : Image) → IsImage (created folder) image → IsStoreOf folder image.store
-created-keeps folder whole image is =
-    one_more folder (created folder).files is.stage (created folder).now image.store refl (created_back folder.files image.store) whole is.among is.store
+after_create-keeps : (folder : Folder) → IsWhole folder → (image : Image) → IsImage (after_create folder) image → IsStoreOf folder image.store
+after_create-keeps folder whole image is =
+    one_more folder (after_create folder).files is.stage (after_create folder).now image.store refl (created_back folder.files image.store) whole is.among is.store
 
 set_back : (files : List File) (id : ℕ) (file : File) (place : Option ℕ) (store : Option (List ℕ)) → place ≢ Some id → IsTornAt (set files id file) place store → IsTornAt files place store
 set_back files id file None None other torn = tt
@@ -74,42 +79,64 @@ append_next-keeps folder (Some id) change at whole image is =
     let apart = subst (λ (next : Option ℕ). IsApartFrom next is.stage.store) at (stage_of_whole folder is.stage whole is.among).apart in
     IsStoreOf-stage folder is.stage image.store is.among (set_back folder.files id _ is.stage.store image.store apart is.store)
 
-pub removed-leaves : (folder : Folder) → IsWhole folder → (image : Image) → IsImage (after RemoveNext folder) image → IsStoreOf folder image.store
-removed-leaves folder whole image is = removed-keeps folder folder.now.next whole image is
+-- ---- no step changes `store.yaml`
 
-pub begun-leaves : (folder : Folder) → IsWhole folder → (image : Image) → IsImage (after CreateNext (after RemoveNext folder)) image → IsStoreOf folder image.store
-begun-leaves folder whole image is =
-    IsStoreOf-along (after RemoveNext folder) folder (removed-leaves folder whole) image.store (created-keeps (after RemoveNext folder) (after-whole RemoveNext folder whole) image is)
+-- no step appends to `store.yaml` or renames the staged file
+abbrev pub AreStaging : List Step → Type 0
+AreStaging [] = Unit {0}
+AreStaging (CreateNext ∷ steps) = AreStaging steps
+AreStaging (Append Store bytes ∷ steps) = ⊥
+AreStaging (Append Next bytes ∷ steps) = AreStaging steps
+AreStaging (Sync name ∷ steps) = AreStaging steps
+AreStaging (RenameNext ∷ steps) = ⊥
+AreStaging (RemoveNext ∷ steps) = AreStaging steps
+AreStaging (SyncFolder ∷ steps) = AreStaging steps
 
-pub appended_next-leaves : (bytes : List ℕ) (folder : Folder) → IsWhole folder → (image : Image) → IsImage (after (Append Next bytes) folder) image → IsStoreOf folder image.store
-appended_next-leaves bytes folder whole image is = append_next-keeps folder folder.now.next (appended bytes) refl whole image is
+staged_rest : (folder new : Folder) (rest : Image → Type 0) → ((image : Image) → IsImage new image → IsStoreOf folder image.store) → ((image : Image) → rest image → IsStoreOf new image.store)
+    → (image : Image) → IsImage folder image ⊎ rest image → IsStoreOf folder image.store
+staged_rest folder new rest one later image is = ⊎_elim (IsStoreOf-image folder image) (λ left. IsStoreOf-along new folder one image.store (later image left)) is
 
-pub begun-whole : (folder : Folder) → IsWhole folder → IsWhole (after CreateNext (after RemoveNext folder))
-begun-whole folder whole = after-whole CreateNext (after RemoveNext folder) (after-whole RemoveNext folder whole)
+-- A crash leaves an old store.
+pub staging-leaves : (steps : List Step) → AreStaging steps → (folder : Folder) → IsWhole folder → (image : Image) → LeftDuring steps folder image → IsStoreOf folder image.store
+staging-leaves [] staging folder whole image is = IsStoreOf-image folder image is
+staging-leaves (CreateNext ∷ steps) staging folder whole image is =
+    staged_rest folder _ (LeftDuring steps (after CreateNext folder)) (after_create-keeps folder whole) (staging-leaves steps staging _ (after-whole CreateNext folder whole)) image is
+staging-leaves (Append Store bytes ∷ steps) staging folder whole image is = absurd staging
+staging-leaves (Append Next bytes ∷ steps) staging folder whole image is =
+    staged_rest folder _ (LeftDuring steps (after (Append Next bytes) folder)) (append_next-keeps folder folder.now.next (with_pending bytes) refl whole) (staging-leaves steps staging _ (after-whole (Append Next bytes) folder whole)) image is
+staging-leaves (Sync name ∷ steps) staging folder whole image is =
+    staged_rest folder _ (LeftDuring steps (after (Sync name) folder)) (λ i now. IsStoreOf-image folder i (after-grown (Sync name) folder i now)) (staging-leaves steps staging _ (after-whole (Sync name) folder whole)) image is
+staging-leaves (RenameNext ∷ steps) staging folder whole image is = absurd staging
+staging-leaves (RemoveNext ∷ steps) staging folder whole image is =
+    staged_rest folder _ (LeftDuring steps (after RemoveNext folder)) (after_remove-keeps folder folder.now.next whole) (staging-leaves steps staging _ (after-whole RemoveNext folder whole)) image is
+staging-leaves (SyncFolder ∷ steps) staging folder whole image is =
+    staged_rest folder _ (LeftDuring steps (after SyncFolder folder)) (λ i now. IsStoreOf-image folder i (after-grown SyncFolder folder i now)) (staging-leaves steps staging _ (after-whole SyncFolder folder whole)) image is
 
-pub staged-leaves : (bytes : List ℕ) (folder : Folder) → IsWhole folder → (image : Image) → IsImage (after (Append Next bytes) (after CreateNext (after RemoveNext folder))) image → IsStoreOf folder image.store
-staged-leaves bytes folder whole image is =
-    IsStoreOf-along (after CreateNext (after RemoveNext folder)) folder (begun-leaves folder whole) image.store
-    (appended_next-leaves bytes (after CreateNext (after RemoveNext folder)) (begun-whole folder whole) image is)
+-- So a run of them leaves an old store.
+pub staging-run : {D : Type 0} (d : Ghosts D) (steps : List Step) {old new : D} → SyncsLast steps → AreStaging steps → IsWhole (d.folder old)
+    → LeavesOnly d.moment d.left old new (IsImage (grown_after steps (d.folder old))) → LeavesOldStore d.folder d.moment d.left old new
+staging-run d steps {old} {new} last staging whole leaves =
+    LeavesOnly-weaker d.moment d.left old new _ _ leaves (λ image is. staging-leaves steps staging (d.folder old) whole image (grown-left steps last (d.folder old) image is))
 
 staged_torn : (files : List File) (id : ℕ) (store : Option (List ℕ)) → (get_or files id empty_file).pending ≡ [] → IsTornAt files (Some id) store → store ≡ bytes_at files (Some id)
 staged_torn files id None none torn = absurd torn
 staged_torn files id (Some bytes) none torn = ap Some (IsTorn-synced (get_or files id empty_file) bytes none torn)
 
-renamed-at : (folder : Folder) (next : Option ℕ) → IsSyncedAt folder.files next → (image : Image) → IsImage (renamed folder next) image → IsStoreOf folder image.store ⊎ (image.store ≡ bytes_at folder.files next)
-renamed-at folder None synced image is = absurd synced
-renamed-at folder (Some id) synced image is = elim (Contains-append_cases (stages folder) (record { store = Some id; next = None } ∷ []) is.stage is.among) [
+after_rename-at : (folder : Folder) (next : Option ℕ) → IsSyncedAt folder.files next → (image : Image) → IsImage (after_rename folder next) image → IsStoreOf folder image.store ⊎ (image.store ≡ bytes_at folder.files next)
+after_rename-at folder None synced image is = absurd synced
+after_rename-at folder (Some id) synced image is = elim (Contains-append_cases (stages folder) (record { store = Some id; next = None } ∷ []) is.stage is.among) [
   | inl old ↦ inl (IsStoreOf-stage folder is.stage image.store old is.store)
   | inr new ↦
       let at_last : is.stage.store ≡ Some id = ap (λ (s : Stage). s.store) (only_stage is.stage (record { store = Some id; next = None }) new) in
       inr (staged_torn folder.files id image.store synced (subst (λ (place : Option ℕ). IsTornAt folder.files place image.store) at_last is.store))
 ]
 
-pub renamed-leaves : (folder : Folder) → IsSynced folder Next → (image : Image) → IsImage (after RenameNext folder) image → IsStoreOf folder image.store ⊎ (image.store ≡ bytes_under folder Next)
-renamed-leaves folder synced image is = renamed-at folder folder.now.next synced image is
+-- after the rename, a crash leaves a store of the old folder, or the bytes of `next.yaml`
+pub after_rename-leaves : (folder : Folder) → IsSynced folder Next → (image : Image) → IsImage (after RenameNext folder) image → IsStoreOf folder image.store ⊎ (image.store ≡ bytes_under folder Next)
+after_rename-leaves folder synced image is = after_rename-at folder folder.now.next synced image is
 
-synced_at : (folder : Folder) (place : Option ℕ) → IsMade (length folder.files) place → (place ≡ None → ⊥) → IsSyncedAt (with_file folder place synced_whole).files place
-synced_at folder None made some = absurd (some refl)
+synced_at : (folder : Folder) (place : Option ℕ) → IsMade (length folder.files) place → IsSome place → IsSyncedAt (with_file folder place synced_whole).files place
+synced_at folder None made some = cc
 synced_at folder (Some id) made some = ap (λ (x : File). x.pending) (get_or-set_same folder.files id (synced_whole (get_or folder.files id empty_file)) empty_file made)
 
 with_file-now : (folder : Folder) (place : Option ℕ) (change : File → File) → (with_file folder place change).now ≡ folder.now
@@ -117,7 +144,7 @@ with_file-now folder None change = refl
 with_file-now folder (Some id) change = refl
 
 -- a file that is there is synced by its sync
-pub synced-is_synced : (name : Name) (folder : Folder) → IsWhole folder → (under folder.now name ≡ None → ⊥) → IsSynced (after (Sync name) folder) name
+pub synced-is_synced : (name : Name) (folder : Folder) → IsWhole folder → IsSome (under folder.now name) → IsSynced (after (Sync name) folder) name
 synced-is_synced name folder whole some =
     subst (λ (stage : Stage). IsSyncedAt (after (Sync name) folder).files (under stage name)) (sym (with_file-now folder (under folder.now name) synced_whole))
     (synced_at folder (under folder.now name) (made_under folder name whole) some)
@@ -126,17 +153,20 @@ synced-is_synced name folder whole some =
     made_under folder Store whole = (now_staged folder whole).store
     made_under folder Next whole = (now_staged folder whole).next
 
-pub finished-leaves : (folder : Folder) → IsWhole folder → (folder.now.next ≡ None → ⊥) → (image : Image) → IsImage (after RenameNext (after (Sync Next) folder)) image
+-- after `next.yaml` is synced and renamed, a crash leaves a store of the old folder, or its bytes
+pub finished-leaves : (folder : Folder) → IsWhole folder → IsSome folder.now.next → (image : Image) → IsImage folder image ⊎ IsImage (after RenameNext (after (Sync Next) folder)) image
     → IsStoreOf folder image.store ⊎ (image.store ≡ bytes_under folder Next)
 finished-leaves folder whole some image is =
     let synced = after (Sync Next) folder in
-    ⊎_elim
+    ⊎_elim (λ was. inl (IsStoreOf-image folder image was))
+    (λ swapped. ⊎_elim
     (λ was. inl (IsStoreOf-along synced folder (λ before image. IsStoreOf-image folder before (after-grown (Sync Next) folder before image)) image.store was))
     (λ staged. inr (staged ∙ ap (λ (now : Image). now.next) (synced-reads_same Next folder)))
-    (renamed-leaves synced (synced-is_synced Next folder whole some) image is)
+    (after_rename-leaves synced (synced-is_synced Next folder whole some) image swapped))
+    is
 
 -- more bytes after a file of which nothing is pending
-appended_tail : (file : File) (bytes torn : List ℕ) → file.pending ≡ [] → IsTorn (appended bytes file) torn → IsTail (Some (file_bytes file)) bytes (Some torn)
+appended_tail : (file : File) (bytes torn : List ℕ) → file.pending ≡ [] → IsTorn (with_pending bytes file) torn → IsTail (Some (file_bytes file)) bytes (Some torn)
 appended_tail file bytes torn none is = record {
   start = file_bytes file;
   was = refl;
@@ -151,7 +181,7 @@ appended_tail file bytes torn none is = record {
 
 appended_at : (folder : Folder) (id : ℕ) (bytes : List ℕ) → id < length folder.files → (get_or folder.files id empty_file).pending ≡ []
     → (stage : Stage) → Contains (stages folder) stage → (place : Option ℕ) → stage.store ≡ place → (store : Option (List ℕ))
-    → IsTornAt (set folder.files id (appended bytes (get_or folder.files id empty_file))) place store
+    → IsTornAt (set folder.files id (with_pending bytes (get_or folder.files id empty_file))) place store
     → IsStoreOf folder store ⊎ IsTail (Some (file_bytes (get_or folder.files id empty_file))) bytes store
 appended_at folder id bytes within none stage among None at None torn =
     inl (IsStoreOf-stage folder stage None among (subst (λ (place : Option ℕ). IsTornAt folder.files place None) (sym at) tt))
@@ -159,25 +189,31 @@ appended_at folder id bytes within none stage among None at (Some torn) is = abs
 appended_at folder id bytes within none stage among (Some k) at None is = absurd is
 appended_at folder id bytes within none stage among (Some k) at (Some torn) is = elim (cases_eq k id) [
   | inl same ↦
-      let there = ap (λ (j : ℕ). get_or (set folder.files id (appended bytes (get_or folder.files id empty_file))) j empty_file) same
-      ∙ get_or-set_same folder.files id (appended bytes (get_or folder.files id empty_file)) empty_file within in
+      let there = ap (λ (j : ℕ). get_or (set folder.files id (with_pending bytes (get_or folder.files id empty_file))) j empty_file) same
+      ∙ get_or-set_same folder.files id (with_pending bytes (get_or folder.files id empty_file)) empty_file within in
       inr (appended_tail (get_or folder.files id empty_file) bytes torn none (subst (λ (x : File). IsTorn x torn) there is))
   | inr other ↦
-      let kept = subst (λ (x : File). IsTorn x torn) (get_or-set_other folder.files id k (appended bytes (get_or folder.files id empty_file)) empty_file other) is in
+      let kept = subst (λ (x : File). IsTorn x torn) (get_or-set_other folder.files id k (with_pending bytes (get_or folder.files id empty_file)) empty_file other) is in
       inl (IsStoreOf-stage folder stage (Some torn) among (subst (λ (place : Option ℕ). IsTornAt folder.files place (Some torn)) (sym at) kept))
 ]
 
-appended_store-at : (folder : Folder) (store : Option ℕ) (bytes : List ℕ) → IsMade (length folder.files) store → IsSyncedAt folder.files store → (image : Image) → IsImage (with_file folder store (appended bytes)) image
+appended_store-at : (folder : Folder) (store : Option ℕ) (bytes : List ℕ) → IsMade (length folder.files) store → IsSyncedAt folder.files store → (image : Image) → IsImage (with_file folder store (with_pending bytes)) image
     → IsStoreOf folder image.store ⊎ IsTail (bytes_at folder.files store) bytes image.store
 appended_store-at folder None bytes made synced image is = absurd synced
 appended_store-at folder (Some id) bytes made synced image is = appended_at folder id bytes made synced is.stage is.among is.stage.store refl image.store is.store
 
+-- after an append to a synced store, a crash leaves an old store, or the old bytes with a tail of the new ones
 pub appended_store-leaves : (bytes : List ℕ) (folder : Folder) → IsWhole folder → IsSynced folder Store → (image : Image) → IsImage (after (Append Store bytes) folder) image
     → IsStoreOf folder image.store ⊎ IsTail (bytes_under folder Store) bytes image.store
 appended_store-leaves bytes folder whole synced image is =
     appended_store-at folder folder.now.store bytes (now_staged folder whole).store synced image is
 
+-- a name that reads as bytes has a file
+pub file_there : (files : List File) (place : Option ℕ) (bytes : List ℕ) → bytes_at files place ≡ Some bytes → IsSome place
+file_there files None bytes is = cc
+file_there files (Some id) bytes is = refl
+
 -- a sync that answers Ok
-pub performed-synced : {T : Type 0} (name : Name) (old new : Folder) (result : Result T DiskFault) → IsWhole old → (under old.now name ≡ None → ⊥) → Performs (Sync name) old new result → OnOk result (IsSynced new name)
+pub performed-synced : {T : Type 0} (name : Name) (old new : Folder) (result : Result T DiskFault) → IsWhole old → IsSome (under old.now name) → Performs (Sync name) old new result → OnOk result (IsSynced new name)
 performed-synced name old new (Ok x) whole some is = subst (λ (folder : Folder). IsSynced folder name) (sym is) (synced-is_synced name old whole some)
 performed-synced name old new (Err x) whole some is = tt

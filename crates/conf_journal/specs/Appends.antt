@@ -1,6 +1,6 @@
 -- What a crash during an append to `store.yaml` leaves.
 use Rattle.std.specs.Prelude.{◌⊎◌, ℕ, List, Option, option_map}
-use Rattle.conf_disk.specs.Folder.{File, Folder, Append, after, appended, bytes_under}
+use Rattle.conf_disk.specs.Folder.{File, Folder, Append, after, with_pending, bytes_under}
 use Rattle.conf_disk.specs.Image.{Image, IsImage}
 use Rattle.conf_disk.specs.Moments.{LeavesOnly}
 use Rattle.conf_disk.specs.declared.disk.Name.TheVariants.{Store}
@@ -15,4 +15,4 @@ pub record LeavesAppended {D : Type 0} (folder : D → Folder) (moment : D → �
       → LeavesOnly moment left old new (λ image. IsStoreOf (folder old) image.store ⊎ IsTail (bytes_under (folder old) Store) bytes image.store)
   -- If every stage has the same file there: what it leaves of that file with the bytes after it.
   pub held : (file : Option File) → HoldsStore (folder old) file
-      → LeavesOnly moment left old new (λ image. IsLeftOf (option_map (appended bytes) file) image.store)
+      → LeavesOnly moment left old new (λ image. IsLeftOf (option_map (with_pending bytes) file) image.store)

@@ -41,8 +41,8 @@ abbrev pub IsSynced : Folder → Name → Type 0
 IsSynced folder name = IsSyncedAt folder.files (under folder.now name)
 
 -- with more bytes after those of a file, where there is one
-abbrev pub extended : Option (List ℕ) → List ℕ → Option (List ℕ)
-extended old bytes = option_map (λ (start : List ℕ). start ++ bytes) old
+abbrev pub file_with_bytes : Option (List ℕ) → List ℕ → Option (List ℕ)
+file_with_bytes old bytes = option_map (λ (start : List ℕ). start ++ bytes) old
 
 -- the folder reads so under the two names
 abbrev pub ReadsAs : Folder → Option (List ℕ) → Option (List ℕ) → Type 0

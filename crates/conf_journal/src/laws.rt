@@ -25,9 +25,9 @@ pub fn held_store_is_the_only_one()
 
 /// A law of two runs of calls on an honest disk, one after the other.
 ///
-/// If a crash during either run leaves an image of one folder, so does a crash during both. If a crash during the
-/// first run leaves an old store, and one during the second leaves a store of the folder between them, a crash during
-/// both leaves an old store; and if the second may leave another store as well, so may both.
+/// If a crash during either run leaves an image of one folder, so does a crash during both. Suppose that a crash during
+/// the first run leaves an old store, and one during the second a store of the folder between them. Then a crash during
+/// both leaves an old store. If the second may leave another store as well, so may both.
 pub fn runs_of_calls_are_joined<D: Disk>()
     ensures images { D.honest → (old between new : D) (folder : Folder)
         → LeavesOnly D.moment D.left old between (IsImage folder)

@@ -4,7 +4,7 @@ ghost use Rattle.conf_disk.specs.Folder.{File, CreateNext, Append, Sync, RenameN
 ghost use Rattle.conf_disk.specs.Image.{IsImage, synced_file};
 ghost use Rattle.conf_disk.specs.Log.{folder_after};
 ghost use Rattle.conf_disk.specs.Moments.{CountsFailures, LeavesOnly};
-ghost use Rattle.conf_journal.specs.Store.{IsSynced, LeavesOldStore, LeavesStoreOr, ReadsAs, extended};
+ghost use Rattle.conf_journal.specs.Store.{IsSynced, LeavesOldStore, LeavesStoreOr, ReadsAs, file_with_bytes};
 ghost use Rattle.conf_journal.specs.Held.{HoldsStore};
 
 use conf_disk::{Disk, DiskFault, Name};
@@ -59,7 +59,7 @@ pub fn append_next<D: Disk>(disk: &mut D, bytes: &[u8]) -> Result<(), DiskFault>
     ensures reads { D.honest →
         OnOk result
         (ReadsAs (D.folder disk.new) (bytes_under (D.folder disk.old) Name.Store)
-        (extended (bytes_under (D.folder disk.old) Name.Next) bytes.now)) }
+        (file_with_bytes (bytes_under (D.folder disk.old) Name.Next) bytes.now)) }
     // Whatever it returns, `store.yaml` is read as before.
     ensures left_alone { D.honest →
         bytes_under (D.folder disk.new) Name.Store ≡ bytes_under (D.folder disk.old) Name.Store }

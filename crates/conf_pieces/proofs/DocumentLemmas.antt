@@ -15,7 +15,7 @@ use Rattle.yaml_grammar.specs.Reads.{Limits}
 use Rattle.yaml_tree.specs.Kept.{own_limits}
 use Rattle.yaml_tree.specs.Reading.{IsRead}
 use Rattle.yaml_tree.proofs.ByteLemmas.{byte_len-chars}
-use Rattle.yaml_laws.specs.Closed.{framed, framed_all, TornInPieces, TornPieces}
+use Rattle.yaml_laws.specs.Closed.{framed_text_bytes, all_framed_bytes, TornInPieces, TornPieces}
 use Rattle.conf_record.specs.Commands.{Command}
 use Rattle.conf_record.specs.States.{Contents, base_limit}
 use Rattle.conf_record.specs.Limits.{IsState}
@@ -42,6 +42,7 @@ text_utf8 cs is = (cs, (text_scalars cs is, refl))
 text_chars : (cs : List ℕ) → IsText cs → chars (encode_utf8_all cs) ≡ cs
 text_chars cs is = chars-encodes cs (text_scalars cs is)
 
+-- bytes of a record's text are that record
 pub record_is : (command other : Command) (n number : ℕ) → ReadsRecord (record_text command n) other number → IsRecord (record_bytes command n) other number
 unfolding record_bytes
 record_is command other n number reads = record {
@@ -49,6 +50,7 @@ record_is command other n number reads = record {
   reads = subst (λ cs. ReadsRecord cs other number) (sym (text_chars (record_text command n) reads.gives.reads.source)) reads;
 }
 
+-- bytes of a base's text are that base
 pub base_is : (s other : Contents) → ReadsBase (base_text s) other → IsBase (base_bytes s) other
 unfolding base_bytes
 base_is s other reads = record {
@@ -66,12 +68,14 @@ abbrev pub BytesGiveOne : Type 0
 BytesGiveOne = (bytes : List ℕ) (limits : Limits) (t u : Tree) → IsRead bytes limits t → IsRead bytes limits u → t ≡ u
 
 module _ (give_one : BytesGiveOne) where
+  -- bytes hold one base at most
   pub one_base : OneBase
   one_base bytes s other first second =
       let same = give_one bytes own_limits first.reads.tree second.reads.tree
       (record { utf8 = first.utf8; gives = first.reads.gives }) (record { utf8 = second.utf8; gives = second.reads.gives }) in
       some_same s other (sym first.reads.tells ∙ ap base_of same ∙ second.reads.tells)
 
+  -- bytes hold one record at most
   pub one_record : OneRecord
   one_record bytes command other number another first second =
       let same = give_one bytes own_limits first.reads.tree second.reads.tree
@@ -81,11 +85,13 @@ module _ (give_one : BytesGiveOne) where
 
 -- ---- closings
 
-pub record_framed : (command : Command) (number : ℕ) → framed (record_tree command number) ≡ record_bytes command number
+-- a record's bytes are those of its tree between `---` and `...`
+pub record_framed : (command : Command) (number : ℕ) → framed_text_bytes (record_tree command number) ≡ record_bytes command number
 unfolding record_bytes record_text
 record_framed command number = ap encode_utf8_all (framed_document (record_tree command number))
 
-pub base_framed : (s : Contents) → framed (base_tree s) ≡ base_bytes s
+-- a base's bytes are those of its tree between `---` and `...`
+pub base_framed : (s : Contents) → framed_text_bytes (base_tree s) ≡ base_bytes s
 unfolding base_bytes base_text
 base_framed s = ap encode_utf8_all (framed_document (base_tree s))
 
@@ -94,26 +100,27 @@ abbrev trees : ℕ → List Command → List Tree
 trees count [] = []
 trees count (command ∷ commands) = record_tree command (count + 1) ∷ trees (count + 1) commands
 
-trees_pieces : (count : ℕ) (commands : List Command) → map framed (trees count commands) ≡ record_pieces count commands
+trees_pieces : (count : ℕ) (commands : List Command) → map framed_text_bytes (trees count commands) ≡ record_pieces count commands
 trees_pieces count [] = refl
 trees_pieces count (command ∷ commands) = λ i. record_framed command (count + 1) i ∷ trees_pieces (count + 1) commands i
 
 -- the first of them are the records of the first commands
 first_pieces : (count : ℕ) (commands : List Command) (whole further : List Tree) → trees count commands ≡ whole ++ further
-    → map framed whole ≡ record_pieces count (take (length whole) commands)
+    → map framed_text_bytes whole ≡ record_pieces count (take (length whole) commands)
 first_pieces count commands [] further e = refl
 first_pieces count [] (t ∷ ts) further e = absurd (cc e)
 first_pieces count (command ∷ commands) (t ∷ ts) further e =
     let one : record_tree command (count + 1) ≡ t = cc e in
     let more : trees (count + 1) commands ≡ ts ++ further = cc e in
-    let here = ap framed (sym one) ∙ record_framed command (count + 1) in
+    let here = ap framed_text_bytes (sym one) ∙ record_framed command (count + 1) in
     let rest = first_pieces (count + 1) commands ts further more in
     λ i. here i ∷ rest i
 
+-- records that a crash has cut are pieces, by the law on cut trees
 pub records_tear : TornInPieces → RecordsTear
 records_tear torn count commands kept zeros =
     let ts = trees count commands in
-    let all : framed_all ts ≡ records_bytes count commands = ap concat (trees_pieces count commands) in
+    let all : all_framed_bytes ts ≡ records_bytes count commands = ap concat (trees_pieces count commands) in
     let bytes = records_bytes count commands in
     let t : TornPieces ts (take kept bytes) zeros = torn ts (take kept bytes) (drop kept bytes) zeros (all ∙ sym (take-append-drop kept bytes)) in
     record {
@@ -124,6 +131,7 @@ records_tear torn count commands kept zeros =
 
 -- ---- the length of a base
 
+-- the bytes of a state's base keep the limit
 pub base_fits : (s : Contents) → IsState s → ReadsBase (base_text s) s → length (base_bytes s) ≤ base_limit
 unfolding base_bytes base_length
 base_fits s kept reads =

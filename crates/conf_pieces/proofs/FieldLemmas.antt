@@ -11,7 +11,7 @@ use Rattle.std.proofs.lemmas.Str.{chars-IsAscii, encodes-chars}
 use Rattle.yaml_grammar.specs.Texts.{same_text}
 use Rattle.yaml_tree.specs.Seen.{Pair, members_of}
 use Rattle.yaml_tree.proofs.CharacterLemmas.{same_text-true, same_text-self, chars-same}
-use Rattle.conf_record.specs.RecordsRead.{number_told, keys_are}
+use Rattle.conf_record.specs.RecordsRead.{number_from_digits, keys_are}
 use Rattle.conf_record.specs.States.{count_limit}
 use Rattle.conf_pieces.specs.Reading.{texts}
 
@@ -23,19 +23,21 @@ le_small n e = grind (arith, nat_tests)
 small_le : (n : ℕ) → n < 2 ^ 64 → nat_le n count_limit ≡ true
 small_le n h = grind (arith, nat_tests)
 
-pub number_told-is : (bs : List ℕ) (n : ℕ) → bs ≡ decimal n → n < 2 ^ 64 → number_told (chars bs) ≡ Some n
-number_told-is bs n spelled small =
+-- the decimal text of a number gives that number
+pub number_from_digits-is : (bs : List ℕ) (n : ℕ) → bs ≡ decimal n → n < 2 ^ 64 → number_from_digits (chars bs) ≡ Some n
+number_from_digits-is bs n spelled small =
     let cs : chars bs ≡ decimal n = ap chars spelled ∙ chars-IsAscii (decimal n) (IsAscii-decimal n small) in
     let value : digits_value 10 (decimal n) ≡ n = (decimal_is_IsNumeral n small).1 in
-    ap number_told cs ∙ by (digits_value 10 (decimal n)) value
+    ap number_from_digits cs ∙ by (digits_value 10 (decimal n)) value
   where
     by : (v : ℕ) → v ≡ n → (if nat_le v count_limit && same_text (decimal n) (decimal v) then Some v else None) ≡ Some n
     by v e =
         ap (λ w. if nat_le w count_limit && same_text (decimal n) (decimal w) then Some w else None) e
         ∙ ap (λ b. if b then Some n else None) (and_from _ _ (small_le n small) (same_text-self (decimal n)))
 
-pub number_told-none : (bs : List ℕ) → IsUtf8 bs → ((n : ℕ) → bs ≡ decimal n → n < 2 ^ 64 → ⊥) → number_told (chars bs) ≡ None
-number_told-none bs utf8 never = by (digits_value 10 (chars bs))
+-- a text that is no number's decimal text gives none
+pub number_from_digits-none : (bs : List ℕ) → IsUtf8 bs → ((n : ℕ) → bs ≡ decimal n → n < 2 ^ 64 → ⊥) → number_from_digits (chars bs) ≡ None
+number_from_digits-none bs utf8 never = by (digits_value 10 (chars bs))
   where
     cases : (v : ℕ) (a : Bool) → nat_le v count_limit ≡ a → (b : Bool) → same_text (chars bs) (decimal v) ≡ b → (if a && b then Some v else None) ≡ None
     cases v true small true same =
@@ -59,10 +61,12 @@ both_false false b e = refl
 abbrev pub Key : Type 0
 Key = Bor (List ℕ)
 
+-- a key for the places past the end of a list
 abbrev pub blank : Key
 blank = record { ref_ptr = (0, 0); now = [] }
 
 module _ {K : Type 0} (f : K → List ℕ) where
+  -- keys that are not as many as the pairs are not theirs
   pub keys_are-lengths : (ks : List K) (ps : List Pair) → (length ks ≡ length ps → ⊥) → keys_are (texts (map f ks)) (members_of ps) ≡ false
   keys_are-lengths [] [] differ = absurd (differ refl)
   keys_are-lengths [] (p ∷ ps) differ = refl
@@ -92,14 +96,17 @@ module _ {K : Type 0} (f : K → List ℕ) where
 
 -- ---- texts
 
+-- texts are the same exactly if their bytes are
 pub same_bytes : (a b : List ℕ) → IsUtf8 a → IsUtf8 b → bytes_eq a b ≡ same_text (chars a) (chars b)
 same_bytes a b first second = same_from_decides _ _ (bytes_eq-Decides a b) (
   λ e. sym (encodes-chars a first) ∙ ap encode_utf8_all (same_text-true (chars a) (chars b) e) ∙ encodes-chars b second,
   λ e. ap (λ c. same_text (chars a) (chars c)) (sym e) ∙ same_text-self (chars a),
 )
 
+-- the same texts have the same bytes
 pub bytes_same : (a b : List ℕ) → IsUtf8 a → IsUtf8 b → same_text (chars a) (chars b) ≡ true → a ≡ b
 bytes_same a b first second e = sym (encodes-chars a first) ∙ ap encode_utf8_all (same_text-true (chars a) (chars b) e) ∙ encodes-chars b second
 
+-- the same bytes are the same text
 pub same_self : (a b : List ℕ) → a ≡ b → same_text (chars a) (chars b) ≡ true
 same_self a b e = ap (λ c. same_text (chars a) (chars c)) (sym e) ∙ same_text-self (chars a)

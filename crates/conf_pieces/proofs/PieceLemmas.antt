@@ -33,6 +33,7 @@ values_kept (member key t ms) are keys deep long =
       values_kept ms are.2 parts.1 levels.1 (omega (arith, bytes, long)),
     )
 
+-- the values of a mapping within the limits are within them
 pub parts_kept : (ms : Members) → IsKept (mapping ms) → AreKept (values ms)
 parts_kept no_member kept = tt
 parts_kept (member key t ms) kept =
@@ -44,6 +45,7 @@ own_values : (items : List Pair) → AreKept (values (members_of items)) → Are
 own_values [] kept = tt
 own_values (p ∷ ps) kept = (kept.0, own_values ps kept.1)
 
+-- so are the trees of pairs whose mapping is
 pub own_parts : (items : List Pair) → IsKept (mapping (members_of items)) → AreKept (trees_of items)
 own_parts items kept = own_values items (parts_kept (members_of items) kept)
 
@@ -53,9 +55,11 @@ pub record MovedSoFar (all done left : List Pair) : Type 0 where
   pub whole : done ++ left ≡ all
   pub kept : AreKept (trees_of left)
 
+-- at first no pair was moved
 pub none_moved : (all : List Pair) → AreKept (trees_of all) → MovedSoFar all [] all
 none_moved all kept = record { whole = refl; kept = kept }
 
+-- one more pair is moved
 pub one_moved : (all done left : List Pair) (name : String Global) (t u : code.Tree) → u ≡ t → MovedSoFar all done ((name, t) ∷ left)
     → (new : List Pair) → new ≡ done ++ (name, u) ∷ [] → MovedSoFar all new left
 one_moved all done left name t u same so new is =
@@ -64,6 +68,7 @@ one_moved all done left name t u same so new is =
       kept = so.kept.1;
     }
 
+-- where no pair is left, all were moved
 pub all_moved : (all done left : List Pair) → MovedSoFar all done left → length left ≡ 0 → done ≡ all
 all_moved all done [] so none = sym (append-nil done) ∙ so.whole
 all_moved all done (p ∷ ps) so none = absurd (omega arith)

@@ -34,9 +34,9 @@ mapping_first (mapping ms ∷ ts) = Some (ms, ts)
 mapping_first ts = None
 
 -- a command of the code and its number, as the definitions have them
-abbrev pub command_seen : Option (code.Command × ℕ) → Option (Command × ℕ)
-command_seen read = option_map (λ r. (command_of r.0, r.1)) read
+abbrev pub command_and_number : Option (code.Command × ℕ) → Option (Command × ℕ)
+command_and_number read = option_map (λ r. (command_of r.0, r.1)) read
 
 -- configurations and a count as the state that they make
-abbrev pub parts_seen : Option (Vec Pair Global × ℕ) → Option Contents
-parts_seen read = option_map (λ p. record { configs = entries (members_of p.0.items); count = p.1 }) read
+abbrev pub state_of_parts : Option (Vec Pair Global × ℕ) → Option Contents
+state_of_parts read = option_map (λ p. record { configs = entries (members_of p.0.items); count = p.1 }) read

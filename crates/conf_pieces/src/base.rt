@@ -6,7 +6,7 @@ ghost use Rattle.yaml_tree.specs.Kept.{IsKept};
 ghost use Rattle.yaml_tree.specs.Seen.{tree_of, members_of};
 ghost use Rattle.yaml_grammar.specs.Trees.{mapping};
 ghost use Rattle.conf_record.specs.RecordsRead.{values, contents_of, base_of};
-ghost use Rattle.conf_pieces.specs.Reading.{AreKept, parts_seen};
+ghost use Rattle.conf_pieces.specs.Reading.{AreKept, state_of_parts};
 
 use crate::fields::{is_same, keys_are, next_pairs, next_text, next_value, number_from};
 use yaml_tree::Tree;
@@ -14,7 +14,7 @@ use yaml_tree::Tree;
 /// The configurations and the count of a base's tree, whatever their limits; None where it is no base's.
 pub(crate) fn base_from(tree: Tree) -> Option<(Vec<(String, Tree)>, u64)>
     requires kept { IsKept (tree_of tree) }
-    ensures read { parts_seen result ≡ base_of (tree_of tree) }
+    ensures read { state_of_parts result ≡ base_of (tree_of tree) }
     ensures kept { IfSome result (λ p. IsKept (mapping (members_of p.0.items))) }
 {
     let pairs = match tree {
@@ -31,7 +31,7 @@ pub(crate) fn base_from(tree: Tree) -> Option<(Vec<(String, Tree)>, u64)>
 /// The configurations and the count of these values: the format, the count and the configurations.
 fn contents_from(pairs: Vec<(String, Tree)>) -> Option<(Vec<(String, Tree)>, u64)>
     requires kept { AreKept (values (members_of pairs.items)) }
-    ensures read { parts_seen result ≡ contents_of (values (members_of pairs.items)) }
+    ensures read { state_of_parts result ≡ contents_of (values (members_of pairs.items)) }
     ensures kept { IfSome result (λ p. IsKept (mapping (members_of p.0.items))) }
 {
     let mut values = pairs.into_iter();

@@ -3,7 +3,7 @@ ghost use Rattle.std.specs.Prelude.{◌≡◌, IfOk};
 ghost use Rattle.yaml_tree.specs.Kept.{IsKept};
 ghost use Rattle.yaml_tree.specs.Seen.{tree_of, members_of};
 ghost use Rattle.conf_record.specs.RecordsRead.{values, import_of, set_of, delete_of, record_of};
-ghost use Rattle.conf_pieces.specs.Reading.{AreKept, command_seen};
+ghost use Rattle.conf_pieces.specs.Reading.{AreKept, command_and_number};
 
 use crate::fields::{is_path, keys_are, next_text, next_value, number_from};
 use crate::parts::part;
@@ -14,7 +14,7 @@ use yaml_tree::Tree;
 /// The command and the number of a record's tree; None where it is no record's.
 pub(crate) fn command_from(alloc: Global, tree: Tree) -> Result<Option<(Command, u64)>, AllocError>
     requires kept { IsKept (tree_of tree) }
-    ensures { IfOk result (λ read. command_seen read ≡ record_of (tree_of tree)) }
+    ensures { IfOk result (λ read. command_and_number read ≡ record_of (tree_of tree)) }
 {
     let pairs = match tree {
         Tree::Text(_) => return Ok(None),
@@ -35,7 +35,7 @@ pub(crate) fn command_from(alloc: Global, tree: Tree) -> Result<Option<(Command,
 /// The import of these values: the number, the name and the tree.
 fn import_from(pairs: Vec<(String, Tree)>) -> Result<Option<(Command, u64)>, AllocError>
     requires kept { AreKept (values (members_of pairs.items)) }
-    ensures { IfOk result (λ read. command_seen read
+    ensures { IfOk result (λ read. command_and_number read
         ≡ import_of (values (members_of pairs.items))) }
 {
     let mut values = pairs.into_iter();
@@ -64,7 +64,8 @@ fn import_from(pairs: Vec<(String, Tree)>) -> Result<Option<(Command, u64)>, All
 /// The set of these values: the number, the name, the path and the value.
 fn set_from(alloc: Global, pairs: Vec<(String, Tree)>) -> Result<Option<(Command, u64)>, AllocError>
     requires kept { AreKept (values (members_of pairs.items)) }
-    ensures { IfOk result (λ read. command_seen read ≡ set_of (values (members_of pairs.items))) }
+    ensures { IfOk result (λ read. command_and_number read
+        ≡ set_of (values (members_of pairs.items))) }
 {
     let mut values = pairs.into_iter();
     let Some(digits) = next_text(&mut values) else {
@@ -100,7 +101,7 @@ fn delete_from(
     alloc: Global,
     pairs: Vec<(String, Tree)>,
 ) -> Result<Option<(Command, u64)>, AllocError>
-    ensures { IfOk result (λ read. command_seen read
+    ensures { IfOk result (λ read. command_and_number read
         ≡ delete_of (values (members_of pairs.items))) }
 {
     let mut values = pairs.into_iter();

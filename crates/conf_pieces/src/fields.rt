@@ -7,7 +7,7 @@ ghost use Rattle.yaml_grammar.specs.Trees.{text, mapping};
 ghost use Rattle.yaml_tree.specs.Seen.{tree_of, members_of};
 ghost use Rattle.tree_path.specs.Pointers.{path_of};
 ghost use Rattle.conf_record.specs.Commands.{text_of};
-ghost use Rattle.conf_record.specs.RecordsRead.{number_told, keys_are, values};
+ghost use Rattle.conf_record.specs.RecordsRead.{number_from_digits, keys_are, values};
 ghost use Rattle.conf_pieces.specs.Reading.{texts, text_first, mapping_first};
 
 use itoa::Buffer;
@@ -63,8 +63,8 @@ pub fn next_text(pairs: &mut IntoIter<(String, Tree)>) -> Option<String>
     }
 }
 
-/// Takes the next pair off, and returns the pairs of its value if that is a mapping; `None` if it is none, or no pair
-/// is left.
+/// Takes the next pair off, and returns the pairs of its value if that is a mapping. Returns `None` if it is none, or
+/// no pair is left.
 pub(crate) fn next_pairs(pairs: &mut IntoIter<(String, Tree)>) -> Option<Vec<(String, Tree)>>
     ensures { MatchOption result
         (mapping_first (values (members_of (into_iter_items pairs.old))) ≡ None)
@@ -91,7 +91,7 @@ pub(crate) fn is_path(alloc: Global, path: &str) -> Result<bool, AllocError>
 
 /// The number whose decimal text this is: `0`, or digits without a leading zero, at most 18,446,744,073,709,551,615.
 pub(crate) fn number_from(digits: &str) -> Option<u64>
-    ensures { result ≡ number_told (chars digits.now) }
+    ensures { result ≡ number_from_digits (chars digits.now) }
 {
     let number = digits.parse::<u64>().ok()?;
     let mut buffer = Buffer::new();

@@ -5,9 +5,9 @@ use conf_record::records_read;
 use yaml_laws::closed_once;
 use yaml_tree::bytes_give_one;
 
-/// The base of a state reads as that state, and has at most 67,108,864 bytes; the record of a command that some state
-/// accepts reads as that command with its number, up to the greatest count. Bytes of any spelling are one base at
-/// most, and one record at most.
+/// The base of a state reads as that state, and has at most 67,108,864 bytes. The record of a command that some state
+/// accepts reads as that command with its number, up to the greatest count. Bytes of any spelling are one base at most,
+/// and one record at most.
 pub fn documents_are_read()
     ensures bases { BasesAreRead }
     ensures records { RecordsAreRead }
@@ -19,8 +19,8 @@ pub fn documents_are_read()
     bytes_give_one();
 }
 
-/// Each base and each record closes once, at its end. Where a prefix of consecutive records is kept, and any number of
-/// zeros come after it, the pieces are the first of these records, whole, and the rest is not closed.
+/// Each base and each record closes once, at its end. Suppose that a prefix of consecutive records is kept, and any
+/// number of zeros come after it. Then the pieces are the first of these records, whole, and the rest is not closed.
 pub fn documents_close()
     ensures bases { BasesClose }
     ensures records { RecordsClose }

@@ -11,7 +11,7 @@ use Rattle.conf_record.specs.Names.{good_name}
 use Rattle.conf_record.specs.Commands.{Command, import_as, set_at, delete_at, name_of}
 use Rattle.conf_record.specs.States.{Entry, Contents, config_named, put_config, config_limits}
 use Rattle.conf_record.specs.Limits.{AreConfigs, IsState}
-use Rattle.conf_record.specs.Steps.{and_then, found, by_path, limited, placed, deleted, configs_after, counted, step}
+use Rattle.conf_record.specs.Steps.{and_then, found, by_path, checked_tree, with_checked_config, configs_after_delete, configs_after, next_state, step}
 use Rattle.conf_record.specs.declared.fault.StoreFault.TheVariants.{BadName, Path, TooDeep, ConfigLarge}
 use Rattle.conf_record.proofs.SizeLemmas.{size}
 use Rattle.conf_record.proofs.PathLemmas.{tokens_size, set_holds, delete_holds}
@@ -26,6 +26,7 @@ pub record IsGoodPath (path : List ℕ) : Type 0 where
   pub parsed : is_ok (path_of path) ≡ true
   pub bytes : byte_len path ≤ 2097152
 
+-- what an accepted command keeps: a good name, a path that parses and is short, and a small tree
 abbrev pub IsAccepted : Command → Type 0
 IsAccepted (import_as name tree) = (good_name name ≡ true) × IsSmall tree
 IsAccepted (set_at name path value) = (good_name name ≡ true) × IsGoodPath path × IsSmall value
@@ -36,7 +37,7 @@ IsAccepted (delete_at name path) = (good_name name ≡ true) × IsGoodPath path
 no_less : (a b : ℕ) → nat_lt a b ≡ false → b ≤ a
 no_less a b e = grind (arith, nat_tests)
 
-limited_small : (t u : Tree) → limited t ≡ Ok u → IsSmall t
+limited_small : (t u : Tree) → checked_tree t ≡ Ok u → IsSmall t
 limited_small t u is = by (nat_lt config_limits.depth (depth t)) refl (nat_lt config_limits.style (byte_len (style_text t))) refl is
   where
     by : (d : Bool) → nat_lt config_limits.depth (depth t) ≡ d → (l : Bool) → nat_lt config_limits.style (byte_len (style_text t)) ≡ l
@@ -73,16 +74,16 @@ good_path path tokens is few =
 
 -- ---- the whole
 
-placed_small : (configs : List Entry) (name : List ℕ) (t : Tree) (after : List Entry) → placed configs name t ≡ Ok after → IsSmall t
+placed_small : (configs : List Entry) (name : List ℕ) (t : Tree) (after : List Entry) → with_checked_config configs name t ≡ Ok after → IsSmall t
 placed_small configs name t after is =
-    let done = and_then-Ok (limited t) (λ u. Ok (put_config configs name u)) after is in
+    let done = and_then-Ok (checked_tree t) (λ u. Ok (put_config configs name u)) after is in
     limited_small t done.0 done.1
 
 deleted_size : (configs : List Entry) (name : List ℕ) (t : Tree) (tokens : List (List ℕ)) (after : List Entry) → size t ≤ 1048576
-    → deleted configs name t tokens ≡ Ok after → tokens_size tokens ≤ 1048576
+    → configs_after_delete configs name t tokens ≡ Ok after → tokens_size tokens ≤ 1048576
 deleted_size configs name t [] after small is = omega arith
 deleted_size configs name t (token ∷ tokens) after small is =
-    let done = and_then-Ok (by_path (delete t (token ∷ tokens))) (placed configs name) after is in
+    let done = and_then-Ok (by_path (delete t (token ∷ tokens))) (with_checked_config configs name) after is in
     let bytes = delete_holds t done.0 (token ∷ tokens) (by_path-Ok (delete t (token ∷ tokens)) done.0 done.1) in
     omega arith
 
@@ -92,7 +93,7 @@ module _ (configs after : List Entry) (all : AreConfigs configs) where
   after_accepted (set_at name path value) named is =
       let config = and_then-Ok (found (config_named configs name)) _ after is in
       let parsed = and_then-Ok (by_path (path_of path)) _ after config.2 in
-      let done = and_then-Ok (by_path (set config.0 parsed.0 value)) (placed configs name) after parsed.2 in
+      let done = and_then-Ok (by_path (set config.0 parsed.0 value)) (with_checked_config configs name) after parsed.2 in
       let small = placed_small configs name done.0 after done.2 in
       let whole = small.bytes in
       let deepest = small.deep in
@@ -105,18 +106,19 @@ module _ (configs after : List Entry) (all : AreConfigs configs) where
       )
   after_accepted (delete_at name path) named is =
       let config = and_then-Ok (found (config_named configs name)) _ after is in
-      let parsed = and_then-Ok (by_path (path_of path)) (deleted configs name config.0) after config.2 in
+      let parsed = and_then-Ok (by_path (path_of path)) (configs_after_delete configs name config.0) after config.2 in
       let small = named_small configs name config.0 all (found-Ok (config_named configs name) config.0 config.1) in (
         named,
         good_path path parsed.0 (by_path-Ok (path_of path) parsed.0 parsed.1) (deleted_size configs name config.0 parsed.0 after small parsed.2),
       )
 
+-- a command that some state accepts keeps that
 pub accepted : (s new : Contents) (command : Command) (fits : Bool) → IsState s → step s command fits ≡ Ok new → IsAccepted command
 accepted s new command fits kept is = by (good_name (name_of command)) refl is
   where
-    by : (b : Bool) → good_name (name_of command) ≡ b → (if b then and_then (configs_after s.configs command) (counted s fits) else Err BadName) ≡ Ok new
+    by : (b : Bool) → good_name (name_of command) ≡ b → (if b then and_then (configs_after s.configs command) (next_state s fits) else Err BadName) ≡ Ok new
         → IsAccepted command
     by true named done =
-        let after = and_then-Ok (configs_after s.configs command) (counted s fits) new done in
+        let after = and_then-Ok (configs_after s.configs command) (next_state s fits) new done in
         after_accepted s.configs after.0 kept.configs command named after.1
     by false named done = cc

@@ -8,7 +8,7 @@ use Rattle.std.specs.Str.Parse.{AllDigits}
 use Rattle.yaml_chars.specs.Classes.{between, is_in}
 use Rattle.yaml_grammar.specs.Texts.{byte_len, spaces}
 use Rattle.yaml_grammar.specs.Trees.{Tree, mapping}
-use Rattle.yaml_grammar.specs.Style.{letter, plain_in_style, literal_in_style, quoted_char, quoted_chars, quoted, scalar_lines, literal_mark, literal_lines, feeds_at_end, key_lines, value_at, members_after, style_text}
+use Rattle.yaml_grammar.specs.Style.{letter, plain_in_style, literal_in_style, quoted_char, quoted_chars, in_double_quotes, scalar_lines, literal_mark, literal_lines, feeds_at_end, key_lines, value_at, members_after, style_text}
 use Rattle.yaml_tree.specs.BudgetLaws.{byte_len-append}
 use Rattle.conf_record.specs.States.{Entry, Contents, base_limit, count_limit}
 use Rattle.conf_record.specs.BaseTexts.{members, base_tree, base_text, base_length, entry_lines, entry_length, entries_length, framed_length}
@@ -56,13 +56,15 @@ digits_not_literal ds all = rw (digits_no_feed ds all) refl
 by_tests : (p l : Bool) (plain literal double : List ℕ) → p ≡ false → l ≡ false → (if p then plain else if l then literal else double) ≡ double
 by_tests p l plain literal double not_plain not_literal = rw (not_plain, not_literal) refl
 
+-- the line of a count: its digits in quotes
 pub count_line : (ds : List ℕ) → AllDigits 10 ds → scalar_lines 2 ds ≡ codes "\"" ++ ds ++ codes "\"" ++ codes "\n"
 count_line ds all =
     by_tests (plain_in_style ds) (literal_in_style ds) (ds ++ codes "\n")
-    (literal_mark (feeds_at_end ds) ++ codes "\n" ++ literal_lines 2 true ds) (quoted ds ++ codes "\n")
+    (literal_mark (feeds_at_end ds) ++ codes "\n" ++ literal_lines 2 true ds) (in_double_quotes ds ++ codes "\n")
     (digits_not_plain ds all) (digits_not_literal ds all)
     ∙ ap (λ cs. codes "\"" ++ cs ++ codes "\"" ++ codes "\n") (digits_quoted ds all)
 
+-- that line has 3 bytes more than digits
 pub count_bytes : (ds : List ℕ) → AllDigits 10 ds → byte_len (scalar_lines 2 ds) ≡ 3 + length ds
 count_bytes ds all =
     let line = ap byte_len (count_line ds all) in
@@ -113,6 +115,7 @@ around n es all =
       byte_len-append configs [],
     )
 
+-- the length of a base text, from its count and the bytes of its configurations
 pub base_length-framed : (n : ℕ) (es : List Entry) → n < 10 ^ 64 → base_length (record { configs = es; count = n }) ≡ framed_length n (entries_length es)
 unfolding base_length base_text
 base_length-framed n es small =

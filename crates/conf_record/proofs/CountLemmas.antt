@@ -3,14 +3,16 @@ use Rattle.std.proofs.Common.{◌≡◌, ℕ, ◌+◌, ◌<◌, ◌≤◌, ◌^�
 use Rattle.std.proofs.lemmas.Bool.Decides.{nat_tests}
 use Rattle.conf_record.specs.States.{Entry, Contents, base_limit, count_limit}
 use Rattle.conf_record.specs.BaseTexts.{base_length, framed_length, entries_length}
-use Rattle.conf_record.specs.Steps.{counted}
+use Rattle.conf_record.specs.Steps.{next_state}
 use Rattle.conf_record.specs.declared.fault.StoreFault.{StoreFault}
 use Rattle.conf_record.specs.declared.fault.StoreFault.TheVariants.{StoreFull, JournalLong, CountFull}
 use Rattle.conf_record.proofs.BaseLemmas.{base_length-framed}
 
+-- a smaller number passes the test
 pub lt-true : (a b : ℕ) → a < b → nat_lt a b ≡ true
 lt-true a b h = grind (arith, nat_tests)
 
+-- a number that is no smaller fails it
 pub lt-false : (a b : ℕ) → b ≤ a → nat_lt a b ≡ false
 lt-false a b h = grind (arith, nat_tests)
 
@@ -21,8 +23,8 @@ le-false : (a b : ℕ) → b < a → nat_le a b ≡ false
 le-false a b h = grind (arith, nat_tests)
 
 -- the refusals in their order
-abbrev told : Bool → Bool → Bool → Contents → Result Contents StoreFault
-told full fits last new = if full then Err StoreFull else if not fits then Err JournalLong else if last then Err CountFull else Ok new
+abbrev first_fault : Bool → Bool → Bool → Contents → Result Contents StoreFault
+first_fault full fits last new = if full then Err StoreFull else if not fits then Err JournalLong else if last then Err CountFull else Ok new
 
 -- the frame's length passes the limit alike where lengths are cut off at the greatest number
 cut : (n l : ℕ) → nat_lt base_limit (min (framed_length n (min l 18446744073709551615)) 18446744073709551615) ≡ nat_lt base_limit (framed_length n l)
@@ -42,28 +44,28 @@ module _ (s : Contents) (fits : Bool) (configs : List Entry) where
     short : l ≤ base_limit → nat_lt base_limit (base_length new) ≡ false
     short h = same ∙ lt-false base_limit l h
 
-    pub counted-full : base_limit < l → counted s fits configs ≡ Err StoreFull
-    counted-full h = ap (λ full. told full fits (nat_le count_limit s.count) new) (same ∙ lt-true base_limit l h)
+    pub next_state-full : base_limit < l → next_state s fits configs ≡ Err StoreFull
+    next_state-full h = ap (λ full. first_fault full fits (nat_le count_limit s.count) new) (same ∙ lt-true base_limit l h)
 
-    pub counted-long : l ≤ base_limit → fits ≡ false → counted s fits configs ≡ Err JournalLong
-    counted-long h no_room = rw (short h, no_room) refl
+    pub next_state-long : l ≤ base_limit → fits ≡ false → next_state s fits configs ≡ Err JournalLong
+    next_state-long h no_room = rw (short h, no_room) refl
 
-    pub counted-last : l ≤ base_limit → fits ≡ true → s.count ≡ count_limit → counted s fits configs ≡ Err CountFull
-    counted-last h room last =
+    pub next_state-last : l ≤ base_limit → fits ≡ true → s.count ≡ count_limit → next_state s fits configs ≡ Err CountFull
+    next_state-last h room last =
         let at_limit = le-true count_limit s.count (omega arith) in
         rw (short h, room, at_limit) refl
 
-    pub counted-new : l ≤ base_limit → fits ≡ true → s.count < count_limit → counted s fits configs ≡ Ok new
-    counted-new h room more =
+    pub next_state-new : l ≤ base_limit → fits ≡ true → s.count < count_limit → next_state s fits configs ≡ Ok new
+    next_state-new h room more =
         let below = le-false count_limit s.count more in
         rw (short h, room, below) refl
 
   -- a state with room for the command keeps its base text short
-  pub counted-short : (after : Contents) → counted s fits configs ≡ Ok after → base_length new ≤ base_limit
-  counted-short after ok = by (nat_lt base_limit (base_length new)) refl
+  pub next_state-short : (after : Contents) → next_state s fits configs ≡ Ok after → base_length new ≤ base_limit
+  next_state-short after ok = by (nat_lt base_limit (base_length new)) refl
     where
       by : (full : Bool) → nat_lt base_limit (base_length new) ≡ full → base_length new ≤ base_limit
-      by true e = absurd (refused (ap (λ full. told full fits (nat_le count_limit s.count) new) (sym e) ∙ ok))
+      by true e = absurd (refused (ap (λ full. first_fault full fits (nat_le count_limit s.count) new) (sym e) ∙ ok))
         where
           refused : Err StoreFull ≡ Ok after → ⊥
           refused h = cc

@@ -171,6 +171,7 @@ set_from-deepens v (next ∷ tokens) step t w token is =
     let s = here.least in
     record { most = omega arith; least = omega arith }
 
+-- a set makes a tree as deep as the path and the value need, or leaves its depth
 pub set-deepens : (t v w : Tree) (path : List (List ℕ)) → set t path v ≡ Ok w → Deepens (depth t) (length path + depth v) (depth w)
 set-deepens t v w [] is =
     let same : v ≡ w = cc in
@@ -191,12 +192,14 @@ delete_from-shallow (next ∷ tokens) step t w token is =
     let r = here.most in
     omega arith
 
+-- a delete makes no tree deeper
 pub delete-shallow : (t w : Tree) (path : List (List ℕ)) → delete t path ≡ Ok w → depth w ≤ depth t
 delete-shallow t w [] is = let same : t ≡ w = cc in let deep = ap depth same in omega arith
 delete-shallow t w (token ∷ tokens) is = delete_from-shallow tokens 1 t w token is
 
 -- ---- whether it is at most 64 deep
 
+-- the depth of the path and the value decides whether a set keeps the limit
 pub set-fits : (t v w : Tree) (path : List (List ℕ)) → depth t ≤ 64 → set t path v ≡ Ok w → nat_le (length path + depth v) 64 ≡ nat_le (depth w) 64
 set-fits t v w path deep is =
     let rest = set-deepens t v w path is in
@@ -204,8 +207,10 @@ set-fits t v w path deep is =
     let least = rest.least in
     grind (arith, nat_tests)
 
+-- a delete keeps the limit of depth
 pub delete-fits : (t w : Tree) (path : List (List ℕ)) → depth t ≤ 64 → delete t path ≡ Ok w → true ≡ nat_le (depth w) 64
 delete-fits t w path deep is = let shallow = delete-shallow t w path is in grind (arith, nat_tests)
 
+-- a sum that stops at the greatest number passes the same test
 pub capped_fits : (steps deep sum : ℕ) → sum ≡ min (steps + deep) 18446744073709551615 → nat_le sum 64 ≡ nat_le (steps + deep) 64
 capped_fits steps deep sum is = grind (arith, nat_tests)

@@ -1,5 +1,5 @@
 -- What an edit inside a configuration makes of a state's configurations and of their length.
-use Rattle.std.proofs.Common.{◌≡◌, ℕ, ◌+◌, ◌<◌, ◌≤◌, nat_le, nat_lt, Bool, true, false, if◌then◌else◌, List, [], ◌∷◌, ◌++◌, Option, Some, None, option_map, is_some, Result, Ok, Err, String, Global, string_bytes, bytes_eq, IsUtf8, refl, sym, ap, subst, ◌∙◌, arith}
+use Rattle.std.proofs.Common.{inl, inr, ◌⊎◌, ◌==◌, length, ◌≡◌, ℕ, ◌+◌, ◌<◌, ◌≤◌, nat_le, nat_lt, Bool, true, false, if◌then◌else◌, List, [], ◌∷◌, ◌++◌, Option, Some, None, option_map, is_some, Result, Ok, Err, String, Global, string_bytes, bytes_eq, IsUtf8, refl, sym, ap, subst, ◌∙◌, arith}
 use Rattle.std.proofs.lemmas.Bool.Decides.{nat_tests}
 use Rattle.std.specs.Map.{lookup}
 use Rattle.std.specs.Str.{chars}
@@ -15,17 +15,28 @@ use Rattle.yaml_tree.specs.declared.tree.Tree.{Tree}
 use Rattle.yaml_tree.proofs.SizeLaws.{value_law}
 use Rattle.yaml_tree.proofs.SizeBounds.{value_bound, value_small}
 use Rattle.tree_path.specs.Changes.{Changes}
+use Rattle.tree_path.specs.Pointers.{path_of, pointer_text, slash, first_stray, tokens_or_place}
+use Rattle.tree_path.specs.declared.fault.PathFault.TheVariants as path_faults
+use Rattle.std.proofs.lemmas.Str.{chars-nil, encodes-chars}
+use lib.Utf8.{encodes}
 use Rattle.tree_path.specs.declared.change.Change.{Change}
+use Rattle.tree_path.specs.declared.fault.PathFault.{PathFault}
 use Rattle.conf_record.specs.BaseTexts.{entry_length, entries_length}
-use Rattle.conf_record.specs.Edits.{edited, configs_edited}
+use Rattle.conf_record.specs.Edits.{tree_after_edit, configs_with_edit, configs_after_edit}
 use Rattle.conf_record.specs.Kept.{entries_of, ArePlain}
 use Rattle.conf_record.specs.Limits.{AreConfigs}
-use Rattle.conf_record.specs.States.{Entry, config_named, put_config, config_limits}
+use Rattle.conf_record.specs.PathFaults.{store_fault_of}
+use Rattle.conf_record.specs.States.{Entry, Contents, config_named, put_config, cut_config, config_limits}
 use Rattle.conf_record.specs.declared.edit.Edit.{Edit}
-use Rattle.conf_record.specs.declared.fault.StoreFault.TheVariants.{NoConfig, TooDeep, ConfigLarge}
+use Rattle.conf_record.specs.declared.edit.Edit.TheVariants.{Delete}
+use Rattle.conf_record.specs.declared.fault.StoreFault.{StoreFault}
+use Rattle.conf_record.specs.Steps.{and_then, by_path, found, configs_after, configs_after_delete}
+use Rattle.conf_record.specs.Commands.{delete_at}
+use Rattle.conf_record.specs.declared.fault.StoreFault.TheVariants.{NoConfig, TooDeep, ConfigLarge, OutOfMemory}
 use Rattle.conf_record.proofs.EntryLemmas.{lookup-named}
 use Rattle.conf_record.proofs.LimitLemmas.{entries_length-found, entries_length-put}
 
+-- a configuration under a name keeps the limits
 pub named-good : (es : List Entry) (name : List ℕ) (t : grammar.Tree) → AreConfigs es → config_named es name ≡ Some t → Good t config_limits
 named-good [] name t all is = cc
 named-good (e ∷ es) name t all is = by (same_text name e.0) is (named-good es name t all.2)
@@ -36,6 +47,7 @@ named-good (e ∷ es) name t all is = by (same_text name e.0) is (named-good es 
 
 -- ---- what the map finds under a name
 
+-- what the map finds under a name is the configuration of that name
 pub found-named : (q : List ℕ) → IsUtf8 q → (es : List (String Global × Tree)) → ArePlain es → (v : Tree)
     → lookup (λ k. bytes_eq q (string_bytes k)) es ≡ Some v → config_named (entries_of es) (chars q) ≡ Some (tree_of v)
 found-named q utf8 es plain v is = sym (lookup-named q utf8 es plain) ∙ ap (option_map tree_of) is
@@ -44,14 +56,28 @@ none_there : (o : Option Tree) → false ≡ is_some o → o ≡ None
 none_there None is = refl
 none_there (Some v) is = cc
 
+-- where the map finds nothing, no configuration has the name
 pub absent-named : (q : List ℕ) → IsUtf8 q → (es : List (String Global × Tree)) → ArePlain es
     → false ≡ is_some (lookup (λ k. bytes_eq q (string_bytes k)) es) → config_named (entries_of es) (chars q) ≡ None
 absent-named q utf8 es plain is =
     sym (lookup-named q utf8 es plain) ∙ ap (option_map tree_of) (none_there (lookup (λ k. bytes_eq q (string_bytes k)) es) is)
 
-pub same_tree : (o : Option grammar.Tree) (t u : grammar.Tree) → o ≡ Some t → o ≡ Some u → t ≡ u
-same_tree o t u p q = cc
+some_there : (o : Option Tree) → true ≡ is_some o → (v : Tree) × (o ≡ Some v)
+some_there (Some v) is = (v, refl)
+some_there None is = cc
 
+-- a name that the map has is the name of a configuration
+pub present-named : (q : List ℕ) → IsUtf8 q → (es : List (String Global × Tree)) → ArePlain es
+    → true ≡ is_some (lookup (λ k. bytes_eq q (string_bytes k)) es) → (v : Tree) × (config_named (entries_of es) (chars q) ≡ Some (tree_of v))
+present-named q utf8 es plain is =
+    let found = some_there (lookup (λ k. bytes_eq q (string_bytes k)) es) is in
+    (found.0, found-named q utf8 es plain found.0 found.1)
+
+-- an option has one value at most
+pub same_value : {A : Type 0} (o : Option A) (t u : A) → o ≡ Some t → o ≡ Some u → t ≡ u
+same_value o t u p q = cc
+
+-- a result is one tree at most
 pub same_edit : {E : Type 0} (r : Result grammar.Tree E) (t u : grammar.Tree) → r ≡ Ok t → r ≡ Ok u → t ≡ u
 same_edit r t u p q = cc
 
@@ -61,6 +87,7 @@ entry_value : (name : List ℕ) (t : grammar.Tree) → entry_length name t ≡ b
 unfolding entry_length
 entry_value name t = byte_len-append (spaces 2 ++ key_lines 2 name) (value_at t 2)
 
+-- the bytes of all configurations after an edit of one, from the measured change
 pub edit-length : (es : List Entry) (name : List ℕ) (old new : grammar.Tree) (change : Change) → config_named es name ≡ Some old → Changes change old new
     → entries_length (put_config es name new) + length_at change.removed 4 ≡ entries_length es + length_at change.added 4
 edit-length es name old new change there is =
@@ -77,6 +104,7 @@ edit-length es name old new change there is =
 value_fits : (t : grammar.Tree) → byte_len (style_text t) ≤ 1048576 → byte_len (value_at t 2) ≤ 10000000
 value_fits t short = omega (arith, value_law t 2, value_bound t, value_small t)
 
+-- these bytes stay within a 64-bit number
 pub edit-short : (es : List Entry) (name : List ℕ) (old new : grammar.Tree) → config_named es name ≡ Some old → entries_length es ≤ 67108864
     → byte_len (style_text new) ≤ 1048576 → entries_length (put_config es name new) < 18446744073709551616
 edit-short es name old new there short small =
@@ -89,29 +117,112 @@ edit-short es name old new there short small =
       entry_value name new,
     )
 
+-- ---- the path of a pointer
+
+-- what is read of a pointer is its path
+pub parsed-Ok : (pointer : List ℕ) (path : List (List ℕ)) → (◌≡◌ {A = Result (List (List ℕ)) PathFault} (Ok path) (Err path_faults.OutOfMemory)) ⊎ (Ok path ≡ path_of pointer)
+    → path_of pointer ≡ Ok path
+parsed-Ok pointer path (inl none) = cc
+parsed-Ok pointer path (inr read) = sym read
+
+-- or it is none, or there was no memory
+pub parsed-Err : (pointer : List ℕ) (fault : PathFault)
+    → (◌≡◌ {A = Result (List (List ℕ)) PathFault} (Err fault) (Err path_faults.OutOfMemory)) ⊎ (Err fault ≡ path_of pointer)
+    → (store_fault_of fault ≡ OutOfMemory) ⊎ (by_path (path_of pointer) ≡ Err (store_fault_of fault))
+parsed-Err pointer fault (inl none) = let same : path_faults.OutOfMemory ≡ fault = cc in inl (ap store_fault_of (sym same))
+parsed-Err pointer fault (inr read) = by fault (sym read)
+  where
+    by : (fault : PathFault) → path_of pointer ≡ Err fault → (store_fault_of fault ≡ OutOfMemory) ⊎ (by_path (path_of pointer) ≡ Err (store_fault_of fault))
+    by (path_faults.BadPath at) e = inr (ap by_path e)
+    by (path_faults.NoSuchPlace step) e = inr (ap by_path e)
+    by (path_faults.NotIndex step) e = inr (ap by_path e)
+    by path_faults.OutOfMemory e = inl refl
+
+-- a pointer with a character has a step
+pub pointer-steps : (pointer : List ℕ) (path : List (List ℕ)) → IsUtf8 pointer → 0 < length pointer → chars pointer ≡ pointer_text path → 0 < length path
+pointer-steps pointer [] utf8 some is =
+    let none : pointer ≡ [] = sym (encodes-chars pointer utf8) ∙ ap encodes is in
+    omega (arith, some, ap length none)
+pointer-steps pointer (token ∷ tokens) utf8 some is = omega arith
+
+-- a pointer of no bytes has no characters
+pub empty-pointer : (pointer : List ℕ) → length pointer ≡ 0 → chars pointer ≡ []
+empty-pointer [] none = chars-nil
+empty-pointer (b ∷ bs) none = absurd (omega (arith, none))
+
 -- ---- the configurations after an edit
 
-module _ (es : List Entry) (name : List ℕ) (edit : Edit) (path : List (List ℕ)) where
-  pub edited-nothing : config_named es name ≡ None → configs_edited es name edit path ≡ Err NoConfig
-  edited-nothing absent = rw absent refl
+-- a delete at a pointer that has a step is an edit
+pub delete-edits : (es : List Entry) (name pointer : List ℕ) → IsUtf8 pointer → 0 < length pointer
+    → configs_after es (delete_at name (chars pointer)) ≡ configs_after_edit es name Delete (chars pointer)
+delete-edits es name pointer utf8 some = by (chars pointer) refl
+  where
+    at_path : (t : grammar.Tree) (text : List ℕ) (r : Result (List (List ℕ)) PathFault) → path_of text ≡ r → 0 < length text
+        → and_then (by_path r) (configs_after_delete es name t) ≡ and_then (by_path r) (configs_with_edit es name Delete t)
+    at_path t text (Ok (token ∷ tokens)) is more = refl
+    at_path t [] (Ok []) is more = absurd (omega (arith, more))
+    at_path t (c ∷ cs) (Ok []) is more = first (c == slash) refl (first_stray (c ∷ cs)) is
+      where
+        first : (s : Bool) → (c == slash) ≡ s → (o : Option ℕ) → tokens_or_place (if s then o else Some 0) (c ∷ cs) ≡ Ok []
+            → Ok (cut_config es name) ≡ configs_with_edit es name Delete t []
+        first true slashed None e = let none = rw slashed at e in absurd (cc)
+        first true slashed (Some n) e = absurd (cc)
+        first false other o e = absurd (cc)
+    at_path t text (Err fault) is more = refl
 
-  module _ (old new : grammar.Tree) (there : config_named es name ≡ Some old) (made : edited edit old path ≡ Ok new) where
-    pub edited-deep : nat_le (depth new) 64 ≡ false → configs_edited es name edit path ≡ Err TooDeep
-    edited-deep deep =
+    by : (text : List ℕ) → chars pointer ≡ text → configs_after es (delete_at name text) ≡ configs_after_edit es name Delete text
+    by [] is = absurd (omega (arith, some, ap length (sym (encodes-chars pointer utf8) ∙ ap encodes is)))
+    by (c ∷ cs) is = there (config_named es name)
+      where
+        there : (o : Option grammar.Tree) → and_then (found o) (λ t. and_then (by_path (path_of (c ∷ cs))) (configs_after_delete es name t))
+            ≡ and_then (found o) (λ t. and_then (by_path (path_of (c ∷ cs))) (configs_with_edit es name Delete t))
+        there (Some t) = at_path t (c ∷ cs) (path_of (c ∷ cs)) refl (omega arith)
+        there None = refl
+
+module _ (es : List Entry) (name : List ℕ) (edit : Edit) where
+  -- an edit under a name without a configuration is refused by `NoConfig`
+  pub tree_after_edit-nothing : (pointer : List ℕ) → config_named es name ≡ None → configs_after_edit es name edit pointer ≡ Err NoConfig
+  tree_after_edit-nothing pointer absent = rw absent refl
+
+  -- an edit at a pointer is one at its path
+  pub edited-at : (pointer : List ℕ) (old : grammar.Tree) (path : List (List ℕ)) → config_named es name ≡ Some old → path_of pointer ≡ Ok path
+      → configs_after_edit es name edit pointer ≡ configs_with_edit es name edit old path
+  edited-at pointer old path there parsed = rw (there, parsed) refl
+
+  -- the refusals of a pointer, and of an edit at its path
+  module _ (pointer : List ℕ) (next : List Entry → Result Contents StoreFault) (old : grammar.Tree) where
+    pub edited-unread : (fault : StoreFault) → config_named es name ≡ Some old → (fault ≡ OutOfMemory) ⊎ (by_path (path_of pointer) ≡ Err fault)
+        → (fault ≡ OutOfMemory) ⊎ (and_then (configs_after_edit es name edit pointer) next ≡ Err fault)
+    edited-unread fault there (inl none) = inl none
+    edited-unread fault there (inr refused) =
+        inr (ap (λ o. and_then (and_then (found o) (λ t. and_then (by_path (path_of pointer)) (configs_with_edit es name edit t))) next) there
+        ∙ ap (λ r. and_then (and_then r (configs_with_edit es name edit old)) next) refused)
+
+    pub edited-refused : (path : List (List ℕ)) (fault : StoreFault) → config_named es name ≡ Some old → path_of pointer ≡ Ok path
+        → (fault ≡ OutOfMemory) ⊎ ((n : List ℕ) → configs_with_edit es n edit old path ≡ Err fault)
+        → (fault ≡ OutOfMemory) ⊎ (and_then (configs_after_edit es name edit pointer) next ≡ Err fault)
+    edited-refused path fault there parsed (inl none) = inl none
+    edited-refused path fault there parsed (inr refused) =
+        inr (ap (λ r. and_then r next) (edited-at pointer old path there parsed ∙ refused name))
+
+  module _ (path : List (List ℕ)) (old new : grammar.Tree) (made : tree_after_edit edit old path ≡ Ok new) where
+    pub tree_after_edit-deep : nat_le (depth new) 64 ≡ false → configs_with_edit es name edit old path ≡ Err TooDeep
+    tree_after_edit-deep deep =
         let more : nat_lt 64 (depth new) ≡ true = grind (arith, nat_tests, deep) in
-        rw (there, made, more) refl
+        rw (made, more) refl
 
-    pub edited-large : nat_le (depth new) 64 ≡ true → 1048576 < byte_len (style_text new) → configs_edited es name edit path ≡ Err ConfigLarge
-    edited-large deep long =
+    pub tree_after_edit-large : nat_le (depth new) 64 ≡ true → 1048576 < byte_len (style_text new) → configs_with_edit es name edit old path ≡ Err ConfigLarge
+    tree_after_edit-large deep long =
         let fits : nat_lt 64 (depth new) ≡ false = grind (arith, nat_tests, deep) in
         let more : nat_lt 1048576 (byte_len (style_text new)) ≡ true = grind (arith, nat_tests) in
-        rw (there, made, fits, more) refl
+        rw (made, fits, more) refl
 
-    pub edited-new : depth new ≤ 64 → byte_len (style_text new) ≤ 1048576 → configs_edited es name edit path ≡ Ok (put_config es name new)
-    edited-new deep long =
+    pub tree_after_edit-new : depth new ≤ 64 → byte_len (style_text new) ≤ 1048576 → configs_with_edit es name edit old path ≡ Ok (put_config es name new)
+    tree_after_edit-new deep long =
         let fits : nat_lt 64 (depth new) ≡ false = grind (arith, nat_tests) in
         let short : nat_lt 1048576 (byte_len (style_text new)) ≡ false = grind (arith, nat_tests) in
-        rw (there, made, fits, short) refl
+        rw (made, fits, short) refl
 
+-- a number that passes the test is at most the other
 pub at_most : (a b : ℕ) → nat_le a b ≡ true → a ≤ b
 at_most a b e = grind (arith, nat_tests)

@@ -28,6 +28,7 @@ same_key : (q k : List ℕ) → IsUtf8 q → IsAscii k → bytes_eq q k ≡ same
 same_key q k utf8 ascii = same_from_decides _ _ (bytes_eq-Decides q k) (same_chars q k utf8 ascii)
 
 module _ (q : List ℕ) (utf8 : IsUtf8 q) where
+  -- a lookup in the map finds the configuration of the name
   pub lookup-named : (es : List (String Global × Tree)) → ArePlain es
       → option_map tree_of (lookup (λ k. bytes_eq q (string_bytes k)) es) ≡ config_named (entries_of es) (chars q)
   lookup-named [] plain = refl
@@ -40,6 +41,7 @@ module _ (q : List ℕ) (utf8 : IsUtf8 q) where
       by true found named same = refl
       by false found named same = same
 
+  -- taking a name out of the map takes its configuration out
   pub shift_remove_entry-named : (es : List (String Global × Tree)) → ArePlain es
       → entries_of (shift_remove_entry (λ k. bytes_eq q (string_bytes k)) es) ≡ cut_config (entries_of es) (chars q)
   shift_remove_entry-named [] plain = refl
@@ -53,6 +55,7 @@ module _ (q : List ℕ) (utf8 : IsUtf8 q) where
       by false rest others same = ap (λ xs. (chars (string_bytes e.0), tree_of e.1) ∷ xs) same
 
 module _ (name : String Global) (utf8 : IsUtf8 (string_bytes name)) (t : Tree) where
+  -- an insertion into the map puts the tree under the name
   pub insert_entry-named : (es : List (String Global × Tree)) → ArePlain es
       → entries_of (insert_entry string_eq es name t) ≡ put_config (entries_of es) (chars (string_bytes name)) (tree_of t)
   insert_entry-named [] plain = refl
@@ -68,6 +71,7 @@ module _ (name : String Global) (utf8 : IsUtf8 (string_bytes name)) (t : Tree) w
 
 -- ---- the place of a name
 
+-- the place where a search ends is the first one that passes
 pub position-found : (p : String Global → Bool) (ks : List (String Global)) (i : ℕ) → position p ks ≡ Some i → i ≡ position_or_len p ks
 position-found p ks i is = by (nat_lt (position_or_len p ks) (length ks)) is
   where
@@ -97,6 +101,7 @@ module _ (q : List ℕ) (utf8 : IsUtf8 q) (t : Tree) where
           let next : 1 + n ≡ suc n = omega arith in
           rw same (ap (λ i. entries_of (set_value_at (e ∷ es) i t)) next ∙ ap (λ xs. (chars (string_bytes e.0), tree_of e.1) ∷ xs) (rest after))
 
+  -- another value at the place of a name is put under that name
   pub set_value_at-named : (es : List (String Global × Tree)) (u : grammar.Tree) (i : ℕ) → ArePlain es → config_named (entries_of es) (chars q) ≡ Some u
       → Some i ≡ position (λ k. bytes_eq q (string_bytes k)) (keys_of es)
       → entries_of (set_value_at es i t) ≡ put_config (entries_of es) (chars q) (tree_of t)
@@ -104,6 +109,7 @@ module _ (q : List ℕ) (utf8 : IsUtf8 q) (t : Tree) where
       ap (λ n. entries_of (set_value_at es n t)) (position-found (λ k. bytes_eq q (string_bytes k)) (keys_of es) i (sym at))
       ∙ set_value_at-placed es u plain there
 
+-- putting the tree that is there under its name changes nothing
 pub put_config-same : (es : List Entry) (name : List ℕ) (t : grammar.Tree) → config_named es name ≡ Some t → put_config es name t ≡ es
 put_config-same [] name t is = cc
 put_config-same (e ∷ es) name t is = by (same_text name e.0) is (put_config-same es name t)
@@ -115,11 +121,13 @@ put_config-same (e ∷ es) name t is = by (same_text name e.0) is (put_config-sa
 
 -- ---- names stay ASCII
 
+-- another value leaves the names ASCII
 pub plain_set_value_at : (es : List (String Global × Tree)) (i : ℕ) (t : Tree) → ArePlain es → ArePlain (set_value_at es i t)
 plain_set_value_at [] i t plain = tt
 plain_set_value_at (e ∷ es) zero t plain = plain
 plain_set_value_at (e ∷ es) (suc i) t plain = (plain.0, plain_set_value_at es i t plain.1)
 
+-- a name that is taken out leaves the others ASCII
 pub plain_shift_remove_entry : (test : String Global → Bool) (es : List (String Global × Tree)) → ArePlain es → ArePlain (shift_remove_entry test es)
 plain_shift_remove_entry test [] plain = tt
 plain_shift_remove_entry test (e ∷ es) plain = by (test e.0) _ (plain_shift_remove_entry test es plain.1)
@@ -128,6 +136,7 @@ plain_shift_remove_entry test (e ∷ es) plain = by (test e.0) _ (plain_shift_re
     by true rest others = plain.1
     by false rest others = (plain.0, others)
 
+-- an ASCII name that is inserted leaves all of them ASCII
 pub plain_insert_entry : (eq : String Global → String Global → Bool) (name : String Global) (t : Tree) (es : List (String Global × Tree))
     → IsAscii (string_bytes name) → ArePlain es → ArePlain (insert_entry eq es name t)
 plain_insert_entry eq name t [] ascii plain = (ascii, tt)

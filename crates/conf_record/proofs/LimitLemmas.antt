@@ -12,6 +12,7 @@ use Rattle.conf_record.specs.Limits.{AreConfigs}
 
 -- ---- lengths
 
+-- the bytes of all configurations are those of one and those of the others
 pub entries_length-found : (es : List Entry) (name : List ℕ) (t : Tree) → config_named es name ≡ Some t
     → entry_length name t + entries_length (cut_config es name) ≡ entries_length es
 entries_length-found [] name t is = cc
@@ -28,6 +29,7 @@ entries_length-found (e ∷ es) name t is = by (same_text name e.0) refl (entrie
         let found = rw same at is in
         rw same (omega (arith, rest found))
 
+-- taking out a name that is not there changes no length
 pub entries_length-absent : (es : List Entry) (name : List ℕ) → config_named es name ≡ None → entries_length (cut_config es name) ≡ entries_length es
 entries_length-absent [] name is = refl
 entries_length-absent (e ∷ es) name is = by (same_text name e.0) refl (entries_length-absent es name)
@@ -39,6 +41,7 @@ entries_length-absent (e ∷ es) name is = by (same_text name e.0) refl (entries
         let absent = rw same at is in
         rw same (omega (arith, rest absent))
 
+-- the bytes after a put are those of the other configurations and of the new one
 pub entries_length-put : (es : List Entry) (name : List ℕ) (t : Tree) → entries_length (put_config es name t) ≡ entries_length (cut_config es name) + entry_length name t
 entries_length-put [] name t = omega arith
 entries_length-put (e ∷ es) name t = by (same_text name e.0) refl (entries_length-put es name t)
@@ -92,6 +95,7 @@ has_name-cut (e ∷ es) name other absent = by (same_text name e.0) refl (same_t
         let others = rw is at absent in
         rw (same, is) (rest others)
 
+-- a put leaves the names different
 pub names_differ-put : (es : List Entry) (name : List ℕ) (t : Tree) → names_differ (names_of es) ≡ true → names_differ (names_of (put_config es name t)) ≡ true
 names_differ-put [] name t differ = refl
 names_differ-put (e ∷ es) name t differ =
@@ -105,6 +109,7 @@ names_differ-put (e ∷ es) name t differ =
         let apart = has_name-put es name e.0 t (other_way name e.0 same) absent in
         rw (same, apart) rest
 
+-- so does taking one out
 pub names_differ-cut : (es : List Entry) (name : List ℕ) → names_differ (names_of es) ≡ true → names_differ (names_of (cut_config es name)) ≡ true
 names_differ-cut [] name differ = refl
 names_differ-cut (e ∷ es) name differ =
@@ -120,6 +125,7 @@ names_differ-cut (e ∷ es) name differ =
 
 -- ---- limits
 
+-- a put of a good tree under a good name leaves all configurations good
 pub AreConfigs-put : (es : List Entry) (name : List ℕ) (t : Tree) → good_name name ≡ true → Good t config_limits → AreConfigs es → AreConfigs (put_config es name t)
 AreConfigs-put [] name t named good all = (named, good, tt)
 AreConfigs-put (e ∷ es) name t named good all = by (same_text name e.0) _ (AreConfigs-put es name t named good all.2)
@@ -128,6 +134,7 @@ AreConfigs-put (e ∷ es) name t named good all = by (same_text name e.0) _ (Are
     by true rest others = (all.0, good, all.2)
     by false rest others = (all.0, all.1, others)
 
+-- so does taking one out
 pub AreConfigs-cut : (es : List Entry) (name : List ℕ) → AreConfigs es → AreConfigs (cut_config es name)
 AreConfigs-cut [] name all = tt
 AreConfigs-cut (e ∷ es) name all = by (same_text name e.0) _ (AreConfigs-cut es name all.2)

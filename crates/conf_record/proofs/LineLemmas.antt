@@ -4,14 +4,14 @@ use Rattle.std.proofs.lemmas.Bool.Decides.{nat_tests}
 use Rattle.std.proofs.lemmas.Str.{chars-IsAscii}
 use Rattle.std.specs.Str.{chars}
 use Rattle.std.specs.Str.Parse.{AllDigits}
-use Rattle.yaml_grammar.specs.Texts.{every}
+use Rattle.std.specs.List.{list_all}
 use Rattle.yaml_grammar.specs.Trees.{Tree, text, no_member, member}
 use Rattle.yaml_grammar.specs.Style.{key_lines, value_at, members_after}
 use Rattle.yaml_tree.proofs.CharacterLemmas.{every-IsAscii}
 use Rattle.conf_record.proofs.BaseLemmas.{count_line}
 
 -- ASCII, by a test that computes
-pub ascii : (cs : List ℕ) → every (λ c. nat_lt c 128) cs ≡ true → chars cs ≡ cs
+pub ascii : (cs : List ℕ) → list_all (λ c. nat_lt c 128) cs ≡ true → chars cs ≡ cs
 ascii cs e = chars-IsAscii cs (every-IsAscii (λ c. nat_lt c 128) below cs e)
   where
     below : (c : ℕ) → nat_lt c 128 ≡ true → c < 128
@@ -21,9 +21,11 @@ ascii cs e = chars-IsAscii cs (every-IsAscii (λ c. nat_lt c 128) below cs e)
 abbrev pub line : List ℕ → Tree → List ℕ
 line key t = key_lines 0 key ++ value_at t 0
 
+-- the lines of two members
 pub two_lines : (k l : List ℕ) (t u : Tree) → line k t ++ line l u ≡ members_after (member k t (member l u no_member)) 0
 two_lines k l t u = ap (λ xs. line k t ++ xs) (sym (append-nil (line l u)))
 
+-- the lines of three members
 pub three_lines : (k l m : List ℕ) (t u v : Tree)
     → line k t ++ line l u ++ line m v ≡ members_after (member k t (member l u (member m v no_member))) 0
 three_lines k l m t u v =

@@ -14,7 +14,7 @@ use Rattle.conf_record.specs.BaseTexts.{base_length, entries_length, framed_leng
 use Rattle.conf_record.proofs.BaseLemmas.{base_length-framed, entries_length-short}
 use Rattle.std.proofs.lemmas.Bool.Decides.{nat_tests}
 use Rattle.conf_record.specs.Limits.{AreConfigs, IsState}
-use Rattle.conf_record.specs.Steps.{limited}
+use Rattle.conf_record.specs.Steps.{checked_tree}
 use Rattle.conf_record.specs.declared.fault.StoreFault.{StoreFault}
 use Rattle.conf_record.specs.declared.fault.StoreFault.TheVariants.{TooDeep, ConfigLarge}
 use Rattle.conf_record.specs.Kept.{entries_of, ArePlain, IsKept, Appended, IsUnfit}
@@ -37,6 +37,7 @@ pub record SoFar (all : List Entry) (done : List (String Global × Tree)) (left 
   pub distinct : names_differ (names_of (entries_of done)) ≡ true
   pub bytes : length ≡ min (entries_length (entries_of done)) 18446744073709551615
 
+-- one more configuration is taken in
 pub so_far_more : (all : List Entry) (old new : List (String Global × Tree)) (name : List ℕ) (t : grammar.Tree) (left : List Entry) (before added length : ℕ)
     → SoFar all old ((name, t) ∷ left) before → Appended old new name t added
     → length ≡ min (before + added) 18446744073709551615 → SoFar all new left length
@@ -89,6 +90,7 @@ twice (e ∷ es) name t left found differ =
         clash false e f = cc
     by false same found apart rest = rest found
 
+-- where a configuration is unfit, no state has all of them
 pub unfit_none : (all : List Entry) (old : List (String Global × Tree)) (name : List ℕ) (t : grammar.Tree) (left : List Entry) (length count : ℕ)
     → SoFar all old ((name, t) ∷ left) length → IsUnfit (entries_of old) name t → IsState (record { configs = all; count = count }) → ⊥
 unfit_none all old name t left length count so unfit state = by unfit
@@ -107,6 +109,7 @@ unfit_none all old name t left length count so unfit state = by unfit
     by (inr (inl out)) = out (one_of (entries_of old) (name, t) left configs).1
     by (inr (inr there)) = twice (entries_of old) name t left there differ
 
+-- an option that is not some is `None`
 pub is_none : {A : Type 0} (o : Option A) → is_some o ≡ false → o ≡ None
 is_none None e = refl
 is_none (Some x) e = absurd (cc)
@@ -115,7 +118,7 @@ no_more : (a b : ℕ) → nat_lt b a ≡ true → a ≤ b → ⊥
 no_more a b e h = grind (arith, nat_tests)
 
 -- where the limits are exceeded, the tree is over them
-over_limits : (t : grammar.Tree) (fault : StoreFault) → limited t ≡ Err fault → Good t config_limits → ⊥
+over_limits : (t : grammar.Tree) (fault : StoreFault) → checked_tree t ≡ Err fault → Good t config_limits → ⊥
 over_limits t fault refused good =
     by (nat_lt 64 (depth t)) refl (nat_lt 1048576 (byte_len (style_text t))) refl refused
   where
@@ -125,14 +128,17 @@ over_limits t fault refused good =
     by false e true f same = no_more (byte_len (style_text t)) 1048576 f good.long
     by false e false f same = cc
 
-pub refused_over : {A : Type 0} (t : grammar.Tree) (r : Result A StoreFault) → is_err r ≡ true → IfErr r (λ fault. limited t ≡ Err fault) → Good t config_limits → ⊥
+-- a tree that is refused is over its limits
+pub refused_over : {A : Type 0} (t : grammar.Tree) (r : Result A StoreFault) → is_err r ≡ true → IfErr r (λ fault. checked_tree t ≡ Err fault) → Good t config_limits → ⊥
 refused_over t (Ok x) e refused good = cc
 refused_over t (Err fault) e refused good = over_limits t fault refused good
 
+-- what holds after success holds where there is no error
 pub on_ok_from : {A E : Type 0} (r : Result A E) (P : Type 0) → is_err r ≡ false → OnOk r P → P
 on_ok_from (Ok x) P e p = p
 on_ok_from (Err x) P e p = absurd (cc)
 
+-- at first no configuration is taken in
 pub so_far_first : (all : List Entry) → SoFar all [] all 0
 so_far_first all = record { whole = refl; plain = tt; configs = tt; distinct = refl; bytes = refl }
 
@@ -154,6 +160,7 @@ module _ (all : List Entry) (done : List (String Global × Tree)) (length count 
   short_base : base ≤ 67108864 → base_length (record { configs = entries_of done; count = count }) ≤ 67108864
   short_base short = omega (arith, framed, cut (entries_length (entries_of done)) length base so.bytes is short)
 
+  -- where the base text is short enough, the limits of a state are kept
   pub parts_kept : base ≤ 67108864 → IsKept done count length
   parts_kept short =
       let few = entries_length-short count (entries_of done) (omega (arith, small)) (short_base short) in

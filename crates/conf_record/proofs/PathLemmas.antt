@@ -1,9 +1,11 @@
--- Bytes and depth along a path: a tree holds, beside the value that a path leads to, as many bytes as the path's tokens have.
+-- Bytes and depth along a path: a tree holds, beside the value that a path leads to, as many bytes as the path's tokens
+-- have.
 use Rattle.std.proofs.Common.{◌≡◌, ℕ, zero, suc, ◌+◌, ◌-◌, ◌*◌, ◌<◌, ◌≤◌, Bool, true, false, ◌==◌, if◌then◌else◌, List, [], ◌∷◌, ◌++◌, length, codes, Some, option_map, Result, Ok, Err, refl, ap, subst, ◌∙◌, arith}
 use Rattle.std.proofs.lemmas.Bool.{and_parts}
 use Rattle.std.proofs.lemmas.Bool.Decides.{nat_tests}
 use Rattle.std.specs.Char.{len_utf8}
-use Rattle.yaml_grammar.specs.Texts.{byte_len, every, is_empty, same_text}
+use Rattle.std.specs.List.{list_all}
+use Rattle.yaml_grammar.specs.Texts.{byte_len, is_empty, same_text}
 use Rattle.yaml_grammar.specs.Trees.{Tree, text, sequence, mapping, Elements, no_element, element, Members, no_member, member, depth, elements_depth, members_depth}
 use Rattle.yaml_grammar.specs.Style.{elements_after, element_at, members_after, key_lines, value_at}
 use Rattle.yaml_tree.specs.BudgetLaws.{byte_len-append}
@@ -26,10 +28,10 @@ at_least (c ∷ cs) n some =
 digit_byte : (c : ℕ) → digit c ≡ true → len_utf8 c ≡ 1
 digit_byte c e = grind (arith, nat_tests)
 
-digits_bytes : (cs : List ℕ) → every digit cs ≡ true → byte_len cs ≡ length cs
+digits_bytes : (cs : List ℕ) → list_all digit cs ≡ true → byte_len cs ≡ length cs
 digits_bytes [] all = refl
 digits_bytes (c ∷ cs) all =
-    let parts = and_parts (digit c) (every digit cs) all in
+    let parts = and_parts (digit c) (list_all digit cs) all in
     omega (arith, digit_byte c parts.0, digits_bytes cs parts.1)
 
 digit_some : (c : ℕ) → digit c ≡ true → (c == 48) ≡ false → 0 < c - 48
@@ -42,14 +44,14 @@ number_bytes : (cs : List ℕ) → is_number cs ≡ true → byte_len cs ≤ 1 +
 number_bytes [] e = cc
 number_bytes (c ∷ cs) e = by (c == 48) refl e
   where
-    by : (b : Bool) → (c == 48) ≡ b → (if b then is_empty cs else every digit (c ∷ cs)) ≡ true → byte_len (c ∷ cs) ≤ 1 + number_after 0 (c ∷ cs)
+    by : (b : Bool) → (c == 48) ≡ b → (if b then is_empty cs else list_all digit (c ∷ cs)) ≡ true → byte_len (c ∷ cs) ≤ 1 + number_after 0 (c ∷ cs)
     by true is none = alone cs none
       where
         alone : (ds : List ℕ) → is_empty ds ≡ true → byte_len (c ∷ ds) ≤ 1 + number_after 0 (c ∷ ds)
         alone [] empty = omega (arith, zero_byte c is)
         alone (d ∷ ds) empty = cc
     by false is all =
-        let parts = and_parts (digit c) (every digit cs) all in
+        let parts = and_parts (digit c) (list_all digit cs) all in
         let some = digit_some c parts.0 is in
         let rest = at_least cs (c - 48) some in
         let same : 10 * 0 + (c - 48) ≡ c - 48 = omega arith in
@@ -171,6 +173,7 @@ number_holds ts token n u is found =
     let digits = index_bytes token n is in
     fewer (1 + byte_len token) (2 + n) u (sequence ts) (omega arith) (elements_hold ts u (2 + n) (omega arith) (element_inside ts n u found))
 
+-- a child and its token are a part of the tree
 pub child_inside : (t : Tree) (token : List ℕ) (u : Tree) → child t token ≡ Ok u → Inside (1 + byte_len token) u t
 unfolding child
 child_inside (text value) token u is = cc
@@ -183,6 +186,7 @@ child_inside (sequence ts) token u is = by (index_of token) refl is
 child_inside (mapping ms) token u is =
     members_hold ms u (1 + byte_len token) (omega arith) (member_inside ms token u (present-Ok (value_of ms token) u is))
 
+-- after a put the value and its token are a part of the tree
 pub put_inside : (t : Tree) (token : List ℕ) (v r : Tree) → put t token v ≡ Ok r → Inside (1 + byte_len token) v r
 unfolding put
 put_inside (text value) token v r is = cc
@@ -240,6 +244,7 @@ child-cut (mapping ms) token r is =
     let found = member-cut ms o.0 token o.1 in
     (found.0, ap present found.1)
 
+-- a token whose child is cut out is a part of the tree
 pub cut_inside : (t : Tree) (token : List ℕ) (r : Tree) → cut t token ≡ Ok r → 1 + byte_len token ≤ size t
 cut_inside t token r is =
     let found = child-cut t token r is in
@@ -286,6 +291,7 @@ edited step t token (next ∷ tokens) v r is =
     let e = rest.bytes in let f = rest.deep in
     record { bytes = omega arith; deep = omega arith }
 
+-- after a set the tree has at least the bytes of the value and of the path's tokens
 pub set_holds : (t v r : Tree) (tokens : List (List ℕ)) → set t tokens v ≡ Ok r → Holds (tokens_size tokens) v r
 set_holds t v r [] is =
     let same : v ≡ r = cc in
@@ -307,6 +313,7 @@ cut_out step t token (next ∷ tokens) r is =
     let rest = cut_out (suc step) down.0 next tokens inner.0 inner.1 in
     omega arith
 
+-- a tree with a path to delete has at least the bytes of its tokens
 pub delete_holds : (t r : Tree) (tokens : List (List ℕ)) → delete t tokens ≡ Ok r → tokens_size tokens ≤ size t
 delete_holds t r [] is = omega arith
 delete_holds t r (token ∷ tokens) is = cut_out 1 t token tokens r is

@@ -4,13 +4,13 @@ use Rattle.std.proofs.lemmas.Bool.Decides.{nat_tests}
 use Rattle.std.proofs.lemmas.Str.{len_utf8_bounds}
 use Rattle.std.specs.Char.{len_utf8}
 use Rattle.yaml_grammar.specs.Texts.{byte_len}
-use Rattle.tree_path.specs.Pointers.{slash, tilde, stray, first_stray, first_piece, pieces, unescaped, tokens_or_place, path_of}
+use Rattle.tree_path.specs.Pointers.{slash, tilde, stray, first_stray, first_piece, pieces, token_from_text, tokens_or_place, path_of}
 use Rattle.tree_path.specs.declared.fault.PathFault.TheVariants.{BadPath}
 use Rattle.conf_record.proofs.PathLemmas.{tokens_size}
 
 -- what comes before the first `/`, and the tokens after it
 abbrev parts_size : List ℕ → ℕ
-parts_size cs = byte_len (unescaped (first_piece cs)) + tokens_size (map unescaped (pieces cs))
+parts_size cs = byte_len (token_from_text (first_piece cs)) + tokens_size (map token_from_text (pieces cs))
 
 kept_after : (c : ℕ) (cs : List ℕ) → first_stray (c ∷ cs) ≡ None → (stray (c ∷ cs) ≡ false) × (first_stray cs ≡ None)
 kept_after c cs none = by (stray (c ∷ cs)) (first_stray cs) none
@@ -83,11 +83,11 @@ pointer_bytes (c ∷ cs) tokens is = by (c == slash) refl (first_stray (c ∷ cs
   where
     by : (s : Bool) → (c == slash) ≡ s → (o : Option ℕ) → first_stray (c ∷ cs) ≡ o → tokens_or_place (if s then o else Some 0) (c ∷ cs) ≡ Ok tokens
         → byte_len (c ∷ cs) ≤ 2 * tokens_size tokens
-    by true slashed None none told =
-        let same : map unescaped (pieces (c ∷ cs)) ≡ tokens = cc in
+    by true slashed None none parsed =
+        let same : map token_from_text (pieces (c ∷ cs)) ≡ tokens = cc in
         let bytes = pieces_bytes (c ∷ cs) none in
-        let prefix : byte_len (unescaped (first_piece (c ∷ cs))) ≡ 0 = rw slashed refl in
+        let prefix : byte_len (token_from_text (first_piece (c ∷ cs))) ≡ 0 = rw slashed refl in
         let after = ap tokens_size same in
         omega (arith, bytes, prefix, after)
-    by true slashed (Some n) stray told = let refused : Err (BadPath n) ≡ Ok tokens = told in cc
-    by false other o stray told = let refused : Err (BadPath 0) ≡ Ok tokens = told in cc
+    by true slashed (Some n) stray parsed = let refused : Err (BadPath n) ≡ Ok tokens = parsed in cc
+    by false other o stray parsed = let refused : Err (BadPath 0) ≡ Ok tokens = parsed in cc

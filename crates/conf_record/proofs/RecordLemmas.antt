@@ -7,7 +7,8 @@ use Rattle.std.proofs.lemmas.Str.Parse.{tells_digits}
 use Rattle.std.specs.Char.{len_utf8}
 use Rattle.std.specs.Str.Parse.{AllDigits, digits_value}
 use Rattle.yaml_chars.specs.Classes.{code_point, between}
-use Rattle.yaml_grammar.specs.Texts.{IsText, byte_len, every, first, same_text}
+use Rattle.std.specs.List.{list_all}
+use Rattle.yaml_grammar.specs.Texts.{IsText, byte_len, first, same_text}
 use Rattle.yaml_grammar.specs.Trees.{Tree, text, Members, no_member, member, members_depth, distinct, members_distinct, has_key, AreTextMembers}
 use Rattle.yaml_grammar.specs.Reads.{Good}
 use Rattle.yaml_grammar.specs.Style.{scalar_lines, key_lines, value_at, members_after, style_text}
@@ -21,7 +22,7 @@ use Rattle.conf_record.specs.States.{Entry, Contents, count_limit, names_of, has
 use Rattle.conf_record.specs.Limits.{AreConfigs, IsState}
 use Rattle.conf_record.specs.BaseTexts.{members, base_tree, base_text, base_length, closed_document}
 use Rattle.conf_record.specs.Records.{command_members, record_tree}
-use Rattle.conf_record.specs.RecordsRead.{number_told, record_of, entries, base_of, IsCommand}
+use Rattle.conf_record.specs.RecordsRead.{number_from_digits, record_of, entries, base_of, IsCommand}
 use Rattle.conf_record.proofs.AcceptedLemmas.{IsAccepted}
 use Rattle.conf_record.proofs.BaseLemmas.{count_bytes}
 use Rattle.conf_record.proofs.SizeLemmas.{size, scalar_most, value_size}
@@ -37,7 +38,7 @@ digit c cs all = let here = (tells_digits.parts c cs all).0 in grind (arith, nat
 digits_are_text : (ds : List ℕ) → AllDigits 10 ds → IsText ds
 digits_are_text [] all = refl
 digits_are_text (c ∷ cs) all =
-    and_from (code_point c) (every code_point cs) (digit_is_text c (digit c cs all)) (digits_are_text cs (tells_digits.parts c cs all).1)
+    and_from (code_point c) (list_all code_point cs) (digit_is_text c (digit c cs all)) (digits_are_text cs (tells_digits.parts c cs all).1)
 
 name_char_is_text : (c : ℕ) → name_char c ≡ true → code_point c ≡ true
 name_char_is_text c e = grind (arith, nat_tests)
@@ -48,28 +49,30 @@ name_char_byte c e = grind (arith, nat_tests)
 at_most : (n : ℕ) → nat_le n 64 ≡ true → n ≤ 64
 at_most n e = grind (arith, nat_tests)
 
-chars_are_text : (cs : List ℕ) → every name_char cs ≡ true → IsText cs
+chars_are_text : (cs : List ℕ) → list_all name_char cs ≡ true → IsText cs
 chars_are_text [] all = refl
 chars_are_text (c ∷ cs) all =
-    let parts = and_parts (name_char c) (every name_char cs) all in
-    and_from (code_point c) (every code_point cs) (name_char_is_text c parts.0) (chars_are_text cs parts.1)
+    let parts = and_parts (name_char c) (list_all name_char cs) all in
+    and_from (code_point c) (list_all code_point cs) (name_char_is_text c parts.0) (chars_are_text cs parts.1)
 
-chars_bytes : (cs : List ℕ) → every name_char cs ≡ true → byte_len cs ≡ length cs
+chars_bytes : (cs : List ℕ) → list_all name_char cs ≡ true → byte_len cs ≡ length cs
 chars_bytes [] all = refl
 chars_bytes (c ∷ cs) all =
-    let parts = and_parts (name_char c) (every name_char cs) all in
+    let parts = and_parts (name_char c) (list_all name_char cs) all in
     omega (arith, name_char_byte c parts.0, chars_bytes cs parts.1)
 
+-- a good name is a text
 pub name_is_text : (name : List ℕ) → good_name name ≡ true → IsText name
 name_is_text name good =
-    let outer = and_parts (first small_letter name && every name_char name) (nat_le (length name) 64) good in
-    chars_are_text name (and_parts (first small_letter name) (every name_char name) outer.0).1
+    let outer = and_parts (first small_letter name && list_all name_char name) (nat_le (length name) 64) good in
+    chars_are_text name (and_parts (first small_letter name) (list_all name_char name) outer.0).1
 
 name_bytes : (name : List ℕ) → good_name name ≡ true → byte_len name ≤ 64
 name_bytes name good =
-    let outer = and_parts (first small_letter name && every name_char name) (nat_le (length name) 64) good in
-    omega (arith, chars_bytes name (and_parts (first small_letter name) (every name_char name) outer.0).1, at_most (length name) outer.1)
+    let outer = and_parts (first small_letter name && list_all name_char name) (nat_le (length name) 64) good in
+    omega (arith, chars_bytes name (and_parts (first small_letter name) (list_all name_char name) outer.0).1, at_most (length name) outer.1)
 
+-- so are the digits of a count
 pub decimal_is_text : (n : ℕ) → n ≤ count_limit → IsText (decimal n)
 decimal_is_text n small = digits_are_text (decimal n) (decimal_is_IsNumeral n (omega arith)).0.1
 
@@ -82,19 +85,21 @@ decimal_bytes n small =
 le-true : (a b : ℕ) → a ≤ b → nat_le a b ≡ true
 le-true a b h = grind (arith, nat_tests)
 
-pub number_told-decimal : (n : ℕ) → n ≤ count_limit → number_told (decimal n) ≡ Some n
-number_told-decimal n small = by (digits_value 10 (decimal n)) (decimal_is_IsNumeral n (omega arith)).1
+-- the digits of a count give that count
+pub number_from_digits-decimal : (n : ℕ) → n ≤ count_limit → number_from_digits (decimal n) ≡ Some n
+number_from_digits-decimal n small = by (digits_value 10 (decimal n)) (decimal_is_IsNumeral n (omega arith)).1
   where
     by : (v : ℕ) → v ≡ n → (if nat_le v count_limit && same_text (decimal n) (decimal v) then Some v else None) ≡ Some n
     by v is = rw (is, le-true n count_limit small, same_text-self (decimal n)) refl
 
 -- ---- records
 
+-- the tree of an accepted command's record is read as that command and number
 pub record_tells : (command : Command) (number : ℕ) → IsAccepted command → number ≤ count_limit → record_of (record_tree command number) ≡ Some (command, number)
 unfolding record_of
-record_tells (import_as name tree) number ok small = rw (ok.0, number_told-decimal number small) refl
-record_tells (set_at name path value) number ok small = rw (ok.0, ok.1.parsed, number_told-decimal number small) refl
-record_tells (delete_at name path) number ok small = rw (ok.0, ok.1.parsed, number_told-decimal number small) refl
+record_tells (import_as name tree) number ok small = rw (ok.0, number_from_digits-decimal number small) refl
+record_tells (set_at name path value) number ok small = rw (ok.0, ok.1.parsed, number_from_digits-decimal number small) refl
+record_tells (delete_at name path) number ok small = rw (ok.0, ok.1.parsed, number_from_digits-decimal number small) refl
 
 -- the same parts, grouped otherwise
 pub framed_document : (t : Tree) → framed_text t ≡ closed_document t
@@ -175,6 +180,7 @@ record_distinct (import_as name tree) number is = let keys = is.keys in rw keys 
 record_distinct (set_at name path value) number is = let keys = is.1.keys in rw keys refl
 record_distinct (delete_at name path) number is = refl
 
+-- that tree keeps the limits of a text that is read
 pub record_good : (command : Command) (number : ℕ) → IsCommand command → IsAccepted command → number ≤ count_limit → FramedGood (record_tree command number)
 record_good command number is ok small =
     let bytes = record_bytes command number ok small in
@@ -195,9 +201,10 @@ entries_members : (es : List Entry) → entries (members es) ≡ es
 entries_members [] = refl
 entries_members (e ∷ es) = ap (λ rest. e ∷ rest) (entries_members es)
 
+-- the tree of a state's base is read as that state
 pub base_tells : (s : Contents) → s.count ≤ count_limit → base_of (base_tree s) ≡ Some s
 unfolding base_of
-base_tells s small = rw (number_told-decimal s.count small, entries_members s.configs) refl
+base_tells s small = rw (number_from_digits-decimal s.count small, entries_members s.configs) refl
 
 config_texts : (es : List Entry) → AreConfigs es → AreTextMembers (members es)
 config_texts [] all = tt
@@ -229,6 +236,7 @@ base_bytes s kept =
     let same = ap byte_len (framed_document (base_tree s)) in
     omega arith
 
+-- that tree keeps the limits of a text that is read
 pub base_good : (s : Contents) → IsState s → FramedGood (base_tree s)
 base_good s kept =
     let bytes = base_bytes s kept in

@@ -6,7 +6,7 @@ use Rattle.std.specs.Char.{len_utf8}
 use Rattle.yaml_chars.specs.Classes.{between}
 use Rattle.yaml_grammar.specs.Texts.{byte_len, spaces}
 use Rattle.yaml_grammar.specs.Trees.{Tree, text, sequence, mapping, Elements, no_element, element, Members, no_member, member}
-use Rattle.yaml_grammar.specs.Style.{shown, plain_in_style, literal_in_style, hex, letter_escape, quoted_char, quoted_chars, quoted, literal_mark, literal_lines, feeds_at_end, scalar_lines, key_text, long_key, key_lines, elements_at, elements_after, element_at, members_at, members_after, value_at, style_text}
+use Rattle.yaml_grammar.specs.Style.{shown, plain_in_style, literal_in_style, hex, letter_escape, quoted_char, quoted_chars, in_double_quotes, literal_mark, literal_lines, feeds_at_end, scalar_lines, key_text, long_key, key_lines, elements_at, elements_after, element_at, members_at, members_after, value_at, style_text}
 use Rattle.yaml_tree.specs.BudgetLaws.{byte_len-append}
 use Rattle.yaml_tree.proofs.ByteLemmas.{byte_len-spaces}
 
@@ -79,8 +79,8 @@ scalar_grows : (j : ℕ) (value : List ℕ) → Grows (byte_len (scalar_lines j 
 scalar_grows j value = by (plain_in_style value) (literal_in_style value) (literal_mark (feeds_at_end value))
   where
     by : (plain literal : Bool) (mark : List ℕ)
-        → Grows (byte_len (if plain then value ++ codes "\n" else if literal then mark ++ codes "\n" ++ literal_lines j true value else quoted value ++ codes "\n"))
-        (byte_len (if plain then value ++ codes "\n" else if literal then mark ++ codes "\n" ++ literal_lines (j + 2) true value else quoted value ++ codes "\n"))
+        → Grows (byte_len (if plain then value ++ codes "\n" else if literal then mark ++ codes "\n" ++ literal_lines j true value else in_double_quotes value ++ codes "\n"))
+        (byte_len (if plain then value ++ codes "\n" else if literal then mark ++ codes "\n" ++ literal_lines (j + 2) true value else in_double_quotes value ++ codes "\n"))
     by true literal mark = record { no_less = omega arith; no_twice = omega arith }
     by false true mark =
         let lines = (literal_grows j value).0 in
@@ -133,7 +133,7 @@ quoted_bytes (c ∷ cs) =
     let both = byte_len-append (quoted_char c) (quoted_chars cs) in
     record { esc_less = omega arith; esc_most = omega arith }
 
-quoted_size : (value : List ℕ) → byte_len (quoted value) ≡ 2 + byte_len (quoted_chars value)
+quoted_size : (value : List ℕ) → byte_len (in_double_quotes value) ≡ 2 + byte_len (quoted_chars value)
 quoted_size value = omega (arith, three (codes "\"") (quoted_chars value) (codes "\""))
 
 literal_most : (cs : List ℕ)
@@ -152,24 +152,25 @@ mark_most zero = omega arith
 mark_most (suc zero) = omega arith
 mark_most (suc (suc n)) = omega arith
 
+-- the lines of a scalar are at most 18 times as long as it is, and 5 bytes
 pub scalar_most : (value : List ℕ) → byte_len (scalar_lines 2 value) ≤ 18 * byte_len value + 5
 scalar_most value = by (plain_in_style value) (literal_in_style value)
   where
     by : (plain literal : Bool)
-        → byte_len (if plain then value ++ codes "\n" else if literal then literal_mark (feeds_at_end value) ++ codes "\n" ++ literal_lines 2 true value else quoted value ++ codes "\n")
+        → byte_len (if plain then value ++ codes "\n" else if literal then literal_mark (feeds_at_end value) ++ codes "\n" ++ literal_lines 2 true value else in_double_quotes value ++ codes "\n")
         ≤ 18 * byte_len value + 5
     by true literal = omega (arith, byte_len-append value (codes "\n"))
     by false true =
         omega (arith, mark_most (feeds_at_end value), (literal_most value).0, three (literal_mark (feeds_at_end value)) (codes "\n") (literal_lines 2 true value))
     by false false =
         let spelled = (quoted_bytes value).esc_most in
-        omega (arith, spelled, quoted_size value, byte_len-append (quoted value) (codes "\n"))
+        omega (arith, spelled, quoted_size value, byte_len-append (in_double_quotes value) (codes "\n"))
 
 -- a key has its own bytes at least, and a colon
 key_least : (key : List ℕ) → byte_len key ≤ byte_len (key_text key)
 key_least key = by (plain_in_style key)
   where
-    by : (plain : Bool) → byte_len key ≤ byte_len (if plain then key else quoted key)
+    by : (plain : Bool) → byte_len key ≤ byte_len (if plain then key else in_double_quotes key)
     by true = omega arith
     by false = let spelled = (quoted_bytes key).esc_less in omega (arith, spelled, quoted_size key)
 
@@ -289,6 +290,7 @@ mutual
 
 -- ---- a tree as a value, as an element, and by itself
 
+-- the line of a key is longer than the key
 pub key_line_least : (key : List ℕ) → 1 + byte_len key ≤ byte_len (key_lines 0 key)
 key_line_least key = by (long_key key) (key_text key) (key_least key)
   where
@@ -298,6 +300,7 @@ key_line_least key = by (long_key key) (key_text key) (key_least key)
         omega (arith, least, byte_len-append (codes "? " ++ shown ++ codes "\n" ++ spaces 0) (codes ":"), four (codes "? ") shown (codes "\n") (spaces 0))
     by false shown least = omega (arith, least, byte_len-append shown (codes ":"))
 
+-- an element is at least as long as its tree's own text
 pub element_least : (t : Tree) → size t ≤ byte_len (element_at t 0)
 element_least (text value) = omega arith
 element_least (sequence ts) = (elements_grow ts 0).no_less
@@ -307,6 +310,7 @@ pub record AsValue (alone valued : ℕ) : Type 0 where
   pub least : alone ≤ valued
   pub most : valued ≤ 2 * alone + 3
 
+-- a value is at least as long as its tree's own text, and at most twice as long and 3 bytes
 pub value_size : (t : Tree) → AsValue (size t) (byte_len (value_at t 0))
 value_size (text value) = record { least = omega arith; most = omega arith }
 value_size (sequence no_element) = record { least = omega arith; most = omega arith }

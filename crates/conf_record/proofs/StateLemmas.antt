@@ -14,12 +14,13 @@ use Rattle.conf_record.specs.Kept.{entries_of, ArePlain, IsKept}
 use Rattle.conf_record.specs.Limits.{IsState}
 use Rattle.conf_record.specs.BaseTexts.{entries_length}
 use Rattle.conf_record.specs.States.{Entry, Contents, config_named, put_config, cut_config, config_limits, count_limit}
-use Rattle.conf_record.specs.Steps.{counted}
+use Rattle.conf_record.specs.Steps.{next_state}
 use Rattle.conf_record.proofs.BaseLemmas.{base_length-framed}
-use Rattle.conf_record.proofs.CountLemmas.{counted-short}
+use Rattle.conf_record.proofs.CountLemmas.{next_state-short}
 use Rattle.conf_record.proofs.EntryLemmas.{insert_entry-named, shift_remove_entry-named, set_value_at-named, put_config-same, plain_insert_entry, plain_shift_remove_entry, plain_set_value_at}
 use Rattle.conf_record.proofs.LimitLemmas.{names_differ-put, names_differ-cut, AreConfigs-put, AreConfigs-cut}
 
+-- an empty state keeps its limits
 pub kept_empty : IsKept [] 0 0
 kept_empty = record {
   plain = tt;
@@ -36,7 +37,7 @@ module _ (es : List (String Global × Tree)) (count bytes : ℕ) (kept : IsKept 
   -- with a configuration put in
   module _ (name : String Global) (t : Tree) (utf8 : IsUtf8 (string_bytes name)) (ascii : IsAscii (string_bytes name))
       (named : good_name (chars (string_bytes name)) ≡ true) (good : Good (tree_of t) config_limits) (fits : Bool) (after : Contents)
-      (ok : counted (record { configs = entries_of es; count = count }) fits (put_config (entries_of es) (chars (string_bytes name)) (tree_of t)) ≡ Ok after) where
+      (ok : next_state (record { configs = entries_of es; count = count }) fits (put_config (entries_of es) (chars (string_bytes name)) (tree_of t)) ≡ Ok after) where
     pub kept_put : (new : List (String Global × Tree)) (length : ℕ) → new ≡ insert_entry string_eq es name t
         → length ≡ entries_length (put_config (entries_of es) (chars (string_bytes name)) (tree_of t)) → IsKept new (count + 1) length
     kept_put new length is counts =
@@ -47,7 +48,7 @@ module _ (es : List (String Global × Tree)) (count bytes : ℕ) (kept : IsKept 
           state = subst (λ cs. IsState (record { configs = cs; count = count + 1 })) (sym seen) (record {
             configs = AreConfigs-put (entries_of es) (chars (string_bytes name)) (tree_of t) named good kept.state.configs;
             distinct = names_differ-put (entries_of es) (chars (string_bytes name)) (tree_of t) kept.state.distinct;
-            short = counted-short (record { configs = entries_of es; count = count }) fits configs after ok;
+            short = next_state-short (record { configs = entries_of es; count = count }) fits configs after ok;
             numbered = omega arith;
           });
           counted = counts ∙ ap entries_length (sym seen);
@@ -55,7 +56,7 @@ module _ (es : List (String Global × Tree)) (count bytes : ℕ) (kept : IsKept 
 
   -- with a configuration taken out
   module _ (name : List ℕ) (utf8 : IsUtf8 name) (fits : Bool) (after : Contents)
-      (ok : counted (record { configs = entries_of es; count = count }) fits (cut_config (entries_of es) (chars name)) ≡ Ok after) where
+      (ok : next_state (record { configs = entries_of es; count = count }) fits (cut_config (entries_of es) (chars name)) ≡ Ok after) where
     pub kept_cut : (new : List (String Global × Tree)) (length : ℕ) → new ≡ shift_remove_entry (λ k. bytes_eq name (string_bytes k)) es
         → length ≡ entries_length (cut_config (entries_of es) (chars name)) → IsKept new (count + 1) length
     kept_cut new length is counts =
@@ -66,7 +67,7 @@ module _ (es : List (String Global × Tree)) (count bytes : ℕ) (kept : IsKept 
           state = subst (λ cs. IsState (record { configs = cs; count = count + 1 })) (sym seen) (record {
             configs = AreConfigs-cut (entries_of es) (chars name) kept.state.configs;
             distinct = names_differ-cut (entries_of es) (chars name) kept.state.distinct;
-            short = counted-short (record { configs = entries_of es; count = count }) fits configs after ok;
+            short = next_state-short (record { configs = entries_of es; count = count }) fits configs after ok;
             numbered = omega arith;
           });
           counted = counts ∙ ap entries_length (sym seen);
@@ -76,7 +77,7 @@ module _ (es : List (String Global × Tree)) (count bytes : ℕ) (kept : IsKept 
   module _ (name : List ℕ) (utf8 : IsUtf8 name) (named : good_name (chars name) ≡ true) (old : grammar.Tree)
       (there : config_named (entries_of es) (chars name) ≡ Some old) (i : ℕ) (at : Some i ≡ position (λ k. bytes_eq name (string_bytes k)) (keys_of es))
       (t : Tree) (good : Good (tree_of t) config_limits) (fits : Bool) (after : Contents)
-      (ok : counted (record { configs = entries_of es; count = count }) fits (put_config (entries_of es) (chars name) (tree_of t)) ≡ Ok after) where
+      (ok : next_state (record { configs = entries_of es; count = count }) fits (put_config (entries_of es) (chars name) (tree_of t)) ≡ Ok after) where
     pub kept_edit : (new : List (String Global × Tree)) (length : ℕ) → new ≡ set_value_at es i t
         → length ≡ entries_length (put_config (entries_of es) (chars name) (tree_of t)) → IsKept new (count + 1) length
     kept_edit new length is counts =
@@ -87,7 +88,7 @@ module _ (es : List (String Global × Tree)) (count bytes : ℕ) (kept : IsKept 
           state = subst (λ cs. IsState (record { configs = cs; count = count + 1 })) (sym seen) (record {
             configs = AreConfigs-put (entries_of es) (chars name) (tree_of t) named good kept.state.configs;
             distinct = names_differ-put (entries_of es) (chars name) (tree_of t) kept.state.distinct;
-            short = counted-short (record { configs = entries_of es; count = count }) fits configs after ok;
+            short = next_state-short (record { configs = entries_of es; count = count }) fits configs after ok;
             numbered = omega arith;
           });
           counted = counts ∙ ap entries_length (sym seen);
@@ -100,6 +101,7 @@ pub entries_same : (es : List (String Global × Tree)) (name : List ℕ) (utf8 :
 entries_same es name utf8 i t plain there at =
     set_value_at-named name utf8 t es (tree_of t) i plain there at ∙ put_config-same (entries_of es) (chars name) (tree_of t) there
 
+-- a configuration that is replaced by the same one leaves the limits kept
 pub kept_same : (es : List (String Global × Tree)) (count bytes : ℕ) → IsKept es count bytes
     → (name : List ℕ) (utf8 : IsUtf8 name) (i : ℕ) (t : Tree) → config_named (entries_of es) (chars name) ≡ Some (tree_of t)
     → Some i ≡ position (λ k. bytes_eq name (string_bytes k)) (keys_of es)

@@ -1,7 +1,8 @@
 -- Names of configurations.
 use Rattle.std.specs.Prelude.{ℕ, Bool, ◌&&◌, ◌||◌, nat_le, List, length, codes}
 use Rattle.yaml_chars.specs.Classes.{between, is_in}
-use Rattle.yaml_grammar.specs.Texts.{every, first}
+use Rattle.std.specs.List.{list_all}
+use Rattle.yaml_grammar.specs.Texts.{first}
 
 abbrev pub small_letter : ℕ → Bool
 small_letter c = between 97 122 c
@@ -11,4 +12,4 @@ name_char c = small_letter c || between 48 57 c || is_in c (codes "_-")
 
 -- 1 to 64 small letters, digits, `_` and `-`, a letter first
 abbrev pub good_name : List ℕ → Bool
-good_name name = first small_letter name && every name_char name && nat_le (length name) 64
+good_name name = first small_letter name && list_all name_char name && nat_le (length name) 64

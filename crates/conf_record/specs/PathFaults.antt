@@ -5,6 +5,6 @@ use Rattle.conf_record.specs.declared.fault.StoreFault.{StoreFault}
 use Rattle.conf_record.specs.declared.fault.StoreFault.TheVariants.{Path, OutOfMemory}
 
 -- out of memory is a fault of the store itself, each other fault is one of the path
-abbrev pub told : path.PathFault → StoreFault
-told path_faults.OutOfMemory = OutOfMemory
-told fault = Path fault
+abbrev pub store_fault_of : path.PathFault → StoreFault
+store_fault_of path_faults.OutOfMemory = OutOfMemory
+store_fault_of fault = Path fault

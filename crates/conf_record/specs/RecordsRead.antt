@@ -1,5 +1,5 @@
--- Which texts are records and bases, and what they say. Any spelling counts; other keys, another order, a number, a name or a
--- path that is none make it no record and no base.
+-- Which texts are records and bases, and what they say. Any spelling counts; other keys, another order, a number, a
+-- name or a path that is none make it no record and no base.
 use Rattle.std.specs.Prelude.{◌≡◌, ℕ, Bool, true, false, ◌&&◌, nat_le, if◌then◌else◌, List, [], ◌∷◌, codes, decimal, Option, Some, None, option_map, is_ok}
 use Rattle.std.specs.Str.Parse.{digits_value}
 use Rattle.yaml_grammar.specs.Texts.{IsText, same_text}
@@ -15,8 +15,8 @@ use Rattle.conf_record.specs.Limits.{IsState}
 -- ---- the parts of a document
 
 -- the number whose decimal text this is, where it is no greater than the greatest count
-abbrev pub number_told : List ℕ → Option ℕ
-number_told digits =
+abbrev pub number_from_digits : List ℕ → Option ℕ
+number_from_digits digits =
     let number = digits_value 10 digits in
     if nat_le number count_limit && same_text digits (decimal number) then Some number else None
 
@@ -47,20 +47,20 @@ has_good_path (set_at name path value) = is_ok (path_of path)
 has_good_path (delete_at name path) = is_ok (path_of path)
 
 -- the command under the number, where its name and its path are good
-abbrev pub numbered : Command → List ℕ → Option (Command × ℕ)
-numbered command digits =
-    if good_name (name_of command) && has_good_path command then option_map (λ number. (command, number)) (number_told digits) else None
+abbrev pub command_with_number : Command → List ℕ → Option (Command × ℕ)
+command_with_number command digits =
+    if good_name (name_of command) && has_good_path command then option_map (λ number. (command, number)) (number_from_digits digits) else None
 
 abbrev pub import_of : List Tree → Option (Command × ℕ)
-import_of (text digits ∷ text name ∷ tree ∷ []) = numbered (import_as name tree) digits
+import_of (text digits ∷ text name ∷ tree ∷ []) = command_with_number (import_as name tree) digits
 import_of ts = None
 
 abbrev pub set_of : List Tree → Option (Command × ℕ)
-set_of (text digits ∷ text name ∷ text path ∷ value ∷ []) = numbered (set_at name path value) digits
+set_of (text digits ∷ text name ∷ text path ∷ value ∷ []) = command_with_number (set_at name path value) digits
 set_of ts = None
 
 abbrev pub delete_of : List Tree → Option (Command × ℕ)
-delete_of (text digits ∷ text name ∷ text path ∷ []) = numbered (delete_at name path) digits
+delete_of (text digits ∷ text name ∷ text path ∷ []) = command_with_number (delete_at name path) digits
 delete_of ts = None
 
 -- the command and the number that a record's tree holds
@@ -90,7 +90,7 @@ entries (member name t ms) = (name, t) ∷ entries ms
 
 abbrev pub contents_of : List Tree → Option Contents
 contents_of (text mark ∷ text digits ∷ mapping configs ∷ []) =
-    if same_text mark (codes "confstore-1") then option_map (λ number. record { configs = entries configs; count = number }) (number_told digits) else None
+    if same_text mark (codes "confstore-1") then option_map (λ number. record { configs = entries configs; count = number }) (number_from_digits digits) else None
 contents_of ts = None
 
 -- the state that a base's tree holds, whatever its limits
@@ -108,8 +108,8 @@ pub record ReadsBase (source : List ℕ) (state : Contents) : Type 0 where
 
 -- ---- commands of the code
 
--- What holds of each of them: its path is a text, and its tree is one that a `Config` keeps. Nothing is said of the name, since a
--- command is accepted only under a good one.
+-- What holds of each of them: its path is a text, and its tree is one that a `Config` keeps. Nothing is said of the
+-- name, since a command is accepted only under a good one.
 abbrev pub IsCommand : Command → Type 0
 IsCommand (import_as name tree) = IsKept tree
 IsCommand (set_at name path value) = IsText path × IsKept value

@@ -1,5 +1,5 @@
--- What a command makes of a state: the new state, or the first refusal that holds. They come in this order: BadName, NoConfig,
--- Path, TooDeep, ConfigLarge, StoreFull, JournalLong, CountFull.
+-- What a command makes of a state: the new state, or the first refusal that holds. They come in this order: BadName,
+-- NoConfig, Path, TooDeep, ConfigLarge, StoreFull, JournalLong, CountFull.
 use Rattle.std.specs.Prelude.{ℕ, ◌+◌, Bool, true, not, nat_le, nat_lt, if◌then◌else◌, List, [], ◌∷◌, Option, Some, None, Result, Ok, Err}
 use Rattle.yaml_grammar.specs.Texts.{byte_len}
 use Rattle.yaml_grammar.specs.Trees.{Tree, depth}
@@ -31,35 +31,36 @@ by_path (Ok x) = Ok x
 by_path (Err fault) = Err (Path fault)
 
 -- a tree that keeps to the limits of a configuration
-abbrev pub limited : Tree → Result Tree StoreFault
-limited t =
+abbrev pub checked_tree : Tree → Result Tree StoreFault
+checked_tree t =
     if nat_lt config_limits.depth (depth t) then Err TooDeep
     else if nat_lt config_limits.style (byte_len (style_text t)) then Err ConfigLarge
     else Ok t
 
-abbrev pub placed : List Entry → List ℕ → Tree → Result (List Entry) StoreFault
-placed configs name t = and_then (limited t) (λ u. Ok (put_config configs name u))
+abbrev pub with_checked_config : List Entry → List ℕ → Tree → Result (List Entry) StoreFault
+with_checked_config configs name t = and_then (checked_tree t) (λ u. Ok (put_config configs name u))
 
 -- the empty path takes the configuration out, any other edits it
-abbrev pub deleted : List Entry → List ℕ → Tree → List (List ℕ) → Result (List Entry) StoreFault
-deleted configs name t [] = Ok (cut_config configs name)
-deleted configs name t (token ∷ tokens) = and_then (by_path (delete t (token ∷ tokens))) (placed configs name)
+abbrev pub configs_after_delete : List Entry → List ℕ → Tree → List (List ℕ) → Result (List Entry) StoreFault
+configs_after_delete configs name t [] = Ok (cut_config configs name)
+configs_after_delete configs name t (token ∷ tokens) = and_then (by_path (delete t (token ∷ tokens))) (with_checked_config configs name)
 
 abbrev pub configs_after : List Entry → Command → Result (List Entry) StoreFault
-configs_after configs (import_as name tree) = placed configs name tree
+configs_after configs (import_as name tree) = with_checked_config configs name tree
 configs_after configs (set_at name path value) =
     and_then (found (config_named configs name)) (λ t.
     and_then (by_path (path_of path)) (λ tokens.
-    and_then (by_path (set t tokens value)) (placed configs name)))
+    and_then (by_path (set t tokens value)) (with_checked_config configs name)))
 configs_after configs (delete_at name path) =
     and_then (found (config_named configs name)) (λ t.
-    and_then (by_path (path_of path)) (deleted configs name t))
+    and_then (by_path (path_of path)) (configs_after_delete configs name t))
 
 -- ---- the state after a command
 
--- the state with these configurations, one command on; `fits` says whether the journal has room for the command's record
-abbrev pub counted : Contents → Bool → List Entry → Result Contents StoreFault
-counted s fits configs =
+-- the state with these configurations, one command on; `fits` says whether the journal has room for the command's
+-- record
+abbrev pub next_state : Contents → Bool → List Entry → Result Contents StoreFault
+next_state s fits configs =
     let new : Contents = record { configs = configs; count = s.count + 1 } in
     if nat_lt base_limit (base_length new) then Err StoreFull
     else if not fits then Err JournalLong
@@ -67,11 +68,11 @@ counted s fits configs =
     else Ok new
 
 -- what a command whose name is good makes of a state
-abbrev pub performed : Contents → Command → Bool → Result Contents StoreFault
-performed s command fits = and_then (configs_after s.configs command) (counted s fits)
+abbrev pub state_after_command : Contents → Command → Bool → Result Contents StoreFault
+state_after_command s command fits = and_then (configs_after s.configs command) (next_state s fits)
 
 abbrev pub step : Contents → Command → Bool → Result Contents StoreFault
-step s command fits = if good_name (name_of command) then performed s command fits else Err BadName
+step s command fits = if good_name (name_of command) then state_after_command s command fits else Err BadName
 
 -- A refusal of a command by a state. The other faults are those of a text that is read, of the disk and of memory.
 abbrev pub IsRefusal : StoreFault → Type 0

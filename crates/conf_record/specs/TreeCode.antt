@@ -1,13 +1,13 @@
--- A code for what a state holds, by which proofs tell the values of states apart. A tree is stored as instructions that build
--- it on a stack of trees; each is a list of numbers, of which the first says what it does.
+-- A code for what a state holds, by which proofs tell the values of states apart. A tree is stored as instructions that
+-- build it on a stack of trees; each is a list of numbers, of which the first says what it does.
 use Rattle.std.specs.Prelude.{◌≡◌, ℕ, zero, suc, List, [], ◌∷◌, ◌++◌, refl}
 use Rattle.std.specs.Coded.{Coded, code_by, coded_list, coded×, coded_ℕ}
 use Rattle.std.proofs.Common.{ap, ◌∙◌}
 use Rattle.yaml_grammar.specs.Trees.{Tree, text, sequence, mapping, Elements, no_element, element, Members, no_member, member}
 use Rattle.conf_record.specs.States.{Contents}
 
--- 0: a text; 1: an empty sequence; 2: an empty mapping; 3: the tree on top becomes the first element of the sequence below it;
--- 4: the tree on top becomes the first value of the mapping below it, under the key
+-- 0: a text; 1: an empty sequence; 2: an empty mapping; 3: the tree on top becomes the first element of the sequence
+-- below it; 4: the tree on top becomes the first value of the mapping below it, under the key
 abbrev pub perform : List ℕ → List Tree → List Tree
 perform (zero ∷ value) stack = text value ∷ stack
 perform (suc zero ∷ rest) stack = sequence no_element ∷ stack

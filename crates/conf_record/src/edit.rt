@@ -6,14 +6,15 @@ ghost use Rattle.yaml_grammar.specs.Trees.{Tree as Meant, depth, distinct};
 ghost use Rattle.yaml_grammar.specs.Style.{style_text};
 ghost use Rattle.yaml_tree.specs.Seen.{tree_of};
 ghost use Rattle.tree_path.specs.Changes.{Changes};
-ghost use Rattle.conf_record.specs.Edits.{edited};
+ghost use Rattle.tree_path.specs.Paths.{last_key};
+ghost use Rattle.conf_record.specs.Edits.{tree_after_edit};
 ghost use Rattle.conf_record.specs.States.{config_limits};
 ghost use Rattle.conf_record.specs.Steps.{by_path};
 
 use crate::StoreFault;
 use std::alloc::Global;
 use std::mem;
-use tree_path::{Change, Path, PathFault, delete_change, set_change};
+use tree_path::{Path, PathFault, Plan, delete_planned, plan_delete, plan_set, set_planned};
 use yaml_tree::{Config, Tree};
 
 /// The greatest depth of a configuration.
@@ -32,24 +33,27 @@ pub(crate) enum Edit {
 }
 
 impl Edit {
-    /// What the edit changes in the configuration's length.
-    pub(crate) fn change(&self, config: &Config, path: &Path) -> Result<Change, PathFault>
+    /// What the edit changes in the configuration's length, and the place of the path's last key.
+    pub(crate) fn plan(&self, config: &Config, path: &Path) -> Result<Plan, PathFault>
         requires { 0 < length path.now }
-        ensures ok { IfOk result (λ change. (new : Meant)
-            × (edited self.now (tree_of config.now) path.now ≡ Ok new)
-            × Changes change (tree_of config.now) new) }
-        ensures refused { IfErr result (λ fault. edited self.now (tree_of config.now) path.now
-            ≡ Err fault) }
+        ensures ok { IfOk result (λ plan. (new : Meant)
+            × (tree_after_edit self.now (tree_of config.now) path.now ≡ Ok new)
+            × Changes plan.change (tree_of config.now) new) }
+        ensures place { IfOk result (λ plan.
+            plan.place ≡ last_key (tree_of config.now) path.now) }
+        ensures refused { IfErr result (λ fault. tree_after_edit self.now (tree_of config.now)
+            path.now ≡ Err fault) }
     {
         match self {
-            Edit::Set(value) => set_change(config, path, value.tree()),
-            Edit::Delete => delete_change(config, path),
+            Edit::Set(value) => plan_set(config, path, value.tree()),
+            Edit::Delete => plan_delete(config, path),
         }
     }
 
     /// Whether a configuration that is at most 64 deep still is after the edit.
     pub(crate) fn keeps_depth(&self, path: &Path) -> bool
-        ensures { (t new : Meant) → depth t ≤ DEPTH_LIMIT → edited self.now t path.now ≡ Ok new
+        ensures { (t new : Meant) → depth t ≤ DEPTH_LIMIT
+            → tree_after_edit self.now t path.now ≡ Ok new
             → result ≡ nat_le (depth new) DEPTH_LIMIT }
     {
         match self {
@@ -60,20 +64,23 @@ impl Edit {
         }
     }
 
-    /// Makes the edit, which leaves so many bytes in the one style. Only running out of memory can fail, and changes
-    /// nothing.
+    /// Makes the edit, which leaves so many bytes in the one style, where the place of the path's last key is known.
+    /// Only running out of memory can fail, and changes nothing.
     pub(crate) fn perform(
         self,
         alloc: Global,
         config: &mut Config,
         path: &Path,
+        place: Option<usize>,
         bytes: u64,
     ) -> Result<(), StoreFault>
         requires steps { 0 < length path.now }
-        requires leaves { (new : Meant) × (edited self (tree_of config.old) path.now ≡ Ok new)
+        requires place { place ≡ last_key (tree_of config.old) path.now }
+        requires leaves { (new : Meant)
+            × (tree_after_edit self (tree_of config.old) path.now ≡ Ok new)
             × (depth new ≤ DEPTH_LIMIT) × (byte_len (style_text new) ≤ STYLE_LIMIT)
             × (bytes ≡ byte_len (style_text new)) }
-        ensures ok { OnOk result (edited self (tree_of config.old) path.now
+        ensures ok { OnOk result (tree_after_edit self (tree_of config.old) path.now
             ≡ Ok (tree_of config.new)) }
         ensures within { OnOk result (Good (tree_of config.new) config_limits) }
         ensures refused { IfErr result (λ fault. fault ≡ StoreFault.OutOfMemory) }
@@ -81,7 +88,7 @@ impl Edit {
     {
         let before = config.style_length();
         let mut tree = mem::replace(config, Config::empty(alloc)).into_tree();
-        match self.edit_tree(alloc, &mut tree, path) {
+        match self.edit_tree(alloc, &mut tree, path, place) {
             Ok(()) => {
                 *config = Config::from_parts(tree, bytes);
                 Ok(())
@@ -93,24 +100,33 @@ impl Edit {
         }
     }
 
-    fn edit_tree(self, alloc: Global, tree: &mut Tree, path: &Path) -> Result<(), StoreFault>
-        requires { 0 < length path.now }
-        ensures ok { OnOk result (edited self (tree_of tree.old) path.now ≡ Ok (tree_of tree.new)) }
+    fn edit_tree(
+        self,
+        alloc: Global,
+        tree: &mut Tree,
+        path: &Path,
+        place: Option<usize>,
+    ) -> Result<(), StoreFault>
+        requires steps { 0 < length path.now }
+        requires place { place ≡ last_key (tree_of tree.old) path.now }
+        ensures ok { OnOk result (tree_after_edit self (tree_of tree.old) path.now
+            ≡ Ok (tree_of tree.new)) }
         ensures distinct { OnOk result (distinct (tree_of tree.old) ≡ true
             → distinct (tree_of tree.new) ≡ true) }
         ensures refused { IfErr result (λ fault. (fault ≡ StoreFault.OutOfMemory)
-            ⊎ (by_path (edited self (tree_of tree.old) path.now) ≡ Err fault)) }
+            ⊎ (by_path (tree_after_edit self (tree_of tree.old) path.now) ≡ Err fault)) }
         ensures unchanged { OnErr result (tree_of tree.new ≡ tree_of tree.old) }
     {
         match self {
             Edit::Set(value) => {
-                if let Err((_, fault)) = tree_path::set(alloc, tree, path, value.into_tree()) {
+                let value = value.into_tree();
+                if let Err((_, fault)) = set_planned(alloc, tree, path, place, value) {
                     return Err(StoreFault::from(fault));
                 }
                 Ok(())
             }
             Edit::Delete => {
-                let _ = tree_path::delete(tree, path)?;
+                let _ = delete_planned(tree, path, place)?;
                 Ok(())
             }
         }

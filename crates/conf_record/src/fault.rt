@@ -20,7 +20,7 @@ pub enum StoreFault {
     #[error("{0}")]
     Path(PathFault),
     /// The text to import is refused.
-    #[error("{0}")]
+    #[error("{}", .0.brief())]
     Read(ReadFault),
     /// The configuration would be more than 64 deep.
     #[error("TooDeep")]
@@ -59,9 +59,9 @@ impl From<AllocError> for StoreFault {
 }
 
 impl From<PathFault> for StoreFault {
-    ghost use Rattle.conf_record.specs.PathFaults.{told};
+    ghost use Rattle.conf_record.specs.PathFaults.{store_fault_of};
 
-    ghost from_gives = { λ fault result. result ≡ told fault };
+    ghost from_gives = { λ fault result. result ≡ store_fault_of fault };
 
     fn from(fault: PathFault) -> StoreFault {
         match fault {

@@ -19,8 +19,8 @@ pub fn accepted_commands_are_counted()
 {}
 
 /// A command is accepted only where the journal has room for its record, and the count then rises by one. Where it is
-/// refused, the fault is one of the command and the state: never one of a text that is read, of the disk, of memory,
-/// or that the store has to be opened again.
+/// refused, the fault is one of the command and the state. It is never one of a text that is read, of the disk or of
+/// memory, nor that the store has to be opened again.
 pub fn steps_are_counted_or_refused()
     ensures room { (s new : Contents) (command : Command) (fits : Bool)
         → step s command fits ≡ Ok new → fits ≡ true }
@@ -48,10 +48,10 @@ pub fn records_read()
         → step s command fits ≡ Ok new → number ≤ count_limit
         → ReadsRecord (record_text command number) command number }
     ensures one_record { (s new : Contents) (command other : Command) (fits : Bool)
-        (number told : ℕ) → IsState s
+        (number read : ℕ) → IsState s
         → IsCommand command → step s command fits ≡ Ok new → number ≤ count_limit
-        → ReadsRecord (record_text command number) other told
-        → (other ≡ command) × (told ≡ number) }
+        → ReadsRecord (record_text command number) other read
+        → (other ≡ command) × (read ≡ number) }
 {
     one_tree();
     style_reads();

@@ -1,7 +1,8 @@
 // Names of configurations.
 ghost use Rattle.std.specs.Prelude.{◌≡◌, ◌&&◌, IsTrue};
 ghost use Rattle.std.specs.Str.{chars};
-ghost use Rattle.yaml_grammar.specs.Texts.{every, first};
+ghost use Rattle.std.specs.List.{list_all};
+ghost use Rattle.yaml_grammar.specs.Texts.{first};
 ghost use Rattle.conf_record.specs.Names.{small_letter, name_char, good_name};
 
 /// Whether a text may name a configuration: 1 to 64 lowercase ASCII letters, digits, `_` and `-`, starting with a
@@ -20,7 +21,7 @@ fn starts_with_letter(name: &str) -> bool
 }
 
 fn has_name_chars(name: &str) -> bool
-    ensures named { result ≡ every name_char (chars name.now) }
+    ensures named { result ≡ list_all name_char (chars name.now) }
     ensures ascii { IsTrue result → chars name.now ≡ name.now }
 {
     name.chars().all(is_name_char)

@@ -17,11 +17,11 @@ use itoa::Buffer;
 use std::alloc::{AllocError, Global};
 use yaml_tree::{ByteCount, Config, Sink, write_key, write_text, write_value};
 
-/// The text of a command's record: an explicit document (YAML 1.2.2, 9.1.4), which is a line of `---`, a mapping in
-/// the one style and a line of `...`. The mapping holds, in this order, the number as decimal digits (`at`), the
-/// name (`import`, `set` or `delete`), the path of a set or a delete (`path`), and the tree of an import (`tree`) or
-/// the value of a set (`value`). It is linear in the text's length, and takes memory once, for the text. It fails
-/// only if memory runs out.
+/// The text of a command's record: an explicit document (YAML 1.2.2, 9.1.4). It is a line of `---`, a mapping in the
+/// one style and a line of `...`. The mapping holds, in this order, the number as decimal digits (`at`), the name
+/// (`import`, `set` or `delete`), and the path of a set or a delete (`path`). Last is the tree of an import (`tree`) or
+/// the value of a set (`value`). It is linear in the text's length, and takes memory once, for the text. It fails only
+/// if memory runs out.
 ///
 /// [`records_read`](crate::records_read) says that the text reads as that command under that number, where the
 /// command is accepted.

@@ -1,5 +1,5 @@
 // The state of a store.
-ghost use Rattle.std.specs.Prelude.{◌≡◌, ◌≢◌, ◌+◌, ◌<◌, ◌≤◌, ◌⊎◌, ℕ, List, [], min, true, option_map, length, string_bytes, string_eq, Ok, Err, OnOk, IfOk, IfSome, IfNone, MatchOption, is_some, IfErr, OnErr};
+ghost use Rattle.std.specs.Prelude.{◌≡◌, ◌≢◌, ◌+◌, ◌<◌, ◌≤◌, ◌⊎◌, ℕ, List, [], min, true, option_map, length, string_bytes, string_eq, Some, Ok, Err, OnOk, IfOk, IfSome, IfNone, MatchOption, is_some, IfErr, OnErr};
 ghost use Rattle.std.specs.Str.{chars};
 ghost use Rattle.std.specs.Iterator.{YieldsFirstBy, item_count};
 ghost use Rattle.yaml_grammar.specs.Reads.{Good};
@@ -12,8 +12,8 @@ ghost use Rattle.conf_record.specs.States.{Entry, names_of, config_named, put_co
 ghost use Rattle.yaml_grammar.specs.Trees.{mapping};
 ghost use Rattle.yaml_grammar.specs.Style.{value_at};
 ghost use Rattle.conf_record.specs.BaseTexts.{members, base_length, entry_length, entries_length};
-ghost use Rattle.conf_record.specs.Steps.{and_then, counted};
-ghost use Rattle.conf_record.specs.Edits.{configs_edited, LeavesLengths};
+ghost use Rattle.conf_record.specs.Steps.{and_then, next_state};
+ghost use Rattle.conf_record.specs.Edits.{configs_after_edit, configs_with_edit, IsPlan};
 ghost use Rattle.indexmap.specs.IndexMap.{insert_entry};
 
 use crate::base::{BASE_LIMIT, base_length, entry_length, write_entry};
@@ -30,12 +30,13 @@ use yaml_tree::{Config, Sink};
 /// The indentation of a configuration in a base text: two more than that of its name.
 const ENTRY_INDENT: u64 = 4;
 
-/// How many bytes there are after an edit: of the configuration in the one style, and of all configurations in the
-/// base text.
+/// How many bytes there are after an edit, of the configuration in the one style and of all configurations in the base
+/// text, and the place of the last key of the edit's path.
 #[derive(Clone, Copy)]
-struct Lengths {
+struct EditPlan {
     config: u64,
     entries: u64,
+    place: Option<usize>,
 }
 
 /// The configurations of a store by name, in order, and how many commands were accepted. It keeps how many bytes the
@@ -137,11 +138,11 @@ impl State {
         requires named { good_name (text_of name) ≡ true }
         requires within { Good (tree_of config) config_limits }
         ensures ok { OnOk result
-            (counted self.old fits (put_config self.old.configs (text_of name) (tree_of config))
+            (next_state self.old fits (put_config self.old.configs (text_of name) (tree_of config))
             ≡ Ok self.new) }
         ensures refused { IfErr result (λ fault. (fault ≡ StoreFault.OutOfMemory)
-            ⊎ (counted self.old fits (put_config self.old.configs (text_of name) (tree_of config))
-            ≡ Err fault)) }
+            ⊎ (next_state self.old fits
+            (put_config self.old.configs (text_of name) (tree_of config)) ≡ Err fault)) }
         ensures unchanged { OnErr result (self.new ≡ self.old) }
     {
         let entries = self.length_with(&name, &config);
@@ -152,71 +153,77 @@ impl State {
         Ok(())
     }
 
-    /// Makes an edit inside the configuration under a name, in place. The path is not empty.
+    /// Makes an edit inside the configuration under a name, in place, at a pointer. The pointer is not empty.
     ///
-    /// Every refusal is found first, by the lengths after the edit, and then memory is taken: nothing changes before
-    /// that.
+    /// Every refusal is found before anything changes, by the lengths after the edit.
     pub(crate) fn edit(
         &mut self,
         alloc: Global,
         name: &str,
-        path: &Path,
+        pointer: &str,
         edit: Edit,
         fits: bool,
     ) -> Result<(), StoreFault>
         requires named { good_name (chars name.now) ≡ true }
-        requires steps { 0 < length path.now }
+        requires steps { 0 < length pointer.now }
         ensures ok { OnOk result
-            (and_then (configs_edited self.old.configs (chars name.now) edit path.now)
-            (counted self.old fits) ≡ Ok self.new) }
+            (and_then
+            (configs_after_edit self.old.configs (chars name.now) edit (chars pointer.now))
+            (next_state self.old fits) ≡ Ok self.new) }
         ensures refused { IfErr result (λ fault. (fault ≡ StoreFault.OutOfMemory)
-            ⊎ (and_then (configs_edited self.old.configs (chars name.now) edit path.now)
-            (counted self.old fits) ≡ Err fault)) }
+            ⊎ (and_then
+            (configs_after_edit self.old.configs (chars name.now) edit (chars pointer.now))
+            (next_state self.old fits) ≡ Err fault)) }
         ensures unchanged { OnErr result (self.new ≡ self.old) }
     {
         let Some(index) = self.configs.get_index_of(name) else {
             return Err(StoreFault::NoConfig);
         };
-        let lengths = self.lengths_after(name, path, &edit)?;
-        self.check_room(lengths.entries, fits)?;
-        edit.perform(alloc, &mut self.configs[index], path, lengths.config)?;
-        self.entries = lengths.entries;
+        let path = Path::parse(alloc, pointer)?;
+        let plan = self.plan_edit(&self.configs[index], &path, &edit)?;
+        self.check_room(plan.entries, fits)?;
+        let config = &mut self.configs[index];
+        edit.perform(alloc, config, &path, plan.place, plan.config)?;
+        self.entries = plan.entries;
         self.count += 1;
         Ok(())
     }
 
-    /// The lengths that an edit would leave, where the configuration then keeps to its limits.
-    fn lengths_after(&self, name: &str, path: &Path, edit: &Edit) -> Result<Lengths, StoreFault>
-        requires { 0 < length path.now }
-        ensures ok { IfOk result (λ lengths.
-            LeavesLengths self.now.configs (chars name.now) edit.now path.now lengths) }
+    /// What an edit of one of the configurations would leave, where it then keeps to its limits.
+    fn plan_edit(&self, config: &Config, path: &Path, edit: &Edit) -> Result<EditPlan, StoreFault>
+        requires steps { 0 < length path.now }
+        requires there { (name : List ℕ)
+            × (config_named self.now.configs name ≡ Some (tree_of config.now)) }
+        ensures ok { IfOk result (λ plan. (name : List ℕ)
+            → config_named self.now.configs name ≡ Some (tree_of config.now)
+            → IsPlan self.now.configs name edit.now (tree_of config.now) path.now plan) }
         ensures refused { IfErr result (λ fault. (fault ≡ StoreFault.OutOfMemory)
-            ⊎ (configs_edited self.now.configs (chars name.now) edit.now path.now ≡ Err fault)) }
+            ⊎ ((name : List ℕ)
+            → configs_with_edit self.now.configs name edit.now (tree_of config.now) path.now
+            ≡ Err fault)) }
     {
         let entries = self.entries_length();
-        let Some(config) = self.get(name) else {
-            return Err(StoreFault::NoConfig);
-        };
-        let change = edit.change(config, path)?;
+        let plan = edit.plan(config, path)?;
         if !edit.keeps_depth(path) {
             return Err(StoreFault::TooDeep);
         }
-        let bytes = change.length_after(config.style_length(), 0);
+        let bytes = plan.change.length_after(config.style_length(), 0);
         if bytes > STYLE_LIMIT {
             return Err(StoreFault::ConfigLarge);
         }
-        Ok(Lengths {
+        Ok(EditPlan {
             config: bytes as u64,
-            entries: change.length_after(entries, ENTRY_INDENT) as u64,
+            entries: plan.change.length_after(entries, ENTRY_INDENT) as u64,
+            place: plan.place,
         })
     }
 
     /// Removes the configuration under a name.
     pub(crate) fn take_out(&mut self, name: &str, fits: bool) -> Result<(), StoreFault>
-        ensures ok { OnOk result (counted self.old fits
+        ensures ok { OnOk result (next_state self.old fits
             (cut_config self.old.configs (chars name.now)) ≡ Ok self.new) }
         ensures refused { IfErr result
-            (λ fault. counted self.old fits (cut_config self.old.configs (chars name.now))
+            (λ fault. next_state self.old fits (cut_config self.old.configs (chars name.now))
             ≡ Err fault) }
         ensures unchanged { OnErr result (self.new ≡ self.old) }
     {
@@ -233,13 +240,13 @@ impl State {
     fn check_room(&self, entries: u64, fits: bool) -> Result<(), StoreFault>
         ensures ok { OnOk result ((configs : List Entry)
             → entries ≡ min (entries_length configs) u64.MAX
-            → counted self.now fits configs
+            → next_state self.now fits configs
             ≡ Ok (record { configs = configs; count = self.now.count + 1 })) }
         ensures counts { OnOk result (self.now.count < u64.MAX) }
         ensures short { OnOk result (entries ≤ BASE_LIMIT) }
         ensures refused { IfErr result (λ fault. (configs : List Entry)
             → entries ≡ min (entries_length configs) u64.MAX
-            → counted self.now fits configs ≡ Err fault) }
+            → next_state self.now fits configs ≡ Err fault) }
     {
         if base_length(u128::from(self.count) + 1, entries) > BASE_LIMIT {
             return Err(StoreFault::StoreFull);

@@ -6,17 +6,16 @@ ghost use Rattle.yaml_tree.specs.Seen.{tree_of};
 ghost use Rattle.conf_record.specs.Names.{good_name};
 ghost use Rattle.conf_record.specs.Commands.{command_of, text_of, import_as, set_at, delete_at};
 ghost use Rattle.conf_record.specs.States.{config_limits};
-ghost use Rattle.conf_record.specs.Steps.{limited, performed, step};
+ghost use Rattle.conf_record.specs.Steps.{checked_tree, state_after_command, step};
 
 use crate::edit::{DEPTH_LIMIT, Edit, STYLE_LIMIT};
 use crate::{Command, State, StoreFault, good_name};
 use std::alloc::Global;
-use tree_path::Path;
 use yaml_tree::Config;
 
 /// Performs a command. A refused command leaves the state unchanged, and is dropped. `fits` says whether the journal
-/// has room for the command's record; if it hasn't, the command is refused with [`StoreFault::JournalLong`], unless
-/// one of the refusals before that in the list holds.
+/// has room for the command's record. If it hasn't, the command is refused with [`StoreFault::JournalLong`], unless one
+/// of the refusals before that in the list holds.
 ///
 /// An import under a new name goes last; under an existing name it replaces the tree. A set or a delete edits the tree
 /// under the name, and a delete at the empty path removes the configuration.
@@ -44,10 +43,11 @@ pub fn step(
 
 fn import(state: &mut State, name: String, config: Config, fits: bool) -> Result<(), StoreFault>
     requires { good_name (text_of name) ≡ true }
-    ensures ok { OnOk result (performed state.old (import_as (text_of name) (tree_of config)) fits
-        ≡ Ok state.new) }
+    ensures ok { OnOk result (state_after_command state.old
+        (import_as (text_of name) (tree_of config)) fits ≡ Ok state.new) }
     ensures refused { IfErr result (λ fault. (fault ≡ StoreFault.OutOfMemory)
-        ⊎ (performed state.old (import_as (text_of name) (tree_of config)) fits ≡ Err fault)) }
+        ⊎ (state_after_command state.old (import_as (text_of name) (tree_of config)) fits
+        ≡ Err fault)) }
     ensures unchanged { OnErr result (state.new ≡ state.old) }
 {
     check_limits(&config)?;
@@ -63,21 +63,20 @@ fn set(
     fits: bool,
 ) -> Result<(), StoreFault>
     requires { good_name (text_of name) ≡ true }
-    ensures ok { OnOk result (performed state.old (set_at (text_of name) (chars path.now)
+    ensures ok { OnOk result (state_after_command state.old (set_at (text_of name) (chars path.now)
         (tree_of value)) fits ≡ Ok state.new) }
     ensures refused { IfErr result (λ fault. (fault ≡ StoreFault.OutOfMemory)
-        ⊎ (performed state.old (set_at (text_of name) (chars path.now) (tree_of value)) fits
-        ≡ Err fault)) }
+        ⊎ (state_after_command state.old (set_at (text_of name) (chars path.now) (tree_of value))
+        fits ≡ Err fault)) }
     ensures unchanged { OnErr result (state.new ≡ state.old) }
 {
+    if !path.is_empty() {
+        return state.edit(alloc, &name, path, Edit::Set(value), fits);
+    }
     if state.get(&name).is_none() {
         return Err(StoreFault::NoConfig);
     }
-    let path = Path::parse(alloc, path)?;
-    if path.steps() == 0 {
-        return import(state, name, value, fits);
-    }
-    state.edit(alloc, &name, &path, Edit::Set(value), fits)
+    import(state, name, value, fits)
 }
 
 fn delete(
@@ -88,27 +87,27 @@ fn delete(
     fits: bool,
 ) -> Result<(), StoreFault>
     requires { good_name (chars name.now) ≡ true }
-    ensures ok { OnOk result (performed state.old (delete_at (chars name.now) (chars path.now)) fits
-        ≡ Ok state.new) }
+    ensures ok { OnOk result (state_after_command state.old
+        (delete_at (chars name.now) (chars path.now)) fits ≡ Ok state.new) }
     ensures refused { IfErr result (λ fault. (fault ≡ StoreFault.OutOfMemory)
-        ⊎ (performed state.old (delete_at (chars name.now) (chars path.now)) fits ≡ Err fault)) }
+        ⊎ (state_after_command state.old (delete_at (chars name.now) (chars path.now)) fits
+        ≡ Err fault)) }
     ensures unchanged { OnErr result (state.new ≡ state.old) }
 {
+    if !path.is_empty() {
+        return state.edit(alloc, name, path, Edit::Delete, fits);
+    }
     if state.get(name).is_none() {
         return Err(StoreFault::NoConfig);
     }
-    let path = Path::parse(alloc, path)?;
-    if path.steps() == 0 {
-        return state.take_out(name, fits);
-    }
-    state.edit(alloc, name, &path, Edit::Delete, fits)
+    state.take_out(name, fits)
 }
 
 /// Whether a configuration keeps to the limits of a store's configurations.
 pub(crate) fn check_limits(config: &Config) -> Result<(), StoreFault>
-    ensures ok { OnOk result (limited (tree_of config.now) ≡ Ok (tree_of config.now)) }
+    ensures ok { OnOk result (checked_tree (tree_of config.now) ≡ Ok (tree_of config.now)) }
     ensures within { OnOk result (Good (tree_of config.now) config_limits) }
-    ensures refused { IfErr result (λ fault. limited (tree_of config.now) ≡ Err fault) }
+    ensures refused { IfErr result (λ fault. checked_tree (tree_of config.now) ≡ Err fault) }
 {
     if config.depth() > DEPTH_LIMIT {
         return Err(StoreFault::TooDeep);

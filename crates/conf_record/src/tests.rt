@@ -244,7 +244,7 @@ fn configurations_keep_their_order(rt: HostRuntime) -> Result<(), Fail> {
 }
 
 #[test]
-fn the_first_refusal_is_told(rt: HostRuntime) -> Result<(), Fail> {
+fn the_first_refusal_is_returned(rt: HostRuntime) -> Result<(), Fail> {
     let alloc = rt.alloc();
     let mut state = State::new(alloc);
     assert_eq!(rt;

@@ -22,11 +22,13 @@ regroup a b c d =
     append_assoc (a ++ b) c d ∙ append_assoc a b (c ++ d)
     ∙ ap (λ l. a ++ l) (sym (append_assoc b c d) ∙ ap (λ l. l ++ d) (sym (append-nil (b ++ c))))
 
+-- the text of a mapping with one pair between `---` and `...`, by its parts
 pub framed-one : (key : List ℕ) (t : Tree) → ((codes "---\n" ++ key_lines 0 key) ++ value_at t 0) ++ codes "...\n" ≡ framed_text (one key t)
 framed-one key t = regroup (codes "---\n") (key_lines 0 key) (value_at t 0) (codes "...\n")
 
 -- ---- depths
 
+-- texts are one deep at most
 pub texts-shallow : (ns : List (List ℕ)) → elements_depth (text_elements ns) ≤ 1
 texts-shallow [] = omega arith
 texts-shallow (n ∷ ns) = let more = texts-shallow ns in omega (arith, more)
@@ -40,6 +42,7 @@ at-within step t v (token ∷ tokens) e = by (child t token) (λ u. at-within (s
     by (Ok u) rest is e = let deeper = rest u e in let here = (child-within t u token is).1 in omega (arith, deeper, here)
     by (Err miss) rest is e = let never : Err (refusal miss step) ≡ Ok v = e in cc
 
+-- a value in a tree keeps the tree's limit of depth
 pub value-shallow : (t v : Tree) (tokens : List (List ℕ)) → at t tokens ≡ Ok v → depth t ≤ 66 → depth v ≤ 66
 value-shallow t v tokens e deep = let within = at-within 1 t v tokens e in omega (arith, within, deep)
 
@@ -70,5 +73,6 @@ names-all names left all are none =
     tree_of-Seq names
     ∙ ap sequence (sym (join-none (elements_of names.items)) ∙ ap (λ l. join_elements (elements_of names.items) (text_elements l)) (sym none) ∙ are)
 
+-- the tree of all names keeps the limit of depth
 pub names-shallow : (t : Tree) (all : List (List ℕ)) → t ≡ sequence (text_elements all) → depth t ≤ 66
 names-shallow t all is = let few = texts-shallow all in let same = ap depth is in omega (arith, few, same)

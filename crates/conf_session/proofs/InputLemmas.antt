@@ -10,11 +10,12 @@ use Rattle.yaml_docs.specs.Cutting.{Held, Unclosed, Takes, Overfeeds}
 use Rattle.yaml_docs.specs.declared.cutter.Fed.{Fed}
 use Rattle.yaml_docs.proofs.ClosingLines.{lies_within}
 use Rattle.yaml_docs.proofs.CutLines.{closes-shorter}
-use Rattle.conf_session.specs.Input.{ahead, held, piece_limit, IsSound, IsOverlong, Feeds, Fills, Advances, FeedsAll, FillsSome, FillsNone, FillsBeyond, FeedsPiece, AdvancesToPiece, AdvancesToEnd, FailsToRead, FindsTooLong, FindsSessionLong, RunsOutOfMemory}
+use Rattle.conf_session.specs.Input.{ahead, piece_or_rest, piece_limit, IsSound, IsOverlong, Feeds, Fills, Advances, FeedsAll, FillsSome, FillsNone, FillsBeyond, FeedsPiece, AdvancesToPiece, AdvancesToEnd, FailsToRead, FindsTooLong, FindsSessionLong, RunsOutOfMemory}
 use Rattle.conf_session.specs.declared.input.Input.{Input}
 use Rattle.conf_session.specs.declared.fault.SessionFault.{SessionFault}
 use Rattle.conf_session.specs.declared.fault.SessionFault.TheVariants as fault
 
+-- an empty text contains no closing line
 pub unclosed-none : Unclosed []
 unclosed-none place c = (let within = lies_within [] place c in omega (arith, within, c.ends))
 
@@ -38,11 +39,13 @@ overlong old more taken false takes long =
 
 -- ---- the bytes of a range
 
+-- a range of a list starts and ends at its places
 pub range-length : (xs : List ℕ) (start end : ℕ) → start ≤ end → end ≤ length xs → start + length (slice_range xs start end) ≡ end
 range-length xs start end le within =
     let size = length-take-le (end - start) (drop start xs) (let rest = length-drop start xs in omega (arith, rest, within)) in
     omega (arith, size, le)
 
+-- a range is what was taken of it, and then what is left
 pub range-split : (xs : List ℕ) (start end taken : ℕ) → start ≤ end → end ≤ length xs → taken ≤ length (slice_range xs start end)
     → slice_range xs start end ≡ take taken (slice_range xs start end) ++ slice_range xs (start + taken) end
 range-split xs start end taken le within few =
@@ -53,6 +56,7 @@ range-split xs start end taken le within few =
     (ap (λ k. drop taken (take k (drop start xs))) n ∙ drop-take taken (end - (start + taken)) (drop start xs)
     ∙ ap (take (end - (start + taken))) (drop-drop taken start xs))
 
+-- an empty range has no elements
 pub range-all : (xs : List ℕ) (start end : ℕ) → end ≤ length xs → length (slice_range xs start end) ≡ 0 → slice_range xs start end ≡ []
 range-all xs start end within none = length-none (slice_range xs start end) none
   where
@@ -62,7 +66,7 @@ range-all xs start end within none = length-none (slice_range xs start end) none
 
 -- ---- taking in what was read
 
-module _ (old : Input) (cutter : Held) (taken : ℕ) (sound : IsSound old) (grown : cutter.bytes ≡ held old ++ take taken (ahead old)) (max : cutter.max ≡ old.cutter.max) where
+module _ (old : Input) (cutter : Held) (taken : ℕ) (sound : IsSound old) (grown : cutter.bytes ≡ piece_or_rest old ++ take taken (ahead old)) (max : cutter.max ≡ old.cutter.max) where
   abbrev fed : Input
   fed = record old { cutter = cutter; start = old.start + taken }
 
@@ -78,12 +82,12 @@ module _ (old : Input) (cutter : Held) (taken : ℕ) (sound : IsSound old) (grow
     total = sound.total;
   }
 
-  fed-joined : taken ≤ length (ahead old) → held old ++ ahead old ≡ cutter.bytes ++ ahead fed
+  fed-joined : taken ≤ length (ahead old) → piece_or_rest old ++ ahead old ≡ cutter.bytes ++ ahead fed
   fed-joined few =
-      ap (λ l. held old ++ l) (range-split old.chunk.items old.start old.end taken sound.ordered within few)
-      ∙ sym (append_assoc (held old) (take taken (ahead old)) (ahead fed)) ∙ ap (λ l. l ++ ahead fed) (sym grown)
+      ap (λ l. piece_or_rest old ++ l) (range-split old.chunk.items old.start old.end taken sound.ordered within few)
+      ∙ sym (append_assoc (piece_or_rest old) (take taken (ahead old)) (ahead fed)) ∙ ap (λ l. l ++ ahead fed) (sym grown)
 
-  feeds-by : (closed : Bool) → Takes (held old) (ahead old) taken closed → length cutter.bytes ≤ cutter.max → Feeds old fed (Ok closed)
+  feeds-by : (closed : Bool) → Takes (piece_or_rest old) (ahead old) taken closed → length cutter.bytes ≤ cutter.max → Feeds old fed (Ok closed)
   feeds-by true takes short = record {
     sound = fed-sound takes.0;
     joined = fed-joined takes.0;
@@ -97,23 +101,25 @@ module _ (old : Input) (cutter : Held) (taken : ℕ) (sound : IsSound old) (grow
       let all : take taken (ahead old) ≡ ahead old = take_all taken (ahead old) (omega (arith, takes.0)) in
       record {
         sound = fed-sound few;
-        joined = sym (grown ∙ ap (λ l. held old ++ l) all);
+        joined = sym (grown ∙ ap (λ l. piece_or_rest old ++ l) all);
         used = ap (λ n. take n (drop (old.start + taken) old.chunk.items)) (let none : old.end - (old.start + taken) ≡ 0 = omega (arith, size, takes.0) in none);
-        unclosed = subst Unclosed (sym (grown ∙ ap (λ l. held old ++ l) all)) takes.1;
+        unclosed = subst Unclosed (sym (grown ∙ ap (λ l. piece_or_rest old ++ l) all)) takes.1;
         short = omega (arith, short, max, sound.max);
         total = refl;
       }
 
+-- what the cutter does with a part of the chunk, it does with the input's bytes ahead
 pub feeds : (old : Input) (items : List ℕ) (cutter : Held) (f : Fed) → IsSound old → items ≡ old.chunk.items → cutting.Feeds old.cutter (slice_range items old.start old.end) cutter f
     → length cutter.bytes ≤ cutter.max → Feeds old (record old { cutter = cutter; start = old.start + f.taken }) (Ok f.closed)
 feeds old items cutter f sound same is short =
     let now : cutting.Feeds old.cutter (ahead old) cutter f = subst (λ l. cutting.Feeds old.cutter (slice_range l old.start old.end) cutter f) same is in
     feeds-by old cutter f.taken sound now.held now.max f.closed now.takes short
 
-pub overfed : (old : Input) (items : List ℕ) → IsSound old → items ≡ old.chunk.items → Overfeeds old.cutter (slice_range items old.start old.end) → IsOverlong (held old ++ ahead old)
+-- a cutter that is fed too much has too long a piece
+pub overfed : (old : Input) (items : List ℕ) → IsSound old → items ≡ old.chunk.items → Overfeeds old.cutter (slice_range items old.start old.end) → IsOverlong (piece_or_rest old ++ ahead old)
 overfed old items sound same is =
     let now : Overfeeds old.cutter (ahead old) = subst (λ l. Overfeeds old.cutter (slice_range l old.start old.end)) same is in
-    overlong (held old) (ahead old) now.taken now.closed now.takes (omega (arith, now.long, sound.max))
+    overlong (piece_or_rest old) (ahead old) now.taken now.closed now.takes (omega (arith, now.long, sound.max))
 
 -- ---- so far
 
@@ -121,11 +127,12 @@ overfed old items sound same is =
 pub record SoFar (given left : Option (List ℕ)) (old now : Input) : Type 0 where
   pub more : List ℕ
   pub taken : Consumes given left more
-  pub joined : ahead old ++ more ≡ held now ++ ahead now
-  pub unclosed : Unclosed (held now)
+  pub joined : ahead old ++ more ≡ piece_or_rest now ++ ahead now
+  pub unclosed : Unclosed (piece_or_rest now)
   pub total : now.total ≡ old.total + length more
 
-pub so_far-none : (given : Option (List ℕ)) (old now : Input) → held now ≡ [] → ahead now ≡ ahead old → now.total ≡ old.total → SoFar given given old now
+-- before the first read, nothing was taken
+pub so_far-none : (given : Option (List ℕ)) (old now : Input) → piece_or_rest now ≡ [] → ahead now ≡ ahead old → now.total ≡ old.total → SoFar given given old now
 so_far-none given old now none same total = record {
   more = [];
   taken = Consumes-nil given;
@@ -135,6 +142,7 @@ so_far-none given old now none same total = record {
 }
 
 module _ (given mid left : Option (List ℕ)) (old now fed new : Input) where
+  -- a chunk without a closing line, and one more read
   pub so_far-more : SoFar given mid old now → FeedsAll now fed → FillsSome mid left fed new → SoFar given left old new
   so_far-more s feeds fills = record {
     more = s.more ++ ahead new;
@@ -144,6 +152,7 @@ module _ (given mid left : Option (List ℕ)) (old now fed new : Input) where
     total = (let size = length-append s.more (ahead new) in omega (arith, size, fills.total, feeds.total, s.total));
   }
 
+  -- where the reader ends, what is left is no piece
   pub at-end : SoFar given mid old now → FeedsAll now fed → FillsNone mid left fed new → AdvancesToEnd given left old new
   at-end s feeds fills = record {
     more = s.more;
@@ -155,6 +164,7 @@ module _ (given mid left : Option (List ℕ)) (old now fed new : Input) where
     total = omega (arith, s.total, feeds.total, feeds.sound.total);
   }
 
+  -- where the reader fails, so does the read of the next piece
   pub failed : SoFar given mid old now → FeedsAll now fed → Consumes mid left [] → FailsToRead given left old
   failed s feeds taken = record {
     more = s.more;
@@ -163,6 +173,7 @@ module _ (given mid left : Option (List ℕ)) (old now fed new : Input) where
     short = subst (λ l. length l ≤ piece_limit) (sym (s.joined ∙ feeds.joined)) feeds.short;
   }
 
+  -- where more than a session may have is read, `SessionLong` is right
   pub beyond : SoFar given mid old now → FeedsAll now fed → FillsBeyond mid left fed → FindsSessionLong given left old
   beyond s feeds fills = record {
     more = s.more;
@@ -174,6 +185,7 @@ module _ (given mid left : Option (List ℕ)) (old now fed new : Input) where
     full = omega (arith, s.total, feeds.total, fills.full);
   }
 
+  -- where filling the chunk fails, the read of the next piece fails in the same way
   pub fill-fails : SoFar given mid old now → FeedsAll now fed → (f : SessionFault) → Fills mid left fed new (Err f) → Advances given left old new (Err f)
   fill-fails s feeds fault.Read fills = failed s feeds fills
   fill-fails s feeds fault.SessionLong fills = beyond s feeds fills
@@ -183,6 +195,7 @@ module _ (given mid left : Option (List ℕ)) (old now fed new : Input) where
   fill-fails s feeds fault.Reopen fills = absurd fills
   fill-fails s feeds (fault.Write written) fills = absurd fills
 
+  -- where a closing line is found, the next piece is read
   pub to-piece : SoFar given mid old now → FeedsPiece now new → AdvancesToPiece given mid old new
   to-piece s feeds = record {
     more = s.more;
@@ -194,8 +207,10 @@ module _ (given mid left : Option (List ℕ)) (old now fed new : Input) where
     total = omega (arith, s.total, feeds.total);
   }
 
-  pub too-long : SoFar given mid old now → IsOverlong (held now ++ ahead now) → FindsTooLong given mid old
+  -- where a piece is too long, `TooLong` is right
+  pub too-long : SoFar given mid old now → IsOverlong (piece_or_rest now ++ ahead now) → FindsTooLong given mid old
   too-long s over = record { more = s.more; taken = s.taken; overlong = subst IsOverlong (sym s.joined) over }
 
+  -- where memory runs out, some bytes were taken from the reader
   pub out-of-memory : SoFar given mid old now → RunsOutOfMemory given mid
   out-of-memory s = record { more = s.more; taken = s.taken }

@@ -5,10 +5,11 @@ use Rattle.std.proofs.lemmas.Bool.{and_parts}
 use Rattle.std.proofs.lemmas.Bool.Decides.{nat_tests}
 use Rattle.std.proofs.lemmas.Fmt.{decimal_is_IsNumeral, length-decimal-le}
 use Rattle.yaml_chars.specs.Classes.{is_in}
-use Rattle.yaml_grammar.specs.Texts.{byte_len, spaces, every, first, same_text}
+use Rattle.std.specs.List.{list_all}
+use Rattle.yaml_grammar.specs.Texts.{byte_len, spaces, first, same_text}
 use Rattle.yaml_grammar.specs.Trees.{Tree, text, sequence, mapping, no_element, element, no_member, member}
-use Rattle.yaml_grammar.specs.Style.{plain_in_style, literal_in_style, literal_mark, literal_lines, feeds_at_end, quoted, scalar_lines, key_text, long_key, key_lines, elements_after, value_at, style_text}
-use Rattle.yaml_laws.specs.Closed.{framed, framed_text}
+use Rattle.yaml_grammar.specs.Style.{plain_in_style, literal_in_style, literal_mark, literal_lines, feeds_at_end, in_double_quotes, scalar_lines, key_text, long_key, key_lines, elements_after, value_at, style_text}
+use Rattle.yaml_laws.specs.Closed.{framed_text_bytes, framed_text}
 use Rattle.yaml_docs.specs.declared.fault.ReadFault.{ReadFault}
 use Rattle.yaml_docs.specs.declared.fault.ReadFault.TheVariants as read
 use Rattle.yaml_tree.specs.BudgetLaws.{byte_len-append}
@@ -22,7 +23,7 @@ use Rattle.conf_record.specs.Commands.{Command, name_of}
 use Rattle.conf_record.specs.Names.{small_letter, name_char, good_name}
 use Rattle.conf_record.specs.States.{Entry, Contents, names_of, config_named, base_limit, count_limit}
 use Rattle.conf_record.specs.Limits.{AreConfigs, IsState}
-use Rattle.conf_record.specs.Steps.{step, counted, configs_after, and_then, found, by_path}
+use Rattle.conf_record.specs.Steps.{step, next_state, configs_after, and_then, found, by_path}
 use Rattle.conf_record.specs.BaseTexts.{base_length, entry_length, entries_length}
 use Rattle.conf_record.specs.declared.fault.StoreFault.{StoreFault}
 use Rattle.conf_record.specs.declared.fault.StoreFault.TheVariants as store
@@ -38,7 +39,7 @@ use Rattle.conf_session.proofs.WordLemmas.{spelled-BadName, spelled-BadPath, spe
 -- ---- a document of one key
 
 -- its key, its value, and 8 bytes around them
-pub document-length : (key : List ℕ) (v : Tree) → length (framed (one key v)) ≡ 8 + byte_len (key_lines 0 key) + byte_len (value_at v 0)
+pub document-length : (key : List ℕ) (v : Tree) → length (framed_text_bytes (one key v)) ≡ 8 + byte_len (key_lines 0 key) + byte_len (value_at v 0)
 document-length key v =
     let style = key_lines 0 key ++ value_at v 0 ++ [] in
     omega (
@@ -60,9 +61,11 @@ at-size step t v (token ∷ tokens) e = by (child t token) (λ u. at-size (suc s
     by (Ok u) rest is e = let deeper = rest u e in let here = (child-within t u token is).0 in omega (arith, deeper, here)
     by (Err miss) rest is e = let never : Err (step_refusal miss step) ≡ Ok v = e in cc
 
+-- a value in a tree is no larger than the tree
 pub value-short : (t v : Tree) (tokens : List (List ℕ)) → at t tokens ≡ Ok v → size v ≤ size t
 value-short t v tokens e = at-size 1 t v tokens e
 
+-- a configuration under a name keeps its limit of length
 pub named-short : (es : List Entry) (name : List ℕ) (t : Tree) → AreConfigs es → config_named es name ≡ Some t → size t ≤ 1048576
 named-short [] name t all is = cc
 named-short (e ∷ es) name t all is = by (same_text name e.0) is (named-short es name t all.2)
@@ -84,10 +87,10 @@ text-value-length value = omega arith
 name_no_feed : (c : ℕ) → name_char c ≡ true → (10 == c) ≡ false
 name_no_feed c e = grind (arith, nat_tests)
 
-names_no_feed : (cs : List ℕ) → every name_char cs ≡ true → is_in 10 cs ≡ false
+names_no_feed : (cs : List ℕ) → list_all name_char cs ≡ true → is_in 10 cs ≡ false
 names_no_feed [] all = refl
 names_no_feed (c ∷ cs) all =
-    let parts = and_parts (name_char c) (every name_char cs) all in
+    let parts = and_parts (name_char c) (list_all name_char cs) all in
     rw (name_no_feed c parts.0) (names_no_feed cs parts.1)
 
 -- a name as an element has the bytes of its key, and a line feed
@@ -96,14 +99,14 @@ name-element name good = by (plain_in_style name) (literal_in_style name) no_lit
   where
     no_literal : literal_in_style name ≡ false
     no_literal =
-        let outer = and_parts (first small_letter name && every name_char name) _ good in
-        rw (names_no_feed name (and_parts (first small_letter name) (every name_char name) outer.0).1) refl
+        let outer = and_parts (first small_letter name && list_all name_char name) _ good in
+        rw (names_no_feed name (and_parts (first small_letter name) (list_all name_char name) outer.0).1) refl
 
     by : (plain literal : Bool) → literal ≡ false
-        → byte_len (if plain then name ++ codes "\n" else if literal then literal_mark (feeds_at_end name) ++ codes "\n" ++ literal_lines 4 true name else quoted name ++ codes "\n")
-        ≡ 1 + byte_len (if plain then name else quoted name)
+        → byte_len (if plain then name ++ codes "\n" else if literal then literal_mark (feeds_at_end name) ++ codes "\n" ++ literal_lines 4 true name else in_double_quotes name ++ codes "\n")
+        ≡ 1 + byte_len (if plain then name else in_double_quotes name)
     by true literal e = omega (arith, byte_len-append name (codes "\n"))
-    by false false e = omega (arith, byte_len-append (quoted name) (codes "\n"))
+    by false false e = omega (arith, byte_len-append (in_double_quotes name) (codes "\n"))
     by false true e = cc
 
 key-bytes : (key : List ℕ) → 1 + byte_len (key_text key) ≤ byte_len (key_lines 2 key)
@@ -124,7 +127,7 @@ scalar-bytes : (j : ℕ) (value : List ℕ) → 1 ≤ byte_len (scalar_lines j v
 scalar-bytes j value = by (plain_in_style value) (literal_in_style value)
   where
     by : (plain literal : Bool)
-        → 1 ≤ byte_len (if plain then value ++ codes "\n" else if literal then literal_mark (feeds_at_end value) ++ codes "\n" ++ literal_lines j true value else quoted value ++ codes "\n")
+        → 1 ≤ byte_len (if plain then value ++ codes "\n" else if literal then literal_mark (feeds_at_end value) ++ codes "\n" ++ literal_lines j true value else in_double_quotes value ++ codes "\n")
     by true literal = omega (arith, byte_len-append value (codes "\n"))
     by false true =
         omega (
@@ -132,7 +135,7 @@ scalar-bytes j value = by (plain_in_style value) (literal_in_style value)
           byte_len-append (literal_mark (feeds_at_end value) ++ codes "\n") (literal_lines j true value),
           byte_len-append (literal_mark (feeds_at_end value)) (codes "\n"),
         )
-    by false false = omega (arith, byte_len-append (quoted value) (codes "\n"))
+    by false false = omega (arith, byte_len-append (in_double_quotes value) (codes "\n"))
 
 value-bytes : (t : Tree) → 2 ≤ byte_len (value_at t 2)
 value-bytes (text value) = omega (arith, scalar-bytes 4 value)
@@ -169,6 +172,7 @@ pub names-value-length : (es : List Entry) → AreConfigs es → byte_len (value
 names-value-length [] all = omega arith
 names-value-length (e ∷ es) all = omega (arith, names-bytes (e ∷ es) all)
 
+-- the configurations of a state keep the limit of its base text
 pub entries-short : (s : Contents) → IsState s → entries_length s.configs + 42 ≤ base_limit
 entries-short s kept =
     let whole = base_length-framed s.count s.configs (let numbered = kept.numbered in omega arith) in
@@ -177,6 +181,7 @@ entries-short s kept =
 
 -- ---- counts
 
+-- a count as a value has at most 24 bytes
 pub count-value-length : (n : ℕ) → n ≤ count_limit → byte_len (value_at (text (decimal n)) 0) ≤ 24
 count-value-length n small =
     omega (arith, count_bytes (decimal n) (decimal_is_IsNumeral n (omega arith)).0.1, length-decimal-le 20 n (omega arith) (omega arith) (omega arith))
@@ -186,8 +191,8 @@ count-value-length n small =
 le-false : (a b : ℕ) → nat_le a b ≡ false → b < a
 le-false a b e = grind (arith, nat_tests)
 
-counted-few : (s new : Contents) (fits : Bool) (configs : List Entry) → counted s fits configs ≡ Ok new → s.count < count_limit
-counted-few s new fits configs e =
+next_state-few : (s new : Contents) (fits : Bool) (configs : List Entry) → next_state s fits configs ≡ Ok new → s.count < count_limit
+next_state-few s new fits configs e =
     le-false count_limit s.count
     (by (nat_lt base_limit (base_length (record { configs = configs; count = s.count + 1 }))) fits (nat_le count_limit s.count) e)
   where
@@ -199,19 +204,20 @@ counted-few s new fits configs e =
     by false true true is = cc
     by false true false is = refl
 
+-- a step is accepted only below the greatest count
 pub step-few : (s new : Contents) (command : Command) (fits : Bool) → step s command fits ≡ Ok new → s.count < count_limit
 step-few s new command fits e = by (good_name (name_of command)) e
   where
-    by : (good : Bool) → (if good then and_then (configs_after s.configs command) (counted s fits) else Err store.BadName) ≡ Ok new → s.count < count_limit
-    by true is = (let done = and_then-Ok (configs_after s.configs command) (counted s fits) new is in counted-few s new fits done.0 done.2)
+    by : (good : Bool) → (if good then and_then (configs_after s.configs command) (next_state s fits) else Err store.BadName) ≡ Ok new → s.count < count_limit
+    by true is = (let done = and_then-Ok (configs_after s.configs command) (next_state s fits) new is in next_state-few s new fits done.0 done.2)
     by false is = cc
 
 -- ---- refusals
 
-refused : (word spelled : List ℕ) → framed (refusal word) ≡ spelled → length spelled ≤ answer_limit → length (framed (refusal word)) ≤ answer_limit
+refused : (word spelled : List ℕ) → framed_text_bytes (refusal word) ≡ spelled → length spelled ≤ answer_limit → length (framed_text_bytes (refusal word)) ≤ answer_limit
 refused word spelled is few = let bytes = ap length is in omega (arith, bytes, few)
 
-read_refused : (fault : ReadFault) → length (framed (refusal (read_word fault))) ≤ answer_limit
+read_refused : (fault : ReadFault) → length (framed_text_bytes (refusal (read_word fault))) ≤ answer_limit
 read_refused read.TooLong = refused (codes "TooLong") _ spelled-TooLong (omega arith)
 read_refused (read.NotUtf8 at) = refused (codes "NotUtf8") _ spelled-NotUtf8 (omega arith)
 read_refused (read.Syntax line column why) = refused (codes "Syntax") _ spelled-Syntax (omega arith)
@@ -222,13 +228,14 @@ read_refused read.TooDeep = refused (codes "TooDeep") _ spelled-TooDeep (omega a
 read_refused read.LargeInStyle = refused (codes "LargeInStyle") _ spelled-LargeInStyle (omega arith)
 read_refused read.OutOfMemory = refused [] _ spelled-none (omega arith)
 
-path_refused : (fault : PathFault) → length (framed (refusal (path_word fault))) ≤ answer_limit
+path_refused : (fault : PathFault) → length (framed_text_bytes (refusal (path_word fault))) ≤ answer_limit
 path_refused (path.BadPath at) = refused (codes "BadPath") _ spelled-BadPath (omega arith)
 path_refused (path.NoSuchPlace step) = refused (codes "NoSuchPlace") _ spelled-NoSuchPlace (omega arith)
 path_refused (path.NotIndex step) = refused (codes "NotIndex") _ spelled-NotIndex (omega arith)
 path_refused path.OutOfMemory = refused [] _ spelled-none (omega arith)
 
-pub refusal-short : (fault : StoreFault) → length (framed (refusal (word fault))) ≤ answer_limit
+-- a refusal of the store keeps the limit of an answer
+pub refusal-short : (fault : StoreFault) → length (framed_text_bytes (refusal (word fault))) ≤ answer_limit
 refusal-short (store.Path fault) = path_refused fault
 refusal-short (store.Read fault) = read_refused fault
 refusal-short store.BadName = refused (codes "BadName") _ spelled-BadName (omega arith)
@@ -242,7 +249,8 @@ refusal-short store.Reopen = refused [] _ spelled-none (omega arith)
 refusal-short store.Device = refused [] _ spelled-none (omega arith)
 refusal-short store.OutOfMemory = refused [] _ spelled-none (omega arith)
 
-pub bad-short : length (framed (refusal (codes "BadCommand"))) ≤ answer_limit
+-- the refusal `BadCommand` keeps the limit of an answer
+pub bad-short : length (framed_text_bytes (refusal (codes "BadCommand"))) ≤ answer_limit
 bad-short = refused (codes "BadCommand") _ spelled-BadCommand (omega arith)
 
 -- ---- answers
@@ -268,7 +276,7 @@ value-size s name p v kept is =
     omega (arith, inner, outer)
 
 value-answer-short : (s : Contents) → IsState s → (name p : List ℕ) (r : Result Tree StoreFault) → value_at_path s name p ≡ r
-    → length (framed (answer_or_refusal (one (codes "value")) r)) ≤ answer_limit
+    → length (framed_text_bytes (answer_or_refusal (one (codes "value")) r)) ≤ answer_limit
 value-answer-short s kept name p (Ok v) is =
     let bytes = value-size s name p v kept is in
     let most = (value_size v).most in
@@ -276,16 +284,16 @@ value-answer-short s kept name p (Ok v) is =
 value-answer-short s kept name p (Err fault) is = refusal-short fault
 
 text-answer-short : (s : Contents) → IsState s → (name : List ℕ) (r : Result Tree StoreFault) → tree_named s name ≡ r
-    → length (framed (answer_or_refusal (λ t. one (codes "text") (text (style_text t))) r)) ≤ answer_limit
+    → length (framed_text_bytes (answer_or_refusal (λ t. one (codes "text") (text (style_text t))) r)) ≤ answer_limit
 text-answer-short s kept name (Ok t) is =
     omega (arith, document-length (codes "text") (text (style_text t)), scalar_most (style_text t), text-value-length (style_text t), named-size s name t kept is)
 text-answer-short s kept name (Err fault) is = refusal-short fault
 
-count-answer-short : (n : ℕ) → n ≤ count_limit → length (framed (one (codes "ok") (text (decimal n)))) ≤ answer_limit
+count-answer-short : (n : ℕ) → n ≤ count_limit → length (framed_text_bytes (one (codes "ok") (text (decimal n)))) ≤ answer_limit
 count-answer-short n small = omega (arith, document-length (codes "ok") (text (decimal n)), count-value-length n small)
 
 change-answer-short : (now : Stored) (command : Command) (r : Result Contents StoreFault) → outcome now.size now.state command ≡ r
-    → length (framed (change_answer r)) ≤ answer_limit
+    → length (framed_text_bytes (change_answer r)) ≤ answer_limit
 change-answer-short now command (Ok new) is =
     let fits = has_room now.size now.state command in
     let few = step-few now.state new command fits is in
@@ -293,7 +301,8 @@ change-answer-short now command (Ok new) is =
     count-answer-short new.count (omega (arith, few, counts))
 change-answer-short now command (Err fault) is = refusal-short fault
 
-pub answer-short : (now : Stored) (request : Request) → IsState now.state → length (framed (answer now request)) ≤ answer_limit
+-- each answer keeps the limit, where the state keeps its limits
+pub answer-short : (now : Stored) (request : Request) → IsState now.state → length (framed_text_bytes (answer now request)) ≤ answer_limit
 answer-short now (changing command) kept = change-answer-short now command (outcome now.size now.state command) refl
 answer-short now (unread name fault) kept = refusal-short (unread_fault name fault)
 answer-short now (getting name p) kept = value-answer-short now.state kept name p (value_at_path now.state name p) refl

@@ -4,6 +4,7 @@ use Rattle.std.specs.Prelude.{ℕ, ◌+◌, List, [], ◌++◌, length, take, dr
 use Rattle.std.specs.Io.KnownBytes.{Keeps, Appends}
 use Rattle.std.proofs.lemmas.List.{append-nil, take-take, drop-take, take_all}
 
+-- nothing is written where nothing was
 pub appends-none : (held : Option (List ℕ)) → Appends held held []
 appends-none None = tt
 appends-none (Some bytes) = sym (append-nil bytes)
@@ -14,6 +15,7 @@ take-more bytes done n =
     ∙ ap (λ l. l ++ drop done (take (done + n) bytes)) (take-take done (done + n) bytes (omega arith))
     ∙ ap (λ l. take done bytes ++ l) (drop-take done n bytes))
 
+-- a prefix that was written, and then a prefix of the rest, are a prefix
 pub appends-more : (held mid now : Option (List ℕ)) (bytes : List ℕ) (done n : ℕ) → Appends held mid (take done bytes) → Appends mid now (take n (drop done bytes))
     → Appends held now (take (done + n) bytes)
 appends-more None mid now bytes done n first second = tt
@@ -22,11 +24,13 @@ appends-more (Some xs) (Some ys) None bytes done n first second = absurd second
 appends-more (Some xs) (Some ys) (Some zs) bytes done n first second =
     second ∙ ap (λ l. l ++ take n (drop done bytes)) first ∙ append_assoc xs (take done bytes) (take n (drop done bytes)) ∙ ap (λ l. xs ++ l) (take-more bytes done n)
 
+-- a flush keeps what was written
 pub appends-kept : (held mid now : Option (List ℕ)) (bytes : List ℕ) → Appends held mid bytes → Keeps mid now → Appends held now bytes
 appends-kept None mid now bytes first second = tt
 appends-kept (Some xs) None now bytes first second = absurd first
 appends-kept (Some xs) (Some ys) None bytes first second = absurd second
 appends-kept (Some xs) (Some ys) (Some zs) bytes first second = second ∙ first
 
+-- a prefix as long as the bytes is all of them
 pub appends-whole : (held now : Option (List ℕ)) (bytes : List ℕ) (done : ℕ) → length bytes ≤ done → Appends held now (take done bytes) → Appends held now bytes
 appends-whole held now bytes done le is = subst (Appends held now) (take_all done bytes le) is

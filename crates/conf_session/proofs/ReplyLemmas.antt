@@ -4,7 +4,7 @@ use Rattle.std.specs.Prelude.{ℕ, List, codes, length, String, string_bytes, Ok
 use Rattle.std.specs.declared.alloc.Global.{Global}
 use Rattle.yaml_grammar.specs.Trees.{Tree, text, sequence}
 use Rattle.yaml_grammar.specs.Style.{style_text}
-use Rattle.yaml_laws.specs.Closed.{framed}
+use Rattle.yaml_laws.specs.Closed.{framed_text_bytes}
 use Rattle.tree_path.specs.Paths.{at}
 use Rattle.tree_path.specs.Pointers.{path_of}
 use Rattle.tree_path.specs.declared.fault.PathFault.{PathFault}
@@ -21,10 +21,10 @@ use Rattle.conf_session.proofs.LengthLemmas.{refusal-short, answer-short}
 use Rattle.conf_session.specs.declared.reply.Reply.TheVariants.{Done, Refused}
 
 module _ (now : Stored) (name : List ℕ) where
-  value-reply : (p : List ℕ) (v : Tree) (written : String Global) → value_at_path now.state name p ≡ Ok v → string_bytes written ≡ framed (one (codes "value") v)
+  value-reply : (p : List ℕ) (v : Tree) (written : String Global) → value_at_path now.state name p ≡ Ok v → string_bytes written ≡ framed_text_bytes (one (codes "value") v)
       → IsState now.state → Replies now (getting name p) (Done written)
   value-reply p v written e bytes kept = record {
-    bytes = bytes ∙ ap (λ r. framed (answer_or_refusal (one (codes "value")) r)) (sym e);
+    bytes = bytes ∙ ap (λ r. framed_text_bytes (answer_or_refusal (one (codes "value")) r)) (sym e);
     accepted = refl;
     refused = ap is_refused (sym e);
     short = answer-short now (getting name p) kept;
@@ -32,15 +32,17 @@ module _ (now : Stored) (name : List ℕ) where
 
   value-refused : (p : List ℕ) (f : StoreFault) → value_at_path now.state name p ≡ Err f → Replies now (getting name p) (Refused f)
   value-refused p f e = record {
-    bytes = ap (λ r. framed (answer_or_refusal (one (codes "value")) r)) (sym e);
+    bytes = ap (λ r. framed_text_bytes (answer_or_refusal (one (codes "value")) r)) (sym e);
     accepted = refl;
     refused = ap is_refused (sym e);
-    short = subst (λ r. length (framed (answer_or_refusal (one (codes "value")) r)) ≤ answer_limit) (sym e) (refusal-short f);
+    short = subst (λ r. length (framed_text_bytes (answer_or_refusal (one (codes "value")) r)) ≤ answer_limit) (sym e) (refusal-short f);
   }
 
+  -- a `get` of a name without a configuration is refused so
   pub get-no_config : (p : List ℕ) (f : StoreFault) → tree_named now.state name ≡ Err f → Replies now (getting name p) (Refused f)
   get-no_config p f e = value-refused p f (ap (λ r. and_then r (λ t. and_then (by_path (path_of p)) (λ tokens. by_path (at t tokens)))) e)
 
+  -- a `get` at a bad path is refused so
   pub get-no_path : (p : List ℕ) (t : Tree) (f : PathFault) → tree_named now.state name ≡ Ok t → path_of p ≡ Err f → Replies now (getting name p) (Refused (Path f))
   get-no_path p t f e wrong =
       value-refused p (Path f) (ap (λ r. and_then r (λ u. and_then (by_path (path_of p)) (λ tokens. by_path (at u tokens)))) e
@@ -52,30 +54,33 @@ module _ (now : Stored) (name : List ℕ) where
         ap (λ r. and_then r (λ u. and_then (by_path (path_of p)) (λ ts. by_path (at u ts)))) e
         ∙ ap (λ r. and_then (by_path r) (λ ts. by_path (at t ts))) path
 
-    pub get-value : (v : Tree) (written : String Global) → at t tokens ≡ Ok v → string_bytes written ≡ framed (one (codes "value") v)
+    pub get-value : (v : Tree) (written : String Global) → at t tokens ≡ Ok v → string_bytes written ≡ framed_text_bytes (one (codes "value") v)
         → IsState now.state → Replies now (getting name p) (Done written)
     get-value v written there = value-reply p v written (leads ∙ ap by_path there)
 
     pub get-no_place : (f : PathFault) → at t tokens ≡ Err f → Replies now (getting name p) (Refused (Path f))
     get-no_place f there = value-refused p (Path f) (leads ∙ ap by_path there)
 
-  pub export-text : (t : Tree) (written : String Global) → tree_named now.state name ≡ Ok t → string_bytes written ≡ framed (one (codes "text") (text (style_text t)))
+  -- the answer to an `export` is the text of the configuration
+  pub export-text : (t : Tree) (written : String Global) → tree_named now.state name ≡ Ok t → string_bytes written ≡ framed_text_bytes (one (codes "text") (text (style_text t)))
       → IsState now.state → Replies now (exporting name) (Done written)
   export-text t written e bytes kept = record {
-    bytes = bytes ∙ ap (λ r. framed (answer_or_refusal (λ u. one (codes "text") (text (style_text u))) r)) (sym e);
+    bytes = bytes ∙ ap (λ r. framed_text_bytes (answer_or_refusal (λ u. one (codes "text") (text (style_text u))) r)) (sym e);
     accepted = refl;
     refused = ap is_refused (sym e);
     short = answer-short now (exporting name) kept;
   }
 
+  -- an `export` of a name without a configuration is refused so
   pub export-refused : (f : StoreFault) → tree_named now.state name ≡ Err f → Replies now (exporting name) (Refused f)
   export-refused f e = record {
-    bytes = ap (λ r. framed (answer_or_refusal (λ u. one (codes "text") (text (style_text u))) r)) (sym e);
+    bytes = ap (λ r. framed_text_bytes (answer_or_refusal (λ u. one (codes "text") (text (style_text u))) r)) (sym e);
     accepted = refl;
     refused = ap is_refused (sym e);
-    short = subst (λ r. length (framed (answer_or_refusal (λ t. one (codes "text") (text (style_text t))) r)) ≤ answer_limit) (sym e) (refusal-short f);
+    short = subst (λ r. length (framed_text_bytes (answer_or_refusal (λ t. one (codes "text") (text (style_text t))) r)) ≤ answer_limit) (sym e) (refusal-short f);
   }
 
-pub names-listed : (now : Stored) → IsState now.state → (written : String Global) → string_bytes written ≡ framed (one (codes "names") (sequence (text_elements (names_of now.state.configs))))
+-- the answer to `names` is the list of all names
+pub names-listed : (now : Stored) → IsState now.state → (written : String Global) → string_bytes written ≡ framed_text_bytes (one (codes "names") (sequence (text_elements (names_of now.state.configs))))
     → Replies now naming (Done written)
 names-listed now kept written bytes = record { bytes = bytes; accepted = refl; refused = refl; short = answer-short now naming kept }

@@ -7,15 +7,15 @@ use Rattle.std.proofs.KnownBytes.{Appends-nil, Appends-trans, Appends-kept, Cons
 use Rattle.std.proofs.lemmas.List.{append-nil, take-append-le, take_all}
 use Rattle.std.proofs.lemmas.List.Folds.{concat-append}
 use Rattle.std.proofs.lemmas.List.Elements.{All-nil}
-use Rattle.yaml_laws.specs.Closed.{framed}
+use Rattle.yaml_laws.specs.Closed.{framed_text_bytes}
 use Rattle.yaml_grammar.specs.Closings.{ClosesOnce}
 use Rattle.conf_disk.specs.Image.{Image, IsImage}
 use Rattle.conf_disk.specs.Folder.{Folder}
 use Rattle.conf_store.specs.Durable.{AllImagesMean}
 use Rattle.conf_store.specs.View.{StoreView}
-use Rattle.conf_session.specs.Input.{piece_limit, session_limit, ahead, held as piece_of, AdvancesToPiece, AdvancesToEnd, FailsToRead, FindsTooLong, FindsSessionLong, RunsOutOfMemory, Advances}
+use Rattle.conf_session.specs.Input.{piece_limit, session_limit, ahead, piece_or_rest as piece_of, AdvancesToPiece, AdvancesToEnd, FailsToRead, FindsTooLong, FindsSessionLong, RunsOutOfMemory, Advances}
 use Rattle.conf_session.specs.Requests.{Request, Asks}
-use Rattle.conf_session.specs.Answers.{Stored, answer, answer_limit, output, stored_after_all, accepted, accepted_of, refused_of}
+use Rattle.conf_session.specs.Answers.{Stored, answer, answer_limit, output, stored_after_all, accepted_commands, accepted_command, refused_of}
 use Rattle.conf_session.specs.Runs.{stored_of, ArePieces, Runs, BeginsWith}
 use Rattle.conf_session.specs.Replies.{Performs}
 use Rattle.conf_session.specs.Progress.{AreCounted, Passed, Answered, Fails}
@@ -24,7 +24,7 @@ use Rattle.conf_session.specs.declared.fault.SessionFault.TheVariants as fault
 use Rattle.conf_session.specs.declared.input.Input.{Input}
 use Rattle.conf_session.specs.declared.pieces.Counts.{Counts}
 use Rattle.conf_session.specs.declared.session.Tally.{Tally}
-use Rattle.conf_session.proofs.PassedLemmas.{pieces-last, passed-none, passed-more, moments-more, state-more, stored-more, reads-more, kept-all, kept-most, accepted-last, output-last, refusals-last, take-beyond}
+use Rattle.conf_session.proofs.PassedLemmas.{pieces-last, passed-none, passed-more, moments-more, state-more, stored-more, reads-more, kept-all, kept-most, accepted_commands-last, output-last, refusals-last, take-beyond}
 
 -- The bytes that were read are pieces, whose requests are performed and answered, and further bytes.
 pub record SoFar {D : Type 0} (honest : Type 0) (folder : D → Folder) (moment : D → ℕ) (since : D → ℕ → Image → Type 0) (given left held written : Option (List ℕ)) (old new : StoreView D)
@@ -43,6 +43,7 @@ taken-more given mid left prefix further more one two =
     subst (Consumes given left) (append_assoc prefix further more) (Consumes-trans given mid left (prefix ++ further) more one two)
 
 module _ {D : Type 0} (honest : Type 0) (folder : D → Folder) (moment : D → ℕ) (since : D → ℕ → Image → Type 0) where
+  -- before the first piece, nothing was read, performed or written
   pub so_far-none : (given held : Option (List ℕ)) (store : StoreView D) (further : List ℕ) (counts : Counts) (total : ℕ) → store.reopen ≡ false
       → ((image : Image) → honest → since store.disk (moment store.disk) image → IsImage (folder store.disk) image)
       → (honest → store.reopen ≡ false → AllImagesMean (folder store.disk) store.state) → further ≡ []
@@ -93,7 +94,7 @@ module _ {D : Type 0} (honest : Type 0) (folder : D → Folder) (moment : D → 
       size = λ on. ap (λ (t : Stored). t.size) s.passed.stored;
       reads = λ h on. s.passed.reads h;
       any_moment = λ h on. s.passed.any_moment h;
-      kept = λ h on. kept-all honest folder moment since old now s.requests (length (accepted (stored_of old) s.requests)) (omega arith) s.passed.stored s.passed.sound means h;
+      kept = λ h on. kept-all honest folder moment since old now s.requests (length (accepted_commands (stored_of old) s.requests)) (omega arith) s.passed.stored s.passed.sound means h;
     }
 
     ends-reading : FailsToRead mid left was → (honest → now.reopen ≡ false → AllImagesMean (folder now.disk) now.state)
@@ -115,7 +116,7 @@ module _ {D : Type 0} (honest : Type 0) (folder : D → Folder) (moment : D → 
       size = λ on. ap (λ (t : Stored). t.size) s.passed.stored;
       reads = λ h on. s.passed.reads h;
       any_moment = λ h on. s.passed.any_moment h;
-      kept = λ h on. kept-all honest folder moment since old now s.requests (length (accepted (stored_of old) s.requests)) (omega arith) s.passed.stored s.passed.sound means h;
+      kept = λ h on. kept-all honest folder moment since old now s.requests (length (accepted_commands (stored_of old) s.requests)) (omega arith) s.passed.stored s.passed.sound means h;
     }
 
     ends-too_long : FindsTooLong mid left was → (honest → now.reopen ≡ false → AllImagesMean (folder now.disk) now.state)
@@ -134,7 +135,7 @@ module _ {D : Type 0} (honest : Type 0) (folder : D → Folder) (moment : D → 
       size = λ on. ap (λ (t : Stored). t.size) s.passed.stored;
       reads = λ h on. s.passed.reads h;
       any_moment = λ h on. s.passed.any_moment h;
-      kept = λ h on. kept-all honest folder moment since old now s.requests (length (accepted (stored_of old) s.requests)) (omega arith) s.passed.stored s.passed.sound means h;
+      kept = λ h on. kept-all honest folder moment since old now s.requests (length (accepted_commands (stored_of old) s.requests)) (omega arith) s.passed.stored s.passed.sound means h;
     }
 
     ends-session_long : FindsSessionLong mid left was → (honest → now.reopen ≡ false → AllImagesMean (folder now.disk) now.state)
@@ -168,7 +169,7 @@ module _ {D : Type 0} (honest : Type 0) (folder : D → Folder) (moment : D → 
           size = λ on. ap (λ (t : Stored). t.size) s.passed.stored;
           reads = λ h on. s.passed.reads h;
           any_moment = λ h on. s.passed.any_moment h;
-          kept = λ h on. kept-all honest folder moment since old now s.requests (length (accepted (stored_of old) s.requests)) (omega arith) s.passed.stored s.passed.sound means h;
+          kept = λ h on. kept-all honest folder moment since old now s.requests (length (accepted_commands (stored_of old) s.requests)) (omega arith) s.passed.stored s.passed.sound means h;
         }
 
     ends-starved : RunsOutOfMemory mid left → (honest → now.reopen ≡ false → AllImagesMean (folder now.disk) now.state)
@@ -187,7 +188,7 @@ module _ {D : Type 0} (honest : Type 0) (folder : D → Folder) (moment : D → 
       size = λ on. ap (λ (t : Stored). t.size) s.passed.stored;
       reads = λ h on. s.passed.reads h;
       any_moment = λ h on. s.passed.any_moment h;
-      kept = λ h on. kept-all honest folder moment since old now s.requests (length (accepted (stored_of old) s.requests)) (omega arith) s.passed.stored s.passed.sound means h;
+      kept = λ h on. kept-all honest folder moment since old now s.requests (length (accepted_commands (stored_of old) s.requests)) (omega arith) s.passed.stored s.passed.sound means h;
     }
 
     -- the input has no further piece for a reason
@@ -228,12 +229,12 @@ module _ {D : Type 0} (honest : Type 0) (folder : D → Folder) (moment : D → 
             passed = passed-more honest folder moment since held between old now new rs r s.passed one.performs written one.out one.sound;
             counted = record {
               documents = one.documents ∙ ap (λ n. n + 1) s.counted.documents ∙ sym (length-append rs (r ∷ []));
-              accepted = (let same = ap (λ t. length (accepted_of t r)) here in let last = ap length (accepted-last start rs r) in
-                  let sum = length-append (accepted start rs) (accepted_of (stored_after_all start rs) r) in
+              accepted = (let same = ap (λ t. length (accepted_command t r)) here in let last = ap length (accepted_commands-last start rs r) in
+                  let sum = length-append (accepted_commands start rs) (accepted_command (stored_after_all start rs) r) in
                   omega (arith, one.accepted, s.counted.accepted, same, last, sum));
               refused = (let same = ap (λ t. refused_of t r) here in omega (arith, one.refused, s.counted.refused, same, refusals-last start rs r));
-              written = (let same = ap (λ t. length (framed (answer t r))) here in let last = ap length (output-last start rs r) in
-                  let sum = length-append (output start rs) (framed (answer (stored_after_all start rs) r)) in
+              written = (let same = ap (λ t. length (framed_text_bytes (answer t r))) here in let last = ap length (output-last start rs r) in
+                  let sum = length-append (output start rs) (framed_text_bytes (answer (stored_after_all start rs) r)) in
                   omega (arith, one.sent, s.counted.written, same, last, sum));
             };
             read = (let all = ap length joined-more in let before = s.read in let grown = advances.total in
@@ -269,7 +270,7 @@ module _ {D : Type 0} (honest : Type 0) (folder : D → Folder) (moment : D → 
             size = λ on. ap (λ (t : Stored). t.size) s.passed.stored;
             reads = λ h on. s.passed.reads h;
             any_moment = λ h on. s.passed.any_moment h;
-            kept = λ h on. kept-all honest folder moment since old now s.requests (length (accepted (stored_of old) s.requests)) (omega arith) s.passed.stored s.passed.sound there h;
+            kept = λ h on. kept-all honest folder moment since old now s.requests (length (accepted_commands (stored_of old) s.requests)) (omega arith) s.passed.stored s.passed.sound there h;
           })
           means
 
@@ -299,16 +300,16 @@ module _ {D : Type 0} (honest : Type 0) (folder : D → Folder) (moment : D → 
       }
 
       ends-write : (written : Option (List ℕ)) (new : StoreView D) (r : Request) (count total : ℕ) → Asks (piece_of then) r → new.reopen ≡ false → Performs honest folder moment since now new r
-          → total ≡ counts.written + count → count < length (framed (answer (stored_of now) r)) → Appends between written (take count (framed (answer (stored_of now) r)))
-          → length (framed (answer (stored_of now) r)) ≤ answer_limit → counts.written ≤ counts.tally.documents * answer_limit
+          → total ≡ counts.written + count → count < length (framed_text_bytes (answer (stored_of now) r)) → Appends between written (take count (framed_text_bytes (answer (stored_of now) r)))
+          → length (framed_text_bytes (answer (stored_of now) r)) ≤ answer_limit → counts.written ≤ counts.tally.documents * answer_limit
           → (honest → new.reopen ≡ false → AllImagesMean (folder new.disk) new.state)
           → Runs honest folder moment since given left held written old new (Err (fault.Write total))
       ends-write written new r count total asks off does is short out small room means =
           let start = stored_of old in
           let rs = s.requests in
           let before = output start rs in
-          let one = framed (answer (stored_of now) r) in
-          let all : output start (rs ++ r ∷ []) ≡ before ++ one = output-last start rs r ∙ ap (λ t. before ++ framed (answer t r)) (sym s.passed.stored) in
+          let one = framed_text_bytes (answer (stored_of now) r) in
+          let all : output start (rs ++ r ∷ []) ≡ before ++ one = output-last start rs r ∙ ap (λ t. before ++ framed_text_bytes (answer t r)) (sym s.passed.stored) in
           let long = ap length all ∙ length-append before one in
           let sum = s.counted.written in
           let prefix : take total (output start (rs ++ r ∷ [])) ≡ before ++ take count one =
@@ -332,8 +333,8 @@ module _ {D : Type 0} (honest : Type 0) (folder : D → Folder) (moment : D → 
             size = λ on. ap (λ (t : Stored). t.size) stored;
             reads = λ h on. reads-more honest folder moment since held between old now new rs r s.passed does h off;
             any_moment = λ h on. moments-more honest folder moment since held between old now new rs r s.passed does h;
-            kept = λ h on. kept-all honest folder moment since old new (rs ++ r ∷ []) (length (accepted start rs))
-                (let last = ap length (accepted-last start rs r) ∙ length-append (accepted start rs) (accepted_of (stored_after_all start rs) r) in omega (arith, last)) stored off means h;
+            kept = λ h on. kept-all honest folder moment since old new (rs ++ r ∷ []) (length (accepted_commands start rs))
+                (let last = ap length (accepted_commands-last start rs r) ∙ length-append (accepted_commands start rs) (accepted_command (stored_after_all start rs) r) in omega (arith, last)) stored off means h;
           }
 
       -- the piece has no answer that was written whole

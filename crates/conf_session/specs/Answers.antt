@@ -3,14 +3,14 @@ use Rattle.std.specs.Prelude.{◌≤◌, ℕ, ◌+◌, if◌then◌else◌, List
 use Rattle.std.specs.List.{concat}
 use Rattle.yaml_grammar.specs.Trees.{Tree, text, sequence, mapping, Elements, no_element, element, no_member, member}
 use Rattle.yaml_grammar.specs.Style.{style_text}
-use Rattle.yaml_laws.specs.Closed.{framed}
+use Rattle.yaml_laws.specs.Closed.{framed_text_bytes}
 use Rattle.yaml_docs.specs.declared.fault.ReadFault.{ReadFault}
 use Rattle.yaml_docs.specs.declared.fault.ReadFault.TheVariants as read
 use Rattle.tree_path.specs.declared.fault.PathFault.{PathFault}
 use Rattle.tree_path.specs.declared.fault.PathFault.TheVariants as path
 use Rattle.tree_path.specs.Paths.{at}
 use Rattle.tree_path.specs.Pointers.{path_of}
-use Rattle.conf_journal.specs.Store.{extended}
+use Rattle.conf_journal.specs.Store.{file_with_bytes}
 use Rattle.conf_record.specs.Commands.{Command}
 use Rattle.conf_record.specs.Names.{good_name}
 use Rattle.conf_record.specs.Limits.{IsState}
@@ -102,28 +102,28 @@ answer_limit = base_limit
 
 -- no answer on a state that keeps its limits is longer
 abbrev pub AnswersAreShort : Type 0
-AnswersAreShort = (now : Stored) (request : Request) → IsState now.state → length (framed (answer now request)) ≤ answer_limit
+AnswersAreShort = (now : Stored) (request : Request) → IsState now.state → length (framed_text_bytes (answer now request)) ≤ answer_limit
 
 -- ---- what is stored after a request
 
-abbrev pub changed : Stored → Command → Result Contents StoreFault → Stored
-changed now command (Ok new) = record { state = new; size = now.size + length (next_record now.state command) }
-changed now command (Err fault) = now
+abbrev pub stored_after_change : Stored → Command → Result Contents StoreFault → Stored
+stored_after_change now command (Ok new) = record { state = new; size = now.size + length (next_record now.state command) }
+stored_after_change now command (Err fault) = now
 
 abbrev pub stored_after : Stored → Request → Stored
-stored_after now (changing command) = changed now command (outcome now.size now.state command)
+stored_after now (changing command) = stored_after_change now command (outcome now.size now.state command)
 stored_after now checkpointing = record { state = now.state; size = length (base_bytes now.state) }
 stored_after now request = now
 
 -- ---- what `store.yaml` reads as after a request
 
-abbrev pub file_changed : Option (List ℕ) → Stored → Command → Result Contents StoreFault → Option (List ℕ)
-file_changed file now command (Ok new) = extended file (next_record now.state command)
-file_changed file now command (Err fault) = file
+abbrev pub file_after_change : Option (List ℕ) → Stored → Command → Result Contents StoreFault → Option (List ℕ)
+file_after_change file now command (Ok new) = file_with_bytes file (next_record now.state command)
+file_after_change file now command (Err fault) = file
 
 -- an accepted command appends its record, a checkpoint puts a base in the file's place, and all else leaves it
 abbrev pub file_after : Option (List ℕ) → Stored → Request → Option (List ℕ)
-file_after file now (changing command) = file_changed file now command (outcome now.size now.state command)
+file_after file now (changing command) = file_after_change file now command (outcome now.size now.state command)
 file_after file now checkpointing = Some (base_bytes now.state)
 file_after file now request = file
 
@@ -132,7 +132,7 @@ file_after file now request = file
 -- the bytes of each answer
 abbrev pub answers : Stored → List Request → List (List ℕ)
 answers now [] = []
-answers now (request ∷ requests) = framed (answer now request) ∷ answers (stored_after now request) requests
+answers now (request ∷ requests) = framed_text_bytes (answer now request) ∷ answers (stored_after now request) requests
 
 -- the bytes of all answers
 abbrev pub output : Stored → List Request → List ℕ
@@ -151,13 +151,13 @@ accepted_by (Ok new) command = command ∷ []
 accepted_by (Err fault) command = []
 
 -- the command of a request, if it is accepted
-abbrev pub accepted_of : Stored → Request → List Command
-accepted_of now (changing command) = accepted_by (outcome now.size now.state command) command
-accepted_of now request = []
+abbrev pub accepted_command : Stored → Request → List Command
+accepted_command now (changing command) = accepted_by (outcome now.size now.state command) command
+accepted_command now request = []
 
-abbrev pub accepted : Stored → List Request → List Command
-accepted now [] = []
-accepted now (request ∷ requests) = accepted_of now request ++ accepted (stored_after now request) requests
+abbrev pub accepted_commands : Stored → List Request → List Command
+accepted_commands now [] = []
+accepted_commands now (request ∷ requests) = accepted_command now request ++ accepted_commands (stored_after now request) requests
 
 abbrev pub is_refused : {A : Type 0} → Result A StoreFault → ℕ
 is_refused (Ok x) = 0

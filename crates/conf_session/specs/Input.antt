@@ -19,8 +19,8 @@ abbrev pub ahead : Input → List ℕ
 ahead input = slice_range input.chunk.items input.start input.end
 
 -- the piece, or what comes after the last one
-abbrev pub held : Input → List ℕ
-held input = input.cutter.bytes
+abbrev pub piece_or_rest : Input → List ℕ
+piece_or_rest input = input.cutter.bytes
 
 pub record IsSound (input : Input) : Type 0 where
   pub max : input.cutter.max ≡ piece_limit
@@ -38,23 +38,23 @@ pub record IsOverlong (bytes : List ℕ) : Type 0 where
 
 pub record FeedsPiece (old new : Input) : Type 0 where
   pub sound : IsSound new
-  pub joined : held old ++ ahead old ≡ held new ++ ahead new
-  pub piece : ClosesOnce (held new)
-  pub short : length (held new) ≤ piece_limit
+  pub joined : piece_or_rest old ++ ahead old ≡ piece_or_rest new ++ ahead new
+  pub piece : ClosesOnce (piece_or_rest new)
+  pub short : length (piece_or_rest new) ≤ piece_limit
   pub total : new.total ≡ old.total
 
 pub record FeedsAll (old new : Input) : Type 0 where
   pub sound : IsSound new
-  pub joined : held old ++ ahead old ≡ held new
+  pub joined : piece_or_rest old ++ ahead old ≡ piece_or_rest new
   pub used : ahead new ≡ []
-  pub unclosed : Unclosed (held new)
-  pub short : length (held new) ≤ piece_limit
+  pub unclosed : Unclosed (piece_or_rest new)
+  pub short : length (piece_or_rest new) ≤ piece_limit
   pub total : new.total ≡ old.total
 
 abbrev pub Feeds : Input → Input → Result Bool SessionFault → Type 0
 Feeds old new (Ok true) = FeedsPiece old new
 Feeds old new (Ok false) = FeedsAll old new
-Feeds old new (Err fault.TooLong) = IsOverlong (held old ++ ahead old)
+Feeds old new (Err fault.TooLong) = IsOverlong (piece_or_rest old ++ ahead old)
 Feeds old new (Err fault.OutOfMemory) = Unit {0}
 Feeds old new (Err fault) = ⊥
 
@@ -64,14 +64,14 @@ pub record FillsSome (given left : Option (List ℕ)) (old new : Input) : Type 0
   pub sound : IsSound new
   pub taken : Consumes given left (ahead new)
   pub some : 0 < length (ahead new)
-  pub held : held new ≡ held old
+  pub held : piece_or_rest new ≡ piece_or_rest old
   pub total : new.total ≡ old.total + length (ahead new)
 
 pub record FillsNone (given left : Option (List ℕ)) (old new : Input) : Type 0 where
   pub sound : IsSound new
   pub taken : Consumes given left []
   pub at_end : IsAtEnd left
-  pub held : held new ≡ held old
+  pub held : piece_or_rest new ≡ piece_or_rest old
   pub used : ahead new ≡ []
   pub total : new.total ≡ old.total
 
@@ -95,18 +95,18 @@ pub record AdvancesToPiece (given left : Option (List ℕ)) (old new : Input) : 
   pub more : List ℕ
   pub taken : Consumes given left more
   pub sound : IsSound new
-  pub joined : ahead old ++ more ≡ held new ++ ahead new
-  pub piece : ClosesOnce (held new)
-  pub short : length (held new) ≤ piece_limit
+  pub joined : ahead old ++ more ≡ piece_or_rest new ++ ahead new
+  pub piece : ClosesOnce (piece_or_rest new)
+  pub short : length (piece_or_rest new) ≤ piece_limit
   pub total : new.total ≡ old.total + length more
 
 pub record AdvancesToEnd (given left : Option (List ℕ)) (old new : Input) : Type 0 where
   pub more : List ℕ
   pub taken : Consumes given left more
   pub at_end : IsAtEnd left
-  pub joined : ahead old ++ more ≡ held new
-  pub unclosed : Unclosed (held new)
-  pub short : length (held new) ≤ piece_limit
+  pub joined : ahead old ++ more ≡ piece_or_rest new
+  pub unclosed : Unclosed (piece_or_rest new)
+  pub short : length (piece_or_rest new) ≤ piece_limit
   pub total : old.total + length more ≤ session_limit
 
 -- a read failed after an unclosed rest

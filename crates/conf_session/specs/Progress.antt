@@ -1,7 +1,7 @@
 -- Pieces that were performed and answered, one after the other.
 use Rattle.std.specs.Prelude.{◌≡◌, ◌≤◌, ◌<◌, ℕ, ◌+◌, ◌*◌, true, false, List, length, take, Option}
 use Rattle.std.specs.Io.KnownBytes.{Appends, Keeps}
-use Rattle.yaml_laws.specs.Closed.{framed}
+use Rattle.yaml_laws.specs.Closed.{framed_text_bytes}
 use Rattle.conf_disk.specs.Folder.{Folder, bytes_under}
 use Rattle.conf_disk.specs.Image.{Image}
 use Rattle.conf_disk.specs.Moments.{LeavesOnly}
@@ -10,7 +10,7 @@ use Rattle.conf_store.specs.Durable.{AfterPrefix}
 use Rattle.conf_store.specs.View.{StoreView}
 use Rattle.conf_session.specs.Input.{session_limit}
 use Rattle.conf_session.specs.Requests.{Request, Asks}
-use Rattle.conf_session.specs.Answers.{Stored, answer, answer_limit, output, stored_after_all, file_after_all, accepted, accepted_of, refusals, refused_of}
+use Rattle.conf_session.specs.Answers.{Stored, answer, answer_limit, output, stored_after_all, file_after_all, accepted_commands, accepted_command, refusals, refused_of}
 use Rattle.conf_session.specs.Runs.{stored_of}
 use Rattle.conf_session.specs.Replies.{Performs}
 use Rattle.conf_session.specs.declared.fault.SessionFault.{SessionFault}
@@ -20,7 +20,7 @@ use Rattle.conf_session.specs.declared.pieces.Counts.{Counts}
 -- what is counted of the requests; the rest is counted at the end
 pub record AreCounted (start : Stored) (requests : List Request) (counts : Counts) : Type 0 where
   pub documents : counts.tally.documents ≡ length requests
-  pub accepted : counts.tally.accepted ≡ length (accepted start requests)
+  pub accepted : counts.tally.accepted ≡ length (accepted_commands start requests)
   pub refused : counts.tally.refused ≡ refusals start requests
   pub written : counts.written ≡ length (output start requests)
 
@@ -31,21 +31,21 @@ pub record Passed {D : Type 0} (honest : Type 0) (folder : D → Folder) (moment
   pub sound : new.reopen ≡ false
   pub stored : stored_of new ≡ stored_after_all (stored_of old) requests
   pub reads : honest → bytes_under (folder new.disk) Store ≡ file_after_all (bytes_under (folder old.disk) Store) (stored_of old) requests
-  pub any_moment : honest → LeavesOnly moment since old.disk new.disk (λ image. AfterPrefix old.state (accepted (stored_of old) requests) image.store)
+  pub any_moment : honest → LeavesOnly moment since old.disk new.disk (λ image. AfterPrefix old.state (accepted_commands (stored_of old) requests) image.store)
 
 -- a piece is performed and its answer is written
 pub record Answered {D : Type 0} (honest : Type 0) (folder : D → Folder) (moment : D → ℕ) (since : D → ℕ → Image → Type 0)
     (held written : Option (List ℕ)) (old new : StoreView D) (piece : List ℕ) (before after : Counts) : Type 0 where
   pub request : Request
   pub asks : Asks piece request
-  pub out : Appends held written (framed (answer (stored_of old) request))
+  pub out : Appends held written (framed_text_bytes (answer (stored_of old) request))
   pub sound : new.reopen ≡ false
   pub performs : Performs honest folder moment since old new request
   pub documents : after.tally.documents ≡ before.tally.documents + 1
-  pub accepted : after.tally.accepted ≡ before.tally.accepted + length (accepted_of (stored_of old) request)
+  pub accepted : after.tally.accepted ≡ before.tally.accepted + length (accepted_command (stored_of old) request)
   pub refused : after.tally.refused ≡ before.tally.refused + refused_of (stored_of old) request
-  pub sent : after.written ≡ before.written + length (framed (answer (stored_of old) request))
-  pub short : length (framed (answer (stored_of old) request)) ≤ answer_limit
+  pub sent : after.written ≡ before.written + length (framed_text_bytes (answer (stored_of old) request))
+  pub short : length (framed_text_bytes (answer (stored_of old) request)) ≤ answer_limit
 
 -- what became of a piece whose answer is not written whole
 abbrev pub Fails : {D : Type 0} → Type 0 → (D → Folder) → (D → ℕ) → (D → ℕ → Image → Type 0) → Option (List ℕ) → Option (List ℕ) → StoreView D → StoreView D → List ℕ → ℕ → SessionFault → Type 0
@@ -54,9 +54,9 @@ Fails honest folder moment since held written old new piece sent fault.Device =
     (request : Request) × Asks piece request × (new.reopen ≡ true) × Performs honest folder moment since old new request × Keeps held written
 Fails honest folder moment since held written old new piece sent (fault.Write total) =
     (request : Request) × Asks piece request × (new.reopen ≡ false) × Performs honest folder moment since old new request
-    × (count : ℕ) × (total ≡ sent + count) × (count < length (framed (answer (stored_of old) request)))
-    × Appends held written (take count (framed (answer (stored_of old) request)))
-    × (length (framed (answer (stored_of old) request)) ≤ answer_limit)
+    × (count : ℕ) × (total ≡ sent + count) × (count < length (framed_text_bytes (answer (stored_of old) request)))
+    × Appends held written (take count (framed_text_bytes (answer (stored_of old) request)))
+    × (length (framed_text_bytes (answer (stored_of old) request)) ≤ answer_limit)
 Fails honest folder moment since held written old new piece sent fault = ⊥
 
 -- No count exceeds its type: there are no more pieces than bytes of the input, and an answer is no longer than allowed.

@@ -1,6 +1,6 @@
 -- What the code's requests and replies are, and what one request does.
 use Rattle.std.specs.Prelude.{◌≡◌, ◌≤◌, ℕ, true, false, List, codes, length, string_bytes, Result, Ok, Err}
-use Rattle.yaml_laws.specs.Closed.{framed}
+use Rattle.yaml_laws.specs.Closed.{framed_text_bytes}
 use Rattle.conf_disk.specs.Folder.{Folder, bytes_under}
 use Rattle.conf_disk.specs.Image.{Image}
 use Rattle.conf_disk.specs.Moments.{LeavesOnly}
@@ -9,7 +9,7 @@ use Rattle.conf_record.specs.Commands.{command_of, text_of}
 use Rattle.conf_store.specs.Durable.{AfterPrefix}
 use Rattle.conf_store.specs.View.{StoreView}
 use Rattle.conf_session.specs.Requests.{Said, import_text, change, get_at, export_of, all_names, checkpoint_now, nothing, Request, changing, checkpointing, MeansRequest, Asks}
-use Rattle.conf_session.specs.Answers.{Stored, answer, answer_limit, refusal, word, stored_after, file_after, accepted_of, refused_of}
+use Rattle.conf_session.specs.Answers.{Stored, answer, answer_limit, refusal, word, stored_after, file_after, accepted_command, refused_of}
 use Rattle.conf_session.specs.Runs.{stored_of}
 use Rattle.conf_session.specs.declared.said.Said as code
 use Rattle.conf_session.specs.declared.said.Said.TheVariants as code_said
@@ -36,8 +36,8 @@ OnlyReads request = Unit {0}
 abbrev pub reply_bytes : Reply → List ℕ
 reply_bytes (Accepted text) = string_bytes text
 reply_bytes (Done text) = string_bytes text
-reply_bytes (Refused fault) = framed (refusal (word fault))
-reply_bytes NoCommand = framed (refusal (codes "BadCommand"))
+reply_bytes (Refused fault) = framed_text_bytes (refusal (word fault))
+reply_bytes NoCommand = framed_text_bytes (refusal (codes "BadCommand"))
 
 -- how many commands a reply accepts, and how many it refuses
 abbrev pub accepts : Reply → ℕ
@@ -49,19 +49,20 @@ refuses (Refused fault) = 1
 refuses NoCommand = 1
 refuses reply = 0
 
--- A request is performed: the state, the size and the file are those after it, and a crash leaves the state before it or after it.
+-- A request is performed: the state, the size and the file are those after it, and a crash leaves the state before it
+-- or after it.
 pub record Performs {D : Type 0} (honest : Type 0) (folder : D → Folder) (moment : D → ℕ) (since : D → ℕ → Image → Type 0) (old new : StoreView D) (request : Request) : Type 0 where
   pub state : new.state ≡ (stored_after (stored_of old) request).state
   pub size : new.reopen ≡ false → new.size ≡ (stored_after (stored_of old) request).size
   pub reads : honest → new.reopen ≡ false → bytes_under (folder new.disk) Store ≡ file_after (bytes_under (folder old.disk) Store) (stored_of old) request
-  pub any_moment : honest → LeavesOnly moment since old.disk new.disk (λ image. AfterPrefix old.state (accepted_of (stored_of old) request) image.store)
+  pub any_moment : honest → LeavesOnly moment since old.disk new.disk (λ image. AfterPrefix old.state (accepted_command (stored_of old) request) image.store)
 
 -- the answer to the request
 pub record Replies (now : Stored) (request : Request) (reply : Reply) : Type 0 where
-  pub bytes : reply_bytes reply ≡ framed (answer now request)
-  pub accepted : accepts reply ≡ length (accepted_of now request)
+  pub bytes : reply_bytes reply ≡ framed_text_bytes (answer now request)
+  pub accepted : accepts reply ≡ length (accepted_command now request)
   pub refused : refuses reply ≡ refused_of now request
-  pub short : length (framed (answer now request)) ≤ answer_limit
+  pub short : length (framed_text_bytes (answer now request)) ≤ answer_limit
 
 -- what became of a request
 abbrev pub Did : {D : Type 0} → Type 0 → (D → Folder) → (D → ℕ) → (D → ℕ → Image → Type 0) → StoreView D → StoreView D → Request → Result Reply SessionFault → Type 0

@@ -15,7 +15,7 @@ use Rattle.conf_store.specs.Durable.{AfterPrefix}
 use Rattle.conf_store.specs.View.{StoreView}
 use Rattle.conf_session.specs.Input.{piece_limit, session_limit, IsOverlong}
 use Rattle.conf_session.specs.Requests.{Request, AllAsk}
-use Rattle.conf_session.specs.Answers.{Stored, answer_limit, output, stored_after_all, file_after_all, accepted, refusals}
+use Rattle.conf_session.specs.Answers.{Stored, answer_limit, output, stored_after_all, file_after_all, accepted_commands, refusals}
 use Rattle.conf_session.specs.declared.fault.SessionFault.{SessionFault}
 use Rattle.conf_session.specs.declared.fault.SessionFault.TheVariants as fault
 use Rattle.conf_session.specs.declared.session.Tally.{Tally}
@@ -74,7 +74,7 @@ pub record EndsWell (given left held written : Option (List ℕ)) (start : Store
   pub all : performed ≡ answered
   pub out : Appends held written (output start answered)
   pub documents : tally.documents ≡ length answered
-  pub accepted : tally.accepted ≡ length (accepted start answered)
+  pub accepted : tally.accepted ≡ length (accepted_commands start answered)
   pub refused : tally.refused ≡ refusals start answered
   pub unclosed : tally.rest ≡ length rest
 
@@ -86,8 +86,8 @@ pub record EndsInInput (given left held written : Option (List ℕ)) (start : St
   pub all : performed ≡ answered
   pub out : Appends held written (output start answered)
 
--- Exactly so many bytes of the answers were written, at most the limit of an answer for each piece. The first piece whose answer was not
--- written whole is performed, and none after it.
+-- Exactly so many bytes of the answers were written, at most the limit of an answer for each piece. The first piece
+-- whose answer was not written whole is performed, and none after it.
 pub record EndsInOutput (given left held written : Option (List ℕ)) (start : Stored) (answered performed : List Request) (count : ℕ) : Type 0 where
   pub bytes : List ℕ
   pub taken : Consumes given left bytes
@@ -127,8 +127,8 @@ pub record AfterAtLeast (s : Contents) (least : ℕ) (commands : List Command) (
   pub leads : after s (take count commands) ≡ Ok state
   pub means : FileMeans store state
 
--- A run from one value of a store to the next. `given` and `left` are the bytes that the reader has before and after it, `held` and `written`
--- those that the writer has, where they are known.
+-- A run from one value of a store to the next. `given` and `left` are the bytes that the reader has before and after
+-- it, `held` and `written` those that the writer has, where they are known.
 pub record Runs {D : Type 0} (honest : Type 0) (folder : D → Folder) (moment : D → ℕ) (since : D → ℕ → Image → Type 0)
     (given left held written : Option (List ℕ)) (old new : StoreView D) (result : Result Tally SessionFault) : Type 0 where
   pub answered : List Request
@@ -141,7 +141,7 @@ pub record Runs {D : Type 0} (honest : Type 0) (folder : D → Folder) (moment :
       → bytes_under (folder new.disk) Store ≡ file_after_all (bytes_under (folder old.disk) Store) (stored_of old) performed
   -- a crash at any moment leaves the state after a prefix of the accepted commands
   pub any_moment : honest → old.reopen ≡ false
-      → LeavesOnly moment since old.disk new.disk (λ image. AfterPrefix old.state (accepted (stored_of old) performed) image.store)
+      → LeavesOnly moment since old.disk new.disk (λ image. AfterPrefix old.state (accepted_commands (stored_of old) performed) image.store)
   -- and a crash after the run leaves one that has every command that was answered
   pub kept : honest → old.reopen ≡ false → (image : Image) → IsImage (folder new.disk) image
-      → AfterAtLeast old.state (length (accepted (stored_of old) answered)) (accepted (stored_of old) performed) image.store
+      → AfterAtLeast old.state (length (accepted_commands (stored_of old) answered)) (accepted_commands (stored_of old) performed) image.store

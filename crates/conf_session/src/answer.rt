@@ -2,7 +2,7 @@
 ghost use Rattle.std.specs.Prelude.{◌≡◌, ◌≤◌, IfOk, OnOk, string_bytes, decimal, codes};
 ghost use Rattle.std.specs.Str.{chars};
 ghost use Rattle.yaml_grammar.specs.Trees.{depth, text};
-ghost use Rattle.yaml_laws.specs.Closed.{framed, framed_text};
+ghost use Rattle.yaml_laws.specs.Closed.{framed_text_bytes, framed_text};
 ghost use Rattle.yaml_tree.specs.Seen.{tree_of};
 ghost use Rattle.conf_session.specs.Requests.{getting, exporting, naming};
 ghost use Rattle.conf_session.specs.Answers.{one};
@@ -23,7 +23,7 @@ use yaml_tree::{Sink, Tree, write_key, write_value};
 fn answer(alloc: Global, key: &str, value: &Tree) -> Result<String, AllocError>
     requires { depth (tree_of value.now) ≤ 66 }
     ensures { IfOk result (λ text. string_bytes text
-        ≡ framed (one (chars key.now) (tree_of value.now))) }
+        ≡ framed_text_bytes (one (chars key.now) (tree_of value.now))) }
 {
     let mut text = String::new(alloc);
     write_answer(key, value, &mut text)?;
@@ -45,7 +45,7 @@ fn write_answer<S: Sink>(key: &str, value: &Tree, sink: &mut S) -> Result<(), S:
 /// The answer to an accepted command or a checkpoint: the count.
 pub fn count_answer(alloc: Global, count: u64) -> Result<String, AllocError>
     ensures { IfOk result (λ reply.
-        string_bytes reply ≡ framed (one (codes "ok") (text (decimal count)))) }
+        string_bytes reply ≡ framed_text_bytes (one (codes "ok") (text (decimal count)))) }
 {
     let mut digits = Buffer::new();
     let count = Tree::Text(String::from_str(alloc, digits.format(count))?);

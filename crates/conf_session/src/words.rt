@@ -1,6 +1,6 @@
 // The answers to refused requests. They take no memory.
 ghost use Rattle.std.specs.Prelude.{◌≡◌};
-ghost use Rattle.yaml_laws.specs.Closed.{framed};
+ghost use Rattle.yaml_laws.specs.Closed.{framed_text_bytes};
 ghost use Rattle.conf_session.specs.Answers.{refusal, word, read_word, path_word};
 
 use conf_record::StoreFault;
@@ -9,7 +9,7 @@ use yaml_tree::ReadFault;
 
 /// The answer to an import whose text is refused.
 fn read_refusal(fault: ReadFault) -> &'static [u8]
-    ensures { result.now ≡ framed (refusal (read_word fault)) }
+    ensures { result.now ≡ framed_text_bytes (refusal (read_word fault)) }
 {
     match fault {
         ReadFault::TooLong => b"---\nrefused: TooLong\n...\n",
@@ -26,7 +26,7 @@ fn read_refusal(fault: ReadFault) -> &'static [u8]
 
 /// The answer to a request whose path is refused.
 fn path_refusal(fault: PathFault) -> &'static [u8]
-    ensures { result.now ≡ framed (refusal (path_word fault)) }
+    ensures { result.now ≡ framed_text_bytes (refusal (path_word fault)) }
 {
     match fault {
         PathFault::BadPath { .. } => b"---\nrefused: BadPath\n...\n",
@@ -38,7 +38,7 @@ fn path_refusal(fault: PathFault) -> &'static [u8]
 
 /// The answer to a refused request.
 pub fn refusal_bytes(fault: StoreFault) -> &'static [u8]
-    ensures { result.now ≡ framed (refusal (word fault)) }
+    ensures { result.now ≡ framed_text_bytes (refusal (word fault)) }
 {
     match fault {
         StoreFault::Path(fault) => path_refusal(fault),

@@ -19,8 +19,8 @@ pub const ANSWERS: &[u8] =
     b"---\nok: \"1\"\n...\n---\nok: \"2\"\n...\n---\ntext: |\n  port: \"81\"\n...\n\
 ---\nok: \"3\"\n...\n---\nrefused: NoConfig\n...\n---\nnames: []\n...\n";
 
-/// What a command leaves: the end of its bytes among those of the commands, the end of its answer among those of the
-/// answers, the count, and the commands refused so far.
+/// What a command leaves: the ends of its bytes and of its answer among those of all commands and all answers, the
+/// count, and the commands refused so far.
 #[derive(Clone, Copy)]
 pub struct Step {
     pub read: usize,

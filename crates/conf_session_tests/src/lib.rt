@@ -1,6 +1,6 @@
-//! Tests of sessions in which something fails: a disk in memory with each of its calls failing in turn, readers that
-//! end or fail after each byte, and writers that take no more after each byte. Each time the fault, the answers and
-//! the state that is left are known from the worked session in `fixture`.
+//! Tests of sessions in which something fails. Each call of a disk in memory fails in turn. Readers end or fail after
+//! each byte, and writers take no more after each byte. Each time the fault, the answers and the state that is left are
+//! known from the worked session in `fixture`.
 #![tactic(auto)]
 
 #[cfg(test)]

@@ -49,6 +49,7 @@ after-prefix s end (c ∷ cs) (suc k) leads =
     let more = after-prefix first.0 end cs k first.2 in
     (more.0, ap (λ r. and_then r (λ t. after t (take k cs))) first.1 ∙ more.1)
 
+-- commands that lead on from where others lead to are one list of commands
 pub after-joined : (s mid end : Contents) (first second : List Command) → after s first ≡ Ok mid → after mid second ≡ Ok end → after s (first ++ second) ≡ Ok end
 after-joined s mid end first second one two =
     after-append s first second ∙ ap (λ r. and_then r (λ between. after between second)) one ∙ two
@@ -71,6 +72,7 @@ pieces-mean-more pieces more s end commands mean are_records leads =
       leads = after-joined mean.start s end mean.commands commands mean.leads leads;
     }
 
+-- a base alone means its state
 pub base-means : (base : List ℕ) (s : Contents) → IsBase base s → PiecesMean (base ∷ []) s
 base-means base s is = record { base = base; records = []; are = refl; start = s; is_base = is; commands = []; are_records = tt; leads = refl }
 
@@ -91,9 +93,11 @@ one-list count one (p ∷ ps) (c ∷ cs) (d ∷ ds) first second =
     let rest = one-list (count + 1) one ps cs ds first.1 second.1 in
     λ i. same.0 i ∷ rest i
 
+-- a result is one state at most
 pub ok-same : (s end : Contents) (r : Result Contents StoreFault) → r ≡ Ok s → r ≡ Ok end → s ≡ end
 ok-same s end r first second = cc
 
+-- pieces mean one state at most
 pub pieces-mean-one : OneBase → OneRecord → (pieces : List (List ℕ)) (s end : Contents) → PiecesMean pieces s → PiecesMean pieces end → s ≡ end
 pieces-mean-one one_base one_record pieces s end first second =
     let same : first.base ∷ first.records ≡ second.base ∷ second.records = sym first.are ∙ second.are in
@@ -113,12 +117,15 @@ means-one one_pieces one_base one_record bytes s end first second =
 
 -- ---- files without a rest
 
+-- a whole store means its state, if it is within the limit
 pub whole-means : (bytes : List ℕ) (s : Contents) → IsWholeStore bytes s → length bytes ≤ store_limit → Means bytes s
 whole-means bytes s whole short = record { short = short; pieces = whole.pieces; rest = []; cut = whole.cut; mean = whole.mean }
 
+-- a base that closes once is a whole store
 pub base-whole : (base : List ℕ) (s : Contents) → ClosesOnce base → IsBase base s → IsWholeStore base s
 base-whole base s closes is = record { pieces = base ∷ []; cut = pieces-one base closes; mean = base-means base s is }
 
+-- a whole store and the record of the next command are a whole store
 pub record-whole : (bytes piece : List ℕ) (s end : Contents) (command : Command) → IsWholeStore bytes s → ClosesOnce piece → IsRecord piece command (s.count + 1)
     → step s command true ≡ Ok end → IsWholeStore (bytes ++ piece) end
 record-whole bytes piece s end command whole closes is done = record {
@@ -142,6 +149,7 @@ torn-length file bytes torn =
       length-take torn.keep file.pending,
     )
 
+-- a journal that a crash has cut means the state after a prefix of its commands
 pub journal-left : RecordsTear → (file : File) (flushed end : Contents) (since : List Command) (bytes : List ℕ) → IsJournal file flushed since end → IsTorn file bytes
     → AfterPrefix flushed since (Some bytes)
 journal-left tear file flushed end since bytes journal torn =
@@ -171,6 +179,7 @@ take-none : (k : ℕ) → let none : List Command = [] in take k none ≡ none
 take-none zero = refl
 take-none (suc k) = refl
 
+-- the state after one command is the one after a list of it
 pub after-done : (s end : Contents) (command : Command) → step s command true ≡ Ok end → after s (command ∷ []) ≡ Ok end
 after-done s end command done = ap (λ r. and_then r (λ t. after t [])) done
 

@@ -45,6 +45,7 @@ record-length command n small =
       byte_len-append (scalar_lines 2 (decimal n)) further,
     )
 
+-- the measured length of a command's record is its length
 pub record-measured : (s : Contents) (command : Command) → s.count ≤ count_limit → length (next_record s command) ≡ length (record_bytes command (s.count + 1))
 record-measured s command within = elim (cases_lt s.count count_limit) [
   | inl less ↦ (let same : next_number s ≡ s.count + 1 = omega (arith, less) in ap (λ n. length (record_bytes command n)) same)

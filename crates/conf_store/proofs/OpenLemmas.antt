@@ -29,10 +29,12 @@ use Rattle.conf_store.proofs.RecoveryLemmas.{recovers-means, recovers-whole}
 
 -- ---- what is found
 
+-- a store that is too long is refused as none
 pub too-long : (store : Option (List ℕ)) → Tells store store_limit TooLong → RefusesOpening NotAStore store
 too-long None tells = absurd tells
 too-long (Some bytes) tells = inl tells
 
+-- a store whose bytes are refused is refused
 pub not-read : (store : Option (List ℕ)) (read : Vec ℕ Global) (fault : OpenFault) → Tells store store_limit (Bytes read) → RefusesBytes read.items fault → RefusesOpening fault store
 not-read None read fault tells unread = absurd tells
 not-read (Some bytes) read NotAStore tells unread = inr (subst HasNoBase tells.0 unread)
@@ -40,6 +42,7 @@ not-read (Some bytes) read (Damaged number) tells unread = subst (λ b. RefusesB
 not-read (Some bytes) read Device tells unread = tt
 not-read (Some bytes) read OutOfMemory tells unread = tt
 
+-- where there is no store, the empty state is found
 pub found-missing : (store : Option (List ℕ)) → Tells store store_limit Missing → IsFound store empty_state 0 0 None
 found-missing (Some bytes) tells = absurd tells
 found-missing None tells = record {
@@ -49,6 +52,7 @@ found-missing None tells = record {
   short = λ bytes e. absurd (cc e);
 }
 
+-- where a store's bytes give a state, that state is found
 pub found-bytes : (store : Option (List ℕ)) (read : Vec ℕ Global) (s : Contents) (records dropped : ℕ) (size : Option ℕ) → Tells store store_limit (Bytes read) → RecoversTo read.items s records dropped
     → ((n : ℕ) → size ≡ Some n → (dropped ≡ 0) × (length read.items ≡ n)) → (size ≡ None → dropped ≢ 0) → IsFound store s records dropped size
 found-bytes None read s records dropped size tells recovers stays staged = absurd tells
@@ -59,6 +63,7 @@ found-bytes (Some bytes) read s records dropped size tells recovers stays staged
   short = λ b e. (let same : bytes ≡ b = cc e in subst (λ l. length l ≤ store_limit) same tells.1);
 }
 
+-- the state that is found is the one that the file means
 pub found-means : (store : Option (List ℕ)) (s : Contents) (records dropped : ℕ) (size : Option ℕ) → IsFound store s records dropped size → FileMeans store s
 found-means None s records dropped size found = found.recovers.0
 found-means (Some bytes) s records dropped size found = recovers-means bytes s records dropped found.recovers (found.short bytes refl)
@@ -93,6 +98,7 @@ both-mean one_pieces one_base one_record store other s first second end = (
 same-alike : (store other : Option (List ℕ)) → store ≡ other → MeanTheSame store other
 same-alike store other e = λ s. (λ is. subst (λ o. FileMeans o s) e is, λ is. subst (λ o. FileMeans o s) (sym e) is)
 
+-- an image of the folder at the entry is one that means what it means
 pub image-meant : (folder : Folder) (image : Image) → IsImage folder image → MeantAtEntry folder image.store
 image-meant folder image is = record { entry = image; is = is; alike = same-alike image.store image.store refl }
 
@@ -114,6 +120,7 @@ state-meant one_pieces one_base one_record reading entry s records dropped size 
 
 -- ---- a file that is refused
 
+-- a store that is refused means nothing, by the law on its bytes
 pub refused-nothing : RefusedMeansNothing → (fault : OpenFault) (store : Option (List ℕ)) → RefusesOpening fault store → RefusalMeans fault store
 refused-nothing nothing Device store refused = tt
 refused-nothing nothing OutOfMemory store refused = tt
@@ -125,6 +132,7 @@ refused-nothing nothing (Damaged number) (Some bytes) damaged = λ s means. (not
 
 -- ---- failures
 
+-- a failure in the first part of a run is one of the whole run
 pub failed-later : (old mid new : ℕ) → old ≤ mid → mid ≤ new → HasFailed mid new → HasFailed old new
 failed-later old mid new first second (inl rose) = inl (omega (arith, first, rose))
 failed-later old mid new first second (inr stood) = elim (cases_lt old mid) [
@@ -134,11 +142,13 @@ failed-later old mid new first second (inr stood) = elim (cases_lt old mid) [
 
 -- ---- what `store.yaml` holds after opening
 
+-- a store that is kept reads as it did
 pub reads-stays : (store now : Option (List ℕ)) (s : Contents) (records dropped n : ℕ) (size : Option ℕ) → IsFound store s records dropped size → size ≡ Some n → now ≡ store → ReadsAfterOpening store s dropped now
 reads-stays None now s records dropped n size found is same = (let stays = found.stays n is in absurd (cc stays.2))
 reads-stays (Some bytes) now s records zero n size found is same = same
 reads-stays (Some bytes) now s records (suc dropped) n size found is same = (let none : suc dropped ≡ 0 = (found.stays n is).0 in absurd (omega (arith, none)))
 
+-- a store that is put in place of the old one reads as the base of the state that was found
 pub reads-staged : (store now : Option (List ℕ)) (s : Contents) (records dropped : ℕ) (size : Option ℕ) → IsFound store s records dropped size → size ≡ None → now ≡ Some (base_bytes s) → ReadsAfterOpening store s dropped now
 reads-staged None now s records dropped size found is same = same
 reads-staged (Some bytes) now s records (suc dropped) size found is same = same
@@ -146,14 +156,17 @@ reads-staged (Some bytes) now s records zero size found is same = absurd (⊎_el
 
 -- ---- faults of the disk
 
-pub disk-refused : (fault : DiskFault) (told : OpenFault) (file : Option (List ℕ)) → told ≡ open_fault fault → RefusesOpening told file
-disk-refused disk.Device told file is = subst (λ f. RefusesOpening f file) (sym is) tt
-disk-refused disk.OutOfMemory told file is = subst (λ f. RefusesOpening f file) (sym is) tt
+-- a fault of the disk is a reason to refuse the opening
+pub disk-refused : (fault : DiskFault) (reason : OpenFault) (file : Option (List ℕ)) → reason ≡ open_fault fault → RefusesOpening reason file
+disk-refused disk.Device reason file is = subst (λ f. RefusesOpening f file) (sym is) tt
+disk-refused disk.OutOfMemory reason file is = subst (λ f. RefusesOpening f file) (sym is) tt
 
-pub disk-no-meaning : (fault : DiskFault) (told : OpenFault) (file : Option (List ℕ)) → told ≡ open_fault fault → RefusalMeans told file
-disk-no-meaning disk.Device told file is = subst (λ f. RefusalMeans f file) (sym is) tt
-disk-no-meaning disk.OutOfMemory told file is = subst (λ f. RefusalMeans f file) (sym is) tt
+-- a fault of the disk says nothing of what the file means
+pub disk-no-meaning : (fault : DiskFault) (reason : OpenFault) (file : Option (List ℕ)) → reason ≡ open_fault fault → RefusalMeans reason file
+disk-no-meaning disk.Device reason file is = subst (λ f. RefusalMeans f file) (sym is) tt
+disk-no-meaning disk.OutOfMemory reason file is = subst (λ f. RefusalMeans f file) (sym is) tt
 
+-- `Device` comes only from the disk's `Device`
 pub disk-device : (fault : DiskFault) → open_fault fault ≡ Device → fault ≡ disk.Device
 disk-device disk.Device is = refl
 disk-device disk.OutOfMemory is = absurd (cc is)

@@ -36,6 +36,7 @@ first-piece piece_between bytes place starts next =
     let whole : place - 0 ≡ place = omega arith in
     subst (λ n. SoFar bytes place (take n bytes ∷ [])) whole (further-piece piece_between bytes 0 place [] starts next (nothing-so_far bytes))
 
+-- after the base, its state was read
 pub first-read : PieceBetween → (bytes : List ℕ) (place : ℕ) (s : Contents) → StartsLine bytes 0 → IsNextClosing bytes 0 place → IsBase (take place bytes) s → ReadSoFar bytes place s 0
 first-read piece_between bytes place s starts next is = record {
   pieces = take place bytes ∷ [];
@@ -44,6 +45,7 @@ first-read piece_between bytes place s starts next is = record {
   counted = refl;
 }
 
+-- after one more record, the state after its command was read
 pub next-read : PieceBetween → (bytes : List ℕ) (at place : ℕ) (s end : Contents) (records : ℕ) (command : Command) → StartsLine bytes at → IsNextClosing bytes at place
     → ReadSoFar bytes at s records → IsRecord (slice_range bytes at place) command (s.count + 1) → step s command true ≡ Ok end → ReadSoFar bytes place end (records + 1)
 next-read piece_between bytes at place s end records command starts next read is done =
@@ -55,6 +57,7 @@ next-read piece_between bytes at place s end records command starts next read is
       counted = length-append read.pieces (piece ∷ []) ∙ omega (arith, read.counted);
     }
 
+-- where no closing line follows, the bytes give the state so far
 pub all-read : RestUnclosed → (bytes : List ℕ) (at : ℕ) (s : Contents) (records : ℕ) → StartsLine bytes at → NoClosingAfter bytes at → ReadSoFar bytes at s records
     → (dropped : ℕ) → length (drop at bytes) ≡ dropped → RecoversTo bytes s records dropped
 all-read rest_unclosed bytes at s records starts none read dropped after = record {
@@ -77,6 +80,7 @@ pieces-all some bytes at pieces so_far =
     let all = pieces-joined (take at bytes) (drop at bytes) pieces left.0 left.1 prefix left.2 in
     (left.0, left.1, subst (λ b. Pieces b (pieces ++ left.0) left.1) (take-append-drop at bytes) all)
 
+-- where there is no closing line at all, there is no base
 pub no-closing-no-base : RestUnclosed → (bytes : List ℕ) → StartsLine bytes 0 → NoClosingAfter bytes 0 → HasNoBase bytes
 no-closing-no-base rest_unclosed bytes starts none = record {
   pieces = [];
@@ -85,6 +89,7 @@ no-closing-no-base rest_unclosed bytes starts none = record {
   none = λ base records s is is_base. absurd (cc is);
 }
 
+-- where the first piece is no base, there is none
 pub first-no-base : PieceBetween → SomePieces → (bytes : List ℕ) (place : ℕ) → StartsLine bytes 0 → IsNextClosing bytes 0 place → IsNoBase (take place bytes) → HasNoBase bytes
 first-no-base piece_between some bytes place starts next no_base =
     let first = first-piece piece_between bytes place starts next in
@@ -96,6 +101,7 @@ first-no-base piece_between some bytes place starts next no_base =
       none = λ base records s is is_base. (let same : base ≡ take place bytes = cc is in no_base s (subst (λ b. IsBase b s) same is_base));
     }
 
+-- where a later piece is no next record, the bytes are damaged there
 pub read-damaged : PieceBetween → SomePieces → (bytes : List ℕ) (at place : ℕ) (s : Contents) (records : ℕ) → StartsLine bytes at → IsNextClosing bytes at place
     → ReadSoFar bytes at s records → IsNoNextRecord (slice_range bytes at place) s → IsDamaged bytes (records + 1)
 read-damaged piece_between some bytes at place s records starts next read wrong =
@@ -116,6 +122,7 @@ read-damaged piece_between some bytes at place s records starts next read wrong 
 
 -- ---- pieces that are no next record
 
+-- the record of a command that the state refuses is no next record
 pub no-next-refused : OneRecord → (piece : List ℕ) (s : Contents) (command : Command) (number : ℕ) (fault : StoreFault) → IsRecord piece command number
     → step s command true ≡ Err fault → IsNoNextRecord piece s
 no-next-refused one_record piece s command number fault is refused new next =
@@ -124,8 +131,9 @@ no-next-refused one_record piece s command number fault is refused new next =
     let both : Err fault ≡ Ok new = sym refused ∙ done in
     absurd (cc both)
 
-pub no-next-numbered : OneRecord → (piece : List ℕ) (s : Contents) (command : Command) (told : ℕ) → IsRecord piece command told → (told ≡ s.count + 1 → ⊥) → IsNoNextRecord piece s
-no-next-numbered one_record piece s command told is other new next = other (sym (one_record piece command next.0 told (s.count + 1) is next.1).1)
+-- a record under another number than the next is no next record
+pub no-next-numbered : OneRecord → (piece : List ℕ) (s : Contents) (command : Command) (number : ℕ) → IsRecord piece command number → (number ≡ s.count + 1 → ⊥) → IsNoNextRecord piece s
+no-next-numbered one_record piece s command number is other new next = other (sym (one_record piece command next.0 number (s.count + 1) is next.1).1)
 
 -- why reading ends at a piece
 pub unread : PieceBetween → SomePieces → (bytes : List ℕ) (at place : ℕ) (s : Contents) (records : ℕ) (fault : OpenFault) → StartsLine bytes at → IsNextClosing bytes at place
@@ -154,6 +162,7 @@ first-wrong one n (p ∷ ps) further bad (c ∷ cs) (d ∷ ds) from s end count 
     let next : first.0.count ≡ n + 1 = after-count from first.0 (c ∷ []) (after-done from first.0 c first.1) ∙ ap (λ m. m + 1) count in
     first-wrong one (n + 1) ps further bad cs ds first.0 s end next are.1 own.1 first.2 (ap (λ t. after t ds) mids ∙ other.2)
 
+-- damaged bytes mean no state
 pub damaged-nothing : OnePieces → OneBase → OneRecord → (bytes : List ℕ) (number : ℕ) (end : Contents) → IsDamaged bytes number → Means bytes end → ⊥
 damaged-nothing one_pieces one_base one_record bytes number end damaged means =
     let same : means.pieces ≡ damaged.pieces ++ (damaged.bad ∷ damaged.further) =
@@ -171,14 +180,17 @@ damaged-nothing one_pieces one_base one_record bytes number end damaged means =
     let next = first-wrong one_record own.start.count own.records damaged.further damaged.bad all.commands own.commands own.start damaged.s end refl are_records own.are_records leads own.leads in
     damaged.wrong next.0 next.1
 
+-- bytes without a base mean no state
 pub no-base-nothing : OnePieces → (bytes : List ℕ) (end : Contents) → HasNoBase bytes → Means bytes end → ⊥
 no-base-nothing one_pieces bytes end none means =
     let same = (one_pieces bytes none.pieces means.pieces none.rest means.rest none.cut means.cut).0 in
     none.none means.mean.base means.mean.records means.mean.start (same ∙ means.mean.are) means.mean.is_base
 
+-- the state that is recovered is the one that the bytes mean
 pub recovers-means : (bytes : List ℕ) (s : Contents) (records dropped : ℕ) → RecoversTo bytes s records dropped → length bytes ≤ store_limit → Means bytes s
 recovers-means bytes s records dropped r short = record { short = short; pieces = r.pieces; rest = r.rest; cut = r.cut; mean = r.mean }
 
+-- where nothing was dropped, the bytes are a whole store
 pub recovers-whole : (bytes : List ℕ) (s : Contents) (records dropped : ℕ) → RecoversTo bytes s records dropped → dropped ≡ 0 → IsWholeStore bytes s
 recovers-whole bytes s records dropped r none =
     let empty : r.rest ≡ [] = length-none r.rest (r.after ∙ none) in

@@ -14,31 +14,32 @@ use Rattle.conf_store.specs.Calls.{outcome, RefusesCommand}
 abbrev pub StepsRefuse : Type 0
 StepsRefuse = (s : Contents) (command : Command) (fits : Bool) (fault : StoreFault) → step s command fits ≡ Err fault → IsRefusal fault
 
+-- a fault with which a step refuses is one of the state
 pub of-state : StepsRefuse → (s : Contents) (command : Command) (fits : Bool) (fault : StoreFault) → (fault ≡ OutOfMemory) ⊎ (step s command fits ≡ Err fault) → IsOfState fault
 of-state refuse s command fits fault (inl memory) = (λ same. cc (memory, same), λ same. cc (memory, same))
 of-state refuse s command fits fault (inr e) = (λ same. subst IsRefusal same (refuse s command fits fault e), λ same. subst IsRefusal same (refuse s command fits fault e))
 
 -- and a store returns that fault
-pub told-refused : {D : Type 0} (old new : StoreView D) (command : Command) (fault : StoreFault) → IsOfState fault → (fault ≡ OutOfMemory) ⊎ (outcome old.size old.state command ≡ Err fault)
+pub refusal-returned : {D : Type 0} (old new : StoreView D) (command : Command) (fault : StoreFault) → IsOfState fault → (fault ≡ OutOfMemory) ⊎ (outcome old.size old.state command ≡ Err fault)
     → RefusesCommand old command new fault
-told-refused old new command Reopen own is = tt
-told-refused old new command Device own is = absurd (own.1 refl)
-told-refused old new command OutOfMemory own is = tt
-told-refused old new command BadName own (inr e) = e
-told-refused old new command NoConfig own (inr e) = e
-told-refused old new command (Path fault) own (inr e) = e
-told-refused old new command (Read fault) own (inr e) = e
-told-refused old new command TooDeep own (inr e) = e
-told-refused old new command ConfigLarge own (inr e) = e
-told-refused old new command StoreFull own (inr e) = e
-told-refused old new command JournalLong own (inr e) = e
-told-refused old new command CountFull own (inr e) = e
-told-refused old new command BadName own (inl memory) = absurd (cc memory)
-told-refused old new command NoConfig own (inl memory) = absurd (cc memory)
-told-refused old new command (Path fault) own (inl memory) = absurd (cc memory)
-told-refused old new command (Read fault) own (inl memory) = absurd (cc memory)
-told-refused old new command TooDeep own (inl memory) = absurd (cc memory)
-told-refused old new command ConfigLarge own (inl memory) = absurd (cc memory)
-told-refused old new command StoreFull own (inl memory) = absurd (cc memory)
-told-refused old new command JournalLong own (inl memory) = absurd (cc memory)
-told-refused old new command CountFull own (inl memory) = absurd (cc memory)
+refusal-returned old new command Reopen own is = tt
+refusal-returned old new command Device own is = absurd (own.1 refl)
+refusal-returned old new command OutOfMemory own is = tt
+refusal-returned old new command BadName own (inr e) = e
+refusal-returned old new command NoConfig own (inr e) = e
+refusal-returned old new command (Path fault) own (inr e) = e
+refusal-returned old new command (Read fault) own (inr e) = e
+refusal-returned old new command TooDeep own (inr e) = e
+refusal-returned old new command ConfigLarge own (inr e) = e
+refusal-returned old new command StoreFull own (inr e) = e
+refusal-returned old new command JournalLong own (inr e) = e
+refusal-returned old new command CountFull own (inr e) = e
+refusal-returned old new command BadName own (inl memory) = absurd (cc memory)
+refusal-returned old new command NoConfig own (inl memory) = absurd (cc memory)
+refusal-returned old new command (Path fault) own (inl memory) = absurd (cc memory)
+refusal-returned old new command (Read fault) own (inl memory) = absurd (cc memory)
+refusal-returned old new command TooDeep own (inl memory) = absurd (cc memory)
+refusal-returned old new command ConfigLarge own (inl memory) = absurd (cc memory)
+refusal-returned old new command StoreFull own (inl memory) = absurd (cc memory)
+refusal-returned old new command JournalLong own (inl memory) = absurd (cc memory)
+refusal-returned old new command CountFull own (inl memory) = absurd (cc memory)

@@ -3,7 +3,7 @@ use Rattle.std.proofs.Common.{◌≡◌, ◌⊎◌, refl, sym, ◌∙◌, ap, su
 use Rattle.std.specs.Prelude.{ℕ, true, ◌+◌, Bool, nat_le, List, [], ◌∷◌, ◌++◌, length, Option, Some, None, option_map, Ok, Err}
 use Rattle.std.proofs.lemmas.List.{append-nil}
 use Rattle.yaml_grammar.specs.Closings.{ClosesOnce}
-use Rattle.conf_disk.specs.Folder.{Folder, appended, synced_whole}
+use Rattle.conf_disk.specs.Folder.{Folder, with_pending, synced_whole}
 use Rattle.conf_disk.specs.Image.{Image, IsImage, synced_file}
 use Rattle.conf_disk.specs.Moments.{LeavesOnly}
 use Rattle.conf_disk.proofs.Moments.{LeavesOnly-start, LeavesOnly-weaker}
@@ -33,12 +33,13 @@ durable-means left folder s size durable image is =
     subst (λ store. FileMeans store s) (sym same)
     (whole-means durable.bytes s durable.whole (omega (arith, durable.long, durable.short)))
 
+-- each store that a crash may leave of a durable one means its state
 pub store-means : SyncedIsLeft → (folder : Folder) (s : Contents) (size : ℕ) → IsDurable folder s size → (store : Option (List ℕ)) → IsStoreOf folder store → FileMeans store s
 store-means left folder s size durable store is = subst (λ b. FileMeans b s) is.same (durable-means left folder s size durable is.image is.is)
 
 -- the file with one pending record
 one-pending : (bytes more : List ℕ) (s end : Contents) (command : Command) → IsWholeStore bytes s → more ≡ record_bytes command (s.count + 1) → IsRecord more command (s.count + 1)
-    → step s command true ≡ Ok end → length bytes + length more ≤ store_limit → IsJournal (appended more (synced_file bytes)) s (command ∷ []) end
+    → step s command true ≡ Ok end → length bytes + length more ≤ store_limit → IsJournal (with_pending more (synced_file bytes)) s (command ∷ []) end
 one-pending bytes more s end command whole is reads done short = record {
   whole = whole;
   pending = is ∙ sym (append-nil (record_bytes command (s.count + 1)));
@@ -50,11 +51,11 @@ one-pending bytes more s end command whole is reads done short = record {
 -- what a crash leaves while a record is appended means the state before the command or after it
 pub applied-left : RecordsTear → (bytes more : List ℕ) (s end : Contents) (command : Command) → IsWholeStore bytes s → more ≡ record_bytes command (s.count + 1)
     → IsRecord more command (s.count + 1) → step s command true ≡ Ok end → length bytes + length more ≤ store_limit
-    → (store : Option (List ℕ)) → IsLeftOf (Some (appended more (synced_file bytes))) store → FileMeans store s ⊎ FileMeans store end
+    → (store : Option (List ℕ)) → IsLeftOf (Some (with_pending more (synced_file bytes))) store → FileMeans store s ⊎ FileMeans store end
 applied-left tear bytes more s end command whole is reads done short None left = absurd left
 applied-left tear bytes more s end command whole is reads done short (Some torn) left =
     after-one s end command (Some torn) done
-    (journal-left tear (appended more (synced_file bytes)) s end (command ∷ []) torn (one-pending bytes more s end command whole is reads done short) left)
+    (journal-left tear (with_pending more (synced_file bytes)) s end (command ∷ []) torn (one-pending bytes more s end command whole is reads done short) left)
 
 -- the file with the record synced
 pub applied-durable : (folder : Folder) (bytes more : List ℕ) (s end : Contents) (command : Command) (size : ℕ) → IsWholeStore bytes s → ClosesOnce more
@@ -70,6 +71,7 @@ applied-durable folder bytes more s end command size whole closes reads done lon
 
 -- ---- a base as the new file
 
+-- the bytes of a state's base are a base of it
 pub base-of : BasesAreRead → BasesClose → BasesFit → (s : Contents) (bytes : List ℕ) → IsState s → bytes ≡ base_bytes s → IsBaseOf s bytes
 base-of are_read close fit s bytes kept is =
     let fits = fit s kept in
@@ -80,10 +82,12 @@ base-of are_read close fit s bytes kept is =
       short = omega (arith, fits, ap length is);
     }
 
+-- a folder that holds just a state's base holds that state durably
 pub base-durable : (folder : Folder) (s : Contents) (bytes : List ℕ) → IsBaseOf s bytes → HoldsStore folder (Some (synced_file bytes)) → IsDurable folder s (length bytes)
 base-durable folder s bytes base holds =
     record { bytes = bytes; holds = holds; whole = base-whole bytes s base.closes base.reads; long = refl; short = base.short }
 
+-- a file of a state's base means that state
 pub base-file-means : (s : Contents) (bytes : List ℕ) → IsBaseOf s bytes → (file : Option (List ℕ)) → file ≡ Some bytes → FileMeans file s
 base-file-means s bytes base file same =
     subst (λ b. FileMeans b s) (sym same) (whole-means bytes s (base-whole bytes s base.closes base.reads) base.short)
@@ -101,6 +105,7 @@ room-is : (size : ℕ) (s : Contents) (command : Command) (fits : Bool) (bytes :
     → fits ≡ has_room size s command
 room-is size s command fits bytes room is = room ∙ ap (λ b. nat_le (size + length b) store_limit) is
 
+-- a command that is refused has that outcome
 pub refused-outcome : (size : ℕ) (s : Contents) (command : Command) (fits : Bool) (bytes : List ℕ) (fault : StoreFault)
     → fits ≡ nat_le (size + length bytes) store_limit → bytes ≡ next_record s command → step s command fits ≡ Err fault → outcome size s command ≡ Err fault
 refused-outcome size s command fits bytes fault room is refused = ap (step s command) (sym (room-is size s command fits bytes room is)) ∙ refused
@@ -108,6 +113,7 @@ refused-outcome size s command fits bytes fault room is refused = ap (step s com
 within : (n : ℕ) → nat_le n store_limit ≡ true → n ≤ store_limit
 within n e = grind (arith, nat_tests)
 
+-- a command whose step succeeds is accepted, and its record is as the definitions say
 pub accepted : StepsNeedRoom → StepsCount → RecordsAreRead → RecordsClose → (s new : Contents) (command : Command) (fits : Bool) (bytes : List ℕ) (size : ℕ) → IsState s → IsState new → IsCommand command
     → step s command fits ≡ Ok new → bytes ≡ next_record s command → fits ≡ nat_le (size + length bytes) store_limit → IsAccepted s command new size bytes
 accepted need_room counts are_read close s new command fits bytes size kept kept_new is_command done is room =
@@ -129,16 +135,16 @@ accepted need_room counts are_read close s new command fits bytes size kept kept
 -- a crash while the record is appended leaves the state before the command or after it
 pub append-leaves : {D : Type 0} (moment : D → ℕ) (left : D → ℕ → Image → Type 0) (old new : D) (folder : Folder) (s end : Contents) (command : Command) (more : List ℕ) (size : ℕ)
     → RecordsTear → (durable : IsDurable folder s size) → IsAccepted s command end size more
-    → LeavesOnly moment left old new (λ image. IsLeftOf (option_map (appended more) (Some (synced_file durable.bytes))) image.store)
+    → LeavesOnly moment left old new (λ image. IsLeftOf (option_map (with_pending more) (Some (synced_file durable.bytes))) image.store)
     → LeavesOnly moment left old new (λ image. FileMeans image.store s ⊎ FileMeans image.store end)
 append-leaves moment left old new folder s end command more size tear durable ok run =
-    LeavesOnly-weaker moment left old new (λ image. IsLeftOf (option_map (appended more) (Some (synced_file durable.bytes))) image.store)
+    LeavesOnly-weaker moment left old new (λ image. IsLeftOf (option_map (with_pending more) (Some (synced_file durable.bytes))) image.store)
     (λ image. FileMeans image.store s ⊎ FileMeans image.store end) run
     (λ image is. applied-left tear durable.bytes more s end command durable.whole (ok.is ∙ ap (record_bytes command) ok.number) ok.reads ok.done
     (let short = ok.short in omega (arith, durable.long, short)) image.store is)
 
 -- after its sync every image has the state after it
 pub append-durable : (old new : Folder) (s end : Contents) (command : Command) (more : List ℕ) (size : ℕ) → (durable : IsDurable old s size) → IsAccepted s command end size more
-    → HoldsStore new (option_map synced_whole (option_map (appended more) (Some (synced_file durable.bytes)))) → IsDurable new end (size + length more)
+    → HoldsStore new (option_map synced_whole (option_map (with_pending more) (Some (synced_file durable.bytes)))) → IsDurable new end (size + length more)
 append-durable old new s end command more size durable ok holds =
     applied-durable new durable.bytes more s end command size durable.whole ok.closes ok.reads ok.done durable.long ok.short holds

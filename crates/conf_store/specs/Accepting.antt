@@ -12,8 +12,8 @@ use Rattle.conf_pieces.specs.Documents.{IsRecord, IsBase}
 use Rattle.conf_record.specs.BaseTexts.{base_bytes}
 use Rattle.conf_store.specs.Calls.{outcome, next_number, next_record}
 
--- The command leads from `s` to `new`, which keeps its limits; a file of `size` bytes has room for its record, and the bytes are
--- that record: one closed piece, which reads as the command with the next number.
+-- The command leads from `s` to `new`, which keeps its limits; a file of `size` bytes has room for its record, and the
+-- bytes are that record: one closed piece, which reads as the command with the next number.
 pub record IsAccepted (s : Contents) (command : Command) (new : Contents) (size : ℕ) (bytes : List ℕ) : Type 0 where
   pub outcome : outcome size s command ≡ Ok new
   pub done : step s command true ≡ Ok new

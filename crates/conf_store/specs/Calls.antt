@@ -14,7 +14,8 @@ use Rattle.conf_record.specs.declared.fault.StoreFault.TheVariants.{BadName, Reo
 use Rattle.conf_record.specs.Records.{record_bytes}
 use Rattle.conf_store.specs.View.{StoreView}
 
--- The number of the next record. At the greatest count it is that count, which has as many digits as the number after it.
+-- The number of the next record. At the greatest count it is that count, which has as many digits as the number after
+-- it.
 abbrev pub next_number : Contents → ℕ
 next_number s = min (s.count + 1) count_limit
 
@@ -42,8 +43,8 @@ pub record Accepts {D : Type 0} (old : StoreView D) (command : Command) (new : S
   pub size : new.size ≡ old.size + length (next_record old.state command)
   pub reopen : new.reopen ≡ false
 
--- Why a command was refused. Under Device the state is the one after the command; a command that the state refuses never meets
--- Device. Reopen and OutOfMemory say nothing of the command.
+-- Why a command was refused. Under Device the state is the one after the command; a command that the state refuses
+-- never meets Device. Reopen and OutOfMemory say nothing of the command.
 abbrev pub RefusesCommand : {D : Type 0} → StoreView D → Command → StoreView D → StoreFault → Type 0
 RefusesCommand old command new Reopen = Unit {0}
 RefusesCommand old command new OutOfMemory = Unit {0}

@@ -17,7 +17,8 @@ pub record IsWholeStore (bytes : List ℕ) (s : Contents) : Type 0 where
   pub cut : Pieces bytes pieces []
   pub mean : PiecesMean pieces s
 
--- The synced bytes of the file mean `flushed`. Its pending bytes are the records of the commands `since`, which lead to `s`.
+-- The synced bytes of the file mean `flushed`. Its pending bytes are the records of the commands `since`, which lead to
+-- `s`.
 pub record IsJournal (file : File) (flushed : Contents) (since : List Command) (s : Contents) : Type 0 where
   pub whole : IsWholeStore file.synced flushed
   pub pending : file.pending ≡ records_bytes flushed.count since
@@ -25,7 +26,8 @@ pub record IsJournal (file : File) (flushed : Contents) (since : List Command) (
   pub leads : after flushed since ≡ Ok s
   pub short : length file.synced + length file.pending ≤ store_limit
 
--- Every stage of the folder has one and the same `store.yaml`. All its bytes are synced, there are `size` of them, and they mean `s`.
+-- Every stage of the folder has one and the same `store.yaml`. All its bytes are synced, there are `size` of them, and
+-- they mean `s`.
 pub record IsDurable (folder : Folder) (s : Contents) (size : ℕ) : Type 0 where
   pub bytes : List ℕ
   pub holds : HoldsStore folder (Some (synced_file bytes))

@@ -3,7 +3,7 @@ use Rattle.std.specs.Prelude.{◌≡◌, ◌≢◌, ℕ, true, false, List, Opti
 use Rattle.yaml_grammar.specs.Trees.{Tree}
 use Rattle.yaml_tree.specs.Reading.{IsRead, Refuses}
 use Rattle.yaml_docs.specs.declared.fault.ReadFault.TheVariants as read_faults
-use Rattle.conf_journal.specs.Store.{extended}
+use Rattle.conf_journal.specs.Store.{file_with_bytes}
 use Rattle.conf_record.specs.Commands.{import_as}
 use Rattle.conf_record.specs.Names.{good_name}
 use Rattle.conf_record.specs.States.{config_limits}
@@ -22,7 +22,7 @@ pub record Imports {D : Type 0} (old : StoreView D) (name source : List ℕ) (ne
 pub record AppendsImport {D : Type 0} (old : StoreView D) (name source : List ℕ) (before after : Option (List ℕ)) : Type 0 where
   pub tree : Tree
   pub reads : IsRead source config_limits tree
-  pub is : after ≡ extended before (next_record old.state (import_as name tree))
+  pub is : after ≡ file_with_bytes before (next_record old.state (import_as name tree))
 
 -- the text gives a tree, and the command that imports it was refused
 pub record RefusesTree {D : Type 0} (old : StoreView D) (name source : List ℕ) (new : StoreView D) (fault : StoreFault) : Type 0 where
@@ -30,7 +30,8 @@ pub record RefusesTree {D : Type 0} (old : StoreView D) (name source : List ℕ)
   pub reads : IsRead source config_limits tree
   pub refuses : RefusesCommand old (import_as name tree) new fault
 
--- Why an import was refused: for its name, then because the text gives no tree, then as the command that imports the tree.
+-- Why an import was refused: for its name, then because the text gives no tree, then as the command that imports the
+-- tree.
 abbrev pub RefusesImport : {D : Type 0} → StoreView D → List ℕ → List ℕ → StoreView D → StoreFault → Type 0
 RefusesImport old name source new Reopen = Unit {0}
 RefusesImport old name source new OutOfMemory = Unit {0}

@@ -35,7 +35,8 @@ Succeeds s checkpointing next = next ≡ s
 abbrev pub MayRemain : Contents → Contents → Type 0
 MayRemain s end = end ≡ s
 
--- `end` is what may remain of a call in which the machine crashes or the device fails: what remains before it, or after it
+-- `end` is what may remain of a call in which the machine crashes or the device fails: what remains before it, or after
+-- it
 abbrev pub MayRemainDuring : Contents → Call → Contents → Type 0
 MayRemainDuring s call end = MayRemain s end ⊎ ((next : Contents) × Succeeds s call next × MayRemain next end)
 
@@ -57,7 +58,8 @@ accepted_in s checkpointing acknowledged = []
 
 -- ---- one life
 
--- A life that began in `s` may end in `end`, by the answer to its first call. After a crash nothing follows; after Device, only Reopen.
+-- A life that began in `s` may end in `end`, by the answer to its first call. After a crash nothing follows; after
+-- Device, only Reopen.
 abbrev pub MayEndBy : Answer → Contents → Call → List Event → (Contents → Type 0) → Contents → Type 0
 MayEndBy ok s call events ends_from end = (next : Contents) × Succeeds s call next × ends_from next
 MayEndBy refused s call events ends_from end = ends_from s
@@ -78,9 +80,9 @@ accepted_by reopen s call more = []
 accepted_by crashed s call more = accepted_in s call false
 
 -- the commands that a life accepts, each with whether it is acknowledged
-abbrev pub accepted : List Event → Contents → List (Command × Bool)
-accepted [] s = []
-accepted (event ∷ events) s = accepted_by event.answer s event.call (accepted events)
+abbrev pub accepted_commands : List Event → Contents → List (Command × Bool)
+accepted_commands [] s = []
+accepted_commands (event ∷ events) s = accepted_by event.answer s event.call (accepted_commands events)
 
 pub record Life : Type 0 where
   pub start : Contents
@@ -103,13 +105,13 @@ abbrev pub EachKeeps : List Life → List (List Command) → Type 0
 EachKeeps [] [] = Unit {0}
 EachKeeps [] (kept ∷ others) = ⊥
 EachKeeps (life ∷ lives) [] = ⊥
-EachKeeps (life ∷ lives) (kept ∷ others) = Keeps (accepted life.events life.start) kept × EachKeeps lives others
+EachKeeps (life ∷ lives) (kept ∷ others) = Keeps (accepted_commands life.events life.start) kept × EachKeeps lives others
 
-abbrev pub joined : List (List Command) → List Command
-joined [] = []
-joined (commands ∷ others) = commands ++ joined others
+abbrev pub all_commands : List (List Command) → List Command
+all_commands [] = []
+all_commands (commands ∷ others) = commands ++ all_commands others
 
 -- the last state is the first one after the kept commands of all lives
 abbrev pub LivesHold : Type 0
 LivesHold = (s end : Contents) (lives : List Life) → AreLives s lives end
-    → (kept : List (List Command)) × EachKeeps lives kept × (after s (joined kept) ≡ Ok end)
+    → (kept : List (List Command)) × EachKeeps lives kept × (after s (all_commands kept) ≡ Ok end)

@@ -1,4 +1,5 @@
--- What the bytes of `store.yaml` mean: the state of a base, and what the commands of the records after it make of that state.
+-- What the bytes of `store.yaml` mean: the state of a base, and what the commands of the records after it make of that
+-- state.
 use Rattle.std.specs.Prelude.{◌≡◌, ◌≤◌, ◌↔◌, ℕ, ◌+◌, List, [], ◌∷◌, length, Option, Some, None, Ok}
 use Rattle.yaml_grammar.specs.Closings.{Pieces}
 use Rattle.conf_journal.specs.Store.{store_limit}

@@ -43,7 +43,8 @@ IsNextRecord piece s new = (command : Command) × IsRecord piece command (s.coun
 abbrev pub IsNoNextRecord : List ℕ → Contents → Type 0
 IsNoNextRecord piece s = (new : Contents) → IsNextRecord piece s new → ⊥
 
--- The first piece that is no record, has another number, or holds a command that is refused. Pieces are counted from 1 after the base.
+-- The first piece that is no record, has another number, or holds a command that is refused. Pieces are counted from 1
+-- after the base.
 pub record IsDamaged (bytes : List ℕ) (number : ℕ) : Type 0 where
   pub pieces : List (List ℕ)
   pub bad : List ℕ
@@ -62,7 +63,8 @@ RefusesBytes bytes (Damaged number) = IsDamaged bytes number
 RefusesBytes bytes Device = ⊥
 RefusesBytes bytes OutOfMemory = Unit {0}
 
--- What was read from `store.yaml`. `size` is the file's length if the file can stay as it is: it is there, and ends with a closing line.
+-- What was read from `store.yaml`. `size` is the file's length if the file can stay as it is: it is there, and ends
+-- with a closing line.
 pub record IsFound (file : Option (List ℕ)) (s : Contents) (records dropped : ℕ) (size : Option ℕ) : Type 0 where
   pub recovers : FileRecoversTo file s records dropped
   pub stays : (n : ℕ) → size ≡ Some n → (dropped ≡ 0) × (bytes : List ℕ) × (file ≡ Some bytes) × (length bytes ≡ n)
@@ -88,7 +90,8 @@ RefusalMeans (Damaged number) file = MeansNothing file
 RefusalMeans Device file = Unit {0}
 RefusalMeans OutOfMemory file = Unit {0}
 
--- `now` is what `store.yaml` holds after opening: the same bytes, or a base of the state if the file was missing or bytes were dropped
+-- `now` is what `store.yaml` holds after opening: the same bytes, or a base of the state if the file was missing or
+-- bytes were dropped
 abbrev pub ReadsAfterOpening : Option (List ℕ) → Contents → ℕ → Option (List ℕ) → Type 0
 ReadsAfterOpening None s dropped now = now ≡ Some (base_bytes s)
 ReadsAfterOpening (Some bytes) s zero now = now ≡ Some bytes

@@ -8,16 +8,16 @@ use yaml_laws::one_list_of_pieces;
 
 /// Whatever crashes happen, no acknowledged command is lost, and no command is kept that was not accepted.
 ///
-/// A life is what happens to a store from one opening to the next crash: calls with their results, the last one
-/// perhaps cut off. For every list of lives, each starting in the state in which the one before ended, the last state
-/// is the first one after a list of commands. This list has, for each life in turn, a prefix of the commands that it
-/// accepted, and the prefix holds every command that was acknowledged, which means that its call returned `Ok`.
+/// A life is what happens to a store from one opening to the next crash: calls with their results, the last one perhaps
+/// cut off. Take any list of lives, each starting in the state in which the one before ended. The last state is the
+/// first one after a list of commands. This list has, for each life in turn, a prefix of the commands that it accepted.
+/// The prefix holds every command that was acknowledged, which means that its call returned `Ok`.
 ///
-/// That the calls of a [`Store`](crate::Store) on an honest disk are such lives is what their contracts say. `now`
-/// says that a crash between two calls leaves the state; `any_moment` says that one within a call leaves the state
-/// before it or the one after it; `ok`, `refused` and `unchanged` say in which state the life goes on; `reopen` says
-/// that after `Device` only `Reopen` follows. `open` has the same clauses: it changes no meaning, and its state is
-/// what `store.yaml` means.
+/// That the calls of a [`Store`](crate::Store) on an honest disk are such lives is what their contracts say. `now` says
+/// that a crash between two calls leaves the state, and `any_moment` that one within a call leaves the state before it
+/// or the one after it. `ok`, `refused` and `unchanged` say in which state the life goes on. `reopen` says that after
+/// `Device` only `Reopen` follows. `open` has the same clauses: it changes no meaning, and its state is what
+/// `store.yaml` means.
 pub fn lives_hold()
     ensures { LivesHold }
 {}

@@ -48,8 +48,8 @@ pub fn recover(alloc: Global, bytes: &[u8]) -> Result<(State, Opened), OpenFault
     Ok((state, Opened { commands, dropped }))
 }
 
-/// Performs the command of the piece after the base that has this number, if it is the next record: the count after
-/// the command is the record's number.
+/// Performs the command of the piece after the base that has this number, if it is the next record. It is the next one
+/// if the count after the command is the record's number.
 fn perform_record(
     alloc: Global,
     state: &mut State,
@@ -62,11 +62,11 @@ fn perform_record(
         ⊎ ((fault ≡ OpenFault.Damaged number) × IsNoNextRecord piece.now state.old)) }
 {
     documents_are_read();
-    let Some((command, told)) = read_record(alloc, piece)? else {
+    let Some((command, record_number)) = read_record(alloc, piece)? else {
         return Err(OpenFault::Damaged { number });
     };
     match step(alloc, state, command, true) {
-        Ok(()) if state.count() == told => Ok(()),
+        Ok(()) if state.count() == record_number => Ok(()),
         Ok(()) => Err(OpenFault::Damaged { number }),
         Err(fault) => Err(refusal(fault, number)),
     }

@@ -4,7 +4,7 @@ ghost use Rattle.std.specs.Str.{chars};
 ghost use Rattle.yaml_tree.specs.Seen.{tree_of};
 ghost use Rattle.conf_disk.specs.Folder.{bytes_under};
 ghost use Rattle.conf_disk.specs.Moments.{LeavesOnly};
-ghost use Rattle.conf_journal.specs.Store.{extended};
+ghost use Rattle.conf_journal.specs.Store.{file_with_bytes};
 ghost use Rattle.conf_record.specs.Commands.{command_of};
 ghost use Rattle.conf_record.specs.Names.{good_name};
 ghost use Rattle.conf_record.specs.Limits.{IsState};
@@ -162,7 +162,7 @@ impl<D: Disk> Store<D> {
         ensures risen { D.failure_count self.old.disk ≤ D.failure_count self.new.disk }
         ensures reads { D.honest → self.old.reopen ≡ false →
             OnOk result (bytes_under (D.folder self.new.disk) Name.Store
-            ≡ extended (bytes_under (D.folder self.old.disk) Name.Store)
+            ≡ file_with_bytes (bytes_under (D.folder self.old.disk) Name.Store)
             (next_record self.old.state (command_of command))) }
         // A crash at any moment of the call leaves the state before it, or the one after it.
         ensures any_moment { D.honest → self.old.reopen ≡ false →

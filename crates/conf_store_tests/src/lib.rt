@@ -1,4 +1,4 @@
-//! Tests of the store: stores over disks in memory, what their files hold byte for byte, what is refused, and what
+//! Tests of the store, over disks in memory. They look at what its files hold byte for byte, what is refused, and what
 //! a crash or a device that fails leaves. Each expected text is written out in full, and each number is counted by
 //! hand.
 #![tactic(auto)]

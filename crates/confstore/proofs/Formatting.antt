@@ -23,6 +23,7 @@ refused_input : (given left held : Option (List ℕ)) (bytes : List ℕ) (fault 
     → RefusesInput given left held held fault
 refused_input given left held bytes fault read refuses = record { bytes = bytes; read = read; refuses = refuses; keeps = keeps_itself held }
 
+-- a text that is refused is one that stops in the input
 pub refused : (given left held : Option (List ℕ)) (bytes : List ℕ) (fault : ReadFault) → HasRead given left bytes 1048577 → Refuses bytes configuration fault
     → Stops given left held held (Read fault)
 refused given left held bytes TooLong read refuses = refused_input given left held bytes _ read refuses
@@ -39,16 +40,19 @@ refused given left held bytes OutOfMemory read refuses = keeps_itself held
 short : (bytes : List ℕ) (t : Tree) → IsRead bytes configuration t → length bytes < 1048577
 short bytes t is_read = omega (arith, is_read.gives.short, byte_len-chars bytes is_read.utf8)
 
+-- a text that is read but can't be written stops in the output
 pub stopped : (given left : Option (List ℕ)) (bytes : List ℕ) (t : Tree) → HasRead given left bytes 1048577 → IsRead bytes configuration t → StopsInOutput given left
 stopped given left bytes t read is_read =
     record { bytes = bytes; tree = t; taken = read.taken; at_end = read.at_end (short bytes t is_read); reads = is_read }
 
+-- what was written stays written by a flush
 pub then_kept : (held written flushed : Option (List ℕ)) (text : List ℕ) → Appends held written text → Keeps written flushed → Appends held flushed text
 then_kept None written flushed text a k = tt
 then_kept (Some xs) None flushed text a k = absurd a
 then_kept (Some xs) (Some ys) None text a k = absurd k
 then_kept (Some xs) (Some ys) (Some zs) text a k = k ∙ a
 
+-- the text of the tree that the input gives is what was written
 pub formatted : (given left held written : Option (List ℕ)) (bytes text : List ℕ) (t : Tree) → HasRead given left bytes 1048577 → IsRead bytes configuration t
     → IsUtf8 text → chars text ≡ style_text t → Appends held written text → Formats given left held written
 formatted given left held written bytes text t read is_read utf8 style appends =
@@ -62,14 +66,15 @@ formatted given left held written bytes text t read is_read utf8 style appends =
       writes = subst (λ xs. Appends held written xs) (sym spelled) appends;
     }
 
+-- the lines of the findings of the input are what was written
 pub checks : (given left held written : Option (List ℕ)) (bytes lines : List ℕ) (found : List Finding) → HasRead given left bytes 1048577 → IsChecked bytes found
     → lines ≡ report found → Appends held written lines → Checks given left held written (length found)
-checks given left held written bytes lines found read is_checked told appends = record {
+checks given left held written bytes lines found read is_checked text appends = record {
   bytes = bytes;
   found = found;
   taken = read.taken;
   at_end = read.at_end (short bytes is_checked.tree is_checked.reads);
   checked = is_checked;
   counts = refl;
-  writes = subst (λ xs. Appends held written xs) told appends;
+  writes = subst (λ xs. Appends held written xs) text appends;
 }

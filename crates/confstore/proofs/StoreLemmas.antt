@@ -26,6 +26,7 @@ at_one why = record {
   wrong = λ e. absurd (omega (arith, e));
 }
 
+-- a fault of a run on a store has its status, and what that says of the output
 pub performs_refused : {D : Type 0} (honest : Type 0) (folder : D → Folder) (disk : D) {given left held written : Option (List ℕ)}
     → (fault : StoreToolFault) → RunsOn honest folder disk given left held written (Err fault)
     → Performs given left held written (code_of (status_of_store fault))

@@ -29,7 +29,7 @@ fn checks(rt: HostRuntime) -> Result<(), Fail> {
         let done = outcome_of(&rt, &WORDS, input.as_bytes())?;
         assert_eq!(rt; done.output.as_slice(), lines.as_bytes(), "of {input:?}");
         assert_eq!(rt; done.status, status, "of {input:?}");
-        assert_eq!(rt; done.told.len(), 0, "of {input:?}");
+        assert_eq!(rt; done.errors.len(), 0, "of {input:?}");
     }
     Ok(())
 }
@@ -57,11 +57,11 @@ fn refuses_what_format_refuses(rt: HostRuntime) -> Result<(), Fail> {
         (b"{a: 1, a: 2}\n", "confstore: KeyTwice\n"),
         (b"[a]: b \n", "confstore: KeyNotText\n"),
     ];
-    for (input, told) in cases {
+    for (input, line) in cases {
         let done = outcome_of(&rt, &WORDS, input)?;
-        assert_eq!(rt; done.told.as_slice(), told.as_bytes());
-        assert_eq!(rt; done.status, 1, "{told}");
-        assert_eq!(rt; done.output.len(), 0, "{told}");
+        assert_eq!(rt; done.errors.as_slice(), line.as_bytes());
+        assert_eq!(rt; done.status, 1, "{line}");
+        assert_eq!(rt; done.output.len(), 0, "{line}");
     }
     Ok(())
 }

@@ -149,12 +149,12 @@ fn export_command<'a>(alloc: Global) -> Result<Command<'a>, AllocError> {
         .arg(Arg::new(alloc, NAME).required(true).help(NAME_HELP))
 }
 
-/// Does what the program does, and returns its status. `words` are its words, of which the first is its name. The files of
-/// a store are those of `rt`.
+/// Does what the program does, and returns its status. `words` are its words, of which the first is its name. The files
+/// of a store are those of `rt`.
 ///
-/// The status is 0 if it is done (help and version too), 1 if a text or a store is refused, memory ran out or something
-/// was found in a text, 2 for wrong words, and 3 if reading or writing failed, or the folder is missing or locked. A fault
-/// is written to `errors` in one line; if that fails, nothing is said.
+/// The status is 0 if it is done (help and version too), and 2 for wrong words. It is 1 if a text or a store is
+/// refused, memory ran out or something was found in a text. It is 3 if reading or writing failed, or the folder is
+/// missing or locked. A fault is written to `errors` in one line; if that fails, nothing is said.
 pub fn perform<F: Files<File = File>, R: Read, W: Write, E: Write>(
     rt: &F,
     alloc: Global,
@@ -167,12 +167,12 @@ pub fn perform<F: Files<File = File>, R: Read, W: Write, E: Write>(
         (W.contents writer.old) (W.contents writer.new) result }
 {
     let Ok(command) = command(alloc) else {
-        return told(errors, ToolFault::from(AllocError)).code();
+        return write_fault(errors, ToolFault::from(AllocError)).code();
     };
     match command.try_get_matches_from(words) {
         Ok(matches) => obey(rt, alloc, &matches, reader, writer, errors).code(),
         Err(error) if error.kind() == clap::error::ErrorKind::OutOfMemory => {
-            told(errors, ToolFault::from(AllocError)).code()
+            write_fault(errors, ToolFault::from(AllocError)).code()
         }
         Err(error) if error.use_stderr() => {
             let _ = write!(errors, "{error}");
@@ -180,7 +180,7 @@ pub fn perform<F: Files<File = File>, R: Read, W: Write, E: Write>(
         }
         Err(error) => match write!(writer, "{error}") {
             Ok(()) => Status::Done.code(),
-            Err(_) => told(errors, ToolFault::Output).code(),
+            Err(_) => write_fault(errors, ToolFault::Output).code(),
         },
     }
 }
@@ -202,12 +202,12 @@ fn obey<F: Files<File = File>, R: Read, W: Write, E: Write>(
         Some((EXPORT, words)) => export_folder(rt, alloc, words, writer, errors),
         Some((FORMAT, _)) => match format_text(alloc, reader, writer) {
             Ok(()) => Status::Done,
-            Err(fault) => told(errors, fault),
+            Err(fault) => write_fault(errors, fault),
         },
         Some((CHECK, _)) => match check_text(alloc, reader, writer) {
             Ok(0) => Status::Done,
             Ok(_) => Status::Found,
-            Err(fault) => told(errors, fault),
+            Err(fault) => write_fault(errors, fault),
         },
         _ => Status::WrongWords,
     }
@@ -230,11 +230,11 @@ fn run_folder<F: Files<File = File>, R: Read, W: Write, E: Write>(
     };
     let disk = match FolderDisk::new(rt, alloc, folder) {
         Ok(disk) => disk,
-        Err(fault) => return told_of_store(errors, StoreToolFault::Folder(fault)),
+        Err(fault) => return write_store_fault(errors, StoreToolFault::Folder(fault)),
     };
     match run_store(alloc, disk, reader, writer) {
         Ok(_) => Status::Done,
-        Err(fault) => told_of_store(errors, fault),
+        Err(fault) => write_store_fault(errors, fault),
     }
 }
 
@@ -258,16 +258,16 @@ fn export_folder<F: Files<File = File>, W: Write, E: Write>(
     };
     let disk = match FolderDisk::new(rt, alloc, folder) {
         Ok(disk) => disk,
-        Err(fault) => return told_of_store(errors, StoreToolFault::Folder(fault)),
+        Err(fault) => return write_store_fault(errors, StoreToolFault::Folder(fault)),
     };
     match export_store(alloc, disk, name, writer) {
         Ok(()) => Status::Done,
-        Err(fault) => told_of_store(errors, fault),
+        Err(fault) => write_store_fault(errors, fault),
     }
 }
 
 /// Writes a fault in one line, and returns its status.
-fn told<E: Write>(errors: &mut E, fault: ToolFault) -> Status
+fn write_fault<E: Write>(errors: &mut E, fault: ToolFault) -> Status
     ensures { result ≡ status_of fault }
 {
     let _ = writeln!(errors, "confstore: {fault}");
@@ -278,7 +278,7 @@ fn told<E: Write>(errors: &mut E, fault: ToolFault) -> Status
 }
 
 /// Writes a fault of a store in one line, and returns its status.
-fn told_of_store<E: Write>(errors: &mut E, fault: StoreToolFault) -> Status
+fn write_store_fault<E: Write>(errors: &mut E, fault: StoreToolFault) -> Status
     ensures { result ≡ status_of_store fault }
 {
     let _ = writeln!(errors, "confstore: {fault}");
@@ -297,8 +297,8 @@ fn told_of_store<E: Write>(errors: &mut E, fault: StoreToolFault) -> Status
     }
 }
 
-/// Writes why the program's arguments could not be read, and returns the status: words that are not UTF-8 are wrong words,
-/// and otherwise memory ran out.
+/// Writes why the program's arguments could not be read, and returns the status. Words that are not UTF-8 are wrong
+/// words; otherwise memory ran out.
 pub fn refuse_words<E: Write>(errors: &mut E, error: &io::Error) -> u8
     ensures { result ≤ 2 }
 {
@@ -306,5 +306,5 @@ pub fn refuse_words<E: Write>(errors: &mut E, error: &io::Error) -> u8
         let _ = writeln!(errors, "error: the words are not UTF-8");
         return Status::WrongWords.code();
     }
-    told(errors, ToolFault::from(AllocError)).code()
+    write_fault(errors, ToolFault::from(AllocError)).code()
 }

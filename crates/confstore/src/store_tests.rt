@@ -19,7 +19,7 @@ fn runs_and_exports(rt: HostRuntime) -> Result<(), Fail> {
         b"k: |-\n  x\n  ...\n  y\n".as_slice()
     );
     assert_eq!(rt; exported.status, 0);
-    assert_eq!(rt; exported.told.len(), 0);
+    assert_eq!(rt; exported.errors.len(), 0);
     fs::remove_dir_all(&rt, "kept")?;
     Ok(())
 }
@@ -37,7 +37,7 @@ fn refused_commands_are_answered(rt: HostRuntime) -> Result<(), Fail> {
         b"---\nrefused: BadCommand\n...\n---\nnames: []\n...\n".as_slice()
     );
     assert_eq!(rt; ran.status, 0);
-    assert_eq!(rt; ran.told.len(), 0);
+    assert_eq!(rt; ran.errors.len(), 0);
     fs::remove_dir_all(&rt, "refusing")?;
     Ok(())
 }
@@ -57,7 +57,7 @@ fn faults_are_named(rt: HostRuntime) -> Result<(), Fail> {
     for (words, fault, status) in cases {
         let refused = outcome_of(&rt, words, b"names:\n...\n")?;
         let line = format!(in rt.alloc(); "confstore: {fault}\n")?;
-        assert_eq!(rt; refused.told.as_slice(), line.as_bytes(), "of {words:?}");
+        assert_eq!(rt; refused.errors.as_slice(), line.as_bytes(), "of {words:?}");
         assert_eq!(rt; refused.output.len(), 0, "of {words:?}");
         assert_eq!(rt; refused.status, status, "of {words:?}");
     }
@@ -71,7 +71,10 @@ fn a_locked_folder_is_refused(rt: HostRuntime) -> Result<(), Fail> {
     fs::create_dir_all(&rt, "held")?;
     let _held = FolderDisk::new(&rt, rt.alloc(), "held")?;
     let refused = outcome_of(&rt, &["confstore", "run", "held"], b"names:\n...\n")?;
-    assert_eq!(rt; refused.told.as_slice(), b"confstore: Locked\n".as_slice());
+    assert_eq!(rt;
+        refused.errors.as_slice(),
+        b"confstore: Locked\n".as_slice()
+    );
     assert_eq!(rt; refused.output.len(), 0);
     assert_eq!(rt; refused.status, 3);
     fs::remove_dir_all(&rt, "held")?;

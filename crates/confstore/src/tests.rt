@@ -12,7 +12,7 @@ use yaml_tree::ReadFault;
 pub(crate) struct Outcome {
     pub(crate) status: u8,
     pub(crate) output: Vec<u8>,
-    pub(crate) told: Vec<u8>,
+    pub(crate) errors: Vec<u8>,
 }
 
 pub(crate) fn outcome_of(rt: &HostRuntime, words: &[&str], input: &[u8]) -> Result<Outcome, Fail> {
@@ -23,12 +23,12 @@ pub(crate) fn outcome_of(rt: &HostRuntime, words: &[&str], input: &[u8]) -> Resu
     }
     let mut reader = input;
     let mut output = Vec::new(alloc);
-    let mut told = Vec::new(alloc);
-    let status = perform(rt, alloc, &all, &mut reader, &mut output, &mut told);
+    let mut errors = Vec::new(alloc);
+    let status = perform(rt, alloc, &all, &mut reader, &mut output, &mut errors);
     Ok(Outcome {
         status,
         output,
-        told,
+        errors,
     })
 }
 
@@ -87,7 +87,7 @@ fn formats(rt: HostRuntime) -> Result<(), Fail> {
         let done = outcome_of(&rt, &["confstore", "format"], input.as_bytes())?;
         assert_eq!(rt; done.output.as_slice(), output.as_bytes(), "of {input:?}");
         assert_eq!(rt; done.status, 0, "of {input:?}");
-        assert_eq!(rt; done.told.len(), 0, "of {input:?}");
+        assert_eq!(rt; done.errors.len(), 0, "of {input:?}");
         let again = outcome_of(&rt, &["confstore", "format"], output.as_bytes())?;
         assert_eq!(rt;
             again.output.as_slice(),
@@ -120,11 +120,11 @@ fn refuses(rt: HostRuntime) -> Result<(), Fail> {
         (b"{a: 1, a: 2, {b: c}: d}\n", "confstore: KeyNotText\n"),
         (b"a: b\n--- [a, {[]: b}]\n", "confstore: Documents\n"),
     ];
-    for (input, told) in cases {
+    for (input, line) in cases {
         let done = outcome_of(&rt, &["confstore", "format"], input)?;
-        assert_eq!(rt; done.told.as_slice(), told.as_bytes());
-        assert_eq!(rt; done.status, 1, "{told}");
-        assert_eq!(rt; done.output.len(), 0, "{told}");
+        assert_eq!(rt; done.errors.as_slice(), line.as_bytes());
+        assert_eq!(rt; done.status, 1, "{line}");
+        assert_eq!(rt; done.output.len(), 0, "{line}");
     }
     Ok(())
 }
@@ -157,11 +157,11 @@ fn depth_is_limited(rt: HostRuntime) -> Result<(), Fail> {
         (64, "{a: 1, a: 2, [b]: c}", "confstore: KeyNotText\n"),
         (500_000, "x", "confstore: TooDeep\n"),
     ];
-    for (levels, inner, told) in cases {
+    for (levels, inner, line) in cases {
         let text = in_brackets(alloc, levels, inner)?;
         let done = outcome_of(&rt, &words, text.as_bytes())?;
-        assert_eq!(rt; done.told.as_slice(), told.as_bytes());
-        assert_eq!(rt; done.status, 1, "{told}");
+        assert_eq!(rt; done.errors.as_slice(), line.as_bytes());
+        assert_eq!(rt; done.status, 1, "{line}");
     }
     Ok(())
 }
@@ -175,7 +175,7 @@ fn length_is_limited(rt: HostRuntime) -> Result<(), Fail> {
         (1_048_573, "\"\n", 1_048_576, ""),
         (1_048_574, "\"", 0, "confstore: LargeInStyle\n"),
     ];
-    for (letters, end, length, told) in cases {
+    for (letters, end, length, line) in cases {
         let mut text = String::from_str(alloc, "\"")?;
         for _ in 0..letters {
             text.push('x')?;
@@ -183,7 +183,7 @@ fn length_is_limited(rt: HostRuntime) -> Result<(), Fail> {
         text.push_str(end)?;
         let done = outcome_of(&rt, &words, text.as_bytes())?;
         assert_eq!(rt; done.output.len(), length);
-        assert_eq!(rt; done.told.as_slice(), told.as_bytes());
+        assert_eq!(rt; done.errors.as_slice(), line.as_bytes());
     }
     Ok(())
 }
@@ -230,7 +230,7 @@ fn refuses_syntax(rt: HostRuntime) -> Result<(), Fail> {
     for input in cases {
         let done = outcome_of(&rt, &["confstore", "format"], input.as_bytes())?;
         assert!(rt;
-            done.told.as_slice().starts_with(b"confstore: Syntax "),
+            done.errors.as_slice().starts_with(b"confstore: Syntax "),
             "of {input:?}"
         );
         assert_eq!(rt; done.status, 1, "of {input:?}");
@@ -263,23 +263,19 @@ fn reads_words(rt: HostRuntime) -> Result<(), Fail> {
         ),
         (&["confstore"], 2, "", "requires a subcommand"),
     ];
-    for (words, status, output, told) in cases {
+    for (words, status, output, line) in cases {
         let done = outcome_of(&rt, words, b"a: b\n")?;
         let shown = str::from_utf8(&done.output).expect(&rt, "help is text");
-        let errors = str::from_utf8(&done.told).expect(&rt, "errors are text");
+        let errors = str::from_utf8(&done.errors).expect(&rt, "errors are text");
         assert_eq!(rt; done.status, status, "{words:?}");
         assert!(rt; shown.contains(output), "{words:?} gave {shown}");
-        assert!(rt; errors.contains(told), "{words:?} told {errors}");
+        assert!(rt; errors.contains(line), "{words:?}: {errors}");
         assert_eq!(rt;
             shown.is_empty(),
             output.is_empty(),
             "{words:?} gave {shown}"
         );
-        assert_eq!(rt;
-            errors.is_empty(),
-            told.is_empty(),
-            "{words:?} told {errors}"
-        );
+        assert_eq!(rt; errors.is_empty(), line.is_empty(), "{words:?}: {errors}");
     }
     Ok(())
 }
@@ -330,16 +326,16 @@ fn tells_what_fails(rt: HostRuntime) -> Result<(), Fail> {
     let mut words = Vec::new(alloc);
     words.push(String::from_str(alloc, "confstore")?)?;
     words.push(String::from_str(alloc, "format")?)?;
-    let mut told = Vec::new(alloc);
+    let mut errors = Vec::new(alloc);
     let status = perform(
         &rt,
         alloc,
         &words,
         &mut b"a: b\n".as_slice(),
         &mut Full,
-        &mut told,
+        &mut errors,
     );
     assert_eq!(rt; status, 3);
-    assert_eq!(rt; told.as_slice(), b"confstore: Output\n".as_slice());
+    assert_eq!(rt; errors.as_slice(), b"confstore: Output\n".as_slice());
     Ok(())
 }

@@ -25,7 +25,7 @@ pub enum ToolFault {
     #[error("Output")]
     Output,
     /// The text was refused, or there was no memory. Nothing was written.
-    #[error("{0}")]
+    #[error("{}", .0.brief())]
     Read(ReadFault),
 }
 
@@ -66,9 +66,9 @@ pub fn format_text<R: Read, W: Write>(
 }
 
 /// Reads a text from `reader` to its end, and writes a line to `writer` for each of its findings, in the order of
-/// [`check`]: the rule's name, a space, and the number of the line, from 1. Returns how many findings there are. It
-/// reads at most one byte more than the 1,048,576 that a text may have. The lines are written at once: they have at
-/// most some 12 MB, since a text has at most two findings more than bytes.
+/// [`check`]. The line has the rule's name, a space, and the number of the line, from 1. Returns how many findings
+/// there are. It reads at most one byte more than the 1,048,576 that a text may have. The lines are written at once:
+/// they have at most some 12 MB, since a text has at most two findings more than bytes.
 ///
 /// `Input` where the reader fails, `Read` where the text is refused or there is no memory: nothing is written then.
 /// `Output` where the writer fails.

@@ -25,14 +25,14 @@ fn main(rt: HostRuntime) -> ExitCode {
     let Some(order) = Order::of(&words) else {
         return ExitCode::from(2);
     };
-    match told(alloc, &rt, &order) {
+    match perform(alloc, &rt, &order) {
         Ok(()) => ExitCode::from(0),
         Err(_) => ExitCode::from(1),
     }
 }
 
-/// Makes the edits, and returns how long the tree is in the one style.
-fn told(alloc: Global, rt: &HostRuntime, order: &Order) -> Result<(), Refused> {
+/// Makes the edits, and prints how many they are and how long the tree is in the one style.
+fn perform(alloc: Global, rt: &HostRuntime, order: &Order) -> Result<(), Refused> {
     let length = length_in_style(alloc, order)?;
     run(alloc, order)?;
     println!(rt; "{} edits of a tree of {length} bytes", order.edits())?;

@@ -1,4 +1,4 @@
-//! Shows how a program uses the libraries: it reads a YAML text, sets one value by a JSON pointer (RFC 6901), and
+//! Shows how a program uses the libraries. It reads a YAML text, sets one value by a JSON pointer (RFC 6901), and
 //! prints the result in the one style.
 //!
 //! Its words are the pointer and the new value; the text comes on standard input. It ends with 0, with 1 where

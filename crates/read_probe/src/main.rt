@@ -1,9 +1,9 @@
-//! Reads texts, so that the speed of reading can be measured and the events of many texts compared: a program for
-//! `bench/read.py` and for `checks/cases.py` and `checks/fuzz_texts.py` alone.
+//! Reads texts, so that the speed of reading can be measured and the events of many texts compared. It is a program for
+//! `bench/read.py`, `checks/cases.py` and `checks/fuzz_texts.py` alone.
 //!
 //! `events FILE ROUNDS` and `tree FILE ROUNDS` read a file that many times in one process, to its events or to its
 //! tree. They print how many events there are, or how many bytes the tree has in the one style, or why the text is
-//! refused. `show` prints the events of each line of standard input, or why it is refused; such a line is a text in
+//! refused. `show` prints the events of each line of standard input, or why it is refused. Such a line is a text in
 //! which `\n`, `\r`, `\t`, `\\` and `\xHH` mean bytes. `style` prints for each such line how many nanoseconds reading
 //! its tree took, and the tree in the one style, or why it is refused. It ends with 0, with 1 where reading or printing
 //! failed, and with 2 for wrong words.

@@ -22,7 +22,10 @@ pub(crate) fn read_rounds(rt: &HostRuntime, what: What, file: &str, rounds: u32)
     }
     match size {
         Ok(size) => println!(rt; "{size}"),
-        Err(fault) => println!(rt; "{fault}"),
+        Err(fault) => {
+            let fault = fault.brief();
+            println!(rt; "{fault}")
+        }
     }
 }
 

@@ -28,6 +28,9 @@ fn show<W: Write>(alloc: Global, writer: &mut W, bytes: &[u8]) -> io::Result<()>
             }
             writeln!(writer)
         }
-        Err(fault) => writeln!(writer, "{fault}"),
+        Err(fault) => {
+            let fault = fault.brief();
+            writeln!(writer, "{fault}")
+        }
     }
 }

@@ -40,7 +40,10 @@ fn style_one<W: Write>(rt: &HostRuntime, writer: &mut W, bytes: &[u8]) -> io::Re
             write_escaped(writer, style_text(alloc, &config)?.as_str())?;
             writeln!(writer)
         }
-        Err(fault) => writeln!(writer, "{time} {fault}"),
+        Err(fault) => {
+            let fault = fault.brief();
+            writeln!(writer, "{time} {fault}")
+        }
     }
 }
 

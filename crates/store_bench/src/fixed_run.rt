@@ -51,8 +51,8 @@ impl Action {
     }
 }
 
-/// Performs the run, and prints a line for each call. A call that found no memory is made once more; after a fault
-/// of the device, which is how a disk in memory says that it found none, the store is opened again first.
+/// Performs the run, and prints a line for each call. A call that found no memory is made once more. A disk in memory
+/// says that it found none by a fault of the device; after one, the store is opened again first.
 pub(crate) fn perform_all(rt: &HostRuntime, alloc: Global) -> Result<(), Failed> {
     let mut store = open_twice(rt, alloc, MemoryDisk::new(alloc))?;
     for action in ACTIONS {

@@ -1,5 +1,5 @@
-//! Works on stores, so that their speed can be measured and what they do without memory can be looked at: a program
-//! for `bench/store.py` and `checks/refuse_store_allocations.sh` alone.
+//! Works on stores, so that their speed can be measured and what they do without memory can be looked at. It is a
+//! program for `bench/store.py` and `checks/refuse_store_allocations.sh` alone.
 //!
 //! `run` performs a fixed run of calls on a store over a disk in memory, and prints what each call returns and what
 //! the store then holds. `fill FOLDER EDITS` opens a store in a folder and sets one value of 100 bytes that many

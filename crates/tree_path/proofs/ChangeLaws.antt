@@ -1,15 +1,15 @@
 -- What one step's edit does to the length of a node.
-use Rattle.std.proofs.Common.{◌≡◌, ℕ, zero, suc, ◌+◌, ◌-◌, ◌*◌, ◌<◌, ◌≤◌, ◌==◌, Bool, true, false, if◌then◌else◌, List, [], ◌∷◌, ◌++◌, length, codes, Option, Some, None, option_map, Result, Ok, Err, refl, sym, ap, subst, ◌∙◌, arith}
+use Rattle.std.proofs.Common.{◌≡◌, ℕ, zero, suc, ◌+◌, ◌-◌, ◌*◌, ◌<◌, ◌==◌, Bool, true, false, if◌then◌else◌, List, codes, Option, Some, None, option_map, Ok, Err, refl, sym, ap, subst, ◌∙◌, arith}
 use Rattle.std.proofs.lemmas.Bool.Decides.{nat_tests}
 use Rattle.yaml_grammar.specs.Texts.{byte_len, spaces, same_text}
-use Rattle.yaml_grammar.specs.Trees.{Tree, text, sequence, mapping, Elements, no_element, element, Members, no_member, member, depth, elements_depth, members_depth}
-use Rattle.yaml_grammar.specs.Style.{scalar_lines, key_lines, elements_at, elements_after, element_at, members_at, members_after, value_at, style_text}
-use Rattle.yaml_tree.specs.Sizes.{length_at, indented, value_indented, key_indented, element_size, value_size, key_size}
+use Rattle.yaml_grammar.specs.Trees.{Tree, text, sequence, mapping, Elements, no_element, element, Members, no_member, member}
+use Rattle.yaml_grammar.specs.Style.{key_lines, elements_at, elements_after, element_at, members_at, members_after, value_at, style_text}
+use Rattle.yaml_tree.specs.Sizes.{length_at, element_size, value_size}
 use Rattle.yaml_tree.specs.declared.size.Size.{Size}
 use Rattle.yaml_tree.proofs.SizeLaws.{three, four, spaces_bytes, key_law, element_law, value_law}
 use Rattle.yaml_tree.proofs.CharacterLemmas.{same_text-true}
 use Rattle.tree_path.specs.Paths.{Index, number, after_last, no_index, index_of, at_index, present, element_at as child_at, put_element, cut_element, push_element, value_of, put_member, cut_member, child, put, cut}
-use Rattle.tree_path.specs.Changes.{IsCollection, node_at, own_line, node_length, slot_in, child_size, element_row, member_row, growth, first_row}
+use Rattle.tree_path.specs.Changes.{IsCollection, node_at, node_length, slot_in, child_size, element_row, member_row, growth, first_row}
 use Rattle.tree_path.specs.declared.change.Slot.{Slot}
 use Rattle.tree_path.specs.declared.change.Slot.TheVariants.{Value, Element}
 use Rattle.tree_path.specs.declared.place.Miss.{Miss}

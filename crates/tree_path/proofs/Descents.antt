@@ -1,10 +1,12 @@
 -- Going down a tree along a path and back up: what a step adds to each, and what the definitions of paths say of them.
-use Rattle.std.proofs.Common.{◌≡◌, ℕ, suc, ◌+◌, List, [], ◌∷◌, ◌++◌, length, Result, Ok, Err, String, Global, string_bytes, take, drop, get_or, ◌<◌, refl, sym, ap, subst, ◌∙◌, add-zero, arith}
+use Rattle.std.proofs.Common.{◌≡◌, ℕ, suc, ◌+◌, ◌-◌, ◌≤◌, List, [], ◌∷◌, ◌++◌, length, Result, Ok, Err, Global, take, drop, get_or, ◌<◌, refl, sym, ap, subst, ◌∙◌, add-zero, arith}
+use Rattle.std.specs.Cow.{cow_str_bytes}
+use Rattle.std.specs.declared.borrow.CowStr.{CowStr}
 use Rattle.std.specs.Result.{IfErr, IsOk}
 use Rattle.std.specs.Str.{chars}
 use Rattle.std.proofs.lemmas.List.{take_more, at_drop_more, take-append-drop, length-map, length-take-le}
 use Rattle.yaml_grammar.specs.Trees.{Tree}
-use Rattle.tree_path.specs.Paths.{child, put, refusal, at_step, and_then, at_from, edit_from}
+use Rattle.tree_path.specs.Paths.{child, put, refusal, at_step, and_then, at_from, edit_from, key_in, last_key, in_child}
 use Rattle.tree_path.specs.Steps.{texts, Lowered, Rebuilt}
 use Rattle.tree_path.specs.declared.fault.PathFault.{PathFault}
 use Rattle.tree_path.specs.declared.place.Miss.{Miss}
@@ -141,43 +143,70 @@ edit_path-refused edit (token ∷ parents) last step t fault is =
       | Err miss ↦ λ e. e
     ]) is
 
+-- ---- the last key
+
+-- what comes before the last step leads to its mapping
+pub last_key-parent : (parents : List (List ℕ)) (last : List ℕ) (step : ℕ) (t u : Tree) → at_from step t parents ≡ Ok u
+    → last_key t (parents ++ last ∷ []) ≡ key_in u last
+last_key-parent [] last step t u is = let same : t ≡ u = cc in ap (λ x. key_in x last) same
+last_key-parent (token ∷ parents) last step t u is =
+    let P : Result Tree Miss → Type 0 = λ r. child t token ≡ r → at_step step r (λ w. at_from (suc step) w parents) ≡ Ok u
+    → last_key t (token ∷ (parents ++ last ∷ [])) ≡ key_in u last in
+    (elim (child t token) as P [
+      | Ok w ↦ λ found e. last_key-step t token last parents ∙ ap (λ r. in_child r (λ x. last_key x (parents ++ last ∷ []))) found
+          ∙ last_key-parent parents last (suc step) w u e
+      | Err miss ↦ λ found e. cc
+    ]) refl is
+  where
+    last_key-step : (t : Tree) (token last : List ℕ) (parents : List (List ℕ))
+        → last_key t (token ∷ (parents ++ last ∷ [])) ≡ in_child (child t token) (λ x. last_key x (parents ++ last ∷ []))
+    last_key-step t token last [] = refl
+    last_key-step t token last (next ∷ parents) = refl
+
 -- ---- the tokens of the code
 
 -- the texts of two lists of strings
-pub texts-append : (xs ys : List (String Global)) → texts (xs ++ ys) ≡ texts xs ++ texts ys
+pub texts-append : (xs ys : List (CowStr Global)) → texts (xs ++ ys) ≡ texts xs ++ texts ys
 texts-append [] ys = refl
-texts-append (x ∷ xs) ys = ap (λ ts. chars (string_bytes x) ∷ ts) (texts-append xs ys)
+texts-append (x ∷ xs) ys = ap (λ ts. chars (cow_str_bytes x) ∷ ts) (texts-append xs ys)
 
 -- the text of the string at a place
-pub texts-turn : (tokens : List (String Global)) (n : ℕ) (token : String Global) → n < length tokens → token ≡ get_or tokens n token
-    → texts (take (n + 1) tokens) ≡ texts (take n tokens) ++ chars (string_bytes token) ∷ []
+pub texts-turn : (tokens : List (CowStr Global)) (n : ℕ) (token : CowStr Global) → n < length tokens → token ≡ get_or tokens n token
+    → texts (take (n + 1) tokens) ≡ texts (take n tokens) ++ chars (cow_str_bytes token) ∷ []
 texts-turn tokens n token within is =
     ap texts (take_more tokens n token within) ∙ texts-append (take n tokens) (get_or tokens n token ∷ [])
-    ∙ ap (λ x. texts (take n tokens) ++ chars (string_bytes x) ∷ []) (sym is)
+    ∙ ap (λ x. texts (take n tokens) ++ chars (cow_str_bytes x) ∷ []) (sym is)
 
-texts-split : (tokens : List (String Global)) (n : ℕ) (token : String Global) → n < length tokens → token ≡ get_or tokens n token
-    → texts tokens ≡ texts (take n tokens) ++ chars (string_bytes token) ∷ texts (drop (n + 1) tokens)
+-- the same from the end on
+pub texts-back : (tokens : List (CowStr Global)) (left : ℕ) (token : CowStr Global) → 0 < left → left ≤ length tokens → token ≡ get_or tokens (left - 1) token
+    → texts (take left tokens) ≡ texts (take (left - 1) tokens) ++ chars (cow_str_bytes token) ∷ []
+texts-back tokens left token some within is =
+    let next : left - 1 + 1 ≡ left = omega arith in
+    ap (λ n. texts (take n tokens)) (sym next) ∙ texts-turn tokens (left - 1) token (omega arith) is
+
+texts-split : (tokens : List (CowStr Global)) (n : ℕ) (token : CowStr Global) → n < length tokens → token ≡ get_or tokens n token
+    → texts tokens ≡ texts (take n tokens) ++ chars (cow_str_bytes token) ∷ texts (drop (n + 1) tokens)
 texts-split tokens n token within is =
     ap texts (sym (take-append-drop n tokens)) ∙ texts-append (take n tokens) (drop n tokens)
     ∙ ap (λ ts. texts (take n tokens) ++ ts) (at_drop_more texts tokens n token within)
-    ∙ ap (λ x. texts (take n tokens) ++ chars (string_bytes x) ∷ texts (drop (n + 1) tokens)) (sym is)
+    ∙ ap (λ x. texts (take n tokens) ++ chars (cow_str_bytes x) ∷ texts (drop (n + 1) tokens)) (sym is)
 
 -- the value one step further down
-pub at_from-turn : (tokens : List (String Global)) (n : ℕ) (token : String Global) (t u w : Tree) → n < length tokens → token ≡ get_or tokens n token
-    → at_from 1 t (texts (take n tokens)) ≡ Ok u → child u (chars (string_bytes token)) ≡ Ok w → at_from 1 t (texts (take (n + 1) tokens)) ≡ Ok w
+pub at_from-turn : (tokens : List (CowStr Global)) (n : ℕ) (token : CowStr Global) (t u w : Tree) → n < length tokens → token ≡ get_or tokens n token
+    → at_from 1 t (texts (take n tokens)) ≡ Ok u → child u (chars (cow_str_bytes token)) ≡ Ok w → at_from 1 t (texts (take (n + 1) tokens)) ≡ Ok w
 at_from-turn tokens n token t u w within is before found =
     ap (at_from 1 t) (texts-turn tokens n token within is)
-    ∙ at_from-append (texts (take n tokens)) (chars (string_bytes token) ∷ []) 1 t
+    ∙ at_from-append (texts (take n tokens)) (chars (cow_str_bytes token) ∷ []) 1 t
     ∙ rw (before, found)
 
 -- a step that leads to nothing ends the way
-pub at_from-missed : (tokens : List (String Global)) (n : ℕ) (token : String Global) (t u : Tree) (miss : Miss) → n < length tokens → token ≡ get_or tokens n token
-    → at_from 1 t (texts (take n tokens)) ≡ Ok u → child u (chars (string_bytes token)) ≡ Err miss → at_from 1 t (texts tokens) ≡ Err (refusal miss (n + 1))
+pub at_from-missed : (tokens : List (CowStr Global)) (n : ℕ) (token : CowStr Global) (t u : Tree) (miss : Miss) → n < length tokens → token ≡ get_or tokens n token
+    → at_from 1 t (texts (take n tokens)) ≡ Ok u → child u (chars (cow_str_bytes token)) ≡ Err miss → at_from 1 t (texts tokens) ≡ Err (refusal miss (n + 1))
 at_from-missed tokens n token t u miss within is before missed =
     ap (at_from 1 t) (texts-split tokens n token within is)
-    ∙ at_from-append (texts (take n tokens)) (chars (string_bytes token) ∷ texts (drop (n + 1) tokens)) 1 t
+    ∙ at_from-append (texts (take n tokens)) (chars (cow_str_bytes token) ∷ texts (drop (n + 1) tokens)) 1 t
     ∙ rw (before, missed)
-    (ap (λ s. Err (refusal miss s)) (omega (arith, length-map (take n tokens) (λ (x : String Global). chars (string_bytes x)), length-take-le n tokens (omega arith))))
+    (ap (λ s. Err (refusal miss s)) (omega (arith, length-map (take n tokens) (λ (x : CowStr Global). chars (cow_str_bytes x)), length-take-le n tokens (omega arith))))
 
 -- a call that misses only where there is no child doesn't miss where there is one
 pub IsOk-there : (r : Result (Unit {0}) Miss) (found : Result Tree Miss) (d : Tree) → found ≡ Ok d → IfErr r (λ miss. found ≡ Err miss) → IsOk r

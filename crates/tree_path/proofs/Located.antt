@@ -1,18 +1,15 @@
 -- The length of a whole tree after an edit at the end of a path, from that of the node that is edited.
-use Rattle.std.proofs.Common.{◌≡◌, ℕ, zero, suc, ◌+◌, ◌*◌, ◌^◌, ◌<◌, ◌≤◌, Bool, true, false, if◌then◌else◌, List, [], ◌∷◌, ◌++◌, length, codes, Option, Some, None, Result, Ok, Err, refl, sym, ap, subst, ◌∙◌, add-zero, arith}
+use Rattle.std.proofs.Common.{◌≡◌, ℕ, zero, suc, ◌+◌, ◌*◌, ◌^◌, ◌<◌, ◌≤◌, Bool, true, false, if◌then◌else◌, List, [], ◌∷◌, ◌++◌, length, codes, Some, Result, Ok, Err, refl, sym, ap, subst, ◌∙◌, add-zero, arith}
 use Rattle.std.proofs.Math.Nat.{mul-le-mul_left, mul-le-mul_right}
 use Rattle.yaml_grammar.specs.Texts.{byte_len, same_text, spaces}
 use Rattle.yaml_grammar.specs.Trees.{Tree, text, sequence, mapping, Elements, no_element, element, Members, no_member, member, depth, elements_depth, members_depth}
-use Rattle.yaml_grammar.specs.Style.{scalar_lines, key_lines, elements_at, elements_after, element_at, members_at, members_after, value_at, style_text}
-use Rattle.yaml_tree.specs.Sizes.{length_at}
-use Rattle.yaml_tree.specs.declared.size.Size.{Size}
-use Rattle.yaml_tree.proofs.SizeLaws.{three, four, elements_law, members_law}
-use Rattle.tree_path.specs.Paths.{Index, number, after_last, no_index, index_of, at_index, present, element_at as child_at, value_of, child, put, cut, refusal, at_step, and_then, at_from, edit_from}
-use Rattle.tree_path.specs.Changes.{IsCollection, Changes, ChangesNode, ChangesSmall, node_length, slot_in, Located, shifted, shifted_size}
+use Rattle.yaml_grammar.specs.Style.{key_lines, elements_at, elements_after, element_at, members_at, members_after, value_at, style_text}
+use Rattle.yaml_tree.proofs.SizeLaws.{three, elements_law, members_law}
+use Rattle.tree_path.specs.Paths.{Index, number, after_last, no_index, index_of, at_index, element_at as child_at, value_of, child, refusal, at_step, at_from}
+use Rattle.tree_path.specs.Changes.{IsCollection, Changes, ChangesSmall, node_length, slot_in, Located, shifted_change}
 use Rattle.tree_path.specs.declared.change.Change.{Change}
 use Rattle.tree_path.specs.declared.change.Slot.{Slot}
-use Rattle.tree_path.specs.declared.change.Slot.TheVariants.{Value, Element}
-use Rattle.tree_path.specs.declared.fault.PathFault.{PathFault}
+use Rattle.tree_path.specs.declared.change.Slot.TheVariants.{Value}
 use Rattle.tree_path.specs.declared.place.Miss.{Miss}
 use Rattle.tree_path.specs.declared.place.Miss.TheVariants.{Absent}
 use Rattle.tree_path.proofs.StepLaws.{present-Ok, put-there}
@@ -93,7 +90,7 @@ product_fits k l few small =
 -- the length of the whole tree after a change
 pub changes-whole : (k : ℕ) (r : Slot) (change : Change) (t u v w : Tree) → k < 2 ^ 64
     → ((n : ℕ) → node_length Value w n + node_length r u (n + 2 * k) ≡ node_length Value t n + node_length r v (n + 2 * k))
-    → IsCollection t → IsCollection w → ChangesSmall r change u v → Changes (shifted (2 * k) change) t w
+    → IsCollection t → IsCollection w → ChangesSmall r change u v → Changes (shifted_change (2 * k) change) t w
 changes-whole k r change t u v w few whole was is node =
     let added_bytes = node.added_bytes in
     let added_lines = node.added_lines in

@@ -1,18 +1,17 @@
 -- The lengths that the code finds, as those of the definitions' edits.
-use Rattle.std.proofs.Common.{◌≡◌, ℕ, zero, suc, ◌+◌, ◌-◌, ◌*◌, ◌^◌, ◌<◌, ◌≤◌, ◌==◌, Bool, true, false, if◌then◌else◌, List, [], ◌∷◌, ◌++◌, length, codes, Result, Ok, Err, String, Global, Vec, vec_len, refl, sym, ap, subst, ◌∙◌, arith, rules}
+use Rattle.std.proofs.Common.{◌≡◌, ℕ, suc, ◌+◌, ◌-◌, ◌*◌, ◌^◌, ◌<◌, ◌≤◌, ◌==◌, Bool, true, false, if◌then◌else◌, List, [], ◌∷◌, ◌++◌, length, codes, Ok, Err, Global, Vec, vec_len, refl, sym, ap, subst, ◌∙◌, arith, rules}
 use Rattle.yaml_grammar.specs.Texts.{same_text}
 use Rattle.yaml_grammar.specs.Trees as grammar
 use Rattle.yaml_grammar.specs.Trees.{sequence, mapping, text}
-use Rattle.yaml_tree.specs.Seen.{Pair, tree_of, elements_of, members_of}
+use Rattle.yaml_tree.specs.Seen.{Pair, elements_of, members_of}
 use Rattle.yaml_tree.specs.Sizes.{length_at}
 use Rattle.yaml_tree.specs.declared.size.Size.{Size}
 use Rattle.yaml_tree.specs.declared.tree.Tree.{Tree}
-use Rattle.tree_path.specs.Paths.{after_last, index_of, push_element, put_member, child, put, cut, refusal, at, set, delete}
-use Rattle.tree_path.specs.Changes.{Changes, ChangesNode, ChangesSmall, Located, node_length, slot_in, child_size, element_row, member_row, first_row, growth, reversed, shifted}
+use Rattle.tree_path.specs.Paths.{after_last, index_of, push_element, put_member, child, put, cut, refusal, set, delete}
+use Rattle.tree_path.specs.Changes.{Changes, ChangesNode, ChangesSmall, Located, slot_in, child_size, element_row, member_row, first_row, growth, reversed_change, shifted_change}
 use Rattle.tree_path.specs.declared.change.Change.{Change}
 use Rattle.tree_path.specs.declared.change.Slot.{Slot}
 use Rattle.tree_path.specs.declared.change.Slot.TheVariants.{Value, Element}
-use Rattle.tree_path.specs.declared.fault.PathFault.{PathFault}
 use Rattle.tree_path.specs.declared.place.Miss.{Miss}
 use Rattle.tree_path.proofs.StepLaws.{put-there}
 use Rattle.tree_path.proofs.Edits.{set-edit, delete-edit}
@@ -111,6 +110,7 @@ pushed slot t ts v token count row change is last counted sized small grown =
       changed slot _ (sequence (elements_of ts)) (sequence (push_element (elements_of ts) v)) bounds.removed bounds.added (push-grows slot (elements_of ts) v),
     ))
 
+-- the change of a new member at the end of a mapping
 pub added : (slot : Slot) (t : grammar.Tree) (ps : List Pair) (v : grammar.Tree) (token : List ℕ) (miss : Miss) (count : ℕ) (row : Size) (change : Change)
     → t ≡ mapping (members_of ps) → child t token ≡ Err miss → length ps ≡ count → row ≡ member_row token v → IsSmallSize row
     → change ≡ growth count row slot → Put slot change t token v
@@ -144,14 +144,14 @@ some_members t u ps token is found =
 -- an element that is taken out
 pub taken_element : (slot : Slot) (t u : grammar.Tree) (ts : List Tree) (token : List ℕ) (count : ℕ) (row : Size) (grown change : Change)
     → t ≡ sequence (elements_of ts) → child t token ≡ Ok u → length ts ≡ count → row ≡ element_row u → IsSmallSize row
-    → grown ≡ growth (count - 1) row slot → change ≡ reversed grown → Cut slot change t token
+    → grown ≡ growth (count - 1) row slot → change ≡ reversed_change grown → Cut slot change t token
 taken_element slot t u ts token count row grown change is found counted sized small grows turned =
     let p = cut_sequence-there slot (elements_of ts) u token (subst (λ x. child x token ≡ Ok u) is found) in
     let total = elements_counted ts in
     let less = p.2 in
     let k : count - 1 ≡ element_count p.0 = omega arith in
-    let same : change ≡ reversed (growth (element_count p.0) (element_row u) slot) =
-    turned ∙ ap reversed (grows ∙ ap (λ r. growth (count - 1) r slot) sized ∙ ap (λ n. growth n (element_row u) slot) k) in
+    let same : change ≡ reversed_change (growth (element_count p.0) (element_row u) slot) =
+    turned ∙ ap reversed_change (grows ∙ ap (λ r. growth (count - 1) r slot) sized ∙ ap (λ n. growth n (element_row u) slot) k) in
     let bounds = growth-small (element_count p.0) (element_row u) slot (subst IsSmallSize sized small) in
     subst (λ x. Cut slot change x token) (sym is)
     (subst (λ c. Cut slot c (sequence (elements_of ts)) token) (sym same)
@@ -160,14 +160,14 @@ taken_element slot t u ts token count row grown change is found counted sized sm
 -- a member that is taken out
 pub taken_member : (slot : Slot) (t u : grammar.Tree) (ps : List Pair) (token : List ℕ) (count : ℕ) (row : Size) (grown change : Change)
     → t ≡ mapping (members_of ps) → child t token ≡ Ok u → length ps ≡ count → row ≡ member_row token u → IsSmallSize row
-    → grown ≡ growth (count - 1) row slot → change ≡ reversed grown → Cut slot change t token
+    → grown ≡ growth (count - 1) row slot → change ≡ reversed_change grown → Cut slot change t token
 taken_member slot t u ps token count row grown change is found counted sized small grows turned =
     let p = cut_mapping-there slot (members_of ps) u token (subst (λ x. child x token ≡ Ok u) is found) in
     let total = members_counted ps in
     let less = p.2 in
     let k : count - 1 ≡ member_count p.0 = omega arith in
-    let same : change ≡ reversed (growth (member_count p.0) (member_row token u) slot) =
-    turned ∙ ap reversed (grows ∙ ap (λ r. growth (count - 1) r slot) sized ∙ ap (λ n. growth n (member_row token u) slot) k) in
+    let same : change ≡ reversed_change (growth (member_count p.0) (member_row token u) slot) =
+    turned ∙ ap reversed_change (grows ∙ ap (λ r. growth (count - 1) r slot) sized ∙ ap (λ n. growth n (member_row token u) slot) k) in
     let bounds = growth-small (member_count p.0) (member_row token u) slot (subst IsSmallSize sized small) in
     subst (λ x. Cut slot change x token) (sym is)
     (subst (λ c. Cut slot c (mapping (members_of ps)) token) (sym same)
@@ -178,7 +178,7 @@ taken_member slot t u ps token count row grown change is found counted sized sma
 -- the change of a set
 pub set_changes : (path parents : List (List ℕ)) (last : List ℕ) (slot : Slot) (t u v : grammar.Tree) (change : Change)
     → path ≡ parents ++ last ∷ [] → length parents < 2 ^ 64 → Located parents Value t slot u → Put slot change u last v
-    → (w : grammar.Tree) × (set t path v ≡ Ok w) × Changes (shifted (2 * length parents) change) t w
+    → (w : grammar.Tree) × (set t path v ≡ Ok w) × Changes (shifted_change (2 * length parents) change) t w
 set_changes path parents last slot t u v change split few low is =
     let e = edit-Located (λ x token. put x token v) parents last 1 Value slot t u is.0 low is.1 in
     let kinds = e.3 (λ x y h. put-collection x v y last h) in (
@@ -190,7 +190,7 @@ set_changes path parents last slot t u v change split few low is =
 -- the change of a delete
 pub delete_changes : (path parents : List (List ℕ)) (last : List ℕ) (slot : Slot) (t u : grammar.Tree) (change : Change)
     → path ≡ parents ++ last ∷ [] → length parents < 2 ^ 64 → Located parents Value t slot u → Cut slot change u last
-    → (w : grammar.Tree) × (delete t path ≡ Ok w) × Changes (shifted (2 * length parents) change) t w
+    → (w : grammar.Tree) × (delete t path ≡ Ok w) × Changes (shifted_change (2 * length parents) change) t w
 delete_changes path parents last slot t u change split few low is =
     let e = edit-Located cut parents last 1 Value slot t u is.0 low is.1 in
     let kinds = e.3 (λ x y h. cut-collection x y last h) in (

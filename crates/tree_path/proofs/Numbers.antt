@@ -5,9 +5,10 @@ use Rattle.std.specs.Option.{option_and_then}
 use Rattle.std.proofs.lemmas.Bool.{eqb-true}
 use Rattle.std.proofs.lemmas.Bool.Decides.{nat_tests}
 use Rattle.std.proofs.lemmas.List.{at_drop_more}
-use Rattle.yaml_grammar.specs.Texts.{every, is_empty}
+use Rattle.std.specs.List.{list_all}
+use Rattle.yaml_grammar.specs.Texts.{is_empty}
 use Rattle.tree_path.specs.Paths.{digit, number_after}
-use Rattle.tree_path.specs.Steps.{number_of, saturated}
+use Rattle.tree_path.specs.Steps.{number_of, as_usize}
 
 -- the number with one more digit; nothing comes after a leading zero
 abbrev pub digit_after : Option ℕ → ℕ → Option ℕ
@@ -20,12 +21,12 @@ abbrev pub read_on : Option ℕ → List ℕ → Option ℕ
 read_on so_far [] = so_far
 read_on so_far (c ∷ cs) = cond (digit c) (option_and_then (λ n. read_on (Some n) cs) (digit_after so_far (c - 48))) None
 
-read_on-Some : (cs : List ℕ) (n : ℕ) → 0 < n → read_on (Some n) cs ≡ cond (every digit cs) (Some (number_after n cs)) None
+read_on-Some : (cs : List ℕ) (n : ℕ) → 0 < n → read_on (Some n) cs ≡ cond (list_all digit cs) (Some (number_after n cs)) None
 read_on-Some [] n positive = refl
 read_on-Some (c ∷ cs) zero positive = absurd (omega arith)
 read_on-Some (c ∷ cs) (suc n) positive =
     let P : Bool → Type 0 = λ b. cond b (read_on (Some (10 * suc n + (c - 48))) cs) None
-    ≡ cond (b && every digit cs) (Some (number_after (10 * suc n + (c - 48)) cs)) None in
+    ≡ cond (b && list_all digit cs) (Some (number_after (10 * suc n + (c - 48)) cs)) None in
     elim (digit c) as P [ true ↦ read_on-Some cs (10 * suc n + (c - 48)) (omega arith) | false ↦ refl ]
 
 -- after a leading zero is nothing
@@ -47,14 +48,14 @@ pub read_on-None : (cs : List ℕ) → read_on None cs ≡ number_of cs
 read_on-None [] = refl
 read_on-None (c ∷ cs) =
     let value : Bool → Option ℕ = λ number. cond number (Some (number_after (10 * 0 + (c - 48)) cs)) None in
-    let P : Bool → Type 0 = λ z. (c == 48) ≡ z → cond (digit c) (read_on (Some (c - 48)) cs) None ≡ value (cond z (is_empty cs) (digit c && every digit cs)) in
-    let Q : Bool → Type 0 = λ d. digit c ≡ d → (c == 48) ≡ false → cond d (read_on (Some (c - 48)) cs) None ≡ value (d && every digit cs) in
+    let P : Bool → Type 0 = λ z. (c == 48) ≡ z → cond (digit c) (read_on (Some (c - 48)) cs) None ≡ value (cond z (is_empty cs) (digit c && list_all digit cs)) in
+    let Q : Bool → Type 0 = λ d. digit c ≡ d → (c == 48) ≡ false → cond d (read_on (Some (c - 48)) cs) None ≡ value (d && list_all digit cs) in
     (elim (c == 48) as P [
       | true ↦ λ e. subst (λ d. cond (digit d) (read_on (Some (d - 48)) cs) None ≡ cond (is_empty cs) (Some (number_after (10 * 0 + (d - 48)) cs)) None)
           (sym (eqb-true c 48 e)) (read_on-0 cs)
       | false ↦ (elim (digit c) as Q [
         | true ↦ λ d e. read_on-Some cs (c - 48) (digit-above c d e)
-            ∙ ap (λ n. cond (every digit cs) (Some (number_after n cs)) None) (omega arith)
+            ∙ ap (λ n. cond (list_all digit cs) (Some (number_after n cs)) None) (omega arith)
         | false ↦ λ d e. refl
       ]) refl
     ]) refl
@@ -87,28 +88,28 @@ read_on-digit cs n c so_far turn is = rw (read_on-more cs n c so_far turn, is)
 
 -- no digit yet: this one is the number
 pub next-None : (cs : List ℕ) (n m c d : ℕ) (so_far target : Option ℕ) → (n < length cs) × (c ≡ get_or cs n c) → m ≡ n + 1
-    → (digit c ≡ true) × (d ≡ c - 48) → d < 10 → None ≡ option_map saturated so_far → read_on so_far (drop n cs) ≡ target
-    → (next : Option ℕ) × (read_on next (drop m cs) ≡ target) × (Some d ≡ option_map saturated next)
+    → (digit c ≡ true) × (d ≡ c - 48) → d < 10 → None ≡ option_map as_usize so_far → read_on so_far (drop n cs) ≡ target
+    → (next : Option ℕ) × (read_on next (drop m cs) ≡ target) × (Some d ≡ option_map as_usize next)
 next-None cs n m c d None target turn more is small seen before =
     (Some (c - 48), rw more (sym (read_on-digit cs n c None turn is.0) ∙ before), ap Some (omega arith))
 next-None cs n m c d (Some k) target turn more is small seen before = cc
 
 -- digits so far, which don't begin with zero
 pub next-Some : (cs : List ℕ) (n m c d old new : ℕ) (so_far target : Option ℕ) → (n < length cs) × (c ≡ get_or cs n c) → m ≡ n + 1
-    → (digit c ≡ true) × (d ≡ c - 48) → (old ≡ 0 → ⊥) → new ≡ saturated (saturated (old * 10) + d)
-    → Some old ≡ option_map saturated so_far → read_on so_far (drop n cs) ≡ target
-    → (next : Option ℕ) × (read_on next (drop m cs) ≡ target) × (Some new ≡ option_map saturated next)
+    → (digit c ≡ true) × (d ≡ c - 48) → (old ≡ 0 → ⊥) → new ≡ as_usize (as_usize (old * 10) + d)
+    → Some old ≡ option_map as_usize so_far → read_on so_far (drop n cs) ≡ target
+    → (next : Option ℕ) × (read_on next (drop m cs) ≡ target) × (Some new ≡ option_map as_usize next)
 next-Some cs n m c d old new None target turn more is nonzero adds seen before = cc
 next-Some cs n m c d old new (Some zero) target turn more is nonzero adds seen before =
     let e : old ≡ 0 = cc in absurd (nonzero e)
 next-Some cs n m c d old new (Some (suc k)) target turn more is nonzero adds seen before =
-    let e : old ≡ saturated (suc k) = cc in
+    let e : old ≡ as_usize (suc k) = cc in
     (Some (10 * suc k + (c - 48)), rw more (sym (read_on-digit cs n c (Some (suc k)) turn is.0) ∙ before), ap Some (omega arith))
 
 -- a zero so far: no number has this digit after it
 pub next-zero : (cs : List ℕ) (n c : ℕ) (so_far target : Option ℕ) → (n < length cs) × (c ≡ get_or cs n c)
-    → digit c ≡ true → Some 0 ≡ option_map saturated so_far → read_on so_far (drop n cs) ≡ target → None ≡ target
+    → digit c ≡ true → Some 0 ≡ option_map as_usize so_far → read_on so_far (drop n cs) ≡ target → None ≡ target
 next-zero cs n c None target turn is seen before = cc
 next-zero cs n c (Some zero) target turn is seen before = sym (read_on-digit cs n c (Some zero) turn is) ∙ before
 next-zero cs n c (Some (suc k)) target turn is seen before =
-    let e : 0 ≡ saturated (suc k) = cc in absurd (omega arith)
+    let e : 0 ≡ as_usize (suc k) = cc in absurd (omega arith)

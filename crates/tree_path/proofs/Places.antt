@@ -12,7 +12,7 @@ use Rattle.yaml_grammar.specs.Trees as grammar
 use Rattle.yaml_grammar.specs.Trees.{element, member}
 use Rattle.yaml_tree.specs.Seen.{Pair, tree_of, elements_of, members_of}
 use Rattle.yaml_tree.specs.declared.tree.Tree.{Tree}
-use Rattle.tree_path.specs.Paths.{element_at, put_element, cut_element, push_element, value_of, put_member, cut_member}
+use Rattle.tree_path.specs.Paths.{element_at, put_element, cut_element, push_element, value_of, put_member, cut_member, place_of}
 use Rattle.tree_path.specs.Steps.{key_place}
 use Rattle.tree_path.proofs.StepLaws.{option_map-Some, option_map-None}
 
@@ -49,6 +49,11 @@ pub key_place-end : (key : List ℕ) (ps : List Pair) (place : ℕ) → length p
 key_place-end key ps place past = at_drop_all (key_place key) ps place past
 
 -- ---- the pair with a key, as a member
+
+-- the place of a key among the members is that among the pairs
+pub place_of-pairs : (ps : List Pair) (key : List ℕ) → place_of (members_of ps) key ≡ key_place key ps
+place_of-pairs [] key = refl
+place_of-pairs (p ∷ ps) key = ap (λ o. cond (same_text key (chars (string_bytes p.0))) (Some 0) (option_map suc o)) (place_of-pairs ps key)
 
 -- the value of a key is that at its place
 pub value_of-place : (key : List ℕ) (ps : List Pair) (i : ℕ) → key_place key ps ≡ Some i

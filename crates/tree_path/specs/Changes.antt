@@ -1,7 +1,7 @@
 -- How an edit changes the length of a tree in the one style.
-use Rattle.std.specs.Prelude.{◌≡◌, ℕ, ◌+◌, ◌-◌, ◌*◌, ◌^◌, ◌<◌, ◌==◌, List, [], ◌∷◌, Result, Ok, if◌then◌else◌}
+use Rattle.std.specs.Prelude.{◌≡◌, ℕ, ◌+◌, ◌-◌, ◌*◌, ◌^◌, ◌<◌, ◌==◌, List, [], ◌∷◌, Ok, if◌then◌else◌}
 use Rattle.yaml_grammar.specs.Texts.{byte_len}
-use Rattle.yaml_grammar.specs.Trees.{Tree, text, sequence, mapping, Elements, no_element, element, Members, no_member, member}
+use Rattle.yaml_grammar.specs.Trees.{Tree, text, sequence, mapping, no_element, element, no_member, member}
 use Rattle.yaml_grammar.specs.Style.{scalar_lines, elements_at, members_at, value_at, style_text}
 use Rattle.yaml_tree.specs.Sizes.{length_at, element_size, value_size, key_size}
 use Rattle.yaml_tree.specs.declared.size.Size.{Size}
@@ -99,13 +99,13 @@ growth count row slot =
     else record { removed = record { bytes = 0; lines = 0 }; added = row }
 
 -- the change back
-abbrev pub reversed : Change → Change
-reversed change = record { removed = change.added; added = change.removed }
+abbrev pub reversed_change : Change → Change
+reversed_change change = record { removed = change.added; added = change.removed }
 
 -- a part, and a change, that is made n spaces further in
 abbrev pub shifted_size : ℕ → Size → Size
 shifted_size n size = record { bytes = size.bytes + n * size.lines; lines = size.lines }
 
 -- the change n columns further to the right
-abbrev pub shifted : ℕ → Change → Change
-shifted n change = record { removed = shifted_size n change.removed; added = shifted_size n change.added }
+abbrev pub shifted_change : ℕ → Change → Change
+shifted_change n change = record { removed = shifted_size n change.removed; added = shifted_size n change.added }

@@ -2,7 +2,8 @@
 -- first refusal on the way; steps count from 1.
 use Rattle.std.specs.Prelude.{ℕ, zero, suc, ◌+◌, ◌-◌, ◌*◌, Bool, false, ◌==◌, if◌then◌else◌, List, [], ◌∷◌, codes, Option, Some, None, option_map, Result, Ok, Err}
 use Rattle.yaml_chars.specs.Classes.{between}
-use Rattle.yaml_grammar.specs.Texts.{every, is_empty, same_text}
+use Rattle.std.specs.List.{list_all}
+use Rattle.yaml_grammar.specs.Texts.{is_empty, same_text}
 use Rattle.yaml_grammar.specs.Trees.{Tree, text, sequence, mapping, Elements, no_element, element, Members, no_member, member}
 use Rattle.tree_path.specs.declared.fault.PathFault.{PathFault}
 use Rattle.tree_path.specs.declared.fault.PathFault.TheVariants.{NoSuchPlace, NotIndex}
@@ -18,7 +19,7 @@ digit c = between 48 57 c
 -- `0`, or digits without a leading zero
 abbrev pub is_number : List ℕ → Bool
 is_number [] = false
-is_number (c ∷ cs) = if c == 48 then is_empty cs else every digit (c ∷ cs)
+is_number (c ∷ cs) = if c == 48 then is_empty cs else list_all digit (c ∷ cs)
 
 -- the number that digits spell after a number n
 abbrev pub number_after : ℕ → List ℕ → ℕ
@@ -146,3 +147,30 @@ set t (token ∷ tokens) v = edit_from (λ u last. put u last v) 1 t token token
 abbrev pub delete : Tree → List (List ℕ) → Result Tree PathFault
 delete t [] = Ok t
 delete t (token ∷ tokens) = edit_from cut 1 t token tokens
+
+-- ---- where the last key of a path is, so that an edit need not search for it
+
+-- the place, from 0, of the first member with a key
+abbrev pub place_of : Members → List ℕ → Option ℕ
+place_of no_member key = None
+place_of (member other t ms) key = if same_text key other then Some 0 else option_map suc (place_of ms key)
+
+-- the place of a key in a mapping; none where it is missing, or where the tree is no mapping
+abbrev pub key_in : Tree → List ℕ → Option ℕ
+key_in (text value) key = None
+key_in (sequence ts) key = None
+key_in (mapping ms) key = place_of ms key
+
+-- what holds of the value to which a step leads
+abbrev pub in_child : Result Tree Miss → (Tree → Option ℕ) → Option ℕ
+in_child (Ok t) next = next t
+in_child (Err miss) next = None
+
+abbrev pub last_key_from : Tree → List ℕ → List (List ℕ) → Option ℕ
+last_key_from t token [] = key_in t token
+last_key_from t token (next ∷ tokens) = in_child (child t token) (λ u. last_key_from u next tokens)
+
+-- the place of a path's last key in the mapping to which the steps before it lead
+abbrev pub last_key : Tree → List (List ℕ) → Option ℕ
+last_key t [] = None
+last_key t (token ∷ tokens) = last_key_from t token tokens

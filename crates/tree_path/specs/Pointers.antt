@@ -16,18 +16,22 @@ tilde = 126
 -- ---- the text of a path
 
 -- a character of a token as it is written
-abbrev pub spelled : ℕ → List ℕ
-spelled c = if c == tilde then codes "~0" else (if c == slash then codes "~1" else c ∷ [])
+abbrev pub char_text : ℕ → List ℕ
+char_text c = if c == tilde then codes "~0" else (if c == slash then codes "~1" else c ∷ [])
+
+-- a character that is written as itself (`unescaped` in RFC 6901, 3)
+abbrev pub unescaped : ℕ → Bool
+unescaped c = not ((c == slash) || (c == tilde))
 
 -- a token as it is written
-abbrev pub escaped : List ℕ → List ℕ
-escaped [] = []
-escaped (c ∷ cs) = spelled c ++ escaped cs
+abbrev pub token_text : List ℕ → List ℕ
+token_text [] = []
+token_text (c ∷ cs) = char_text c ++ token_text cs
 
 -- the text of a path: a `/` before each token (RFC 6901, 3)
 abbrev pub pointer_text : List (List ℕ) → List ℕ
 pointer_text [] = []
-pointer_text (token ∷ tokens) = slash ∷ (escaped token ++ pointer_text tokens)
+pointer_text (token ∷ tokens) = slash ∷ (token_text token ++ pointer_text tokens)
 
 -- ---- texts that are no path's
 
@@ -58,18 +62,18 @@ pieces [] = []
 pieces (c ∷ cs) = if c == slash then first_piece cs ∷ pieces cs else pieces cs
 
 -- the character that a `~` and the digit after it spell, and what is after them
-abbrev pub unspelled : List ℕ → List ℕ
-unspelled [] = []
-unspelled (d ∷ cs) = (if d == 48 then tilde else slash) ∷ cs
+abbrev pub after_tilde : List ℕ → List ℕ
+after_tilde [] = []
+after_tilde (d ∷ cs) = (if d == 48 then tilde else slash) ∷ cs
 
 -- a token from its text: `~1` is `/`, and then `~0` is `~` (RFC 6901, 4)
-abbrev pub unescaped : List ℕ → List ℕ
-unescaped [] = []
-unescaped (c ∷ cs) = if c == tilde then unspelled (unescaped cs) else c ∷ unescaped cs
+abbrev pub token_from_text : List ℕ → List ℕ
+token_from_text [] = []
+token_from_text (c ∷ cs) = if c == tilde then after_tilde (token_from_text cs) else c ∷ token_from_text cs
 
 -- the path whose text this is, or where the text is wrong
 abbrev pub tokens_or_place : Option ℕ → List ℕ → Result (List (List ℕ)) PathFault
-tokens_or_place None text = Ok (map unescaped (pieces text))
+tokens_or_place None text = Ok (map token_from_text (pieces text))
 tokens_or_place (Some at) text = Err (BadPath at)
 
 -- the path that a text means, or where it is wrong

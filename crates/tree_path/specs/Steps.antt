@@ -1,5 +1,7 @@
 -- What the parts of one step are: the number that a token is, the element and the pair that it leads to.
-use Rattle.std.specs.Prelude.{◌≡◌, ◌==◌, ℕ, suc, List, [], ◌∷◌, Option, Some, None, option_map, min, Result, Ok, Err, if◌then◌else◌, nat_lt, map, String, string_bytes}
+use Rattle.std.specs.Prelude.{◌≡◌, ◌==◌, ℕ, suc, List, [], ◌∷◌, Option, Some, None, option_map, min, Result, Ok, Err, if◌then◌else◌, nat_lt, map, string_bytes}
+use Rattle.std.specs.Cow.{cow_str_bytes}
+use Rattle.std.specs.declared.borrow.CowStr.{CowStr}
 use Rattle.std.specs.declared.alloc.Global.{Global}
 use Rattle.std.specs.Str.{chars}
 use Rattle.yaml_grammar.specs.Texts.{same_text}
@@ -7,6 +9,8 @@ use Rattle.yaml_grammar.specs.Trees.{Tree}
 use Rattle.yaml_tree.specs.Seen.{Pair}
 use Rattle.tree_path.specs.Pointers.{tilde, slash}
 use Rattle.tree_path.specs.Paths.{is_number, number_after, index_of, at_index, child, put}
+use Rattle.tree_path.specs.declared.place.Known.{Known}
+use Rattle.tree_path.specs.declared.place.Known.TheVariants.{Place, Nothing}
 use Rattle.tree_path.specs.declared.place.Miss.{Miss}
 use Rattle.tree_path.specs.declared.place.Miss.TheVariants.{Absent}
 
@@ -15,8 +19,8 @@ abbrev pub number_of : List ℕ → Option ℕ
 number_of token = if is_number token then Some (number_after 0 token) else None
 
 -- a number as a `usize` has it: at most the greatest one
-abbrev pub saturated : ℕ → ℕ
-saturated n = min n 0xffff_ffff_ffff_ffff
+abbrev pub as_usize : ℕ → ℕ
+as_usize n = min n 0xffff_ffff_ffff_ffff
 
 -- the index of an element of a sequence of that many, or why the token leads to none
 abbrev pub index_below : List ℕ → ℕ → Result ℕ Miss
@@ -28,9 +32,14 @@ key_place key [] = None
 key_place key (pair ∷ pairs) =
     if same_text key (chars (string_bytes pair.0)) then Some 0 else option_map suc (key_place key pairs)
 
+-- what is known of a key's place is so
+abbrev pub Knows : Known → Option ℕ → Type 0
+Knows (Place place) there = place ≡ there
+Knows Nothing there = Unit {0}
+
 -- tokens of the code as texts
-abbrev pub texts : List (String Global) → List (List ℕ)
-texts tokens = map (λ token. chars (string_bytes token)) tokens
+abbrev pub texts : List (CowStr Global) → List (List ℕ)
+texts tokens = map (λ token. chars (cow_str_bytes token)) tokens
 
 -- the character that `~` and this one spell
 abbrev pub escaped_by : Option ℕ → Option ℕ

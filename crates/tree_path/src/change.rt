@@ -6,7 +6,7 @@ ghost use Rattle.yaml_grammar.specs.Trees.{depth};
 ghost use Rattle.yaml_grammar.specs.Style.{style_text};
 ghost use Rattle.yaml_tree.specs.Seen.{tree_of};
 ghost use Rattle.yaml_tree.specs.Sizes.{length_at};
-ghost use Rattle.tree_path.specs.Changes.{growth, reversed, shifted, shifted_size, slot_in, first_row, child_size, element_row, member_row};
+ghost use Rattle.tree_path.specs.Changes.{growth, reversed_change, shifted_change, shifted_size, slot_in, first_row, child_size, element_row, member_row};
 
 use yaml_tree::{Size, Tree};
 
@@ -16,7 +16,7 @@ const EMPTY: Size = Size { bytes: 3, lines: 0 };
 const NOTHING: Size = Size { bytes: 0, lines: 0 };
 
 /// What an edit takes out of a tree's text in the one style, and what it puts in. Both are at the indentation of the
-/// whole tree: 0 for a tree by itself, and two more than its key's for the value of a key.
+/// whole tree. It is 0 for a tree by itself, and two more than its key's for the value of a key.
 #[derive(Clone, Copy, Debug, PartialEq, Eq)]
 pub struct Change {
     /// What is taken out.
@@ -40,7 +40,7 @@ impl Change {
     }
 
     pub(crate) fn reversed(self) -> Change
-        ensures { result ≡ reversed self }
+        ensures { result ≡ reversed_change self }
     {
         Change {
             removed: self.added,
@@ -52,7 +52,7 @@ impl Change {
     pub(crate) fn shifted(self, by: u128) -> Change
         requires removed { self.removed.bytes + by * self.removed.lines < 2 ^ 128 }
         requires added { self.added.bytes + by * self.added.lines < 2 ^ 128 }
-        ensures { result ≡ shifted by self }
+        ensures { result ≡ shifted_change by self }
     {
         Change {
             removed: shifted_size(self.removed, by),

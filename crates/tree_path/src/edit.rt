@@ -5,13 +5,14 @@ ghost use Rattle.std.specs.Prelude.{◌≡◌, ◌⊎◌, ◌<◌, IfOk, IfErr, 
 ghost use Rattle.std.specs.Str.{chars};
 ghost use Rattle.yaml_grammar.specs.Trees.{Tree as Meant, sequence, mapping};
 ghost use Rattle.yaml_tree.specs.Seen.{tree_of, elements_of, members_of};
-ghost use Rattle.tree_path.specs.Paths.{at_step, at, put, cut, set, delete, child};
-ghost use Rattle.tree_path.specs.Steps.{texts, Lowered, Rebuilt};
+ghost use Rattle.tree_path.specs.Paths.{at_step, at, put, cut, set, delete, child, key_in, last_key};
+ghost use Rattle.tree_path.specs.Steps.{texts, key_place, Knows, Lowered, Rebuilt};
 
 use crate::fault::PathFault;
 use crate::path::Path;
-use crate::place::{self, Miss};
+use crate::place::{self, Known, Miss};
 use std::alloc::Global;
+use std::borrow::CowStr;
 use std::mem;
 use yaml_tree::Tree;
 
@@ -24,10 +25,10 @@ pub fn at<'t>(tree: &'t Tree, path: &Path) -> Result<&'t Tree, PathFault>
     value_at(tree, &path.tokens)
 }
 
-/// Puts a value at a path, in place. Every step but the last leads to a value that is there, as in [`at`]. At the
-/// last one a key that is there keeps its place in the mapping, and a new key goes last; an index replaces its
-/// element, and `-` means a new element after the last one. The empty path replaces the whole tree. A refusal, and
-/// running out of memory, hands the value back and leaves the tree as it was.
+/// Puts a value at a path, in place. Every step but the last leads to a value that is there, as in [`at`]. At the last
+/// one a key that is there keeps its place in the mapping, and a new key goes last. An index replaces its element, and
+/// `-` means a new element after the last one. The empty path replaces the whole tree. A refusal, and running out of
+/// memory, hands the value back and leaves the tree as it was.
 pub fn set(
     alloc: Global,
     tree: &mut Tree,
@@ -42,7 +43,30 @@ pub fn set(
     ensures value_back { IfErr result (λ refused. tree_of refused.0 ≡ tree_of value) }
     ensures unchanged { OnErr result (tree_of tree.new ≡ tree_of tree.old) }
 {
-    set_at(alloc, tree, &path.tokens, value)
+    set_at(alloc, tree, &path.tokens, Known::Nothing, value)
+}
+
+/// The edit of [`set`], where the place of the path's last key in its mapping is known. [`plan_set`] returns it, so
+/// that the key is searched for once.
+///
+/// [`plan_set`]: crate::plan_set
+pub fn set_planned(
+    alloc: Global,
+    tree: &mut Tree,
+    path: &Path,
+    place: Option<usize>,
+    value: Tree,
+) -> Result<(), (Tree, PathFault)>
+    requires { place ≡ last_key (tree_of tree.old) path.now }
+    ensures ok { OnOk result (set (tree_of tree.old) path.now (tree_of value)
+        ≡ Ok (tree_of tree.new)) }
+    ensures refused { IfErr result
+        (λ refused. (refused.1 ≡ PathFault.OutOfMemory)
+        ⊎ (set (tree_of tree.old) path.now (tree_of value) ≡ Err refused.1)) }
+    ensures value_back { IfErr result (λ refused. tree_of refused.0 ≡ tree_of value) }
+    ensures unchanged { OnErr result (tree_of tree.new ≡ tree_of tree.old) }
+{
+    set_at(alloc, tree, &path.tokens, Known::Place(place), value)
 }
 
 /// Takes the value at a path out of the tree: the pair with its key, or the element, whose followers close up. The
@@ -55,10 +79,27 @@ pub fn delete(tree: &mut Tree, path: &Path) -> Result<Tree, PathFault>
     ensures refused { IfErr result (λ fault. delete (tree_of tree.old) path.now ≡ Err fault) }
     ensures unchanged { OnErr result (tree_of tree.new ≡ tree_of tree.old) }
 {
-    delete_at(*path.tokens.allocator(), tree, &path.tokens)
+    delete_at(*path.tokens.allocator(), tree, &path.tokens, Known::Nothing)
 }
 
-fn value_at<'t>(tree: &'t Tree, tokens: &[String]) -> Result<&'t Tree, PathFault>
+/// The edit of [`delete`], where the place of the path's last key in its mapping is known. [`plan_delete`] returns
+/// it, so that the key is searched for once.
+///
+/// [`plan_delete`]: crate::plan_delete
+pub fn delete_planned(tree: &mut Tree, path: &Path, place: Option<usize>) -> Result<Tree, PathFault>
+    requires steps { 0 < length path.now }
+    requires place { place ≡ last_key (tree_of tree.old) path.now }
+    ensures ok { OnOk result (delete (tree_of tree.old) path.now ≡ Ok (tree_of tree.new)) }
+    ensures removed { IfOk result (λ removed.
+        at (tree_of tree.old) path.now ≡ Ok (tree_of removed)) }
+    ensures refused { IfErr result (λ fault. delete (tree_of tree.old) path.now ≡ Err fault) }
+    ensures unchanged { OnErr result (tree_of tree.new ≡ tree_of tree.old) }
+{
+    let alloc = *path.tokens.allocator();
+    delete_at(alloc, tree, &path.tokens, Known::Place(place))
+}
+
+fn value_at<'t>(tree: &'t Tree, tokens: &[CowStr<'_>]) -> Result<&'t Tree, PathFault>
     ensures ok { IfOk result (λ value. at (tree_of tree.now) (texts tokens.now)
         ≡ Ok (tree_of value.now)) }
     ensures refused { IfErr result (λ fault. at (tree_of tree.now) (texts tokens.now) ≡ Err fault) }
@@ -76,9 +117,11 @@ fn value_at<'t>(tree: &'t Tree, tokens: &[String]) -> Result<&'t Tree, PathFault
 fn set_at(
     alloc: Global,
     tree: &mut Tree,
-    tokens: &[String],
+    tokens: &[CowStr<'_>],
+    known: Known,
     value: Tree,
 ) -> Result<(), (Tree, PathFault)>
+    requires { Knows known (last_key (tree_of tree.old) (texts tokens.now)) }
     ensures ok { OnOk result (set (tree_of tree.old) (texts tokens.now) (tree_of value)
         ≡ Ok (tree_of tree.new)) }
     ensures refused { IfErr result
@@ -95,13 +138,21 @@ fn set_at(
     if let Err(fault) = descend(tree, &mut above, parents) {
         return Err((value, fault));
     }
-    let outcome = put(alloc, tree, last.as_str(), tokens.len(), value);
+    let token = last.as_str();
+    let place = known.place_in(tree, token);
+    let outcome = put(alloc, tree, token, place, tokens.len(), value);
     ascend(tree, &mut above, parents);
     outcome
 }
 
-fn delete_at(alloc: Global, tree: &mut Tree, tokens: &[String]) -> Result<Tree, PathFault>
-    requires { 0 < length tokens.now }
+fn delete_at(
+    alloc: Global,
+    tree: &mut Tree,
+    tokens: &[CowStr<'_>],
+    known: Known,
+) -> Result<Tree, PathFault>
+    requires steps { 0 < length tokens.now }
+    requires known { Knows known (last_key (tree_of tree.old) (texts tokens.now)) }
     ensures ok { OnOk result (delete (tree_of tree.old) (texts tokens.now)
         ≡ Ok (tree_of tree.new)) }
     ensures removed { IfOk result (λ removed. at (tree_of tree.old) (texts tokens.now)
@@ -113,7 +164,9 @@ fn delete_at(alloc: Global, tree: &mut Tree, tokens: &[String]) -> Result<Tree, 
     let (last, parents) = tokens.split_last().unwrap();
     let mut above = Tree::Seq(Vec::new(alloc));
     descend(tree, &mut above, parents)?;
-    let outcome = cut(tree, last.as_str());
+    let token = last.as_str();
+    let place = known.place_in(tree, token);
+    let outcome = cut(tree, token, place);
     ascend(tree, &mut above, parents);
     match outcome {
         Ok(removed) => Ok(removed),
@@ -121,9 +174,9 @@ fn delete_at(alloc: Global, tree: &mut Tree, tokens: &[String]) -> Result<Tree, 
     }
 }
 
-/// Goes down a tree by each token: the tree becomes the value that they lead to, and what is above it goes into
+/// Goes down a tree by each token. The tree becomes the value that they lead to, and what is above it goes into
 /// `above`, together with what was there. A refusal changes neither.
-fn descend(tree: &mut Tree, above: &mut Tree, tokens: &[String]) -> Result<(), PathFault>
+fn descend(tree: &mut Tree, above: &mut Tree, tokens: &[CowStr<'_>]) -> Result<(), PathFault>
     ensures ok { OnOk result
         (Lowered (texts tokens.now) (tree_of tree.old) (tree_of above.old) (tree_of tree.new)
         (tree_of above.new)) }
@@ -143,28 +196,31 @@ fn descend(tree: &mut Tree, above: &mut Tree, tokens: &[String]) -> Result<(), P
 }
 
 /// Goes back up by the tokens that `descend` took: the tree becomes the one above, with what it was in its place.
-fn ascend(tree: &mut Tree, above: &mut Tree, tokens: &[String])
+fn ascend(tree: &mut Tree, above: &mut Tree, tokens: &[CowStr<'_>])
     requires { (t a u : Meant) × Lowered (texts tokens.now) t a u (tree_of above.old) }
     ensures { (t a u : Meant) → Lowered (texts tokens.now) t a u (tree_of above.old)
         → Rebuilt (texts tokens.now) t (tree_of tree.old) (tree_of tree.new)
         × (tree_of above.new ≡ a) }
 {
-    let mut left = tokens;
-    while let Some((token, rest)) = left.split_last() {
+    let mut left = tokens.len();
+    while left > 0 {
+        left -= 1;
         mem::swap(tree, above);
-        place::exchange(tree, token.as_str(), above).unwrap();
-        left = rest;
+        place::exchange(tree, tokens[left].as_str(), above).unwrap();
     }
 }
 
-/// Puts a value where a path's last step leads, counted from 1. A refusal hands the value back and changes nothing.
+/// Puts a value where a path's last step leads, counted from 1, where the place of its key is known. A refusal hands
+/// the value back and changes nothing.
 fn put(
     alloc: Global,
     tree: &mut Tree,
     token: &str,
+    place: Option<usize>,
     step: usize,
     value: Tree,
 ) -> Result<(), (Tree, PathFault)>
+    requires { place ≡ key_in (tree_of tree.old) (chars token.now) }
     ensures ok { OnOk result (put (tree_of tree.old) (chars token.now) (tree_of value)
         ≡ Ok (tree_of tree.new)) }
     ensures refused { IfErr result
@@ -177,7 +233,7 @@ fn put(
     match tree {
         Tree::Text(_) => Err((value, PathFault::NoSuchPlace { step })),
         Tree::Seq(items) => put_element(items, token, step, value),
-        Tree::Map(pairs) => put_pair(alloc, pairs, token, value),
+        Tree::Map(pairs) => put_pair(alloc, pairs, token, place, value),
     }
 }
 
@@ -219,8 +275,10 @@ fn put_pair(
     alloc: Global,
     pairs: &mut Vec<(String, Tree)>,
     key: &str,
+    place: Option<usize>,
     value: Tree,
 ) -> Result<(), (Tree, PathFault)>
+    requires { place ≡ key_place (chars key.now) pairs.old.items }
     ensures ok { OnOk result
         (put (mapping (members_of pairs.old.items)) (chars key.now) (tree_of value)
         ≡ Ok (mapping (members_of pairs.new.items))) }
@@ -228,7 +286,7 @@ fn put_pair(
     ensures value_back { IfErr result (λ refused. refused.0 ≡ value) }
     ensures unchanged { OnErr result (pairs.new.items ≡ pairs.old.items) }
 {
-    if let Some(place) = place::key_place(pairs, key) {
+    if let Some(place) = place {
         pairs[place].1 = value;
         return Ok(());
     }
@@ -241,8 +299,9 @@ fn put_pair(
     }
 }
 
-/// Takes out the value to which a step leads.
-fn cut(tree: &mut Tree, token: &str) -> Result<Tree, Miss>
+/// Takes out the value to which a step leads, where the place of its key is known.
+fn cut(tree: &mut Tree, token: &str, place: Option<usize>) -> Result<Tree, Miss>
+    requires { place ≡ key_in (tree_of tree.old) (chars token.now) }
     ensures ok { OnOk result (cut (tree_of tree.old) (chars token.now) ≡ Ok (tree_of tree.new)) }
     ensures removed { IfOk result (λ removed. child (tree_of tree.old) (chars token.now)
         ≡ Ok (tree_of removed)) }
@@ -252,7 +311,7 @@ fn cut(tree: &mut Tree, token: &str) -> Result<Tree, Miss>
     match tree {
         Tree::Text(_) => Err(Miss::Absent),
         Tree::Seq(items) => cut_element(items, token),
-        Tree::Map(pairs) => cut_pair(pairs, token),
+        Tree::Map(pairs) => cut_pair(pairs, token, place),
     }
 }
 
@@ -272,8 +331,9 @@ fn cut_element(items: &mut Vec<Tree>, token: &str) -> Result<Tree, Miss>
     Ok(items.remove(index))
 }
 
-/// Takes out the first pair with the key.
-fn cut_pair(pairs: &mut Vec<(String, Tree)>, key: &str) -> Result<Tree, Miss>
+/// Takes out the first pair with the key, at its place.
+fn cut_pair(pairs: &mut Vec<(String, Tree)>, key: &str, place: Option<usize>) -> Result<Tree, Miss>
+    requires { place ≡ key_place (chars key.now) pairs.old.items }
     ensures ok { OnOk result
         (cut (mapping (members_of pairs.old.items)) (chars key.now)
         ≡ Ok (mapping (members_of pairs.new.items))) }
@@ -284,6 +344,6 @@ fn cut_pair(pairs: &mut Vec<(String, Tree)>, key: &str) -> Result<Tree, Miss>
         cut (mapping (members_of pairs.old.items)) (chars key.now) ≡ Err miss) }
     ensures unchanged { OnErr result (pairs.new ≡ pairs.old) }
 {
-    let place = place::key_place(pairs, key).ok_or(Miss::Absent)?;
+    let place = place.ok_or(Miss::Absent)?;
     Ok(pairs.remove(place).1)
 }

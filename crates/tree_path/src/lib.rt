@@ -11,10 +11,10 @@ mod path;
 mod place;
 
 pub use change::Change;
-pub use edit::{at, delete, set};
+pub use edit::{at, delete, delete_planned, set, set_planned};
 pub use fault::PathFault;
 pub use laws::{keys_stay_distinct, set_is_found, text_is_read_back};
-pub use measure::{delete_change, delete_len, set_change, set_len};
+pub use measure::{Plan, delete_change, delete_len, plan_delete, plan_set, set_change, set_len};
 pub use path::Path;
 
 #[cfg(test)]

@@ -7,13 +7,14 @@ ghost use Rattle.yaml_grammar.specs.Style.{style_text};
 ghost use Rattle.yaml_tree.specs.Kept.{IsKept};
 ghost use Rattle.yaml_tree.specs.Seen.{tree_of};
 ghost use Rattle.tree_path.specs.Changes.{Changes, ChangesSmall, Located};
-ghost use Rattle.tree_path.specs.Paths.{at, set, delete, child, put, cut};
+ghost use Rattle.tree_path.specs.Paths.{at, set, delete, child, put, cut, key_in, last_key};
 ghost use Rattle.tree_path.specs.Steps.{texts};
 
 use crate::change::{Change, Slot, element_row, growth, member_row};
 use crate::fault::PathFault;
 use crate::path::Path;
 use crate::place::{self, Miss};
+use std::borrow::CowStr;
 use yaml_tree::{Config, Tree, style_len};
 
 /// The node that an edit changes, and its context.
@@ -23,9 +24,52 @@ struct Parent<'t> {
     slot: Slot,
 }
 
-/// What [`set`](crate::set) changes in the length of a configuration, without setting anything. The path is not
-/// empty, and the value is the tree of a configuration. It takes no memory, and costs what the path, the value and
-/// what it replaces cost, not what the configuration does; to find a key among many it compares them one by one.
+/// What an edit changes in a tree's length, and the place of the path's last key in its mapping, from 0.
+#[derive(Clone, Copy, Debug, PartialEq, Eq)]
+pub struct Plan {
+    /// What the edit changes.
+    pub change: Change,
+    /// Where the key is; none where it is missing, or where the last step leads into a sequence.
+    pub place: Option<usize>,
+}
+
+/// What [`set`](crate::set) changes in the length of a configuration, without setting anything, and where the path's
+/// last key is, for [`set_planned`](crate::set_planned). The path is not empty, and the value is the tree of a
+/// configuration. It takes no memory, and costs what the path, the value and what it replaces cost, not what the
+/// configuration does. To find a key among many it compares them one by one.
+pub fn plan_set(config: &Config, path: &Path, value: &Tree) -> Result<Plan, PathFault>
+    requires steps { 0 < length path.now }
+    requires kept { IsKept (tree_of value.now) }
+    ensures ok { IfOk result (λ plan. (new : Meant)
+        × (set (tree_of config.now) path.now (tree_of value.now) ≡ Ok new)
+        × Changes plan.change (tree_of config.now) new) }
+    ensures place { IfOk result (λ plan.
+        plan.place ≡ last_key (tree_of config.now) path.now) }
+    ensures refused { IfErr result (λ fault. set (tree_of config.now) path.now (tree_of value.now)
+        ≡ Err fault) }
+{
+    let tree = config.tree();
+    plan_set_at(tree, &path.tokens, value)
+}
+
+/// What [`delete`](crate::delete) changes in the length of a configuration, without deleting anything, and where the
+/// path's last key is, for [`delete_planned`](crate::delete_planned). The path is not empty. It takes no memory, and
+/// costs what the path and what is deleted cost, not what the configuration does. To find a key among many it compares
+/// them one by one.
+pub fn plan_delete(config: &Config, path: &Path) -> Result<Plan, PathFault>
+    requires { 0 < length path.now }
+    ensures ok { IfOk result (λ plan. (new : Meant)
+        × (delete (tree_of config.now) path.now ≡ Ok new)
+        × Changes plan.change (tree_of config.now) new) }
+    ensures place { IfOk result (λ plan.
+        plan.place ≡ last_key (tree_of config.now) path.now) }
+    ensures refused { IfErr result (λ fault. delete (tree_of config.now) path.now ≡ Err fault) }
+{
+    let tree = config.tree();
+    plan_delete_at(tree, &path.tokens)
+}
+
+/// What [`set`](crate::set) changes in the length of a configuration, as [`plan_set`] returns it.
 pub fn set_change(config: &Config, path: &Path, value: &Tree) -> Result<Change, PathFault>
     requires steps { 0 < length path.now }
     requires kept { IsKept (tree_of value.now) }
@@ -35,13 +79,11 @@ pub fn set_change(config: &Config, path: &Path, value: &Tree) -> Result<Change, 
     ensures refused { IfErr result (λ fault. set (tree_of config.now) path.now (tree_of value.now)
         ≡ Err fault) }
 {
-    let tree = config.tree();
-    set_change_at(tree, &path.tokens, value)
+    let plan = plan_set(config, path, value)?;
+    Ok(plan.change)
 }
 
-/// What [`delete`](crate::delete) changes in the length of a configuration, without deleting anything. The path is
-/// not empty. It takes no memory, and costs what the path and what is deleted cost, not what the configuration does;
-/// to find a key among many it compares them one by one.
+/// What [`delete`](crate::delete) changes in the length of a configuration, as [`plan_delete`] returns it.
 pub fn delete_change(config: &Config, path: &Path) -> Result<Change, PathFault>
     requires { 0 < length path.now }
     ensures ok { IfOk result (λ change. (new : Meant)
@@ -49,12 +91,12 @@ pub fn delete_change(config: &Config, path: &Path) -> Result<Change, PathFault>
         × Changes change (tree_of config.now) new) }
     ensures refused { IfErr result (λ fault. delete (tree_of config.now) path.now ≡ Err fault) }
 {
-    let tree = config.tree();
-    delete_change_at(tree, &path.tokens)
+    let plan = plan_delete(config, path)?;
+    Ok(plan.change)
 }
 
 /// How many bytes a configuration has in the one style after [`set`](crate::set), without setting anything. The
-/// value is the tree of a configuration. It takes no memory; what it costs is said at [`set_change`]. The faults are
+/// value is the tree of a configuration. It takes no memory; what it costs is said at [`plan_set`]. The faults are
 /// those of `set`.
 pub fn set_len(config: &Config, path: &Path, value: &Tree) -> Result<u128, PathFault>
     requires { IsKept (tree_of value.now) }
@@ -72,7 +114,7 @@ pub fn set_len(config: &Config, path: &Path, value: &Tree) -> Result<u128, PathF
 }
 
 /// How many bytes a configuration has in the one style after [`delete`](crate::delete), without deleting anything.
-/// The path is not empty. It takes no memory; what it costs is said at [`delete_change`]. The faults are those of
+/// The path is not empty. It takes no memory; what it costs is said at [`plan_delete`]. The faults are those of
 /// `delete`.
 pub fn delete_len(config: &Config, path: &Path) -> Result<u128, PathFault>
     requires { 0 < length path.now }
@@ -84,43 +126,57 @@ pub fn delete_len(config: &Config, path: &Path) -> Result<u128, PathFault>
     Ok(change.length_after(config.style_length(), 0))
 }
 
-fn set_change_at(tree: &Tree, tokens: &[String], value: &Tree) -> Result<Change, PathFault>
+fn plan_set_at(tree: &Tree, tokens: &[CowStr<'_>], value: &Tree) -> Result<Plan, PathFault>
     requires steps { 0 < length tokens.now }
     requires tree { IsKept (tree_of tree.now) }
     requires value { IsKept (tree_of value.now) }
-    ensures ok { IfOk result (λ change. (new : Meant)
+    ensures ok { IfOk result (λ plan. (new : Meant)
         × (set (tree_of tree.now) (texts tokens.now) (tree_of value.now) ≡ Ok new)
-        × Changes change (tree_of tree.now) new) }
+        × Changes plan.change (tree_of tree.now) new) }
+    ensures place { IfOk result (λ plan.
+        plan.place ≡ last_key (tree_of tree.now) (texts tokens.now)) }
     ensures refused { IfErr result (λ fault.
         set (tree_of tree.now) (texts tokens.now) (tree_of value.now) ≡ Err fault) }
 {
     let (last, parents) = tokens.split_last().unwrap();
     let parent = parent_at(tree, parents)?;
-    match put_change(&parent, last.as_str(), value) {
-        Ok(change) => Ok(change.shifted(2 * parents.len() as u128)),
+    let token = last.as_str();
+    let place = place::key_in(parent.node, token);
+    match put_change(&parent, token, place, value) {
+        Ok(change) => Ok(Plan {
+            change: change.shifted(2 * parents.len() as u128),
+            place,
+        }),
         Err(miss) => Err(miss.at_step(tokens.len())),
     }
 }
 
-fn delete_change_at(tree: &Tree, tokens: &[String]) -> Result<Change, PathFault>
+fn plan_delete_at(tree: &Tree, tokens: &[CowStr<'_>]) -> Result<Plan, PathFault>
     requires steps { 0 < length tokens.now }
     requires tree { IsKept (tree_of tree.now) }
-    ensures ok { IfOk result (λ change. (new : Meant)
+    ensures ok { IfOk result (λ plan. (new : Meant)
         × (delete (tree_of tree.now) (texts tokens.now) ≡ Ok new)
-        × Changes change (tree_of tree.now) new) }
+        × Changes plan.change (tree_of tree.now) new) }
+    ensures place { IfOk result (λ plan.
+        plan.place ≡ last_key (tree_of tree.now) (texts tokens.now)) }
     ensures refused { IfErr result (λ fault. delete (tree_of tree.now) (texts tokens.now)
         ≡ Err fault) }
 {
     let (last, parents) = tokens.split_last().unwrap();
     let parent = parent_at(tree, parents)?;
-    match cut_change(&parent, last.as_str()) {
-        Ok(change) => Ok(change.shifted(2 * parents.len() as u128)),
+    let token = last.as_str();
+    let place = place::key_in(parent.node, token);
+    match cut_change(&parent, token, place) {
+        Ok(change) => Ok(Plan {
+            change: change.shifted(2 * parents.len() as u128),
+            place,
+        }),
         Err(miss) => Err(miss.at_step(tokens.len())),
     }
 }
 
 /// The node to which the tokens lead, and its context.
-fn parent_at<'t>(tree: &'t Tree, tokens: &[String]) -> Result<Parent<'t>, PathFault>
+fn parent_at<'t>(tree: &'t Tree, tokens: &[CowStr<'_>]) -> Result<Parent<'t>, PathFault>
     ensures ok { IfOk result (λ parent.
         Located (texts tokens.now) Slot.Value (tree_of tree.now) parent.slot
         (tree_of parent.node.now)) }
@@ -139,8 +195,14 @@ fn parent_at<'t>(tree: &'t Tree, tokens: &[String]) -> Result<Parent<'t>, PathFa
     Ok(Parent { node, slot })
 }
 
-/// What a value put into a node changes in its length.
-fn put_change(parent: &Parent<'_>, token: &str, value: &Tree) -> Result<Change, Miss>
+/// What a value put into a node changes in its length, where the place of its key is known.
+fn put_change(
+    parent: &Parent<'_>,
+    token: &str,
+    place: Option<usize>,
+    value: &Tree,
+) -> Result<Change, Miss>
+    requires place { place ≡ key_in (tree_of parent.now.node.now) (chars token.now) }
     requires deep { depth (tree_of parent.now.node.now) ≤ 66 }
     requires long { byte_len (style_text (tree_of parent.now.node.now)) ≤ 67108864 }
     requires value_deep { depth (tree_of value.now) ≤ 66 }
@@ -152,7 +214,7 @@ fn put_change(parent: &Parent<'_>, token: &str, value: &Tree) -> Result<Change, 
         (λ miss. put (tree_of parent.now.node.now) (chars token.now) (tree_of value.now)
         ≡ Err miss) }
 {
-    let miss = match place::child(parent.node, token) {
+    let miss = match place::child_at(parent.node, token, place) {
         Ok(old) => {
             let slot = Slot::in_collection(parent.node);
             return Ok(Change {
@@ -174,8 +236,9 @@ fn put_change(parent: &Parent<'_>, token: &str, value: &Tree) -> Result<Change, 
     }
 }
 
-/// What a value taken out of a node changes in its length.
-fn cut_change(parent: &Parent<'_>, token: &str) -> Result<Change, Miss>
+/// What a value taken out of a node changes in its length, where the place of its key is known.
+fn cut_change(parent: &Parent<'_>, token: &str, place: Option<usize>) -> Result<Change, Miss>
+    requires place { place ≡ key_in (tree_of parent.now.node.now) (chars token.now) }
     requires deep { depth (tree_of parent.now.node.now) ≤ 66 }
     requires long { byte_len (style_text (tree_of parent.now.node.now)) ≤ 67108864 }
     ensures ok { IfOk result (λ change. (new : Meant)
@@ -184,7 +247,7 @@ fn cut_change(parent: &Parent<'_>, token: &str) -> Result<Change, Miss>
     ensures missed { IfErr result (λ miss. cut (tree_of parent.now.node.now) (chars token.now)
         ≡ Err miss) }
 {
-    let old = place::child(parent.node, token)?;
+    let old = place::child_at(parent.node, token, place)?;
     match parent.node {
         Tree::Text(_) => Err(Miss::Absent),
         Tree::Seq(items) => Ok(growth(items.len() - 1, element_row(old), parent.slot).reversed()),

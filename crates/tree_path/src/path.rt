@@ -1,55 +1,62 @@
 // A path: the tokens of a pointer.
 ghost use Rattle.std.specs.Prelude.{◌≡◌, ◌≢◌, ◌⊎◌, ◌<◌, ◌++◌, ℕ, List, length, IfOk, IfErr, OnOk};
 ghost use Rattle.std.specs.Str.{chars};
-ghost use Rattle.tree_path.specs.Pointers.{path_of, pointer_text, spelled};
+ghost use Rattle.yaml_chars.specs.Places.{IsRun};
+ghost use Rattle.tree_path.specs.Pointers.{path_of, pointer_text, char_text, unescaped};
 ghost use Rattle.tree_path.specs.Steps.{escaped_by, texts};
 
 use crate::fault::PathFault;
 use std::alloc::{AllocError, Global};
+use std::borrow::CowStr;
 use std::marker::Model;
 
-/// A path into a tree: a list of tokens, each a text (RFC 6901, 3).
+/// A path into a tree: a list of tokens, each a text (RFC 6901, 3). Tokens without a `~` are borrowed from the pointer.
 #[derive(Debug, Drop)]
-pub struct Path {
-    pub(crate) tokens: Vec<String>,
+pub struct Path<'t> {
+    pub(crate) tokens: Vec<CowStr<'t>>,
 }
 
-impl Model for Path {
-    ghost use Rattle.std.specs.Prelude.{List, ℕ, map, string_bytes};
+impl<'t> Model for Path<'t> {
+    ghost use Rattle.std.specs.Prelude.{List, ℕ, map};
+    ghost use Rattle.std.specs.Cow.{cow_str_bytes};
     ghost use Rattle.std.specs.Str.{chars};
 
     ghost Value = { List (List ℕ) };
 
-    ghost view = { λ p. map (λ token. chars (string_bytes token)) p.tokens.items };
+    ghost view = { λ p. map (λ token. chars (cow_str_bytes token)) p.tokens.items };
 }
 
-impl Path {
+impl<'t> Path<'t> {
     /// Reads a pointer (RFC 6901, 3 and 4): empty, or tokens each led by `/`, in which `~1` means `/` and `~0` means
     /// `~`. Any other text is refused by `BadPath`, which says where it is wrong.
-    pub fn parse(alloc: Global, text: &str) -> Result<Path, PathFault>
+    pub fn parse(alloc: Global, text: &'t str) -> Result<Path<'t>, PathFault>
         ensures met { (result ≡ Err PathFault.OutOfMemory) ⊎ (result ≡ path_of (chars text.now)) }
         ensures ok { IfOk result (λ path. chars text.now ≡ pointer_text path) }
         ensures refused { IfErr result
             (λ fault. fault ≢ PathFault.OutOfMemory → (tokens : List (List ℕ))
             → chars text.now ≢ pointer_text tokens) }
     {
-        let mut tokens = Vec::new(alloc);
+        let count = text.bytes().filter(|byte| *byte == b'/').count();
+        let mut tokens = Vec::with_capacity(alloc, count)?;
         let mut rest = text.chars();
         while let Some(c) = rest.next() {
             if c == '/' {
-                tokens.push(String::new(alloc))?;
+                let after = rest.as_str();
+                let end = unescaped_end(after);
+                tokens.push(CowStr::Borrowed(&after[..end]))?;
+                rest = after[end..].chars();
                 continue;
             }
             if tokens.is_empty() {
                 return Err(PathFault::BadPath { at: 0 });
             }
             if c != '~' {
-                lengthen(&mut tokens, c)?;
+                lengthen(alloc, &mut tokens, c)?;
                 continue;
             }
             let at = text.len() - rest.as_str().len() - 1;
             match escaped(rest.next()) {
-                Some(c) => lengthen(&mut tokens, c)?,
+                Some(c) => lengthen(alloc, &mut tokens, c)?,
                 None => return Err(PathFault::BadPath { at }),
             }
         }
@@ -64,6 +71,25 @@ impl Path {
     }
 }
 
+/// Returns where the characters that a pointer writes as themselves end, from the start of the text.
+fn unescaped_end(text: &str) -> usize
+    ensures { IsRun unescaped text.now 0 result }
+{
+    let bytes = text.as_bytes();
+    let mut end = 0;
+    while end < bytes.len() && is_unescaped(bytes[end]) {
+        end += 1;
+    }
+    end
+}
+
+/// Returns whether a byte belongs to a character that a pointer writes as itself.
+fn is_unescaped(byte: u8) -> bool
+    ensures { result ≡ unescaped byte }
+{
+    !matches!(byte, b'/' | b'~')
+}
+
 /// The character that a `~` before this one means.
 fn escaped(digit: Option<char>) -> Option<char>
     ensures { result ≡ escaped_by digit }
@@ -76,13 +102,15 @@ fn escaped(digit: Option<char>) -> Option<char>
 }
 
 /// Appends a character to the last token.
-fn lengthen(tokens: &mut Vec<String>, c: char) -> Result<(), AllocError>
+fn lengthen(alloc: Global, tokens: &mut Vec<CowStr<'_>>, c: char) -> Result<(), AllocError>
     requires { 0 < length tokens.old.items }
     ensures ok { OnOk result
         (pointer_text (texts tokens.new.items) ≡ pointer_text (texts tokens.old.items)
-        ++ spelled c) }
-    ensures count { length tokens.new.items ≡ length tokens.old.items }
+        ++ char_text c) }
+    ensures count { OnOk result (length tokens.new.items ≡ length tokens.old.items) }
 {
-    let last = tokens.len() - 1;
-    tokens[last].push(c)
+    let mut last = tokens.pop().unwrap().into_owned(alloc)?;
+    last.push(c)?;
+    tokens.push(CowStr::Owned(last))?;
+    Ok(())
 }

@@ -3,8 +3,8 @@ ghost use Rattle.std.specs.Prelude.{◌≡◌, IfOk, IfErr, OnOk, OnErr, Ok, Err
 ghost use Rattle.std.specs.Str.{chars};
 ghost use Rattle.yaml_grammar.specs.Trees.{sequence, mapping};
 ghost use Rattle.yaml_tree.specs.Seen.{tree_of, elements_of, members_of};
-ghost use Rattle.tree_path.specs.Paths.{child, put, refusal};
-ghost use Rattle.tree_path.specs.Steps.{number_of, saturated, index_below, key_place as place_of};
+ghost use Rattle.tree_path.specs.Paths.{child, put, refusal, key_in};
+ghost use Rattle.tree_path.specs.Steps.{number_of, as_usize, index_below, key_place as place_of, Knows};
 
 use crate::fault::PathFault;
 use std::mem;
@@ -34,7 +34,7 @@ impl Miss {
 /// The number that an index is: `0`, or digits without a leading zero (RFC 6901, 4). Beyond what a `usize` holds it
 /// is the greatest `usize`, which is past the end of each sequence.
 fn number(token: &str) -> Option<usize>
-    ensures { result ≡ option_map saturated (number_of (chars token.now)) }
+    ensures { result ≡ option_map as_usize (number_of (chars token.now)) }
 {
     let mut number = None;
     for c in token.chars() {
@@ -74,8 +74,50 @@ pub fn key_place(pairs: &[(String, Tree)], key: &str) -> Option<usize>
     None
 }
 
+/// The place, from 0, of a key in a mapping; none where it is missing, or where the tree is no mapping.
+pub fn key_in(tree: &Tree, key: &str) -> Option<usize>
+    ensures { result ≡ key_in (tree_of tree.now) (chars key.now) }
+{
+    match tree {
+        Tree::Map(pairs) => key_place(pairs, key),
+        _ => None,
+    }
+}
+
+/// What is known of the place of a key in a tree.
+#[derive(Clone, Copy, Debug, PartialEq, Eq)]
+pub enum Known {
+    /// The key is there, or it is missing.
+    Place(Option<usize>),
+    /// It was not searched for.
+    Nothing,
+}
+
+impl Known {
+    /// The place of a key: the known one, or what a search finds.
+    pub fn place_in(self, tree: &Tree, key: &str) -> Option<usize>
+        requires { Knows self (key_in (tree_of tree.now) (chars key.now)) }
+        ensures { result ≡ key_in (tree_of tree.now) (chars key.now) }
+    {
+        match self {
+            Known::Place(place) => place,
+            Known::Nothing => key_in(tree, key),
+        }
+    }
+}
+
 /// The value to which a step leads.
 pub fn child<'t>(tree: &'t Tree, token: &str) -> Result<&'t Tree, Miss>
+    ensures ok { IfOk result (λ value. child (tree_of tree.now) (chars token.now)
+        ≡ Ok (tree_of value.now)) }
+    ensures missed { IfErr result (λ miss. child (tree_of tree.now) (chars token.now) ≡ Err miss) }
+{
+    child_at(tree, token, key_in(tree, token))
+}
+
+/// The value to which a step leads, where the place of its key is known.
+pub fn child_at<'t>(tree: &'t Tree, token: &str, place: Option<usize>) -> Result<&'t Tree, Miss>
+    requires { place ≡ key_in (tree_of tree.now) (chars token.now) }
     ensures ok { IfOk result (λ value. child (tree_of tree.now) (chars token.now)
         ≡ Ok (tree_of value.now)) }
     ensures missed { IfErr result (λ miss. child (tree_of tree.now) (chars token.now) ≡ Err miss) }
@@ -87,7 +129,7 @@ pub fn child<'t>(tree: &'t Tree, token: &str) -> Result<&'t Tree, Miss>
             Ok(&items[index])
         }
         Tree::Map(pairs) => {
-            let place = key_place(pairs, token).ok_or(Miss::Absent)?;
+            let place = place.ok_or(Miss::Absent)?;
             Ok(&pairs[place].1)
         }
     }

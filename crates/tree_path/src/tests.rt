@@ -1,6 +1,7 @@
 // Paths as texts, the examples of RFC 6901, and edits.
 use crate::{Path, PathFault, at, delete, delete_len, set, set_len};
 use std::alloc::{AllocError, Global};
+use std::borrow::CowStr;
 use std::process::Abort;
 use std::test::Fail;
 use yaml_tree::{Config, Limits, Tree, read_one};
@@ -67,7 +68,7 @@ fn texts_are_read_as_paths(rt: HostRuntime) -> Result<(), Fail> {
         );
     }
     let path = Path::parse(rt.alloc(), "/~01/")?;
-    let tokens: &[String] = &path.tokens;
+    let tokens: &[CowStr<'_>] = &path.tokens;
     assert_eq!(rt; tokens.len(), 2);
     assert_eq!(rt; tokens[0].as_str(), "~1");
     assert_eq!(rt; tokens[1].as_str(), "");

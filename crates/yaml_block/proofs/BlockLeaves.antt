@@ -13,7 +13,7 @@ use Rattle.yaml_recognizers.specs.BlockNodes.{bar, flow_with, key_after, opens_p
 use Rattle.yaml_recognizers.specs.BlockScalars.{read_block}
 use Rattle.yaml_recognizers.specs.Comments.{all_comments, closes_line}
 use Rattle.yaml_recognizers.specs.Ends.{solid}
-use Rattle.yaml_recognizers.specs.Prefixes.{dropped, past, sign, taken}
+use Rattle.yaml_recognizers.specs.Prefixes.{drop_while, past, sign, take_while}
 use Rattle.yaml_recognizers.specs.OneLine.{on_one_line}
 use Rattle.yaml_recognizers.specs.Reading.{Read, on}
 use Rattle.yaml_recognizers.specs.Recognizers.{StandsFlow, block_indented_at, block_key_in, block_pairs_at, flow_leaf_at, flow_node_at}
@@ -21,7 +21,7 @@ use Rattle.yaml_recognizers.proofs.Block.BlockFrames.{asked_opens, key_opens, no
 use Rattle.yaml_recognizers.proofs.Separation.CommentsComplete.{no_comments}
 use Rattle.yaml_recognizers.proofs.Flow.FlowNodesBegin.{Opens, flow_opens}
 use Rattle.yaml_recognizers.proofs.Flow.FlowNodesFound.{stands}
-use Rattle.yaml_recognizers.proofs.Basics.Prefixes.{taken_every, taken_split}
+use Rattle.yaml_recognizers.proofs.Basics.Prefixes.{take_while_every, take_while_split}
 use Rattle.yaml_recognizers.proofs.Block.KeyLeaves.{is_key, leaf_is_key, leaf_no_key, no_leaf_no_key}
 use Rattle.yaml_recognizers.proofs.Flow.OneLineText.{flow_one_line, unbroken}
 use Rattle.yaml_recognizers.proofs.Basics.Solid.{head_of}
@@ -163,16 +163,16 @@ colon_refused p m bol sep text h = leaf_missing p m bol sep text (colon_no_bar t
 pub first_key_opens : (sits : Sits) (k m : ℕ) (bol : Bool) (sep : Sep) (text : List ℕ) (f : Flow) (rest : List ℕ)
     → flow_leaf_at m bol text ≡ Some (f, rest) → is_key f rest ≡ true
     → part_at (Some (sits, k)) m bol sep text
-    ≡ on (keyed_part k (past (dropped white rest)))
-    (λ i rest'. plug (waits_value sits k [] (key_on_line f (taken white rest))) i rest')
+    ≡ on (keyed_part k (past (drop_while white rest)))
+    (λ i rest'. plug (waits_value sits k [] (key_on_line f (take_while white rest))) i rest')
 first_key_opens sits k m bol sep text f rest e h =
-    let found : block_key_in bol text ≡ Some ((f, taken white rest), past (dropped white rest)) =
+    let found : block_key_in bol text ≡ Some ((f, take_while white rest), past (drop_while white rest)) =
     leaf_is_key m bol text f rest e h in
     let unasked : sign 63 text ≡ false = ((leaf_opens m bol text f rest e).0).no_ask in
     choose found unasked (close_pairs sits [] (block_pairs_at k bol text)) (leaf_part m bol sep text)
-    ∙ key_opens sits k bol [] text f (taken white rest) (past (dropped white rest)) unasked found
+    ∙ key_opens sits k bol [] text f (take_while white rest) (past (drop_while white rest)) unasked found
   where
-    choose : block_key_in bol text ≡ Some ((f, taken white rest), past (dropped white rest)) → sign 63 text ≡ false
+    choose : block_key_in bol text ≡ Some ((f, take_while white rest), past (drop_while white rest)) → sign 63 text ≡ false
         → (r s : Read Indented)
         → (if opens_pair block_key_in flow_leaf_at read_block bol text then r else s) ≡ r
     choose found unasked r s = rw (unasked, found) refl
@@ -197,12 +197,12 @@ leaf_no_mapping p m bol sep text f rest e n =
     choose r = rw ((leaf_opens m bol text f rest e).1, e) refl
 
 -- a `:` comes after it, and no line is closed
-colon_unclosed : (rest : List ℕ) → sign 58 (dropped white rest) ≡ true → closes_line (all_comments false rest) ≡ false
+colon_unclosed : (rest : List ℕ) → sign 58 (drop_while white rest) ≡ true → closes_line (all_comments false rest) ≡ false
 colon_unclosed rest h =
-    let i : rest ≡ taken white rest ++ (58 ∷ past (dropped white rest)) = taken_split white rest
-    ∙ ap (λ t. taken white rest ++ t) (sign_first 58 (dropped white rest) h) in
-    ap closes_line (ap (all_comments false) i ∙ no_comments false (taken white rest) (58 ∷ past (dropped white rest))
-    (taken_every white rest) refl) ∙ some (taken white rest) (past (dropped white rest))
+    let i : rest ≡ take_while white rest ++ (58 ∷ past (drop_while white rest)) = take_while_split white rest
+    ∙ ap (λ t. take_while white rest ++ t) (sign_first 58 (drop_while white rest) h) in
+    ap closes_line (ap (all_comments false) i ∙ no_comments false (take_while white rest) (58 ∷ past (drop_while white rest))
+    (take_while_every white rest) refl) ∙ some (take_while white rest) (past (drop_while white rest))
   where
     some : (xs ys : List ℕ) → closes_line ([], xs ++ (58 ∷ ys)) ≡ false
     some [] ys = refl
@@ -216,20 +216,20 @@ flow_closed : (sep : Sep) (f : Flow) (c : List LineEnd × List ℕ) → closes_l
     → as_part (flow_with sep f c) ≡ Some (node (flow sep f c.0), c.1)
 flow_closed sep f c h = rw h refl
 
-no_key_without : (f : Flow) (rest : List ℕ) → sign 58 (dropped white rest) ≡ false → is_key f rest ≡ false
-no_key_without f rest h = and_right (on_one_line f) _ (and_left (sign 58 (dropped white rest)) _ h)
+no_key_without : (f : Flow) (rest : List ℕ) → sign 58 (drop_while white rest) ≡ false → is_key f rest ≡ false
+no_key_without f rest h = and_right (on_one_line f) _ (and_left (sign 58 (drop_while white rest)) _ h)
 
 -- a `:` after a leaf that is no key, or where no mapping may begin
 pub leaf_before_colon : (p : Option (Sits × ℕ)) (m : ℕ) (bol : Bool) (sep : Sep) (text : List ℕ) (f : Flow)
     (rest : List ℕ) → flow_leaf_at m bol text ≡ Some (f, rest)
-    → sign 58 (dropped white rest) ≡ true → is_some p && is_key f rest ≡ false → part_at p m bol sep text ≡ None
+    → sign 58 (drop_while white rest) ≡ true → is_some p && is_key f rest ≡ false → part_at p m bol sep text ≡ None
 leaf_before_colon p m bol sep text f rest e h n = leaf_no_mapping p m bol sep text f rest e n
     ∙ flow_refused sep f (all_comments false rest) (colon_unclosed rest h)
 
 -- no `:` after it: the leaf is the part where its line closes
 pub leaf_closes : (p : Option (Sits × ℕ)) (m : ℕ) (bol : Bool) (sep : Sep) (text : List ℕ) (f : Flow) (rest : List ℕ)
     → flow_leaf_at m bol text ≡ Some (f, rest)
-    → sign 58 (dropped white rest) ≡ false → closes_line (all_comments false rest) ≡ true
+    → sign 58 (drop_while white rest) ≡ false → closes_line (all_comments false rest) ≡ true
     → part_at p m bol sep text ≡ Some (node (flow sep f (all_comments false rest).0), (all_comments false rest).1)
 leaf_closes p m bol sep text f rest e h c = leaf_no_mapping p m bol sep text f rest e
     (unmapped p _ (no_key_without f rest h)) ∙ flow_closed sep f (all_comments false rest) c
@@ -237,7 +237,7 @@ leaf_closes p m bol sep text f rest e h c = leaf_no_mapping p m bol sep text f r
 -- a flow node and what follows it are the part, if it is no key
 pub leaf_goes_on : (p : Option (Sits × ℕ)) (m : ℕ) (bol : Bool) (sep : Sep) (text : List ℕ) (f : Flow) (rest : List ℕ)
     → flow_leaf_at m bol text ≡ Some (f, rest)
-    → sign 58 (dropped white rest) ≡ false → closes_line (all_comments false rest) ≡ false
+    → sign 58 (drop_while white rest) ≡ false → closes_line (all_comments false rest) ≡ false
     → part_at p m bol sep text ≡ None
 leaf_goes_on p m bol sep text f rest e h c = leaf_no_mapping p m bol sep text f rest e
     (unmapped p _ (no_key_without f rest h)) ∙ flow_refused sep f (all_comments false rest) c
@@ -254,23 +254,23 @@ key_node_opens bol text f rest e =
 -- a key of a further pair is read, and its value is awaited
 pub next_key_opens : (sits : Sits) (k : ℕ) (bol : Bool) (done : List Pair) (text : List ℕ) (f : Flow) (rest : List ℕ)
     → flow_node_at 0 block_key bol text ≡ Some (f, rest)
-    → sign 58 (dropped white rest) ≡ true → short_key f (taken white rest) ≡ true
+    → sign 58 (drop_while white rest) ≡ true → short_key f (take_while white rest) ≡ true
     → close_pairs sits done (block_pairs_at k bol text)
-    ≡ on (keyed_part k (past (dropped white rest)))
-    (λ i rest'. plug (waits_value sits k done (key_on_line f (taken white rest))) i rest')
+    ≡ on (keyed_part k (past (drop_while white rest)))
+    (λ i rest'. plug (waits_value sits k done (key_on_line f (take_while white rest))) i rest')
 next_key_opens sits k bol done text f rest e c s =
-    key_opens sits k bol done text f (taken white rest) (past (dropped white rest))
+    key_opens sits k bol done text f (take_while white rest) (past (drop_while white rest))
     ((key_node_opens bol text f rest e).0).no_ask
-    (ap (λ r. on r (λ key rest'. key_after key (taken white rest') (dropped white rest'))) e ∙ rw (c, s) refl)
+    (ap (λ r. on r (λ key rest'. key_after key (take_while white rest') (drop_while white rest'))) e ∙ rw (c, s) refl)
 
 -- a flow node that is no key starts no further pair
 pub next_key_unfit : (sits : Sits) (k : ℕ) (bol : Bool) (done : List Pair) (text : List ℕ) (f : Flow) (rest : List ℕ)
     → flow_node_at 0 block_key bol text ≡ Some (f, rest)
-    → sign 58 (dropped white rest) && short_key f (taken white rest) ≡ false
+    → sign 58 (drop_while white rest) && short_key f (take_while white rest) ≡ false
     → close_pairs sits done (block_pairs_at k bol text) ≡ None
 next_key_unfit sits k bol done text f rest e h =
     no_key sits k bol done text ((key_node_opens bol text f rest e).0).no_ask
-    (ap (λ r. on r (λ key rest'. key_after key (taken white rest') (dropped white rest'))) e ∙ rw h refl)
+    (ap (λ r. on r (λ key rest'. key_after key (take_while white rest') (drop_while white rest'))) e ∙ rw h refl)
 
 -- without a flow node there is no further pair
 pub next_key_missing : (sits : Sits) (k : ℕ) (bol : Bool) (done : List Pair) (text : List ℕ) → sign 63 text ≡ false
@@ -278,7 +278,7 @@ pub next_key_missing : (sits : Sits) (k : ℕ) (bol : Bool) (done : List Pair) (
     → close_pairs sits done (block_pairs_at k bol text) ≡ None
 next_key_missing sits k bol done text h e =
     no_key sits k bol done text h
-    (ap (λ r. on r (λ key rest'. key_after key (taken white rest') (dropped white rest'))) e)
+    (ap (λ r. on r (λ key rest'. key_after key (take_while white rest') (drop_while white rest'))) e)
 
 -- nor with a `:` alone
 pub next_colon_refused : (sits : Sits) (k : ℕ) (bol : Bool) (done : List Pair) (text : List ℕ) → sign 58 text ≡ true

@@ -7,20 +7,21 @@ use Rattle.yaml_chars.specs.Classes.{white}
 use Rattle.yaml_grammar.specs.BlockNodes.{Items, Node, Pairs, items, pairs}
 use Rattle.yaml_grammar.specs.BlockScalars.{past_spaces, spaces_before}
 use Rattle.yaml_grammar.specs.Separation.{LineEnd, Sep, comments_text, indents, sep_text}
-use Rattle.yaml_grammar.specs.Texts.{begins, every, first, is_empty, spaces, starts_line}
+use Rattle.std.specs.List.{list_all}
+use Rattle.yaml_grammar.specs.Texts.{begins, first, is_empty, spaces, starts_line}
 use Rattle.yaml_recognizers.specs.BlockFrames.{close_items, close_pairs, on_lines, plug, waits_item}
 use Rattle.yaml_recognizers.specs.BlockNodes.{flow_with, leaf_at, node_below, opens_pair, sep_at}
 use Rattle.yaml_recognizers.specs.BlockScalars.{read_block}
 use Rattle.yaml_recognizers.specs.Comments.{all_comments, more_comments, read_line_end}
 use Rattle.yaml_recognizers.specs.Ends.{solid}
-use Rattle.yaml_recognizers.specs.Prefixes.{dropped, past, sign, taken}
+use Rattle.yaml_recognizers.specs.Prefixes.{drop_while, past, sign, take_while}
 use Rattle.yaml_recognizers.specs.Reading.{Read, on}
 use Rattle.yaml_recognizers.specs.Recognizers.{block_indented_at, block_items_at, block_key_in, block_pairs_at, flow_leaf_at}
 use Rattle.yaml_recognizers.proofs.Block.BlockFrames.{items_open}
 use Rattle.yaml_recognizers.proofs.Block.BlockNodesBegin.{lead_deep}
 use Rattle.yaml_recognizers.proofs.Separation.CommentsDepth.{comments_step}
 use Rattle.yaml_recognizers.proofs.Separation.CommentsSound.{LineOf, all_sound, line_sound, shorter}
-use Rattle.yaml_recognizers.proofs.Basics.Prefixes.{taken_every, taken_split}
+use Rattle.yaml_recognizers.proofs.Basics.Prefixes.{take_while_every, take_while_split}
 use Rattle.yaml_recognizers.proofs.Basics.LineStarts.{starts_joined}
 use Rattle.yaml_recognizers.proofs.Basics.Reading.{Sound}
 use Rattle.yaml_block.specs.BlockParts.{as_part, leaf_part, part_at, sep_after}
@@ -68,8 +69,8 @@ sequence_after m shallow bol comments text a s d =
         flow_leaf_at read_block (spaces_before text == 0) (past_spaces text)
         then on (block_pairs_at (spaces_before text) (spaces_before text == 0) (past_spaces text))
         (λ ps rest. Some (pairs comments (spaces_before text) ps, rest))
-        else leaf_at block_key_in flow_leaf_at read_block m bol (sep_at m bol comments (taken white text))
-        (dropped white text))
+        else leaf_at block_key_in flow_leaf_at read_block m bol (sep_at m bol comments (take_while white text))
+        (drop_while white text))
         ≡ r
     choose r = rw (a, s, d) refl
 
@@ -84,19 +85,19 @@ mapping_after : (m : ℕ) (shallow bol : Bool) (comments : List LineEnd) (text :
     ≡ (if opens_pair block_key_in flow_leaf_at read_block (spaces_before text == 0) (past_spaces text)
     then close_pairs (on_lines comments (spaces_before text)) []
     (block_pairs_at (spaces_before text) (spaces_before text == 0) (past_spaces text))
-    else as_part (leaf_at block_key_in flow_leaf_at read_block m bol (sep_at m bol comments (taken white text))
-    (dropped white text)))
+    else as_part (leaf_at block_key_in flow_leaf_at read_block m bol (sep_at m bol comments (take_while white text))
+    (drop_while white text)))
 mapping_after m shallow bol comments text a s d =
     ap as_part (choose (on (block_items_at (spaces_before text) (past_spaces text))
     (λ is rest. Some (items comments (spaces_before text) is, rest)))
     (on (block_pairs_at (spaces_before text) (spaces_before text == 0) (past_spaces text))
     (λ ps rest. Some (pairs comments (spaces_before text) ps, rest)))
-    (leaf_at block_key_in flow_leaf_at read_block m bol (sep_at m bol comments (taken white text))
-    (dropped white text)))
+    (leaf_at block_key_in flow_leaf_at read_block m bol (sep_at m bol comments (take_while white text))
+    (drop_while white text)))
     ∙ through (opens_pair block_key_in flow_leaf_at read_block (spaces_before text == 0) (past_spaces text))
     (block_pairs_at (spaces_before text) (spaces_before text == 0) (past_spaces text))
-    (leaf_at block_key_in flow_leaf_at read_block m bol (sep_at m bol comments (taken white text))
-    (dropped white text))
+    (leaf_at block_key_in flow_leaf_at read_block m bol (sep_at m bol comments (take_while white text))
+    (drop_while white text))
   where
     choose : (x y z : Read Node)
         → (if (bol || not (is_empty comments)) && sign 45 (past_spaces text) && is_deep m shallow (spaces_before text)
@@ -120,14 +121,14 @@ leaf_after : (m : ℕ) (shallow bol : Bool) (comments : List LineEnd) (text : Li
     → nat_le m (spaces_before text) && opens_pair block_key_in flow_leaf_at read_block (spaces_before text == 0)
     (past_spaces text) ≡ false
     → node_after m shallow bol comments text ≡ leaf_at block_key_in flow_leaf_at read_block m bol
-    (sep_at m bol comments (taken white text)) (dropped white text)
+    (sep_at m bol comments (take_while white text)) (drop_while white text)
 leaf_after m shallow bol comments text a s d =
     choose (on (block_items_at (spaces_before text) (past_spaces text))
     (λ is rest. Some (items comments (spaces_before text) is, rest)))
     (on (block_pairs_at (spaces_before text) (spaces_before text == 0) (past_spaces text))
     (λ ps rest. Some (pairs comments (spaces_before text) ps, rest)))
-    (leaf_at block_key_in flow_leaf_at read_block m bol (sep_at m bol comments (taken white text))
-    (dropped white text))
+    (leaf_at block_key_in flow_leaf_at read_block m bol (sep_at m bol comments (take_while white text))
+    (drop_while white text))
   where
     choose : (x y z : Read Node)
         → (if (bol || not (is_empty comments)) && sign 45 (past_spaces text) && is_deep m shallow (spaces_before text)
@@ -139,7 +140,7 @@ leaf_after m shallow bol comments text a s d =
 
 -- ---- the separation of a leaf
 
-begins_white : (m : ℕ) (text : List ℕ) → m ≤ spaces_before text → begins (spaces m) (taken white text) ≡ true
+begins_white : (m : ℕ) (text : List ℕ) → m ≤ spaces_before text → begins (spaces m) (take_while white text) ≡ true
 begins_white zero text l = refl
 begins_white (suc m) [] l = absurd (omega arith)
 begins_white (suc m) (c ∷ cs) l = elim (cases_Bool (c == 32)) [
@@ -149,11 +150,11 @@ begins_white (suc m) (c ∷ cs) l = elim (cases_Bool (c == 32)) [
 
 deep_sep : (m : ℕ) (bol : Bool) (comments : List LineEnd) (text : List ℕ) → bol || not (is_empty comments) ≡ true
     → nat_le m (spaces_before text) ≡ true
-    → sep_at m bol comments (taken white text) ≡ Some (sep_after comments (taken white text))
+    → sep_at m bol comments (take_while white text) ≡ Some (sep_after comments (take_while white text))
 deep_sep m true [] text a d = refl
 deep_sep m false [] text a d = absurd (false≢true a)
 deep_sep m bol (e ∷ es) text a d =
-    let i : indents m (taken white text) ≡ true = and_from _ _ (taken_every white text)
+    let i : indents m (take_while white text) ≡ true = and_from _ _ (take_while_every white text)
     (begins_white m text (leb-true m (spaces_before text) d)) in
     rw i refl
 
@@ -164,13 +165,13 @@ alone_sep m false [] lead a e = absurd (false≢true a)
 alone_sep m bol (c ∷ cs) lead a e = absurd (false≢true e)
 
 too_shallow_sep : (m : ℕ) (bol : Bool) (comments : List LineEnd) (text : List ℕ) → is_empty comments ≡ false
-    → nat_le m (spaces_before text) ≡ false → sep_at m bol comments (taken white text) ≡ None
+    → nat_le m (spaces_before text) ≡ false → sep_at m bol comments (take_while white text) ≡ None
 too_shallow_sep m bol [] text e d = absurd (false≢true (sym e))
-too_shallow_sep m bol (c ∷ cs) text e d = elim (cases_Bool (begins (spaces m) (taken white text))) [
-  | inl b ↦ (let l : m ≤ spaces_before (taken white text ++ dropped white text) =
-      lead_deep m (taken white text) (dropped white text) b in
-      absurd (false≢true (sym d ∙ (ap (λ t. nat_le m (spaces_before t)) (taken_split white text) ∙ le-leb m _ l))))
-  | inr b ↦ (let i : indents m (taken white text) ≡ false = and_right _ _ b in rw i refl)
+too_shallow_sep m bol (c ∷ cs) text e d = elim (cases_Bool (begins (spaces m) (take_while white text))) [
+  | inl b ↦ (let l : m ≤ spaces_before (take_while white text ++ drop_while white text) =
+      lead_deep m (take_while white text) (drop_while white text) b in
+      absurd (false≢true (sym d ∙ (ap (λ t. nat_le m (spaces_before t)) (take_while_split white text) ∙ le-leb m _ l))))
+  | inr b ↦ (let i : indents m (take_while white text) ≡ false = and_right _ _ b in rw i refl)
 ]
 
 -- the text of comments and the whitespace after them
@@ -202,7 +203,7 @@ spaces_start zero = refl
 spaces_start (suc s) = white_starts (spaces s) (all_white s)
     ∙ sym (let z : (suc s == 0) ≡ false = grind (arith, nat_tests) in z)
   where
-    all_white : (s : ℕ) → every white (spaces s) ≡ true
+    all_white : (s : ℕ) → list_all white (spaces s) ≡ true
     all_white zero = refl
     all_white (suc s) = all_white s
 
@@ -211,39 +212,39 @@ pub mapping_or_leaf_after : (m : ℕ) (shallow bol here there : Bool) (comments 
     → bol || not (is_empty comments) ≡ true
     → sign 45 (past_spaces text) && is_deep m shallow (spaces_before text) ≡ false
     → nat_le m (spaces_before text) ≡ true → first white (past_spaces text) ≡ false
-    → starts_line bol (comments_text comments) ≡ here → starts_line here (taken white text) ≡ there
+    → starts_line bol (comments_text comments) ≡ here → starts_line here (take_while white text) ≡ there
     → (here ≡ true) ⊎ (text ≡ [])
     → as_part (node_after m shallow bol comments text)
     ≡ part_at (Some (on_lines comments (spaces_before text), spaces_before text)) m there
-    (sep_after comments (taken white text)) (past_spaces text)
+    (sep_after comments (take_while white text)) (past_spaces text)
 mapping_or_leaf_after m shallow bol here there comments text a s d w h t f =
     mapping_after m shallow bol comments text a s d
     ∙ (ap (λ r. if opens_pair block_key_in flow_leaf_at read_block (spaces_before text == 0) (past_spaces text)
     then close_pairs (on_lines comments (spaces_before text)) []
     (block_pairs_at (spaces_before text) (spaces_before text == 0) (past_spaces text)) else r)
-    (leaf_with m bol there sep (sep_at m bol comments (taken white text)) (dropped white text)
-    (deep_sep m bol comments text a d) (sep_starts bol here there comments (taken white text) h t)
+    (leaf_with m bol there sep (sep_at m bol comments (take_while white text)) (drop_while white text)
+    (deep_sep m bol comments text a d) (sep_starts bol here there comments (take_while white text) h t)
     ∙ ap (leaf_part m there sep) (untabbed text w))
     ∙ same f)
   where
     sep : Sep
-    sep = sep_after comments (taken white text)
+    sep = sep_after comments (take_while white text)
 
     same : (here ≡ true) ⊎ (text ≡ [])
         → (if opens_pair block_key_in flow_leaf_at read_block (spaces_before text == 0) (past_spaces text)
         then close_pairs (on_lines comments (spaces_before text)) []
         (block_pairs_at (spaces_before text) (spaces_before text == 0) (past_spaces text))
-        else leaf_part m there (sep_after comments (taken white text)) (past_spaces text))
+        else leaf_part m there (sep_after comments (take_while white text)) (past_spaces text))
         ≡ part_at (Some (on_lines comments (spaces_before text), spaces_before text)) m there
-        (sep_after comments (taken white text)) (past_spaces text)
+        (sep_after comments (take_while white text)) (past_spaces text)
     same (inl e) =
         let b : (spaces_before text == 0) ≡ there = sym (spaces_start (spaces_before text))
         ∙ (ap (starts_line true) (sym (untabbed_taken text w))
-        ∙ (ap (λ x. starts_line x (taken white text)) (sym e) ∙ t)) in
+        ∙ (ap (λ x. starts_line x (take_while white text)) (sym e) ∙ t)) in
         ap (λ x. if opens_pair block_key_in flow_leaf_at read_block x (past_spaces text)
         then close_pairs (on_lines comments (spaces_before text)) []
         (block_pairs_at (spaces_before text) x (past_spaces text))
-        else leaf_part m there (sep_after comments (taken white text)) (past_spaces text)) b
+        else leaf_part m there (sep_after comments (take_while white text)) (past_spaces text)) b
     same (inr e) =
         let u : first solid (past_spaces text) ≡ false = ap (λ x. first solid (past_spaces x)) e in
         rw (no_pair_there (spaces_before text == 0) (past_spaces text) u, no_pair_there there (past_spaces text) u)
@@ -255,14 +256,14 @@ pub leaf_alone_after : (m : ℕ) (shallow bol here there : Bool) (comments : Lis
     → sign 45 (past_spaces text) && is_deep m shallow (spaces_before text) ≡ false
     → nat_le m (spaces_before text) && not (first white (past_spaces text)) ≡ false
     → is_empty comments || nat_le m (spaces_before text) ≡ true
-    → starts_line bol (comments_text comments) ≡ here → starts_line here (taken white text) ≡ there
-    → as_part (node_after m shallow bol comments text) ≡ part_at None m there (sep_after comments (taken white text))
-    (dropped white text)
+    → starts_line bol (comments_text comments) ≡ here → starts_line here (take_while white text) ≡ there
+    → as_part (node_after m shallow bol comments text) ≡ part_at None m there (sep_after comments (take_while white text))
+    (drop_while white text)
 leaf_alone_after m shallow bol here there comments text a s d o h t =
     ap as_part (leaf_after m shallow bol comments text a s (unpaired (nat_le m (spaces_before text)) d))
-    ∙ leaf_with m bol there (sep_after comments (taken white text)) (sep_at m bol comments (taken white text))
-    (dropped white text) (sep_there o)
-    (sep_starts bol here there comments (taken white text) h t)
+    ∙ leaf_with m bol there (sep_after comments (take_while white text)) (sep_at m bol comments (take_while white text))
+    (drop_while white text) (sep_there o)
+    (sep_starts bol here there comments (take_while white text) h t)
   where
     unpaired : (b : Bool) → b && not (first white (past_spaces text)) ≡ false
         → b && opens_pair block_key_in flow_leaf_at read_block (spaces_before text == 0) (past_spaces text) ≡ false
@@ -273,9 +274,9 @@ leaf_alone_after m shallow bol here there comments text a s d o h t =
     ]
 
     sep_there : is_empty comments || nat_le m (spaces_before text) ≡ true
-        → sep_at m bol comments (taken white text) ≡ Some (sep_after comments (taken white text))
+        → sep_at m bol comments (take_while white text) ≡ Some (sep_after comments (take_while white text))
     sep_there o = elim (or_cases (is_empty comments) (nat_le m (spaces_before text)) o) [
-      | inl e ↦ alone_sep m bol comments (taken white text) a e
+      | inl e ↦ alone_sep m bol comments (take_while white text) a e
       | inr e ↦ deep_sep m bol comments text a e
     ]
 
@@ -287,7 +288,7 @@ pub too_shallow_after : (m : ℕ) (shallow bol : Bool) (comments : List LineEnd)
     → as_part (node_after m shallow bol comments text) ≡ None
 too_shallow_after m shallow bol comments text a s d e =
     ap as_part (leaf_after m shallow bol comments text a s (and_left _ _ d)
-    ∙ ap (λ sep. leaf_at block_key_in flow_leaf_at read_block m bol sep (dropped white text))
+    ∙ ap (λ sep. leaf_at block_key_in flow_leaf_at read_block m bol sep (drop_while white text))
     (too_shallow_sep m bol comments text e d))
 
 -- ---- whether there are comments
@@ -318,11 +319,11 @@ pub nothing_after : (m : ℕ) (shallow bol : Bool) (comments : List LineEnd) (te
     → node_after m shallow bol comments text ≡ None
 nothing_after m shallow bol comments text a e =
     let u : first solid (past_spaces text) ≡ false = ap (first solid) e in
-    let drops : dropped white text ≡ [] = sym (white_after_spaces text) ∙ ap (dropped white) e in
+    let drops : drop_while white text ≡ [] = sym (white_after_spaces text) ∙ ap (drop_while white) e in
     leaf_after m shallow bol comments text a (and_left _ _ (ap (sign 45) e))
     (and_right _ _ (no_pair_there (spaces_before text == 0) (past_spaces text) u))
-    ∙ (ap (leaf_at block_key_in flow_leaf_at read_block m bol (sep_at m bol comments (taken white text))) drops
-    ∙ none (sep_at m bol comments (taken white text)))
+    ∙ (ap (leaf_at block_key_in flow_leaf_at read_block m bol (sep_at m bol comments (take_while white text))) drops
+    ∙ none (sep_at m bol comments (take_while white text)))
   where
     none : (sep : Option Sep) → leaf_at block_key_in flow_leaf_at read_block m bol sep [] ≡ None
     none None = refl

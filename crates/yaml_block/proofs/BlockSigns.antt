@@ -7,14 +7,15 @@ use Rattle.yaml_chars.specs.Classes.{line_break, white}
 use Rattle.yaml_grammar.specs.BlockNodes.{Indented, Node, compact_items, compact_pairs, node, omitted}
 use Rattle.yaml_grammar.specs.BlockScalars.{past_spaces, spaces_before}
 use Rattle.yaml_grammar.specs.Separation.{LineEnd, inline}
-use Rattle.yaml_grammar.specs.Texts.{every, first, is_empty, marker, spaces, starts_line}
+use Rattle.std.specs.List.{list_all}
+use Rattle.yaml_grammar.specs.Texts.{first, is_empty, marker, spaces, starts_line}
 use Rattle.yaml_recognizers.specs.BlockFrames.{close_pairs, on_sign_line, plug, waits_item}
 use Rattle.yaml_recognizers.specs.BlockNodes.{indented_node, leaf_at, node_below, omits, opens_pair, sep_at}
 use Rattle.yaml_recognizers.specs.BlockScalars.{read_block}
 use Rattle.yaml_recognizers.specs.CanonicalComments.{is_line_end}
 use Rattle.yaml_recognizers.specs.Comments.{all_comments, closes_line, more_comments, read_line_end}
-use Rattle.yaml_recognizers.specs.Ends.{ended, solid}
-use Rattle.yaml_recognizers.specs.Prefixes.{dropped, past, sign, taken}
+use Rattle.yaml_recognizers.specs.Ends.{block_node_stops, solid}
+use Rattle.yaml_recognizers.specs.Prefixes.{drop_while, past, sign, take_while}
 use Rattle.yaml_recognizers.specs.Reading.{Read, on}
 use Rattle.yaml_recognizers.specs.Recognizers.{block_indented_at, block_items_at, block_key_in, block_node_at, block_pairs_at, flow_leaf_at}
 use Rattle.yaml_recognizers.proofs.Block.BlockFrames.{items_open, node_after_sign, sequence_on_sign_line}
@@ -23,7 +24,7 @@ use Rattle.yaml_recognizers.proofs.Block.BlockNodesSound.{tail_fit}
 use Rattle.yaml_recognizers.proofs.Separation.CommentsComplete.{no_comments}
 use Rattle.yaml_recognizers.proofs.Separation.CommentsDepth.{comments_step}
 use Rattle.yaml_recognizers.proofs.Separation.CommentsSound.{CommentsOf, all_sound, comments_end}
-use Rattle.yaml_recognizers.proofs.Basics.Prefixes.{every_space, spaces_split, taken_every}
+use Rattle.yaml_recognizers.proofs.Basics.Prefixes.{every_space, spaces_split, take_while_every}
 use Rattle.yaml_recognizers.proofs.Block.KeyLeaves.{no_leaf_no_key}
 use Rattle.yaml_recognizers.proofs.Basics.Solid.{dash_unmarked, unsolid_sign, white_unsolid}
 use Rattle.yaml_recognizers.proofs.Basics.Spaces.{marker_unspaced, none_spaced}
@@ -34,7 +35,7 @@ use Rattle.yaml_block.proofs.BlockLeaves.{no_leaf_unsolid}
 -- ---- white and spaces
 
 -- spaces alone come before what is no TAB
-pub untabbed : (text : List ℕ) → first white (past_spaces text) ≡ false → dropped white text ≡ past_spaces text
+pub untabbed : (text : List ℕ) → first white (past_spaces text) ≡ false → drop_while white text ≡ past_spaces text
 untabbed [] h = refl
 untabbed (c ∷ cs) h = elim (cases_Bool (c == 32)) [
   | inl e ↦ (let more : first white (past_spaces cs) ≡ false = rw e at h in rw e (untabbed cs more))
@@ -43,29 +44,29 @@ untabbed (c ∷ cs) h = elim (cases_Bool (c == 32)) [
 
 -- if no TAB follows the spaces, the whitespace is spaces
 pub untabbed_taken : (text : List ℕ) → first white (past_spaces text) ≡ false
-    → taken white text ≡ spaces (spaces_before text)
+    → take_while white text ≡ spaces (spaces_before text)
 untabbed_taken [] h = refl
 untabbed_taken (c ∷ cs) h = elim (cases_Bool (c == 32)) [
   | inl e ↦ (let more : first white (past_spaces cs) ≡ false = rw e at h in
       let i : c ≡ 32 = eqb-true c 32 e in
-      rw e (ap (λ x. x ∷ taken white cs) i ∙ ap (λ xs. 32 ∷ xs) (untabbed_taken cs more)))
+      rw e (ap (λ x. x ∷ take_while white cs) i ∙ ap (λ xs. 32 ∷ xs) (untabbed_taken cs more)))
   | inr e ↦ (let w : (c == 32) || (c == 9) ≡ false = rw e at h in rw (e, (or_parts (c == 32) (c == 9) w).1) refl)
 ]
 
 -- whitespace is passed in the same way from the start and from the end of the spaces
-pub white_after_spaces : (text : List ℕ) → dropped white (past_spaces text) ≡ dropped white text
+pub white_after_spaces : (text : List ℕ) → drop_while white (past_spaces text) ≡ drop_while white text
 white_after_spaces [] = refl
 white_after_spaces (c ∷ cs) = elim (cases_Bool (c == 32)) [
   | inl e ↦ rw e (white_after_spaces cs)
   | inr e ↦ ap
-      (dropped white) (kept e)
+      (drop_while white) (kept e)
 ]
   where
     kept : c == 32 ≡ false → past_spaces (c ∷ cs) ≡ c ∷ cs
     kept e = rw e refl
 
 -- no white, no spaces
-none_taken : (text : List ℕ) → is_empty (taken white text) ≡ true → spaces_before text ≡ 0
+none_taken : (text : List ℕ) → is_empty (take_while white text) ≡ true → spaces_before text ≡ 0
 none_taken [] h = refl
 none_taken (c ∷ cs) h = elim (cases_Bool (c == 32)) [
   | inl e ↦ (let bad : false ≡ true = rw e at h in absurd (false≢true bad))
@@ -73,7 +74,7 @@ none_taken (c ∷ cs) h = elim (cases_Bool (c == 32)) [
 ]
 
 -- white with no TAB has a space
-some_spaces : (text : List ℕ) → is_empty (taken white text) ≡ false → first white (past_spaces text) ≡ false
+some_spaces : (text : List ℕ) → is_empty (take_while white text) ≡ false → first white (past_spaces text) ≡ false
     → nat_le 1 (spaces_before text) ≡ true
 some_spaces text h t = elim (cases_eq (spaces_before text) 0) [
   | inl e ↦ absurd (false≢true (sym h ∙ ap is_empty (untabbed_taken text t ∙ ap spaces e)))
@@ -81,10 +82,10 @@ some_spaces text h t = elim (cases_eq (spaces_before text) 0) [
 ]
 
 -- no line starts after white
-pub white_starts : (xs : List ℕ) → every white xs ≡ true → starts_line false xs ≡ false
+pub white_starts : (xs : List ℕ) → list_all white xs ≡ true → starts_line false xs ≡ false
 white_starts [] h = refl
 white_starts (x ∷ xs) h =
-    let p : (white x ≡ true) × (every white xs ≡ true) = and_parts _ _ h in
+    let p : (white x ≡ true) × (list_all white xs ≡ true) = and_parts _ _ h in
     ap (λ b. starts_line b xs) (unbroken x p.0) ∙ white_starts xs p.1
   where
     unbroken : (x : ℕ) → white x ≡ true → line_break x ≡ false
@@ -152,31 +153,31 @@ no_pair_there bol text h = or_from _ _ (unsolid_sign 63 text refl h)
 
 inline_node : (m : ℕ) (shallow : Bool) (text : List ℕ) → all_comments false text ≡ ([], text)
     → block_node_at m shallow false text ≡ leaf_at block_key_in flow_leaf_at read_block m false
-    (sep_at m false [] (taken white text)) (dropped white text)
+    (sep_at m false [] (take_while white text)) (drop_while white text)
 inline_node m shallow text e = node_steps m shallow false text
     ∙ ap (node_below block_key_in flow_leaf_at read_block block_items_at block_pairs_at m shallow false) e
 
 -- a node on a line that goes on is a leaf after white
 pub leaf_on_line : (m : ℕ) (shallow : Bool) (text : List ℕ) → all_comments false text ≡ ([], text)
-    → is_empty (taken white text) ≡ false
-    → as_part (block_node_at m shallow false text) ≡ part_at None m false (inline (taken white text))
-    (dropped white text)
+    → is_empty (take_while white text) ≡ false
+    → as_part (block_node_at m shallow false text) ≡ part_at None m false (inline (take_while white text))
+    (drop_while white text)
 leaf_on_line m shallow text e w =
     ap as_part (inline_node m shallow text e ∙ ap (λ sep. leaf_at block_key_in flow_leaf_at read_block m false sep
-    (dropped white text)) (some (taken white text) w))
-    ∙ ap (λ b. leaf_part m b (inline (taken white text)) (dropped white text))
-    (white_starts (taken white text) (taken_every white text))
+    (drop_while white text)) (some (take_while white text) w))
+    ∙ ap (λ b. leaf_part m b (inline (take_while white text)) (drop_while white text))
+    (white_starts (take_while white text) (take_while_every white text))
   where
     some : (lead : List ℕ) → is_empty lead ≡ false → sep_at m false [] lead ≡ Some (inline lead)
     some lead h = rw h refl
 
 -- a line that goes on has no comments to pass
 pub nothing_on_line : (m : ℕ) (shallow : Bool) (text : List ℕ) → all_comments false text ≡ ([], text)
-    → is_empty (taken white text) ≡ true
+    → is_empty (take_while white text) ≡ true
     → block_node_at m shallow false text ≡ None
 nothing_on_line m shallow text e w =
     inline_node m shallow text e ∙ ap (λ sep. leaf_at block_key_in flow_leaf_at read_block m false sep
-    (dropped white text)) (none (taken white text) w)
+    (drop_while white text)) (none (take_while white text) w)
   where
     none : (lead : List ℕ) → is_empty lead ≡ true → sep_at m false [] lead ≡ None
     none lead h = rw h refl
@@ -203,7 +204,7 @@ not_compact false shallow k text d o = refl
 not_compact true shallow k text d o = node_after_sign k shallow text d o
 
 -- a compact sequence
-pub compact_sequence_opens : (k : ℕ) (shallow : Bool) (text : List ℕ) → is_empty (taken white text) ≡ false
+pub compact_sequence_opens : (k : ℕ) (shallow : Bool) (text : List ℕ) → is_empty (take_while white text) ≡ false
     → first white (past_spaces text) ≡ false → sign 45 (past_spaces text) ≡ true
     → part_after_sign true shallow k text
     ≡ on (block_indented_at (k + 1 + spaces_before text) false (past (past_spaces text)))
@@ -213,11 +214,11 @@ compact_sequence_opens k shallow text w t s =
     ∙ items_open (on_sign_line (spaces_before text)) (k + 1 + spaces_before text) [] (past_spaces text) s
 
 -- a compact mapping or a leaf: spaces alone come before it
-pub compact_or_leaf : (k : ℕ) (shallow : Bool) (text : List ℕ) → LineGoesOn text → is_empty (taken white text) ≡ false
+pub compact_or_leaf : (k : ℕ) (shallow : Bool) (text : List ℕ) → LineGoesOn text → is_empty (take_while white text) ≡ false
     → first white (past_spaces text) ≡ false → sign 45 (past_spaces text) ≡ false
     → part_after_sign true shallow k text
     ≡ part_at (Some (on_sign_line (spaces_before text), k + 1 + spaces_before text)) (suc k) false
-    (inline (taken white text)) (dropped white text)
+    (inline (take_while white text)) (drop_while white text)
 compact_or_leaf k shallow text g w t s =
     indented_steps k shallow text
     ∙ (choose (on (block_items_at (k + 1 + spaces_before text) (past_spaces text))
@@ -231,7 +232,7 @@ compact_or_leaf k shallow text g w t s =
     (indented_on_line k shallow text g ∙ leaf_on_line (suc k) shallow text g.none w)
     ∙ ap (λ u. if opens_pair block_key_in flow_leaf_at read_block false u
     then close_pairs (on_sign_line (spaces_before text)) [] (block_pairs_at (k + 1 + spaces_before text) false u)
-    else leaf_part (suc k) false (inline (taken white text)) (dropped white text))
+    else leaf_part (suc k) false (inline (take_while white text)) (drop_while white text))
     (sym (untabbed text t))))
   where
     choose : (x y z : Read Indented)
@@ -243,8 +244,8 @@ compact_or_leaf k shallow text g w t s =
 
 -- a leaf where no compact collection may be, or after a TAB
 pub leaf_on_sign_line : (compact shallow : Bool) (k : ℕ) (text : List ℕ) → LineGoesOn text
-    → is_empty (taken white text) ≡ false → compact && not (first white (past_spaces text)) ≡ false
-    → part_after_sign compact shallow k text ≡ part_at None (suc k) false (inline (taken white text)) (dropped white text)
+    → is_empty (take_while white text) ≡ false → compact && not (first white (past_spaces text)) ≡ false
+    → part_after_sign compact shallow k text ≡ part_at None (suc k) false (inline (take_while white text)) (drop_while white text)
 leaf_on_sign_line false shallow k text g w t = indented_on_line k shallow text g
     ∙ leaf_on_line (suc k) shallow text g.none w
 leaf_on_sign_line true shallow k text g w t =
@@ -255,7 +256,7 @@ leaf_on_sign_line true shallow k text g w t =
 
 -- no whitespace, so nothing is there
 pub nothing_on_sign_line : (compact shallow : Bool) (k : ℕ) (text : List ℕ) → LineGoesOn text
-    → is_empty (taken white text) ≡ true → part_after_sign compact shallow k text ≡ None
+    → is_empty (take_while white text) ≡ true → part_after_sign compact shallow k text ≡ None
 nothing_on_sign_line compact shallow k text g w =
     let z : nat_le 1 (spaces_before text) ≡ false = ap (nat_le 1) (none_taken text w) in
     not_compact compact shallow k text (and_left _ _ z) (and_left _ _ z)
@@ -273,24 +274,24 @@ after_comments compact shallow k text h =
 
 -- nothing of the part is there: it is left out
 pub omitted_after : (compact shallow : Bool) (k : ℕ) (text : List ℕ) → closes_line (all_comments false text) ≡ true
-    → ended (suc k) shallow (all_comments false text).1 ≡ true
+    → block_node_stops (suc k) shallow (all_comments false text).1 ≡ true
     → part_after_sign compact shallow k text ≡ Some (omitted (all_comments false text).0, (all_comments false text).1)
 omitted_after compact shallow k text h e = after_comments compact shallow k text h
     ∙ left_out (all_comments false text) (block_node_at (suc k) shallow false text) h e
   where
-    left_out : (c : List LineEnd × List ℕ) (r : Read Node) → closes_line c ≡ true → ended (suc k) shallow c.1 ≡ true
+    left_out : (c : List LineEnd × List ℕ) (r : Read Node) → closes_line c ≡ true → block_node_stops (suc k) shallow c.1 ≡ true
         → (if omits (suc k) shallow c then Some (omitted c.0, c.1) else on r (λ n rest. Some (node n, rest)))
         ≡ Some (omitted c.0, c.1)
     left_out c r h e = rw (h, e) refl
 
 -- a node is on a later line
 pub node_on_lines : (compact shallow : Bool) (k : ℕ) (text : List ℕ) → closes_line (all_comments false text) ≡ true
-    → ended (suc k) shallow (all_comments false text).1 ≡ false
+    → block_node_stops (suc k) shallow (all_comments false text).1 ≡ false
     → part_after_sign compact shallow k text ≡ as_part (block_node_at (suc k) shallow false text)
 node_on_lines compact shallow k text h e = after_comments compact shallow k text h
     ∙ there (all_comments false text) (block_node_at (suc k) shallow false text) h e
   where
-    there : (c : List LineEnd × List ℕ) (r : Read Node) → closes_line c ≡ true → ended (suc k) shallow c.1 ≡ false
+    there : (c : List LineEnd × List ℕ) (r : Read Node) → closes_line c ≡ true → block_node_stops (suc k) shallow c.1 ≡ false
         → (if omits (suc k) shallow c then Some (omitted c.0, c.1) else on r (λ n rest. Some (node n, rest)))
         ≡ as_part r
     there c r h e = rw (h, e) refl
@@ -316,19 +317,19 @@ marker_dash text h = elim (cases_Bool (sign 45 (past_spaces text))) [
 ]
 
 -- what ends a part is what ends a node
-pub ended_is : (k : ℕ) (shallow : Bool) (text : List ℕ) → is_line_end text ≡ false
-    → ended (suc k) shallow text ≡ nat_lt (spaces_before text) (suc k)
+pub block_node_stops_is : (k : ℕ) (shallow : Bool) (text : List ℕ) → is_line_end text ≡ false
+    → block_node_stops (suc k) shallow text ≡ nat_lt (spaces_before text) (suc k)
     && not (shallow && (spaces_before text == k) && sign 45 (past_spaces text))
-ended_is k shallow [] h = sym (unspaced k shallow false 0 refl refl)
-ended_is k shallow (c ∷ cs) h = elim (cases_Bool (marker (c ∷ cs))) [
+block_node_stops_is k shallow [] h = sym (unspaced k shallow false 0 refl refl)
+block_node_stops_is k shallow (c ∷ cs) h = elim (cases_Bool (marker (c ∷ cs))) [
   | inl e ↦ rw e (sym (unspaced k shallow _ (spaces_before (c ∷ cs)) (marker_unspaced (c ∷ cs) e)
       (marker_dash (c ∷ cs) e)))
   | inr e ↦ rw (e, h) (same_tests (spaces_before (c ∷ cs)) k shallow (sign 45 (past_spaces (c ∷ cs))))
 ]
 
 -- the same with the two orders of spaces
-pub ended_line : (k : ℕ) (shallow : Bool) (text : List ℕ) → is_line_end text ≡ false
-    → ended (suc k) shallow text ≡ nat_lt (spaces_before text) (suc k)
+pub block_node_stops_line : (k : ℕ) (shallow : Bool) (text : List ℕ) → is_line_end text ≡ false
+    → block_node_stops (suc k) shallow text ≡ nat_lt (spaces_before text) (suc k)
     && not (shallow && nat_le (suc k) (suc (spaces_before text)) && sign 45 (past_spaces text))
-ended_line k shallow text h = ended_is k shallow text h
+block_node_stops_line k shallow text h = block_node_stops_is k shallow text h
     ∙ sym (same_tests (spaces_before text) k shallow (sign 45 (past_spaces text)))

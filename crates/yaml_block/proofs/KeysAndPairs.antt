@@ -10,11 +10,12 @@ use Rattle.yaml_grammar.specs.BlockNodes.{Indented}
 use Rattle.yaml_grammar.specs.Events as grammar
 use Rattle.yaml_grammar.specs.FlowNodes.{flow_events, flow_text, short_key}
 use Rattle.yaml_grammar.specs.FlowScalars.{block_key, outer}
-use Rattle.yaml_grammar.specs.Texts.{byte_len, every, first}
+use Rattle.std.specs.List.{list_all}
+use Rattle.yaml_grammar.specs.Texts.{byte_len, first}
 use Rattle.yaml_recognizers.specs.BlockFrames.{BlockFrame, key_on_line, waits_key, waits_value}
 use Rattle.yaml_recognizers.specs.BlockNodes.{bar}
 use Rattle.yaml_recognizers.specs.Comments.{all_comments, closes_line}
-use Rattle.yaml_recognizers.specs.Prefixes.{sign, taken}
+use Rattle.yaml_recognizers.specs.Prefixes.{sign, take_while}
 use Rattle.yaml_recognizers.specs.Reading.{Read}
 use Rattle.yaml_recognizers.specs.Recognizers.{flow_node_at}
 use Rattle.yaml_recognizers.proofs.Flow.OneLineText.{unbroken}
@@ -95,7 +96,7 @@ module _ (text : List ℕ) (u : IsUtf8 text) where
       let s : IsPastSign text colon = past_sign text colon 58 u t.boundary (omega arith) refl c in
       let len : at + byte_len (flow_text f.node) ≡ end =
       (flow_to text at end f.node 0 block_key (line_starts text at) u b f.boundary f.found).0 in
-      let is_short : short_key f.node (taken white (rest text end)) ≡ true =
+      let is_short : short_key f.node (take_while white (rest text end)) ≡ true =
       sym (short_is text at end colon f.node 0 block_key (line_starts text at) u b f.boundary f.found t)
       ∙ short in
       let p = next_key W text from fs evs k at f.node end colon pair f.found len w.drops w.place c s.past_is
@@ -154,7 +155,7 @@ module _ (text : List ℕ) (u : IsUtf8 text) where
   pub leaf_key : (leaf : Leaf) (k end colon : ℕ) (old new : Reader) (mid : List Event) → leaf.pairs ≡ Some k
       → IsCharBoundary text leaf.at → FlowNodeRead leaf.least outer text leaf.at end old.events mid
       → AreTaken white text end colon → sign 58 (rest text colon) ≡ true
-      → every no_break (between text leaf.at end) && nat_le (length (between text leaf.at colon)) 1024 ≡ true
+      → list_all no_break (between text leaf.at end) && nat_le (length (between text leaf.at colon)) 1024 ≡ true
       → new.collections.items ≡ old.collections.items ++ (record { waits = Value; indent = k }) ∷ []
       → new.events ≡ insert mid (length old.events) MapStart
       → Leads text (BeforeLeaf text leaf) old new (next.After (colon + 1) k Colon)
@@ -164,9 +165,9 @@ module _ (text : List ℕ) (u : IsUtf8 text) where
       let s : IsPastSign text colon = past_sign text colon 58 u t.boundary (omega arith) refl c in
       let len : at + byte_len (flow_text f.node) ≡ end =
       (flow_to text at end f.node leaf.least outer (line_starts text at) u b f.boundary f.found).0 in
-      let q : (every no_break (between text at end) ≡ true) × (nat_le (length (between text at colon)) 1024 ≡ true) =
+      let q : (list_all no_break (between text at end) ≡ true) × (nat_le (length (between text at colon)) 1024 ≡ true) =
       and_parts _ _ fits in
-      let is_short : short_key f.node (taken white (rest text end)) ≡ true =
+      let is_short : short_key f.node (take_while white (rest text end)) ≡ true =
       sym (short_is text at end colon f.node leaf.least outer (line_starts text at) u b f.boundary f.found t)
       ∙ q.1 in
       let one : unbroken (flow_text f.node) ≡ true =
@@ -175,7 +176,7 @@ module _ (text : List ℕ) (u : IsUtf8 text) where
       subst (λ (x : Option ℕ). AtLeaf W text from fs evs leaf.least x at) n here in
       let p = first_key W text from fs evs leaf.least k at f.node end colon at_leaf f.found len w.drops w.place c
       s.past_is one is_short in
-      let key : BlockFrame = waits_value p.0 k [] (key_on_line f.node (taken white (rest text end))) in
+      let key : BlockFrame = waits_value p.0 k [] (key_on_line f.node (take_while white (rest text end))) in
       record {
         fs = key ∷ fs;
         evs = evs ++ grammar.map_start ∷ flow_events f.node at;
@@ -190,7 +191,7 @@ module _ (text : List ℕ) (u : IsUtf8 text) where
   pub leaf_unkeyed : (leaf : Leaf) (end colon : ℕ) (old : Reader) (mid : List Event) → IsCharBoundary text leaf.at
       → FlowNodeRead leaf.least outer text leaf.at end old.events mid
       → AreTaken white text end colon → sign 58 (rest text colon) ≡ true
-      → (leaf.pairs ≡ None) ⊎ (every no_break (between text leaf.at end) && nat_le
+      → (leaf.pairs ≡ None) ⊎ (list_all no_break (between text leaf.at end) && nat_le
       (length (between text leaf.at colon)) 1024 ≡ false) → Fails text (BeforeLeaf text leaf) old
   leaf_unkeyed leaf end colon old mid b f t c n = λ W from base fs evs held here.
       by_pairs W from fs evs leaf.pairs refl n here
@@ -198,8 +199,8 @@ module _ (text : List ℕ) (u : IsUtf8 text) where
       w : WhiteTo text end colon
       w = white_to text end colon u f.boundary t
 
-      tests : every no_break (between text leaf.at end) && nat_le (length (between text leaf.at colon)) 1024
-          ≡ unbroken (flow_text f.node) && short_key f.node (taken white (rest text end))
+      tests : list_all no_break (between text leaf.at end) && nat_le (length (between text leaf.at colon)) 1024
+          ≡ unbroken (flow_text f.node) && short_key f.node (take_while white (rest text end))
       tests =
           ap (λ x. x && nat_le (length (between text leaf.at colon)) 1024)
           (unbroken_is text leaf.at end f.node leaf.least outer (line_starts text leaf.at) u b f.boundary f.found)
@@ -209,7 +210,7 @@ module _ (text : List ℕ) (u : IsUtf8 text) where
 
       by_pairs : (W : Read Indented) (from : ℕ) (fs : List BlockFrame) (evs : List grammar.Event) (pairs : Option ℕ)
           → leaf.pairs ≡ pairs
-          → (leaf.pairs ≡ None) ⊎ (every no_break (between text leaf.at end) && nat_le
+          → (leaf.pairs ≡ None) ⊎ (list_all no_break (between text leaf.at end) && nat_le
           (length (between text leaf.at colon)) 1024 ≡ false)
           → AtLeaf W text from fs evs leaf.least leaf.pairs leaf.at → W ≡ None
       by_pairs W from fs evs None e n here =

@@ -15,7 +15,7 @@ use Rattle.yaml_recognizers.specs.BlockFrames.{BlockFrame, PairKey, Sits, key_as
 use Rattle.yaml_recognizers.specs.BlockNodes.{bar}
 use Rattle.yaml_recognizers.specs.BlockScalars.{read_block}
 use Rattle.yaml_recognizers.specs.Comments.{all_comments, closes_line}
-use Rattle.yaml_recognizers.specs.Prefixes.{dropped, past, sign, taken}
+use Rattle.yaml_recognizers.specs.Prefixes.{drop_while, past, sign, take_while}
 use Rattle.yaml_recognizers.specs.Reading.{Read, on}
 use Rattle.yaml_recognizers.specs.Recognizers.{block_indented_at, flow_leaf_at, flow_node_at}
 use Rattle.yaml_recognizers.proofs.Block.BlockFrames.{asked_opens, unwind_none}
@@ -55,8 +55,8 @@ node_fits_frames (waits_value sits k done (key_on_line key gap) ∷ fs) n = refl
 
 -- whether a leaf is a key, by its text
 key_test : (m : ℕ) (bol : Bool) (text : List ℕ) (f : Flow) (after : List ℕ)
-    → flow_leaf_at m bol text ≡ Some (f, after) → sign 58 (dropped white after) ≡ true
-    → is_key f after ≡ unbroken (flow_text f) && short_key f (taken white after)
+    → flow_leaf_at m bol text ≡ Some (f, after) → sign 58 (drop_while white after) ≡ true
+    → is_key f after ≡ unbroken (flow_text f) && short_key f (take_while white after)
 key_test m bol text f after e c = rw (leaf_one_line m bol text f after e, c) refl
 
 module _ (W : Read Indented) (text : List ℕ) (from : ℕ) where
@@ -87,17 +87,17 @@ module _ (W : Read Indented) (text : List ℕ) (from : ℕ) where
       → AtLeaf W text from fs evs m (Some k) at
       → flow_leaf_at m (line_starts text at) (rest text at) ≡ Some (f, rest text end)
       → at + byte_len (flow_text f) ≡ end
-      → dropped white (rest text end) ≡ rest text colon → end + byte_len (taken white (rest text end)) ≡ colon
+      → drop_while white (rest text end) ≡ rest text colon → end + byte_len (take_while white (rest text end)) ≡ colon
       → sign 58 (rest text colon) ≡ true
       → past (rest text colon) ≡ rest text (colon + 1) → unbroken (flow_text f) ≡ true
-      → short_key f (taken white (rest text end)) ≡ true
-      → (sits : Sits) × AfterSign W text from (waits_value sits k [] (key_on_line f (taken white (rest text end)))
+      → short_key f (take_while white (rest text end)) ≡ true
+      → (sits : Sits) × AfterSign W text from (waits_value sits k [] (key_on_line f (take_while white (rest text end)))
       ∷ fs) (evs ++ map_start ∷ flow_events f at) Colon k (colon + 1)
   first_key fs evs m k at f end colon h e len d gap c p u short =
       let s : (sits : Sits) × (h.mapping ≡ Some (sits, k)) = mapping_some h.mapping k h.pairs_is in
       let may : Seated s.0 k fs × (sits_place s.0 (place_in fs from) ≡ at) =
       subst (MaySit fs from at) s.1 h.may_sit in
-      let white_gap : List ℕ = taken white (rest text end) in
+      let white_gap : List ℕ = take_while white (rest text end) in
       let key : is_key f (rest text end) ≡ true = key_test m (line_starts text at) (rest text at) f (rest text end) e
       (ap (sign 58) d ∙ c) ∙ and_from _ _ u short in (
         s.0,
@@ -120,7 +120,7 @@ module _ (W : Read Indented) (text : List ℕ) (from : ℕ) where
   pub second_key : (fs : List BlockFrame) (evs : List Event) (m at : ℕ) (f : Flow) (end colon : ℕ)
       → AtLeaf W text from fs evs m None at
       → flow_leaf_at m (line_starts text at) (rest text at) ≡ Some (f, rest text end)
-      → dropped white (rest text end) ≡ rest text colon → sign 58 (rest text colon) ≡ true → W ≡ None
+      → drop_while white (rest text end) ≡ rest text colon → sign 58 (rest text colon) ≡ true → W ≡ None
   second_key fs evs m at f end colon h e d c =
       h.reads ∙ (ap (unwind fs)
       (ap (λ mapping. part_at mapping m (line_starts text at) h.sep (rest text at))
@@ -133,10 +133,10 @@ module _ (W : Read Indented) (text : List ℕ) (from : ℕ) where
   pub no_first_key : (fs : List BlockFrame) (evs : List Event) (m k at : ℕ) (f : Flow) (end colon : ℕ)
       → AtLeaf W text from fs evs m (Some k) at
       → flow_leaf_at m (line_starts text at) (rest text at) ≡ Some (f, rest text end)
-      → dropped white (rest text end) ≡ rest text colon → sign 58 (rest text colon) ≡ true
-      → unbroken (flow_text f) && short_key f (taken white (rest text end)) ≡ false → W ≡ None
+      → drop_while white (rest text end) ≡ rest text colon → sign 58 (rest text colon) ≡ true
+      → unbroken (flow_text f) && short_key f (take_while white (rest text end)) ≡ false → W ≡ None
   no_first_key fs evs m k at f end colon h e d c n =
-      let there : sign 58 (dropped white (rest text end)) ≡ true = ap (sign 58) d ∙ c in
+      let there : sign 58 (drop_while white (rest text end)) ≡ true = ap (sign 58) d ∙ c in
       h.reads ∙ (ap (unwind fs)
       (leaf_before_colon h.mapping m (line_starts text at) h.sep (rest text at) f (rest text end) e there
       (and_right (is_some h.mapping) _ (key_test m (line_starts text at) (rest text at) f (rest text end) e there
@@ -148,7 +148,7 @@ module _ (W : Read Indented) (text : List ℕ) (from : ℕ) where
       (end colon start : ℕ) → AtLeaf W text from fs evs m pairs at
       → flow_leaf_at m (line_starts text at) (rest text at) ≡ Some (f, rest text end)
       → at + byte_len (flow_text f) ≡ end
-      → dropped white (rest text end) ≡ rest text colon → sign 58 (rest text colon) ≡ false
+      → drop_while white (rest text end) ≡ rest text colon → sign 58 (rest text colon) ≡ false
       → closes_line (all_comments false (rest text end)) ≡ true
       → (all_comments false (rest text end)).1 ≡ rest text start
       → end + byte_len (comments_text (all_comments false (rest text end)).0) ≡ start
@@ -178,7 +178,7 @@ module _ (W : Read Indented) (text : List ℕ) (from : ℕ) where
   pub leaf_goes_on : (fs : List BlockFrame) (evs : List Event) (m : ℕ) (pairs : Option ℕ) (at : ℕ) (f : Flow)
       (end colon : ℕ) → AtLeaf W text from fs evs m pairs at
       → flow_leaf_at m (line_starts text at) (rest text at) ≡ Some (f, rest text end)
-      → dropped white (rest text end) ≡ rest text colon → sign 58 (rest text colon) ≡ false
+      → drop_while white (rest text end) ≡ rest text colon → sign 58 (rest text colon) ≡ false
       → closes_line (all_comments false (rest text end)) ≡ false → W ≡ None
   leaf_goes_on fs evs m pairs at f end colon h e d c close =
       h.reads ∙ (ap (unwind fs) (leaf_unclosed h.mapping m (line_starts text at) h.sep (rest text at) f
@@ -252,13 +252,13 @@ module _ (W : Read Indented) (text : List ℕ) (from : ℕ) where
       → AtPair W text from fs evs k at
       → flow_node_at 0 block_key (line_starts text at) (rest text at) ≡ Some (f, rest text end)
       → at + byte_len (flow_text f) ≡ end
-      → dropped white (rest text end) ≡ rest text colon → end + byte_len (taken white (rest text end)) ≡ colon
+      → drop_while white (rest text end) ≡ rest text colon → end + byte_len (take_while white (rest text end)) ≡ colon
       → sign 58 (rest text colon) ≡ true
-      → past (rest text colon) ≡ rest text (colon + 1) → short_key f (taken white (rest text end)) ≡ true
+      → past (rest text colon) ≡ rest text (colon + 1) → short_key f (take_while white (rest text end)) ≡ true
       → (sits : Sits) × (done : List Pair) × (key : PairKey) × (sign_after key ≡ Colon)
       × AfterSign W text from (waits_value sits k done key ∷ fs) (evs ++ flow_events f at) Colon k (colon + 1)
   next_key fs evs k at f end colon h e len d gap c p short =
-      let white_gap : List ℕ = taken white (rest text end) in
+      let white_gap : List ℕ = take_while white (rest text end) in
       let here : flow_node_at 0 block_key (k == 0) (rest text at) ≡ Some (f, rest text end) =
       ap (λ b. flow_node_at 0 block_key b (rest text at)) (sym h.starts) ∙ e in (
         h.sits,
@@ -288,13 +288,13 @@ module _ (W : Read Indented) (text : List ℕ) (from : ℕ) where
   pub no_next_key : (fs : List BlockFrame) (evs : List Event) (k at : ℕ) (f : Flow) (end colon : ℕ)
       → AtPair W text from fs evs k at
       → flow_node_at 0 block_key (line_starts text at) (rest text at) ≡ Some (f, rest text end)
-      → dropped white (rest text end) ≡ rest text colon
-      → sign 58 (rest text colon) && short_key f (taken white (rest text end)) ≡ false → W ≡ None
+      → drop_while white (rest text end) ≡ rest text colon
+      → sign 58 (rest text colon) && short_key f (take_while white (rest text end)) ≡ false → W ≡ None
   no_next_key fs evs k at f end colon h e d n =
       h.reads ∙ (ap (unwind fs)
       (next_key_unfit h.sits k (k == 0) h.done (rest text at) f (rest text end)
       (ap (λ b. flow_node_at 0 block_key b (rest text at)) (sym h.starts) ∙ e)
-      (ap (λ t. sign 58 t && short_key f (taken white (rest text end))) d ∙ n))
+      (ap (λ t. sign 58 t && short_key f (take_while white (rest text end))) d ∙ n))
       ∙ unwind_none fs)
 
   -- without a flow node nothing is read

@@ -6,7 +6,7 @@ use Rattle.std.proofs.lemmas.Bool.Decides.{nat_tests}
 use Rattle.yaml_grammar.specs.BlockScalars.{past_spaces, spaces_before}
 use Rattle.yaml_grammar.specs.Texts.{is_empty, marker}
 use Rattle.yaml_recognizers.specs.CanonicalComments.{is_line_end}
-use Rattle.yaml_recognizers.specs.Ends.{ended}
+use Rattle.yaml_recognizers.specs.Ends.{block_node_stops}
 use Rattle.yaml_recognizers.specs.Prefixes.{sign}
 use Rattle.yaml_recognizers.proofs.Block.BlockNodesEnd.{colon_stop, items_stop}
 
@@ -25,7 +25,7 @@ pub no_value : (k : ℕ) (text : List ℕ) → stops_all text ≡ true
 no_value k text h = colon_stop k text (or_left _ _ h)
 
 -- a pair goes on at any other line with its spaces
-pub pair_test : (k : ℕ) (text : List ℕ) → (spaces_before text == k) && not (ended k false text)
+pub pair_test : (k : ℕ) (text : List ℕ) → (spaces_before text == k) && not (block_node_stops k false text)
     ≡ (spaces_before text == k) && not (stops_all text)
 pair_test k text = elim (cases_eq (spaces_before text) k) [
   | inl e ↦ (let l : nat_lt (spaces_before text) k ≡ false = le-ltb (spaces_before text) k (omega (arith, e)) in ap

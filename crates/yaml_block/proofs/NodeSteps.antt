@@ -13,7 +13,7 @@ use Rattle.yaml_recognizers.specs.BlockFrames.{BlockFrame, Sits, on_lines, plug,
 use Rattle.yaml_recognizers.specs.BlockNodes.{node_below}
 use Rattle.yaml_recognizers.specs.BlockScalars.{read_block}
 use Rattle.yaml_recognizers.specs.Comments.{all_comments}
-use Rattle.yaml_recognizers.specs.Prefixes.{dropped, past, sign, taken}
+use Rattle.yaml_recognizers.specs.Prefixes.{drop_while, past, sign, take_while}
 use Rattle.yaml_recognizers.specs.Reading.{Read, on}
 use Rattle.yaml_recognizers.specs.Recognizers.{block_indented_at, block_items_at, block_key_in, block_pairs_at, flow_leaf_at}
 use Rattle.yaml_recognizers.proofs.Block.BlockFrames.{unwind_none}
@@ -89,12 +89,12 @@ module _ (W : Read Indented) (text : List ℕ) (from : ℕ) where
       → sign 45 (rest text prefix) && nat_le m (if shallow then suc s else s) ≡ false → nat_le m s ≡ true
       → first white (rest text prefix) ≡ false
       → (line_starts text start ≡ true) ⊎ (rest text start ≡ [])
-      → starts_line (line_starts text start) (taken white (rest text start)) ≡ line_starts text prefix
+      → starts_line (line_starts text start) (take_while white (rest text start)) ≡ line_starts text prefix
       → AtLeaf W text from fs evs m (Some s) prefix
   line_leaf fs evs m shallow alone start s prefix h c e p d l w f b =
       let t : List ℕ = rest text start in
       let plain : first white (past_spaces t) ≡ false = ap (first white) e ∙ w in
-      let blank : List ℕ = taken white t in
+      let blank : List ℕ = take_while white t in
       let long : byte_len blank ≡ s = ap byte_len (untabbed_taken t plain)
       ∙ (byte_len_spaces (spaces_before t) ∙ c) in
       record {
@@ -123,13 +123,13 @@ module _ (W : Read Indented) (text : List ℕ) (from : ℕ) where
       → spaces_before (rest text start) ≡ s → past_spaces (rest text start) ≡ rest text prefix
       → sign 45 (rest text prefix) && nat_le m (if shallow then suc s else s) ≡ false → nat_le m s ≡ true
       → first white (rest text prefix) ≡ true
-      → dropped white (rest text start) ≡ rest text lead → start + byte_len (taken white (rest text start)) ≡ lead
-      → starts_line (line_starts text start) (taken white (rest text start)) ≡ line_starts text lead
+      → drop_while white (rest text start) ≡ rest text lead → start + byte_len (take_while white (rest text start)) ≡ lead
+      → starts_line (line_starts text start) (take_while white (rest text start)) ≡ line_starts text lead
       → AtLeaf W text from fs evs m None lead
   line_leaf_after_tab fs evs m shallow alone start s prefix lead h c e d l w drops p b =
       let t : List ℕ = rest text start in
       let deep : nat_le m (spaces_before t) ≡ true = ap (nat_le m) c ∙ l in
-      let blank : List ℕ = taken white t in
+      let blank : List ℕ = take_while white t in
       record {
         sep = sep_after h.comments blank;
         mapping = None;
@@ -152,13 +152,13 @@ module _ (W : Read Indented) (text : List ℕ) (from : ℕ) where
       → spaces_before (rest text start) ≡ s → past_spaces (rest text start) ≡ rest text prefix
       → sign 45 (rest text prefix) && nat_le m (if shallow then suc s else s) ≡ false → nat_le m s ≡ false
       → alone ≡ true
-      → dropped white (rest text start) ≡ rest text lead → start + byte_len (taken white (rest text start)) ≡ lead
-      → starts_line (line_starts text start) (taken white (rest text start)) ≡ line_starts text lead
+      → drop_while white (rest text start) ≡ rest text lead → start + byte_len (take_while white (rest text start)) ≡ lead
+      → starts_line (line_starts text start) (take_while white (rest text start)) ≡ line_starts text lead
       → AtLeaf W text from fs evs m None lead
   line_leaf_alone fs evs m shallow alone start s prefix lead h c e d l a drops p b =
       let t : List ℕ = rest text start in
       let deep : nat_le m (spaces_before t) ≡ false = ap (nat_le m) c ∙ l in
-      let blank : List ℕ = taken white t in
+      let blank : List ℕ = take_while white t in
       record {
         sep = sep_after h.comments blank;
         mapping = None;
@@ -203,22 +203,22 @@ module _ (W : Read Indented) (text : List ℕ) (from : ℕ) where
   -- on a line that goes on a leaf comes after whitespace
   pub node_on_line : (fs : List BlockFrame) (evs : List Event) (m : ℕ) (shallow : Bool) (at lead : ℕ)
       → AtNode W text from fs evs m shallow false at
-      → all_comments false (rest text at) ≡ ([], rest text at) → is_empty (taken white (rest text at)) ≡ false
-      → dropped white (rest text at) ≡ rest text lead
-      → at + byte_len (taken white (rest text at)) ≡ lead → line_starts text lead ≡ false
+      → all_comments false (rest text at) ≡ ([], rest text at) → is_empty (take_while white (rest text at)) ≡ false
+      → drop_while white (rest text at) ≡ rest text lead
+      → at + byte_len (take_while white (rest text at)) ≡ lead → line_starts text lead ≡ false
       → AtLeaf W text from fs evs m None lead
   node_on_line fs evs m shallow at lead h c w drops p b =
       let t : List ℕ = rest text at in
       record {
-        sep = inline (taken white t);
+        sep = inline (take_while white t);
         mapping = None;
         reads = h.reads ∙ ap (unwind fs)
-            (leaf_on_line m shallow t c w ∙ (ap (part_at None m false (inline (taken white t))) drops
-            ∙ ap (λ x. part_at None m x (inline (taken white t)) (rest text lead)) (sym b)));
+            (leaf_on_line m shallow t c w ∙ (ap (part_at None m false (inline (take_while white t))) drops
+            ∙ ap (λ x. part_at None m x (inline (take_while white t)) (rest text lead)) (sym b)));
         nested = h.nested;
         pairs_is = refl;
         may_sit = tt;
-        place = ap (λ x. x + byte_len (taken white t)) h.place ∙ p;
+        place = ap (λ x. x + byte_len (take_while white t)) h.place ∙ p;
         wrote = h.wrote;
       }
 

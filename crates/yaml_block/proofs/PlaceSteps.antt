@@ -12,16 +12,17 @@ use Rattle.yaml_grammar.specs.BlockScalars.{spaces_before}
 use Rattle.yaml_grammar.specs.FlowNodes.{Flow, flow_text, short_key}
 use Rattle.yaml_grammar.specs.FlowScalars.{FlowContext}
 use Rattle.yaml_grammar.specs.Separation.{LineEnd, comments_text}
-use Rattle.yaml_grammar.specs.Texts.{byte_len, every, first, is_empty, starts_line}
+use Rattle.std.specs.List.{list_all}
+use Rattle.yaml_grammar.specs.Texts.{byte_len, first, is_empty, starts_line}
 use Rattle.yaml_recognizers.specs.CanonicalComments.{is_line_end}
 use Rattle.yaml_recognizers.specs.Comments.{all_comments, read_line_end}
-use Rattle.yaml_recognizers.specs.Prefixes.{dropped, taken}
+use Rattle.yaml_recognizers.specs.Prefixes.{drop_while, take_while}
 use Rattle.yaml_recognizers.specs.Reading.{Read}
 use Rattle.yaml_recognizers.specs.Recognizers.{flow_node_at}
 use Rattle.yaml_recognizers.proofs.Separation.CommentsComplete.{no_line}
 use Rattle.yaml_recognizers.proofs.Separation.CommentsSound.{all_sound, no_line_end}
 use Rattle.yaml_recognizers.proofs.Flow.FlowNodesFound.{stands}
-use Rattle.yaml_recognizers.proofs.Basics.Prefixes.{taken_every}
+use Rattle.yaml_recognizers.proofs.Basics.Prefixes.{take_while_every}
 use Rattle.yaml_recognizers.proofs.Flow.OneLineText.{unbroken}
 use Rattle.yaml_events.specs.EventPlaces.{line_starts}
 use Rattle.yaml_scan.specs.ScanPlaces.{AreSpaces, AreTaken}
@@ -32,29 +33,29 @@ use Rattle.yaml_block.proofs.TextPlaces.{between_is, comments_unmarked, spelled,
 
 -- white space goes from one place to another
 pub record WhiteTo (bs : List ℕ) (at end : ℕ) : Type 0 where
-  pub place : at + byte_len (taken white (rest bs at)) ≡ end
-  pub drops : dropped white (rest bs at) ≡ rest bs end
-  pub starts : starts_line (line_starts bs at) (taken white (rest bs at)) ≡ line_starts bs end
+  pub place : at + byte_len (take_while white (rest bs at)) ≡ end
+  pub drops : drop_while white (rest bs at) ≡ rest bs end
+  pub starts : starts_line (line_starts bs at) (take_while white (rest bs at)) ≡ line_starts bs end
   pub stop : first white (rest bs end) ≡ false
-  pub some : at < end → is_empty (taken white (rest bs at)) ≡ false
+  pub some : at < end → is_empty (take_while white (rest bs at)) ≡ false
   pub none : end ≡ at → first white (rest bs at) ≡ false
   pub inside : line_starts bs at ≡ false → line_starts bs end ≡ false
   pub inside_after : at < end → line_starts bs end ≡ false
 
-dropped_stop : (test : ℕ → Bool) (text : List ℕ) → first test (dropped test text) ≡ false
-dropped_stop test [] = refl
-dropped_stop test (c ∷ cs) = elim (cases_Bool (test c)) [
-  | inl e ↦ rw e (dropped_stop test cs)
+drop_while_stop : (test : ℕ → Bool) (text : List ℕ) → first test (drop_while test text) ≡ false
+drop_while_stop test [] = refl
+drop_while_stop test (c ∷ cs) = elim (cases_Bool (test c)) [
+  | inl e ↦ rw e (drop_while_stop test cs)
   | inr e ↦ ap (first test) (kept e) ∙ e
 ]
   where
-    kept : test c ≡ false → dropped test (c ∷ cs) ≡ c ∷ cs
+    kept : test c ≡ false → drop_while test (c ∷ cs) ≡ c ∷ cs
     kept e = rw e refl
 
-some_last : (bol : Bool) (xs : List ℕ) → every white xs ≡ true → is_empty xs ≡ false → starts_line bol xs ≡ false
+some_last : (bol : Bool) (xs : List ℕ) → list_all white xs ≡ true → is_empty xs ≡ false → starts_line bol xs ≡ false
 some_last bol [] h n = absurd (false≢true (sym n))
 some_last bol (x ∷ xs) h n =
-    let p : (white x ≡ true) × (every white xs ≡ true) = and_parts _ _ h in
+    let p : (white x ≡ true) × (list_all white xs ≡ true) = and_parts _ _ h in
     ap (λ b. starts_line b xs) (unbroken_white x p.0) ∙ white_starts xs p.1
   where
     unbroken_white : (x : ℕ) → white x ≡ true → line_break x ≡ false
@@ -64,13 +65,13 @@ some_last bol (x ∷ xs) h n =
 pub white_to : (bs : List ℕ) (at end : ℕ) → IsUtf8 bs → IsCharBoundary bs at → AreTaken white bs at end
     → WhiteTo bs at end
 white_to bs at end u b t =
-    let s : (at + byte_len (taken white (rest bs at)) ≡ end)
-    × (starts_line (line_starts bs at) (taken white (rest bs at)) ≡ line_starts bs end) =
+    let s : (at + byte_len (take_while white (rest bs at)) ≡ end)
+    × (starts_line (line_starts bs at) (take_while white (rest bs at)) ≡ line_starts bs end) =
     white_spelled bs at end u b t.boundary t.leaves in
     let stop : first white (rest bs end) ≡ false = ap (first white) (sym t.leaves)
-    ∙ dropped_stop white (rest bs at) in
-    let some : at < end → is_empty (taken white (rest bs at)) ≡ false = λ l.
-    filled (taken white (rest bs at)) s.0 l in
+    ∙ drop_while_stop white (rest bs at) in
+    let some : at < end → is_empty (take_while white (rest bs at)) ≡ false = λ l.
+    filled (take_while white (rest bs at)) s.0 l in
     record {
       place = s.0;
       drops = t.leaves;
@@ -79,8 +80,8 @@ white_to bs at end u b t =
       some = some;
       none = λ e. ap (λ i. first white (rest bs i)) (sym e) ∙ stop;
       inside = λ n. white_inside bs at end u b t.boundary n t.leaves;
-      inside_after = λ l. sym s.1 ∙ some_last (line_starts bs at) (taken white (rest bs at))
-          (taken_every white (rest bs at)) (some l);
+      inside_after = λ l. sym s.1 ∙ some_last (line_starts bs at) (take_while white (rest bs at))
+          (take_while_every white (rest bs at)) (some l);
     }
   where
     filled : (xs : List ℕ) → at + byte_len xs ≡ end → at < end → is_empty xs ≡ false
@@ -142,11 +143,11 @@ flow_to bs at end f n c bol u b d e =
 pub short_is : (bs : List ℕ) (at end colon : ℕ) (f : Flow) (n : ℕ) (c : FlowContext) (bol : Bool) → IsUtf8 bs
     → IsCharBoundary bs at → IsCharBoundary bs end
     → flow_node_at n c bol (rest bs at) ≡ Some (f, rest bs end) → AreTaken white bs end colon
-    → nat_le (length (between bs at colon)) 1024 ≡ short_key f (taken white (rest bs end))
+    → nat_le (length (between bs at colon)) 1024 ≡ short_key f (take_while white (rest bs end))
 short_is bs at end colon f n c bol u b d e t =
     let p : (at + byte_len (flow_text f) ≡ end) × (between bs at end ≡ flow_text f) =
     flow_to bs at end f n c bol u b d e in
-    let whole : between bs at colon ≡ flow_text f ++ taken white (rest bs end) =
+    let whole : between bs at colon ≡ flow_text f ++ take_while white (rest bs end) =
     between-append bs at end colon u (omega (arith, p.0)) t.above b d t.boundary
     ∙ (ap (λ x. x ++ between bs end colon) p.1 ∙ ap (λ x. flow_text f ++ x) (sym t.takes)) in
     ap (λ x. nat_le (length x) 1024) whole
@@ -155,8 +156,8 @@ short_is bs at end colon f n c bol u b d e t =
 pub unbroken_is : (bs : List ℕ) (at end : ℕ) (f : Flow) (n : ℕ) (c : FlowContext) (bol : Bool) → IsUtf8 bs
     → IsCharBoundary bs at → IsCharBoundary bs end
     → flow_node_at n c bol (rest bs at) ≡ Some (f, rest bs end)
-    → every no_break (between bs at end) ≡ unbroken (flow_text f)
-unbroken_is bs at end f n c bol u b d e = ap (every no_break) (flow_to bs at end f n c bol u b d e).1
+    → list_all no_break (between bs at end) ≡ unbroken (flow_text f)
+unbroken_is bs at end f n c bol u b d e = ap (list_all no_break) (flow_to bs at end f n c bol u b d e).1
 
 -- ---- a line of white space or a comment
 

@@ -14,8 +14,8 @@ use Rattle.yaml_recognizers.specs.BlockFrames.{BlockFrame, key_asked, key_on_lin
 use Rattle.yaml_recognizers.specs.BlockNodes.{node_below}
 use Rattle.yaml_recognizers.specs.BlockScalars.{read_block}
 use Rattle.yaml_recognizers.specs.Comments.{all_comments, closes_line}
-use Rattle.yaml_recognizers.specs.Ends.{ended}
-use Rattle.yaml_recognizers.specs.Prefixes.{dropped, past, sign, taken}
+use Rattle.yaml_recognizers.specs.Ends.{block_node_stops}
+use Rattle.yaml_recognizers.specs.Prefixes.{drop_while, past, sign, take_while}
 use Rattle.yaml_recognizers.specs.Reading.{Read, on}
 use Rattle.yaml_recognizers.specs.Recognizers.{block_indented_at, block_items_at, block_key_in, block_pairs_at, flow_leaf_at}
 use Rattle.yaml_recognizers.proofs.Block.BlockFrames.{asked_for_nothing, items_open, sequence_on_sign_line, unwind_none}
@@ -72,17 +72,17 @@ spaces_some zero l = absurd (omega arith)
 spaces_some (suc s) l = refl
 
 -- without whitespace none is taken
-pub untaken : (t : List ℕ) → first white t ≡ false → is_empty (taken white t) ≡ true
+pub untaken : (t : List ℕ) → first white t ≡ false → is_empty (take_while white t) ≡ true
 untaken [] h = refl
 untaken (c ∷ cs) h = rw h refl
 
 -- a node on a later line comes after some comments
 some_comments : (k : ℕ) (shallow : Bool) (c : List LineEnd × List ℕ) → closes_line c ≡ true
-    → ended (suc k) shallow c.1 ≡ false → is_empty c.0 ≡ false
+    → block_node_stops (suc k) shallow c.1 ≡ false → is_empty c.0 ≡ false
 some_comments k shallow c h e = by_cases c.0 c.1 h e
   where
     by_cases : (comments : List LineEnd) (t : List ℕ) → closes_line (comments, t) ≡ true
-        → ended (suc k) shallow t ≡ false → is_empty comments ≡ false
+        → block_node_stops (suc k) shallow t ≡ false → is_empty comments ≡ false
     by_cases [] [] h e = absurd (false≢true (sym e))
     by_cases [] (x ∷ xs) h e = absurd (false≢true h)
     by_cases (l ∷ ls) t h e = refl
@@ -93,7 +93,7 @@ module _ (W : Read Indented) (text : List ℕ) (from : ℕ) where
       → AfterSign W text from fs evs before k at
       → closes_line (all_comments false (rest text at)) ≡ true
       → (all_comments false (rest text at)).1 ≡ rest text start
-      → ended (suc k) (is_shallow before) (rest text start) ≡ true
+      → block_node_stops (suc k) (is_shallow before) (rest text start) ≡ true
       → at + byte_len (comments_text (all_comments false (rest text at)).0) ≡ start
       → (f : BlockFrame) × (gs : List BlockFrame) × (fs ≡ f ∷ gs) × (waits_of f ≡ Key → W ≡ None)
       × ((waits_of f ≡ Key → ⊥) → AtLine W text from fs (evs ++ omitted_at at) start at)
@@ -103,7 +103,7 @@ module _ (W : Read Indented) (text : List ℕ) (from : ℕ) where
       let after : part_after before k (rest text at) ≡ Some (omitted comments, rest text start) =
       after_is before k (rest text at)
       ∙ (omitted_after (not (is_colon before)) (is_shallow before) k (rest text at) c
-      (ap (ended (suc k) (is_shallow before)) t ∙ e) ∙ ap (λ u. Some (omitted comments, u)) t) in
+      (ap (block_node_stops (suc k) (is_shallow before)) t ∙ e) ∙ ap (λ u. Some (omitted comments, u)) t) in
       let reads : W ≡ unwind (f ∷ gs) (Some (omitted comments, rest text start)) = h.reads
       ∙ ap (unwind (f ∷ gs)) after in (
         f,
@@ -127,14 +127,14 @@ module _ (W : Read Indented) (text : List ℕ) (from : ℕ) where
       → AfterSign W text from fs evs before k at
       → closes_line (all_comments false (rest text at)) ≡ true
       → (all_comments false (rest text at)).1 ≡ rest text start
-      → ended (suc k) (is_shallow before) (rest text start) ≡ false
+      → block_node_stops (suc k) (is_shallow before) (rest text start) ≡ false
       → at + byte_len (comments_text (all_comments false (rest text at)).0) ≡ start
       → starts_line false (comments_text (all_comments false (rest text at)).0) ≡ line_starts text start
       → AtNodeLine W text from fs evs (suc k) (is_shallow before) false start
   node_on_lines fs evs before k at start h c t e p l =
       let comments : List LineEnd = (all_comments false (rest text at)).0 in
       let some : is_empty comments ≡ false = some_comments k (is_shallow before) (all_comments false (rest text at)) c
-      (ap (ended (suc k) (is_shallow before)) t ∙ e) in
+      (ap (block_node_stops (suc k) (is_shallow before)) t ∙ e) in
       let whole : ◌≡◌ {A = List LineEnd × List ℕ} (all_comments false (rest text at)) (comments, rest text start) =
       ap (λ u. (comments, u)) t in
       record {
@@ -143,7 +143,7 @@ module _ (W : Read Indented) (text : List ℕ) (from : ℕ) where
         reads = h.reads ∙ ap (unwind fs)
             (after_is before k (rest text at)
             ∙ (node_after_lines (not (is_colon before)) (is_shallow before) k (rest text at) c
-            (ap (ended (suc k) (is_shallow before)) t ∙ e)
+            (ap (block_node_stops (suc k) (is_shallow before)) t ∙ e)
             ∙ ap as_part (node_steps (suc k) (is_shallow before) false (rest text at)
             ∙ ap (node_below block_key_in flow_leaf_at read_block block_items_at block_pairs_at (suc k)
             (is_shallow before) false) whole)));
@@ -195,8 +195,8 @@ module _ (W : Read Indented) (text : List ℕ) (from : ℕ) where
   compact_leaf fs evs before k at s prefix h n g c l e p d w b =
       let t : List ℕ = rest text at in
       let plain : first white (past_spaces t) ≡ false = ap (first white) e ∙ w in
-      let lead : taken white t ≡ spaces s = untabbed_taken t plain ∙ ap spaces c in
-      let drops : dropped white t ≡ rest text prefix = untabbed t plain ∙ e in
+      let lead : take_while white t ≡ spaces s = untabbed_taken t plain ∙ ap spaces c in
+      let drops : drop_while white t ≡ rest text prefix = untabbed t plain ∙ e in
       record {
         sep = inline (spaces s);
         mapping = Some (on_sign_line s, k + 1 + s);
@@ -204,9 +204,9 @@ module _ (W : Read Indented) (text : List ℕ) (from : ℕ) where
             (after_compact before k t n
             ∙ (compact_or_leaf k (is_shallow before) t (unclosed_goes_on t g) (ap is_empty lead
             ∙ spaces_some s l) plain (ap (sign 45) e ∙ d)
-            ∙ (ap (λ j. part_at (Some (on_sign_line j, k + 1 + j)) (suc k) false (inline (taken white t))
-            (dropped white t)) c
-            ∙ (ap (λ xs. part_at (Some (on_sign_line s, k + 1 + s)) (suc k) false (inline xs) (dropped white t)) lead
+            ∙ (ap (λ j. part_at (Some (on_sign_line j, k + 1 + j)) (suc k) false (inline (take_while white t))
+            (drop_while white t)) c
+            ∙ (ap (λ xs. part_at (Some (on_sign_line s, k + 1 + s)) (suc k) false (inline xs) (drop_while white t)) lead
             ∙ (ap (part_at (Some (on_sign_line s, k + 1 + s)) (suc k) false (inline (spaces s))) drops
             ∙ ap (λ x. part_at (Some (on_sign_line s, k + 1 + s)) (suc k) x (inline (spaces s)) (rest text prefix))
             (sym b))))));
@@ -222,24 +222,24 @@ module _ (W : Read Indented) (text : List ℕ) (from : ℕ) where
       → AfterSign W text from fs evs before k at
       → (is_colon before ≡ true) ⊎ (first white (past_spaces (rest text at)) ≡ true)
       → closes_line (all_comments false (rest text at)) ≡ false
-      → is_empty (taken white (rest text at)) ≡ false → dropped white (rest text at) ≡ rest text lead
-      → at + byte_len (taken white (rest text at)) ≡ lead → line_starts text lead ≡ false
+      → is_empty (take_while white (rest text at)) ≡ false → drop_while white (rest text at) ≡ rest text lead
+      → at + byte_len (take_while white (rest text at)) ≡ lead → line_starts text lead ≡ false
       → AtLeaf W text from fs evs (suc k) None lead
   sign_leaf fs evs before k at lead h n g w d p b =
       let t : List ℕ = rest text at in
       record {
-        sep = inline (taken white t);
+        sep = inline (take_while white t);
         mapping = None;
         reads = h.reads ∙ ap (unwind fs)
             (after_is before k t
             ∙ (leaf_on_sign_line (not (is_colon before)) (is_shallow before) k t (unclosed_goes_on t g) w
             (no_compact n)
-            ∙ (ap (part_at None (suc k) false (inline (taken white t))) d
-            ∙ ap (λ x. part_at None (suc k) x (inline (taken white t)) (rest text lead)) (sym b))));
+            ∙ (ap (part_at None (suc k) false (inline (take_while white t))) d
+            ∙ ap (λ x. part_at None (suc k) x (inline (take_while white t)) (rest text lead)) (sym b))));
         nested = h.nested;
         pairs_is = refl;
         may_sit = tt;
-        place = ap (λ x. x + byte_len (taken white t)) h.place ∙ p;
+        place = ap (λ x. x + byte_len (take_while white t)) h.place ∙ p;
         wrote = h.wrote;
       }
     where

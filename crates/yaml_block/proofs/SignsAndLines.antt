@@ -19,8 +19,8 @@ use Rattle.yaml_recognizers.proofs.Block.BlockFrames.{unwind_none}
 use Rattle.yaml_recognizers.proofs.Separation.CommentsDepth.{comments_step}
 use Rattle.yaml_recognizers.proofs.Meanings.Steps.{node_steps}
 use Rattle.yaml_chars.proofs.Places.{rest-end}
-use Rattle.yaml_recognizers.specs.Ends.{ended}
-use Rattle.yaml_recognizers.specs.Prefixes.{dropped, past, sign, taken}
+use Rattle.yaml_recognizers.specs.Ends.{block_node_stops}
+use Rattle.yaml_recognizers.specs.Prefixes.{drop_while, past, sign, take_while}
 use Rattle.yaml_recognizers.specs.Reading.{Read, on}
 use Rattle.yaml_grammar.specs.BlockNodes.{Indented}
 use Rattle.yaml_recognizers.specs.BlockFrames.{Sits, on_sign_line, BlockFrame, waits_item, waits_key, waits_value, unwind}
@@ -197,7 +197,7 @@ module _ (text : List ℕ) (sg : Sign) (k at : ℕ) (u : IsUtf8 text) (placed : 
   comments = comments_to text at line.start false u placed.boundary s.boundary s.leaves
 
   -- the key after `?` may not be left out
-  pub left_out_key : ended (suc k) (is_shallow_after sg) (rest text line.start) ≡ true → (old : Reader)
+  pub left_out_key : block_node_stops (suc k) (is_shallow_after sg) (rest text line.start) ≡ true → (old : Reader)
       → ((f : BlockFrame) (fs : List BlockFrame) → Stack (f ∷ fs) old.collections.items → waits_of f ≡ Key)
       → Fails text (BeforePart text sg k at) old
   left_out_key e old key W from base fs evs h a =
@@ -205,7 +205,7 @@ module _ (text : List ℕ) (sg : Sign) (k at : ℕ) (u : IsUtf8 text) (placed : 
       o.3 (key o.0 o.1 (subst (λ gs. Stack gs old.collections.items) o.2 h.stack))
 
   -- an item or a value may be left out
-  pub left_out_value : ended (suc k) (is_shallow_after sg) (rest text line.start) ≡ true
+  pub left_out_value : block_node_stops (suc k) (is_shallow_after sg) (rest text line.start) ≡ true
       → (old new : Reader) (e : Event)
       → ((f : BlockFrame) (fs : List BlockFrame) → Stack (f ∷ fs) old.collections.items → waits_of f ≡ Key → ⊥)
       → new.collections ≡ old.collections → new.events ≡ old.events ++ e ∷ []
@@ -224,7 +224,7 @@ module _ (text : List ℕ) (sg : Sign) (k at : ℕ) (u : IsUtf8 text) (placed : 
   -- a node is on a later line
   pub node_there : (node : Indentation) → node.least ≡ k + 1 → node.margin ≡ k + 1
       → is_shallow node.context ≡ is_shallow_after sg
-      → ended (suc k) (is_shallow_after sg) (rest text line.start) ≡ false
+      → block_node_stops (suc k) (is_shallow_after sg) (rest text line.start) ≡ false
       → (W : Read Indented) (from : ℕ) (fs : List BlockFrame) (evs : List grammar.Event)
       → BeforePart text sg k at W from fs evs → BeforeNodeLine text node line.start W from fs evs
   node_there node l m c e W from fs evs a = (
@@ -239,14 +239,14 @@ module _ (text : List ℕ) (sg : Sign) (k at : ℕ) (u : IsUtf8 text) (placed : 
 
 -- ---- a node at the start of a line
 
-taken_some : (t : List ℕ) → is_empty (taken white t) ≡ false → first white t ≡ true
-taken_some [] h = absurd (false≢true (sym h))
-taken_some (c ∷ cs) h = elim (cases_Bool (white c)) [
+take_while_some : (t : List ℕ) → is_empty (take_while white t) ≡ false → first white t ≡ true
+take_while_some [] h = absurd (false≢true (sym h))
+take_while_some (c ∷ cs) h = elim (cases_Bool (white c)) [
   | inl e ↦ e
   | inr e ↦ absurd (false≢true (sym (sym (ap is_empty (skipped c cs e)) ∙ h)))
 ]
   where
-    skipped : (c : ℕ) (cs : List ℕ) → white c ≡ false → taken white (c ∷ cs) ≡ []
+    skipped : (c : ℕ) (cs : List ℕ) → white c ≡ false → take_while white (c ∷ cs) ≡ []
     skipped c cs e = rw e refl
 
 module _ (text : List ℕ) (node : Indentation) (line : Line) (u : IsUtf8 text) (l : IsLine text line) where
@@ -287,11 +287,11 @@ module _ (text : List ℕ) (node : Indentation) (line : Line) (u : IsUtf8 text) 
             (line.first - line.start) line.first a (l.spaces).counts (l.spaces).leaves no_sequence few refl
 
     module _ (lead : ℕ) (w : AreTaken white text line.first lead) where
-      drops : dropped white (rest text line.start) ≡ rest text lead
-      drops = sym (white_after_spaces (rest text line.start)) ∙ (ap (dropped white) (l.spaces).leaves ∙ w.leaves)
+      drops : drop_while white (rest text line.start) ≡ rest text lead
+      drops = sym (white_after_spaces (rest text line.start)) ∙ (ap (drop_while white) (l.spaces).leaves ∙ w.leaves)
 
-      spelled : (line.start + byte_len (taken white (rest text line.start)) ≡ lead)
-          × (starts_line (line_starts text line.start) (taken white (rest text line.start)) ≡ line_starts text lead)
+      spelled : (line.start + byte_len (take_while white (rest text line.start)) ≡ lead)
+          × (starts_line (line_starts text line.start) (take_while white (rest text line.start)) ≡ line_starts text lead)
       spelled = white_spelled text line.start lead u l.boundary w.boundary drops
 
       to_lead : WhiteTo text line.first lead
@@ -327,7 +327,7 @@ module _ (text : List ℕ) (node : Indentation) (line : Line) (u : IsUtf8 text) 
               let deep : nat_le node.least (line.first - line.start) ≡ true = grind (arith, nat_tests) in
               line_leaf_after_tab W text from fs evs node.least (is_shallow node.context) a.0 line.start
               (line.first - line.start) line.first lead a.2 (l.spaces).counts (l.spaces).leaves no_sequence deep
-              (taken_some (rest text line.first) (to_lead.some far)) drops spelled.0 spelled.1
+              (take_while_some (rest text line.first) (to_lead.some far)) drops spelled.0 spelled.1
 
       -- the line has a leaf or the first pair of a mapping
       pub line_leaf_or_pairs : node.least ≤ line.first - line.start → lead ≡ line.first

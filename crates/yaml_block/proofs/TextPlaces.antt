@@ -13,12 +13,13 @@ use Rattle.yaml_chars.specs.Places.{between, rest}
 use Rattle.yaml_chars.proofs.Places.{between-append, char_at, encodes-rest, rest-ascii, rest-between, rest-end}
 use Rattle.yaml_grammar.specs.BlockScalars.{past_spaces, spaces_before}
 use Rattle.yaml_grammar.specs.Separation.{LineEnd, comments_text}
-use Rattle.yaml_grammar.specs.Texts.{byte_len, every, first, is_empty, spaces, starts_line}
+use Rattle.std.specs.List.{list_all}
+use Rattle.yaml_grammar.specs.Texts.{byte_len, first, is_empty, spaces, starts_line}
 use Rattle.yaml_recognizers.specs.Comments.{all_comments, more_comments, read_line_end}
-use Rattle.yaml_recognizers.specs.Prefixes.{dropped, past, sign, taken}
+use Rattle.yaml_recognizers.specs.Prefixes.{drop_while, past, sign, take_while}
 use Rattle.yaml_recognizers.proofs.Separation.CommentsDepth.{comments_step}
 use Rattle.yaml_recognizers.proofs.Separation.CommentsSound.{all_sound}
-use Rattle.yaml_recognizers.proofs.Basics.Prefixes.{spaces_split, taken_every, taken_split}
+use Rattle.yaml_recognizers.proofs.Basics.Prefixes.{spaces_split, take_while_every, take_while_split}
 use Rattle.yaml_recognizers.proofs.Basics.LineStarts.{starts_joined}
 use Rattle.yaml_recognizers.proofs.Basics.Solid.{sign_head}
 use Rattle.yaml_events.specs.EventPlaces.{line_starts, without_mark}
@@ -84,29 +85,29 @@ starts_over bs i j xs u b d e n =
 
 -- ---- white
 
-white_unmarked : (xs : List ℕ) → every white xs ≡ true → first order_mark xs ≡ false
+white_unmarked : (xs : List ℕ) → list_all white xs ≡ true → first order_mark xs ≡ false
 white_unmarked [] h = refl
 white_unmarked (x ∷ xs) h = let w : white x ≡ true = (and_parts _ _ h).0 in grind (arith, nat_tests, w)
 
 -- whitespace between two places, as characters
 pub white_spelled : (bs : List ℕ) (i j : ℕ) → IsUtf8 bs → IsCharBoundary bs i → IsCharBoundary bs j
-    → dropped white (rest bs i) ≡ rest bs j
-    → (i + byte_len (taken white (rest bs i)) ≡ j)
-    × (starts_line (line_starts bs i) (taken white (rest bs i)) ≡ line_starts bs j)
+    → drop_while white (rest bs i) ≡ rest bs j
+    → (i + byte_len (take_while white (rest bs i)) ≡ j)
+    × (starts_line (line_starts bs i) (take_while white (rest bs i)) ≡ line_starts bs j)
 white_spelled bs i j u b d e =
-    let s : rest bs i ≡ taken white (rest bs i) ++ rest bs j = taken_split white (rest bs i)
-    ∙ ap (λ t. taken white (rest bs i) ++ t) e in (
-      spelled bs i j (taken white (rest bs i)) u b d s,
-      starts_over bs i j (taken white (rest bs i)) u b d s
-          (white_unmarked (taken white (rest bs i)) (taken_every white (rest bs i))),
+    let s : rest bs i ≡ take_while white (rest bs i) ++ rest bs j = take_while_split white (rest bs i)
+    ∙ ap (λ t. take_while white (rest bs i) ++ t) e in (
+      spelled bs i j (take_while white (rest bs i)) u b d s,
+      starts_over bs i j (take_while white (rest bs i)) u b d s
+          (white_unmarked (take_while white (rest bs i)) (take_while_every white (rest bs i))),
     )
 
 -- no line starts after white space on a line
 pub white_inside : (bs : List ℕ) (i j : ℕ) → IsUtf8 bs → IsCharBoundary bs i → IsCharBoundary bs j
-    → line_starts bs i ≡ false → dropped white (rest bs i) ≡ rest bs j → line_starts bs j ≡ false
+    → line_starts bs i ≡ false → drop_while white (rest bs i) ≡ rest bs j → line_starts bs j ≡ false
 white_inside bs i j u b d n e =
-    sym (white_spelled bs i j u b d e).1 ∙ (ap (λ x. starts_line x (taken white (rest bs i))) n
-    ∙ white_starts (taken white (rest bs i)) (taken_every white (rest bs i)))
+    sym (white_spelled bs i j u b d e).1 ∙ (ap (λ x. starts_line x (take_while white (rest bs i))) n
+    ∙ white_starts (take_while white (rest bs i)) (take_while_every white (rest bs i)))
 
 -- ---- spaces
 

@@ -15,7 +15,7 @@ use Rattle.yaml_chars.specs.Places.{rest}
 use Rattle.yaml_grammar.specs.BlockScalars.{past_spaces, spaces_before}
 use Rattle.yaml_grammar.specs.Events as grammar
 use Rattle.yaml_grammar.specs.BlockNodes.{Indented, Pair}
-use Rattle.yaml_recognizers.specs.Ends.{ended}
+use Rattle.yaml_recognizers.specs.Ends.{block_node_stops}
 use Rattle.yaml_recognizers.specs.Prefixes.{past, sign}
 use Rattle.yaml_recognizers.specs.Reading.{Read}
 use Rattle.yaml_recognizers.specs.BlockFrames.{Sits, BlockFrame, waits_item, waits_key, waits_value, PairKey, key_asked}
@@ -182,7 +182,7 @@ module _ (W : Read Indented) (text : List ℕ) (from : ℕ) (base : List Event) 
 
   -- a mapping ends
   pub pair_ends : (indent start end : ℕ) → AfterPair W text from fs evs indent start end
-      → (spaces_before (rest text start) == indent) && not (ended indent false (rest text start)) ≡ false
+      → (spaces_before (rest text start) == indent) && not (block_node_stops indent false (rest text start)) ≡ false
       → new.collections ≡ old.collections → new.events ≡ old.events ++ MapEnd ∷ [] → new.end ≡ end
       → IsPart W text from base fs new start
   pair_ends indent start end a n c e q = ends_with MapEnd start end c e tt q
@@ -239,7 +239,7 @@ not_as_deep k text b n = sym (and_left _ b (ne_eqb (spaces_before text) k n))
 
 -- a line that ends all collections has no further pair
 pub pair_stops : (k : ℕ) (text : List ℕ) → stops_all text ≡ true
-    → false ≡ (spaces_before text == k) && not (ended k false text)
+    → false ≡ (spaces_before text == k) && not (block_node_stops k false text)
 pair_stops k text s = sym (pair_test k text ∙ and_right (spaces_before text == k) _ (ap not s))
 
 stops_at_line_end : (text : List ℕ) → is_line_end text ≡ true → stops_all text ≡ true
@@ -250,19 +250,19 @@ stops_at_end text e = ap stops_all e
 
 -- nor has a comment line
 pub no_pair_at_line_end : (k : ℕ) (text : List ℕ) → is_line_end text ≡ true
-    → false ≡ (spaces_before text == k) && not (ended k false text)
+    → false ≡ (spaces_before text == k) && not (block_node_stops k false text)
 no_pair_at_line_end k text h = pair_stops k text (stops_at_line_end text h)
 
 -- nor has the end of the text
 pub no_pair_at_end : (bs : List ℕ) (k start : ℕ) → start ≡ length bs
-    → false ≡ (spaces_before (rest bs start) == k) && not (ended k false (rest bs start))
+    → false ≡ (spaces_before (rest bs start) == k) && not (block_node_stops k false (rest bs start))
 no_pair_at_end bs k start e = pair_stops k (rest bs start)
     (stops_at_end (rest bs start) (rest-end bs start (omega (arith, e))))
 
 -- a marker is no further pair
 pub pair_by_marker : (k : ℕ) (text : List ℕ) → spaces_before text ≡ k → is_line_end text ≡ false
     → is_empty text ≡ false
-    → not (marker text) ≡ (spaces_before text == k) && not (ended k false text)
+    → not (marker text) ≡ (spaces_before text == k) && not (block_node_stops k false text)
 pair_by_marker k text s l e = sym (pair_test k text
     ∙ by_tests (spaces_before text == k) (is_empty text) (marker text) (is_line_end text)
     (eq-eqb (spaces_before text) k s) e l)
@@ -280,16 +280,16 @@ pub record PairHere (bs : List ℕ) (line : Line) (k : ℕ) : Type 0 where
   pub spaces : past_spaces (rest bs line.start) ≡ rest bs line.first
   pub starts : line_starts bs line.first ≡ (k == 0)
 
-not_empty : (k : ℕ) (text : List ℕ) → not (ended k false text) ≡ true → is_empty text ≡ false
+not_empty : (k : ℕ) (text : List ℕ) → not (block_node_stops k false text) ≡ true → is_empty text ≡ false
 not_empty k [] h = absurd (false≢true h)
 not_empty k (c ∷ cs) h = refl
 
 -- a further pair is on the line
 pub pair_here : (bs : List ℕ) (line : Line) (k : ℕ) → IsUtf8 bs → IsLine bs line
-    → (spaces_before (rest bs line.start) == k) && not (ended k false (rest bs line.start)) ≡ true
+    → (spaces_before (rest bs line.start) == k) && not (block_node_stops k false (rest bs line.start)) ≡ true
     → PairHere bs line k
 pair_here bs line k u l h =
-    let p : ((spaces_before (rest bs line.start) == k) ≡ true) × (not (ended k false (rest bs line.start)) ≡ true) =
+    let p : ((spaces_before (rest bs line.start) == k) ≡ true) × (not (block_node_stops k false (rest bs line.start)) ≡ true) =
     and_parts _ _ h in
     let count : spaces_before (rest bs line.start) ≡ k = eqb-true _ _ p.0 in
     let above : line.start ≤ line.first = (l.spaces).above in
@@ -316,7 +316,7 @@ pair_onward bs line k l p =
 pub pair_next : (W : Read Indented) (text : List ℕ) (from : ℕ) (base : List Event) (fs : List BlockFrame)
     (evs : List grammar.Event) (reader : Reader) (k : ℕ) (line : Line) (end : ℕ)
     → Holds text base fs evs reader → AfterPair W text from fs evs k line.start end
-    → (spaces_before (rest text line.start) == k) && not (ended k false (rest text line.start)) ≡ true
+    → (spaces_before (rest text line.start) == k) && not (block_node_stops k false (rest text line.start)) ≡ true
     → PairHere text line k → GoesOn W text from base reader (next.Pair line.first k)
 pair_next W text from base fs evs reader k line end h a t p = record {
   fs = fs;

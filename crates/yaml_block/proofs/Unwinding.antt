@@ -11,7 +11,7 @@ use Rattle.yaml_grammar.specs.FlowNodes.{flow_text}
 use Rattle.yaml_grammar.specs.Separation.{comments_text}
 use Rattle.yaml_grammar.specs.Texts.{byte_len, spaces}
 use Rattle.yaml_recognizers.specs.BlockFrames.{BlockFrame, PairKey, Sits, close_pairs, items_part, joined_items, joined_pairs, key_asked, key_on_line, on_lines, on_sign_line, pair_with, pairs_after, pairs_part, plug, unwind, waits_item, waits_key, waits_value}
-use Rattle.yaml_recognizers.specs.Ends.{ended}
+use Rattle.yaml_recognizers.specs.Ends.{block_node_stops}
 use Rattle.yaml_recognizers.specs.Prefixes.{past, sign}
 use Rattle.yaml_recognizers.specs.Reading.{Read, on}
 use Rattle.yaml_recognizers.specs.Recognizers.{block_indented_at, block_node_at, block_pairs_at}
@@ -373,7 +373,7 @@ module _ (W : Read Indented) (text : List ℕ) (from : ℕ) where
   -- a key at the same depth goes on with the mapping
   pub pair_goes_on : (fs : List BlockFrame) (evs : List Event) (k start end prefix : ℕ)
       → AfterPair W text from fs evs k start end
-      → (spaces_before (rest text start) == k) && not (ended k false (rest text start)) ≡ true → start + k ≡ prefix
+      → (spaces_before (rest text start) == k) && not (block_node_stops k false (rest text start)) ≡ true → start + k ≡ prefix
       → past_spaces (rest text start) ≡ rest text prefix
       → line_starts text prefix ≡ (k == 0) → AtPair W text from fs evs k prefix
   pair_goes_on fs evs k start end prefix h n p e b =
@@ -393,7 +393,7 @@ module _ (W : Read Indented) (text : List ℕ) (from : ℕ) where
   -- else the mapping ends
   pub mapping_ends : (fs : List BlockFrame) (evs : List Event) (k start end : ℕ)
       → AfterPair W text from fs evs k start end
-      → (spaces_before (rest text start) == k) && not (ended k false (rest text start)) ≡ false
+      → (spaces_before (rest text start) == k) && not (block_node_stops k false (rest text start)) ≡ false
       → AtLine W text from fs (evs ++ map_end ∷ []) start end
   mapping_ends fs evs k start end h n =
       let outer : ℕ = place_in fs from in

@@ -79,10 +79,10 @@ place_of (next.Pair at indent) = at
 place_of (next.Line after) = after.line.start
 
 -- what is left to do: at one place a line comes after a part, and a pair after a line
-abbrev pub left : List ℕ → Next → ℕ
-left text (next.After at indent sign) = 3 * (length text - at) + 2
-left text (next.Pair at indent) = 3 * (length text - at)
-left text (next.Line after) = 3 * (length text - after.line.start) + 1
+abbrev pub steps_left : List ℕ → Next → ℕ
+steps_left text (next.After at indent sign) = 3 * (length text - at) + 2
+steps_left text (next.Pair at indent) = 3 * (length text - at)
+steps_left text (next.Line after) = 3 * (length text - after.line.start) + 1
 
 -- a place after a sign of a collection at this indentation
 pub record IsAfterSign (text : List ℕ) (indent at : ℕ) : Type 0 where
@@ -115,7 +115,7 @@ IsPlaced text (next.Line after) = IsNextLine text after
 -- the step leads on from the place, to less than the bound
 pub record Onward (text : List ℕ) (at bound : ℕ) (to : Next) : Type 0 where
   pub above : at ≤ place_of to
-  pub less : left text to < bound
+  pub less : steps_left text to < bound
   pub placed : IsPlaced text to
 
 -- ---- steps

@@ -146,9 +146,9 @@ fn least_indent(n: i64) -> usize
 
 /// Reads the block node at `at`, appends its events, and returns the place after it (YAML 1.2.2, 8.2).
 ///
-/// `at` counts bytes from 0 and is on a boundary of a character. The node is below an indentation of `n`, which is
-/// -1 at the top of a document; in the context `Bout` it may also be a sequence as deep as `n`. The place that is
-/// returned is after the comments that belong to the node: a line starts there, or the text ends.
+/// `at` counts bytes from 0 and is on a boundary of a character. The node is below an indentation of `n`, which is -1
+/// at the top of a document. In the context `Bout` it may also be a sequence as deep as `n`. The place that is returned
+/// is after the comments that belong to the node: a line starts there, or the text ends.
 ///
 /// # Errors
 ///

@@ -3,7 +3,7 @@ ghost use Rattle.std.specs.Prelude.{◌≡◌, ◌*◌, ◌+◌, ◌-◌, ◌^�
 ghost use Rattle.yaml_chars.specs.Places.{rest};
 ghost use Rattle.yaml_recognizers.specs.Comments.{all_comments, closes_line};
 ghost use Rattle.yaml_recognizers.specs.CanonicalComments.{is_line_end};
-ghost use Rattle.yaml_recognizers.specs.Ends.{ended};
+ghost use Rattle.yaml_recognizers.specs.Ends.{block_node_stops};
 ghost use Rattle.yaml_scan.specs.Lines.{IsLineStart, IsSolidLine};
 ghost use Rattle.yaml_block.specs.Frames.{is_colon, is_shallow as is_shallow_after};
 ghost use Rattle.yaml_block.specs.States.{Grown, IsAfterSign, IsLine, Onward, Leads, FailsBy, BeforePart, is_shallow};
@@ -42,7 +42,8 @@ impl Sign {
 fn is_omitted(text: &str, line: Line, indent: usize, context: BlockContext) -> bool
     requires line { IsLine text.now line }
     requires solid { is_line_end (rest text.now line.start) ≡ false }
-    ensures { result ≡ ended (suc indent) (is_shallow context) (rest text.now line.start) }
+    ensures { result
+        ≡ block_node_stops (suc indent) (is_shallow context) (rest text.now line.start) }
 {
     let spaces = line.first - line.start;
     if spaces > indent {

@@ -3,7 +3,7 @@ ghost use Rattle.std.specs.Prelude.{◌≡◌, ◌<◌, IfOk, IfErr, ◌==◌, �
 ghost use Rattle.yaml_chars.specs.Places.{rest};
 ghost use Rattle.yaml_grammar.specs.BlockScalars.{past_spaces, spaces_before};
 ghost use Rattle.yaml_recognizers.specs.Prefixes as prefixes;
-ghost use Rattle.yaml_recognizers.specs.Ends.{ended};
+ghost use Rattle.yaml_recognizers.specs.Ends.{block_node_stops};
 ghost use Rattle.yaml_events.specs.EventPlaces.{Refuses};
 ghost use Rattle.yaml_block.specs.States.{Grown, IsLine, IsNextLine};
 ghost use Rattle.yaml_block.specs.Turns.{MayGoOn, EndsAlone, Unwinds, Turns, ItemRead, KeyRead, PairRead, PartRead};
@@ -147,7 +147,7 @@ fn goes_on_with(text: &str, line: Line, indent: usize, sign: u8) -> bool
 fn goes_on_with_pair(text: &str, after: NextLine, indent: usize) -> bool
     requires { IsNextLine text.now after }
     ensures { result ≡ (spaces_before (rest text.now after.line.start) == indent)
-        && not (ended indent false (rest text.now after.line.start)) }
+        && not (block_node_stops indent false (rest text.now after.line.start)) }
 {
     let line = after.line;
     if line.first - line.start != indent {

@@ -6,7 +6,7 @@ use Rattle.std.proofs.lemmas.Bool.{and_right, false≢true}
 use Rattle.std.proofs.lemmas.Str.{chars-nil}
 use Rattle.yaml_chars.specs.Places.{between, rest}
 use Rattle.yaml_chars.proofs.Places.{between-append}
-use Rattle.yaml_grammar.specs.BlockScalars.{Chomping, strip, clip, keep, Gap, TextLine, block_value, chomped, goes_on, kept, text_value}
+use Rattle.yaml_grammar.specs.BlockScalars.{Chomping, strip, clip, keep, Gap, TextLine, block_value, trailing_line_feeds, goes_on, value_without_lines, text_value}
 use Rattle.yaml_grammar.specs.FlowScalars.{line_feeds}
 use Rattle.yaml_grammar.specs.Texts.{begins, is_empty}
 use Rattle.yaml_recognizers.proofs.BlockScalars.BlockScalarFacts.{body_found, body_is, no_body}
@@ -34,9 +34,9 @@ begins_longer (x ∷ xs) (y ∷ ys) zs h = by_cases (y == x) (begins xs (ys ++ z
 
 -- after the line's text are other characters than the line feeds of the value
 pub piece_unfed : (chomping : Chomping) (gs : List Gap) (l : TextLine) (ls : List TextLine) (feeds : ℕ) (text after : List ℕ) → begins (line_feeds feeds) text ≡ false
-    → line_feeds feeds ≡ chomped chomping l → text ≡ text_after l ++ after → is_one_piece chomping gs (l ∷ ls) ≡ false
+    → line_feeds feeds ≡ trailing_line_feeds chomping l → text ≡ text_after l ++ after → is_one_piece chomping gs (l ∷ ls) ≡ false
 piece_unfed chomping gs l [] feeds text after h c e =
-    and_right (is_empty gs) _ (begins_longer (chomped chomping l) (text_after l) after (ap (begins (chomped chomping l)) (sym e) ∙ (ap (λ xs. begins xs text) (sym c) ∙ h)))
+    and_right (is_empty gs) _ (begins_longer (trailing_line_feeds chomping l) (text_after l) after (ap (begins (trailing_line_feeds chomping l)) (sym e) ∙ (ap (λ xs. begins xs text) (sym c) ∙ h)))
 piece_unfed chomping gs l (m ∷ ms) feeds text after h c e = refl
 
 piece_longer : (chomping : Chomping) (gs : List Gap) (l : TextLine) (ls : List TextLine) → (ls ≡ [] → ⊥) → is_one_piece chomping gs (l ∷ ls) ≡ false
@@ -63,7 +63,7 @@ empty_list : {A : Type 0} (xs : List A) → length xs ≡ 0 → xs ≡ []
 empty_list [] e = refl
 empty_list (x ∷ xs) e = absurd (omega arith)
 
-chars_kept : (chomping : Chomping) (n : ℕ) → chars (kept chomping n) ≡ kept chomping n
+chars_kept : (chomping : Chomping) (n : ℕ) → chars (value_without_lines chomping n) ≡ value_without_lines chomping n
 chars_kept strip n = chars-nil
 chars_kept clip n = chars-nil
 chars_kept keep n = chars_feeds n
@@ -81,9 +81,9 @@ module _ (q : ℕ) (folded : Bool) (chomping : Chomping) (bs : List ℕ) (i gaps
   piece_lines r e p = (p.0, p.1, sym e ∙ ap (lines_at q) (sym g.leaves) ∙ p.2, p.3)
 
   -- no text line
-  pub lines_none : (value : List ℕ) → lines_at q (rest bs j) ≡ Some ([], rest bs j) → value ≡ kept chomping gaps → AreLines q folded chomping bs i value j
+  pub lines_none : (value : List ℕ) → lines_at q (rest bs j) ≡ Some ([], rest bs j) → value ≡ value_without_lines chomping gaps → AreLines q folded chomping bs i value j
   lines_none value e v =
-      let whole : kept chomping (length (gaps_at q (rest bs i)).0) ≡ chars value = ap (kept chomping) g.counts ∙ sym (chars_kept chomping gaps) ∙ ap chars (sym v) in
+      let whole : value_without_lines chomping (length (gaps_at q (rest bs i)).0) ≡ chars value = ap (value_without_lines chomping) g.counts ∙ sym (chars_kept chomping gaps) ∙ ap chars (sym v) in
       record {
         above = let above = g.above in omega arith;
         boundary = g.boundary;
@@ -117,7 +117,7 @@ module _ (q : ℕ) (folded : Bool) (chomping : Chomping) (bs : List ℕ) (i gaps
         let within = placed.above in
         let whole : block_value folded chomping (gaps_at q (rest bs i)).0 (n.read ∷ []) ≡ chars value =
         ap (λ gs. block_value folded chomping gs (n.read ∷ [])) none
-        ∙ (ap (λ t. t ++ chomped chomping n.read) n.spells
+        ∙ (ap (λ t. t ++ trailing_line_feeds chomping n.read) n.spells
         ∙ (ap (λ t. between bs line.start line.end ++ t) (sym (p.spells n.read n.described))
         ∙ (sym (between-append bs line.start line.end end u (omega arith) p.above placed.start_boundary placed.end_boundary p.boundary) ∙ ap chars (sym v)))) in
         record {

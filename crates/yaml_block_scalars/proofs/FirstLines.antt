@@ -14,12 +14,12 @@ use Rattle.yaml_grammar.specs.BlockScalars.{Chomping, strip, clip, keep, Header}
 use Rattle.yaml_grammar.specs.Separation.{Break, lf, cr, cr_lf, LineEnd}
 use Rattle.yaml_grammar.specs.Texts.{first}
 use Rattle.yaml_recognizers.proofs.BlockScalars.BlockScalarFacts.{header_is, no_header}
-use Rattle.yaml_recognizers.proofs.Basics.Prefixes.{taken_split}
+use Rattle.yaml_recognizers.proofs.Basics.Prefixes.{take_while_split}
 use Rattle.yaml_recognizers.specs.BlockScalarFacts.{IsHeader, NoHeader}
 use Rattle.yaml_recognizers.specs.BlockScalars.{read_digit, read_mark, after_digit, read_header, read_header_end}
 use Rattle.yaml_recognizers.specs.CanonicalComments.{hash}
 use Rattle.yaml_recognizers.specs.Comments.{read_line_end}
-use Rattle.yaml_recognizers.specs.Prefixes.{taken, dropped}
+use Rattle.yaml_recognizers.specs.Prefixes.{take_while, drop_while}
 use Rattle.yaml_recognizers.specs.Reading.{Read, on}
 use Rattle.yaml_block_scalars.specs.HeaderPlaces.{AreSigns, IsDigit, IsHeaderEnd, IsMark}
 use Rattle.yaml_scan.specs.Lines.{IsLineEnd}

@@ -17,7 +17,7 @@ use Rattle.yaml_recognizers.proofs.Basics.Reading.{sound_is}
 use Rattle.yaml_recognizers.proofs.Basics.Spaces.{at_most, goes_on_text}
 use Rattle.yaml_recognizers.specs.BlockScalars.{gaps_at, lines_at, read_text_line}
 use Rattle.yaml_recognizers.specs.Comments.{read_stop}
-use Rattle.yaml_recognizers.specs.Prefixes.{dropped, taken}
+use Rattle.yaml_recognizers.specs.Prefixes.{drop_while, take_while}
 use Rattle.yaml_recognizers.specs.Reading.{Read, on}
 use Rattle.yaml_block_scalars.specs.declared.line.Line.{Line}
 use Rattle.yaml_block_scalars.specs.Lines.{AreGaps, IsLine, IsPastGaps, IsTextStart}
@@ -61,19 +61,19 @@ module _ (q : ℕ) (bs : List ℕ) (i j : ℕ) (u : IsUtf8 bs) (b : IsCharBounda
 
 -- ---- the line
 
-white_taken : (cs : List ℕ) → first white (taken nb cs) ≡ first white cs
+white_taken : (cs : List ℕ) → first white (take_while nb cs) ≡ first white cs
 white_taken [] = refl
 white_taken (c ∷ cs) = elim (cases_Bool (nb c)) [
-  | inl e ↦ ap (first white) (cond-true (nb c) (c ∷ taken nb cs) [] e)
-  | inr e ↦ ap (first white) (cond-false (nb c) (c ∷ taken nb cs) [] e) ∙ sym (elim (cases_Bool (white c)) [
+  | inl e ↦ ap (first white) (cond-true (nb c) (c ∷ take_while nb cs) [] e)
+  | inr e ↦ ap (first white) (cond-false (nb c) (c ∷ take_while nb cs) [] e) ∙ sym (elim (cases_Bool (white c)) [
     | inl w ↦ absurd (false≢true (sym e ∙ white_is_nb c w))
     | inr w ↦ w
   ])
 ]
 
-some_taken : (cs : List ℕ) → first nb cs ≡ true → taken nb cs ≡ [] → ⊥
+some_taken : (cs : List ℕ) → first nb cs ≡ true → take_while nb cs ≡ [] → ⊥
 some_taken [] h e = false≢true h
-some_taken (c ∷ cs) h e = let none : c ∷ taken nb cs ≡ [] = sym (cond-true (nb c) (c ∷ taken nb cs) [] h) ∙ e in cc
+some_taken (c ∷ cs) h e = let none : c ∷ take_while nb cs ≡ [] = sym (cond-true (nb c) (c ∷ take_while nb cs) [] h) ∙ e in cc
 
 module _ (q : ℕ) (bs : List ℕ) (i : ℕ) (past : IsPastGaps q (rest bs i)) where
   stepped : (start : ℕ) → IsTextStart q bs i start
@@ -97,8 +97,8 @@ module _ (q : ℕ) (bs : List ℕ) (i : ℕ) (past : IsPastGaps q (rest bs i)) w
   pub line_there : (line : Line) (after : ℕ) → IsTextStart q bs i line.start → AreTaken nb bs line.start line.end → IsStop bs line.end line.has_break after
       → AreGaps q bs after line.gaps line.next → line.white ≡ first white (rest bs line.start) → IsLine q bs i line
   line_there line after h t s g w =
-      let read : TextLine = record { text = taken nb (rest bs line.start); stop = s.stop; gaps = (gaps_at q (rest bs after)).0 } in
-      let stops : read_stop (dropped nb (rest bs line.start)) ≡ Some (s.stop, rest bs after) = ap read_stop t.leaves ∙ s.reads in
+      let read : TextLine = record { text = take_while nb (rest bs line.start); stop = s.stop; gaps = (gaps_at q (rest bs after)).0 } in
+      let stops : read_stop (drop_while nb (rest bs line.start)) ≡ Some (s.stop, rest bs after) = ap read_stop t.leaves ∙ s.reads in
       let further = s.above in
       let more = g.above in
       record {
@@ -120,6 +120,6 @@ module _ (q : ℕ) (bs : List ℕ) (i : ℕ) (past : IsPastGaps q (rest bs i)) w
             (gaps_of_sound (at_most q) (rest bs after)).0 ∙ ap (λ t'. gaps_text (gaps_at q (rest bs after)).0 ++ t') g.leaves in
             stop ∙ (ap (λ t'. optional break_text s.stop ++ t') gaps ∙ sym (append_assoc (optional break_text s.stop) (gaps_text (gaps_at q (rest bs after)).0) (rest bs line.next))));
         reads = stepped line.start h
-            ∙ ap (λ (r : Read (Option Break)). on (on r (λ stop t'. let g = gaps_at q t' in Some (record { text = taken nb (rest bs line.start); stop = stop; gaps = g.0 }, g.1))) (λ l t'. on (lines_at q t') (λ ls after. Some (l ∷ ls, after)))) stops
+            ∙ ap (λ (r : Read (Option Break)). on (on r (λ stop t'. let g = gaps_at q t' in Some (record { text = take_while nb (rest bs line.start); stop = stop; gaps = g.0 }, g.1))) (λ l t'. on (lines_at q t') (λ ls after. Some (l ∷ ls, after)))) stops
             ∙ ap (λ (t' : List ℕ). on (lines_at q t') (λ ls after. Some (read ∷ ls, after))) g.leaves;
       }

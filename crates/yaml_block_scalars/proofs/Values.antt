@@ -6,7 +6,7 @@ use Rattle.std.proofs.lemmas.Bool.{cond_both}
 use Rattle.std.proofs.lemmas.Str.{chars-append, chars-IsAscii}
 use Rattle.yaml_chars.specs.Classes.{white}
 use Rattle.yaml_chars.specs.Places.{between, rest}
-use Rattle.yaml_grammar.specs.BlockScalars.{Chomping, TextLine, between_lines, chomped, text_value}
+use Rattle.yaml_grammar.specs.BlockScalars.{Chomping, TextLine, between_lines, trailing_line_feeds, text_value}
 use Rattle.yaml_grammar.specs.FlowScalars.{folded_break, line_feeds}
 use Rattle.yaml_grammar.specs.Texts.{first}
 use Rattle.yaml_recognizers.specs.BlockScalars.{lines_at}
@@ -54,9 +54,9 @@ module _ (folded : Bool) (chomping : Chomping) (prefix : List ℕ) (l k : TextLi
 
 -- the value of the last line
 pub value_end : (q : ℕ) (folded : Bool) (chomping : Chomping) (prefix : List ℕ) (l : TextLine) (text : List ℕ) → lines_at q text ≡ Some ([], text)
-    → value_from q folded chomping prefix l text ≡ Some (prefix ++ l.text ++ chomped chomping l, text)
+    → value_from q folded chomping prefix l text ≡ Some (prefix ++ l.text ++ trailing_line_feeds chomping l, text)
 value_end q folded chomping prefix l text e =
-    ap (λ (r : Read (List TextLine)). on r (λ ls after. Some (prefix ++ text_value folded chomping l ls, after))) e ∙ ap (λ t. Some (t, text)) (sym (append_assoc prefix l.text (chomped chomping l)))
+    ap (λ (r : Read (List TextLine)). on r (λ ls after. Some (prefix ++ text_value folded chomping l ls, after))) e ∙ ap (λ t. Some (t, text)) (sym (append_assoc prefix l.text (trailing_line_feeds chomping l)))
 
 -- ---- what the value's bytes come to
 
@@ -70,7 +70,7 @@ chars_between folded l m prefix value u e =
     ap chars e ∙ chars-append prefix (between_lines folded l m) u ∙ ap (λ x. chars prefix ++ x) (chars-IsAscii (between_lines folded l m) (between_ascii folded l m))
 
 -- the characters of what is pushed after the last line
-pub chars_after : (chomping : Chomping) (l : TextLine) (n : ℕ) (prefix value : List ℕ) → IsUtf8 prefix → line_feeds n ≡ chomped chomping l → value ≡ prefix ++ line_feeds n → chars value ≡ chars prefix ++ chomped chomping l
+pub chars_after : (chomping : Chomping) (l : TextLine) (n : ℕ) (prefix value : List ℕ) → IsUtf8 prefix → line_feeds n ≡ trailing_line_feeds chomping l → value ≡ prefix ++ line_feeds n → chars value ≡ chars prefix ++ trailing_line_feeds chomping l
 chars_after chomping l n prefix value u c e =
     ap chars e ∙ chars-append prefix (line_feeds n) u ∙ ap (λ x. chars prefix ++ x) (chars_feeds n ∙ c)
 
@@ -111,15 +111,15 @@ module _ (q : ℕ) (folded : Bool) (chomping : Chomping) (bs : List ℕ) (openin
   -- the last line
   pub pushed_all : (line : Line) (value texted all : List ℕ) (feeds : ℕ) → IsUtf8 value → IsUtf8 texted → ArePushedSoFar q folded chomping bs opening start line value
       → lines_at q (rest bs line.next) ≡ Some ([], rest bs line.next) → texted ≡ value ++ slice_range bs line.start line.end
-      → ((l : TextLine) → Describes line l → line_feeds feeds ≡ chomped chomping l) → all ≡ texted ++ line_feeds feeds → ArePushed q folded chomping bs opening start all line.next
+      → ((l : TextLine) → Describes line l → line_feeds feeds ≡ trailing_line_feeds chomping l) → all ≡ texted ++ line_feeds feeds → ArePushed q folded chomping bs opening start all line.next
   pushed_all line value texted all feeds u v h n t c e =
       record {
         above = h.above;
         boundary = h.placed.next_boundary;
         reads = λ l d s.
             (let k = h.reads l d s in
-            let whole : chars all ≡ chars value ++ k.0.text ++ chomped chomping k.0 =
+            let whole : chars all ≡ chars value ++ k.0.text ++ trailing_line_feeds chomping k.0 =
             chars_after chomping k.0 feeds texted all v (c k.0 k.1) e
-            ∙ ap (λ x. x ++ chomped chomping k.0) (chars_text bs value texted line.start line.end u t ∙ ap (λ x. chars value ++ x) (sym k.2)) in
+            ∙ ap (λ x. x ++ trailing_line_feeds chomping k.0) (chars_text bs value texted line.start line.end u t ∙ ap (λ x. chars value ++ x) (sym k.2)) in
             k.3 ∙ value_end q folded chomping (chars value) k.0 (rest bs line.next) n ∙ ap (λ x. Some (x, rest bs line.next)) (sym whole));
       }

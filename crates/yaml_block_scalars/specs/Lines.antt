@@ -3,7 +3,7 @@ use Rattle.std.specs.Prelude.{◌≡◌, ℕ, ◌+◌, ◌<◌, ◌≤◌, Bool,
 use Rattle.std.specs.Str.{IsCharBoundary, chars}
 use Rattle.yaml_chars.specs.Classes.{white, line_break}
 use Rattle.yaml_chars.specs.Places.{rest, between}
-use Rattle.yaml_grammar.specs.BlockScalars.{Chomping, Gap, TextLine, chomped, goes_on, spaces_before, past_spaces, text_value, widest}
+use Rattle.yaml_grammar.specs.BlockScalars.{Chomping, Gap, TextLine, trailing_line_feeds, goes_on, spaces_before, past_spaces, text_value, widest}
 use Rattle.yaml_grammar.specs.FlowScalars.{line_feeds}
 use Rattle.yaml_grammar.specs.Texts.{first}
 use Rattle.yaml_recognizers.specs.BlockScalars.{all_gaps, gaps_at, lines_at}
@@ -86,7 +86,7 @@ pub record IsPiece (q : ℕ) (chomping : Chomping) (text : List ℕ) (gaps : ℕ
   pub none_before : gaps ≡ 0
   pub above : line.end ≤ end
   pub boundary : IsCharBoundary text end
-  pub spells : (l : TextLine) → Describes line l → between text line.end end ≡ chomped chomping l
+  pub spells : (l : TextLine) → Describes line l → between text line.end end ≡ trailing_line_feeds chomping l
 
 -- one of these fails
 abbrev pub IsNoPiece : ℕ → Chomping → List ℕ → ℕ → Line → Type 0

@@ -1,6 +1,6 @@
 -- Values that the text has in one piece.
 use Rattle.std.specs.Prelude.{Bool, false, ◌&&◌, List, [], ◌∷◌, ◌++◌, ℕ, length}
-use Rattle.yaml_grammar.specs.BlockScalars.{Chomping, Gap, TextLine, kept, chomped, gaps_text}
+use Rattle.yaml_grammar.specs.BlockScalars.{Chomping, Gap, TextLine, value_without_lines, trailing_line_feeds, gaps_text}
 use Rattle.yaml_grammar.specs.Separation.{break_text}
 use Rattle.yaml_grammar.specs.Texts.{begins, is_empty, optional}
 
@@ -12,6 +12,6 @@ text_after l = optional break_text l.stop ++ gaps_text l.gaps
 -- the line
 -- feeds that the value has there. The gaps are the empty lines before the first text line.
 abbrev pub is_one_piece : Chomping → List Gap → List TextLine → Bool
-is_one_piece chomping gaps [] = is_empty (kept chomping (length gaps))
-is_one_piece chomping gaps (l ∷ []) = is_empty gaps && begins (chomped chomping l) (text_after l)
+is_one_piece chomping gaps [] = is_empty (value_without_lines chomping (length gaps))
+is_one_piece chomping gaps (l ∷ []) = is_empty gaps && begins (trailing_line_feeds chomping l) (text_after l)
 is_one_piece chomping gaps (l ∷ m ∷ ls) = false

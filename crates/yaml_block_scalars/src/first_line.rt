@@ -83,8 +83,8 @@ fn header_end(text: &str, at: usize) -> Option<usize>
 /// Returns the header of the block scalar at `at`, and the place after its line, its break included
 /// (YAML 1.2.2, 8.1.1).
 ///
-/// The header is `|` or `>`, then at most one digit from 1 to 9 and at most one of `-` and `+`, in either
-/// order, and then the end of the line, with a comment after white space if there is one.
+/// The header is `|` or `>`, then at most one digit from 1 to 9 and at most one of `-` and `+`, in either order. Then
+/// the line ends, with a comment after white space if there is one.
 ///
 /// # Errors
 ///

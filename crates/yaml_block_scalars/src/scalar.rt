@@ -213,14 +213,14 @@ fn body<'a>(
     lines(alloc, text, at, indent, style)
 }
 
-/// Returns the value of the literal scalar whose header ends at `at`, and the place after its last text
-/// line or empty line: `at` where it has neither (YAML 1.2.2, 8.1.2).
+/// Returns the value of the literal scalar whose header ends at `at`, and its end (YAML 1.2.2, 8.1.2). The end is after
+/// its last text line or empty line, or `at` where it has neither.
 ///
-/// The scalar is below an indentation of `n`, which is -1 at the top of a document. The digit of the
-/// header, from 1 to 9, and its chomping count; its `folded` does not. Each break in the value is one
-/// line feed. The value is borrowed where the text has it in one piece: where it is the text of the only
-/// text line with the line feeds that follow it, and where it is empty and there is no text line. Memory
-/// for any other value is allocated once, unless the value is much longer than its first line.
+/// The scalar is below an indentation of `n`, which is -1 at the top of a document. The digit of the header, from 1 to
+/// 9, and its chomping count; its `folded` does not. Each break in the value is one line feed. The value is borrowed
+/// where the text has it in one piece. That is where it is the text of the only text line with the line feeds that
+/// follow it, or where it is empty and there is no text line. Memory for any other value is allocated once, unless the
+/// value is much longer than its first line.
 ///
 /// # Errors
 ///
@@ -248,11 +248,11 @@ pub fn literal<'a>(
     body(alloc, text, at, n, header, Form::Literal)
 }
 
-/// Returns the value of the folded scalar whose header ends at `at`, and the place after its last text
-/// line or empty line: `at` where it has neither (YAML 1.2.2, 8.1.3).
+/// Returns the value of the folded scalar whose header ends at `at`, and its end (YAML 1.2.2, 8.1.3). The end is after
+/// its last text line or empty line, or `at` where it has neither.
 ///
-/// The same as [`literal`], but a break between two text lines that do not begin with white space is
-/// folded: it is a space, or a line feed for each empty line there.
+/// The same as [`literal`], but a break between two text lines that do not begin with white space is folded. It is a
+/// space, or a line feed for each empty line there.
 pub fn folded<'a>(
     alloc: Global,
     text: &'a str,

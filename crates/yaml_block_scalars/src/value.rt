@@ -1,7 +1,7 @@
 // The value of a block scalar (YAML 1.2.2, 8.1.1.2, 8.1.2 and 8.1.3).
 ghost use Rattle.std.specs.Prelude.{◌≡◌, ◌<◌, ◌++◌, true, IfOk, OnOk, string_bytes};
 ghost use Rattle.std.specs.Cow.{cow_str_bytes, IsBorrowedStr};
-ghost use Rattle.yaml_grammar.specs.BlockScalars.{TextLine, between_lines, chomped, kept};
+ghost use Rattle.yaml_grammar.specs.BlockScalars.{TextLine, between_lines, trailing_line_feeds, value_without_lines};
 ghost use Rattle.yaml_grammar.specs.FlowScalars.{line_feeds};
 ghost use Rattle.yaml_grammar.specs.Texts.{is_empty};
 ghost use Rattle.yaml_block_scalars.specs.Lines.{Describes};
@@ -17,7 +17,7 @@ use yaml_scan::push_line_feeds;
 pub(crate) fn feeds_after(chomping: Chomping, line: Line) -> usize
     requires { line.gaps < usize.MAX }
     ensures { (l : TextLine) → Describes line l → line_feeds result
-        ≡ chomped (chomping_of chomping) l }
+        ≡ trailing_line_feeds (chomping_of chomping) l }
 {
     let of_break = if line.has_break { 1 } else { 0 };
     match chomping {
@@ -29,7 +29,7 @@ pub(crate) fn feeds_after(chomping: Chomping, line: Line) -> usize
 
 /// Returns how many line feeds the value has where there is no text line.
 fn kept_feeds(chomping: Chomping, gaps: usize) -> usize
-    ensures { line_feeds result ≡ kept (chomping_of chomping) gaps }
+    ensures { line_feeds result ≡ value_without_lines (chomping_of chomping) gaps }
 {
     match chomping {
         Chomping::Strip | Chomping::Clip => 0,
@@ -63,8 +63,9 @@ pub(crate) fn no_lines<'a>(
     chomping: Chomping,
     gaps: usize,
 ) -> Result<CowStr<'a>, AllocError>
-    ensures value { IfOk result (λ value. cow_str_bytes value ≡ kept (chomping_of chomping) gaps) }
-    ensures borrowed { is_empty (kept (chomping_of chomping) gaps) ≡ true
+    ensures value { IfOk result (λ value. cow_str_bytes value
+        ≡ value_without_lines (chomping_of chomping) gaps) }
+    ensures borrowed { is_empty (value_without_lines (chomping_of chomping) gaps) ≡ true
         → IfOk result IsBorrowedStr }
 {
     let feeds = kept_feeds(chomping, gaps);

@@ -11,11 +11,11 @@ use Rattle.yaml_grammar.specs.Separation.{LineEnd, comments_text}
 use Rattle.yaml_grammar.specs.Streams.{directed, directive_text, explicit_text}
 use Rattle.yaml_grammar.specs.Texts.{begins, byte_len, is_empty}
 use Rattle.yaml_recognizers.specs.Comments.{all_comments, closes_line}
-use Rattle.yaml_recognizers.specs.Prefixes.{dropped, taken}
+use Rattle.yaml_recognizers.specs.Prefixes.{drop_while, take_while}
 use Rattle.yaml_recognizers.specs.Reading.{Read, on}
 use Rattle.yaml_recognizers.specs.Streams.{directed_with, read_directed, read_explicit, read_version, version_with}
 use Rattle.yaml_recognizers.proofs.Separation.CommentsSound.{all_sound}
-use Rattle.yaml_recognizers.proofs.Basics.Prefixes.{taken_split}
+use Rattle.yaml_recognizers.proofs.Basics.Prefixes.{take_while_split}
 use Rattle.yaml_recognizers.proofs.Documents.StreamsComplete.{begins_split}
 use Rattle.yaml_scan.specs.Lines.{IsLineStart, IsSolidLine}
 use Rattle.yaml_scan.specs.ScanPlaces.{AreTaken}
@@ -29,20 +29,20 @@ use Rattle.yaml_docs.proofs.TextPlaces.{StandsUpTo, between_is, place_after, spe
 pub no_percent : (text : List ℕ) → begins (codes "%YAML") text ≡ false → NoDirective text
 no_percent text h = λ node_at. rw h refl
 
-no_blank : (text : List ℕ) → begins (codes "%YAML") text ≡ true → is_empty (taken white (drop 5 text)) ≡ true → NoDirective text
+no_blank : (text : List ℕ) → begins (codes "%YAML") text ≡ true → is_empty (take_while white (drop 5 text)) ≡ true → NoDirective text
 no_blank text h e = λ node_at. rw (h, e) refl
 
-no_version : (text : List ℕ) → begins (codes "%YAML") text ≡ true → begins (codes "1.1") (dropped white (drop 5 text)) ≡ false → begins (codes "1.2") (dropped white (drop 5 text)) ≡ false
+no_version : (text : List ℕ) → begins (codes "%YAML") text ≡ true → begins (codes "1.1") (drop_while white (drop 5 text)) ≡ false → begins (codes "1.2") (drop_while white (drop 5 text)) ≡ false
     → NoDirective text
-no_version text h v w = λ node_at. by_blank node_at (is_empty (taken white (drop 5 text))) refl
+no_version text h v w = λ node_at. by_blank node_at (is_empty (take_while white (drop 5 text))) refl
   where
-    by_blank : (node_at : Bool → List ℕ → Read Node) (b : Bool) → is_empty (taken white (drop 5 text)) ≡ b → read_directed node_at text ≡ None
+    by_blank : (node_at : Bool → List ℕ → Read Node) (b : Bool) → is_empty (take_while white (drop 5 text)) ≡ b → read_directed node_at text ≡ None
     by_blank node_at true e = rw (h, e) refl
     by_blank node_at false e = rw (h, e, v, w) refl
 
-version_read : (text : List ℕ) (node_at : Bool → List ℕ → Read Node) → begins (codes "%YAML") text ≡ true → is_empty (taken white (drop 5 text)) ≡ false
-    → (first_version : Bool) (after : List ℕ) → read_version (dropped white (drop 5 text)) ≡ Some (first_version, after)
-    → read_directed node_at text ≡ directed_with node_at (taken white (drop 5 text)) first_version (all_comments false after)
+version_read : (text : List ℕ) (node_at : Bool → List ℕ → Read Node) → begins (codes "%YAML") text ≡ true → is_empty (take_while white (drop 5 text)) ≡ false
+    → (first_version : Bool) (after : List ℕ) → read_version (drop_while white (drop 5 text)) ≡ Some (first_version, after)
+    → read_directed node_at text ≡ directed_with node_at (take_while white (drop 5 text)) first_version (all_comments false after)
 version_read text node_at h e first_version after v = rw (h, e, v) refl
 
 first_read : (text : List ℕ) → begins (codes "1.1") text ≡ true → read_version text ≡ Some (true, drop 3 text)
@@ -62,24 +62,24 @@ module _ (bs : List ℕ) (at : ℕ) (u : IsUtf8 bs) (b : IsCharBoundary bs at) (
   name_there = place_after bs at (codes "%YAML") (drop 5 (rest bs at)) u b (begins_split (codes "%YAML") (rest bs at) h)
 
   module _ (version : ℕ) (white_is : AreTaken white bs (at + 5) version) where
-    taken_is : taken white (drop 5 (rest bs at)) ≡ between bs (at + 5) version
-    taken_is = ap (taken white) (sym name_there.leaves) ∙ white_is.takes
+    take_while_is : take_while white (drop 5 (rest bs at)) ≡ between bs (at + 5) version
+    take_while_is = ap (take_while white) (sym name_there.leaves) ∙ white_is.takes
 
-    dropped_is : dropped white (drop 5 (rest bs at)) ≡ rest bs version
-    dropped_is = ap (dropped white) (sym name_there.leaves) ∙ white_is.leaves
+    drop_while_is : drop_while white (drop 5 (rest bs at)) ≡ rest bs version
+    drop_while_is = ap (drop_while white) (sym name_there.leaves) ∙ white_is.leaves
 
     -- the white space is empty exactly where its two ends are one place
-    split_is : rest bs (at + 5) ≡ taken white (drop 5 (rest bs at)) ++ rest bs version
+    split_is : rest bs (at + 5) ≡ take_while white (drop 5 (rest bs at)) ++ rest bs version
     split_is =
-        taken_split white (rest bs (at + 5))
-        ∙ (ap (λ t. t ++ dropped white (rest bs (at + 5))) (ap (taken white) name_there.leaves) ∙ ap (λ t. taken white (drop 5 (rest bs at)) ++ t) white_is.leaves)
+        take_while_split white (rest bs (at + 5))
+        ∙ (ap (λ t. t ++ drop_while white (rest bs (at + 5))) (ap (take_while white) name_there.leaves) ∙ ap (λ t. take_while white (drop 5 (rest bs at)) ++ t) white_is.leaves)
 
-    apart : version ≡ at + 5 + byte_len (taken white (drop 5 (rest bs at)))
-    apart = spelled_end bs (at + 5) version (taken white (drop 5 (rest bs at))) u name_there.boundary white_is.boundary split_is
+    apart : version ≡ at + 5 + byte_len (take_while white (drop 5 (rest bs at)))
+    apart = spelled_end bs (at + 5) version (take_while white (drop 5 (rest bs at))) u name_there.boundary white_is.boundary split_is
 
     -- without whitespace after its name there is none
     pub none_without_blank : version ≡ at + 5 → NoDirective (rest bs at)
-    none_without_blank e = no_blank (rest bs at) h (of_list (taken white (drop 5 (rest bs at))) (let z : byte_len (taken white (drop 5 (rest bs at))) ≡ 0 = omega (arith, apart, e) in z))
+    none_without_blank e = no_blank (rest bs at) h (of_list (take_while white (drop 5 (rest bs at))) (let z : byte_len (take_while white (drop 5 (rest bs at))) ≡ 0 = omega (arith, apart, e) in z))
       where
         of_list : (xs : List ℕ) → byte_len xs ≡ 0 → is_empty xs ≡ true
         of_list [] z = refl
@@ -87,13 +87,13 @@ module _ (bs : List ℕ) (at : ℕ) (u : IsUtf8 bs) (b : IsCharBoundary bs at) (
 
     -- without a known version there is none
     pub none_without_version : begins (codes "1.1") (rest bs version) ≡ false → begins (codes "1.2") (rest bs version) ≡ false → NoDirective (rest bs at)
-    none_without_version v w = no_version (rest bs at) h (ap (begins (codes "1.1")) dropped_is ∙ v) (ap (begins (codes "1.2")) dropped_is ∙ w)
+    none_without_version v w = no_version (rest bs at) h (ap (begins (codes "1.1")) drop_while_is ∙ v) (ap (begins (codes "1.2")) drop_while_is ∙ w)
 
-    filled : (version ≡ at + 5 → ⊥) → is_empty (taken white (drop 5 (rest bs at))) ≡ false
-    filled n = of_list (taken white (drop 5 (rest bs at))) refl
+    filled : (version ≡ at + 5 → ⊥) → is_empty (take_while white (drop 5 (rest bs at))) ≡ false
+    filled n = of_list (take_while white (drop 5 (rest bs at))) refl
       where
-        of_list : (xs : List ℕ) → taken white (drop 5 (rest bs at)) ≡ xs → is_empty xs ≡ false
-        of_list [] e = absurd (n (let z : byte_len (taken white (drop 5 (rest bs at))) ≡ 0 = ap byte_len e in omega (arith, apart, z)))
+        of_list : (xs : List ℕ) → take_while white (drop 5 (rest bs at)) ≡ xs → is_empty xs ≡ false
+        of_list [] e = absurd (n (let z : byte_len (take_while white (drop 5 (rest bs at))) ≡ 0 = ap byte_len e in omega (arith, apart, z)))
         of_list (x ∷ xs) e = refl
 
     version_there : (first_version : Bool) (word : List ℕ) (end : ℕ) → word ≡ (if first_version then codes "1.1" else codes "1.2") → StandsUpTo bs version word (drop 3 (rest bs version)) end
@@ -101,11 +101,11 @@ module _ (bs : List ℕ) (at : ℕ) (u : IsUtf8 bs) (b : IsCharBoundary bs at) (
     version_there first_version word end w s e n r =
         record {
           boundary = s.boundary;
-          blank = taken white (drop 5 (rest bs at));
+          blank = take_while white (drop 5 (rest bs at));
           first_version = first_version;
           spells = begins_split (codes "%YAML") (rest bs at) h ∙ ap (λ t. codes "%YAML" ++ t) (sym name_there.leaves ∙ split_is
-              ∙ ap (λ t. taken white (drop 5 (rest bs at)) ++ t) (e ∙ ap (λ x. x ++ drop 3 (rest bs version)) w ∙ ap (λ t. (if first_version then codes "1.1" else codes "1.2") ++ t) (sym s.leaves)));
-          reads = λ node_at. version_read (rest bs at) node_at h (filled n) first_version (rest bs end) (ap read_version dropped_is ∙ r ∙ ap (λ t. Some (first_version, t)) (sym s.leaves));
+              ∙ ap (λ t. take_while white (drop 5 (rest bs at)) ++ t) (e ∙ ap (λ x. x ++ drop 3 (rest bs version)) w ∙ ap (λ t. (if first_version then codes "1.1" else codes "1.2") ++ t) (sym s.leaves)));
+          reads = λ node_at. version_read (rest bs at) node_at h (filled n) first_version (rest bs end) (ap read_version drop_while_is ∙ r ∙ ap (λ t. Some (first_version, t)) (sym s.leaves));
         }
 
     -- version 1.1 is there

@@ -24,7 +24,7 @@ use Rattle.yaml_recognizers.specs.BlockNodes.{omits}
 use Rattle.yaml_recognizers.specs.CanonicalComments.{is_line_end}
 use Rattle.yaml_recognizers.specs.CanonicalStreams.{document, suffix}
 use Rattle.yaml_recognizers.specs.Comments.{all_comments, closes_line}
-use Rattle.yaml_recognizers.specs.Ends.{ended}
+use Rattle.yaml_recognizers.specs.Ends.{block_node_stops}
 use Rattle.yaml_recognizers.specs.Reading.{Read, on}
 use Rattle.yaml_recognizers.specs.Recognizers.{document_node_at}
 use Rattle.yaml_recognizers.specs.Streams.{explicit_with, mark_at, order_mark, read_directed, read_explicit, suffix_with}
@@ -81,13 +81,13 @@ no_fewer n = grind (arith, nat_tests)
 
 -- at the end of the text the node is left out
 pub omits_at_end : (c : List LineEnd × List ℕ) → closes_line c ≡ true → c.1 ≡ [] → omits 0 false c ≡ true
-omits_at_end c h e = and_from _ _ h (subst (λ (t : List ℕ). ended 0 false t ≡ true) (sym e) refl)
+omits_at_end c h e = and_from _ _ h (subst (λ (t : List ℕ). block_node_stops 0 false t ≡ true) (sym e) refl)
 
 -- so it is at a marker
 pub omits_at_marker : (c : List LineEnd × List ℕ) → closes_line c ≡ true → marker c.1 ≡ true → omits 0 false c ≡ true
 omits_at_marker c h e = and_from _ _ h (marked 0 false c.1 e)
 
-no_end : (t : List ℕ) → is_empty t ≡ false → marker t ≡ false → is_line_end t ≡ false → ended 0 false t ≡ false
+no_end : (t : List ℕ) → is_empty t ≡ false → marker t ≡ false → is_line_end t ≡ false → block_node_stops 0 false t ≡ false
 no_end t e m l = rw (e, m, l, no_fewer (spaces_before t)) refl
 
 not_both : (a b : Bool) → b ≡ false → a && b ≡ false
@@ -96,7 +96,7 @@ not_both false b h = refl
 
 -- at anything else it isn't
 pub no_omission : (c : List LineEnd × List ℕ) (after : List ℕ) → c.1 ≡ after → is_empty after ≡ false → marker after ≡ false → is_line_end after ≡ false → omits 0 false c ≡ false
-no_omission c after e some m l = not_both (closes_line c) (ended 0 false c.1) (ap (ended 0 false) e ∙ no_end after some m l)
+no_omission c after e some m l = not_both (closes_line c) (block_node_stops 0 false c.1) (ap (block_node_stops 0 false) e ∙ no_end after some m l)
 
 -- nor if the line of the `---` goes on
 pub no_closed_line : (c : List LineEnd × List ℕ) → closes_line c ≡ false → omits 0 false c ≡ false

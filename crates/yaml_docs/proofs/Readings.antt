@@ -1,17 +1,14 @@
 -- What bytes read as, from what the recognizer of streams finds in their characters.
 use Rattle.std.proofs.Common.{ap, refl, subst, sym, ◌∙◌, ◌≡◌, ◌≤◌}
-use Rattle.std.specs.Prelude.{Bool, List, None, Option, Some, length, true, ℕ, ◌∷◌, []}
-use Rattle.std.specs.List.{list_all}
+use Rattle.std.specs.Prelude.{Bool, List, None, Option, Some, length, ℕ, ◌∷◌, []}
 use Rattle.std.specs.Str.{IsUtf8, chars}
-use Rattle.std.proofs.lemmas.Bool.{and_from, and_parts}
-use Rattle.yaml_chars.specs.Classes.{code_point}
 use Rattle.yaml_chars.proofs.Places.{code_points-chars}
 use Rattle.yaml_grammar.specs.Events.{Event}
 use Rattle.yaml_grammar.specs.Reads.{Reads}
-use Rattle.yaml_grammar.specs.Streams.{meant}
-use Rattle.yaml_grammar.specs.Texts.{IsText, byte_len, every}
+use Rattle.yaml_grammar.specs.Streams.{stream_events}
+use Rattle.yaml_grammar.specs.Texts.{IsText, byte_len}
 use Rattle.yaml_recognizers.specs.BlockScalars.{read_block}
-use Rattle.yaml_recognizers.specs.CanonicalStreams.{FlatStream, flat_meant}
+use Rattle.yaml_recognizers.specs.CanonicalStreams.{FlatStream, flat_events}
 use Rattle.yaml_recognizers.specs.FlowScalars.{read_scalar}
 use Rattle.yaml_recognizers.specs.Ranges.{RangesInOrder}
 use Rattle.yaml_recognizers.specs.Recognizers.{stream_at}
@@ -25,17 +22,13 @@ use Rattle.yaml_docs.specs.declared.fault.ReadFault.{ReadFault}
 use Rattle.yaml_docs.specs.declared.fault.ReadFault.TheVariants.{TooLong, NotUtf8, Syntax, Documents, KeyNotText, KeyTwice, TooDeep, LargeInStyle, OutOfMemory}
 use Rattle.yaml_docs.proofs.TextPlaces.{byte_len-chars}
 
-every_is : (p : ℕ → Bool) (cs : List ℕ) → list_all p cs ≡ true → every p cs ≡ true
-every_is p [] h = refl
-every_is p (c ∷ cs) h = let q = and_parts _ _ h in and_from _ _ q.0 (every_is p cs q.1)
-
 -- the characters of UTF-8 are a text
 pub is_text : (bytes : List ℕ) → IsUtf8 bytes → IsText (chars bytes)
-is_text bytes u = every_is code_point (chars bytes) (code_points-chars bytes u)
+is_text bytes u = code_points-chars bytes u
 
-some_stream : (o : Option FlatStream) (events : List Event) → flat_meaning o ≡ Some events → (s : FlatStream) × (o ≡ Some s) × (flat_meant s ≡ events)
+some_stream : (o : Option FlatStream) (events : List Event) → flat_meaning o ≡ Some events → (s : FlatStream) × (o ≡ Some s) × (flat_events s ≡ events)
 some_stream None events h = cc
-some_stream (Some s) events h = (s, refl, (let e : flat_meant s ≡ events = cc in e))
+some_stream (Some s) events h = (s, refl, (let e : flat_events s ≡ events = cc in e))
 
 -- what the stream means is what the bytes read as
 pub bytes_read : (bytes : List ℕ) (events : List Event) → IsUtf8 bytes → stream_meaning (chars bytes) ≡ Some events → Reads (chars bytes) events
@@ -47,8 +40,8 @@ bytes_read bytes events u h =
 pub nothing_read : (bytes : List ℕ) → stream_meaning (chars bytes) ≡ None → (events : List Event) → Reads (chars bytes) events → ⊥
 nothing_read bytes h events r =
     let s = reading_found read_scalar reads_scalars read_block blocks_read (chars bytes) events r.some in
-    let found : stream_meaning (chars bytes) ≡ Some (flat_meant s.0) = ap flat_meaning s.1 in
-    let both : None ≡ Some (flat_meant s.0) = sym h ∙ found in
+    let found : stream_meaning (chars bytes) ≡ Some (flat_events s.0) = ap flat_meaning s.1 in
+    let both : None ≡ Some (flat_events s.0) = sym h ∙ found in
     cc
 
 -- the ranges of what they read as are in order
@@ -58,7 +51,7 @@ ranges_read bytes events u r =
     let to : byte_len (chars bytes) ≡ length bytes = byte_len-chars bytes u in
     let in_text : RangesInOrder 0 events (byte_len (chars bytes)) =
     subst (λ (es : List Event). RangesInOrder 0 es (byte_len (chars bytes))) r.some.means
-    (subst (λ (t : List ℕ). RangesInOrder 0 (meant p) (byte_len t)) r.some.presents.spells (stream_ranges p)) in
+    (subst (λ (t : List ℕ). RangesInOrder 0 (stream_events p) (byte_len t)) r.some.presents.spells (stream_ranges p)) in
     subst (λ (n : ℕ). RangesInOrder 0 events n) to in_text
 
 -- so they are refused for their syntax

@@ -5,11 +5,12 @@ use lib.Utf8.{encodes}
 use Rattle.std.specs.Str.{IsAscii, IsCharBoundary, IsUtf8, chars}
 use Rattle.std.proofs.lemmas.Bool.{and_from, and_parts, cases_Bool, false≢true, ltb-true}
 use Rattle.std.proofs.lemmas.Str.{IsUtf8-from_ascii, chars-IsAscii, chars-append, encodes-IsAscii, encodes-append, encodes-chars}
-use Rattle.yaml_grammar.specs.Texts.{begins, every}
+use Rattle.std.specs.List.{list_all}
+use Rattle.yaml_grammar.specs.Texts.{begins}
 use Rattle.yaml_recognizers.proofs.Documents.StreamsComplete.{begins_split}
 
 -- a word of characters below 128 is ASCII
-pub is_ascii : (word : List ℕ) → every (λ c. nat_lt c 128) word ≡ true → IsAscii word
+pub is_ascii : (word : List ℕ) → list_all (λ c. nat_lt c 128) word ≡ true → IsAscii word
 is_ascii [] h i = omega arith
 is_ascii (w ∷ ws) h zero = ltb-true w 128 (and_parts _ _ h).0
 is_ascii (w ∷ ws) h (suc i) = is_ascii ws (and_parts _ _ h).1 i
@@ -22,7 +23,7 @@ begins_itself [] after = refl
 begins_itself (w ∷ ws) after = and_from _ _ (same_char w) (begins_itself ws after)
 
 -- The bytes begin with the word exactly where the characters do.
-pub word_begins : (bs word : List ℕ) (r : Bool) → IsUtf8 bs → every (λ c. nat_lt c 128) word ≡ true → (r ≡ true → bs ≡ word ++ drop (length word) bs)
+pub word_begins : (bs word : List ℕ) (r : Bool) → IsUtf8 bs → list_all (λ c. nat_lt c 128) word ≡ true → (r ≡ true → bs ≡ word ++ drop (length word) bs)
     → ((after : List ℕ) → bs ≡ word ++ after → r ≡ true) → r ≡ begins word (chars bs)
 word_begins bs word r u a there back = elim (cases_Bool r) [
   | inl t ↦ (let e : chars bs ≡ word ++ chars (drop (length word) bs) =

@@ -10,7 +10,7 @@ use Rattle.yaml_events.specs.Borrowed.{BorrowsPlain}
 use Rattle.yaml_events.specs.Meant.{events_of}
 use Rattle.yaml_events.specs.declared.event.Event.{Event}
 use Rattle.yaml_recognizers.specs.CanonicalStreams as flat
-use Rattle.yaml_recognizers.specs.CanonicalStreams.{FlatStream, piece_events, pieces_events, flat_meant}
+use Rattle.yaml_recognizers.specs.CanonicalStreams.{FlatStream, piece_events, pieces_events, flat_events}
 use Rattle.yaml_recognizers.specs.Comments.{all_comments}
 use Rattle.yaml_recognizers.specs.Reading.{Read, on}
 use Rattle.yaml_recognizers.specs.Recognizers.{document_node_at, piece_at, pieces_at, stream_at}
@@ -33,7 +33,7 @@ meaning_from opened text at = pieces_meaning at (pieces_at opened true (rest tex
 -- the events of a stream, if one is read
 abbrev pub flat_meaning : Option FlatStream → Option (List grammar.Event)
 flat_meaning None = None
-flat_meaning (Some stream) = Some (flat_meant stream)
+flat_meaning (Some stream) = Some (flat_events stream)
 
 -- the events of a text, if it is a stream
 abbrev pub stream_meaning : List ℕ → Option (List grammar.Event)

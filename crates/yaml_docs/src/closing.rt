@@ -14,7 +14,7 @@ pub(crate) const LINE_AND_CLOSING_LINE: &[u8] = b"\n...\n";
 /// Places count bytes from 0. A line has to start at `at`, as at 0 and after each closing line, so that the next one
 /// can be searched from there.
 ///
-/// A `...` with CR and LF, or with a comment, ends a document (9.1.4) and closes nothing: so of a text that was cut
+/// A `...` with CR and LF, or with a comment, ends a document (9.1.4) and closes nothing. So of a text that was cut
 /// short no prefix is closed that it doesn't contain whole.
 pub fn next_close(bytes: &[u8], at: usize) -> Option<usize>
     requires { StartsLine bytes.now at }

@@ -2,7 +2,8 @@
 ghost use Rattle.std.specs.Prelude.{◌≡◌, nat_lt, true, Some, None, IfSome, IfNone};
 ghost use Rattle.std.specs.Str.{IsCharBoundary};
 ghost use Rattle.yaml_chars.specs.Places.{rest};
-ghost use Rattle.yaml_grammar.specs.Texts.{begins, every};
+ghost use Rattle.std.specs.List.{list_all};
+ghost use Rattle.yaml_grammar.specs.Texts.{begins};
 ghost use Rattle.yaml_docs.specs.Directives.{IsDirective, NoDirective, IsVersion};
 
 use yaml_scan::{Line, line_after, white_end};
@@ -45,7 +46,7 @@ fn version_end(text: &str, at: usize) -> Option<usize>
 /// Returns whether these ASCII characters are at `at`.
 fn begins_at(text: &str, at: usize, word: &[u8]) -> bool
     requires at { IsCharBoundary text.now at }
-    requires ascii { every (λ character. nat_lt character 128) word.now ≡ true }
+    requires ascii { list_all (λ character. nat_lt character 128) word.now ≡ true }
     ensures { result ≡ begins word.now (rest text.now at) }
 {
     text.as_bytes()[at..].starts_with(word)

@@ -13,7 +13,7 @@ mod read;
 
 pub use closing::next_close;
 pub use cutter::{CutFault, Cutter, Fed};
-pub use fault::ReadFault;
+pub use fault::{Brief, ReadFault};
 pub use read::events;
 
 #[cfg(test)]

@@ -5,52 +5,53 @@ use std::alloc::{AllocError, AllocFailed};
 use thiserror::Error;
 
 /// Why no node is where one is looked for. Which of them a text gets is no promise: it only helps the
-/// writer of the text.
+/// writer of the text. `Display` says it in words, `Debug` by the name.
 #[derive(Clone, Copy, Debug, PartialEq, Eq, Error)]
 pub enum Why {
     /// An alias (`*name`), which the profile leaves out.
-    #[error("Alias")]
+    #[error("an alias, which the profile leaves out")]
     Alias,
     /// An anchor (`&name`), which the profile leaves out.
-    #[error("Anchor")]
+    #[error("an anchor, which the profile leaves out")]
     Anchor,
     /// A tag (`!name`), which the profile leaves out.
-    #[error("Tag")]
+    #[error("a tag, which the profile leaves out")]
     Tag,
     /// A directive other than `%YAML 1.1` and `%YAML 1.2`, or one in a wrong place.
-    #[error("Directive")]
+    #[error("a directive that is not allowed here")]
     Directive,
     /// A value without a key, which the profile leaves out.
-    #[error("OmittedKey")]
+    #[error("a value without a key, which the profile leaves out")]
     OmittedKey,
     /// A byte order mark that is not at the text's start.
-    #[error("ByteOrderMark")]
+    #[error("a byte order mark that is not at the text's start")]
     ByteOrderMark,
     /// A character that is not allowed there.
-    #[error("Character")]
+    #[error("a character that is not allowed here")]
     Character,
     /// An unknown escape.
-    #[error("Escape")]
+    #[error("an unknown escape")]
     Escape,
     /// A line that has too few or too many spaces.
-    #[error("Indent")]
+    #[error("a line with too few or too many spaces")]
     Indent,
     /// A quote that is not closed.
-    #[error("Quote")]
+    #[error("a quote that is not closed")]
     Quote,
     /// A flow collection that is not closed, or an entry that is none.
-    #[error("Flow")]
+    #[error("a flow collection that is not closed, or an entry that is none")]
     Flow,
     /// A key that is too long or runs over lines, or a second one on its line.
-    #[error("Key")]
+    #[error("a key that is too long or runs over lines, or a second one on its line")]
     Key,
     /// A block scalar's header that is none.
-    #[error("BlockHeader")]
+    #[error("a block scalar's header that is none")]
     BlockHeader,
     /// A document marker inside a node.
-    #[error("Marker")]
+    #[error("a document marker inside a node")]
     Marker,
-    #[error("Other")]
+    /// None of these.
+    #[error("no node")]
     Other,
 }
 
@@ -58,10 +59,10 @@ pub enum Why {
 #[derive(Clone, Copy, Debug, PartialEq, Eq, Error)]
 pub enum ScanFault {
     /// No node is there. `at` counts bytes of the text from 0.
-    #[error("At {at} {why}")]
+    #[error("no node at byte {at}: {why}")]
     At { at: usize, why: Why },
     /// There is no memory for a value.
-    #[error("OutOfMemory")]
+    #[error("out of memory")]
     OutOfMemory,
 }
 

@@ -47,13 +47,16 @@ fn events_in_order(rt: HostRuntime) -> Result<(), Fail> {
 }
 
 #[test]
-fn faults_by_name(rt: HostRuntime) -> Result<(), Fail> {
+fn faults_are_shown(rt: HostRuntime) -> Result<(), Fail> {
     let fault = ScanFault::At {
         at: 3,
         why: Why::Indent,
     };
     let text = format!(in rt.alloc(); "{fault}")?;
-    assert_eq!(rt; text.as_str(), "At 3 Indent");
+    assert_eq!(rt;
+        text.as_str(),
+        "no node at byte 3: a line with too few or too many spaces"
+    );
     Ok(())
 }
 

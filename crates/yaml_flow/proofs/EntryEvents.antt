@@ -7,7 +7,7 @@ use Rattle.yaml_grammar.specs.Events.{Event, map_start, map_end}
 use Rattle.yaml_grammar.specs.FlowNodes.{Flow, Value, absent, empty, given, entry, Entries, flow_text, flow_events, value_text, value_events, entry_text, entry_events, entries_events, asked_text, has_colon, is_pair}
 use Rattle.yaml_grammar.specs.Separation.{Sep, gap_text}
 use Rattle.yaml_grammar.specs.Texts.{byte_len}
-use Rattle.yaml_recognizers.specs.FlowFrames.{Bracket, DoneEntry, joined, collection_of}
+use Rattle.yaml_recognizers.specs.FlowFrames.{Bracket, DoneEntry, entries_onto, collection_of}
 use Rattle.yaml_recognizers.proofs.Meanings.EventPrefixes.{done_end, done_events, done_place, entries_prefix}
 use Rattle.yaml_recognizers.proofs.Basics.LineStarts.{byte_len_joined}
 use Rattle.yaml_flow.specs.Frames.{bracket_start, bracket_end, bracket_prefix, entries_start, entry_start, pair_start, pair_end}
@@ -50,10 +50,10 @@ events_of_kind false gap es from = refl
 
 -- the events of a collection, from its bracket and entries
 pub collection_events : (b : Bracket) (es : Entries) (from : ℕ)
-    → flow_events (collection_of b.in_seq b.gap (joined b.done es)) from
+    → flow_events (collection_of b.in_seq b.gap (entries_onto b.done es)) from
     ≡ bracket_prefix b from ++ (entries_events es b.in_seq (entry_start b from) ++ bracket_end b.in_seq ∷ [])
 collection_events b es from =
-    events_of_kind b.in_seq b.gap (joined b.done es) from
+    events_of_kind b.in_seq b.gap (entries_onto b.done es) from
     ∙ (ap (λ xs. bracket_start b.in_seq ∷ (xs ++ bracket_end b.in_seq ∷ [])) (entries_prefix b.done es b.in_seq (entries_start b from))
     ∙ prefix_then (bracket_start b.in_seq) (done_events b.done b.in_seq (entries_start b from)) (entries_events es b.in_seq (entry_start b from)) (bracket_end b.in_seq ∷ []))
 

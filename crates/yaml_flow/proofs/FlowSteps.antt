@@ -11,13 +11,13 @@ use Rattle.yaml_grammar.specs.Separation.{Sep, gap_text}
 use Rattle.yaml_grammar.specs.Texts.{byte_len, first, starts_line}
 use Rattle.yaml_events.specs.EventPlaces.{line_starts}
 use Rattle.yaml_recognizers.specs.Ends.{is_colon}
-use Rattle.yaml_recognizers.specs.FlowFrames.{FlowPart, first_node, asked_key, pair_value, Bracket, DoneEntry, OpenFlow, closer, close_with, collection_of, entries_of, entry_of, joined, plug}
-use Rattle.yaml_recognizers.specs.FlowNodes.{is_asked, key_is_short, made}
+use Rattle.yaml_recognizers.specs.FlowFrames.{FlowPart, first_node, asked_key, pair_value, Bracket, DoneEntry, OpenFlow, closer, close_with, collection_of, entries_of, entry_of, entries_onto, plug}
+use Rattle.yaml_recognizers.specs.FlowNodes.{is_asked, key_is_short, entry_if_short}
 use Rattle.yaml_recognizers.specs.FlowScalars.{read_scalar}
 use Rattle.yaml_recognizers.specs.Prefixes.{past}
 use Rattle.yaml_recognizers.specs.Gaps.{GapRead, read_gap}
 use Rattle.yaml_recognizers.specs.PlainScalars.{read_plain}
-use Rattle.yaml_recognizers.specs.Reading.{Read, closed, if_fits, on}
+use Rattle.yaml_recognizers.specs.Reading.{Read, read_closing, if_fits, on}
 use Rattle.yaml_recognizers.specs.Recognizers.{flow_node_at, flow_entries_at, flow_value_at}
 use Rattle.yaml_recognizers.proofs.Flow.FlowFrames.{asked_for_nothing, comma_after, entry_begins, entry_is_asked, is_scalar, last_entry, no_entry, opens_map, opens_seq}
 use Rattle.yaml_recognizers.proofs.Flow.StuckGaps.{blank, no_colon, no_node}
@@ -33,10 +33,10 @@ use Rattle.yaml_flow.proofs.EntryEvents.{collection_events, done_end_more, done_
 same : (x : ℕ) → (x == x) ≡ true
 same x = eq-eqb x x refl
 
-closed_by : {A : Type 0} (x : ℕ) (a : A) (cs : List ℕ) → closed x a (x ∷ cs) ≡ Some (a, cs)
+closed_by : {A : Type 0} (x : ℕ) (a : A) (cs : List ℕ) → read_closing x a (x ∷ cs) ≡ Some (a, cs)
 closed_by x a cs = rw (same x) refl
 
-not_closed : {A : Type 0} (x : ℕ) (a : A) (text : List ℕ) → first (λ y. y == x) text ≡ false → closed x a text ≡ None
+not_closed : {A : Type 0} (x : ℕ) (a : A) (text : List ℕ) → first (λ y. y == x) text ≡ false → read_closing x a text ≡ None
 not_closed x a [] h = refl
 not_closed x a (c ∷ cs) h = rw h refl
 
@@ -115,11 +115,11 @@ module _ (n : ℕ) (d : FlowContext) where
   pub entry_dead : (b : Bracket) (e : Entry) (text : List ℕ) → Dead n d (gap_at text).1 → close_with b (entries_of n d b.in_seq e text) ≡ None
   entry_dead b e text h =
       last_entry n d b e text h.comma
-      ∙ not_closed (closer b.in_seq) (collection_of b.in_seq b.gap (joined b.done (last e (gap_at text).0))) (gap_at text).1 (h.close b.in_seq)
+      ∙ not_closed (closer b.in_seq) (collection_of b.in_seq b.gap (entries_onto b.done (last e (gap_at text).0))) (gap_at text).1 (h.close b.in_seq)
 
   -- an entry before such a gap makes the collection none
   pub made_dead : (b : Bracket) (bol : Bool) (ask : Option Sep) (key : Flow) (v : Value) (text : List ℕ) → Dead n d (gap_at text).1
-      → close_with b (on (made n d b.in_seq bol ask key v text) (λ e r. entries_of n d b.in_seq e r)) ≡ None
+      → close_with b (on (entry_if_short n d b.in_seq bol ask key v text) (λ e r. entries_of n d b.in_seq e r)) ≡ None
   made_dead b bol ask key v text h = either (key_is_short n d b.in_seq bol ask key v text)
     where
       either : (t : Bool) → close_with b (on (if_fits t (Some (entry ask key v, text))) (λ e r. entries_of n d b.in_seq e r)) ≡ None
@@ -130,11 +130,11 @@ module _ (n : ℕ) (d : FlowContext) where
 
   -- the collection, once the value after the key is read
   abbrev pub keyed : Bracket → Bool → Option Sep → Flow → Read Value → Read Flow
-  keyed b bol ask key value = close_with b (on (on value (λ v r. made n d b.in_seq bol ask key v r)) (λ e r. entries_of n d b.in_seq e r))
+  keyed b bol ask key value = close_with b (on (on value (λ v r. entry_if_short n d b.in_seq bol ask key v r)) (λ e r. entries_of n d b.in_seq e r))
 
   -- a key is read as the entry's node
   pub key_entry : (in_seq : Bool) (part : FlowPart) (key : Flow) (text : List ℕ) → is_value part ≡ false
-      → entry_of n d in_seq part key text ≡ on (flow_value_at n d (is_plain key) text) (λ v r. made n d in_seq (bol_of part) (ask_of part) key v r)
+      → entry_of n d in_seq part key text ≡ on (flow_value_at n d (is_plain key) text) (λ v r. entry_if_short n d in_seq (bol_of part) (ask_of part) key v r)
   key_entry in_seq (first_node bol) key text h = refl
   key_entry in_seq (asked_key sep) key text h = refl
   key_entry in_seq (pair_value ask bol key before after) key' text h = absurd (false≢true (sym h))
@@ -146,7 +146,7 @@ module _ (n : ℕ) (d : FlowContext) where
 
   -- once a value is read
   pub value_entry : (in_seq bol : Bool) (ask : Option Sep) (key : Flow) (before after : Option Sep) (f : Flow) (text : List ℕ)
-      → entry_of n d in_seq (pair_value ask bol key before after) f text ≡ made n d in_seq bol ask key (given before after f) text
+      → entry_of n d in_seq (pair_value ask bol key before after) f text ≡ entry_if_short n d in_seq bol ask key (given before after f) text
   value_entry in_seq bol None key before after f text = refl
   value_entry in_seq bol (Some sep) key before after f text = refl
 
@@ -203,10 +203,10 @@ module _ (n : ℕ) (d : FlowContext) (text : List ℕ) where
 
   ends_whole : (w : Collection) (b : Bracket) (es : Entries) (in_seq : Bool) (end : ℕ) (events new : EventList) → b.in_seq ≡ in_seq
       → Appended text w.kept events (bracket_prefix b w.start ++ entries_events es b.in_seq (entry_start b w.start)) → Appended text events new (bracket_end in_seq ∷ [])
-      → line_starts text end ≡ false → w.reads ≡ Some (collection_of b.in_seq b.gap (joined b.done es), rest text end) → WholeRead n d text w end new
+      → line_starts text end ≡ false → w.reads ≡ Some (collection_of b.in_seq b.gap (entries_onto b.done es), rest text end) → WholeRead n d text w end new
   ends_whole w b es in_seq end events new k a e s r = record {
-    node = collection_of b.in_seq b.gap (joined b.done es);
-    plain = no_plain b.in_seq b.gap (joined b.done es);
+    node = collection_of b.in_seq b.gap (entries_onto b.done es);
+    plain = no_plain b.in_seq b.gap (entries_onto b.done es);
     inside_line = s;
     written = appended_as text w.kept new _ _
         (append_assoc (bracket_prefix b w.start) (entries_events es b.in_seq (entry_start b w.start)) (bracket_end b.in_seq ∷ []) ∙ sym (collection_events b es w.start))
@@ -216,10 +216,10 @@ module _ (n : ℕ) (d : FlowContext) (text : List ℕ) where
   }
 
   closes_at : (in_seq : Bool) (b : Bracket) (es : Entries) (at : ℕ) → b.in_seq ≡ in_seq → IsSign text at (closer in_seq)
-      → closed (closer b.in_seq) (collection_of b.in_seq b.gap (joined b.done es)) (rest text at) ≡ Some (collection_of b.in_seq b.gap (joined b.done es), rest text (at + 1))
+      → read_closing (closer b.in_seq) (collection_of b.in_seq b.gap (entries_onto b.done es)) (rest text at) ≡ Some (collection_of b.in_seq b.gap (entries_onto b.done es), rest text (at + 1))
   closes_at in_seq b es at k sign =
-      let f : Flow = collection_of b.in_seq b.gap (joined b.done es) in
-      ap (closed (closer b.in_seq) f) (sign.splits ∙ ap (λ x. closer x ∷ rest text (at + 1)) (sym k)) ∙ closed_by (closer b.in_seq) f (rest text (at + 1))
+      let f : Flow = collection_of b.in_seq b.gap (entries_onto b.done es) in
+      ap (read_closing (closer b.in_seq) f) (sign.splits ∙ ap (λ x. closer x ∷ rest text (at + 1)) (sym k)) ∙ closed_by (closer b.in_seq) f (rest text (at + 1))
 
   -- ---- the start of an entry
 
@@ -342,12 +342,12 @@ module _ (n : ℕ) (d : FlowContext) (text : List ℕ) where
       }
 
   last_is : (w : Collection) (in_seq : Bool) (at : ℕ) (events : EventList) → first (λ x. x == 44) (rest text at) ≡ false → (here : EntryRead n d text w in_seq at events)
-      → w.reads ≡ closed (closer here.bracket.in_seq) (collection_of here.bracket.in_seq here.bracket.gap (joined here.bracket.done (last here.entry here.gap))) (rest text at)
+      → w.reads ≡ read_closing (closer here.bracket.in_seq) (collection_of here.bracket.in_seq here.bracket.gap (entries_onto here.bracket.done (last here.entry here.gap))) (rest text at)
   last_is w in_seq at events h here =
       let b : Bracket = here.bracket in
       here.reads
       ∙ (last_entry n d b here.entry here.follows (ap (λ (r : GapRead). first (λ x. x == 44) r.1) here.passes ∙ h)
-      ∙ ap (λ (r : GapRead). closed (closer b.in_seq) (collection_of b.in_seq b.gap (joined b.done (last here.entry r.0))) r.1) here.passes)
+      ∙ ap (λ (r : GapRead). read_closing (closer b.in_seq) (collection_of b.in_seq b.gap (entries_onto b.done (last here.entry r.0))) r.1) here.passes)
 
   -- the closing bracket ends the last entry
   pub closes_entry : (w : Collection) (in_seq : Bool) (at : ℕ) (events new : EventList) → IsSign text at (closer in_seq) → line_starts text (at + 1) ≡ false
@@ -363,7 +363,7 @@ module _ (n : ℕ) (d : FlowContext) (text : List ℕ) where
   no_closing w in_seq at events h k here =
       let b : Bracket = here.bracket in
       last_is w in_seq at events h here
-      ∙ not_closed (closer b.in_seq) (collection_of b.in_seq b.gap (joined b.done (last here.entry here.gap))) (rest text at)
+      ∙ not_closed (closer b.in_seq) (collection_of b.in_seq b.gap (entries_onto b.done (last here.entry here.gap))) (rest text at)
       (ap (λ s. first (λ x. x == closer s) (rest text at)) here.kind ∙ k)
 
   -- ---- a gap before an entry

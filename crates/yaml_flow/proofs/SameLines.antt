@@ -7,7 +7,7 @@ use Rattle.yaml_chars.specs.Breaks.{no_break}
 use Rattle.yaml_chars.specs.Classes.{line_break}
 use Rattle.yaml_chars.specs.Places.{between}
 use Rattle.yaml_chars.proofs.Places.{between-append, between-nil}
-use Rattle.yaml_grammar.specs.Texts.{every}
+use Rattle.std.specs.List.{list_all}
 use Rattle.yaml_recognizers.proofs.Flow.OneLineText.{unbroken_joined}
 use Rattle.yaml_recognizers.specs.FlowFrames.{closer}
 use Rattle.yaml_scan.proofs.ByteSigns.{IsSign}
@@ -18,11 +18,11 @@ use Rattle.yaml_flow.proofs.Signs.{one_sign}
 -- no break between two places means none in either part
 pub unbroken_parts : (bs : List ℕ) (i j k : ℕ) → IsUtf8 bs → i ≤ j → j ≤ k → IsCharBoundary bs i → IsCharBoundary bs j → IsCharBoundary bs k
     → unbroken_between bs i k ≡ unbroken_between bs i j && unbroken_between bs j k
-unbroken_parts bs i j k u l m a b c = ap (every no_break) (between-append bs i j k u l m a b c) ∙ unbroken_joined (between bs i j) (between bs j k)
+unbroken_parts bs i j k u l m a b c = ap (list_all no_break) (between-append bs i j k u l m a b c) ∙ unbroken_joined (between bs i j) (between bs j k)
 
 -- between a place and itself there is no break
 pub unbroken_here : (bs : List ℕ) (i : ℕ) → unbroken_between bs i i ≡ true
-unbroken_here bs i = ap (every no_break) (between-nil bs i)
+unbroken_here bs i = ap (list_all no_break) (between-nil bs i)
 
 -- a place is on its own line
 pub same_line_here : (bs : List ℕ) (line at : ℕ) → line ≤ at → SameLine bs line at at
@@ -71,7 +71,7 @@ line_then bs one a two b three c l i h k = record {
 -- a sign doesn't move the line
 pub sign_line : (bs : List ℕ) (line at x : ℕ) → IsUtf8 bs → IsCharBoundary bs at → IsSign bs at x → line_break x ≡ false → LineMoves bs line at line (at + 1)
 sign_line bs line at x u b s h =
-    line_stays bs line at (at + 1) u (omega arith) b s.boundary (ap (every no_break) (one_sign bs at x u b s) ∙ rw h refl)
+    line_stays bs line at (at + 1) u (omega arith) b s.boundary (ap (list_all no_break) (one_sign bs at x u b s) ∙ rw h refl)
 
 -- nor does a sign before a further move
 pub sign_then : (bs : List ℕ) (old at x new to : ℕ) → IsUtf8 bs → IsCharBoundary bs at → IsSign bs at x → line_break x ≡ false → LineMoves bs old (at + 1) new to → LineMoves bs old at new to

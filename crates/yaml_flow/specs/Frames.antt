@@ -12,7 +12,7 @@ use Rattle.yaml_events.specs.declared.event.Event.{Event as ListedEvent}
 use Rattle.yaml_events.specs.EventPlaces.{line_starts}
 use Rattle.yaml_recognizers.specs.Ends.{is_colon}
 use Rattle.yaml_recognizers.specs.FlowFrames.{FlowPart, first_node, asked_key, pair_value, Bracket, OpenFlow, closer, close_with, entries_of, plug}
-use Rattle.yaml_recognizers.specs.FlowNodes.{key_is_short, made}
+use Rattle.yaml_recognizers.specs.FlowNodes.{key_is_short, entry_if_short}
 use Rattle.yaml_recognizers.specs.Gaps.{read_gap}
 use Rattle.yaml_recognizers.specs.Reading.{Read, on}
 use Rattle.yaml_recognizers.specs.Recognizers.{flow_node_at, flow_entries_at, flow_value_at}
@@ -25,6 +25,7 @@ use Rattle.yaml_grammar.specs.Texts.{first}
 use Rattle.yaml_recognizers.specs.FlowNodes.{is_asked}
 use Rattle.yaml_flow.specs.FlowNodes.{Appended}
 use Rattle.yaml_scan.specs.ScanPlaces.{unbroken_between}
+use Rattle.yaml_recognizers.specs.Signs.{question, open_bracket, open_brace}
 use Rattle.yaml_scan.proofs.ByteSigns.{IsSign}
 use Rattle.yaml_flow.specs.declared.collection.NodeEnd.{NodeEnd}
 use Rattle.yaml_flow.specs.declared.collection.NodeEnd.TheVariants.{Plain, Delimited}
@@ -84,11 +85,11 @@ place_of (AfterEntry at) = at
 place_of (Closed end) = end
 
 -- what is left to do
-abbrev pub left : List ℕ → Next → ℕ
-left text (Entry at) = 2 * (length text - at) + 1
-left text (Node at) = 2 * (length text - at)
-left text (AfterEntry at) = 2 * (length text - at)
-left text (Closed end) = 2 * (length text - end) + 1
+abbrev pub steps_left : List ℕ → Next → ℕ
+steps_left text (Entry at) = 2 * (length text - at) + 1
+steps_left text (Node at) = 2 * (length text - at)
+steps_left text (AfterEntry at) = 2 * (length text - at)
+steps_left text (Closed end) = 2 * (length text - end) + 1
 
 -- the step leads from the place to a later one, or to the same
 pub record Onward (text : List ℕ) (at : ℕ) (next : Next) : Type 0 where
@@ -100,8 +101,8 @@ pub record Onward (text : List ℕ) (at : ℕ) (next : Next) : Type 0 where
 
 -- a bracket opens at the place, of this kind
 abbrev pub opener : Bool → ℕ
-opener true = 91
-opener false = 123
+opener true = open_bracket
+opener false = open_brace
 
 -- an opening bracket is at the place
 abbrev pub IsBracket : List ℕ → ℕ → Bool → Type 0
@@ -210,7 +211,7 @@ module _ (n : ℕ) (d : FlowContext) (text : List ℕ) where
     pub prefix : ℕ
     pub after : prefix + 1 ≡ at
     pub entry : AtEntry w in_seq prefix events
-    pub sign : IsSign text prefix 63
+    pub sign : IsSign text prefix question
     pub asked : is_asked d (rest text prefix) ≡ true
     pub unclosed : first (λ x. x == closer in_seq) (rest text prefix) ≡ false
 
@@ -250,7 +251,7 @@ module _ (n : ℕ) (d : FlowContext) (text : List ℕ) where
     pub written : Appended text w.kept events
         (bracket_prefix bracket w.start ++ (pair_start bracket.in_seq ++ flow_events key (entry_start bracket w.start + byte_len (asked_text ask))))
     pub reads : w.reads ≡ close_with bracket
-        (on (on (flow_value_at n d (is_plain key) follows) (λ v r. made n d bracket.in_seq bol ask key v r)) (λ e r. entries_of n d bracket.in_seq e r))
+        (on (on (flow_value_at n d (is_plain key) follows) (λ v r. entry_if_short n d bracket.in_seq bol ask key v r)) (λ e r. entries_of n d bracket.in_seq e r))
 
   -- an entry is read, and the gap after it is passed
   pub record EntryRead (w : Collection) (in_seq : Bool) (at : ℕ) (events : EventList) : Type 0 where

@@ -9,7 +9,7 @@ ghost use Rattle.yaml_events.specs.Meant.{context_of, event_of, style_of};
 ghost use Rattle.yaml_events.specs.EventPlaces.{line_starts, Refuses};
 ghost use Rattle.yaml_recognizers.specs.FlowFrames.{closer};
 ghost use Rattle.yaml_flow.specs.FlowNodes.{Appended, FlowNodeRead, NoFlowNodeFound};
-ghost use Rattle.yaml_flow.specs.Frames.{Collection, Stack, Stands, Waits, AfterQuestion, AtEntry, EventList, Kept, Pushes, ends_plain, is_plain_style, AtNode, EntryRead, BeforeGap, IsBracket, LineMoves, Onward, Passes, bracket_start, bracket_end, left, opener, pair_start, place_of};
+ghost use Rattle.yaml_flow.specs.Frames.{Collection, Stack, Stands, Waits, AfterQuestion, AtEntry, EventList, Kept, Pushes, ends_plain, is_plain_style, AtNode, EntryRead, BeforeGap, IsBracket, LineMoves, Onward, Passes, bracket_start, bracket_end, steps_left, opener, pair_start, place_of};
 ghost use Rattle.yaml_events.specs.Borrowed.{BorrowsPlain};
 ghost use Rattle.yaml_scan.specs.Gaps.{NoGap};
 
@@ -125,7 +125,7 @@ fn pass(text: &str, at: usize, setting: Setting, line: &mut usize) -> Result<Nex
     requires at { IsCharBoundary text.now at }
     requires inside_line { line_starts text.now at ≡ false }
     ensures onward { IfOk result (Onward text.now at) }
-    ensures less { IfOk result (λ next. left text.now next ≤ 2 * (length text.now - at) + 1) }
+    ensures less { IfOk result (λ next. steps_left text.now next ≤ 2 * (length text.now - at) + 1) }
     ensures line { IfOk result (λ next. LineMoves text.now line.old at line.new (place_of next)) }
     ensures stands { IfOk result (λ next. (w : Collection) (top : Open) (events : EventList)
         → BeforeGap setting.n (context_of setting.context) text.now w top.in_seq at events
@@ -150,7 +150,7 @@ fn entry(
 ) -> Result<Next, ScanFault>
     requires { IsCharBoundary text.now at }
     ensures onward { IfOk result (Onward text.now at) }
-    ensures less { IfOk result (λ next. left text.now next < 2 * (length text.now - at) + 1) }
+    ensures less { IfOk result (λ next. steps_left text.now next < 2 * (length text.now - at) + 1) }
     ensures line { IfOk result (λ next. LineMoves text.now line.old at line.new (place_of next)) }
     ensures stands { IfOk result (λ next. (w : Collection)
         → AtEntry setting.n (context_of setting.context) text.now w top.old.in_seq at
@@ -185,7 +185,7 @@ fn asked(
     requires at { IsCharBoundary text.now at }
     requires inside_line { line_starts text.now at ≡ false }
     ensures onward { IfOk result (Onward text.now at) }
-    ensures less { IfOk result (λ next. left text.now next ≤ 2 * (length text.now - at)) }
+    ensures less { IfOk result (λ next. steps_left text.now next ≤ 2 * (length text.now - at)) }
     ensures line { IfOk result (λ next. LineMoves text.now line.old at line.new (place_of next)) }
     ensures stands { IfOk result (λ next. (w : Collection)
         → AfterQuestion setting.n (context_of setting.context) text.now w top.old.in_seq at
@@ -229,7 +229,7 @@ fn after_entry(
 ) -> Result<Next, ScanFault>
     requires { IsCharBoundary text.now at }
     ensures onward { IfOk result (Onward text.now at) }
-    ensures less { IfOk result (λ next. left text.now next < 2 * (length text.now - at)) }
+    ensures less { IfOk result (λ next. steps_left text.now next < 2 * (length text.now - at)) }
     ensures line { IfOk result (λ next. LineMoves text.now line.old at line.new (place_of next)) }
     ensures stands { IfOk result (λ next. (w : Collection)
         → EntryRead setting.n (context_of setting.context) text.now w top.in_seq at events.old
@@ -318,7 +318,7 @@ fn node<'a>(
     requires line { line.old ≤ at }
     requires inside { inside (context_of setting.context) ≡ context_of setting.context }
     ensures onward { IfOk result (Onward text.now at) }
-    ensures less { IfOk result (λ next. left text.now next < 2 * (length text.now - at)) }
+    ensures less { IfOk result (λ next. steps_left text.now next < 2 * (length text.now - at)) }
     ensures line { IfOk result (λ next. LineMoves text.now line.old at line.new (place_of next)) }
     ensures opened { OnOk result (Pushes outer.old.items at outer.new.items) }
     ensures stands { IfOk result (λ next. (whole inner : Collection) (around : List Collection)
@@ -361,7 +361,7 @@ fn scalar<'a>(
     requires inside { inside (context_of setting.context) ≡ context_of setting.context }
     ensures onward { IfOk result (Onward text.now top.old.start) }
     ensures less { IfOk result (λ next.
-        left text.now next < 2 * (length text.now - top.old.start)) }
+        steps_left text.now next < 2 * (length text.now - top.old.start)) }
     ensures line { IfOk result (λ next.
         LineMoves text.now line.old top.old.start line.new (place_of next)) }
     ensures stands { IfOk result (λ next. (w : Collection)

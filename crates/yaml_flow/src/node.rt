@@ -18,10 +18,9 @@ use yaml_recognizers::flow_nodes::flow_node_stands;
 /// Reads the flow node at a place of a text (YAML 1.2.2, 7.4 and 7.5): appends its events, and returns the
 /// place after it.
 ///
-/// Places count bytes from 0. Further lines of the node are indented by `n` spaces or more; in a key there are
-/// none. It fails with [`ScanFault::At`] exactly if there is no flow node, and with
-/// [`ScanFault::OutOfMemory`] where there is no memory for the events, a value or the open brackets; the events
-/// are then as they were.
+/// Places count bytes from 0. Further lines of the node are indented by `n` spaces or more; in a key there are none. It
+/// fails with [`ScanFault::At`] exactly if there is no flow node, and with [`ScanFault::OutOfMemory`] where there is no
+/// memory for the events, a value or the open brackets. The events are then as they were.
 pub fn flow_node<'a>(
     alloc: Global,
     events: &mut Events<'a>,

@@ -10,7 +10,7 @@ ghost use Rattle.yaml_events.specs.EventPlaces.{line_starts, Refuses};
 ghost use Rattle.yaml_recognizers.specs.Ends.{is_colon};
 ghost use Rattle.yaml_recognizers.specs.FlowNodes.{ends_entry};
 ghost use Rattle.yaml_flow.specs.FlowNodes.{Appended};
-ghost use Rattle.yaml_flow.specs.Frames.{Collection, Stands, NodeRead, AtColon, BeganPair, Kept, NoPair, absent_events, is_single, is_value, is_value, LineMoves, Onward, SameLine, ends_plain, left, pair_end, place_of};
+ghost use Rattle.yaml_flow.specs.Frames.{Collection, Stands, NodeRead, AtColon, BeganPair, Kept, NoPair, absent_events, is_single, is_value, is_value, LineMoves, Onward, SameLine, ends_plain, steps_left, pair_end, place_of};
 ghost use Rattle.yaml_flow.specs.declared.collection.Next.TheVariants.{AfterEntry};
 
 use crate::collection::{Next, NodeEnd, Open, Part, Setting, fault, pass_gap};
@@ -46,7 +46,7 @@ pub(crate) fn plug(
     requires line { SameLine text.now line.old top.old.start end }
     requires inside { inside (context_of setting.context) ≡ context_of setting.context }
     ensures onward { IfOk result (Onward text.now end) }
-    ensures less { IfOk result (λ next. left text.now next ≤ 2 * (length text.now - end)) }
+    ensures less { IfOk result (λ next. steps_left text.now next ≤ 2 * (length text.now - end)) }
     ensures line { IfOk result (λ next. LineMoves text.now line.old end line.new (place_of next)) }
     ensures stands { IfOk result (λ next. (w : Collection)
         → NodeRead setting.n (context_of setting.context) text.now w top.old node_end end events.old
@@ -174,7 +174,7 @@ fn value(
     requires at { IsCharBoundary text.now colon }
     requires stands { first (λ x. x == 58) (rest text.now colon) ≡ true }
     ensures onward { IfOk result (Onward text.now colon) }
-    ensures less { IfOk result (λ next. left text.now next < 2 * (length text.now - colon)) }
+    ensures less { IfOk result (λ next. steps_left text.now next < 2 * (length text.now - colon)) }
     ensures line { IfOk result (λ next.
         LineMoves text.now line.old colon line.new (place_of next)) }
     ensures stands { IfOk result (λ next. (w : Collection)

@@ -14,7 +14,7 @@ use Rattle.yaml_chars.specs.Classes.{white, line_break}
 use Rattle.yaml_chars.specs.Places.{rest, between, IsRun}
 use Rattle.yaml_chars.proofs.Places.{IsCharAt, char_at, rest-end, rest-between, between-append}
 use Rattle.yaml_chars.proofs.Runs.{run_stops}
-use Rattle.yaml_grammar.specs.Texts.{every, first}
+use Rattle.yaml_grammar.specs.Texts.{first}
 use Rattle.yaml_grammar.specs.Separation.{Break, lf, cr, cr_lf, break_text}
 use Rattle.yaml_grammar.specs.FlowScalars.{FlowContext, one_line, line_feeds, folded_break}
 use Rattle.yaml_recognizers.specs.Comments.{read_break}
@@ -147,7 +147,7 @@ begins_escaped n text at u l b h =
       join = ap (read_join true n) there ∙ step_escaped n (rest text (at + 1));
     }
 
-white_open : (blank : List ℕ) (b : Break) (after : List ℕ) → every white blank ≡ true → double_closes (blank ++ (break_text b ++ after)) ≡ false
+white_open : (blank : List ℕ) (b : Break) (after : List ℕ) → list_all white blank ≡ true → double_closes (blank ++ (break_text b ++ after)) ≡ false
 unfolding double_closes
 white_open [] lf after h = refl
 white_open [] cr after h = refl
@@ -162,7 +162,7 @@ broken lf after = refl
 broken cr after = refl
 broken cr_lf after = refl
 
-begins_at : (n : ℕ) (blank after : List ℕ) (b : Break) (rest : List ℕ) → every white blank ≡ true → after ≡ break_text b ++ rest → BeginsJoin n (blank ++ after) false blank after
+begins_at : (n : ℕ) (blank after : List ℕ) (b : Break) (rest : List ℕ) → list_all white blank ≡ true → after ≡ break_text b ++ rest → BeginsJoin n (blank ++ after) false blank after
 unfolding read_held
 begins_at n blank after b rest h e = subst (λ (t : List ℕ). BeginsJoin n (blank ++ t) false blank t) (sym e) (record {
   held = cond-true (at_break (blank ++ (break_text b ++ rest))) None (read_item (blank ++ (break_text b ++ rest))) (white_at_break blank _ h ∙ broken b rest);

@@ -14,7 +14,8 @@ use Rattle.yaml_chars.specs.Classes.{line_break, is_in, code_point}
 use Rattle.yaml_chars.specs.Places.{rest, between, IsRun}
 use Rattle.yaml_chars.proofs.Places.{char_at, rest-ascii, rest-end, rest-between, code_point-scalar, between-nil, between-push_ascii}
 use Rattle.yaml_chars.proofs.Runs.{IsBlind, test-char_at}
-use Rattle.yaml_grammar.specs.Texts.{every, first}
+use Rattle.std.specs.List.{list_all}
+use Rattle.yaml_grammar.specs.Texts.{first}
 use Rattle.yaml_grammar.specs.FlowScalars.{escape, number as counted, hex_digit, digit_of, hex_value, digits_after, quoted_char_fits, escaped_char}
 use Rattle.yaml_recognizers.specs.QuotedScalars.{read_item, read_number}
 use Rattle.yaml_recognizers.proofs.Basics.Breaks.{break_some}
@@ -86,9 +87,9 @@ raw_run text i j run = run
 
 -- ---- digits
 
-every-append : (p : ℕ → Bool) (xs ys : List ℕ) → every p (xs ++ ys) ≡ every p xs && every p ys
+every-append : (p : ℕ → Bool) (xs ys : List ℕ) → list_all p (xs ++ ys) ≡ list_all p xs && list_all p ys
 every-append p [] ys = refl
-every-append p (x ∷ xs) ys = ap (λ b. p x && b) (every-append p xs ys) ∙ regroup (p x) (every p xs) (every p ys)
+every-append p (x ∷ xs) ys = ap (λ b. p x && b) (every-append p xs ys) ∙ regroup (p x) (list_all p xs) (list_all p ys)
   where
     regroup : (a b c : Bool) → a && (b && c) ≡ a && b && c
     regroup true b c = refl
@@ -113,7 +114,7 @@ number_fits k n d l h m = omega (arith, pow-le-pow_right {n = 16} (omega arith) 
 pub record DigitsTo (bs : List ℕ) (at end number : ℕ) : Type 0 where
   pub above : at ≤ end
   pub boundary : IsCharBoundary bs end
-  pub digits : every hex_digit (between bs at end) ≡ true
+  pub digits : list_all hex_digit (between bs at end) ≡ true
   pub long : length (between bs at end) ≡ end - at
   pub value : hex_value 0 (between bs at end) ≡ number
   pub fits : number < 16 ^ (end - at)
@@ -126,7 +127,7 @@ digits_none bs at b =
     record {
       above = omega arith;
       boundary = b;
-      digits = ap (every hex_digit) none;
+      digits = ap (list_all hex_digit) none;
       long = ap length none ∙ sym size;
       value = ap (hex_value 0) none;
       fits = subst (λ k. 0 < 16 ^ k) (sym size) (omega arith);
@@ -147,7 +148,7 @@ digits_more bs at end number d u b h l digit =
     record {
       above = omega arith;
       boundary = IsCharBoundary-after_ascii bs end u l low;
-      digits = ap (every hex_digit) longer ∙ (every-append hex_digit (between bs at end) (c ∷ []) ∙ and_from _ _ h.digits (and_from _ _ digit.allowed refl));
+      digits = ap (list_all hex_digit) longer ∙ (every-append hex_digit (between bs at end) (c ∷ []) ∙ and_from _ _ h.digits (and_from _ _ digit.allowed refl));
       long = ap length longer ∙ (length-append (between bs at end) (c ∷ []) ∙ omega arith);
       value = ap (hex_value 0) longer ∙ (hex_value-append 0 c (between bs at end) ∙ omega (arith, h.value, digit.means));
       fits = subst (λ k. number * 16 + d < 16 ^ k) (sym size) (omega (arith, pow_more 16 (end - at), digit.means));
@@ -161,7 +162,7 @@ digits_all bs at count number u b h =
     let long : length ds ≡ count = h.long ∙ omega arith in
     let prefix : take count (rest bs at) ≡ ds = ap (take count) split ∙ (ap (λ k. take k (ds ++ rest bs (at + count))) (sym long) ∙ take-append_seam ds (rest bs (at + count))) in
     record {
-      digits = ap (λ (t : List ℕ). (length t == count) && every hex_digit t) prefix ∙ and_from _ _ (eq-eqb (length ds) count long) h.digits;
+      digits = ap (λ (t : List ℕ). (length t == count) && list_all hex_digit t) prefix ∙ and_from _ _ (eq-eqb (length ds) count long) h.digits;
       boundary = h.boundary;
       after = ap (drop count) split ∙ (ap (λ k. drop k (ds ++ rest bs (at + count))) (sym long) ∙ drop-append_seam ds (rest bs (at + count)));
       value = ap (hex_value 0) prefix ∙ h.value;
@@ -176,7 +177,7 @@ digits_end bs at end count number u b h l past =
     let size : length (rest bs at) ≡ end - at = ap length split ∙ (length-append ds (rest bs end) ∙ omega (arith, h.long, ap length (rest-end bs end past))) in
     let digits : List ℕ = take count (rest bs at) in
     let other : length digits ≡ count → ⊥ = λ e. omega (arith, length-take count (rest bs at)) in
-    and_left (length digits == count) (every hex_digit digits) (ne_eqb (length digits) count other)
+    and_left (length digits == count) (list_all hex_digit digits) (ne_eqb (length digits) count other)
 
 -- where another byte is among them
 pub digits_broken : (bs : List ℕ) (at end count number : ℕ) → IsUtf8 bs → IsCharBoundary bs at → DigitsTo bs at end number → end - at < count → end < length bs
@@ -192,8 +193,8 @@ digits_broken bs at end count number u b h l inside other =
     let more : count ≡ length ds + suc (count - (end - at) - 1) = omega arith in
     let digits : List ℕ = take count (rest bs at) in
     let prefix : digits ≡ ds ++ c ∷ take (count - (end - at) - 1) cs = ap (take count) split ∙ (ap (λ k. take k (ds ++ c ∷ cs)) more ∙ take-append-add ds (c ∷ cs) (suc (count - (end - at) - 1))) in
-    and_right (length digits == count) (every hex_digit digits)
-    (ap (every hex_digit) prefix ∙ (every-append hex_digit ds (c ∷ take (count - (end - at) - 1) cs) ∙ and_right _ _ (and_left _ _ none)))
+    and_right (length digits == count) (list_all hex_digit digits)
+    (ap (list_all hex_digit) prefix ∙ (every-append hex_digit ds (c ∷ take (count - (end - at) - 1) cs) ∙ and_right _ _ (and_left _ _ none)))
 
 -- ---- escapes
 
@@ -279,8 +280,8 @@ module _ (bs : List ℕ) (at : ℕ) (u : IsUtf8 bs) (l : at < length bs) (e : ge
       -- without enough digits there is no escape
       pub no_number : digits_at bs (at + 1 + 1) k ≡ false → NoEscapeAt bs at
       unfolding digits
-      no_number f = refused (no_digits (is_in b (codes "xuU")) (length digits == digits_after b) (every hex_digit digits) (code_point (hex_value 0 digits))
-          (ap (λ j. (length digits == j) && every hex_digit digits) (sym long) ∙ f))
+      no_number f = refused (no_digits (is_in b (codes "xuU")) (length digits == digits_after b) (list_all hex_digit digits) (code_point (hex_value 0 digits))
+          (ap (λ j. (length digits == j) && list_all hex_digit digits) (sym long) ∙ f))
         where
           no_digits : (s t h p : Bool) → t && h ≡ false → s && t && h && p ≡ false
           no_digits true true true p f = absurd (false≢true (sym f))
@@ -301,7 +302,7 @@ module _ (bs : List ℕ) (at : ℕ) (u : IsUtf8 bs) (l : at < length bs) (e : ge
       pub number_there : (n : ℕ) → IsNumberAt bs (at + 1 + 1) k n → IsScalar n → EscapeAt bs at n (at + 1 + 1 + k)
       unfolding digits
       number_there n h o =
-          let d = and_parts (length digits == k) (every hex_digit digits) h.digits in
+          let d = and_parts (length digits == k) (list_all hex_digit digits) h.digits in
           let size : length digits == digits_after b ≡ true = ap (λ j. length digits == j) (sym long) ∙ d.0 in
           let item : quoted_char_fits (counted b digits) ≡ true =
           and_from _ _ (and_from _ _ (and_from _ _ y size) d.1) (ap code_point h.value ∙ code_point-scalar n o) in

@@ -9,7 +9,7 @@ use Rattle.yaml_chars.specs.Classes.{white, line_break}
 use Rattle.yaml_grammar.specs.Texts.{first}
 use Rattle.yaml_grammar.specs.Events.{double_style}
 use Rattle.yaml_grammar.specs.FlowScalars.{FlowContext, one_line, Line, QuotedChar, raw, Scalar, plain, single, double, style_of, quoted_char_text, quoted_char_fits, is_blank_char, quoted_char_value, double_kind, ends, values, flow_fold}
-use Rattle.yaml_recognizers.specs.Prefixes.{past, taken, dropped}
+use Rattle.yaml_recognizers.specs.Prefixes.{past, take_while, drop_while}
 use Rattle.yaml_recognizers.specs.Reading.{Read, on}
 use Rattle.yaml_recognizers.specs.Joins.{Join, at_break, after_blank, read_join}
 use Rattle.yaml_recognizers.specs.QuotedScalars.{read_held, read_quoted, read_item, double_closes, read_double}
@@ -68,7 +68,7 @@ pub no_join : (n : ℕ) (text : List ℕ) → at_break text ≡ false → escape
 unfolding read_join escaped_break
 no_join n text a e = elim (cases_Bool (first (λ x. x == 92) text)) [
   | inl b ↦ cond-true (first (λ x. x == 92) text) _ _ b ∙ no_break true n [] (past text) (unbroken (past text) (rw b at e))
-  | inr b ↦ cond-false (first (λ x. x == 92) text) _ _ b ∙ no_break false n (taken white text) (dropped white text) (unbroken (dropped white text) a)
+  | inr b ↦ cond-false (first (λ x. x == 92) text) _ _ b ∙ no_break false n (take_while white text) (drop_while white text) (unbroken (drop_while white text) a)
 ]
 
 after_same : (n : ℕ) (c : FlowContext) (text : List ℕ) → at_break text ≡ false → escaped_break text ≡ false

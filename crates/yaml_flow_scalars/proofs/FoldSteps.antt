@@ -14,15 +14,15 @@ use Rattle.yaml_chars.proofs.Places.{rest-ascii, rest-between, rest-end}
 use Rattle.yaml_chars.proofs.Runs.{IsBlind, blind-space, blind-white}
 use Rattle.yaml_grammar.specs.FlowScalars.{Empty}
 use Rattle.yaml_grammar.specs.Separation.{Break, indents}
-use Rattle.yaml_grammar.specs.Texts.{begins, every, first, marker, no_marker, spaces}
+use Rattle.yaml_grammar.specs.Texts.{begins, first, marker, no_marker, spaces}
 use Rattle.yaml_recognizers.specs.Comments.{read_break}
-use Rattle.yaml_recognizers.specs.Prefixes.{dropped, taken}
+use Rattle.yaml_recognizers.specs.Prefixes.{drop_while, take_while}
 use Rattle.yaml_recognizers.specs.Joins.{Join, at_break, after_blank, read_empty, with_lead}
 use Rattle.yaml_recognizers.specs.Reading.{Read}
 use Rattle.yaml_recognizers.specs.Repeated.{all_of}
-use Rattle.yaml_recognizers.proofs.Basics.Blanks.{dropped_first, no_white_at_break}
+use Rattle.yaml_recognizers.proofs.Basics.Blanks.{drop_while_first, no_white_at_break}
 use Rattle.yaml_recognizers.proofs.Basics.Breaks.{break_some}
-use Rattle.yaml_recognizers.proofs.Basics.Prefixes.{dropped_all, taken_all}
+use Rattle.yaml_recognizers.proofs.Basics.Prefixes.{drop_while_all, take_while_all}
 use Rattle.yaml_recognizers.proofs.Scalars.JoinSteps.{Passed, no_lead, passed_all, passed_more, passed_none, step_break, step_lead}
 use Rattle.yaml_recognizers.proofs.Scalars.Joins.{empty_shrinks}
 use Rattle.yaml_recognizers.proofs.Basics.Reading.{chosen, none_some, on_parts, some_parts}
@@ -33,14 +33,9 @@ use Rattle.yaml_scan.proofs.ByteRuns.{first-rest}
 
 -- ---- runs
 
--- two words for a test of all characters
-pub every-list_all : (p : ℕ → Bool) (xs : List ℕ) → every p xs ≡ list_all p xs
-every-list_all p [] = refl
-every-list_all p (x ∷ xs) = ap (λ b. p x && b) (every-list_all p xs)
-
 -- all characters of a run pass its test
-pub run_every : (p : ℕ → Bool) (bs : List ℕ) (i j : ℕ) → IsRun p bs i j → every p (between bs i j) ≡ true
-run_every p bs i j r = every-list_all p (between bs i j) ∙ list_all-from_AllPass p (between bs i j) r.passes
+pub run_every : (p : ℕ → Bool) (bs : List ℕ) (i j : ℕ) → IsRun p bs i j → list_all p (between bs i j) ≡ true
+run_every p bs i j r = list_all-from_AllPass p (between bs i j) r.passes
 
 -- after a run there is no such character
 pub run_first : (p : ℕ → Bool) (bs : List ℕ) (i j : ℕ) → IsBlind p → IsUtf8 bs → IsRun p bs i j → first p (rest bs j) ≡ false
@@ -51,7 +46,7 @@ run_first p bs i j blind u r = elim (cases_lt j (length bs)) [
 
 -- ---- the start of a line
 
-every_spaced : (k : ℕ) (blank : List ℕ) → every white blank ≡ true → every white (spaces k ++ blank) ≡ true
+every_spaced : (k : ℕ) (blank : List ℕ) → list_all white blank ≡ true → list_all white (spaces k ++ blank) ≡ true
 every_spaced zero blank h = h
 every_spaced (suc k) blank h = every_spaced k blank h
 
@@ -66,42 +61,42 @@ begins_short (suc n) zero [] l h = refl
 begins_short (suc n) zero (c ∷ cs) l h = and_left (c == 32) (begins (spaces n) cs) h
 begins_short (suc n) (suc k) text l h = begins_short n k text (omega arith) h
 
-taken_spaced : (k : ℕ) (text : List ℕ) → (taken white (spaces k ++ text) ≡ spaces k ++ taken white text) × (dropped white (spaces k ++ text) ≡ dropped white text)
-taken_spaced zero text = (refl, refl)
-taken_spaced (suc k) text = let more = taken_spaced k text in (ap (λ xs. 32 ∷ xs) more.0, more.1)
+take_while_spaced : (k : ℕ) (text : List ℕ) → (take_while white (spaces k ++ text) ≡ spaces k ++ take_while white text) × (drop_while white (spaces k ++ text) ≡ drop_while white text)
+take_while_spaced zero text = (refl, refl)
+take_while_spaced (suc k) text = let more = take_while_spaced k text in (ap (λ xs. 32 ∷ xs) more.0, more.1)
 
-taken_unspaced : (text : List ℕ) → first space text ≡ false → first space (taken white text) ≡ false
-taken_unspaced [] h = refl
-taken_unspaced (c ∷ cs) h = cond_both (white c) (c ∷ taken white cs) [] (λ (t : List ℕ). first space t ≡ false) (λ _. h) (λ _. refl)
+take_while_unspaced : (text : List ℕ) → first space text ≡ false → first space (take_while white text) ≡ false
+take_while_unspaced [] h = refl
+take_while_unspaced (c ∷ cs) h = cond_both (white c) (c ∷ take_while white cs) [] (λ (t : List ℕ). first space t ≡ false) (λ _. h) (λ _. refl)
 
-no_white_taken : (text : List ℕ) → first white text ≡ false → (taken white text ≡ []) × (dropped white text ≡ text)
+no_white_taken : (text : List ℕ) → first white text ≡ false → (take_while white text ≡ []) × (drop_while white text ≡ text)
 no_white_taken [] h = (refl, refl)
 no_white_taken (c ∷ cs) h = (rw h refl, rw h refl)
 
 -- white that begins with none is no space
-every_space_short : (k : ℕ) (text : List ℕ) → first white text ≡ true → first space text ≡ false → every space (spaces k ++ taken white text) ≡ false
+every_space_short : (k : ℕ) (text : List ℕ) → first white text ≡ true → first space text ≡ false → list_all space (spaces k ++ take_while white text) ≡ false
 every_space_short zero [] w h = absurd (false≢true w)
-every_space_short zero (c ∷ cs) w h = rw w (and_left (space c) (every space (taken white cs)) h)
+every_space_short zero (c ∷ cs) w h = rw w (and_left (space c) (list_all space (take_while white cs)) h)
 every_space_short (suc k) text w h = every_space_short k text w h
 
-every_space_nil : (k : ℕ) → every space (spaces k ++ []) ≡ true
+every_space_nil : (k : ℕ) → list_all space (spaces k ++ []) ≡ true
 every_space_nil zero = refl
 every_space_nil (suc k) = every_space_nil k
 
-empty_there : (n : ℕ) (text : List ℕ) (stop : Break) (after : List ℕ) → begins (spaces n) (taken white text) || every space (taken white text) ≡ true
-    → read_break (dropped white text) ≡ Some (stop, after) → read_empty n text ≡ Some (record { blank = taken white text; stop = stop }, after)
+empty_there : (n : ℕ) (text : List ℕ) (stop : Break) (after : List ℕ) → begins (spaces n) (take_while white text) || list_all space (take_while white text) ≡ true
+    → read_break (drop_while white text) ≡ Some (stop, after) → read_empty n text ≡ Some (record { blank = take_while white text; stop = stop }, after)
 unfolding read_empty
 empty_there n text stop after h e = rw (h, e) refl
 
-empty_unbroken : (n : ℕ) (text : List ℕ) → read_break (dropped white text) ≡ None → read_empty n text ≡ None
+empty_unbroken : (n : ℕ) (text : List ℕ) → read_break (drop_while white text) ≡ None → read_empty n text ≡ None
 unfolding read_empty
-empty_unbroken n text e = rw e (both (begins (spaces n) (taken white text) || every space (taken white text)))
+empty_unbroken n text e = rw e (both (begins (spaces n) (take_while white text) || list_all space (take_while white text)))
   where
     both : (b : Bool) → ◌≡◌ {A = Read Empty} (cond b None None) None
     both true = refl
     both false = refl
 
-empty_unindented : (n : ℕ) (text : List ℕ) → begins (spaces n) (taken white text) || every space (taken white text) ≡ false → read_empty n text ≡ None
+empty_unindented : (n : ℕ) (text : List ℕ) → begins (spaces n) (take_while white text) || list_all space (take_while white text) ≡ false → read_empty n text ≡ None
 unfolding read_empty
 empty_unindented n text h = cond-false _ _ _ h
 
@@ -136,19 +131,19 @@ margin_stop bs end u b h = elim (cases_lt end (length bs)) [
 
 -- what the start of a line is, over its characters
 record Prefixes (n : ℕ) (line after : List ℕ) (indented : Bool) : Type 0 where
-  indent : indents n (taken white line) ≡ indented
-  skips : indented ≡ true → dropped white line ≡ after
+  indent : indents n (take_while white line) ≡ indented
+  skips : indented ≡ true → drop_while white line ≡ after
   empty : (stop : Break) (later : List ℕ) → read_break after ≡ Some (stop, later) → (e : Empty) × (read_empty n line ≡ Some (e, later))
   no_empty : read_break after ≡ None → read_empty n line ≡ None
 
-indented_prefix : (n : ℕ) (blank after : List ℕ) → every white blank ≡ true → first white after ≡ false → Prefixes n (spaces n ++ (blank ++ after)) after true
+indented_prefix : (n : ℕ) (blank after : List ℕ) → list_all white blank ≡ true → first white after ≡ false → Prefixes n (spaces n ++ (blank ++ after)) after true
 indented_prefix n blank after w f =
     let line : List ℕ = spaces n ++ (blank ++ after) in
-    let t : taken white line ≡ spaces n ++ blank = (taken_spaced n (blank ++ after)).0 ∙ ap (λ xs. spaces n ++ xs) (taken_all white blank after w f) in
-    let d : dropped white line ≡ after = (taken_spaced n (blank ++ after)).1 ∙ dropped_all white blank after w f in
-    let deep : begins (spaces n) (taken white line) ≡ true = ap (begins (spaces n)) t ∙ begins_spaced n blank in
+    let t : take_while white line ≡ spaces n ++ blank = (take_while_spaced n (blank ++ after)).0 ∙ ap (λ xs. spaces n ++ xs) (take_while_all white blank after w f) in
+    let d : drop_while white line ≡ after = (take_while_spaced n (blank ++ after)).1 ∙ drop_while_all white blank after w f in
+    let deep : begins (spaces n) (take_while white line) ≡ true = ap (begins (spaces n)) t ∙ begins_spaced n blank in
     record {
-      indent = and_from _ _ (ap (every white) t ∙ every_spaced n blank w) deep;
+      indent = and_from _ _ (ap (list_all white) t ∙ every_spaced n blank w) deep;
       skips = λ _. d;
       empty = λ stop later e. (_, empty_there n line stop later (or_left _ _ deep) (ap read_break d ∙ e));
       no_empty = λ e. empty_unbroken n line (ap read_break d ∙ e);
@@ -157,17 +152,17 @@ indented_prefix n blank after w f =
 short_prefix : (n k : ℕ) (after : List ℕ) → k < n → first space after ≡ false → Prefixes n (spaces k ++ after) after false
 short_prefix n k after l f =
     let line : List ℕ = spaces k ++ after in
-    let t : taken white line ≡ spaces k ++ taken white after = (taken_spaced k after).0 in
-    let d : dropped white line ≡ dropped white after = (taken_spaced k after).1 in
-    let few : begins (spaces n) (taken white line) ≡ false = ap (begins (spaces n)) t ∙ begins_short n k (taken white after) l (taken_unspaced after f) in
+    let t : take_while white line ≡ spaces k ++ take_while white after = (take_while_spaced k after).0 in
+    let d : drop_while white line ≡ drop_while white after = (take_while_spaced k after).1 in
+    let few : begins (spaces n) (take_while white line) ≡ false = ap (begins (spaces n)) t ∙ begins_short n k (take_while white after) l (take_while_unspaced after f) in
     record {
       indent = and_right _ _ few;
       skips = λ h. absurd (false≢true h);
       empty = λ stop later e.
           (let none = no_white_taken after (break_unwhite after stop later e) in
-          (_, empty_there n line stop later (or_right _ _ (ap (every space) (t ∙ ap (λ xs. spaces k ++ xs) none.0) ∙ every_space_nil k)) (ap read_break (d ∙ none.1) ∙ e)));
+          (_, empty_there n line stop later (or_right _ _ (ap (list_all space) (t ∙ ap (λ xs. spaces k ++ xs) none.0) ∙ every_space_nil k)) (ap read_break (d ∙ none.1) ∙ e)));
       no_empty = λ e. elim (cases_Bool (first white after)) [
-        | inl w ↦ empty_unindented n line (or_from _ _ few (ap (every space) t ∙ every_space_short k after w f))
+        | inl w ↦ empty_unindented n line (or_from _ _ few (ap (list_all space) t ∙ every_space_short k after w f))
         | inr w ↦ empty_unbroken n line (ap read_break (d ∙ (no_white_taken after w).1) ∙ e)
       ];
     }
@@ -261,7 +256,7 @@ pub fold_there : (n : ℕ) (text : List ℕ) (at line empties prefix : ℕ) (ind
 fold_there n text at line empties prefix indented g f h i m =
     let above = g.above in
     let further = f.above in
-    let lead : List ℕ = taken white (rest text line) in
+    let lead : List ℕ = take_while white (rest text line) in
     record {
       above = omega arith;
       boundary = f.boundary;
@@ -293,16 +288,16 @@ join_solid escaped n blank text j after e =
     let p = on_parts (read_break text) (λ stop t. with_lead escaped n blank stop (all_of (read_empty n) t)) (j, after) e in
     let more : List Empty × List ℕ = all_of (read_empty n) p.1 in
     let none : read_empty n more.1 ≡ None = repeated_end (read_empty n) (empty_shrinks n) (length p.1) p.1 (omega arith) in
-    elim (chosen (indents n (taken white more.1) && no_marker true more.1) _ _ _ p.3) [
-      | inl q ↦ (let same : dropped white more.1 ≡ after = (some_parts _ _ _ _ q.1).1 in
-          let deep : begins (spaces n) (taken white more.1) ≡ true = (and_parts _ _ (and_parts _ _ q.0).0).1 in
-          let unbroken : read_break (dropped white more.1) ≡ None = never more.1 deep (read_break (dropped white more.1)) refl none in
-          subst (λ (t : List ℕ). at_break t ≡ false) same (no_white_at_break (dropped white more.1) (dropped_first white more.1)
-          ∙ (sym (break_some (dropped white more.1)) ∙ ap (λ (r : Read Break). is_some r) unbroken)))
+    elim (chosen (indents n (take_while white more.1) && no_marker true more.1) _ _ _ p.3) [
+      | inl q ↦ (let same : drop_while white more.1 ≡ after = (some_parts _ _ _ _ q.1).1 in
+          let deep : begins (spaces n) (take_while white more.1) ≡ true = (and_parts _ _ (and_parts _ _ q.0).0).1 in
+          let unbroken : read_break (drop_while white more.1) ≡ None = never more.1 deep (read_break (drop_while white more.1)) refl none in
+          subst (λ (t : List ℕ). at_break t ≡ false) same (no_white_at_break (drop_while white more.1) (drop_while_first white more.1)
+          ∙ (sym (break_some (drop_while white more.1)) ∙ ap (λ (r : Read Break). is_some r) unbroken)))
       | inr q ↦ absurd (none_some _ q.1)
     ]
   where
-    never : (t : List ℕ) → begins (spaces n) (taken white t) ≡ true → (r : Read Break) → read_break (dropped white t) ≡ r → read_empty n t ≡ None → read_break (dropped white t) ≡ None
+    never : (t : List ℕ) → begins (spaces n) (take_while white t) ≡ true → (r : Read Break) → read_break (drop_while white t) ≡ r → read_empty n t ≡ None → read_break (drop_while white t) ≡ None
     never t deep None e none = e
     never t deep (Some r) e none = absurd (none_some _ (sym none ∙ empty_there n t r.0 r.1 (or_left _ _ deep) e))
 

@@ -10,7 +10,8 @@ use Rattle.yaml_chars.specs.Classes.{line_break, ns}
 use Rattle.yaml_chars.specs.Places.{rest, between}
 use Rattle.yaml_chars.proofs.Places.{rest-between}
 use Rattle.yaml_grammar.specs.Events.{plain_style}
-use Rattle.yaml_grammar.specs.Texts.{every, no_marker}
+use Rattle.std.specs.List.{list_all}
+use Rattle.yaml_grammar.specs.Texts.{no_marker}
 use Rattle.yaml_grammar.specs.FlowScalars.{FlowContext, Line, plain, single, double, plain_first, char_value, line_value}
 use Rattle.yaml_events.specs.EventPlaces.{line_starts}
 use Rattle.yaml_recognizers.specs.FlowScalars.{Stands, scalar_ends}
@@ -64,12 +65,12 @@ module _ (n : ℕ) (c : FlowContext) (text : List ℕ) (at after end : ℕ) (u :
       ∙ (sym begins.splits ∙ rest-between text at end u (omega arith) b run.boundary))
 
   -- the first line has no break
-  pub first_line_unbroken : every no_break (between text at end) ≡ true
+  pub first_line_unbroken : list_all no_break (between text at end) ≡ true
   first_line_unbroken =
       let x : ℕ = begins.character in
       let black : ns x ≡ true = first_is_ns c x (rest text after) (and_parts (no_marker (line_starts text at) (x ∷ rest text after)) (plain_first c x (rest text after)) begins.begins).1 in
-      ap (every no_break) (sym first_line_text)
-      ∙ and_from _ _ (ns_unbroken x black) (ap (every no_break) (sym (run.reads x black)) ∙ run_unbroken c x (rest text after))
+      ap (list_all no_break) (sym first_line_text)
+      ∙ and_from _ _ (ns_unbroken x black) (ap (list_all no_break) (sym (run.reads x black)) ∙ run_unbroken c x (rest text after))
 
   -- its first line goes up to the place `end`, and the further ones up to another
   pub plain_found : (last : ℕ) (value : List ℕ) → end ≤ last → IsCharBoundary text last → (plain_lines_at n c (rest text end)).1 ≡ rest text last

@@ -12,11 +12,11 @@ use Rattle.yaml_chars.proofs.Places.{rest-between, between-nil}
 use Rattle.yaml_chars.proofs.Runs.{blind-white, blind-line_break}
 use Rattle.yaml_grammar.specs.Texts.{first, is_empty}
 use Rattle.yaml_grammar.specs.FlowScalars.{FlowContext, one_line, Line, line_value, char_value, values, folded_break, line_feeds}
-use Rattle.yaml_recognizers.specs.Prefixes.{taken, dropped}
+use Rattle.yaml_recognizers.specs.Prefixes.{take_while, drop_while}
 use Rattle.yaml_recognizers.specs.Joins.{Join, line_of, read_join, after_blank}
 use Rattle.yaml_recognizers.specs.PlainScalars.{with_run, read_plain_line, plain_lines_at}
 use Rattle.yaml_recognizers.proofs.Basics.Breaks.{unbroken}
-use Rattle.yaml_recognizers.proofs.Basics.Prefixes.{taken_all, dropped_all}
+use Rattle.yaml_recognizers.proofs.Basics.Prefixes.{take_while_all, drop_while_all}
 use Rattle.yaml_recognizers.proofs.Scalars.JoinSteps.{no_break}
 use Rattle.yaml_recognizers.proofs.Scalars.PlainSteps.{line_after_join, no_line_no_join, lines_of_key, no_more_lines, one_more_line}
 use Rattle.yaml_recognizers.proofs.Basics.Reading.{none_some}
@@ -36,9 +36,9 @@ join_at n text at blank_end u b run =
     let w = run_every white text at blank_end run in
     let f = run_first white text at blank_end blind-white u run in
     let split = rest-between text at blank_end u run.above b run.boundary in
-    ap (λ t. after_blank false n (taken white t) (dropped white t)) split
-    ∙ (ap (λ t. after_blank false n t (dropped white (between text at blank_end ++ rest text blank_end))) (taken_all white (between text at blank_end) (rest text blank_end) w f)
-    ∙ ap (after_blank false n (between text at blank_end)) (dropped_all white (between text at blank_end) (rest text blank_end) w f))
+    ap (λ t. after_blank false n (take_while white t) (drop_while white t)) split
+    ∙ (ap (λ t. after_blank false n t (drop_while white (between text at blank_end ++ rest text blank_end))) (take_while_all white (between text at blank_end) (rest text blank_end) w f)
+    ∙ ap (after_blank false n (between text at blank_end)) (drop_while_all white (between text at blank_end) (rest text blank_end) w f))
 
 -- a break is where a fold begins
 break_of_fold : (n : ℕ) (text : List ℕ) (at empties next : ℕ) → IsUtf8 text → IsCharBoundary text at → IsFold n text at empties next → line_break (slice_index text at) ≡ true

@@ -13,7 +13,7 @@ use Rattle.yaml_chars.specs.Classes.{is_in, ns, white}
 use Rattle.yaml_chars.specs.Places.{rest, between, IsRun}
 use Rattle.yaml_chars.proofs.Places.{rest-end, rest-between, between-append, between-nil, encodes-between}
 use Rattle.yaml_chars.proofs.Runs.{IsBlind, blind-white}
-use Rattle.yaml_grammar.specs.Texts.{every, first, is_empty}
+use Rattle.yaml_grammar.specs.Texts.{first, is_empty}
 use Rattle.yaml_grammar.specs.FlowScalars.{FlowContext, outer, inner, block_key, flow_key, safe, plain_next}
 use Rattle.yaml_recognizers.specs.PlainScalars.{read_run, last_of}
 use Rattle.yaml_recognizers.proofs.Scalars.PlainRuns.{no_run, no_run_at_end}
@@ -79,21 +79,21 @@ some_after [] ys h = h
 some_after (x ∷ xs) ys h = refl
 
 -- a run goes on after white
-over_white : (c : FlowContext) (before : ℕ) (blank tail : List ℕ) → every white blank ≡ true → is_empty (read_run c (last_of before blank) tail) ≡ false
+over_white : (c : FlowContext) (before : ℕ) (blank tail : List ℕ) → list_all white blank ≡ true → is_empty (read_run c (last_of before blank) tail) ≡ false
     → read_run c before (blank ++ tail) ≡ blank ++ read_run c (last_of before blank) tail
 unfolding last_of
 over_white c before [] tail w h = refl
 over_white c before (x ∷ xs) tail w h =
-    let p : (white x ≡ true) × (every white xs ≡ true) = and_parts _ _ w in
+    let p : (white x ≡ true) × (list_all white xs ≡ true) = and_parts _ _ w in
     let more : read_run c x (xs ++ tail) ≡ xs ++ read_run c (last_of x xs) tail = over_white c x xs tail p.1 h in
     step_white c before x (xs ++ tail) p.0 (ap is_empty more ∙ some_after xs (read_run c (last_of x xs) tail) h) ∙ ap (λ t. x ∷ t) more
 
 -- or ends before it
-none_over_white : (c : FlowContext) (before : ℕ) (blank tail : List ℕ) → every white blank ≡ true → read_run c (last_of before blank) tail ≡ [] → read_run c before (blank ++ tail) ≡ []
+none_over_white : (c : FlowContext) (before : ℕ) (blank tail : List ℕ) → list_all white blank ≡ true → read_run c (last_of before blank) tail ≡ [] → read_run c before (blank ++ tail) ≡ []
 unfolding last_of
 none_over_white c before [] tail w h = h
 none_over_white c before (x ∷ xs) tail w h =
-    let p : (white x ≡ true) × (every white xs ≡ true) = and_parts _ _ w in
+    let p : (white x ≡ true) × (list_all white xs ≡ true) = and_parts _ _ w in
     let more : read_run c x (xs ++ tail) ≡ [] = none_over_white c x xs tail p.1 h in
     stop_white c before x (xs ++ tail) p.0 (ap is_empty more)
 
@@ -101,7 +101,7 @@ white_is_no_ns : (x : ℕ) → white x ≡ true → ns x ≡ false
 white_is_no_ns x h = grind (arith, nat_tests)
 
 -- after whitespace, the character before a place is whitespace
-after_white : (before : ℕ) (blank : List ℕ) → every white blank ≡ true → ns (last_of before blank) ≡ (ns before && is_empty blank)
+after_white : (before : ℕ) (blank : List ℕ) → list_all white blank ≡ true → ns (last_of before blank) ≡ (ns before && is_empty blank)
 unfolding last_of
 after_white before [] w = right (ns before)
   where
@@ -109,7 +109,7 @@ after_white before [] w = right (ns before)
     right true = refl
     right false = refl
 after_white before (x ∷ xs) w =
-    let p : (white x ≡ true) × (every white xs ≡ true) = and_parts _ _ w in
+    let p : (white x ≡ true) × (list_all white xs ≡ true) = and_parts _ _ w in
     after_white x xs p.1 ∙ (ap (λ b. b && is_empty xs) (white_is_no_ns x p.0) ∙ none (ns before))
   where
     none : (b : Bool) → false ≡ (b && false)

@@ -20,7 +20,6 @@ use Rattle.yaml_scan.specs.Classes.{simple, word}
 use Rattle.yaml_scan.proofs.ByteRuns.{ascii_at_beginning}
 use Rattle.yaml_flow_scalars.specs.Folds.{IsWhiteStart}
 use Rattle.yaml_flow_scalars.specs.PlainPlaces.{goes_on_plain, letter_or_digit, BeginsPlain, NoPlainPiece}
-use Rattle.yaml_flow_scalars.proofs.FoldSteps.{every-list_all}
 use Rattle.yaml_flow_scalars.proofs.PlainPieces.{before_of, between_some, one_goes_on, simple_is_plain, GoesOn}
 
 -- ---- the first character
@@ -120,7 +119,7 @@ module _ (c : FlowContext) (text : List ℕ) (end stop words : ℕ) (u : IsUtf8 
   white_after = record {
     above = w.below;
     boundary = run.boundary;
-    passes = AllPass-from_list_all white (between text words stop) (sym (every-list_all white (between text words stop)) ∙ w.blank);
+    passes = AllPass-from_list_all white (between text words stop) w.blank;
     stop = λ l. (word_parts c (slice_index text stop) (run.stop l)).1;
   }
 

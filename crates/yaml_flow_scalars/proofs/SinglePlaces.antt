@@ -1,7 +1,7 @@
 -- Runs, quotes and folds between single quotes, from the places that the code finds to what is read there.
 use Rattle.std.proofs.Common.{◌≡◌, ◌<◌, ◌≤◌, ◌∙◌, sym, ap, subst, refl, inl, inr, arith, append_assoc, length-drop}
 use Rattle.std.specs.Prelude.{ℕ, zero, suc, ◌+◌, ◌-◌, Bool, true, false, is_some, List, [], ◌∷◌, ◌++◌, length, Some, None, slice_index, slice_range, drop}
-use Rattle.std.specs.List.{AllPass}
+use Rattle.std.specs.List.{AllPass, list_all}
 use Rattle.std.specs.Str.{IsAscii, IsUtf8, IsCharBoundary, chars}
 use Rattle.std.proofs.lemmas.Bool.{cases_Bool, cases_lt, and_from, and_parts, cond-false, eqb-true, false≢true, not_from_true, or_right}
 use Rattle.std.proofs.lemmas.Bool.Decides.{nat_tests}
@@ -14,7 +14,7 @@ use Rattle.yaml_chars.proofs.Runs.{IsBlind, blind-line_break}
 use Rattle.yaml_events.specs.EventPlaces.{line_starts}
 use Rattle.yaml_grammar.specs.Events.{single_style}
 use Rattle.yaml_grammar.specs.FlowScalars.{FlowContext, Line, Scalar, char_value, flow_fold, folded_break, line_feeds, one_line, single}
-use Rattle.yaml_grammar.specs.Texts.{every, first}
+use Rattle.yaml_grammar.specs.Texts.{first}
 use Rattle.yaml_recognizers.specs.Comments.{read_break}
 use Rattle.yaml_recognizers.specs.Joins.{Join, after_blank, with_lead, read_empty}
 use Rattle.yaml_recognizers.specs.FlowScalars.{read_scalar}
@@ -28,7 +28,7 @@ use Rattle.yaml_recognizers.proofs.Scalars.WholeScalars.{is_scalar, no_scalar}
 use Rattle.yaml_recognizers.specs.WholeScalars.{IsScalar}
 use Rattle.yaml_flow_scalars.specs.Folds.{IsWhiteStart, IsFold}
 use Rattle.yaml_flow_scalars.specs.Standing.{NoScalarAt, ScalarAt}
-use Rattle.yaml_flow_scalars.specs.SingleScalars.{content, unchanged, read_inside, IsInside, NoFoldIn}
+use Rattle.yaml_flow_scalars.specs.SingleScalars.{content, is_unchanged, read_inside, IsInside, NoFoldIn}
 use Rattle.yaml_scan.proofs.ByteRuns.{first-rest}
 use Rattle.yaml_flow_scalars.proofs.FoldSteps.{fold_solid, run_every, run_first}
 use Rattle.yaml_flow_scalars.proofs.SingleSteps.{inside_close, inside_control, inside_fold, inside_no_fold, inside_pair, with_prefix-append, with_prefix-nil}
@@ -94,10 +94,10 @@ pub begun : (n : ℕ) (c : FlowContext) (text : List ℕ) (start : ℕ) (value :
     → read_inside n c (rest text start) ≡ with_prefix (chars value) (read_inside n c (rest text start))
 begun n c text start value e = sym (ap (λ v. with_prefix v (read_inside n c (rest text start))) (ap chars e ∙ chars-nil) ∙ with_prefix-nil (read_inside n c (rest text start)))
 
-every_append : (p : ℕ → Bool) (xs ys : List ℕ) → every p (xs ++ ys) ≡ true → (every p xs ≡ true) × (every p ys ≡ true)
+every_append : (p : ℕ → Bool) (xs ys : List ℕ) → list_all p (xs ++ ys) ≡ true → (list_all p xs ≡ true) × (list_all p ys ≡ true)
 every_append p [] ys h = (refl, h)
 every_append p (x ∷ xs) ys h =
-    let q = and_parts (p x) (every p (xs ++ ys)) h in
+    let q = and_parts (p x) (list_all p (xs ++ ys)) h in
     let more = every_append p xs ys q.1 in
     (and_from _ _ q.0 more.0, more.1)
 
@@ -115,7 +115,7 @@ join_folds : (j : Join) (empties : ℕ) → j.escaped ≡ false → length j.emp
 join_folds j empties e k = cond-false j.escaped (line_feeds (length j.empties)) (folded_break (length j.empties)) e ∙ ap folded_break k
 
 module _ (n : ℕ) (c : FlowContext) (text : List ℕ) (start place end : ℕ) (value : List ℕ) (s : Running n c text start place end value) where
-  content_here : every content (between text place end) ≡ true
+  content_here : list_all content (between text place end) ≡ true
   content_here = run_every content text place end s.run
 
   here : rest text place ≡ between text place end ++ rest text end
@@ -166,8 +166,8 @@ module _ (n : ℕ) (c : FlowContext) (text : List ℕ) (start place end : ℕ) (
     split : between text place end ≡ between text place kept ++ between text kept end
     split = between-append text place kept end s.utf8 w.above w.below s.boundary w.boundary s.run.boundary
 
-    kept_content : every content (between text place kept) ≡ true
-    kept_content = (every_append content (between text place kept) (between text kept end) (ap (every content) (sym split) ∙ content_here)).0
+    kept_content : list_all content (between text place kept) ≡ true
+    kept_content = (every_append content (between text place kept) (between text kept end) (ap (list_all content) (sym split) ∙ content_here)).0
 
     whole : rest text place ≡ between text place kept ++ (between text kept end ++ rest text end)
     whole = here ∙ (ap (λ xs. xs ++ rest text end) split ∙ append_assoc (between text place kept) (between text kept end) (rest text end))
@@ -213,8 +213,8 @@ reads_at_once n c text start end piece u b r q none e =
 -- ---- what is borrowed
 
 -- a byte that is there is none of those that are unchanged
-pub changed_before : (text : List ℕ) (start place end : ℕ) → (k : ℕ) × (start ≤ k) × (k < place) × (unchanged (slice_index text k) ≡ false) → place ≤ end → end ≤ length text
-    → AllPass unchanged (slice_range text start end) → ⊥
+pub changed_before : (text : List ℕ) (start place end : ℕ) → (k : ℕ) × (start ≤ k) × (k < place) × (is_unchanged (slice_index text k) ≡ false) → place ≤ end → end ≤ length text
+    → AllPass is_unchanged (slice_range text start end) → ⊥
 changed_before text start place end there l within all =
     let k = there.0 in
     let above : start ≤ k = there.1 in
@@ -224,16 +224,16 @@ changed_before text start place end there l within all =
     let place_of : start + (k - start) ≡ k = omega arith in
     let same : slice_index (slice_range text start end) (k - start) ≡ slice_index text k =
     get_or-take (end - start) (drop start text) (k - start) 0 inside ∙ (get_or-drop start text (k - start) 0 ∙ ap (λ i. slice_index text i) place_of) in
-    false≢true (sym there.3 ∙ (ap unchanged (sym same) ∙ all (k - start) 0 size))
+    false≢true (sym there.3 ∙ (ap is_unchanged (sym same) ∙ all (k - start) 0 size))
 
 -- a quote, and a break, is one of them
 pub quote_changed : (text : List ℕ) (start end place : ℕ) → IsUtf8 text → IsCharBoundary text end → first quote (rest text end) ≡ true → start ≤ end → end < place
-    → (k : ℕ) × (start ≤ k) × (k < place) × (unchanged (slice_index text k) ≡ false)
-quote_changed text start end place u b q l m = (end, l, m, ap unchanged (quote_at text end u b q).byte)
+    → (k : ℕ) × (start ≤ k) × (k < place) × (is_unchanged (slice_index text k) ≡ false)
+quote_changed text start end place u b q l m = (end, l, m, ap is_unchanged (quote_at text end u b q).byte)
 
 -- a value with a fold is not the text
 pub fold_changed : (n : ℕ) (text : List ℕ) (start end empties next : ℕ) → IsUtf8 text → IsCharBoundary text end → IsFold n text end empties next → start ≤ end
-    → (k : ℕ) × (start ≤ k) × (k < next) × (unchanged (slice_index text k) ≡ false)
+    → (k : ℕ) × (start ≤ k) × (k < next) × (is_unchanged (slice_index text k) ≡ false)
 fold_changed n text start end empties next u b f l =
     let there = first_at line_break text end blind-line_break u b (fold_breaks n text end empties next f) in
     (end, l, f.above, not_from_true _ (or_right _ _ there.1))

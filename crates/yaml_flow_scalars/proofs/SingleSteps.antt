@@ -6,15 +6,15 @@ use Rattle.std.proofs.lemmas.Bool.{and_from, and_left, and_parts, cases_Bool, co
 use Rattle.std.proofs.lemmas.Bool.Decides.{nat_tests}
 use Rattle.yaml_chars.specs.Classes.{line_break, nb_json, white}
 use Rattle.yaml_grammar.specs.FlowScalars.{FlowContext, Line, char_value, ends, one_line, single_kind, single_text, values}
-use Rattle.yaml_grammar.specs.Texts.{every, first}
-use Rattle.yaml_recognizers.specs.Prefixes.{dropped, taken}
+use Rattle.yaml_grammar.specs.Texts.{first}
+use Rattle.yaml_recognizers.specs.Prefixes.{drop_while, take_while}
 use Rattle.yaml_recognizers.specs.Joins.{Join, at_break, after_blank, read_join}
 use Rattle.yaml_recognizers.specs.QuotedScalars.{quote, read_held, read_quoted, read_single_one, single_closes}
 use Rattle.yaml_recognizers.specs.QuotedSteps.{join_value, quoted_value, read_after_join, with_prefix, with_join}
 use Rattle.yaml_recognizers.specs.Reading.{Read}
 use Rattle.yaml_recognizers.proofs.Basics.Blanks.{white_at_break}
 use Rattle.yaml_recognizers.proofs.Basics.Breaks.{unbroken}
-use Rattle.yaml_recognizers.proofs.Basics.Prefixes.{dropped_all, taken_all}
+use Rattle.yaml_recognizers.proofs.Basics.Prefixes.{drop_while_all, take_while_all}
 use Rattle.yaml_recognizers.proofs.Scalars.JoinSteps.{no_break}
 use Rattle.yaml_recognizers.proofs.Scalars.QuotedSteps.{after_close, after_fault, after_thing, step_close, step_fault, step_join, step_key, step_thing, step_things, value_of_join, value_of_thing, value_of_things}
 use Rattle.yaml_recognizers.proofs.Scalars.SingleScalars.{single_readable}
@@ -23,17 +23,17 @@ use Rattle.yaml_flow_scalars.specs.SingleScalars.{content, read_inside}
 -- ---- characters
 
 -- characters that mean themselves
-content_spelled : (xs : List ℕ) → every content xs ≡ true → flat_map single_text xs ≡ xs
+content_spelled : (xs : List ℕ) → list_all content xs ≡ true → flat_map single_text xs ≡ xs
 content_spelled [] h = refl
 content_spelled (x ∷ xs) h =
-    let p = and_parts (content x) (every content xs) h in
+    let p = and_parts (content x) (list_all content xs) h in
     let q : quote x ≡ false = not-true _ (and_parts (nb_json x) (not (quote x)) p.0).1 in
     ap (λ (t : List ℕ). t ++ flat_map single_text xs) (cond-false (quote x) (codes "''") (x ∷ []) q) ∙ ap (λ ys. x ∷ ys) (content_spelled xs p.1)
 
-content_held : (xs : List ℕ) → every content xs ≡ true → list_all nb_json xs ≡ true
+content_held : (xs : List ℕ) → list_all content xs ≡ true → list_all nb_json xs ≡ true
 content_held [] h = refl
 content_held (x ∷ xs) h =
-    let p = and_parts (content x) (every content xs) h in
+    let p = and_parts (content x) (list_all content xs) h in
     and_from _ _ (and_parts (nb_json x) (not (quote x)) p.0).0 (content_held xs p.1)
 
 values_same : (xs : List ℕ) → values char_value xs ≡ xs
@@ -70,7 +70,7 @@ module _ (n : ℕ) (c : FlowContext) where
   -- ---- a run of characters that mean themselves
 
   -- a run of characters is read
-  pub inside_run : (xs t : List ℕ) → every content xs ≡ true → (ends white xs ≡ true → at_break t ≡ false) → read_inside n c (xs ++ t) ≡ with_prefix xs (read_inside n c t)
+  pub inside_run : (xs t : List ℕ) → list_all content xs ≡ true → (ends white xs ≡ true → at_break t ≡ false) → read_inside n c (xs ++ t) ≡ with_prefix xs (read_inside n c t)
   inside_run xs t h f =
       let r : Read (List ℕ × List (Line ℕ)) = read_quoted read_single_one single_closes false n c t in
       ap (λ (text : List ℕ). read_inside n c (text ++ t)) (sym (content_spelled xs h))
@@ -80,7 +80,7 @@ module _ (n : ℕ) (c : FlowContext) where
   -- ---- quotes
 
   -- two quotes are one
-  pub inside_pair : (xs t : List ℕ) → every content xs ≡ true → read_inside n c (xs ++ (39 ∷ 39 ∷ t)) ≡ with_prefix (xs ++ 39 ∷ []) (read_inside n c t)
+  pub inside_pair : (xs t : List ℕ) → list_all content xs ≡ true → read_inside n c (xs ++ (39 ∷ 39 ∷ t)) ≡ with_prefix (xs ++ 39 ∷ []) (read_inside n c t)
   unfolding read_held read_single_one
   inside_pair xs t h =
       let r : Read (List ℕ × List (Line ℕ)) = read_quoted read_single_one single_closes false n c t in
@@ -89,7 +89,7 @@ module _ (n : ℕ) (c : FlowContext) where
       inside_run xs (39 ∷ 39 ∷ t) h (λ _. refl) ∙ (ap (with_prefix xs) pair ∙ with_prefix-append xs (39 ∷ []) (read_inside n c t))
 
   -- one quote ends the value
-  pub inside_close : (xs t : List ℕ) → every content xs ≡ true → first quote t ≡ false → read_inside n c (xs ++ (39 ∷ t)) ≡ Some (xs, t)
+  pub inside_close : (xs t : List ℕ) → list_all content xs ≡ true → first quote t ≡ false → read_inside n c (xs ++ (39 ∷ t)) ≡ Some (xs, t)
   unfolding read_held read_single_one single_closes read_join after_blank
   inside_close xs t h q =
       let held : read_held read_single_one (39 ∷ t) ≡ None = cond-false (first quote t) (Some (39, _)) None q in
@@ -102,7 +102,7 @@ module _ (n : ℕ) (c : FlowContext) where
 
   no_join : (text : List ℕ) → at_break text ≡ false → read_join false n text ≡ None
   unfolding read_join
-  no_join text h = no_break false n (taken white text) (dropped white text) (unbroken (dropped white text) h)
+  no_join text h = no_break false n (take_while white text) (drop_while white text) (unbroken (drop_while white text) h)
 
   -- after a fold all goes on as in a line
   after_join : (text : List ℕ) → at_break text ≡ false → read_after_join read_single_one single_closes false n c text ≡ read_quoted read_single_one single_closes false n c text
@@ -123,7 +123,7 @@ module _ (n : ℕ) (c : FlowContext) where
   unfolding read_held
   none_held text h = rw h refl
 
-  module _ (blank text : List ℕ) (w : every white blank ≡ true) (b : first line_break text ≡ true) where
+  module _ (blank text : List ℕ) (w : list_all white blank ≡ true) (b : first line_break text ≡ true) where
     no_white : (t : List ℕ) → first line_break t ≡ true → first white t ≡ false
     no_white [] h = refl
     no_white (x ∷ xs) h = grind (arith, nat_tests)
@@ -137,10 +137,10 @@ module _ (n : ℕ) (c : FlowContext) where
 
     join_there : read_join false n (blank ++ text) ≡ after_blank false n blank text
     unfolding read_join
-    join_there = rw (taken_all white blank text w (no_white text b), dropped_all white blank text w (no_white text b)) refl
+    join_there = rw (take_while_all white blank text w (no_white text b), drop_while_all white blank text w (no_white text b)) refl
 
     -- a fold is read
-    pub inside_fold : (xs : List ℕ) (j : Join) (t : List ℕ) → every content xs ≡ true → ends white xs ≡ false → one_line c ≡ false
+    pub inside_fold : (xs : List ℕ) (j : Join) (t : List ℕ) → list_all content xs ≡ true → ends white xs ≡ false → one_line c ≡ false
         → after_blank false n blank text ≡ Some (j, t) → at_break t ≡ false
         → read_inside n c (xs ++ (blank ++ text)) ≡ with_prefix (xs ++ join_value j) (read_inside n c t)
     inside_fold xs j t h e k f s =
@@ -152,7 +152,7 @@ module _ (n : ℕ) (c : FlowContext) where
         ∙ (ap (with_prefix xs) folded ∙ with_prefix-append xs (join_value j) (read_inside n c t))
 
     -- without a fold there is no value
-    pub inside_no_fold : (xs : List ℕ) → every content xs ≡ true → ends white xs ≡ false → (one_line c ≡ true) ⊎ (after_blank false n blank text ≡ None)
+    pub inside_no_fold : (xs : List ℕ) → list_all content xs ≡ true → ends white xs ≡ false → (one_line c ≡ true) ⊎ (after_blank false n blank text ≡ None)
         → read_inside n c (xs ++ (blank ++ text)) ≡ None
     inside_no_fold xs h e w =
         let held : read_held read_single_one (blank ++ text) ≡ None = none_held (blank ++ text) broken in
@@ -175,7 +175,7 @@ module _ (n : ℕ) (c : FlowContext) where
       step_fault single_kind nb_json false read_single_one single_readable single_closes n c (x ∷ xs) (rw (apart, no_quote, h) refl) (no_join (x ∷ xs) apart) (and_left _ _ no_quote)
 
   -- nor at a character that isn't allowed
-  pub inside_control : (xs text : List ℕ) → every content xs ≡ true → first content text ≡ false → first quote text ≡ false → first line_break text ≡ false
+  pub inside_control : (xs text : List ℕ) → list_all content xs ≡ true → first content text ≡ false → first quote text ≡ false → first line_break text ≡ false
       → read_inside n c (xs ++ text) ≡ None
   inside_control xs text h f q b =
       inside_run xs text h (λ _. apart text f q b) ∙ ap (λ (r : Read (List ℕ × List (Line ℕ))). with_prefix xs (quoted_value char_value r)) (refused text (control text f q) b)

@@ -10,12 +10,12 @@ use Rattle.yaml_chars.specs.Classes.{ns, white}
 use Rattle.yaml_chars.specs.Places.{rest, between, IsRun}
 use Rattle.yaml_chars.proofs.Places.{between-ascii, between-push_ascii}
 use Rattle.yaml_grammar.specs.FlowScalars.{FlowContext, plain_next}
-use Rattle.yaml_grammar.specs.Texts.{every, is_empty}
+use Rattle.std.specs.List.{list_all}
+use Rattle.yaml_grammar.specs.Texts.{is_empty}
 use Rattle.yaml_recognizers.specs.PlainScalars.{read_run}
 use Rattle.yaml_recognizers.proofs.Scalars.PlainRuns.{plain_unbroken}
 use Rattle.yaml_flow_scalars.specs.DoubleScan.{raw_char}
 use Rattle.yaml_flow_scalars.specs.SingleScalars.{content}
-use Rattle.yaml_flow_scalars.proofs.FoldSteps.{every-list_all}
 
 -- ---- plain
 
@@ -27,12 +27,12 @@ pub ns_unbroken : (x : ℕ) → ns x ≡ true → no_break x ≡ true
 ns_unbroken x h = grind (arith, nat_tests)
 
 -- a run has no break
-pub run_unbroken : (c : FlowContext) (before : ℕ) (text : List ℕ) → every no_break (read_run c before text) ≡ true
+pub run_unbroken : (c : FlowContext) (before : ℕ) (text : List ℕ) → list_all no_break (read_run c before text) ≡ true
 unfolding read_run
 run_unbroken c before [] = refl
 run_unbroken c before (x ∷ xs) =
     let more : List ℕ = read_run c x xs in
-    cond_both (plain_next c before x xs || (white x && not (is_empty more))) (x ∷ more) [] (λ (t : List ℕ). every no_break t ≡ true)
+    cond_both (plain_next c before x xs || (white x && not (is_empty more))) (x ∷ more) [] (λ (t : List ℕ). list_all no_break t ≡ true)
     (λ h. and_from _ _ (by_cases (plain_next c before x xs) (white x) (not (is_empty more)) h (λ p. not_from_false _ (plain_unbroken c before x xs p)) (white_unbroken x)) (run_unbroken c x xs)) (λ _. refl)
   where
     by_cases : (p w b : Bool) → p || (w && b) ≡ true → (p ≡ true → no_break x ≡ true) → (w ≡ true → no_break x ≡ true) → no_break x ≡ true
@@ -42,29 +42,29 @@ run_unbroken c before (x ∷ xs) =
 
 -- ---- quoted
 
-every_weaker : (p q : ℕ → Bool) (xs : List ℕ) → ((x : ℕ) → p x ≡ true → q x ≡ true) → every p xs ≡ true → every q xs ≡ true
+every_weaker : (p q : ℕ → Bool) (xs : List ℕ) → ((x : ℕ) → p x ≡ true → q x ≡ true) → list_all p xs ≡ true → list_all q xs ≡ true
 every_weaker p q [] f h = refl
 every_weaker p q (x ∷ xs) f h = let r = and_parts _ _ h in and_from _ _ (f x r.0) (every_weaker p q xs f r.1)
 
-every_pushed : (p : ℕ → Bool) (xs : List ℕ) (x : ℕ) → every p xs ≡ true → p x ≡ true → every p (xs ++ x ∷ []) ≡ true
+every_pushed : (p : ℕ → Bool) (xs : List ℕ) (x : ℕ) → list_all p xs ≡ true → p x ≡ true → list_all p (xs ++ x ∷ []) ≡ true
 every_pushed p [] x h k = and_from _ _ k refl
 every_pushed p (y ∷ ys) x h k = let r = and_parts _ _ h in and_from _ _ r.0 (every_pushed p ys x r.1 k)
 
 -- a run up to a quote, and the quote
 pub run_closed_unbroken : (test : ℕ → Bool) (text : List ℕ) (start end quote : ℕ) → IsUtf8 text → IsCharBoundary text start → ((x : ℕ) → test x ≡ true → no_break x ≡ true)
-    → IsRun test text start end → end < length text → slice_index text end ≡ quote → quote < 128 → no_break quote ≡ true → every no_break (between text start (end + 1)) ≡ true
+    → IsRun test text start end → end < length text → slice_index text end ≡ quote → quote < 128 → no_break quote ≡ true → list_all no_break (between text start (end + 1)) ≡ true
 run_closed_unbroken test text start end quote u b f run l e low q =
-    let inside : every no_break (between text start end) ≡ true =
-    every_weaker test no_break (between text start end) f (every-list_all test (between text start end) ∙ list_all-from_AllPass test (between text start end) run.passes) in
+    let inside : list_all no_break (between text start end) ≡ true =
+    every_weaker test no_break (between text start end) f (list_all-from_AllPass test (between text start end) run.passes) in
     let above = run.above in
-    ap (every no_break) (between-push_ascii text start end u above b l (omega arith))
+    ap (list_all no_break) (between-push_ascii text start end u above b l (omega arith))
     ∙ every_pushed no_break (between text start end) (slice_index text end) inside (ap no_break e ∙ q)
 
 -- a quote before it
 pub opened_unbroken : (text : List ℕ) (at end quote : ℕ) → IsUtf8 text → at < end → IsCharBoundary text end → slice_index text at ≡ quote → quote < 128 → no_break quote ≡ true
-    → every no_break (between text (at + 1) end) ≡ true → every no_break (between text at end) ≡ true
+    → list_all no_break (between text (at + 1) end) ≡ true → list_all no_break (between text at end) ≡ true
 opened_unbroken text at end quote u l b e low q h =
-    ap (every no_break) (between-ascii text at end u l b (omega arith)) ∙ and_from _ _ (ap no_break e ∙ q) h
+    ap (list_all no_break) (between-ascii text at end u l b (omega arith)) ∙ and_from _ _ (ap no_break e ∙ q) h
 
 -- what means itself in single quotes is no break
 pub content_unbroken : (x : ℕ) → content x ≡ true → no_break x ≡ true

@@ -10,7 +10,6 @@ use Rattle.yaml_chars.proofs.Places.{between-nil}
 use Rattle.yaml_chars.proofs.Runs.{blind-white, test-between, last_char, test-last_char}
 use Rattle.yaml_grammar.specs.FlowScalars.{ends}
 use Rattle.yaml_flow_scalars.specs.Folds.{IsWhiteStart}
-use Rattle.yaml_flow_scalars.proofs.FoldSteps.{every-list_all}
 
 ends-last : (p : ℕ → Bool) (prefix : List ℕ) (c : ℕ) → ends p (prefix ++ c ∷ []) ≡ p c
 ends-last p [] c = refl
@@ -37,7 +36,7 @@ white_start_is bs from start end u b d above below h stop =
       above = above;
       below = below;
       boundary = here;
-      blank = every-list_all white (between bs start end) ∙ test-between white bs start end blind-white u below here d h;
+      blank = test-between white bs start end blind-white u below here d h;
       black = elim (cases_lt from start) [
         | inl more ↦ (let last = last_char bs from start u more b here in
             ap (ends white) last.2.splits ∙ (ends-last white last.0 last.1 ∙ (test-last_char white bs from start last.0 last.1 blind-white u last.2 ∙ stop more)))

@@ -4,6 +4,7 @@ use Rattle.std.specs.List.{AllPass}
 use Rattle.std.specs.Cow.{cow_str_bytes, IsBorrowedStr}
 use Rattle.std.specs.declared.borrow.CowStr.{CowStr}
 use Rattle.yaml_chars.specs.Classes.{line_break}
+use Rattle.yaml_recognizers.specs.Signs.{backslash}
 
 -- what is between the quotes of a scalar from one place to another
 abbrev pub between_quotes : List ℕ → ℕ → ℕ → List ℕ
@@ -11,7 +12,7 @@ between_quotes text at end = slice_range text (at + 1) (end - 1)
 
 -- a byte that is neither a break nor a backslash
 abbrev pub is_verbatim : ℕ → Bool
-is_verbatim b = not (line_break b || (b == 92))
+is_verbatim b = not (line_break b || (b == backslash))
 
 -- Where no break and no backslash is between the quotes, the value is what is there: borrowed, with no memory taken.
 abbrev pub BorrowsVerbatim : {Z : Type 0} → List ℕ → ℕ → CowStr Z → ℕ → Type 0

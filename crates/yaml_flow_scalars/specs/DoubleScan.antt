@@ -3,7 +3,7 @@ use Rattle.std.specs.Prelude.{◌≡◌, ℕ, ◌+◌, ◌<◌, Bool, true, fals
 use Rattle.std.specs.Char.{IsScalar}
 use Rattle.std.specs.Str.{IsCharBoundary, chars}
 use Rattle.yaml_chars.specs.Places.{rest}
-use Rattle.yaml_grammar.specs.Texts.{every}
+use Rattle.std.specs.List.{list_all}
 use Rattle.yaml_grammar.specs.FlowScalars.{FlowContext, QuotedChar, raw, escape, hex_digit, digit_of, hex_value, quoted_char_fits, quoted_char_value, escaped_char, line_feeds, folded_break}
 use Rattle.yaml_recognizers.specs.Reading.{Read}
 use Rattle.yaml_recognizers.specs.Joins.{after_blank, read_join}
@@ -60,7 +60,7 @@ pub record IsDigit (digit number : ℕ) : Type 0 where
 
 -- so many hexadecimal digits are at the place
 abbrev pub digits_at : List ℕ → ℕ → ℕ → Bool
-digits_at text at count = let digits = take count (rest text at) in (length digits == count) && every hex_digit digits
+digits_at text at count = let digits = take count (rest text at) in (length digits == count) && list_all hex_digit digits
 
 -- and they are this number
 pub record IsNumberAt (text : List ℕ) (at count number : ℕ) : Type 0 where

@@ -6,9 +6,10 @@ use Rattle.yaml_chars.specs.Places.{rest, between}
 use Rattle.yaml_chars.specs.Classes.{space, white}
 use Rattle.yaml_grammar.specs.FlowScalars.{Empty, ends}
 use Rattle.yaml_grammar.specs.Separation.{Break, indents}
-use Rattle.yaml_grammar.specs.Texts.{every, first, spaces}
+use Rattle.std.specs.List.{list_all}
+use Rattle.yaml_grammar.specs.Texts.{first, spaces}
 use Rattle.yaml_recognizers.specs.Comments.{read_break}
-use Rattle.yaml_recognizers.specs.Prefixes.{taken, dropped}
+use Rattle.yaml_recognizers.specs.Prefixes.{take_while, drop_while}
 use Rattle.yaml_recognizers.specs.Joins.{Join, after_blank, read_empty}
 
 -- The fold begins with the break at the place `at`, has so many empty lines, and what the next line holds is at the
@@ -38,8 +39,8 @@ pub record IsMargin (n : ℕ) (text : List ℕ) (at end : ℕ) : Type 0 where
 pub record IsPrefix (n : ℕ) (text : List ℕ) (at end : ℕ) (indented : Bool) : Type 0 where
   pub above : at ≤ end
   pub boundary : IsCharBoundary text end
-  pub indent : indents n (taken white (rest text at)) ≡ indented
-  pub skips : indented ≡ true → dropped white (rest text at) ≡ rest text end
+  pub indent : indents n (take_while white (rest text at)) ≡ indented
+  pub skips : indented ≡ true → drop_while white (rest text at) ≡ rest text end
   pub empty : (stop : Break) (after : List ℕ) → read_break (rest text end) ≡ Some (stop, after) → (line : Empty) × (read_empty n (rest text at) ≡ Some (line, after))
   pub no_empty : read_break (rest text end) ≡ None → read_empty n (rest text at) ≡ None
 
@@ -48,5 +49,5 @@ pub record IsWhiteStart (text : List ℕ) (from start end : ℕ) : Type 0 where
   pub above : from ≤ start
   pub below : start ≤ end
   pub boundary : IsCharBoundary text start
-  pub blank : every white (between text start end) ≡ true
+  pub blank : list_all white (between text start end) ≡ true
   pub black : ends white (between text from start) ≡ false

@@ -6,7 +6,7 @@ use Rattle.std.specs.declared.borrow.CowStr.{CowStr}
 use Rattle.yaml_chars.specs.Breaks.{no_break}
 use Rattle.yaml_chars.specs.Places.{rest, between}
 use Rattle.yaml_grammar.specs.Events.{Style}
-use Rattle.yaml_grammar.specs.Texts.{every}
+use Rattle.std.specs.List.{list_all}
 use Rattle.yaml_grammar.specs.FlowScalars.{FlowContext, Scalar, style_of}
 use Rattle.yaml_events.specs.EventPlaces.{line_starts}
 use Rattle.yaml_recognizers.specs.WholeScalars.{StandsWhole, IsScalar}
@@ -24,4 +24,4 @@ NoScalarAt style n c text at =
 
 -- a value that is borrowed has no break between its places
 abbrev pub IsUnbroken : {A : Type 0} → List ℕ → ℕ → CowStr A → ℕ → Type 0
-IsUnbroken text at value end = IsBorrowedStr value → every no_break (between text at end) ≡ true
+IsUnbroken text at value end = IsBorrowedStr value → list_all no_break (between text at end) ≡ true

@@ -33,10 +33,9 @@ struct Escape {
 ///
 /// # Errors
 ///
-/// [`ScanFault::At`] exactly where no such scalar is at `at`: without an opening or a closing quote, at an
-/// unknown escape, at a control character, at a break in a key, and at a line that is indented too little
-/// or is a document marker. [`ScanFault::OutOfMemory`] if there is no memory for a value that is not
-/// borrowed.
+/// [`ScanFault::At`] exactly where no such scalar is at `at`. The reason is a missing quote at its start or end, an
+/// unknown escape, a control character, a break in a key, or a line that is indented too little or is a document
+/// marker. [`ScanFault::OutOfMemory`] if there is no memory for a value that is not borrowed.
 #[inline(never)]
 pub fn double<'a>(
     alloc: Global,

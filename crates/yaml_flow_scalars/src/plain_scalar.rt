@@ -201,7 +201,7 @@ fn special_end(text: &str, at: usize, before: Before, context: FlowContext) -> O
         return None;
     };
     let end = at + len;
-    if is_plain(character, before, text, end, context) {
+    if is_plain_next(character, before, text, end, context) {
         Some(end)
     } else {
         None
@@ -209,7 +209,13 @@ fn special_end(text: &str, at: usize, before: Before, context: FlowContext) -> O
 }
 
 /// Returns whether a character that ends at `after` is plain (`ns-plain-char`).
-fn is_plain(character: char, before: Before, text: &str, after: usize, context: FlowContext) -> bool
+fn is_plain_next(
+    character: char,
+    before: Before,
+    text: &str,
+    after: usize,
+    context: FlowContext,
+) -> bool
     requires { IsCharBoundary text.now after }
     ensures { (previous : ℕ) → ns previous ≡ is_content before
         → result ≡ plain_next (context_of context) previous character (rest text.now after) }

@@ -16,7 +16,7 @@ use Rattle.yaml_grammar.specs.FlowNodes.{Flow, scalar, seq, Entries, last, next,
 use Rattle.yaml_grammar.specs.BlockScalars.{Chomping, clip, keep, Header, Gap, TextLine, BlockScalar}
 use Rattle.yaml_grammar.specs.BlockNodes.{Node, block, flow, items, pairs, item, item_and, Pairs, pair, pair_and, Pair, keyed, keyed_alone, compact_pairs, node, omitted}
 use Rattle.yaml_grammar.specs.Events.{Event, document_start, document_end, seq_start, seq_end, map_start, map_end, scalar_event, plain_style, double_style, literal_style, folded_style, omitted_style}
-use Rattle.yaml_grammar.specs.Streams.{content, nothing, bare, explicit, directed, suffixes, line, Stream, spelled, fits, meant}
+use Rattle.yaml_grammar.specs.Streams.{content, nothing, bare, explicit, directed, suffixes, line, Stream, stream_text, fits, stream_events}
 use Rattle.yaml_grammar.specs.Trees.{Tree, text, sequence, mapping, Elements, no_element, element, no_member, member, IsTreeOf}
 use Rattle.yaml_grammar.specs.Style.{style_text}
 
@@ -30,21 +30,21 @@ record Example : Type 0 where
   styled : List ℕ
 
 record Holds (e : Example) : Type 0 where
-  spells : spelled e.presentation ≡ e.source
+  spells : stream_text e.presentation ≡ e.source
   fits : fits e.presentation ≡ true
-  means : meant e.presentation ≡ e.events
+  means : stream_events e.presentation ≡ e.events
   tree : IsTreeOf e.events e.tree
   style : style_text e.tree ≡ e.styled
 
 -- a presentation of the text, which fits, and what it means
 record Read (p : Stream) (source : List ℕ) (events : List Event) : Type 0 where
-  spells : spelled p ≡ source
+  spells : stream_text p ≡ source
   fits : fits p ≡ true
-  means : meant p ≡ events
+  means : stream_events p ≡ events
 
 -- a presentation of the text that doesn't fit
 record Refused (p : Stream) (source : List ℕ) : Type 0 where
-  spells : spelled p ≡ source
+  spells : stream_text p ≡ source
   fits : fits p ≡ false
 
 -- ---- short forms

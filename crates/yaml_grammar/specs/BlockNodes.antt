@@ -4,7 +4,8 @@
 -- takes m, which is its own n.
 use Rattle.std.specs.Prelude.{ℕ, suc, ◌+◌, Bool, true, false, not, ◌&&◌, nat_le, ◌==◌, List, ◌++◌, codes, if◌then◌else◌}
 use Rattle.yaml_chars.specs.Classes.{white, ns}
-use Rattle.yaml_grammar.specs.Texts.{every, first, spaces, byte_len, starts_line}
+use Rattle.std.specs.List.{list_all}
+use Rattle.yaml_grammar.specs.Texts.{first, spaces, byte_len, starts_line}
 use Rattle.yaml_grammar.specs.Separation.{LineEnd, comments_text, comments_fit, Sep, sep_text, sep_fits}
 use Rattle.yaml_grammar.specs.FlowScalars.{outer, block_key}
 use Rattle.yaml_grammar.specs.FlowNodes.{Flow, flow_text, flow_fits, short_key, flow_events}
@@ -125,10 +126,10 @@ abbrev mutual
   pair_fits (asked_alone key) k bol after =
       not (first ns (indented_text key k ++ after)) && not (is_omitted key) && indented_fits key k true after
   pair_fits (keyed key gap value) k bol after =
-      flow_fits key 0 block_key bol (gap ++ (codes ":" ++ (node_text value ++ after))) && every white gap && short_key key gap
+      flow_fits key 0 block_key bol (gap ++ (codes ":" ++ (node_text value ++ after))) && list_all white gap && short_key key gap
       && node_fits value (suc k) true false after
   pair_fits (keyed_alone key gap comments) k bol after =
-      flow_fits key 0 block_key bol (gap ++ (codes ":" ++ (comments_text comments ++ after))) && every white gap && short_key key gap
+      flow_fits key 0 block_key bol (gap ++ (codes ":" ++ (comments_text comments ++ after))) && list_all white gap && short_key key gap
       && comments_fit false comments after
 
   -- [185] s-l+block-indented, 8.2.1

@@ -3,7 +3,8 @@
 -- document n is -1, so m is 0.
 use Rattle.std.specs.Prelude.{ℕ, suc, ◌+◌, ◌-◌, max, Bool, true, false, not, ◌&&◌, ◌||◌, nat_le, nat_lt, ◌==◌, List, [], ◌∷◌, ◌++◌, length, Option, Some, None, is_some, codes, flat_map, if◌then◌else◌}
 use Rattle.yaml_chars.specs.Classes.{between, line_break, white, space, nb}
-use Rattle.yaml_grammar.specs.Texts.{every, is_empty, first, begins, spaces, optional, byte_len, no_marker}
+use Rattle.std.specs.List.{list_all}
+use Rattle.yaml_grammar.specs.Texts.{is_empty, first, begins, spaces, optional, byte_len, no_marker}
 use Rattle.yaml_grammar.specs.Separation.{Break, break_text, break_fits, stop_fits, LineEnd, line_end_text, line_end_fits, comments_text, comments_fit}
 use Rattle.yaml_grammar.specs.FlowScalars.{line_feeds, folded_break}
 use Rattle.yaml_grammar.specs.Events.{Event, scalar_event, literal_style, folded_style}
@@ -96,7 +97,7 @@ gaps_fit q (g ∷ gs) after = nat_le g.width q && break_fits g.stop (gaps_text g
 -- them, which may be whitespace, and doesn't start as a marker
 abbrev pub text_line_fits : ℕ → TextLine → List ℕ → Bool
 text_line_fits q l after =
-    not (is_empty l.text) && every nb l.text && no_marker true (text_line_text q l ++ after)
+    not (is_empty l.text) && list_all nb l.text && no_marker true (text_line_text q l ++ after)
     && stop_fits l.stop (gaps_text l.gaps ++ after) && gaps_fit q l.gaps after
 
 -- each of the text lines fits
@@ -140,14 +141,14 @@ sets_none m text = is_empty (past_spaces text) || nat_lt (spaces_before text) m 
 -- Without a digit, the indentation is that of the first line that holds something other than spaces. No line of spaces
 -- before it is wider, as for all empty lines. If that line sets none, the indentation is the width of the widest line
 -- of spaces, and at least m.
-abbrev pub detected : ℕ → ℕ → List Gap → List TextLine → List ℕ → Bool
-detected m q gaps [] after = (q == max m (max (widest gaps) (last_spaces after))) && sets_none m after
-detected m q gaps (l ∷ ls) after = nat_le m q && not (begins (spaces 1) l.text)
+abbrev pub is_detected_indent : ℕ → ℕ → List Gap → List TextLine → List ℕ → Bool
+is_detected_indent m q gaps [] after = (q == max m (max (widest gaps) (last_spaces after))) && sets_none m after
+is_detected_indent m q gaps (l ∷ ls) after = nat_le m q && not (begins (spaces 1) l.text)
 
 -- With a digit d the indentation is n + d, and d at the top of a document.
 abbrev pub indent_fits : Option ℕ → ℕ → ℕ → List Gap → List TextLine → List ℕ → Bool
 indent_fits (Some d) m q gaps texts after = between 1 9 d && (q == (m - 1) + d)
-indent_fits None m q gaps texts after = detected m q gaps texts after
+indent_fits None m q gaps texts after = is_detected_indent m q gaps texts after
 
 -- ---- what a block scalar has to meet
 
@@ -156,7 +157,7 @@ indent_fits None m q gaps texts after = detected m q gaps texts after
 abbrev pub trail_fits : ℕ → List LineEnd → List ℕ → Bool
 trail_fits q [] after = true
 trail_fits q (e ∷ es) after =
-    is_some e.comment && every space e.blank && nat_lt (length e.blank) q && comments_fit true (e ∷ es) after
+    is_some e.comment && list_all space e.blank && nat_lt (length e.blank) q && comments_fit true (e ∷ es) after
 
 -- [170] c-l+literal and [174] c-l+folded, 8.1: what a block scalar has to meet
 abbrev pub block_fits : ℕ → BlockScalar → List ℕ → Bool
@@ -177,25 +178,25 @@ between_lines folded l next_line =
     then line_feeds (suc (length l.gaps)) else folded_break (length l.gaps)
 
 -- [165] b-chomped-last and [166] l-chomped-empty, 8.1.1.2: the line feeds after the last text line
-abbrev pub chomped : Chomping → TextLine → List ℕ
-chomped strip l = []
-chomped clip l = if is_some l.stop then line_feeds 1 else []
-chomped keep l = (if is_some l.stop then line_feeds 1 else []) ++ line_feeds (length l.gaps)
+abbrev pub trailing_line_feeds : Chomping → TextLine → List ℕ
+trailing_line_feeds strip l = []
+trailing_line_feeds clip l = if is_some l.stop then line_feeds 1 else []
+trailing_line_feeds keep l = (if is_some l.stop then line_feeds 1 else []) ++ line_feeds (length l.gaps)
 
 -- [173] l-literal-content and [182] l-folded-content: the value of text lines
 abbrev pub text_value : Bool → Chomping → TextLine → List TextLine → List ℕ
-text_value folded chomping l [] = l.text ++ chomped chomping l
+text_value folded chomping l [] = l.text ++ trailing_line_feeds chomping l
 text_value folded chomping l (m ∷ ms) = l.text ++ between_lines folded l m ++ text_value folded chomping m ms
 
 -- [166] l-chomped-empty, 8.1.1.2: the value without any text line
-abbrev pub kept : Chomping → ℕ → List ℕ
-kept strip n = []
-kept clip n = []
-kept keep n = line_feeds n
+abbrev pub value_without_lines : Chomping → ℕ → List ℕ
+value_without_lines strip n = []
+value_without_lines clip n = []
+value_without_lines keep n = line_feeds n
 
 -- the value, from the empty lines before the first text line, and the text lines with the empty lines after each
 abbrev pub block_value : Bool → Chomping → List Gap → List TextLine → List ℕ
-block_value folded chomping gaps [] = kept chomping (length gaps)
+block_value folded chomping gaps [] = value_without_lines chomping (length gaps)
 block_value folded chomping gaps (l ∷ ls) = line_feeds (length gaps) ++ text_value folded chomping l ls
 
 -- The event of a block scalar. Its range goes from the header through the last text line or empty line, or through the

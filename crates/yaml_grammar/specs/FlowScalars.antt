@@ -3,7 +3,7 @@
 use Rattle.std.specs.Prelude.{ℕ, zero, suc, ◌+◌, ◌-◌, ◌*◌, Bool, true, false, not, ◌&&◌, ◌||◌, nat_lt, ◌==◌, List, [], ◌∷◌, ◌++◌, length, replicate, codes, flat_map, if◌then◌else◌}
 use Rattle.std.specs.List.{list_all}
 use Rattle.yaml_chars.specs.Classes.{between, is_in, code_point, white, space, nb_json, ns, indicator, flow_indicator}
-use Rattle.yaml_grammar.specs.Texts.{every, is_empty, first, begins, spaces, byte_len, no_marker}
+use Rattle.yaml_grammar.specs.Texts.{is_empty, first, begins, spaces, byte_len, no_marker}
 use Rattle.yaml_grammar.specs.Separation.{Break, break_text, break_fits, indents}
 use Rattle.yaml_grammar.specs.Events.{Style, plain_style, single_style, double_style, Event, scalar_event}
 
@@ -103,17 +103,12 @@ scalar_text (double prefix more) = codes "\"" ++ lines_text quoted_char_text pre
 
 -- [70] l-empty, 6.4: an indentation of n and whitespace, or fewer spaces
 abbrev pub empty_fits : ℕ → Empty → List ℕ → Bool
-empty_fits n e after = every white e.blank && (begins (spaces n) e.blank || every space e.blank) && break_fits e.stop after
+empty_fits n e after = list_all white e.blank && (begins (spaces n) e.blank || list_all space e.blank) && break_fits e.stop after
 
 -- each of the empty lines fits
 abbrev pub empties_fit : ℕ → List Empty → List ℕ → Bool
 empties_fit n [] after = true
 empties_fit n (e ∷ es) after = empty_fits n e (empties_text es ++ after) && empties_fit n es after
-
--- there is a first element, and it passes the test
-abbrev pub starts : {A : Type 0} → (A → Bool) → List A → Bool
-starts p [] = false
-starts p (x ∷ xs) = p x
 
 -- there is a last element, and it passes the test
 abbrev pub ends : {A : Type 0} → (A → Bool) → List A → Bool
@@ -134,9 +129,9 @@ from_lead kind l after = l.lead ++ (flat_map kind.spell l.held ++ after)
 -- comes the break, and the whitespace before it belongs to the line before ([112] s-double-escaped, 7.3.1).
 abbrev pub join_fits : {A : Type 0} → Kind A → ℕ → List A → Line A → List ℕ → Bool
 join_fits kind n before l after =
-    (if l.escaped then is_empty l.blank else every white l.blank && not (ends kind.blank before))
+    (if l.escaped then is_empty l.blank else list_all white l.blank && not (ends kind.blank before))
     && break_fits l.stop (empties_text l.empties ++ from_lead kind l after) && empties_fit n l.empties (from_lead kind l after)
-    && indents n l.lead && not (starts kind.blank l.held) && no_marker true (from_lead kind l after)
+    && indents n l.lead && not (first kind.blank l.held) && no_marker true (from_lead kind l after)
 
 -- the text of further lines, and the text after them
 abbrev pub lines_after : {A : Type 0} → Kind A → List (Line A) → List ℕ → List ℕ
@@ -212,7 +207,7 @@ abbrev pub quoted_char_fits : QuotedChar → Bool
 quoted_char_fits (raw c) = nb_json c && not (is_in c (codes "\"\\"))
 quoted_char_fits (escape c) = is_in c (9 ∷ codes "0abtnvfre \"/\\N_LP")
 quoted_char_fits (number c digits) =
-    is_in c (codes "xuU") && (length digits == digits_after c) && every hex_digit digits && code_point (hex_value 0 digits)
+    is_in c (codes "xuU") && (length digits == digits_after c) && list_all hex_digit digits && code_point (hex_value 0 digits)
 
 -- whitespace; an escape is none
 abbrev pub is_blank_char : QuotedChar → Bool

@@ -2,26 +2,26 @@
 use Rattle.std.specs.Prelude.{◌≡◌, ℕ, ◌≤◌, List, IsTrue}
 use Rattle.yaml_grammar.specs.Texts.{IsText, byte_len}
 use Rattle.yaml_grammar.specs.Events.{Event}
-use Rattle.yaml_grammar.specs.Streams.{Stream, spelled, fits, meant}
+use Rattle.yaml_grammar.specs.Streams.{Stream, stream_text, fits, stream_events}
 use Rattle.yaml_grammar.specs.Trees.{Tree, IsTreeOf, depth, distinct, IsTextTree}
 use Rattle.yaml_grammar.specs.Style.{style_text}
 
 -- a presentation of the text, which fits
 pub record Presents (p : Stream) (text : List ℕ) : Type 0 where
   pub fits : IsTrue (fits p)
-  pub spells : spelled p ≡ text
+  pub spells : stream_text p ≡ text
 
 -- some presentation of the text means these events
 pub record CanRead (text : List ℕ) (events : List Event) : Type 0 where
   pub presentation : Stream
   pub presents : Presents presentation text
-  pub means : meant presentation ≡ events
+  pub means : stream_events presentation ≡ events
 
 -- some presentation means these events, and every one does
 pub record Reads (text : List ℕ) (events : List Event) : Type 0 where
   pub source : IsText text
   pub some : CanRead text events
-  pub every : (p : Stream) → Presents p text → meant p ≡ events
+  pub every : (p : Stream) → Presents p text → stream_events p ≡ events
 
 -- at most so many bytes of text, so much depth, and so many bytes in the one style
 pub record Limits : Type 0 where

@@ -3,7 +3,8 @@
 -- take bol, which says whether the part is at the start of a line, and `after`, the whole text after the part.
 use Rattle.std.specs.Prelude.{ℕ, Bool, true, false, not, ◌&&◌, ◌||◌, List, [], ◌∷◌, ◌++◌, Option, Some, None, flat_map}
 use Rattle.yaml_chars.specs.Classes.{white, nb}
-use Rattle.yaml_grammar.specs.Texts.{every, is_empty, begins, spaces, optional}
+use Rattle.std.specs.List.{list_all}
+use Rattle.yaml_grammar.specs.Texts.{is_empty, begins, spaces, optional}
 
 -- ---- breaks (5.4)
 
@@ -47,12 +48,12 @@ line_end_text e = e.blank ++ optional comment_text e.comment ++ optional break_t
 -- a comment is at the start of a line or after whitespace
 abbrev pub comment_fits : Bool → Option (List ℕ) → Bool
 comment_fits apart None = true
-comment_fits apart (Some text) = apart && every nb text
+comment_fits apart (Some text) = apart && list_all nb text
 
 -- what a line's end has to meet
 abbrev pub line_end_fits : Bool → LineEnd → List ℕ → Bool
 line_end_fits bol e after =
-    every white e.blank && comment_fits (bol || not (is_empty e.blank)) e.comment && stop_fits e.stop after
+    list_all white e.blank && comment_fits (bol || not (is_empty e.blank)) e.comment && stop_fits e.stop after
 
 -- [78] l-comment, 6.6: the same where it isn't empty: a line of whitespace or a comment, or the end of the line before
 -- it
@@ -86,11 +87,11 @@ sep_text (lines comments lead) = comments_text comments ++ lead
 
 -- [69] s-flow-line-prefix, 6.3: n spaces, then whitespace
 abbrev pub indents : ℕ → List ℕ → Bool
-indents n blank = every white blank && begins (spaces n) blank
+indents n blank = list_all white blank && begins (spaces n) blank
 
 -- what a separation has to meet; in a key on one line ([80], block-key and flow-key) it is on that line
 abbrev pub sep_fits : ℕ → Bool → Bool → Sep → List ℕ → Bool
-sep_fits n key bol (inline blank) after = every white blank && (bol || not (is_empty blank))
+sep_fits n key bol (inline blank) after = list_all white blank && (bol || not (is_empty blank))
 sep_fits n key bol (lines comments lead) after = not key && comments_fit bol comments (lead ++ after) && indents n lead
 
 -- a separation that may be left out, after something on its line

@@ -1,7 +1,8 @@
 -- Streams of documents (YAML 1.2.2, 6.8 and chapter 9).
 use Rattle.std.specs.Prelude.{ℕ, ◌+◌, Bool, true, false, not, ◌&&◌, List, [], ◌∷◌, ◌++◌, Option, Some, None, codes, flat_map, if◌then◌else◌}
 use Rattle.yaml_chars.specs.Classes.{white}
-use Rattle.yaml_grammar.specs.Texts.{every, is_empty, optional, byte_len, ends_word, starts_line}
+use Rattle.std.specs.List.{list_all}
+use Rattle.yaml_grammar.specs.Texts.{is_empty, optional, byte_len, ends_word, starts_line}
 use Rattle.yaml_grammar.specs.Separation.{LineEnd, line_end_text, comment_line_fits, comments_text, comments_fit}
 use Rattle.yaml_grammar.specs.BlockNodes.{Node, node_text, node_fits, node_events}
 use Rattle.yaml_grammar.specs.Events.{Event, omitted_at, as_document}
@@ -71,8 +72,8 @@ abbrev pub mark_text : Bool → List ℕ
 mark_text mark = if mark then 0xfeff ∷ [] else []
 
 -- the text of a stream
-abbrev pub spelled : Stream → List ℕ
-spelled s = mark_text s.mark ++ comments_text s.prefix ++ optional document_text s.document ++ parts_text s.parts
+abbrev pub stream_text : Stream → List ℕ
+stream_text s = mark_text s.mark ++ comments_text s.prefix ++ optional document_text s.document ++ parts_text s.parts
 
 -- ---- what they have to meet
 
@@ -86,7 +87,7 @@ abbrev pub document_fits : Document → Bool → List ℕ → Bool
 document_fits (bare n) bol after = node_fits n 0 false bol after
 document_fits (explicit x) bol after = explicit_fits x bol after
 document_fits (directed blank first_version comments x) bol after =
-    bol && every white blank && not (is_empty blank) && comments_fit false comments (explicit_text x ++ after) && explicit_fits x true after
+    bol && list_all white blank && not (is_empty blank) && comments_fit false comments (explicit_text x ++ after) && explicit_fits x true after
 
 -- a document that may be left out
 abbrev pub optional_document_fits : Option Document → Bool → List ℕ → Bool
@@ -155,7 +156,7 @@ parts_events [] at = []
 parts_events (p ∷ ps) at = part_events p at ++ parts_events ps (at + byte_len (part_text p))
 
 -- the events of a stream; a byte order mark has 3 bytes
-abbrev pub meant : Stream → List Event
-meant s =
+abbrev pub stream_events : Stream → List Event
+stream_events s =
     let at = (if s.mark then 3 else 0) + byte_len (comments_text s.prefix) in
     optional_document_events s.document at ++ parts_events s.parts (at + byte_len (optional document_text s.document))

@@ -1,7 +1,8 @@
 -- The one style: the text of a tree, with the same indentation, quotes and order everywhere.
 use Rattle.std.specs.Prelude.{ℕ, zero, suc, ◌+◌, ◌/◌, ◌%◌, Bool, true, false, not, ◌&&◌, ◌||◌, nat_le, nat_lt, ◌==◌, List, [], ◌∷◌, ◌++◌, length, codes, if◌then◌else◌}
 use Rattle.yaml_chars.specs.Classes.{between, is_in, printable}
-use Rattle.yaml_grammar.specs.Texts.{every, first, same_text, spaces}
+use Rattle.std.specs.List.{list_all}
+use Rattle.yaml_grammar.specs.Texts.{first, same_text, spaces}
 use Rattle.yaml_grammar.specs.Trees.{Tree, text, sequence, mapping, Elements, no_element, element, Members, no_member, member}
 
 -- ---- which style a scalar has
@@ -30,7 +31,7 @@ special_words = codes "null" ∷ codes "true" ∷ codes "false" ∷ codes "yes" 
 
 -- a word: it starts with a letter, has at most 128 characters, and is no special word in any letter case
 abbrev pub plain_in_style : List ℕ → Bool
-plain_in_style value = first letter value && every word_char value && nat_le (length value) 128 && not (is_among (lower value) special_words)
+plain_in_style value = first letter value && list_all word_char value && nat_le (length value) 128 && not (is_among (lower value) special_words)
 
 -- a character that is written as itself between double quotes and in a literal
 abbrev pub shown : ℕ → Bool
@@ -46,7 +47,7 @@ space_or_feed c = (c == 32) || (c == 10)
 
 -- it holds a line feed, starts with no space and no line feed, and each character is shown or a line feed
 abbrev pub literal_in_style : List ℕ → Bool
-literal_in_style value = is_in 10 value && not (first space_or_feed value) && every shown_or_feed value
+literal_in_style value = is_in 10 value && not (first space_or_feed value) && list_all shown_or_feed value
 
 -- ---- double quotes
 
@@ -75,15 +76,15 @@ quoted_chars [] = []
 quoted_chars (c ∷ cs) = quoted_char c ++ quoted_chars cs
 
 -- the text in double quotes
-abbrev pub quoted : List ℕ → List ℕ
-quoted value = codes "\"" ++ quoted_chars value ++ codes "\""
+abbrev pub in_double_quotes : List ℕ → List ℕ
+in_double_quotes value = codes "\"" ++ quoted_chars value ++ codes "\""
 
 -- ---- literals
 
 -- how many line feeds end it
 abbrev pub feeds_at_end : List ℕ → ℕ
 feeds_at_end [] = 0
-feeds_at_end (c ∷ cs) = if every (λ d. d == 10) (c ∷ cs) then length (c ∷ cs) else feeds_at_end cs
+feeds_at_end (c ∷ cs) = if list_all (λ d. d == 10) (c ∷ cs) then length (c ∷ cs) else feeds_at_end cs
 
 -- `|` with the chomping mark, from the number of line feeds at the end
 abbrev pub literal_mark : ℕ → List ℕ
@@ -105,11 +106,11 @@ abbrev pub scalar_lines : ℕ → List ℕ → List ℕ
 scalar_lines j value =
     if plain_in_style value then value ++ codes "\n"
     else if literal_in_style value then literal_mark (feeds_at_end value) ++ codes "\n" ++ literal_lines j true value
-    else quoted value ++ codes "\n"
+    else in_double_quotes value ++ codes "\n"
 
 -- a key as it is written
 abbrev pub key_text : List ℕ → List ℕ
-key_text key = if plain_in_style key then key else quoted key
+key_text key = if plain_in_style key then key else in_double_quotes key
 
 -- the key has more than 1,000 characters as written, and so comes after `? `
 abbrev pub long_key : List ℕ → Bool

@@ -1,18 +1,14 @@
 -- A text is a list of code points. These definitions speak of texts, of the text after a place, and of the line around
 -- it.
+use Rattle.std.specs.List.{list_all}
 use Rattle.std.specs.Prelude.{ℕ, ◌+◌, Bool, true, false, not, ◌&&◌, ◌||◌, ◌==◌, List, [], ◌∷◌, Option, Some, None, replicate, codes, IsTrue}
 use Rattle.std.specs.Char.{len_utf8}
 use Rattle.yaml_chars.specs.Classes.{code_point, white, line_break}
 
--- all characters pass the test
-abbrev pub every : (ℕ → Bool) → List ℕ → Bool
-every p [] = true
-every p (c ∷ cs) = p c && every p cs
-
--- there is a first character, and it passes the test
-abbrev pub first : (ℕ → Bool) → List ℕ → Bool
+-- there is a first element, and it passes the test
+abbrev pub first : {A : Type 0} → (A → Bool) → List A → Bool
 first p [] = false
-first p (c ∷ cs) = p c
+first p (x ∷ xs) = p x
 
 -- the list has no elements
 abbrev pub is_empty {ℓ} : {A : Type ℓ} → List A → Bool
@@ -43,7 +39,7 @@ optional spell (Some x) = spell x
 
 -- each code point is a Unicode scalar value
 abbrev pub IsText : List ℕ → Type 0
-IsText text = IsTrue (every code_point text)
+IsText text = IsTrue (list_all code_point text)
 
 -- the number of bytes of a text in UTF-8; ranges and limits of length count these
 abbrev pub byte_len : List ℕ → ℕ

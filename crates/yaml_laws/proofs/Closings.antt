@@ -2,7 +2,8 @@
 use Rattle.std.proofs.Common.{◌≡◌, refl, sym, ◌∙◌, ap, inl, inr, ◌⊎◌, arith, ◌≤◌, append_assoc, length-append}
 use Rattle.std.specs.Prelude.{ℕ, zero, suc, ◌+◌, Bool, true, false, not, ◌&&◌, ◌||◌, ◌==◌, List, [], ◌∷◌, ◌++◌, length, replicate, codes}
 use Rattle.std.proofs.lemmas.Bool.{false_from_ne_true, and_parts, and_from, or_cases, or_left, or_right, not-true, eqb-true, false≢true}
-use Rattle.yaml_grammar.specs.Texts.{begins, every}
+use Rattle.std.specs.List.{list_all}
+use Rattle.yaml_grammar.specs.Texts.{begins}
 use Rattle.yaml_grammar.specs.Closings.{ends_line, ClosesAt}
 
 -- a line starts after the bytes, where bol says whether one starts at their start
@@ -155,7 +156,7 @@ piece_closes_more piece after q p h =
 -- ---- bytes that are cut off
 
 -- zeros hold no part of a closing line
-begins_kept : (ws prefix tail : List ℕ) (padding : ℕ) → every (λ w. not (0 == w)) ws ≡ true → begins ws (prefix ++ replicate padding 0) ≡ true
+begins_kept : (ws prefix tail : List ℕ) (padding : ℕ) → list_all (λ w. not (0 == w)) ws ≡ true → begins ws (prefix ++ replicate padding 0) ≡ true
     → (length ws ≤ length prefix) × (begins ws (prefix ++ tail) ≡ true)
 begins_kept [] prefix tail padding n h = (omega arith, refl)
 begins_kept (w ∷ ws) [] tail zero n h = absurd (false≢true h)
@@ -164,7 +165,7 @@ begins_kept (w ∷ ws) [] tail (suc padding) n h =
     absurd (false≢true (sym (not-true _ (and_parts _ _ n).0) ∙ p.0))
 begins_kept (w ∷ ws) (b ∷ bs) tail padding n h =
     let p : (b == w ≡ true) × (begins ws (bs ++ replicate padding 0) ≡ true) = and_parts _ _ h in
-    let others : (not (0 == w) ≡ true) × (every (λ v. not (0 == v)) ws ≡ true) = and_parts _ _ n in
+    let others : (not (0 == w) ≡ true) × (list_all (λ v. not (0 == v)) ws ≡ true) = and_parts _ _ n in
     let more : (length ws ≤ length bs) × (begins ws (bs ++ tail) ≡ true) = begins_kept ws bs tail padding others.1 p.1 in
     (omega (arith, more.0), and_from _ _ p.0 more.1)
 

@@ -11,7 +11,7 @@ use Rattle.yaml_grammar.specs.FlowNodes.{flow_text, short_key}
 use Rattle.yaml_grammar.specs.BlockNodes.{Node, flow, node_text, node_fits, items_text, items_fit, Indented, indented_text, indented_fits, node, Pair, pair_text, pair_fits, pairs_text, pairs_fit, asked, keyed}
 use Rattle.yaml_grammar.specs.Streams.{fits}
 use Rattle.yaml_grammar.specs.Trees.{Tree, text, sequence, mapping, Elements, no_element, element, Members, no_member, member, IsTextTree, AreTextElements, AreTextMembers}
-use Rattle.yaml_grammar.specs.Style.{plain_in_style, letter, quoted, key_text, long_key, key_lines, style_text}
+use Rattle.yaml_grammar.specs.Style.{plain_in_style, letter, in_double_quotes, key_text, long_key, key_lines, style_text}
 use Rattle.yaml_laws.proofs.Presented.{feed, one_space, word_flow, pair_of, element_of, value_of, items_from, pairs_from, Place, at_start, after_marker, place_sep, place_comments, top_node, presentation_of, framed_presentation_of}
 use Rattle.yaml_laws.proofs.Closings.{ends_from}
 use Rattle.yaml_laws.proofs.StyleLines.{style_lined}
@@ -54,7 +54,7 @@ key_begins : (i : ℕ) (key : List ℕ) → first solid (key_lines i key) ≡ tr
 key_begins i key = by (long_key key) (plain_in_style key) refl
   where
     by : (l p : Bool) → plain_in_style key ≡ p
-        → first solid (cond l (codes "? " ++ key_text key ++ codes "\n" ++ spaces i ++ codes ":") (cond p key (quoted key) ++ codes ":")) ≡ true
+        → first solid (cond l (codes "? " ++ key_text key ++ codes "\n" ++ spaces i ++ codes ":") (cond p key (in_double_quotes key) ++ codes ":")) ≡ true
     by true p e = refl
     by false true e = first_joined solid key _ (letter_solid key (and_parts _ _ (and_parts _ _ (and_parts _ _ e).0).0).0)
     by false false e = refl

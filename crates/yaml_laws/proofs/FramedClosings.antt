@@ -6,11 +6,11 @@ use Rattle.std.proofs.Math.Utf8.{encode}
 use Rattle.std.proofs.lemmas.Str.{encode_ascii, encodes-append}
 use Rattle.std.proofs.lemmas.List.{append-nil}
 use Rattle.std.proofs.lemmas.Bool.{cases_lt, and_parts, and_from, le-leb, leb-true, ne_eqb, ltb-true, false≢true}
-use Rattle.yaml_grammar.specs.Texts.{every}
+use Rattle.std.specs.List.{list_all}
 use Rattle.yaml_grammar.specs.Trees.{Tree}
 use Rattle.yaml_grammar.specs.Style.{style_text}
 use Rattle.yaml_grammar.specs.Closings.{ClosesAt}
-use Rattle.yaml_laws.specs.Closed.{framed, framed_all, EndsWhole, ClosedOnce, TornClosings}
+use Rattle.yaml_laws.specs.Closed.{framed_text_bytes, all_framed_bytes, EndsWhole, ClosedOnce, TornClosings}
 use Rattle.yaml_laws.proofs.Closings.{ends_from, closes, dotless, Piece, closes_from, closes_at, piece_closes, piece_closes_end, piece_closes_more, closes_before_padding, closes_within}
 use Rattle.yaml_laws.proofs.StyleLines.{Lined, not_both, style_lined}
 
@@ -21,12 +21,12 @@ record High (bytes : List ℕ) : Type 0 where
   prefix : ℕ
   more : List ℕ
   is : bytes ≡ prefix ∷ more
-  high : every (nat_le 128) (prefix ∷ more) ≡ true
+  high : list_all (nat_le 128) (prefix ∷ more) ≡ true
 
-high_lead : (low b : ℕ) (bs : List ℕ) → 128 ≤ low → every (nat_le 128) bs ≡ true → High ((low + b) ∷ bs)
+high_lead : (low b : ℕ) (bs : List ℕ) → 128 ≤ low → list_all (nat_le 128) bs ≡ true → High ((low + b) ∷ bs)
 high_lead low b bs l h = record { prefix = low + b; more = bs; is = refl; high = and_from _ _ (le-leb 128 (low + b) (omega arith)) h }
 
-followers : (b : ℕ) (bs : List ℕ) → every (nat_le 128) bs ≡ true → every (nat_le 128) ((128 + b) ∷ bs) ≡ true
+followers : (b : ℕ) (bs : List ℕ) → list_all (nat_le 128) bs ≡ true → list_all (nat_le 128) ((128 + b) ∷ bs) ≡ true
 followers b bs h = and_from _ _ (le-leb 128 (128 + b) (omega arith)) h
 
 encode_cases : (x y z : Bool) (bytes : List ℕ) (a b d e f g k l m : ℕ) → (x ≡ true → ⊥)
@@ -44,10 +44,10 @@ encode_high c h =
     (λ e. let l : c < 128 = ltb-true c 128 e in omega (arith, l, h))
 
 -- after high bytes no line starts
-high_lined : (bol : Bool) (b : ℕ) (bs rest : List ℕ) → every (nat_le 128) (b ∷ bs) ≡ true
+high_lined : (bol : Bool) (b : ℕ) (bs rest : List ℕ) → list_all (nat_le 128) (b ∷ bs) ≡ true
     → (dotless bol ((b ∷ bs) ++ rest) ≡ dotless false rest) × (ends_from bol ((b ∷ bs) ++ rest) ≡ ends_from false rest)
 high_lined bol b bs rest h =
-    let p : (nat_le 128 b ≡ true) × (every (nat_le 128) bs ≡ true) = and_parts _ _ h in
+    let p : (nat_le 128 b ≡ true) × (list_all (nat_le 128) bs ≡ true) = and_parts _ _ h in
     let l : 128 ≤ b = leb-true 128 b p.0 in
     let dot : b == 46 ≡ false = ne_eqb b 46 (λ e. omega (arith, l, e)) in
     let feed : b == 10 ≡ false = ne_eqb b 10 (λ e. omega (arith, l, e)) in
@@ -56,10 +56,10 @@ high_lined bol b bs rest h =
       ap (λ x. ends_from x (bs ++ rest)) feed ∙ more.1,
     )
   where
-    on : (ds : List ℕ) → every (nat_le 128) ds ≡ true → (dotless false (ds ++ rest) ≡ dotless false rest) × (ends_from false (ds ++ rest) ≡ ends_from false rest)
+    on : (ds : List ℕ) → list_all (nat_le 128) ds ≡ true → (dotless false (ds ++ rest) ≡ dotless false rest) × (ends_from false (ds ++ rest) ≡ ends_from false rest)
     on [] h = (refl, refl)
     on (d ∷ ds) h =
-        let p : (nat_le 128 d ≡ true) × (every (nat_le 128) ds ≡ true) = and_parts _ _ h in
+        let p : (nat_le 128 d ≡ true) × (list_all (nat_le 128) ds ≡ true) = and_parts _ _ h in
         let l : 128 ≤ d = leb-true 128 d p.0 in
         let feed : d == 10 ≡ false = ne_eqb d 10 (λ e. omega (arith, l, e)) in
         let more : (dotless false (ds ++ rest) ≡ dotless false rest) × (ends_from false (ds ++ rest) ≡ ends_from false rest) = on ds p.1 in
@@ -91,7 +91,7 @@ unfolding encode
 dots_encoded = refl
 
 -- a framed text is a piece
-pub framed_piece : (t : Tree) → Piece (framed t)
+pub framed_piece : (t : Tree) → Piece (framed_text_bytes t)
 framed_piece t =
     let source : List ℕ = codes "---\n" ++ style_text t in
     let same : (dotless true (encode_utf8_all source) ≡ dotless true source) × (ends_from true (encode_utf8_all source) ≡ ends_from true source) = encoded_same true source in
@@ -106,10 +106,10 @@ framed_piece t =
 -- so it is closed once, at its end
 pub framed_once : ClosedOnce
 framed_once t =
-    let p : Piece (framed t) = framed_piece t in
+    let p : Piece (framed_text_bytes t) = framed_piece t in
     record {
-      closes = closes_at (framed t) (length (framed t)) (ap (λ s. closes true s (length (framed t))) (sym (append-nil (framed t))) ∙ piece_closes_end (framed t) [] p);
-      once = λ place c. elim (piece_closes (framed t) [] place p (ap (λ t. closes true t place) (append-nil (framed t)) ∙ closes_from (framed t) place c)) [
+      closes = closes_at (framed_text_bytes t) (length (framed_text_bytes t)) (ap (λ s. closes true s (length (framed_text_bytes t))) (sym (append-nil (framed_text_bytes t))) ∙ piece_closes_end (framed_text_bytes t) [] p);
+      once = λ place c. elim (piece_closes (framed_text_bytes t) [] place p (ap (λ t. closes true t place) (append-nil (framed_text_bytes t)) ∙ closes_from (framed_text_bytes t) place c)) [
         | inl e ↦ e
         | inr r ↦ absurd (false≢true r.2)
       ];
@@ -123,27 +123,27 @@ record Ends (ts : List Tree) (place : ℕ) : Type 0 where
   one : Tree
   after : List Tree
   all : ts ≡ before ++ (one ∷ after)
-  ends : place ≡ length (framed_all (before ++ (one ∷ [])))
+  ends : place ≡ length (all_framed_bytes (before ++ (one ∷ [])))
 
-all_close : (ts : List Tree) (place : ℕ) → closes true (framed_all ts) place ≡ true → Ends ts place
+all_close : (ts : List Tree) (place : ℕ) → closes true (all_framed_bytes ts) place ≡ true → Ends ts place
 all_close [] place h = absurd (false≢true h)
-all_close (t ∷ ts) place h = elim (piece_closes (framed t) (framed_all ts) place (framed_piece t) h) [
-  | inl e ↦ record { before = []; one = t; after = ts; all = refl; ends = e ∙ ap length (sym (append-nil (framed t))) }
+all_close (t ∷ ts) place h = elim (piece_closes (framed_text_bytes t) (all_framed_bytes ts) place (framed_piece t) h) [
+  | inl e ↦ record { before = []; one = t; after = ts; all = refl; ends = e ∙ ap length (sym (append-nil (framed_text_bytes t))) }
   | inr r ↦ (let more : Ends ts r.0 = all_close ts r.0 r.2 in
       record {
         before = t ∷ more.before;
         one = more.one;
         after = more.after;
         all = ap (λ us. t ∷ us) more.all;
-        ends = r.1 ∙ (ap (λ n. length (framed t) + n) more.ends ∙ sym (length-append (framed t) (framed_all (more.before ++ (more.one ∷ [])))));
+        ends = r.1 ∙ (ap (λ n. length (framed_text_bytes t) + n) more.ends ∙ sym (length-append (framed_text_bytes t) (all_framed_bytes (more.before ++ (more.one ∷ [])))));
       })
 ]
 
-end_closes : (before : List Tree) (one : Tree) (after : List Tree) → closes true (framed_all (before ++ (one ∷ after))) (length (framed_all (before ++ (one ∷ [])))) ≡ true
-end_closes [] one after = ap (λ s. closes true (framed one ++ framed_all after) (length s)) (append-nil (framed one)) ∙ piece_closes_end (framed one) (framed_all after) (framed_piece one)
+end_closes : (before : List Tree) (one : Tree) (after : List Tree) → closes true (all_framed_bytes (before ++ (one ∷ after))) (length (all_framed_bytes (before ++ (one ∷ [])))) ≡ true
+end_closes [] one after = ap (λ s. closes true (framed_text_bytes one ++ all_framed_bytes after) (length s)) (append-nil (framed_text_bytes one)) ∙ piece_closes_end (framed_text_bytes one) (all_framed_bytes after) (framed_piece one)
 end_closes (t ∷ before) one after =
-    ap (closes true (framed t ++ framed_all (before ++ (one ∷ after)))) (length-append (framed t) (framed_all (before ++ (one ∷ []))))
-    ∙ piece_closes_more (framed t) (framed_all (before ++ (one ∷ after))) (length (framed_all (before ++ (one ∷ [])))) (framed_piece t) (end_closes before one after)
+    ap (closes true (framed_text_bytes t ++ all_framed_bytes (before ++ (one ∷ after)))) (length-append (framed_text_bytes t) (all_framed_bytes (before ++ (one ∷ []))))
+    ∙ piece_closes_more (framed_text_bytes t) (all_framed_bytes (before ++ (one ∷ after))) (length (all_framed_bytes (before ++ (one ∷ [])))) (framed_piece t) (end_closes before one after)
 
 -- and framed texts that are cut close at the ends of the whole ones
 pub torn_closings : TornClosings
@@ -157,7 +157,7 @@ torn_closings ts prefix lost padding place cut = (there, back)
 
     back : EndsWhole ts (length prefix) place → ClosesAt (prefix ++ replicate padding 0) place
     back e =
-        let c : closes true (framed_all ts) place ≡ true = rw (e.all, e.ends) (end_closes e.before e.one e.after) in
+        let c : closes true (all_framed_bytes ts) place ≡ true = rw (e.all, e.ends) (end_closes e.before e.one e.after) in
         closes_at (prefix ++ replicate padding 0) place (closes_within true prefix lost (replicate padding 0) place e.within (ap (λ t. closes true t place) (sym cut) ∙ c))
 
 -- ---- pieces

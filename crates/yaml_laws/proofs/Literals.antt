@@ -3,7 +3,8 @@ use Rattle.std.proofs.Common.{◌≡◌, refl, sym, ◌∙◌, ap, inl, inr, ari
 use Rattle.std.specs.Prelude.{ℕ, zero, suc, ◌+◌, Bool, true, false, cond, ◌==◌, List, [], ◌∷◌, ◌++◌, length, replicate, if◌then◌else◌}
 use Rattle.std.proofs.lemmas.Bool.{cases_Bool, cond-true, eqb-true, or_parts}
 use Rattle.std.proofs.lemmas.List.{append-nil, length-replicate}
-use Rattle.yaml_grammar.specs.Texts.{every, first}
+use Rattle.std.specs.List.{list_all}
+use Rattle.yaml_grammar.specs.Texts.{first}
 use Rattle.yaml_grammar.specs.BlockScalars.{TextLine, Chomping, strip, clip, keep, text_value, block_value}
 use Rattle.yaml_grammar.specs.Style.{feeds_at_end, space_or_feed}
 use Rattle.yaml_laws.proofs.Presented.{bare_gaps, line_with, held_by, empties_in, lines_in, chomping_of}
@@ -13,29 +14,29 @@ abbrev feeds_after : ℕ → List ℕ → ℕ
 feeds_after n [] = n
 feeds_after n (c ∷ cs) = if c == 10 then feeds_after (suc n) cs else feeds_after 0 cs
 
-all_feeds : (cs : List ℕ) → every (λ d. d == 10) cs ≡ true → feeds_at_end cs ≡ length cs
+all_feeds : (cs : List ℕ) → list_all (λ d. d == 10) cs ≡ true → feeds_at_end cs ≡ length cs
 all_feeds [] e = refl
 all_feeds (c ∷ cs) e = cond-true _ _ _ e
 
-feeds_counted : (n : ℕ) (cs : List ℕ) → feeds_after n cs ≡ cond (every (λ d. d == 10) cs) (n + length cs) (feeds_at_end cs)
+feeds_counted : (n : ℕ) (cs : List ℕ) → feeds_after n cs ≡ cond (list_all (λ d. d == 10) cs) (n + length cs) (feeds_at_end cs)
 feeds_counted n [] = omega arith
 feeds_counted n (c ∷ cs) = elim (cases_Bool (c == 10)) [
-  | inl e ↦ rw (e, feeds_counted (suc n) cs) (by (every (λ d. d == 10) cs))
-  | inr e ↦ rw (e, feeds_counted 0 cs) (other (every (λ d. d == 10) cs) refl)
+  | inl e ↦ rw (e, feeds_counted (suc n) cs) (by (list_all (λ d. d == 10) cs))
+  | inr e ↦ rw (e, feeds_counted 0 cs) (other (list_all (λ d. d == 10) cs) refl)
 ]
   where
     by : (b : Bool) → cond b (suc n + length cs) (feeds_at_end cs) ≡ cond b (n + suc (length cs)) (cond b (suc (length cs)) (feeds_at_end cs))
     by true = omega arith
     by false = refl
 
-    other : (b : Bool) → every (λ d. d == 10) cs ≡ b → cond b (0 + length cs) (feeds_at_end cs) ≡ feeds_at_end cs
+    other : (b : Bool) → list_all (λ d. d == 10) cs ≡ b → cond b (0 + length cs) (feeds_at_end cs) ≡ feeds_at_end cs
     other true e = omega (arith, all_feeds cs e)
     other false e = refl
 
 feeds_are : (cs : List ℕ) → feeds_after 0 cs ≡ feeds_at_end cs
-feeds_are cs = feeds_counted 0 cs ∙ by (every (λ d. d == 10) cs) refl
+feeds_are cs = feeds_counted 0 cs ∙ by (list_all (λ d. d == 10) cs) refl
   where
-    by : (b : Bool) → every (λ d. d == 10) cs ≡ b → cond b (0 + length cs) (feeds_at_end cs) ≡ feeds_at_end cs
+    by : (b : Bool) → list_all (λ d. d == 10) cs ≡ b → cond b (0 + length cs) (feeds_at_end cs) ≡ feeds_at_end cs
     by true e = omega (arith, all_feeds cs e)
     by false e = refl
 

@@ -4,12 +4,13 @@ use Rattle.std.specs.Prelude.{ℕ, ◌+◌, Bool, true, false, cond, not, ◌&&�
 use Rattle.std.proofs.lemmas.List.{append-nil}
 use Rattle.std.proofs.lemmas.Bool.{and_parts, not-true}
 use Rattle.yaml_chars.specs.Classes.{code_point, is_in}
-use Rattle.yaml_grammar.specs.Texts.{IsText, every, first, byte_len}
+use Rattle.std.specs.List.{list_all}
+use Rattle.yaml_grammar.specs.Texts.{IsText, first, byte_len}
 use Rattle.yaml_grammar.specs.Separation.{Sep}
 use Rattle.yaml_grammar.specs.FlowScalars.{char_value, quoted_char_value, values, plain, double}
 use Rattle.yaml_grammar.specs.FlowNodes.{scalar, flow_text, flow_events}
 use Rattle.yaml_grammar.specs.BlockNodes.{Node, flow, block, node_events, items_events, Indented, indented_text, indented_events, node, Pair, pair_text, pair_events, pairs_events, asked, keyed}
-use Rattle.yaml_grammar.specs.Streams.{meant}
+use Rattle.yaml_grammar.specs.Streams.{stream_events}
 use Rattle.yaml_grammar.specs.Events.{Event, as_document, document_end, seq_start, seq_end, map_start, map_end}
 use Rattle.yaml_grammar.specs.Trees.{Tree, text, sequence, mapping, Elements, no_element, element, Members, no_member, member, Shape, scalar_of, seq_to, map_to, seq_from, map_from, shape, document_from, document_to, shapes, tree_shapes, elements_shapes, members_shapes, IsTextTree, AreTextElements, AreTextMembers, IsTreeOf}
 use Rattle.yaml_grammar.specs.Style.{plain_in_style, literal_in_style, long_key, space_or_feed, shown_or_feed}
@@ -39,7 +40,7 @@ quoted_meant value t = append-nil _ ∙ same value t
   where
     same : (cs : List ℕ) → IsText cs → values quoted_char_value (items_of_text cs) ≡ cs
     same [] t = refl
-    same (c ∷ cs) t = let p : (code_point c ≡ true) × (every code_point cs ≡ true) = and_parts _ _ t in rw ((item_quotes c p.0).1, same cs p.1)
+    same (c ∷ cs) t = let p : (code_point c ≡ true) × (list_all code_point cs ≡ true) = and_parts _ _ t in rw ((item_quotes c p.0).1, same cs p.1)
 
 scalar_meant : (sep : Sep) (j : ℕ) (value : List ℕ) (at : ℕ) → IsText value → shapes (node_events (scalar_node sep j value) at) ≡ scalar_of value ∷ []
 scalar_meant sep j value at t = by (plain_in_style value) (literal_in_style value) refl
@@ -49,7 +50,7 @@ scalar_meant sep j value at t = by (plain_in_style value) (literal_in_style valu
         ≡ scalar_of value ∷ []
     by true l e = ap (λ v. scalar_of v ∷ []) (word_meant value)
     by false true e =
-        let p : (is_in 10 value && not (first space_or_feed value) ≡ true) × (every shown_or_feed value ≡ true) = and_parts _ _ e in
+        let p : (is_in 10 value && not (first space_or_feed value) ≡ true) × (list_all shown_or_feed value ≡ true) = and_parts _ _ e in
         ap (λ v. scalar_of v ∷ []) (literal_meant value (not-true _ (and_parts _ _ p.0).1))
     by false false e = ap (λ v. scalar_of v ∷ []) (quoted_meant value t)
 
@@ -127,9 +128,9 @@ document_meant place t at h =
     ∙ ap (λ x. document_from ∷ x) (both_meant (node_events (top_node place t) at) (document_end ∷ []) (tree_shapes t) (document_to ∷ []) (top_meant place t at h) refl)
 
 -- the presentation of a tree means the tree
-pub presentation_meant : (t : Tree) → IsTextTree t → IsTreeOf (meant (presentation_of t)) t
+pub presentation_meant : (t : Tree) → IsTextTree t → IsTreeOf (stream_events (presentation_of t)) t
 presentation_meant t h = document_meant at_start t 0 h
 
 -- so does the framed one
-pub framed_meant : (t : Tree) → IsTextTree t → IsTreeOf (meant (framed_presentation_of t)) t
+pub framed_meant : (t : Tree) → IsTextTree t → IsTreeOf (stream_events (framed_presentation_of t)) t
 framed_meant t h = document_meant after_marker t 3 h

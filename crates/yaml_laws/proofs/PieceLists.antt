@@ -7,7 +7,7 @@ use Rattle.std.proofs.lemmas.List.Elements.{All-nil, All-cons, All-head, All-tai
 use Rattle.std.proofs.lemmas.Bool.{cases_lt, false≢true}
 use Rattle.yaml_grammar.specs.Trees.{Tree}
 use Rattle.yaml_grammar.specs.Closings.{ClosesAt, ClosesOnce}
-use Rattle.yaml_laws.specs.Closed.{framed, framed_all, TornPieces, TornInPieces, OnePieces}
+use Rattle.yaml_laws.specs.Closed.{framed_text_bytes, all_framed_bytes, TornPieces, TornInPieces, OnePieces}
 use Rattle.yaml_laws.proofs.Closings.{closes, closes_from, closes_at, piece_closes, padding_closed, closes_before_padding, closes_within}
 use Rattle.yaml_laws.proofs.FramedClosings.{framed_piece, framed_once, cut_after}
 
@@ -66,11 +66,11 @@ padding_unclosed : (padding place : ℕ) → ClosesAt (replicate padding 0) plac
 padding_unclosed padding place c = false≢true (sym (padding_closed true padding place) ∙ closes_from (replicate padding 0) place c)
 
 -- a prefix of a text, shorter than it, isn't closed
-short_unclosed : (t : Tree) (after prefix lost : List ℕ) (padding place : ℕ) → framed t ++ after ≡ prefix ++ lost → length prefix < length (framed t)
+short_unclosed : (t : Tree) (after prefix lost : List ℕ) (padding place : ℕ) → framed_text_bytes t ++ after ≡ prefix ++ lost → length prefix < length (framed_text_bytes t)
     → ClosesAt (prefix ++ replicate padding 0) place → ⊥
 short_unclosed t after prefix lost padding place e l c =
     let p : (place ≤ length prefix) × (closes true (prefix ++ lost) place ≡ true) = closes_before_padding true prefix lost padding place (closes_from (prefix ++ replicate padding 0) place c) in
-    elim (piece_closes (framed t) after place (framed_piece t) (ap (λ s. closes true s place) e ∙ p.1)) [
+    elim (piece_closes (framed_text_bytes t) after place (framed_piece t) (ap (λ s. closes true s place) e ∙ p.1)) [
       | inl q ↦ omega (arith, l, p.0, q)
       | inr r ↦ omega (arith, l, p.0, r.1)
     ]
@@ -88,7 +88,7 @@ torn_pieces [] [] lost padding e =
       pieces = record { joined = refl; closed = All-nil ClosesOnce; unclosed = padding_unclosed padding };
     }
 torn_pieces [] (c ∷ cs) lost padding e = absurd (cc e)
-torn_pieces (t ∷ ts) prefix lost padding e = elim (cases_lt (length prefix) (length (framed t))) [
+torn_pieces (t ∷ ts) prefix lost padding e = elim (cases_lt (length prefix) (length (framed_text_bytes t))) [
   | inl l ↦ record {
     whole = [];
     further = t ∷ ts;
@@ -96,9 +96,9 @@ torn_pieces (t ∷ ts) prefix lost padding e = elim (cases_lt (length prefix) (l
     all = refl;
     cut = refl;
     short = λ next more d. (let same : t ≡ next = cc d in rw same at l);
-    pieces = record { joined = refl; closed = All-nil ClosesOnce; unclosed = λ place c. short_unclosed t (framed_all ts) prefix lost padding place e l c };
+    pieces = record { joined = refl; closed = All-nil ClosesOnce; unclosed = λ place c. short_unclosed t (all_framed_bytes ts) prefix lost padding place e l c };
   }
-  | inr l ↦ (let m : (more : List ℕ) × (prefix ≡ framed t ++ more) × (framed_all ts ≡ more ++ lost) = cut_after (framed t) (framed_all ts) prefix lost l e in
+  | inr l ↦ (let m : (more : List ℕ) × (prefix ≡ framed_text_bytes t ++ more) × (all_framed_bytes ts ≡ more ++ lost) = cut_after (framed_text_bytes t) (all_framed_bytes ts) prefix lost l e in
       let inner : TornPieces ts m.0 padding = torn_pieces ts m.0 lost padding m.2 in
       let zeros : List ℕ = replicate padding 0 in
       record {
@@ -106,11 +106,11 @@ torn_pieces (t ∷ ts) prefix lost padding e = elim (cases_lt (length prefix) (l
         further = inner.further;
         kept = inner.kept;
         all = ap (λ us. t ∷ us) inner.all;
-        cut = m.1 ∙ (ap (λ s. framed t ++ s) inner.cut ∙ sym (append_assoc (framed t) (framed_all inner.whole) inner.kept));
+        cut = m.1 ∙ (ap (λ s. framed_text_bytes t ++ s) inner.cut ∙ sym (append_assoc (framed_text_bytes t) (all_framed_bytes inner.whole) inner.kept));
         short = inner.short;
         pieces = record {
-          joined = ap (λ s. s ++ zeros) m.1 ∙ (append_assoc (framed t) m.0 zeros ∙ (ap (λ s. framed t ++ s) inner.pieces.joined ∙ sym (append_assoc (framed t) (framed_all inner.whole) (inner.kept ++ zeros))));
-          closed = All-cons ClosesOnce (framed t) (map framed inner.whole) (framed_once t) inner.pieces.closed;
+          joined = ap (λ s. s ++ zeros) m.1 ∙ (append_assoc (framed_text_bytes t) m.0 zeros ∙ (ap (λ s. framed_text_bytes t ++ s) inner.pieces.joined ∙ sym (append_assoc (framed_text_bytes t) (all_framed_bytes inner.whole) (inner.kept ++ zeros))));
+          closed = All-cons ClosesOnce (framed_text_bytes t) (map framed_text_bytes inner.whole) (framed_once t) inner.pieces.closed;
           unclosed = inner.pieces.unclosed;
         };
       })

@@ -1,7 +1,7 @@
 -- Worked trees, and worked closings, by computation.
 use Rattle.std.proofs.Common.{◌≡◌, refl}
 use Rattle.std.specs.Prelude.{true, false, ◌++◌, codes}
-use Rattle.yaml_grammar.specs.Streams.{spelled, fits, meant}
+use Rattle.yaml_grammar.specs.Streams.{stream_text, fits, stream_events}
 use Rattle.yaml_grammar.specs.Trees.{Tree, text, sequence, mapping, no_element, element, no_member, member, IsTreeOf}
 use Rattle.yaml_grammar.specs.Style.{style_text}
 use Rattle.yaml_grammar.specs.Closings.{ClosesAt}
@@ -21,16 +21,16 @@ tree =
 row_text : style_text tree ≡ codes "k: |+\n  a\n\n  b\n\n\"1\":\n  - x\n  - \"y\": |-\n      q\n      r\n  - []\nm:\n  z: {}\n"
 row_text = refl
 
-row_spelled : spelled (presentation_of tree) ≡ style_text tree
+row_spelled : stream_text (presentation_of tree) ≡ style_text tree
 row_spelled = refl
 
 row_fits : fits (presentation_of tree) ≡ true
 row_fits = refl
 
-row_tree : IsTreeOf (meant (presentation_of tree)) tree
+row_tree : IsTreeOf (stream_events (presentation_of tree)) tree
 row_tree = refl
 
-row_framed : spelled (framed_presentation_of tree) ≡ codes "---\n" ++ (style_text tree ++ codes "...\n")
+row_framed : stream_text (framed_presentation_of tree) ≡ codes "---\n" ++ (style_text tree ++ codes "...\n")
 row_framed = refl
 
 row_framed_fits : fits (framed_presentation_of tree) ≡ true

@@ -4,7 +4,7 @@ use Rattle.std.specs.Prelude.{ℕ, zero, suc, ◌+◌, Bool, true, false, cond, 
 use Rattle.std.specs.List.{list_all}
 use Rattle.std.proofs.lemmas.Bool.{cases_Bool, and_parts, and_from, and_left, and_right, or_parts, or_cases, or_left, or_right, or_from, cond_both, leb-true, not-true, not_from_false, le-leb, le-ltb, ne_eqb, false≢true}
 use Rattle.yaml_chars.specs.Classes.{between, is_in, code_point, printable, nb, ns, white, line_break, indicator}
-use Rattle.yaml_grammar.specs.Texts.{IsText, every, first, spaces, marker, no_marker, starts_line}
+use Rattle.yaml_grammar.specs.Texts.{IsText, first, spaces, marker, no_marker, starts_line}
 use Rattle.yaml_grammar.specs.Separation.{Sep, sep_text, sep_fits}
 use Rattle.yaml_grammar.specs.FlowScalars.{FlowContext, outer, safe, plain_text, lines_text, plain_run, quoted_char_fits, plain, double}
 use Rattle.yaml_grammar.specs.FlowNodes.{scalar, flow_text, flow_fits}
@@ -35,10 +35,10 @@ letter_tells x h = of_letter starts_word x refl h
 abbrev pub Wide : FlowContext → Type 0
 Wide c = (x : ℕ) → safe c x ≡ ns x
 
-run_fits : (c : FlowContext) (prev : ℕ) (xs after : List ℕ) → Wide c → white prev ≡ false → every word_char xs ≡ true → plain_run c prev xs after ≡ true
+run_fits : (c : FlowContext) (prev : ℕ) (xs after : List ℕ) → Wide c → white prev ≡ false → list_all word_char xs ≡ true → plain_run c prev xs after ≡ true
 run_fits c prev [] after w p h = not_from_false _ p
 run_fits c prev (x ∷ xs) after w p h =
-    let q : (word_char x ≡ true) × (every word_char xs ≡ true) = and_parts _ _ h in
+    let q : (word_char x ≡ true) × (list_all word_char xs ≡ true) = and_parts _ _ h in
     let r : (ns x && not (is_in x (codes ":#")) ≡ true) × (not (white x) ≡ true) = and_parts _ _ (word_tells x q.0) in
     and_from _ _ (or_right (white x) _ (or_left _ _ (or_left _ _ (ap (λ b. b && not (is_in x (codes ":#"))) (w x) ∙ r.0)))) (run_fits c x xs after w (not-true _ r.1) q.1)
 
@@ -56,12 +56,12 @@ no_marker_there false text h = refl
 word_fits : (value : List ℕ) (n : ℕ) (c : FlowContext) (bol : Bool) (after : List ℕ) → Wide c → plain_in_style value ≡ true → flow_fits (scalar (plain value [])) n c bol after ≡ true
 word_fits [] n c bol after w h = absurd (false≢true h)
 word_fits (x ∷ xs) n c bol after w h =
-    let p : (letter x ≡ true) × (every word_char (x ∷ xs) ≡ true) = and_parts _ _ (and_parts _ _ (and_parts _ _ h).0).0 in
+    let p : (letter x ≡ true) × (list_all word_char (x ∷ xs) ≡ true) = and_parts _ _ (and_parts _ _ (and_parts _ _ h).0).0 in
     let q : (ns x && not (indicator x) && not (white x) && not (x == 46) ≡ true) × (not (x == 45) ≡ true) = and_parts _ _ (letter_tells x p.0) in
     let r : (ns x && not (indicator x) && not (white x) ≡ true) × (not (x == 46) ≡ true) = and_parts _ _ q.0 in
     let s : (ns x && not (indicator x) ≡ true) × (not (white x) ≡ true) = and_parts _ _ r.0 in
     let t : (ns x ≡ true) × (not (indicator x) ≡ true) = and_parts _ _ s.0 in
-    let rest : every word_char xs ≡ true = (and_parts _ _ p.1).1 in
+    let rest : list_all word_char xs ≡ true = (and_parts _ _ p.1).1 in
     let tail : List ℕ = lines_text plain_text xs [] ++ after in
     and_from _ _ (and_from _ _ (and_from _ _
     (no_marker_there bol (x ∷ tail) (unmarked x tail (not-true _ q.1) (not-true _ r.1)))
@@ -72,7 +72,7 @@ word_fits (x ∷ xs) n c bol after w h =
 items_fit_quotes : (value : List ℕ) → IsText value → list_all quoted_char_fits (items_of_text value) ≡ true
 items_fit_quotes [] t = refl
 items_fit_quotes (c ∷ cs) t =
-    let p : (code_point c ≡ true) × (every code_point cs ≡ true) = and_parts _ _ t in
+    let p : (code_point c ≡ true) × (list_all code_point cs ≡ true) = and_parts _ _ t in
     and_from _ _ (item_quotes c p.0).0 (items_fit_quotes cs p.1)
 
 quoted_fits : (value : List ℕ) (n : ℕ) (c : FlowContext) (bol : Bool) (after : List ℕ) → IsText value → flow_fits (scalar (double (items_of_text value) [])) n c bol after ≡ true
@@ -119,24 +119,24 @@ shown_nb c f h = elim (or_cases (shown c) (c == 10) h) [
   | inr e ↦ absurd (false≢true (sym f ∙ e))
 ]
 
-held_nb : (cs : List ℕ) → every shown_or_feed cs ≡ true → every nb (held_by cs) ≡ true
+held_nb : (cs : List ℕ) → list_all shown_or_feed cs ≡ true → list_all nb (held_by cs) ≡ true
 held_nb [] h = refl
 held_nb (c ∷ cs) h =
-    let p : (shown_or_feed c ≡ true) × (every shown_or_feed cs ≡ true) = and_parts _ _ h in
+    let p : (shown_or_feed c ≡ true) × (list_all shown_or_feed cs ≡ true) = and_parts _ _ h in
     elim (cases_Bool (c == 10)) [
       | inl e ↦ rw e
       | inr e ↦ rw e (and_from _ _ (shown_nb c e p.0) (held_nb cs p.1))
     ]
 
-line_fits : (q c empties : ℕ) (held after : List ℕ) → nb c ≡ true → every nb held ≡ true → text_line_fits (suc q) (line_with (c ∷ held) empties) after ≡ true
+line_fits : (q c empties : ℕ) (held after : List ℕ) → nb c ≡ true → list_all nb held ≡ true → text_line_fits (suc q) (line_with (c ∷ held) empties) after ≡ true
 line_fits q c empties held after h k =
     let tail : List ℕ = spaces q ++ (c ∷ held) ++ codes "\n" ++ gaps_text (bare_gaps empties) ++ after in
     and_from _ _ (and_from _ _ (and_from _ _ (and_from _ _ refl (and_from _ _ h k)) (no_marker_there true (32 ∷ tail) (unmarked 32 tail refl refl))) refl) (bare_gaps_fit (suc q) empties after)
 
-lines_fit : (q : ℕ) (fresh : Bool) (cs after : List ℕ) → every shown_or_feed cs ≡ true → text_lines_fit (suc q) (lines_in fresh cs) after ≡ true
+lines_fit : (q : ℕ) (fresh : Bool) (cs after : List ℕ) → list_all shown_or_feed cs ≡ true → text_lines_fit (suc q) (lines_in fresh cs) after ≡ true
 lines_fit q fresh [] after h = refl
 lines_fit q fresh (c ∷ cs) after h =
-    let p : (shown_or_feed c ≡ true) × (every shown_or_feed cs ≡ true) = and_parts _ _ h in
+    let p : (shown_or_feed c ≡ true) × (list_all shown_or_feed cs ≡ true) = and_parts _ _ h in
     elim (cases_Bool (c == 10)) [
       | inl e ↦ rw e (lines_fit q true cs after p.1)
       | inr e ↦ rw e (cond_both fresh _ _ (λ ls. text_lines_fit (suc q) ls after ≡ true)
@@ -147,7 +147,7 @@ lines_fit q fresh (c ∷ cs) after h =
 literal_fits : (i m : ℕ) (value after : List ℕ) → m ≤ i + 2 → literal_in_style value ≡ true → Below i after → block_fits m (literal_block (i + 2) value) after ≡ true
 literal_fits i m [] after l h b = absurd (false≢true h)
 literal_fits i m (c ∷ cs) after l h b =
-    let p : (is_in 10 (c ∷ cs) && not (first space_or_feed (c ∷ cs)) ≡ true) × (every shown_or_feed (c ∷ cs) ≡ true) = and_parts _ _ h in
+    let p : (is_in 10 (c ∷ cs) && not (first space_or_feed (c ∷ cs)) ≡ true) × (list_all shown_or_feed (c ∷ cs) ≡ true) = and_parts _ _ h in
     let q : (is_in 10 (c ∷ cs) ≡ true) × (not (first space_or_feed (c ∷ cs)) ≡ true) = and_parts _ _ p.0 in
     let f : (c == 32 ≡ false) × (c == 10 ≡ false) = or_parts (c == 32) (c == 10) (not-true _ q.1) in
     let two : i + 2 ≡ suc (suc i) = omega arith in

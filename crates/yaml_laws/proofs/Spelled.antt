@@ -4,15 +4,16 @@ use Rattle.std.specs.Prelude.{ℕ, zero, suc, ◌+◌, ◌/◌, ◌%◌, Bool, t
 use Rattle.std.proofs.lemmas.List.{append-nil}
 use Rattle.std.proofs.lemmas.Bool.{cases_Bool, and_parts, or_parts, not-true}
 use Rattle.yaml_chars.specs.Classes.{between, is_in}
-use Rattle.yaml_grammar.specs.Texts.{spaces, first, every}
+use Rattle.std.specs.List.{list_all}
+use Rattle.yaml_grammar.specs.Texts.{spaces, first}
 use Rattle.yaml_grammar.specs.Separation.{Sep, sep_text}
 use Rattle.yaml_grammar.specs.FlowScalars.{raw, escape, number, quoted_char_text, plain_text, plain, double, scalar_text}
 use Rattle.yaml_grammar.specs.FlowNodes.{scalar, flow_text}
 use Rattle.yaml_grammar.specs.BlockScalars.{chomping_text, gaps_text, text_lines_text, block_text}
 use Rattle.yaml_grammar.specs.BlockNodes.{flow, block, Node, node_text, Indented, indented_text, items_text, Pair, pair_text, pairs_text, asked, keyed, node}
 use Rattle.yaml_grammar.specs.Trees.{Tree, text, sequence, mapping, Elements, no_element, element, Members, no_member, member}
-use Rattle.yaml_grammar.specs.Streams.{spelled}
-use Rattle.yaml_grammar.specs.Style.{plain_in_style, literal_in_style, shown, shown_or_feed, space_or_feed, hex, letter_escape, quoted_char, quoted_chars, quoted, literal_mark, literal_lines, feeds_at_end, scalar_lines, key_text, long_key, key_lines, elements_after, element_at, members_after, value_at, style_text}
+use Rattle.yaml_grammar.specs.Streams.{stream_text}
+use Rattle.yaml_grammar.specs.Style.{plain_in_style, literal_in_style, shown, shown_or_feed, space_or_feed, hex, letter_escape, quoted_char, quoted_chars, in_double_quotes, literal_mark, literal_lines, feeds_at_end, scalar_lines, key_text, long_key, key_lines, elements_after, element_at, members_after, value_at, style_text}
 use Rattle.yaml_laws.specs.Closed.{framed_text}
 use Rattle.yaml_laws.proofs.Presented.{feed, one_space, item_of, items_of_text, word_flow, bare_gaps, held_by, empties_in, lines_in, chomping_of, literal_block, scalar_node, pair_of, element_of, value_of, items_from, pairs_from, Place, at_start, after_marker, place_sep, top_node, presentation_of, framed_presentation_of}
 
@@ -87,7 +88,7 @@ no_empties (c ∷ cs) h = let e : (c == 10) ≡ false = (or_parts (c == 32) (c =
 literal_spelled : (j : ℕ) (value : List ℕ) → literal_in_style value ≡ true
     → block_text (literal_block j value) ≡ (literal_mark (feeds_at_end value) ++ (10 ∷ [])) ++ literal_lines j true value
 literal_spelled j value h =
-    let p : (is_in 10 value && not (first space_or_feed value) ≡ true) × (every shown_or_feed value ≡ true) = and_parts _ _ h in
+    let p : (is_in 10 value && not (first space_or_feed value) ≡ true) × (list_all shown_or_feed value ≡ true) = and_parts _ _ h in
     let none : empties_in true value ≡ 0 = no_empties value (not-true _ (and_parts _ _ p.0).1) in
     let lines : text_lines_text j (lines_in true value) ≡ literal_lines j true value = (rw none at (fresh_spelled j value)) in
     append-nil _ ∙ (mark_spelled (feeds_at_end value) (text_lines_text j (lines_in true value)) ∙ ap (λ t. (literal_mark (feeds_at_end value) ++ (10 ∷ [])) ++ t) lines)
@@ -97,10 +98,10 @@ scalar_spelled sep j value = by (plain_in_style value) (literal_in_style value) 
   where
     by : (p l : Bool) → literal_in_style value ≡ l
         → node_text (cond p (flow sep (scalar (plain value [])) (feed ∷ [])) (cond l (block sep (literal_block j value)) (flow sep (scalar (double (items_of_text value) [])) (feed ∷ []))))
-        ≡ sep_text sep ++ cond p (value ++ codes "\n") (cond l (literal_mark (feeds_at_end value) ++ codes "\n" ++ literal_lines j true value) (quoted value ++ codes "\n"))
+        ≡ sep_text sep ++ cond p (value ++ codes "\n") (cond l (literal_mark (feeds_at_end value) ++ codes "\n" ++ literal_lines j true value) (in_double_quotes value ++ codes "\n"))
     by true l e = ap (λ t. (sep_text sep ++ t) ++ (10 ∷ [])) (word_spelled value) ∙ append_assoc (sep_text sep) value (10 ∷ [])
     by false true e = ap (λ t. sep_text sep ++ t) (literal_spelled j value e)
-    by false false e = ap (λ t. (sep_text sep ++ t) ++ (10 ∷ [])) (quoted_spelled value) ∙ append_assoc (sep_text sep) (quoted value) (10 ∷ [])
+    by false false e = ap (λ t. (sep_text sep ++ t) ++ (10 ∷ [])) (quoted_spelled value) ∙ append_assoc (sep_text sep) (in_double_quotes value) (10 ∷ [])
 
 -- ---- keys
 
@@ -181,9 +182,9 @@ top_spelled after_marker (mapping (member key t ms)) =
     rw (members_spelled (pair_of key (value_of t 0)) ms 0, pair_spelled key (value_of t 0) 0, value_spelled t 0)
 
 -- the presentation of a tree spells its text
-pub presentation_spelled : (t : Tree) → spelled (presentation_of t) ≡ style_text t
+pub presentation_spelled : (t : Tree) → stream_text (presentation_of t) ≡ style_text t
 presentation_spelled t = append-nil _ ∙ top_spelled at_start t
 
 -- the framed one spells the framed text
-pub framed_spelled : (t : Tree) → spelled (framed_presentation_of t) ≡ framed_text t
+pub framed_spelled : (t : Tree) → stream_text (framed_presentation_of t) ≡ framed_text t
 framed_spelled t = ap (λ s. (codes "---" ++ s) ++ codes "...\n") (top_spelled after_marker t)

@@ -2,9 +2,10 @@
 use Rattle.std.proofs.Common.{◌≡◌, refl, sym, ◌∙◌, ap, subst, arith, append_assoc}
 use Rattle.std.specs.Prelude.{ℕ, zero, suc, ◌+◌, Bool, true, false, cond, not, ◌&&◌, nat_lt, ◌==◌, List, [], ◌∷◌, ◌++◌, codes}
 use Rattle.std.proofs.lemmas.Bool.{cond_both, and_parts, and_from, not-true, not_from_false, ne_eqb, false≢true}
-use Rattle.yaml_grammar.specs.Texts.{every, spaces}
+use Rattle.std.specs.List.{list_all}
+use Rattle.yaml_grammar.specs.Texts.{spaces}
 use Rattle.yaml_grammar.specs.Trees.{Tree, text, sequence, mapping, Elements, no_element, element, Members, no_member, member}
-use Rattle.yaml_grammar.specs.Style.{letter, word_char, hex, quoted_chars, quoted, plain_in_style, literal_in_style, literal_mark, literal_lines, feeds_at_end, scalar_lines, key_text, long_key, key_lines, elements_at, elements_after, element_at, members_at, members_after, value_at, style_text}
+use Rattle.yaml_grammar.specs.Style.{letter, word_char, hex, quoted_chars, in_double_quotes, plain_in_style, literal_in_style, literal_mark, literal_lines, feeds_at_end, scalar_lines, key_text, long_key, key_lines, elements_at, elements_after, element_at, members_at, members_after, value_at, style_text}
 use Rattle.yaml_laws.proofs.Characters.{every_joined, of_letter, of_word, shown_low, Writes, quoted_chars_all}
 use Rattle.yaml_laws.proofs.Spelled.{item_regrouped, pair_regrouped}
 use Rattle.yaml_laws.proofs.Closings.{ends_from, dotless}
@@ -40,43 +41,43 @@ not_both false b e = refl
 abbrev no_feed : ℕ → Bool
 no_feed c = not (c == 10)
 
-unbroken : (cs : List ℕ) → every no_feed cs ≡ true → Lined false cs false
+unbroken : (cs : List ℕ) → list_all no_feed cs ≡ true → Lined false cs false
 unbroken [] h = (refl, refl)
 unbroken (c ∷ cs) h =
-    let p : (no_feed c ≡ true) × (every no_feed cs ≡ true) = and_parts _ _ h in
+    let p : (no_feed c ≡ true) × (list_all no_feed cs ≡ true) = and_parts _ _ h in
     let e : c == 10 ≡ false = not-true _ p.0 in
     let more : Lined false cs false = unbroken cs p.1 in
     (ap (λ b. dotless b cs) e ∙ more.0, ap (λ b. ends_from b cs) e ∙ more.1)
 
 -- a character that isn't a dot, and the rest of its line
-begun : (bol : Bool) (c : ℕ) (cs : List ℕ) → c == 46 ≡ false → every no_feed (c ∷ cs) ≡ true → Lined bol (c ∷ cs) false
+begun : (bol : Bool) (c : ℕ) (cs : List ℕ) → c == 46 ≡ false → list_all no_feed (c ∷ cs) ≡ true → Lined bol (c ∷ cs) false
 begun bol c cs d h =
     let l : Lined false (c ∷ cs) false = unbroken (c ∷ cs) h in
     (and_from _ _ (not_both bol (c == 46) d) l.0, l.1)
 
 -- ---- words and quotes
 
-word_feedless : (cs : List ℕ) → every word_char cs ≡ true → every no_feed cs ≡ true
+word_feedless : (cs : List ℕ) → list_all word_char cs ≡ true → list_all no_feed cs ≡ true
 word_feedless [] h = refl
 word_feedless (c ∷ cs) h =
-    let p : (word_char c ≡ true) × (every word_char cs ≡ true) = and_parts _ _ h in
+    let p : (word_char c ≡ true) × (list_all word_char cs ≡ true) = and_parts _ _ h in
     and_from _ _ (of_word no_feed c refl p.0) (word_feedless cs p.1)
 
 word_lined : (value : List ℕ) (bol : Bool) → plain_in_style value ≡ true → Lined bol value false
 word_lined [] bol h = absurd (false≢true h)
 word_lined (c ∷ cs) bol h =
-    let p : (letter c ≡ true) × (every word_char (c ∷ cs) ≡ true) = and_parts _ _ (and_parts _ _ (and_parts _ _ h).0).0 in
+    let p : (letter c ≡ true) × (list_all word_char (c ∷ cs) ≡ true) = and_parts _ _ (and_parts _ _ (and_parts _ _ h).0).0 in
     begun bol c cs (not-true _ (of_letter (λ y. not (y == 46)) c refl p.0)) (word_feedless (c ∷ cs) p.1)
 
 hex_feedless : (d : ℕ) → no_feed (hex d) ≡ true
 hex_feedless d =
     cond_both (nat_lt d 10) (48 + d) (55 + d) (λ x. no_feed x ≡ true) (λ e. not_from_false _ (ne_eqb (48 + d) 10 (λ q. omega (arith, q)))) (λ e. not_from_false _ (ne_eqb (55 + d) 10 (λ q. omega (arith, q))))
 
-any : (cs : List ℕ) → every (λ c. true) cs ≡ true
+any : (cs : List ℕ) → list_all (λ c. true) cs ≡ true
 any [] = refl
 any (c ∷ cs) = any cs
 
-quoted_lined : (value : List ℕ) (bol : Bool) → Lined bol (quoted value) false
+quoted_lined : (value : List ℕ) (bol : Bool) → Lined bol (in_double_quotes value) false
 quoted_lined value bol =
     begun bol 34 (quoted_chars value ++ (34 ∷ [])) refl (every_joined no_feed (quoted_chars value) (34 ∷ []) (quoted_chars_all no_feed (λ c. true) value (λ c h. writes c) (any value)) refl)
   where
@@ -117,7 +118,7 @@ scalar_lined i value bol =
     (λ e. joined bol false true value (codes "\n") (word_lined value bol e) (refl, refl))
     (λ e. cond_both (literal_in_style value) _ _ (λ ls. Lined bol ls true)
     (λ l. joined bol true true (literal_mark (feeds_at_end value) ++ codes "\n") (literal_lines (i + 2) true value) (mark_lined bol (feeds_at_end value)) (rw two (literal_lined (suc i) true value)))
-    (λ l. joined bol false true (quoted value) (codes "\n") (quoted_lined value bol) (refl, refl)))
+    (λ l. joined bol false true (in_double_quotes value) (codes "\n") (quoted_lined value bol) (refl, refl)))
 
 key_lined : (key : List ℕ) (bol : Bool) → Lined bol (key_text key) false
 key_lined key bol = cond_both (plain_in_style key) _ _ (λ ls. Lined bol ls false) (λ e. word_lined key bol e) (λ e. quoted_lined key bol)

@@ -1,7 +1,7 @@
 -- The one style presents each tree, alone and framed, and where no text has two meanings it reads as that tree.
 use Rattle.std.proofs.Common.{◌≡◌, refl, ◌∙◌, ℕ, List}
 use Rattle.yaml_grammar.specs.Reads.{CanRead, Presents, Reads}
-use Rattle.yaml_grammar.specs.Streams.{Stream, meant}
+use Rattle.yaml_grammar.specs.Streams.{Stream, stream_events}
 use Rattle.yaml_grammar.specs.Trees.{Tree}
 use Rattle.yaml_grammar.specs.Style.{style_text}
 use Rattle.yaml_laws.specs.Laws.{CanReadAs, StylePresents, FramedPresents, StyleReads, FramedReads}
@@ -17,7 +17,7 @@ pub style_presented : StylePresents
 style_presented t h =
     record {
       text = style_is_text t h;
-      events = meant (presentation_of t);
+      events = stream_events (presentation_of t);
       reads = record { presentation = presentation_of t; presents = record { fits = presentation_fits t h; spells = presentation_spelled t }; means = refl };
       tree = presentation_meant t h;
     }
@@ -27,14 +27,14 @@ pub framed_presented : FramedPresents
 framed_presented t h =
     record {
       text = framed_is_text t h;
-      events = meant (framed_presentation_of t);
+      events = stream_events (framed_presentation_of t);
       reads = record { presentation = framed_presentation_of t; presents = record { fits = framed_fits t h; spells = framed_spelled t }; means = refl };
       tree = framed_meant t h;
     }
 
 -- two presentations of one text mean the same
 abbrev pub Unambiguous : Type 0
-Unambiguous = (source : List ℕ) (p q : Stream) → Presents p source → Presents q source → meant p ≡ meant q
+Unambiguous = (source : List ℕ) (p q : Stream) → Presents p source → Presents q source → stream_events p ≡ stream_events q
 
 -- what can be read, and has one meaning, reads so
 read_alone : Unambiguous → (source : List ℕ) (t : Tree) (can : CanReadAs source t) → Reads source can.events

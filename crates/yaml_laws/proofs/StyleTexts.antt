@@ -3,9 +3,10 @@ use Rattle.std.proofs.Common.{◌≡◌, refl, arith, ◌<◌, ◌≤◌}
 use Rattle.std.specs.Prelude.{ℕ, zero, suc, ◌+◌, Bool, true, false, nat_lt, ◌==◌, List, [], ◌∷◌, ◌++◌, codes}
 use Rattle.std.proofs.lemmas.Bool.{cond_both, and_parts, and_from, or_left, le-leb}
 use Rattle.yaml_chars.specs.Classes.{between, code_point}
-use Rattle.yaml_grammar.specs.Texts.{IsText, every, spaces}
+use Rattle.std.specs.List.{list_all}
+use Rattle.yaml_grammar.specs.Texts.{IsText, spaces}
 use Rattle.yaml_grammar.specs.Trees.{Tree, text, sequence, mapping, Elements, no_element, element, Members, no_member, member, IsTextTree, AreTextElements, AreTextMembers}
-use Rattle.yaml_grammar.specs.Style.{hex, quoted_chars, quoted, plain_in_style, literal_in_style, literal_mark, literal_lines, feeds_at_end, scalar_lines, key_text, long_key, key_lines, elements_at, elements_after, element_at, members_at, members_after, value_at, style_text}
+use Rattle.yaml_grammar.specs.Style.{hex, quoted_chars, in_double_quotes, plain_in_style, literal_in_style, literal_mark, literal_lines, feeds_at_end, scalar_lines, key_text, long_key, key_lines, elements_at, elements_after, element_at, members_at, members_after, value_at, style_text}
 use Rattle.yaml_laws.specs.Closed.{framed_text}
 use Rattle.yaml_laws.proofs.Characters.{every_joined, code_point_high, Writes, quoted_chars_all}
 
@@ -24,7 +25,7 @@ low_code_point c h = or_left (between 0 0xd7ff c) _ (and_from _ _ (le-leb 0 c (o
 hex_text : (d : ℕ) → d < 300 → code_point (hex d) ≡ true
 hex_text d h = cond_both (nat_lt d 10) (48 + d) (55 + d) (λ x. code_point x ≡ true) (λ e. low_code_point (48 + d) (omega arith)) (λ e. low_code_point (55 + d) (omega arith))
 
-quoted_text : (value : List ℕ) → IsText value → IsText (quoted value)
+quoted_text : (value : List ℕ) → IsText value → IsText (in_double_quotes value)
 quoted_text value t = joined (quoted_chars value) (34 ∷ []) (quoted_chars_all code_point code_point value writes t) refl
   where
     writes : (c : ℕ) → code_point c ≡ true → Writes code_point c
@@ -36,7 +37,7 @@ lines_are_text : (j : ℕ) (fresh : Bool) (cs : List ℕ) → IsText cs → IsTe
 lines_are_text j true [] t = refl
 lines_are_text j false [] t = refl
 lines_are_text j fresh (c ∷ cs) t =
-    let p : (code_point c ≡ true) × (every code_point cs ≡ true) = and_parts _ _ t in
+    let p : (code_point c ≡ true) × (list_all code_point cs ≡ true) = and_parts _ _ t in
     cond_both (c == 10) _ _ IsText (λ e. lines_are_text j true cs p.1)
     (λ e. cond_both fresh _ _ (λ lead. IsText (lead ++ c ∷ literal_lines j false cs))
     (λ f. joined (spaces j) (c ∷ literal_lines j false cs) (spaces_text j) (and_from _ _ p.0 (lines_are_text j false cs p.1)))
@@ -52,7 +53,7 @@ scalar_text j value t =
     cond_both (plain_in_style value) _ _ IsText (λ e. joined value (10 ∷ []) t refl)
     (λ e. cond_both (literal_in_style value) _ _ IsText
     (λ l. joined (literal_mark (feeds_at_end value) ++ codes "\n") (literal_lines j true value) (mark_is_text (feeds_at_end value)) (lines_are_text j true value t))
-    (λ l. joined (quoted value) (10 ∷ []) (quoted_text value t) refl))
+    (λ l. joined (in_double_quotes value) (10 ∷ []) (quoted_text value t) refl))
 
 key_is_text : (key : List ℕ) → IsText key → IsText (key_text key)
 key_is_text key t = cond_both (plain_in_style key) _ _ IsText (λ e. t) (λ e. quoted_text key t)

@@ -10,12 +10,12 @@ abbrev pub framed_text : Tree → List ℕ
 framed_text t = codes "---\n" ++ (style_text t ++ codes "...\n")
 
 -- as bytes
-abbrev pub framed : Tree → List ℕ
-framed t = encode_utf8_all (framed_text t)
+abbrev pub framed_text_bytes : Tree → List ℕ
+framed_text_bytes t = encode_utf8_all (framed_text t)
 
 -- the texts of trees, one after another
-abbrev pub framed_all : List Tree → List ℕ
-framed_all ts = concat (map framed ts)
+abbrev pub all_framed_bytes : List Tree → List ℕ
+all_framed_bytes ts = concat (map framed_text_bytes ts)
 
 -- at the place one of the texts in a row ends, no further than the first `kept` bytes reach
 pub record EndsWhole (ts : List Tree) (kept place : ℕ) : Type 0 where
@@ -23,17 +23,17 @@ pub record EndsWhole (ts : List Tree) (kept place : ℕ) : Type 0 where
   pub one : Tree
   pub after : List Tree
   pub all : ts ≡ before ++ (one ∷ after)
-  pub ends : place ≡ length (framed_all (before ++ (one ∷ [])))
+  pub ends : place ≡ length (all_framed_bytes (before ++ (one ∷ [])))
   pub within : place ≤ kept
 
 -- each closes once, at its end
 abbrev pub ClosedOnce : Type 0
-ClosedOnce = (t : Tree) → ClosesOnce (framed t)
+ClosedOnce = (t : Tree) → ClosesOnce (framed_text_bytes t)
 
 -- If a prefix of consecutive texts is kept, and zeros come after it, it closes at the ends of the texts that are whole,
 -- and nowhere else.
 abbrev pub TornClosings : Type 0
-TornClosings = (ts : List Tree) (prefix lost : List ℕ) (padding place : ℕ) → framed_all ts ≡ prefix ++ lost
+TornClosings = (ts : List Tree) (prefix lost : List ℕ) (padding place : ℕ) → all_framed_bytes ts ≡ prefix ++ lost
     → (ClosesAt (prefix ++ replicate padding 0) place ↔ EndsWhole ts (length prefix) place)
 
 -- the pieces of a prefix with zeros after it: the texts that are whole; the rest is what is kept of the next one, and
@@ -43,13 +43,13 @@ pub record TornPieces (ts : List Tree) (prefix : List ℕ) (padding : ℕ) : Typ
   pub further : List Tree
   pub kept : List ℕ
   pub all : ts ≡ whole ++ further
-  pub cut : prefix ≡ framed_all whole ++ kept
-  pub short : (next : Tree) (more : List Tree) → further ≡ next ∷ more → length kept < length (framed next)
-  pub pieces : Pieces (prefix ++ replicate padding 0) (map framed whole) (kept ++ replicate padding 0)
+  pub cut : prefix ≡ all_framed_bytes whole ++ kept
+  pub short : (next : Tree) (more : List Tree) → further ≡ next ∷ more → length kept < length (framed_text_bytes next)
+  pub pieces : Pieces (prefix ++ replicate padding 0) (map framed_text_bytes whole) (kept ++ replicate padding 0)
 
 -- the same for all lists of trees, and wherever they are cut
 abbrev pub TornInPieces : Type 0
-TornInPieces = (ts : List Tree) (prefix lost : List ℕ) (padding : ℕ) → framed_all ts ≡ prefix ++ lost → TornPieces ts prefix padding
+TornInPieces = (ts : List Tree) (prefix lost : List ℕ) (padding : ℕ) → all_framed_bytes ts ≡ prefix ++ lost → TornPieces ts prefix padding
 
 -- bytes have only one list of pieces
 abbrev pub OnePieces : Type 0

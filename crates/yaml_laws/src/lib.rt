@@ -9,9 +9,9 @@ ghost use Rattle.yaml_laws.specs.Laws.{FramedPresents, FramedReads, StylePresent
 
 use yaml_recognizers::texts::unambiguous;
 
-/// Each tree of texts, written in the one style, is a text that can be read as that tree: it has a presentation that
-/// fits (YAML 1.2.2, chapters 5 to 9) and means the tree's events. The same holds for the text between a line of
-/// `---` and a line of `...`.
+/// Each tree of texts, written in the one style, is a text that can be read as that tree. It has a presentation that
+/// fits (YAML 1.2.2, chapters 5 to 9) and means the tree's events. The same holds for the text between a line of `---`
+/// and a line of `...`.
 pub fn style_presents()
     ensures alone { StylePresents }
     ensures framed { FramedPresents }
@@ -28,8 +28,8 @@ pub fn style_reads()
 
 /// A line of `---`, a tree in the one style, and a line of `...` contain exactly one closing line, at their end.
 ///
-/// If a sequence of such texts is cut at any byte and any number of zero bytes follows, the closing lines still mark
-/// exactly the texts that are whole, and these texts are its pieces.
+/// Suppose that a sequence of such texts is cut at any byte and any number of zero bytes follows. The closing lines
+/// still mark exactly the texts that are whole, and these texts are its pieces.
 pub fn closed_once()
     ensures once { ClosedOnce }
     ensures torn { TornClosings }
@@ -42,8 +42,8 @@ pub fn one_list_of_pieces()
     ensures one { OnePieces }
 {}
 
-/// Pieces are found from one closing line to the next: between the start of a line and the end of the next closing
-/// line is a piece, and after the last closing line is the rest.
+/// Pieces are found from one closing line to the next. Between the start of a line and the end of the next closing line
+/// is a piece, and after the last closing line is the rest.
 pub fn piece_between_closings()
     ensures piece { PieceBetween }
     ensures rest { RestUnclosed }

@@ -8,10 +8,10 @@ use Rattle.yaml_grammar.specs.FlowNodes.{Flow, short_key}
 use Rattle.yaml_grammar.specs.BlockScalars.{BlockScalar, spaces_before, past_spaces}
 use Rattle.yaml_grammar.specs.BlockNodes.{Node, block, flow, items, pairs, Items, item, item_and, Pairs, pair, pair_and, Pair, asked, asked_alone, keyed, keyed_alone, Indented, compact_items, compact_pairs, node, omitted, is_omitted}
 use Rattle.yaml_recognizers.specs.Signs.{colon, dash, greater, question, vertical_bar}
-use Rattle.yaml_recognizers.specs.Prefixes.{taken, dropped, past, sign}
+use Rattle.yaml_recognizers.specs.Prefixes.{take_while, drop_while, past, sign}
 use Rattle.yaml_recognizers.specs.Reading.{Read, on}
 use Rattle.yaml_recognizers.specs.Comments.{all_comments, closes_line}
-use Rattle.yaml_recognizers.specs.Ends.{ended}
+use Rattle.yaml_recognizers.specs.Ends.{block_node_stops}
 use Rattle.yaml_recognizers.specs.FlowNodes.{whole_flow}
 
 -- ---- keys: a flow node on one line, whitespace, and `:` not before an ns
@@ -22,7 +22,7 @@ key_after key gap after = if sign colon after && short_key key gap then Some ((k
 
 -- [193] ns-s-block-map-implicit-key, 8.2.2
 abbrev pub block_key_at : (ℕ → FlowContext → Bool → List ℕ → Read Flow) → Bool → List ℕ → Read (Flow × List ℕ)
-block_key_at read_flow bol text = on (read_flow 0 block_key bol text) (λ key rest. key_after key (taken white rest) (dropped white rest))
+block_key_at read_flow bol text = on (read_flow 0 block_key bol text) (λ key rest. key_after key (take_while white rest) (drop_while white rest))
 
 -- ---- nodes
 
@@ -41,7 +41,7 @@ flow_with sep f c = if closes_line c then Some (flow sep f c.0, c.1) else None
 
 -- comments, and then the end of the node: a value is left out
 abbrev pub omits : ℕ → Bool → List LineEnd × List ℕ → Bool
-omits m shallow c = closes_line c && ended m shallow c.1
+omits m shallow c = closes_line c && block_node_stops m shallow c.1
 
 -- the items, from the first one
 abbrev pub more_items : ℕ → (List ℕ → Read Items) → Indented → List ℕ → Read Items
@@ -53,7 +53,7 @@ more_items k again i rest =
 -- the pairs, from the first one
 abbrev pub more_pairs : ℕ → (List ℕ → Read Pairs) → Pair → List ℕ → Read Pairs
 more_pairs k again p rest =
-    if (spaces_before rest == k) && not (ended k false rest)
+    if (spaces_before rest == k) && not (block_node_stops k false rest)
     then on (again (past_spaces rest)) (λ ps rest'. Some (pair_and p ps, rest'))
     else Some (pair p, rest)
 
@@ -101,7 +101,7 @@ module _ (read_key : Bool → List ℕ → Read (Flow × List ℕ)) (read_flow :
       then on (items_at s rest) (λ is rest'. Some (items c.0 s is, rest'))
       else if (bol || not (is_empty c.0)) && nat_le m s && opens_pair (s == 0) rest
       then on (pairs_at s (s == 0) rest) (λ ps rest'. Some (pairs c.0 s ps, rest'))
-      else leaf_at m bol (sep_at m bol c.0 (taken white c.1)) (dropped white c.1)
+      else leaf_at m bol (sep_at m bol c.0 (take_while white c.1)) (drop_while white c.1)
 
   unfoldable mutual
     -- [196] s-l+block-node, 8.2.3, over so many levels at most

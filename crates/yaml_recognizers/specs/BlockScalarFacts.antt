@@ -1,7 +1,7 @@
 -- What a scanner of block scalars says in terms of the grammar, over lists: some presentation is at the start of the
 -- text, and each one there means the same and ends at the same place.
 use Rattle.std.specs.Prelude.{◌≡◌, ℕ, Bool, true, List, [], ◌∷◌, ◌++◌, Option}
-use Rattle.yaml_grammar.specs.BlockScalars.{Chomping, Header, BlockScalar, header_text, block_text, block_body_text, block_fits, block_events, block_value, TextLine, between_lines, chomped}
+use Rattle.yaml_grammar.specs.BlockScalars.{Chomping, Header, BlockScalar, header_text, block_text, block_body_text, block_fits, block_events, block_value, TextLine, between_lines, trailing_line_feeds}
 use Rattle.yaml_recognizers.specs.BlockScalars.{header_fits, Body, body_text, body_fits}
 
 -- ---- the header
@@ -71,5 +71,5 @@ NoBlock m text = (b : BlockScalar) (rest : List ℕ) → BlockStands m text b re
 
 -- the value after the first text line
 abbrev pub value_after : Bool → Chomping → TextLine → List TextLine → List ℕ
-value_after folded chomping l [] = chomped chomping l
+value_after folded chomping l [] = trailing_line_feeds chomping l
 value_after folded chomping l (m ∷ ms) = between_lines folded l m ++ (m.text ++ value_after folded chomping m ms)

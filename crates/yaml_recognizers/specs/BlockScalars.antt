@@ -7,7 +7,7 @@ use Rattle.yaml_grammar.specs.Separation.{Break, LineEnd, line_end_fits}
 use Rattle.yaml_grammar.specs.Texts.{first}
 use Rattle.yaml_recognizers.specs.CanonicalComments.{hash, is_line_end}
 use Rattle.yaml_recognizers.specs.Comments.{all_comments, read_break, read_line_end, read_stop}
-use Rattle.yaml_recognizers.specs.Prefixes.{dropped, taken}
+use Rattle.yaml_recognizers.specs.Prefixes.{drop_while, take_while}
 use Rattle.yaml_recognizers.specs.Reading.{Read, on}
 use Rattle.yaml_recognizers.specs.Signs.{dash, greater, plus, vertical_bar}
 
@@ -88,7 +88,7 @@ all_gaps text = gaps_of (λ _. true) text
 -- the line after its indentation, and the empty lines after it
 abbrev pub read_text_line : ℕ → List ℕ → Read TextLine
 read_text_line q line =
-    on (read_stop (dropped nb line)) (λ stop rest. let g = gaps_at q rest in Some (record { text = taken nb line; stop = stop; gaps = g.0 }, g.1))
+    on (read_stop (drop_while nb line)) (λ stop rest. let g = gaps_at q rest in Some (record { text = take_while nb line; stop = stop; gaps = g.0 }, g.1))
 
 -- the text lines at the start of the text, up to the first line that is neither a text line nor empty
 abbrev pub read_text_lines : ℕ → ℕ → List ℕ → Read (List TextLine)

@@ -1,7 +1,8 @@
 -- Block nodes whose comments, separation, flow nodes and block scalars are canonical. The rest is as in the grammar.
 use Rattle.std.specs.Prelude.{ℕ, suc, ◌+◌, Bool, true, false, not, ◌&&◌, nat_le, ◌==◌, List, ◌++◌, codes, if◌then◌else◌}
 use Rattle.yaml_chars.specs.Classes.{white, ns}
-use Rattle.yaml_grammar.specs.Texts.{every, first, spaces, starts_line}
+use Rattle.std.specs.List.{list_all}
+use Rattle.yaml_grammar.specs.Texts.{first, spaces, starts_line}
 use Rattle.yaml_grammar.specs.Separation.{comments_text, sep_text}
 use Rattle.yaml_grammar.specs.FlowScalars.{outer, block_key}
 use Rattle.yaml_grammar.specs.FlowNodes.{flow_text, short_key}
@@ -45,10 +46,10 @@ abbrev mutual
   canonical_pair (asked_alone key) k bol after =
       not (first ns (indented_text key k ++ after)) && not (is_omitted key) && canonical_indented key k true after
   canonical_pair (keyed key gap value) k bol after =
-      canonical_flow key 0 block_key bol (gap ++ (codes ":" ++ (node_text value ++ after))) && every white gap && short_key key gap
+      canonical_flow key 0 block_key bol (gap ++ (codes ":" ++ (node_text value ++ after))) && list_all white gap && short_key key gap
       && canonical_node value (suc k) true false after
   canonical_pair (keyed_alone key gap comments) k bol after =
-      canonical_flow key 0 block_key bol (gap ++ (codes ":" ++ (comments_text comments ++ after))) && every white gap && short_key key gap
+      canonical_flow key 0 block_key bol (gap ++ (codes ":" ++ (comments_text comments ++ after))) && list_all white gap && short_key key gap
       && canonical_comments false comments after
 
   -- what comes after a sign, in its canonical form

@@ -3,10 +3,11 @@
 -- to the first part that may have it. So a text has at most one canonical presentation.
 use Rattle.std.specs.Prelude.{ℕ, Bool, true, false, not, ◌&&◌, ◌||◌, ◌==◌, List, [], ◌∷◌, ◌++◌, Option, Some, None}
 use Rattle.yaml_chars.specs.Classes.{white, line_break, nb}
-use Rattle.yaml_grammar.specs.Texts.{is_empty, first, every}
+use Rattle.std.specs.List.{list_all}
+use Rattle.yaml_grammar.specs.Texts.{is_empty, first}
 use Rattle.yaml_grammar.specs.Separation.{LineEnd, comments_fit, Sep, inline, lines, indents}
 use Rattle.yaml_recognizers.specs.Signs.{number_sign}
-use Rattle.yaml_recognizers.specs.Prefixes.{dropped, past}
+use Rattle.yaml_recognizers.specs.Prefixes.{drop_while, past}
 
 -- `#`
 abbrev pub hash : ℕ → Bool
@@ -21,7 +22,7 @@ stops (c ∷ cs) = line_break c
 abbrev pub is_line_end : List ℕ → Bool
 is_line_end [] = false
 is_line_end (c ∷ cs) =
-    let rest = dropped white (c ∷ cs) in stops rest || (first hash rest && stops (dropped nb (past rest)))
+    let rest = drop_while white (c ∷ cs) in stops rest || (first hash rest && stops (drop_while nb (past rest)))
 
 -- all comment lines: no further one comes after them
 abbrev pub canonical_comments : Bool → List LineEnd → List ℕ → Bool
@@ -29,7 +30,7 @@ canonical_comments bol es after = comments_fit bol es after && not (is_line_end 
 
 -- separation over lines has the end of a line
 abbrev pub canonical_sep : ℕ → Bool → Bool → Sep → List ℕ → Bool
-canonical_sep n key bol (inline blank) after = every white blank && (bol || not (is_empty blank))
+canonical_sep n key bol (inline blank) after = list_all white blank && (bol || not (is_empty blank))
 canonical_sep n key bol (lines comments lead) after =
     not key && not (is_empty comments) && canonical_comments bol comments (lead ++ after) && indents n lead
 

@@ -2,7 +2,8 @@
 -- unless the document's node or the marker before it may have it.
 use Rattle.std.specs.Prelude.{ℕ, ◌+◌, Bool, true, false, not, ◌&&◌, List, [], ◌∷◌, ◌++◌, flat_map, if◌then◌else◌}
 use Rattle.yaml_chars.specs.Classes.{white}
-use Rattle.yaml_grammar.specs.Texts.{every, is_empty, byte_len, ends_word, starts_line}
+use Rattle.std.specs.List.{list_all}
+use Rattle.yaml_grammar.specs.Texts.{is_empty, byte_len, ends_word, starts_line}
 use Rattle.yaml_grammar.specs.Separation.{LineEnd, line_end_text, comment_line_fits, comments_text}
 use Rattle.yaml_grammar.specs.BlockNodes.{node_text}
 use Rattle.yaml_grammar.specs.Events.{Event}
@@ -53,7 +54,7 @@ abbrev pub canonical_document : Document → Bool → Bool → List ℕ → Bool
 canonical_document (bare n) opened bol after = opened && not (is_line_end (node_text n ++ after)) && canonical_node n 0 false bol after
 canonical_document (explicit x) opened bol after = canonical_explicit x bol after
 canonical_document (directed blank first_version comments x) opened bol after =
-    opened && bol && every white blank && not (is_empty blank) && canonical_comments false comments (explicit_text x ++ after)
+    opened && bol && list_all white blank && not (is_empty blank) && canonical_comments false comments (explicit_text x ++ after)
     && canonical_explicit x true after
 
 -- a piece in its canonical form; `...` is at the start of a line, as a marker
@@ -93,5 +94,5 @@ pieces_events [] at = []
 pieces_events (p ∷ ps) at = piece_events p at ++ pieces_events ps (at + byte_len (piece_text p))
 
 -- the events of a flat stream; a byte order mark has 3 bytes
-abbrev pub flat_meant : FlatStream → List Event
-flat_meant s = pieces_events s.pieces (if s.mark then 3 else 0)
+abbrev pub flat_events : FlatStream → List Event
+flat_events s = pieces_events s.pieces (if s.mark then 3 else 0)

@@ -4,7 +4,7 @@ use Rattle.yaml_chars.specs.Classes.{nb, white}
 use Rattle.yaml_grammar.specs.Separation.{Break, LineEnd, cr, cr_lf, lf, line_end_text}
 use Rattle.yaml_grammar.specs.Texts.{is_empty}
 use Rattle.yaml_recognizers.specs.CanonicalComments.{is_line_end}
-use Rattle.yaml_recognizers.specs.Prefixes.{dropped, taken}
+use Rattle.yaml_recognizers.specs.Prefixes.{drop_while, take_while}
 use Rattle.yaml_recognizers.specs.Reading.{Read}
 use Rattle.yaml_recognizers.specs.Signs.{carriage_return, line_feed, number_sign}
 
@@ -24,22 +24,22 @@ read_stop [] = Some (None, [])
 read_stop (c ∷ cs) = if c == line_feed then Some (Some lf, cs) else if c == carriage_return then (let r = read_cr cs in Some (Some r.0, r.1)) else None
 
 -- a line's end, from its whitespace, its comment and its stop
-abbrev pub stopped : List ℕ → Option (List ℕ) → Read (Option Break) → Read LineEnd
-stopped blank comment None = None
-stopped blank comment (Some r) =
+abbrev pub line_end_with_stop : List ℕ → Option (List ℕ) → Read (Option Break) → Read LineEnd
+line_end_with_stop blank comment None = None
+line_end_with_stop blank comment (Some r) =
     let e : LineEnd = record { blank = blank; comment = comment; stop = r.0 } in
     if is_empty (line_end_text e) then None else Some (e, r.1)
 
 -- after whitespace: a comment where one is allowed, and the line's end; not the empty text
 abbrev pub read_after_blank : Bool → List ℕ → List ℕ → Read LineEnd
-read_after_blank bol blank [] = stopped blank None (read_stop [])
+read_after_blank bol blank [] = line_end_with_stop blank None (read_stop [])
 read_after_blank bol blank (c ∷ cs) =
-    if (c == number_sign) && (bol || not (is_empty blank)) then stopped blank (Some (taken nb cs)) (read_stop (dropped nb cs))
-    else stopped blank None (read_stop (c ∷ cs))
+    if (c == number_sign) && (bol || not (is_empty blank)) then line_end_with_stop blank (Some (take_while nb cs)) (read_stop (drop_while nb cs))
+    else line_end_with_stop blank None (read_stop (c ∷ cs))
 
 -- [77] s-b-comment, 6.6
 abbrev pub read_line_end : Bool → List ℕ → Read LineEnd
-read_line_end bol text = read_after_blank bol (taken white text) (dropped white text)
+read_line_end bol text = read_after_blank bol (take_while white text) (drop_while white text)
 
 -- a first comment line, and then as many as the other recognizer finds
 abbrev pub more_comments : List ℕ → (List ℕ → List LineEnd × List ℕ) → Read LineEnd → List LineEnd × List ℕ

@@ -2,7 +2,8 @@
 use Rattle.std.specs.Prelude.{◌≡◌, ℕ, suc, Bool, true, false, not, ◌&&◌, ◌||◌, ◌==◌, nat_le, nat_lt, List, [], ◌∷◌, ◌++◌, Option, codes}
 use Rattle.std.proofs.Math.Logic.{◌⊎◌}
 use Rattle.yaml_chars.specs.Classes.{is_in, white, line_break, ns}
-use Rattle.yaml_grammar.specs.Texts.{every, first, is_empty, marker}
+use Rattle.std.specs.List.{list_all}
+use Rattle.yaml_grammar.specs.Texts.{first, is_empty, marker}
 use Rattle.yaml_grammar.specs.Separation.{LineEnd, comments_text, Sep, gap_text}
 use Rattle.yaml_grammar.specs.FlowScalars.{FlowContext, outer, inner, block_key, flow_key, safe}
 use Rattle.yaml_grammar.specs.BlockScalars.{spaces_before, past_spaces}
@@ -49,7 +50,7 @@ pub record BeforeColon (c : FlowContext) (after : List ℕ) : Type 0 where
   pub gap : List ℕ
   pub rest : List ℕ
   pub is : after ≡ gap ++ (colon ∷ rest)
-  pub gap_white : every white gap ≡ true
+  pub gap_white : list_all white gap ≡ true
   pub apart : first ns rest ≡ false
 
 -- the text ends, or starts with a marker, or with a line of fewer than n spaces
@@ -74,7 +75,7 @@ Stops n c after_plain after = BetweenBrackets c after_plain after ⊎ (BeforeCol
 -- Nothing of a node at m starts here: the text ends, or a marker, a line of whitespace or a comment, or a line less
 -- deep comes next. If the node may be a sequence as deep as its parent, which shallow says, that line has no `-` at the
 -- parent's indentation.
-abbrev pub ended : ℕ → Bool → List ℕ → Bool
-ended m shallow text =
+abbrev pub block_node_stops : ℕ → Bool → List ℕ → Bool
+block_node_stops m shallow text =
     is_empty text || marker text || is_line_end text
     || (nat_lt (spaces_before text) m && not (shallow && nat_le m (suc (spaces_before text)) && sign dash (past_spaces text)))

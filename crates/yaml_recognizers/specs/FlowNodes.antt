@@ -7,7 +7,7 @@ use Rattle.yaml_grammar.specs.FlowScalars.{FlowContext, flow_key, safe, inside, 
 use Rattle.yaml_grammar.specs.FlowNodes.{Flow, scalar, seq, map, Entries, none, last, next, Entry, entry, Value, absent, empty, given, value_text, is_plain, single_pair, short_key, before_colon}
 use Rattle.yaml_recognizers.specs.Signs.{close_brace, close_bracket, comma, open_brace, open_bracket, question}
 use Rattle.yaml_recognizers.specs.Prefixes.{past}
-use Rattle.yaml_recognizers.specs.Reading.{Read, on, closed, if_fits}
+use Rattle.yaml_recognizers.specs.Reading.{Read, on, read_closing, if_fits}
 use Rattle.yaml_recognizers.specs.CanonicalFlowNodes.{canonical_flow, canonical_value}
 use Rattle.yaml_recognizers.specs.Gaps.{GapRead, read_gap}
 use Rattle.yaml_recognizers.specs.Ends.{is_colon}
@@ -30,14 +30,14 @@ key_is_short n d in_seq bol ask key value rest =
     else true
 
 -- an entry, if its key is short
-abbrev pub made : ℕ → FlowContext → Bool → Bool → Option Sep → Flow → Value → List ℕ → Read Entry
-made n d in_seq bol ask key value rest = if_fits (key_is_short n d in_seq bol ask key value rest) (Some (entry ask key value, rest))
+abbrev pub entry_if_short : ℕ → FlowContext → Bool → Bool → Option Sep → Flow → Value → List ℕ → Read Entry
+entry_if_short n d in_seq bol ask key value rest = if_fits (key_is_short n d in_seq bol ask key value rest) (Some (entry ask key value, rest))
 
 -- ---- the steps, each over what was read before it
 
 -- a collection, from the gap after its bracket
 abbrev pub in_brackets : (Option Sep → Entries → Flow) → ℕ → (Option Sep → List ℕ → Read Entries) → GapRead → Read Flow
-in_brackets make close again gap = on (again gap.0 gap.1) (λ es rest. closed close (make gap.0 es) rest)
+in_brackets make close again gap = on (again gap.0 gap.1) (λ es rest. read_closing close (make gap.0 es) rest)
 
 -- the entries, from the first one and the gap after it
 abbrev pub next_entry : (List ℕ → GapRead) → (Option Sep → List ℕ → Read Entries) → Entry → GapRead → Read Entries
@@ -97,7 +97,7 @@ module _ (read_scalar : ℕ → FlowContext → Bool → List ℕ → Read Scala
         if is_asked d text
         then asked_entry (λ gap rest. read_flow fuel n d (starts_line false (gap_text gap)) rest) (λ after_plain rest. read_value fuel n d after_plain rest)
         (read_gap n (one_line d) (past text))
-        else on (read_flow fuel n d bol text) (λ key rest. keyed_entry (λ after_plain rest'. read_value fuel n d after_plain rest') (made n d in_seq bol None) key rest)
+        else on (read_flow fuel n d bol text) (λ key rest. keyed_entry (λ after_plain rest'. read_value fuel n d after_plain rest') (entry_if_short n d in_seq bol None) key rest)
 
     -- the value of an entry
     pub read_value : ℕ → ℕ → FlowContext → Bool → List ℕ → Read Value

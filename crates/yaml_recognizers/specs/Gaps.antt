@@ -2,7 +2,7 @@
 use Rattle.std.specs.Prelude.{ℕ, Bool, true, false, List, [], ◌∷◌, length, Option, Some, None, if◌then◌else◌}
 use Rattle.yaml_chars.specs.Classes.{white}
 use Rattle.yaml_grammar.specs.Separation.{LineEnd, Sep, inline, lines, indents}
-use Rattle.yaml_recognizers.specs.Prefixes.{taken, dropped}
+use Rattle.yaml_recognizers.specs.Prefixes.{take_while, drop_while}
 use Rattle.yaml_recognizers.specs.Reading.{Read}
 use Rattle.yaml_recognizers.specs.Comments.{read_line_end, read_comments}
 
@@ -21,14 +21,14 @@ lines_gap n text comments lead rest = if indents n lead then (Some (lines commen
 
 -- the gap after the end of a line
 abbrev pub gap_after : ℕ → List ℕ → LineEnd → List LineEnd × List ℕ → GapRead
-gap_after n text e more = lines_gap n text (e ∷ more.0) (taken white more.1) (dropped white more.1)
+gap_after n text e more = lines_gap n text (e ∷ more.0) (take_while white more.1) (drop_while white more.1)
 
 -- the gap, from the end of the line if there is one
 abbrev pub gap_from : ℕ → List ℕ → Read LineEnd → GapRead
-gap_from n text None = inline_gap (taken white text) (dropped white text)
+gap_from n text None = inline_gap (take_while white text) (drop_while white text)
 gap_from n text (Some r) = gap_after n text r.0 (read_comments (length text) true r.1)
 
 -- [80] s-separate, 6.7, or nothing; in a key it is on one line
 abbrev pub read_gap : ℕ → Bool → List ℕ → GapRead
-read_gap n true text = inline_gap (taken white text) (dropped white text)
+read_gap n true text = inline_gap (take_while white text) (drop_while white text)
 read_gap n false text = gap_from n text (read_line_end false text)

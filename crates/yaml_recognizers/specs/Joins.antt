@@ -3,9 +3,10 @@ use Rattle.std.specs.Prelude.{Bool, List, None, Some, [], codes, false, if◌the
 use Rattle.yaml_chars.specs.Classes.{line_break, space, white}
 use Rattle.yaml_grammar.specs.FlowScalars.{Empty, Line, empties_text}
 use Rattle.yaml_grammar.specs.Separation.{Break, break_text, indents}
-use Rattle.yaml_grammar.specs.Texts.{begins, every, first, no_marker, spaces}
+use Rattle.std.specs.List.{list_all}
+use Rattle.yaml_grammar.specs.Texts.{begins, first, no_marker, spaces}
 use Rattle.yaml_recognizers.specs.Comments.{read_break}
-use Rattle.yaml_recognizers.specs.Prefixes.{dropped, past, taken}
+use Rattle.yaml_recognizers.specs.Prefixes.{drop_while, past, take_while}
 use Rattle.yaml_recognizers.specs.Reading.{Read, on}
 use Rattle.yaml_recognizers.specs.Repeated.{all_of}
 use Rattle.yaml_recognizers.specs.Signs.{backslash}
@@ -32,26 +33,26 @@ abbrev pub prefix_text : Join → List ℕ
 prefix_text j = j.blank ++ (if j.escaped then codes "\\" else []) ++ break_text j.stop
 
 -- what it spells, and the rest
-abbrev pub spelled : Join → List ℕ → List ℕ
-spelled j after = prefix_text j ++ (empties_text j.empties ++ (j.lead ++ after))
+abbrev pub join_text_then : Join → List ℕ → List ℕ
+join_text_then j after = prefix_text j ++ (empties_text j.empties ++ (j.lead ++ after))
 
 -- whitespace, and a break after it
 abbrev pub at_break : List ℕ → Bool
-at_break text = first line_break (dropped white text)
+at_break text = first line_break (drop_while white text)
 
 -- [70] l-empty, 6.4
 unfoldable pub read_empty : ℕ → List ℕ → Read Empty
 read_empty n text =
-    let blank = taken white text in
-    if begins (spaces n) blank || every space blank
-    then on (read_break (dropped white text)) (λ stop rest. Some (record { blank = blank; stop = stop }, rest)) else None
+    let blank = take_while white text in
+    if begins (spaces n) blank || list_all space blank
+    then on (read_break (drop_while white text)) (λ stop rest. Some (record { blank = blank; stop = stop }, rest)) else None
 
 -- after the empty lines: the start of the next line
 abbrev pub with_lead : Bool → ℕ → List ℕ → Break → List Empty × List ℕ → Read Join
 with_lead escaped n blank stop empties =
-    let lead = taken white empties.1 in
+    let lead = take_while white empties.1 in
     if indents n lead && no_marker true empties.1
-    then Some (record { escaped = escaped; blank = blank; stop = stop; empties = empties.0; lead = lead }, dropped white empties.1) else None
+    then Some (record { escaped = escaped; blank = blank; stop = stop; empties = empties.0; lead = lead }, drop_while white empties.1) else None
 
 -- the join, from the break on
 unfoldable pub after_blank : Bool → ℕ → List ℕ → List ℕ → Read Join
@@ -62,4 +63,4 @@ after_blank escaped n blank text =
 unfoldable pub read_join : Bool → ℕ → List ℕ → Read Join
 read_join escapes n text =
     if escapes && first (λ x. x == backslash) text then after_blank true n [] (past text)
-    else after_blank false n (taken white text) (dropped white text)
+    else after_blank false n (take_while white text) (drop_while white text)

@@ -33,5 +33,5 @@ abbrev mutual
       let more = opened_pieces ps in suffixes comments [] more.prefix more.document ∷ more.parts
 
 -- the stream of a flat stream
-abbrev pub nested : FlatStream → Stream
-nested s = let o = opened_pieces s.pieces in record { mark = s.mark; prefix = o.prefix; document = o.document; parts = o.parts }
+abbrev pub nested_stream : FlatStream → Stream
+nested_stream s = let o = opened_pieces s.pieces in record { mark = s.mark; prefix = o.prefix; document = o.document; parts = o.parts }

@@ -4,14 +4,14 @@ use Rattle.yaml_chars.specs.Classes.{ns}
 use Rattle.yaml_grammar.specs.Texts.{first}
 
 -- the longest prefix of which every character passes the test
-abbrev pub taken : (ℕ → Bool) → List ℕ → List ℕ
-taken p [] = []
-taken p (c ∷ cs) = if p c then c ∷ taken p cs else []
+abbrev pub take_while : (ℕ → Bool) → List ℕ → List ℕ
+take_while p [] = []
+take_while p (c ∷ cs) = if p c then c ∷ take_while p cs else []
 
 -- what comes after that prefix
-abbrev pub dropped : (ℕ → Bool) → List ℕ → List ℕ
-dropped p [] = []
-dropped p (c ∷ cs) = if p c then dropped p cs else c ∷ cs
+abbrev pub drop_while : (ℕ → Bool) → List ℕ → List ℕ
+drop_while p [] = []
+drop_while p (c ∷ cs) = if p c then drop_while p cs else c ∷ cs
 
 -- what comes after the first character
 abbrev pub past : List ℕ → List ℕ

@@ -16,13 +16,13 @@ unfoldable pub read_held : {A : Type 0} → (List ℕ → Read A) → List ℕ �
 read_held read_one text = if at_break text then None else read_one text
 
 -- all things of a line
-abbrev pub all_held : {A : Type 0} → (List ℕ → Read A) → List ℕ → List A × List ℕ
-all_held read_one text = all_of (read_held read_one) text
+abbrev pub line_things : {A : Type 0} → (List ℕ → Read A) → List ℕ → List A × List ℕ
+line_things read_one text = all_of (read_held read_one) text
 
 -- a further line
 unfoldable pub read_quoted_line : {A : Type 0} → (List ℕ → Read A) → Bool → ℕ → List ℕ → Read (Line A)
 read_quoted_line read_one escapes n text =
-    on (read_join escapes n text) (λ j rest. let held = all_held read_one rest in Some (line_of j held.0, held.1))
+    on (read_join escapes n text) (λ j rest. let held = line_things read_one rest in Some (line_of j held.0, held.1))
 
 -- each line but the last holds something
 abbrev pub apart : {A : Type 0} → List (Line A) → Bool
@@ -30,8 +30,8 @@ apart [] = true
 apart (l ∷ ls) = (is_empty ls || not (is_empty l.held)) && apart ls
 
 -- the scalar, if the closing quote comes next
-abbrev pub closed : {A : Type 0} → (List ℕ → Bool) → List A → List (Line A) × List ℕ → Read (List A × List (Line A))
-closed closes prefix more = if closes more.1 && apart more.0 then Some ((prefix, more.0), past more.1) else None
+abbrev pub read_closing_quote : {A : Type 0} → (List ℕ → Bool) → List A → List (Line A) × List ℕ → Read (List A × List (Line A))
+read_closing_quote closes prefix more = if closes more.1 && apart more.0 then Some ((prefix, more.0), past more.1) else None
 
 -- all further lines; none in a key
 abbrev pub further : {A : Type 0} → (List ℕ → Read A) → Bool → ℕ → FlowContext → List ℕ → List (Line A) × List ℕ
@@ -41,7 +41,7 @@ further read_one escapes n c text =
 -- from the opening quote up to the closing one, which `closes` finds
 unfoldable pub read_quoted : {A : Type 0} → (List ℕ → Read A) → (List ℕ → Bool) → Bool → ℕ → FlowContext → List ℕ → Read (List A × List (Line A))
 read_quoted read_one closes escapes n c text =
-    let prefix = all_held read_one text in closed closes prefix.0 (further read_one escapes n c prefix.1)
+    let prefix = line_things read_one text in read_closing_quote closes prefix.0 (further read_one escapes n c prefix.1)
 
 -- ---- single-quoted
 

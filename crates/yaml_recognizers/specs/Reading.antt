@@ -12,9 +12,9 @@ on None f = None
 on (Some r) f = f r.0 r.1
 
 -- a value, if the text goes on with the character x
-abbrev pub closed : {A : Type 0} → ℕ → A → List ℕ → Read A
-closed x a [] = None
-closed x a (c ∷ cs) = if c == x then Some (a, cs) else None
+abbrev pub read_closing : {A : Type 0} → ℕ → A → List ℕ → Read A
+read_closing x a [] = None
+read_closing x a (c ∷ cs) = if c == x then Some (a, cs) else None
 
 -- what was read, if the test holds
 abbrev pub if_fits : {A : Type 0} → Bool → Read A → Read A

@@ -1,7 +1,8 @@
 -- The recognizers over one another: of flow nodes, block nodes and streams over those of scalars.
 use Rattle.std.specs.Prelude.{◌≡◌, ℕ, suc, Bool, true, false, List, ◌++◌, length, Option, codes}
 use Rattle.yaml_chars.specs.Classes.{white, ns}
-use Rattle.yaml_grammar.specs.Texts.{every, first}
+use Rattle.std.specs.List.{list_all}
+use Rattle.yaml_grammar.specs.Texts.{first}
 use Rattle.yaml_grammar.specs.FlowScalars.{FlowContext, outer, block_key}
 use Rattle.yaml_grammar.specs.FlowNodes.{Flow, Entries, Entry, Value, flow_text, short_key}
 use Rattle.yaml_grammar.specs.BlockNodes.{Node, Items, Pairs, Pair, Indented}
@@ -49,7 +50,7 @@ block_key_in bol text = block_key_at flow_node_at bol text
 pub record IsBlockKey (bol : Bool) (text : List ℕ) (key : Flow) (gap rest : List ℕ) : Type 0 where
   pub spells : text ≡ flow_text key ++ (gap ++ (codes ":" ++ rest))
   pub fits : canonical_flow key 0 block_key bol (gap ++ (codes ":" ++ rest)) ≡ true
-  pub gap_white : every white gap ≡ true
+  pub gap_white : list_all white gap ≡ true
   pub short : short_key key gap ≡ true
   pub apart : first ns rest ≡ false
 

@@ -7,7 +7,7 @@ use Rattle.yaml_grammar.specs.FlowScalars.{FlowContext}
 use Rattle.yaml_grammar.specs.FlowNodes.{Flow, flow_text, flow_fits, flow_events}
 use Rattle.yaml_grammar.specs.BlockNodes.{Node, node_text, node_fits, node_end, node_events}
 use Rattle.yaml_recognizers.specs.CanonicalComments.{is_line_end}
-use Rattle.yaml_recognizers.specs.Ends.{ended}
+use Rattle.yaml_recognizers.specs.Ends.{block_node_stops}
 use Rattle.yaml_recognizers.specs.Recognizers.{flow_node_stops}
 
 -- ---- flow nodes
@@ -42,7 +42,7 @@ pub record EndsNode (m : ℕ) (shallow : Bool) (rest : List ℕ) : Type 0 where
   pub is : rest ≡ comments_text lines ++ after
   pub fit : comments_fit true lines after ≡ true
   pub whole : is_line_end after ≡ false
-  pub ends : ended m shallow after ≡ true
+  pub ends : block_node_stops m shallow after ≡ true
 
 -- the block node is at the start of the text, and ends before the rest
 pub record BlockNodeStands (m : ℕ) (shallow bol : Bool) (text : List ℕ) (node : Node) (rest : List ℕ) : Type 0 where

@@ -9,7 +9,7 @@ use Rattle.yaml_grammar.specs.BlockScalars.{BlockScalar}
 use Rattle.yaml_grammar.specs.BlockNodes.{Node}
 use Rattle.yaml_grammar.specs.Streams.{Explicit, content, nothing, Document, bare, explicit, directed}
 use Rattle.yaml_recognizers.specs.Signs.{dash, dot, percent_sign}
-use Rattle.yaml_recognizers.specs.Prefixes.{taken, dropped}
+use Rattle.yaml_recognizers.specs.Prefixes.{take_while, drop_while}
 use Rattle.yaml_recognizers.specs.Reading.{Read, on}
 use Rattle.yaml_recognizers.specs.CanonicalComments.{is_line_end}
 use Rattle.yaml_recognizers.specs.CanonicalStreams.{Piece, suffix, line, document, FlatStream, piece_text, opens}
@@ -59,7 +59,7 @@ version_with node_at blank text =
 -- [209] l-directive-document, 9.1.5
 abbrev pub read_directed : (Bool → List ℕ → Read Node) → List ℕ → Read Document
 read_directed node_at text =
-    if begins (codes "%YAML") text then version_with node_at (taken white (drop 5 text)) (dropped white (drop 5 text)) else None
+    if begins (codes "%YAML") text then version_with node_at (take_while white (drop 5 text)) (drop_while white (drop 5 text)) else None
 
 -- ---- pieces
 

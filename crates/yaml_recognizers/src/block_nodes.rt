@@ -5,7 +5,7 @@ ghost use Rattle.std.proofs.Math.Logic.{◌⊎◌};
 ghost use Rattle.yaml_grammar.specs.BlockScalars.{spaces_before, past_spaces};
 ghost use Rattle.yaml_grammar.specs.BlockNodes.{Node, compact_items, compact_pairs, node_text};
 ghost use Rattle.yaml_recognizers.specs.CanonicalBlockNodes.{canonical_node};
-ghost use Rattle.yaml_recognizers.specs.Ends.{ended};
+ghost use Rattle.yaml_recognizers.specs.Ends.{block_node_stops};
 ghost use Rattle.yaml_recognizers.specs.StandingNodes.{BlockNodeStands, SameBlockNode, IsBlockNode, NoBlockNode};
 ghost use Rattle.yaml_recognizers.specs.Comments.{all_comments};
 ghost use Rattle.yaml_recognizers.specs.BlockScalars.{read_block};
@@ -18,7 +18,7 @@ ghost use Rattle.yaml_recognizers.specs.Recognizers.{block_key_in, flow_leaf_at,
 /// Finds each canonical block node, if the text after it ends it.
 pub fn block_node_found()
     ensures { (node : Node) (m : ℕ) (shallow bol : Bool) (after : List ℕ)
-        → canonical_node node m shallow bol after ≡ true → ended m shallow after ≡ true
+        → canonical_node node m shallow bol after ≡ true → block_node_stops m shallow after ≡ true
         → block_node_at m shallow bol (node_text node ++ after) ≡ Some (node, after) }
 {}
 
@@ -34,8 +34,8 @@ pub fn block_node_once()
     ensures { (one other : Node) (m : ℕ) (shallow bol : Bool) (rest after : List ℕ)
         → node_text one ++ rest ≡ node_text other ++ after
         → canonical_node one m shallow bol rest ≡ true
-        → canonical_node other m shallow bol after ≡ true → ended m shallow rest ≡ true
-        → ended m shallow after ≡ true → (one ≡ other) × (rest ≡ after) }
+        → canonical_node other m shallow bol after ≡ true → block_node_stops m shallow rest ≡ true
+        → block_node_stops m shallow after ≡ true → (one ≡ other) × (rest ≡ after) }
 {}
 
 /// For each block node at the start of a text, in whatever form, one that means the same is found. The rest is what

@@ -8,7 +8,7 @@ ghost use Rattle.yaml_recognizers.specs.CanonicalComments.{is_line_end, canonica
 ghost use Rattle.yaml_recognizers.specs.Ends.{solid};
 ghost use Rattle.yaml_recognizers.specs.Comments.{read_line_end, more_comments, all_comments};
 ghost use Rattle.yaml_recognizers.specs.Gaps.{inline_gap, gap_after, read_gap};
-ghost use Rattle.yaml_recognizers.specs.Prefixes.{taken, dropped};
+ghost use Rattle.yaml_recognizers.specs.Prefixes.{take_while, drop_while};
 
 /// Finds all comment lines at the start of a text, and leaves what comes after them.
 pub fn comments_found()
@@ -52,5 +52,5 @@ pub fn comments_steps()
         → read_line_end false text ≡ Some (e, rest)
         → read_gap n false text ≡ gap_after n text e (all_comments true rest) }
     ensures inline { (n : ℕ) (text : List ℕ) → read_line_end false text ≡ None
-        → read_gap n false text ≡ inline_gap (taken white text) (dropped white text) }
+        → read_gap n false text ≡ inline_gap (take_while white text) (drop_while white text) }
 {}

@@ -2,7 +2,8 @@
 
 ghost use Rattle.std.specs.Prelude.{◌≡◌, ℕ, ◌+◌, ◌*◌, ◌≤◌, ◌==◌, length, Bool, true, false, if◌then◌else◌, List, ◌++◌, Some, None, codes};
 ghost use Rattle.yaml_chars.specs.Classes.{white, ns};
-ghost use Rattle.yaml_grammar.specs.Texts.{first, every, starts_line};
+ghost use Rattle.std.specs.List.{list_all};
+ghost use Rattle.yaml_grammar.specs.Texts.{first, starts_line};
 ghost use Rattle.yaml_grammar.specs.Separation.{LineEnd, comments_text, gap_text};
 ghost use Rattle.yaml_grammar.specs.FlowScalars.{FlowContext, outer, block_key, inside, one_line};
 ghost use Rattle.yaml_grammar.specs.FlowNodes.{Flow, scalar, seq, map, none, is_plain, flow_text, short_key};
@@ -16,7 +17,7 @@ ghost use Rattle.yaml_recognizers.specs.Signs.{open_bracket, close_bracket, open
 ghost use Rattle.yaml_recognizers.specs.Prefixes.{past};
 ghost use Rattle.yaml_recognizers.specs.StandingNodes.{FlowNodeStands, SameFlowNode, IsFlowNode, NoFlowNode};
 ghost use Rattle.yaml_recognizers.specs.Reading.{on};
-ghost use Rattle.yaml_recognizers.specs.FlowNodes.{in_brackets, next_entry, is_asked, asked_entry, keyed_entry, made, some_value, read_flow};
+ghost use Rattle.yaml_recognizers.specs.FlowNodes.{in_brackets, next_entry, is_asked, asked_entry, keyed_entry, entry_if_short, some_value, read_flow};
 ghost use Rattle.yaml_recognizers.specs.Recognizers.{flow_node_at, flow_entries_at, flow_entry_at, flow_value_at, flow_node_stops, StandsFlow, block_key_in, IsBlockKey};
 
 /// Finds each canonical flow node that ends before the text after it.
@@ -100,7 +101,7 @@ pub fn flow_node_steps()
         (read_gap n (one_line d) (past text))
         else on (flow_node_at n d bol text) (λ key rest.
         keyed_entry (λ after_plain rest'.
-        flow_value_at n d after_plain rest') (made n d in_seq bol None) key rest)) }
+        flow_value_at n d after_plain rest') (entry_if_short n d in_seq bol None) key rest)) }
     ensures value { (n : ℕ) (d : FlowContext) (after_plain : Bool) (text : List ℕ)
         → flow_value_at n d after_plain text
         ≡ some_value d after_plain (read_gap n (one_line d)) (λ gap rest.
@@ -126,7 +127,7 @@ pub fn flow_node_as_key()
 pub fn block_key_found()
     ensures { (key : Flow) (gap : List ℕ) (bol : Bool) (rest : List ℕ)
         → canonical_flow key 0 block_key bol (gap ++ codes ":" ++ rest) ≡ true
-        → every white gap ≡ true → short_key key gap ≡ true → first ns rest ≡ false
+        → list_all white gap ≡ true → short_key key gap ≡ true → first ns rest ≡ false
         → block_key_in bol (flow_text key ++ gap ++ codes ":" ++ rest) ≡ Some ((key, gap), rest) }
 {}
 

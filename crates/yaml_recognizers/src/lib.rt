@@ -9,12 +9,12 @@
 //! part that may have it. Flow scalars have no comments, and the laws about them are about all their presentations.
 //! What ends a part is said in `specs/Ends`; a block scalar and a stream end by themselves.
 //!
-//! `flow_node_stands` and `block_node_stands` speak of nodes in whatever form, canonical or not: what is found where
+//! `flow_node_stands` and `block_node_stands` speak of nodes in whatever form, canonical or not. What is found where
 //! there is one means the same, and where none is found there is none. `document_node_ends` says that what follows a
 //! document ends its node.
 //!
-//! Their result is in `texts`: all presentations of a text, in whatever form, mean the same, and the recognizer of
-//! streams decides whether a text has one, and finds what it means.
+//! Their result is in `texts`: all presentations of a text, in whatever form, mean the same. The recognizer of streams
+//! decides whether a text has one, and finds what it means.
 #![tactic(auto)]
 
 pub mod block_nodes;

@@ -2,11 +2,11 @@
 
 ghost use Rattle.std.specs.Prelude.{◌≡◌, ℕ, Bool, true, false, if◌then◌else◌, drop, List, [], ◌++◌, Some, None};
 ghost use Rattle.yaml_grammar.specs.Texts.{is_empty, first, starts_line};
-ghost use Rattle.yaml_grammar.specs.Streams.{Part, Stream, parts_text, fits, meant};
+ghost use Rattle.yaml_grammar.specs.Streams.{Part, Stream, parts_text, fits, stream_events};
 ghost use Rattle.yaml_grammar.specs.Reads.{Presents, CanRead};
-ghost use Rattle.yaml_recognizers.specs.CanonicalStreams.{piece_text, opens, FlatStream, flat_text, canonical_stream, flat_meant};
+ghost use Rattle.yaml_recognizers.specs.CanonicalStreams.{piece_text, opens, FlatStream, flat_text, canonical_stream, flat_events};
 ghost use Rattle.yaml_recognizers.specs.StandingNodes.{EndsNode};
-ghost use Rattle.yaml_recognizers.specs.NestedStreams.{nested};
+ghost use Rattle.yaml_recognizers.specs.NestedStreams.{nested_stream};
 ghost use Rattle.yaml_recognizers.specs.Recognizers.{piece_at, pieces_at, stream_at};
 ghost use Rattle.yaml_recognizers.specs.Streams.{order_mark, more_pieces, with_mark};
 
@@ -48,19 +48,19 @@ pub fn stream_steps()
 /// For a canonical stream there is a presentation in the grammar's own form, with the same text and meaning.
 pub fn stream_presents()
     ensures presents { (stream : FlatStream) → canonical_stream stream ≡ true
-        → Presents (nested stream) (flat_text stream) }
+        → Presents (nested_stream stream) (flat_text stream) }
     ensures means { (stream : FlatStream) → canonical_stream stream ≡ true
-        → meant (nested stream) ≡ flat_meant stream }
+        → stream_events (nested_stream stream) ≡ flat_events stream }
 {}
 
 /// A text in which a stream is found can be read as what that stream means.
 pub fn stream_can_be_read()
     ensures { (text : List ℕ) (stream : FlatStream) → stream_at text ≡ Some stream
-        → CanRead text (flat_meant stream) }
+        → CanRead text (flat_events stream) }
 {}
 
-/// In a stream that fits, what follows its first document, or any of its parts, ends the node of a document: lines of
-/// white or comments, and then the end of the text or a marker.
+/// In a stream that fits, what follows its first document, or any of its parts, ends the node of a document. It is
+/// lines of white or comments, and then the end of the text or a marker.
 pub fn document_node_ends()
     ensures { (stream : Stream) (before after : List Part) → fits stream ≡ true
         → stream.parts ≡ before ++ after → EndsNode 0 false (parts_text after) }

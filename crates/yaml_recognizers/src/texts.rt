@@ -3,9 +3,9 @@
 ghost use Rattle.std.specs.Prelude.{All, ◌≡◌, ℕ, true, List, Some, None};
 ghost use Rattle.yaml_grammar.specs.Texts.{IsText, byte_len};
 ghost use Rattle.yaml_grammar.specs.Events.{Event};
-ghost use Rattle.yaml_grammar.specs.Streams.{Stream, spelled, fits, meant};
+ghost use Rattle.yaml_grammar.specs.Streams.{Stream, stream_text, fits, stream_events};
 ghost use Rattle.yaml_grammar.specs.Reads.{Presents, CanRead, Reads};
-ghost use Rattle.yaml_recognizers.specs.CanonicalStreams.{FlatStream, flat_meant};
+ghost use Rattle.yaml_recognizers.specs.CanonicalStreams.{FlatStream, flat_events};
 ghost use Rattle.yaml_recognizers.specs.CanonicalForms.{HaveCanonicalForms};
 ghost use Rattle.yaml_recognizers.specs.NodePlaces.{NodeSpelled, NodeStands, NodeStarts, stream_places};
 ghost use Rattle.yaml_recognizers.specs.Ranges.{RangesInOrder};
@@ -19,7 +19,7 @@ pub fn canonical_forms()
 /// In what a presentation means the ranges of scalars are in order, and within its text.
 pub fn ranges_in_order()
     ensures { (presentation : Stream)
-        → RangesInOrder 0 (meant presentation) (byte_len (spelled presentation)) }
+        → RangesInOrder 0 (stream_events presentation) (byte_len (stream_text presentation)) }
 {}
 
 /// The nodes of a presentation, each with its place in the text, are spelled there. If the presentation fits, a line
@@ -27,9 +27,10 @@ pub fn ranges_in_order()
 /// laws about the node that is found at a place hold for each node of a whole text.
 pub fn nodes_stand()
     ensures spelled { (presentation : Stream)
-        → All (NodeSpelled (spelled presentation)) (stream_places presentation) }
+        → All (NodeSpelled (stream_text presentation)) (stream_places presentation) }
     ensures starts { (presentation : Stream) → fits presentation ≡ true
-        → All (NodeStarts presentation.mark (spelled presentation)) (stream_places presentation) }
+        → All (NodeStarts presentation.mark (stream_text presentation)) (stream_places
+        presentation) }
     ensures stand { (presentation : Stream) → fits presentation ≡ true
         → All NodeStands (stream_places presentation) }
 {}
@@ -37,19 +38,19 @@ pub fn nodes_stand()
 /// All presentations of a text, whatever form they have, mean the same.
 pub fn unambiguous()
     ensures { (text : List ℕ) (one other : Stream) → Presents one text → Presents other text
-        → meant one ≡ meant other }
+        → stream_events one ≡ stream_events other }
 {}
 
 /// A text in which a stream is found reads as what that stream means, and as nothing else.
 pub fn text_reads()
     ensures { (text : List ℕ) (stream : FlatStream) → IsText text → stream_at text ≡ Some stream
-        → Reads text (flat_meant stream) }
+        → Reads text (flat_events stream) }
 {}
 
 /// What a text can be read as is found.
 pub fn text_reading_found()
     ensures { (text : List ℕ) (events : List Event) → CanRead text events
-        → (stream : FlatStream) × (stream_at text ≡ Some stream) × (flat_meant stream ≡ events) }
+        → (stream : FlatStream) × (stream_at text ≡ Some stream) × (flat_events stream ≡ events) }
 {}
 
 /// Whether a text has a presentation is decided: one in which no stream is found has none.

@@ -11,13 +11,12 @@ use Rattle.yaml_chars.specs.Classes.{line_break}
 use Rattle.yaml_chars.specs.Places.{between}
 use Rattle.yaml_chars.proofs.Places.{between-append, between-ascii, encodes-between}
 use Rattle.yaml_chars.proofs.Runs.{blind-no_break, test-between}
-use Rattle.yaml_grammar.specs.Texts.{every}
+use Rattle.std.specs.List.{list_all}
 use Rattle.yaml_scan.specs.ScanPlaces.{unbroken_between}
-use Rattle.yaml_scan.proofs.ByteRuns.{every_is}
 
 -- ---- breaks
 
-broken : (xs ys : List ℕ) (x : ℕ) → line_break x ≡ true → every no_break (xs ++ x ∷ ys) ≡ false
+broken : (xs ys : List ℕ) (x : ℕ) → line_break x ≡ true → list_all no_break (xs ++ x ∷ ys) ≡ false
 broken [] ys x h = rw h refl
 broken (z ∷ zs) ys x h = ap (λ b. no_break z && b) (broken zs ys x h) ∙ and_false (no_break z)
   where
@@ -34,13 +33,13 @@ break_between bs i j k u b d l m h =
     let here = IsCharBoundary-before_ascii bs k within low in
     let split : between bs i j ≡ between bs i k ++ get_or bs k 0 ∷ between bs (k + 1) j =
     between-append bs i k j u l (omega arith) b here d ∙ ap (λ t. between bs i k ++ t) (between-ascii bs k j u m d low) in
-    sym (ap (λ t. not (every no_break t)) split ∙ ap not (broken (between bs i k) (between bs (k + 1) j) (get_or bs k 0) h))
+    sym (ap (λ t. not (list_all no_break t)) split ∙ ap not (broken (between bs i k) (between bs (k + 1) j) (get_or bs k 0) h))
 
 -- without such a byte there is no break among them
 pub no_break_between : (bs : List ℕ) (i j : ℕ) → IsUtf8 bs → IsCharBoundary bs i → IsCharBoundary bs j → i ≤ j → ((k : ℕ) → i ≤ k → k < j → line_break (get_or bs k 0) ≡ false)
     → false ≡ not (unbroken_between bs i j)
 no_break_between bs i j u b d l h =
-    sym (ap not (every_is no_break (between bs i j) (test-between no_break bs i j blind-no_break u l b d (λ k from to. ap not (h k from to)))))
+    sym (ap not (test-between no_break bs i j blind-no_break u l b d (λ k from to. ap not (h k from to))))
 
 -- ---- lengths
 

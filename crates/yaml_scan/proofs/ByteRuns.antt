@@ -3,7 +3,7 @@ use Rattle.std.proofs.Common.{◌≡◌, ℕ, zero, suc, ◌+◌, ◌-◌, ◌<�
 use Rattle.std.specs.List.{list_all}
 use Rattle.std.specs.Str.{IsUtf8, IsCharBoundary}
 use Rattle.std.specs.Char.{len_utf8}
-use Rattle.std.proofs.lemmas.Bool.{and_parts, and_from, cases_lt, cond-true, cond-false, eqb-true}
+use Rattle.std.proofs.lemmas.Bool.{cases_lt, cond-true, cond-false, eqb-true}
 use Rattle.std.proofs.lemmas.Bool.Decides.{nat_tests}
 use Rattle.std.proofs.lemmas.List.{append_cancel_right, drop_all, drop_more}
 use Rattle.std.proofs.lemmas.Str.{IsCharBoundary-after_ascii}
@@ -12,10 +12,10 @@ use Rattle.yaml_chars.specs.Places.{rest, between, IsRun}
 use Rattle.yaml_chars.proofs.Places.{char_at, rest-ascii, rest-end, rest-between, between-nil, between-append}
 use Rattle.yaml_chars.proofs.Runs.{IsBlind, run_is, run_stops, test-between, test-char_at, blind-space}
 use Rattle.yaml_grammar.specs.BlockScalars.{spaces_before, past_spaces}
-use Rattle.yaml_grammar.specs.Texts.{every, first, spaces}
-use Rattle.yaml_recognizers.proofs.Basics.Prefixes.{dropped_all, spaces_counted, spaces_passed, taken_all}
+use Rattle.yaml_grammar.specs.Texts.{first, spaces}
+use Rattle.yaml_recognizers.proofs.Basics.Prefixes.{drop_while_all, spaces_counted, spaces_passed, take_while_all}
 use Rattle.yaml_recognizers.proofs.Basics.Spaces.{spaces_dropped}
-use Rattle.yaml_recognizers.specs.Prefixes.{dropped, taken}
+use Rattle.yaml_recognizers.specs.Prefixes.{drop_while, take_while}
 use Rattle.yaml_scan.specs.ScanPlaces.{AreSpaces, AreTaken, IsNb, nb_byte}
 
 -- ---- the first character
@@ -69,27 +69,24 @@ ascii_prefix bs i c u l a e =
 -- ---- runs by a blind test
 
 -- one word for a test of all characters means the other
-pub every_is : (test : ℕ → Bool) (xs : List ℕ) → list_all test xs ≡ true → every test xs ≡ true
-every_is test [] h = refl
-every_is test (x ∷ xs) h = let p = and_parts (test x) (list_all test xs) h in and_from (test x) (every test xs) p.0 (every_is test xs p.1)
 
 stops : (test : ℕ → Bool) (bs : List ℕ) (i j : ℕ) → IsBlind test → IsUtf8 bs → IsRun test bs i j → (cs : List ℕ) → rest bs j ≡ cs → first test cs ≡ false
 stops test bs i j blind u run [] e = refl
 stops test bs i j blind u run (c ∷ cs) e = run_stops test bs i j c cs blind u run e
 
 -- bytes that pass a test up to one that fails it are the longest prefix of characters that pass
-pub taken_is : (test : ℕ → Bool) (bs : List ℕ) (i j : ℕ) → IsBlind test → IsUtf8 bs → IsCharBoundary bs i → i ≤ j → j ≤ length bs
+pub take_while_is : (test : ℕ → Bool) (bs : List ℕ) (i j : ℕ) → IsBlind test → IsUtf8 bs → IsCharBoundary bs i → i ≤ j → j ≤ length bs
     → ((k : ℕ) → i ≤ k → k < j → test (get_or bs k 0) ≡ true) → (j < length bs → test (get_or bs j 0) ≡ false) → AreTaken test bs i j
-taken_is test bs i j blind u b l within passes stop =
+take_while_is test bs i j blind u b l within passes stop =
     let run : IsRun test bs i j = run_is test bs i j blind u b l within passes stop in
     let split : rest bs i ≡ between bs i j ++ rest bs j = rest-between bs i j u l b run.boundary in
-    let all : every test (between bs i j) ≡ true = every_is test (between bs i j) (test-between test bs i j blind u l b run.boundary passes) in
+    let all : list_all test (between bs i j) ≡ true = test-between test bs i j blind u l b run.boundary passes in
     let end : first test (rest bs j) ≡ false = stops test bs i j blind u run (rest bs j) refl in
     record {
       above = l;
       boundary = run.boundary;
-      takes = ap (taken test) split ∙ taken_all test (between bs i j) (rest bs j) all end;
-      leaves = ap (dropped test) split ∙ dropped_all test (between bs i j) (rest bs j) all end;
+      takes = ap (take_while test) split ∙ take_while_all test (between bs i j) (rest bs j) all end;
+      leaves = ap (drop_while test) split ∙ drop_while_all test (between bs i j) (rest bs j) all end;
     }
 
 -- ---- spaces
@@ -149,40 +146,40 @@ nb_by_byte bs i u l h =
 pub record AreTakenSoFar (bs : List ℕ) (i j : ℕ) : Type 0 where
   pub above : i ≤ j
   pub boundary : IsCharBoundary bs j
-  pub takes : taken nb (rest bs i) ≡ between bs i j ++ taken nb (rest bs j)
-  pub leaves : dropped nb (rest bs i) ≡ dropped nb (rest bs j)
+  pub takes : take_while nb (rest bs i) ≡ between bs i j ++ take_while nb (rest bs j)
+  pub leaves : drop_while nb (rest bs i) ≡ drop_while nb (rest bs j)
 
 -- nothing is taken yet
-pub taken_none : (bs : List ℕ) (i : ℕ) → IsCharBoundary bs i → AreTakenSoFar bs i i
-taken_none bs i b = record { above = omega arith; boundary = b; takes = ap (λ x. x ++ taken nb (rest bs i)) (sym (between-nil bs i)); leaves = refl }
+pub take_while_none : (bs : List ℕ) (i : ℕ) → IsCharBoundary bs i → AreTakenSoFar bs i i
+take_while_none bs i b = record { above = omega arith; boundary = b; takes = ap (λ x. x ++ take_while nb (rest bs i)) (sym (between-nil bs i)); leaves = refl }
 
-taken_prefix : (c : ℕ) (cs : List ℕ) → nb c ≡ true → (taken nb (c ∷ cs) ≡ c ∷ taken nb cs) × (dropped nb (c ∷ cs) ≡ dropped nb cs)
-taken_prefix c cs h = (cond-true (nb c) (c ∷ taken nb cs) [] h, cond-true (nb c) (dropped nb cs) (c ∷ cs) h)
+take_while_prefix : (c : ℕ) (cs : List ℕ) → nb c ≡ true → (take_while nb (c ∷ cs) ≡ c ∷ take_while nb cs) × (drop_while nb (c ∷ cs) ≡ drop_while nb cs)
+take_while_prefix c cs h = (cond-true (nb c) (c ∷ take_while nb cs) [] h, cond-true (nb c) (drop_while nb cs) (c ∷ cs) h)
 
 -- one character more is taken
-pub taken_more : (bs : List ℕ) (i j k : ℕ) → IsUtf8 bs → IsCharBoundary bs i → AreTakenSoFar bs i j → IsNb bs j k → AreTakenSoFar bs i k
-taken_more bs i j k u b h n =
+pub take_while_more : (bs : List ℕ) (i j k : ℕ) → IsUtf8 bs → IsCharBoundary bs i → AreTakenSoFar bs i j → IsNb bs j k → AreTakenSoFar bs i k
+take_while_more bs i j k u b h n =
     let above = h.above in
     let further = n.above in
-    let step = taken_prefix n.char (rest bs k) n.fits in
+    let step = take_while_prefix n.char (rest bs k) n.fits in
     let one : between bs j k ≡ n.char ∷ [] = append_cancel_right (between bs j k) (n.char ∷ []) (rest bs k) (sym (rest-between bs j k u (omega arith) h.boundary n.boundary) ∙ n.splits) in
     let joined : between bs i k ≡ between bs i j ++ n.char ∷ [] = between-append bs i j k u above (omega arith) b h.boundary n.boundary ∙ ap (λ x. between bs i j ++ x) one in
     record {
       above = omega arith;
       boundary = n.boundary;
-      takes = h.takes ∙ ap (λ x. between bs i j ++ x) (ap (taken nb) n.splits ∙ step.0)
-          ∙ sym (append_assoc (between bs i j) (n.char ∷ []) (taken nb (rest bs k))) ∙ ap (λ x. x ++ taken nb (rest bs k)) (sym joined);
-      leaves = h.leaves ∙ ap (dropped nb) n.splits ∙ step.1;
+      takes = h.takes ∙ ap (λ x. between bs i j ++ x) (ap (take_while nb) n.splits ∙ step.0)
+          ∙ sym (append_assoc (between bs i j) (n.char ∷ []) (take_while nb (rest bs k))) ∙ ap (λ x. x ++ take_while nb (rest bs k)) (sym joined);
+      leaves = h.leaves ∙ ap (drop_while nb) n.splits ∙ step.1;
     }
 
-taken_stops : (cs : List ℕ) → first nb cs ≡ false → (taken nb cs ≡ []) × (dropped nb cs ≡ cs)
-taken_stops [] h = (refl, refl)
-taken_stops (c ∷ cs) h = (cond-false (nb c) (c ∷ taken nb cs) [] h, cond-false (nb c) (dropped nb cs) (c ∷ cs) h)
+take_while_stops : (cs : List ℕ) → first nb cs ≡ false → (take_while nb cs ≡ []) × (drop_while nb cs ≡ cs)
+take_while_stops [] h = (refl, refl)
+take_while_stops (c ∷ cs) h = (cond-false (nb c) (c ∷ take_while nb cs) [] h, cond-false (nb c) (drop_while nb cs) (c ∷ cs) h)
 
 -- all is taken where the next character is not nb
-pub taken_all_at : (bs : List ℕ) (i j : ℕ) → AreTakenSoFar bs i j → first nb (rest bs j) ≡ false → AreTaken nb bs i j
-taken_all_at bs i j h n =
-    let stop = taken_stops (rest bs j) n in
+pub take_while_all_at : (bs : List ℕ) (i j : ℕ) → AreTakenSoFar bs i j → first nb (rest bs j) ≡ false → AreTaken nb bs i j
+take_while_all_at bs i j h n =
+    let stop = take_while_stops (rest bs j) n in
     record {
       above = h.above;
       boundary = h.boundary;

@@ -13,7 +13,8 @@ use Rattle.yaml_chars.proofs.Places.{between-append, between-nil, encodes-betwee
 use Rattle.yaml_chars.proofs.Runs.{blind-line_break, last_char, test-last_char}
 use Rattle.yaml_events.specs.EventPlaces.{line_starts, without_mark}
 use Rattle.yaml_grammar.specs.Separation.{Break, break_text, lf, cr, cr_lf}
-use Rattle.yaml_grammar.specs.Texts.{every, is_empty, starts_line}
+use Rattle.std.specs.List.{list_all}
+use Rattle.yaml_grammar.specs.Texts.{is_empty, starts_line}
 use Rattle.yaml_recognizers.specs.Comments.{read_break}
 use Rattle.yaml_recognizers.proofs.Basics.Breaks.{break_sound, BreakOf}
 use Rattle.yaml_recognizers.proofs.Basics.LineStarts.{starts_joined}
@@ -64,25 +65,25 @@ starts_after_sign bs at x u b s h =
 
 -- ---- by a run
 
-last_of : (test : ℕ → Bool) (x : ℕ) (xs : List ℕ) → every test (x ∷ xs) ≡ true → (prefix : List ℕ) × (y : ℕ) × (x ∷ xs ≡ prefix ++ y ∷ []) × (test y ≡ true)
+last_of : (test : ℕ → Bool) (x : ℕ) (xs : List ℕ) → list_all test (x ∷ xs) ≡ true → (prefix : List ℕ) × (y : ℕ) × (x ∷ xs ≡ prefix ++ y ∷ []) × (test y ≡ true)
 last_of test x [] h = ([], x, refl, (and_parts (test x) true h).0)
 last_of test x (z ∷ zs) h =
-    let later = last_of test z zs (and_parts (test x) (every test (z ∷ zs)) h).1 in
+    let later = last_of test z zs (and_parts (test x) (list_all test (z ∷ zs)) h).1 in
     (x ∷ later.0, later.1, ap (λ t. x ∷ t) later.2, later.3)
 
 -- After characters that are neither breaks nor byte order marks, one at least, no line starts.
-pub starts_after_run : (test : ℕ → Bool) (bs : List ℕ) (i j : ℕ) → IsUtf8 bs → i < j → IsCharBoundary bs i → IsCharBoundary bs j → every test (between bs i j) ≡ true
+pub starts_after_run : (test : ℕ → Bool) (bs : List ℕ) (i j : ℕ) → IsUtf8 bs → i < j → IsCharBoundary bs i → IsCharBoundary bs j → list_all test (between bs i j) ≡ true
     → ((x : ℕ) → test x ≡ true → (line_break x ≡ false) × ((x == 0xfeff) ≡ false)) → line_starts bs j ≡ false
 starts_after_run test bs i j u l b d h apart =
     let last = last_char bs i j u l b d in
     let ends = last.2 in
-    let passes : test last.1 ≡ true = every_last test last.0 last.1 (sym (ap (every test) ends.splits) ∙ h) in
+    let passes : test last.1 ≡ true = every_last test last.0 last.1 (sym (ap (list_all test) ends.splits) ∙ h) in
     let a = apart last.1 passes in
     starts_after bs i j last.0 last.1 u (omega arith) b d ends.splits a.1 ∙ a.0
   where
-    every_last : (test : ℕ → Bool) (prefix : List ℕ) (x : ℕ) → every test (prefix ++ x ∷ []) ≡ true → test x ≡ true
+    every_last : (test : ℕ → Bool) (prefix : List ℕ) (x : ℕ) → list_all test (prefix ++ x ∷ []) ≡ true → test x ≡ true
     every_last test [] x h = (and_parts (test x) true h).0
-    every_last test (y ∷ ys) x h = every_last test ys x (and_parts (test y) (every test (ys ++ x ∷ [])) h).1
+    every_last test (y ∷ ys) x h = every_last test ys x (and_parts (test y) (list_all test (ys ++ x ∷ [])) h).1
 
 -- whitespace is neither a break nor a byte order mark
 pub white_apart : (x : ℕ) → white x ≡ true → (line_break x ≡ false) × ((x == 0xfeff) ≡ false)

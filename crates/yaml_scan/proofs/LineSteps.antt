@@ -13,13 +13,13 @@ use Rattle.yaml_grammar.specs.BlockScalars.{past_spaces, spaces_before}
 use Rattle.yaml_grammar.specs.Separation.{Break, LineEnd, break_text, comment_line_fits, comment_text, line_end_text, stop_fits}
 use Rattle.yaml_grammar.specs.Texts.{first, is_empty, optional, spaces, starts_line}
 use Rattle.yaml_recognizers.specs.CanonicalComments.{hash, is_line_end}
-use Rattle.yaml_recognizers.specs.Comments.{all_comments, closes_line, more_comments, read_after_blank, read_line_end, read_stop, stopped}
+use Rattle.yaml_recognizers.specs.Comments.{all_comments, closes_line, more_comments, read_after_blank, read_line_end, read_stop, line_end_with_stop}
 use Rattle.yaml_recognizers.specs.Ends.{solid}
-use Rattle.yaml_recognizers.specs.Prefixes.{dropped, taken}
+use Rattle.yaml_recognizers.specs.Prefixes.{drop_while, take_while}
 use Rattle.yaml_recognizers.proofs.Separation.CommentsComplete.{no_line, not_line_end}
 use Rattle.yaml_recognizers.proofs.Separation.CommentsDepth.{comments_step}
 use Rattle.yaml_recognizers.proofs.Separation.CommentsSound.{LineOf, StopOf, line_sound, stop_sound}
-use Rattle.yaml_recognizers.proofs.Basics.Prefixes.{every_space, spaces_split, taken_split}
+use Rattle.yaml_recognizers.proofs.Basics.Prefixes.{every_space, spaces_split, take_while_split}
 use Rattle.yaml_recognizers.proofs.Separation.LineEnds.{line_parts}
 use Rattle.yaml_recognizers.proofs.Basics.Reading.{sound_is}
 use Rattle.yaml_scan.specs.Lines.{IsCommentEnd, IsContentEnd, IsLineEnd, IsLineStart, IsSolidLine, past_comment}
@@ -47,16 +47,16 @@ comment_missing bs i b h = record { above = omega arith; boundary = b; leaves = 
 -- what follows white space, where a comment may be
 record IsCommented (bol : Bool) (blank text : List ℕ) : Type 0 where
   comment : Option (List ℕ)
-  reads : read_after_blank bol blank text ≡ stopped blank comment (read_stop (past_comment text))
+  reads : read_after_blank bol blank text ≡ line_end_with_stop blank comment (read_stop (past_comment text))
   splits : text ≡ optional comment_text comment ++ past_comment text
 
 commented : (bol : Bool) (blank text : List ℕ) → bol || not (is_empty blank) ≡ true → IsCommented bol blank text
 commented bol blank [] h = record { comment = None; reads = refl; splits = refl }
 commented bol blank (c ∷ cs) h = elim (cases_Bool (c == 35)) [
   | inl e ↦ record {
-    comment = Some (taken nb cs);
+    comment = Some (take_while nb cs);
     reads = rw (e, h) refl;
-    splits = rw e (ap (λ x. x ∷ cs) (eqb-true c 35 e) ∙ ap (λ x. 35 ∷ x) (taken_split nb cs));
+    splits = rw e (ap (λ x. x ∷ cs) (eqb-true c 35 e) ∙ ap (λ x. 35 ∷ x) (take_while_split nb cs));
   }
   | inr e ↦ record { comment = None; reads = rw e refl; splits = rw e refl }
 ]
@@ -65,7 +65,7 @@ and_false : (b : Bool) → b && false ≡ false
 and_false true = refl
 and_false false = refl
 
-uncommented : (text : List ℕ) → read_after_blank false [] text ≡ stopped [] None (read_stop text)
+uncommented : (text : List ℕ) → read_after_blank false [] text ≡ line_end_with_stop [] None (read_stop text)
 uncommented [] = refl
 uncommented (c ∷ cs) = rw (and_false (c == 35)) refl
 
@@ -80,8 +80,8 @@ content_commented bol bs i j k u b w h some =
     record {
       blank = between bs i j;
       comment = found.comment;
-      reads = ap (λ t. read_after_blank bol t (dropped white (rest bs i))) w.takes ∙ (ap (read_after_blank bol (between bs i j)) w.leaves
-          ∙ (found.reads ∙ ap (λ t. stopped (between bs i j) found.comment (read_stop t)) h.leaves));
+      reads = ap (λ t. read_after_blank bol t (drop_while white (rest bs i))) w.takes ∙ (ap (read_after_blank bol (between bs i j)) w.leaves
+          ∙ (found.reads ∙ ap (λ t. line_end_with_stop (between bs i j) found.comment (read_stop t)) h.leaves));
       spells = between-append bs i j k u w.above h.above b w.boundary h.boundary ∙ ap (λ t. between bs i j ++ t) after;
     }
 
@@ -101,7 +101,7 @@ content_bare bs i j u b l w =
     record {
       blank = [];
       comment = None;
-      reads = ap (λ t. read_after_blank false t (dropped white (rest bs i))) (w.takes ∙ none) ∙ (ap (read_after_blank false []) w.leaves ∙ uncommented (rest bs j));
+      reads = ap (λ t. read_after_blank false t (drop_while white (rest bs i))) (w.takes ∙ none) ∙ (ap (read_after_blank false []) w.leaves ∙ uncommented (rest bs j));
       spells = none;
     }
 
@@ -122,12 +122,12 @@ end_spelled bol bs i j k has_break u l b d h s =
     ∙ sym (append_assoc (h.blank ++ optional comment_text h.comment) (optional break_text s.stop) (rest bs k))))
 
 stopped_empty : (blank : List ℕ) (comment : Option (List ℕ)) (stop : Option Break) (after : List ℕ)
-    → is_empty (line_end_text (record { blank = blank; comment = comment; stop = stop })) ≡ true → stopped blank comment (Some (stop, after)) ≡ None
+    → is_empty (line_end_text (record { blank = blank; comment = comment; stop = stop })) ≡ true → line_end_with_stop blank comment (Some (stop, after)) ≡ None
 stopped_empty blank comment stop after h = rw h refl
 
 stopped_filled : (blank : List ℕ) (comment : Option (List ℕ)) (stop : Option Break) (after : List ℕ)
     → is_empty (line_end_text (record { blank = blank; comment = comment; stop = stop })) ≡ false
-    → stopped blank comment (Some (stop, after)) ≡ Some (record { blank = blank; comment = comment; stop = stop }, after)
+    → line_end_with_stop blank comment (Some (stop, after)) ≡ Some (record { blank = blank; comment = comment; stop = stop }, after)
 stopped_filled blank comment stop after h = rw h refl
 
 -- nothing at all is there
@@ -135,12 +135,12 @@ pub line_end_empty : (bol : Bool) (bs : List ℕ) (i j k : ℕ) (has_break : Boo
     → IsContentEnd bol bs i j → IsStop bs j has_break k → read_line_end bol (rest bs i) ≡ None
 line_end_empty bol bs i j k has_break u l b d e h s =
     let spelled = end_spelled bol bs i j k has_break u l b d h s in
-    h.reads ∙ (ap (stopped h.blank h.comment) s.reads
+    h.reads ∙ (ap (line_end_with_stop h.blank h.comment) s.reads
     ∙ stopped_empty h.blank h.comment s.stop (rest bs k) (none_left _ (rest bs k) (ap (rest bs) e ∙ spelled)))
 
 -- without a stop there is no end of a line
 pub line_end_none : (bol : Bool) (bs : List ℕ) (i j : ℕ) → IsContentEnd bol bs i j → read_stop (rest bs j) ≡ None → read_line_end bol (rest bs i) ≡ None
-line_end_none bol bs i j h s = h.reads ∙ ap (stopped h.blank h.comment) s
+line_end_none bol bs i j h s = h.reads ∙ ap (line_end_with_stop h.blank h.comment) s
 
 empty_is : (xs : List ℕ) → is_empty xs ≡ true → xs ≡ []
 empty_is [] h = refl
@@ -173,7 +173,7 @@ line_end_there bol bs i j k has_break u l b d n h s =
     let spelled : rest bs i ≡ line_end_text e ++ rest bs k = end_spelled bol bs i j k has_break u l b d h s in
     let further = s.above in
     let filled : is_empty (line_end_text e) ≡ false = some (line_end_text e) spelled in
-    let reads : read_line_end bol (rest bs i) ≡ Some (e, rest bs k) = h.reads ∙ (ap (stopped h.blank h.comment) s.reads ∙ stopped_filled h.blank h.comment s.stop (rest bs k) filled) in
+    let reads : read_line_end bol (rest bs i) ≡ Some (e, rest bs k) = h.reads ∙ (ap (line_end_with_stop h.blank h.comment) s.reads ∙ stopped_filled h.blank h.comment s.stop (rest bs k) filled) in
     let sound = sound_is (LineOf bol (rest bs i)) (read_line_end bol (rest bs i)) (e, rest bs k) (line_sound bol (rest bs i)) reads in
     record { above = omega arith; boundary = s.boundary; line_end = e; reads = reads; starts = starts_after_end bs i k e u (omega arith) b s.boundary spelled bol sound.1 }
   where

@@ -2,6 +2,7 @@
 use Rattle.std.specs.Prelude.{◌≡◌, ℕ, ◌<◌, ◌≤◌, Bool, true, not, ◌&&◌, ◌||◌, ◌==◌, nat_lt, List, length, slice_index, codes}
 use Rattle.yaml_chars.specs.Classes.{is_in, nb, nb_json, white}
 use Rattle.yaml_grammar.specs.FlowScalars.{FlowContext, outer, inner, safe}
+use Rattle.yaml_recognizers.specs.Signs.{single_quote}
 use Rattle.yaml_scan.specs.declared.classes.Class.{Class}
 use Rattle.yaml_scan.specs.declared.classes.Class.TheVariants.{Words, WordsInside, SingleQuoted, DoubleQuoted, Line}
 
@@ -16,7 +17,7 @@ word c x = simple c x || white x
 
 -- characters that mean themselves in quotes
 abbrev pub single_quoted : ℕ → Bool
-single_quoted x = nb_json x && not (x == 39)
+single_quoted x = nb_json x && not (x == single_quote)
 
 -- characters that mean themselves in double quotes
 abbrev pub double_quoted : ℕ → Bool

@@ -9,7 +9,7 @@ use Rattle.yaml_grammar.specs.Separation.{Sep, gap_text, indents}
 use Rattle.yaml_grammar.specs.Texts.{is_empty, starts_line}
 use Rattle.yaml_events.specs.EventPlaces.{line_starts}
 use Rattle.yaml_recognizers.specs.Comments.{all_comments}
-use Rattle.yaml_recognizers.specs.Prefixes.{taken, dropped}
+use Rattle.yaml_recognizers.specs.Prefixes.{take_while, drop_while}
 use Rattle.yaml_recognizers.specs.Gaps.{read_gap}
 use Rattle.yaml_recognizers.specs.OneLine.{gap_on_one_line}
 use Rattle.yaml_scan.specs.ScanPlaces.{unbroken_between}
@@ -24,15 +24,15 @@ after_comments text at = (all_comments true (rest text at)).1
 pub record IsLinesGap (n : ℕ) (text : List ℕ) (at : ℕ) (found : Gap) : Type 0 where
   pub above : at ≤ found.end
   pub boundary : IsCharBoundary text found.end
-  pub indent : indents n (taken white (after_comments text at)) ≡ true
-  pub leaves : dropped white (after_comments text at) ≡ rest text found.end
+  pub indent : indents n (take_while white (after_comments text at)) ≡ true
+  pub leaves : drop_while white (after_comments text at) ≡ rest text found.end
   pub filled : is_empty (rest text found.end) ≡ false
   pub over_lines : found.is_over_lines ≡ true
 
 -- The last line has too few spaces, or the text ends.
 abbrev pub NoLinesGap : ℕ → List ℕ → ℕ → Type 0
 NoLinesGap n text at =
-    (indents n (taken white (after_comments text at)) ≡ false) ⊎ (after_comments text at ≡ [])
+    (indents n (take_while white (after_comments text at)) ≡ false) ⊎ (after_comments text at ≡ [])
 
 -- The gap at the place, which may be empty, goes to the end of `found`.
 pub record IsGap (n : ℕ) (d : FlowContext) (text : List ℕ) (at : ℕ) (found : Gap) : Type 0 where

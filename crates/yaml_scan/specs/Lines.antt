@@ -9,8 +9,8 @@ use Rattle.yaml_grammar.specs.Separation.{LineEnd, comment_text}
 use Rattle.yaml_grammar.specs.Texts.{first, optional}
 use Rattle.yaml_events.specs.EventPlaces.{line_starts}
 use Rattle.yaml_recognizers.specs.CanonicalComments.{hash, is_line_end}
-use Rattle.yaml_recognizers.specs.Comments.{read_stop, stopped, read_line_end, all_comments}
-use Rattle.yaml_recognizers.specs.Prefixes.{dropped, past}
+use Rattle.yaml_recognizers.specs.Comments.{read_stop, line_end_with_stop, read_line_end, all_comments}
+use Rattle.yaml_recognizers.specs.Prefixes.{drop_while, past}
 use Rattle.yaml_scan.specs.ScanPlaces.{AreSpaces}
 use Rattle.yaml_scan.specs.declared.lines.Line.{Line}
 
@@ -20,7 +20,7 @@ IsLineStart text at = (line_starts text at ≡ true) ⊎ (rest text at ≡ [])
 
 -- what is left after a comment, which may be missing
 abbrev pub past_comment : List ℕ → List ℕ
-past_comment text = if first hash text then dropped nb (past text) else text
+past_comment text = if first hash text then drop_while nb (past text) else text
 
 -- perhaps a comment is between the two places
 pub record IsCommentEnd (text : List ℕ) (at end : ℕ) : Type 0 where
@@ -33,7 +33,7 @@ pub record IsCommentEnd (text : List ℕ) (at end : ℕ) : Type 0 where
 pub record IsContentEnd (bol : Bool) (text : List ℕ) (at end : ℕ) : Type 0 where
   pub blank : List ℕ
   pub comment : Option (List ℕ)
-  pub reads : read_line_end bol (rest text at) ≡ stopped blank comment (read_stop (rest text end))
+  pub reads : read_line_end bol (rest text at) ≡ line_end_with_stop blank comment (read_stop (rest text end))
   pub spells : between text at end ≡ blank ++ optional comment_text comment
 
 -- The end of a line: white space, perhaps a comment, and a break or the end of the text, not all

@@ -7,9 +7,10 @@ use Rattle.yaml_chars.specs.Classes.{between as within}
 use Rattle.yaml_chars.specs.Places.{rest, between}
 use Rattle.yaml_grammar.specs.BlockScalars.{past_spaces, spaces_before}
 use Rattle.yaml_grammar.specs.Separation.{Break}
-use Rattle.yaml_grammar.specs.Texts.{every, first}
+use Rattle.std.specs.List.{list_all}
+use Rattle.yaml_grammar.specs.Texts.{first}
 use Rattle.yaml_recognizers.specs.Comments.{read_break, read_stop}
-use Rattle.yaml_recognizers.specs.Prefixes.{taken, dropped}
+use Rattle.yaml_recognizers.specs.Prefixes.{take_while, drop_while}
 
 -- ---- runs
 
@@ -26,8 +27,8 @@ pub record AreSpaces (text : List ℕ) (at end : ℕ) : Type 0 where
 pub record AreTaken (test : ℕ → Bool) (text : List ℕ) (at end : ℕ) : Type 0 where
   pub above : at ≤ end
   pub boundary : IsCharBoundary text end
-  pub takes : taken test (rest text at) ≡ between text at end
-  pub leaves : dropped test (rest text at) ≡ rest text end
+  pub takes : take_while test (rest text at) ≡ between text at end
+  pub leaves : drop_while test (rest text at) ≡ rest text end
 
 -- one character that a line may hold
 pub record IsNb (text : List ℕ) (at end : ℕ) : Type 0 where
@@ -64,7 +65,7 @@ byte_order_mark = 0xef ∷ 0xbb ∷ 0xbf ∷ []
 
 -- no break is between the two places
 abbrev pub unbroken_between : List ℕ → ℕ → ℕ → Bool
-unbroken_between text from to = every no_break (between text from to)
+unbroken_between text from to = list_all no_break (between text from to)
 
 -- ---- signs
 

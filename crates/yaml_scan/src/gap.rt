@@ -30,8 +30,8 @@ fn is_on_one_line(context: FlowContext) -> bool
     }
 }
 
-/// Returns the gap at `at` between two parts of a flow node whose lines have at least `n` spaces
-/// (6.7, `s-separate`): white space, and outside of keys also comments and breaks. It may be empty.
+/// Returns the gap at `at` between two parts of a flow node whose lines have at least `n` spaces (6.7, `s-separate`).
+/// It is white space, and outside of keys also comments and breaks. It may be empty.
 ///
 /// Where nothing of the node can follow, it fails with [`ScanFault::At`]: [`Why::Flow`] where the
 /// text ends after the lines of the gap, and [`Why::Indent`] where its last line has fewer than `n`

@@ -10,70 +10,70 @@ use Rattle.yaml_chars.proofs.Places.{rest-end}
 use Rattle.yaml_grammar.specs.Texts.{same_text}
 use Rattle.yaml_style.specs.Findings.{common, style_line}
 use Rattle.yaml_style.specs.Lines.{breaks}
-use Rattle.yaml_style.specs.Comparing.{compared}
+use Rattle.yaml_style.specs.Comparing.{comparison_after}
 
 -- ---- one character
 
 -- an equal character on both sides changes nothing
-pub same_char : (c d : ℕ) (xs ys : List ℕ) → c ≡ d → compared (c ∷ xs) true (d ∷ ys) ≡ compared xs true ys
+pub same_char : (c d : ℕ) (xs ys : List ℕ) → c ≡ d → comparison_after (c ∷ xs) true (d ∷ ys) ≡ comparison_after xs true ys
 same_char c d xs ys e = rw (eq-eqb c d e) refl
 
 -- at different characters the comparison ends
-pub other_char : (c d : ℕ) (xs ys : List ℕ) → (c == d) ≡ false → compared (c ∷ xs) true (d ∷ ys) ≡ (c ∷ xs, false)
+pub other_char : (c d : ℕ) (xs ys : List ℕ) → (c == d) ≡ false → comparison_after (c ∷ xs) true (d ∷ ys) ≡ (c ∷ xs, false)
 other_char c d xs ys e = rw e refl
 
 -- nothing is left of the empty text
-pub nothing_left : (ys : List ℕ) → (compared [] true ys).0 ≡ []
+pub nothing_left : (ys : List ℕ) → (comparison_after [] true ys).0 ≡ []
 nothing_left [] = refl
 nothing_left (y ∷ ys) = refl
 
 -- ---- a prefix
 
 -- what comes after a common prefix is left
-pub prefix : (xs left : List ℕ) → compared (xs ++ left) true xs ≡ (left, true)
+pub prefix : (xs left : List ℕ) → comparison_after (xs ++ left) true xs ≡ (left, true)
 prefix [] left = refl
 prefix (x ∷ xs) left = same_char x x (xs ++ left) xs refl ∙ prefix xs left
 
 -- if the two agree, what is written is a prefix of the text
-pub is_prefix : (text written left : List ℕ) → compared text true written ≡ (left, true) → text ≡ written ++ left
+pub is_prefix : (text written left : List ℕ) → comparison_after text true written ≡ (left, true) → text ≡ written ++ left
 is_prefix text [] left e = ap (λ (s : List ℕ × Bool). s.0) e
 is_prefix [] (c ∷ cs) left e = absurd (false≢true (ap (λ (s : List ℕ × Bool). s.1) e))
 is_prefix (d ∷ ds) (c ∷ cs) left e = by_test (d == c) refl (λ later. is_prefix ds cs left later)
   where
-    by_test : (b : Bool) → (d == c) ≡ b → (compared ds true cs ≡ (left, true) → ds ≡ cs ++ left) → d ∷ ds ≡ c ∷ cs ++ left
+    by_test : (b : Bool) → (d == c) ≡ b → (comparison_after ds true cs ≡ (left, true) → ds ≡ cs ++ left) → d ∷ ds ≡ c ∷ cs ++ left
     by_test true same later =
-        let e2 : compared ds true cs ≡ (left, true) = sym (same_char d c ds cs (eqb-true d c same)) ∙ e in
+        let e2 : comparison_after ds true cs ≡ (left, true) = sym (same_char d c ds cs (eqb-true d c same)) ∙ e in
         ap (λ x. x ∷ ds) (eqb-true d c same) ∙ ap (λ xs. c ∷ xs) (later e2)
     by_test false other later = absurd (false≢true (ap (λ (s : List ℕ × Bool). s.1) (sym (other_char d c ds cs other) ∙ e)))
 
 -- ---- all of it
 
 -- what is left of a text comes after the prefix that it shares with the other
-pub shares : (text written : List ℕ) → common text written ++ (compared text true written).0 ≡ text
+pub shares : (text written : List ℕ) → common text written ++ (comparison_after text true written).0 ≡ text
 shares [] [] = refl
 shares [] (c ∷ cs) = refl
 shares (d ∷ ds) [] = refl
 shares (d ∷ ds) (c ∷ cs) = by_test (d == c) refl (shares ds cs)
   where
-    by_test : (b : Bool) → (d == c) ≡ b → common ds cs ++ (compared ds true cs).0 ≡ ds → common (d ∷ ds) (c ∷ cs) ++ (compared (d ∷ ds) true (c ∷ cs)).0 ≡ d ∷ ds
+    by_test : (b : Bool) → (d == c) ≡ b → common ds cs ++ (comparison_after ds true cs).0 ≡ ds → common (d ∷ ds) (c ∷ cs) ++ (comparison_after (d ∷ ds) true (c ∷ cs)).0 ≡ d ∷ ds
     by_test true e later = rw e (ap (λ xs. d ∷ xs) later)
     by_test false e later = rw e refl
 
 -- if they agree to the end, they are equal
-pub same_where : (text written : List ℕ) → (compared text true written).1 ≡ true → (compared text true written).0 ≡ [] → same_text text written ≡ true
+pub same_where : (text written : List ℕ) → (comparison_after text true written).1 ≡ true → (comparison_after text true written).0 ≡ [] → same_text text written ≡ true
 same_where [] [] agrees none = refl
 same_where [] (c ∷ cs) agrees none = absurd (false≢true agrees)
 same_where (d ∷ ds) [] agrees none = cc
 same_where (d ∷ ds) (c ∷ cs) agrees none = by_test (d == c) refl (same_where ds cs)
   where
-    by_test : (b : Bool) → (d == c) ≡ b → ((compared ds true cs).1 ≡ true → (compared ds true cs).0 ≡ [] → same_text ds cs ≡ true) → same_text (d ∷ ds) (c ∷ cs) ≡ true
+    by_test : (b : Bool) → (d == c) ≡ b → ((comparison_after ds true cs).1 ≡ true → (comparison_after ds true cs).0 ≡ [] → same_text ds cs ≡ true) → same_text (d ∷ ds) (c ∷ cs) ≡ true
     by_test true e later =
         let step = same_char d c ds cs (eqb-true d c e) in
         rw e (later (ap (λ (s : List ℕ × Bool). s.1) (sym step) ∙ agrees) (ap (λ (s : List ℕ × Bool). s.0) (sym step) ∙ none))
     by_test false e later = absurd (false≢true (ap (λ (s : List ℕ × Bool). s.1) (sym (other_char d c ds cs e)) ∙ agrees))
 
 -- equal texts agree to the end
-pub agrees_where_same : (text written : List ℕ) → same_text text written ≡ true → compared text true written ≡ ([], true)
+pub agrees_where_same : (text written : List ℕ) → same_text text written ≡ true → comparison_after text true written ≡ ([], true)
 agrees_where_same [] [] e = refl
 agrees_where_same [] (c ∷ cs) e = absurd (false≢true e)
 agrees_where_same (d ∷ ds) [] e = absurd (false≢true e)
@@ -88,16 +88,16 @@ pub at_the_end : (bytes : List ℕ) (at : ℕ) → (at < length bytes → ⊥) �
 at_the_end bytes at none = elim (cases_lt at (length bytes)) [ inl l ↦ absurd (none l) | inr l ↦ rest-end bytes at l ]
 
 -- a text in bytes that begins with another
-pub strips : (bytes piece : List ℕ) (n : ℕ) → IsUtf8 piece → bytes ≡ piece ++ drop n bytes → compared (chars bytes) true (chars piece) ≡ (chars (drop n bytes), true)
+pub strips : (bytes piece : List ℕ) (n : ℕ) → IsUtf8 piece → bytes ≡ piece ++ drop n bytes → comparison_after (chars bytes) true (chars piece) ≡ (chars (drop n bytes), true)
 strips bytes piece n utf8 e =
     let parts : chars bytes ≡ chars piece ++ chars (drop n bytes) = ap chars e ∙ chars-append piece (drop n bytes) utf8 in
     rw parts (prefix (chars piece) (chars (drop n bytes)))
 
 -- a text in bytes that does not
-pub no_prefix : (bytes piece : List ℕ) → IsUtf8 bytes → IsUtf8 piece → ((after : List ℕ) → bytes ≢ piece ++ after) → (compared (chars bytes) true (chars piece)).1 ≡ false
-no_prefix bytes piece utf8 piece_utf8 lacks = by_test (compared (chars bytes) true (chars piece)) refl
+pub no_prefix : (bytes piece : List ℕ) → IsUtf8 bytes → IsUtf8 piece → ((after : List ℕ) → bytes ≢ piece ++ after) → (comparison_after (chars bytes) true (chars piece)).1 ≡ false
+no_prefix bytes piece utf8 piece_utf8 lacks = by_test (comparison_after (chars bytes) true (chars piece)) refl
   where
-    by_test : (s : List ℕ × Bool) → compared (chars bytes) true (chars piece) ≡ s → s.1 ≡ false
+    by_test : (s : List ℕ × Bool) → comparison_after (chars bytes) true (chars piece) ≡ s → s.1 ≡ false
     by_test (left, false) e = refl
     by_test (left, true) e =
         let parts : chars bytes ≡ chars piece ++ left = is_prefix (chars bytes) (chars piece) left e in
@@ -106,13 +106,13 @@ no_prefix bytes piece utf8 piece_utf8 lacks = by_test (compared (chars bytes) tr
 -- ---- the line on which a text first differs
 
 -- a text that agrees to the end is in the style
-pub in_style : (text written left : List ℕ) (agrees : Bool) → (left, agrees) ≡ compared text true written → agrees ≡ true → left ≡ [] → style_line text written ≡ None
+pub in_style : (text written left : List ℕ) (agrees : Bool) → (left, agrees) ≡ comparison_after text true written → agrees ≡ true → left ≡ [] → style_line text written ≡ None
 in_style text written left agrees e held none =
     let same = same_where text written (ap (λ (s : List ℕ × Bool). s.1) (sym e) ∙ held) (ap (λ (s : List ℕ × Bool). s.0) (sym e) ∙ none) in
     rw same refl
 
 -- any other isn't
-pub not_in_style : (text written left : List ℕ) (agrees : Bool) → (left, agrees) ≡ compared text true written → (agrees ≡ true → left ≡ [] → ⊥)
+pub not_in_style : (text written left : List ℕ) (agrees : Bool) → (left, agrees) ≡ comparison_after text true written → (agrees ≡ true → left ≡ [] → ⊥)
     → style_line text written ≡ Some (suc (breaks (common text written)))
 not_in_style text written left agrees e differs = elim (cases_Bool (same_text text written)) [
   | inl same ↦ (let all = agrees_where_same text written same in

@@ -3,8 +3,8 @@
 use Rattle.std.specs.Prelude.{ℕ, Bool, true, false, ◌==◌, List, [], ◌∷◌, if◌then◌else◌}
 
 -- what more is written, where so much of the text is left, and all that was written so far agreed with it or did not
-abbrev pub compared : List ℕ → Bool → List ℕ → List ℕ × Bool
-compared left false written = (left, false)
-compared left true [] = (left, true)
-compared [] true (c ∷ cs) = ([], false)
-compared (d ∷ ds) true (c ∷ cs) = if d == c then compared ds true cs else (d ∷ ds, false)
+abbrev pub comparison_after : List ℕ → Bool → List ℕ → List ℕ × Bool
+comparison_after left false written = (left, false)
+comparison_after left true [] = (left, true)
+comparison_after [] true (c ∷ cs) = ([], false)
+comparison_after (d ∷ ds) true (c ∷ cs) = if d == c then comparison_after ds true cs else (d ∷ ds, false)

@@ -2,7 +2,7 @@
 ghost use Rattle.std.specs.Prelude.{◌≡◌, ◌+◌, ◌<◌, false, true, [], ◌∷◌, IfNone, IfSome};
 ghost use Rattle.std.specs.Str.{IsCharBoundary, chars};
 ghost use Rattle.yaml_chars.specs.Places.{rest};
-ghost use Rattle.yaml_style.specs.Comparing.{compared};
+ghost use Rattle.yaml_style.specs.Comparing.{comparison_after};
 
 use std::convert::Infallible;
 use yaml_chars::next_char;
@@ -33,16 +33,16 @@ impl<'a> Comparison<'a> {
 impl Sink for Comparison<'_> {
     ghost use Rattle.std.specs.Prelude.{◌≡◌};
     ghost use Rattle.std.specs.Str.{chars};
-    ghost use Rattle.yaml_style.specs.Comparing.{compared};
-    ghost use Rattle.yaml_style.specs.ComparingLaws.{compared-none, compared-both};
+    ghost use Rattle.yaml_style.specs.Comparing.{comparison_after};
+    ghost use Rattle.yaml_style.specs.ComparingLaws.{comparison_after-none, comparison_after-both};
 
     type Fault = Infallible;
 
-    ghost Takes = { λ a cs b. (chars b.rest.now, b.agrees) ≡ compared (chars a.rest.now) a.agrees cs };
+    ghost Takes = { λ a cs b. (chars b.rest.now, b.agrees) ≡ comparison_after (chars a.rest.now) a.agrees cs };
 
-    ghost takes_none = { λ s. compared-none (chars s.rest.now) s.agrees };
+    ghost takes_none = { λ s. comparison_after-none (chars s.rest.now) s.agrees };
 
-    ghost takes_both = { λ a b c xs ys first second. compared-both (chars a.rest.now) a.agrees (chars b.rest.now) b.agrees
+    ghost takes_both = { λ a b c xs ys first second. comparison_after-both (chars a.rest.now) a.agrees (chars b.rest.now) b.agrees
         (chars c.rest.now, c.agrees) xs ys first second };
 
     fn put_text(&mut self, text: &str) -> Result<(), Infallible> {
@@ -74,7 +74,8 @@ impl Sink for Comparison<'_> {
 
 /// What is left of a text after the longest prefix that it shares with what is written, and whether that is all of it.
 fn compare<'a>(text: &'a str, written: &str) -> (&'a str, bool)
-    ensures { (chars result.0.now, result.1) ≡ compared (chars text.now) true (chars written.now) }
+    ensures { (chars result.0.now, result.1)
+        ≡ comparison_after (chars text.now) true (chars written.now) }
 {
     match text.strip_prefix(written) {
         Some(rest) => (rest, true),
@@ -84,9 +85,9 @@ fn compare<'a>(text: &'a str, written: &str) -> (&'a str, bool)
 
 /// What is left of a text that begins with this character.
 fn strip_char(text: &str, c: char) -> Option<&str>
-    ensures found { IfSome result (λ left. compared (chars text.now) true (c ∷ [])
+    ensures found { IfSome result (λ left. comparison_after (chars text.now) true (c ∷ [])
         ≡ (chars left.now, true)) }
-    ensures none { IfNone result (compared (chars text.now) true (c ∷ [])
+    ensures none { IfNone result (comparison_after (chars text.now) true (c ∷ [])
         ≡ (chars text.now, false)) }
 {
     let Some((first, len)) = next_char(text, 0) else {
@@ -100,7 +101,7 @@ fn strip_char(text: &str, c: char) -> Option<&str>
 
 /// What is left of a text after the longest prefix that it shares with another.
 fn after_common<'a>(text: &'a str, other: &str) -> &'a str
-    ensures { chars result.now ≡ (compared (chars text.now) true (chars other.now)).0 }
+    ensures { chars result.now ≡ (comparison_after (chars text.now) true (chars other.now)).0 }
 {
     let mut at = 0;
     while let Some(len) = common_char(text, other, at) {
@@ -113,12 +114,13 @@ fn after_common<'a>(text: &'a str, other: &str) -> &'a str
 fn common_char(text: &str, other: &str, at: usize) -> Option<usize>
     requires here { IsCharBoundary text.now at }
     requires there { IsCharBoundary other.now at }
-    ensures same { IfSome result (λ len. compared (rest text.now at) true (rest other.now at)
-        ≡ compared (rest text.now (at + len)) true (rest other.now (at + len))) }
+    ensures same { IfSome result (λ len. comparison_after (rest text.now at) true
+        (rest other.now at)
+        ≡ comparison_after (rest text.now (at + len)) true (rest other.now (at + len))) }
     ensures here { IfSome result (λ len. IsCharBoundary text.now (at + len)) }
     ensures there { IfSome result (λ len. IsCharBoundary other.now (at + len)) }
     ensures some { IfSome result (λ len. 0 < len) }
-    ensures none { IfNone result ((compared (rest text.now at) true (rest other.now at)).0
+    ensures none { IfNone result ((comparison_after (rest text.now at) true (rest other.now at)).0
         ≡ rest text.now at) }
 {
     let Some((c, len)) = next_char(text, at) else {

@@ -15,6 +15,7 @@ byte_len-encoded (c ∷ cs) =
 pub byte_len-chars : (bs : List ℕ) → IsUtf8 bs → byte_len (chars bs) ≡ length bs
 byte_len-chars bs utf8 = byte_len-encoded (chars bs) ∙ ap length (encodes-chars bs utf8)
 
+-- n spaces have n bytes
 pub byte_len-spaces : (n : ℕ) → byte_len (spaces n) ≡ n
 byte_len-spaces zero = refl
 byte_len-spaces (suc n) = let after = byte_len-spaces n in omega (arith, after)

@@ -71,6 +71,7 @@ mutual
       ∙ members_deepest ms n (max (max d (n + 1)) (n + depth t)) ss (above n _ (n + depth t) (above n d (n + 1) h))
       ∙ ap (λ c. deepest_from n c ss) (max_of_pair n d (depth t) (members_depth ms) (depth_from_1 t))
 
+-- the depth counted over a tree's events is the tree's
 pub events_deepest : (es : List grammar.Event) (t : Tree) → IsTreeOf es t → deepest_from 0 0 (shapes es) ≡ depth t
 events_deepest es t is =
     let found = tree_deepest t 0 0 (document_to ∷ []) in

@@ -2,6 +2,7 @@
 use Rattle.std.proofs.Common.{◌≡◌, ℕ, suc, ◌-◌, ◌<◌, ◌≤◌, nat_lt, false, arith}
 use Rattle.std.proofs.lemmas.Bool.Decides.{nat_tests}
 
+-- a depth that is not over the limit is at most the limit
 pub not_deeper : (limit deep : ℕ) → nat_lt limit deep ≡ false → deep ≤ limit
 not_deeper limit deep e = grind (arith, nat_tests)
 

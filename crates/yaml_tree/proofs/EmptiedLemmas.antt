@@ -2,37 +2,39 @@
 use Rattle.std.proofs.Common.{◌≡◌, ℕ, Bool, true, false, ◌&&◌, ◌||◌, not, List, [], ◌∷◌, Option, Some, None, refl, sym, ap, ap₂, subst, ◌∙◌}
 use Rattle.yaml_grammar.specs.Texts.{same_text}
 use Rattle.yaml_grammar.specs.Trees.{Tree, text, sequence, mapping, Elements, no_element, element, Members, no_member, member, Shape, document_from, document_to, seq_from, seq_to, map_from, map_to, scalar_of, distinct, elements_distinct, members_distinct, has_key}
-use Rattle.yaml_tree.specs.Emptied.{emptied, emptied_elements, emptied_members, emptied_frames, frames_distinct}
-use Rattle.yaml_tree.specs.Frames.{Frame, awaiting, root, whole, in_seq, at_key, at_value, elements_and, members_and, put, step, document_ended, seq_ended, map_ended, finished}
+use Rattle.yaml_tree.specs.Emptied.{emptied_tree, emptied_elements, emptied_members, emptied_frames, frames_distinct}
+use Rattle.yaml_tree.specs.Frames.{Frame, awaiting, root, whole, in_seq, at_key, at_value, elements_and, members_and, frames_with, step, after_document_end, after_seq_end, after_map_end, finished_tree}
 use Rattle.yaml_tree.specs.Keys.{keys_differ, values_distinct}
 use Rattle.yaml_tree.proofs.KeyLemmas.{members_distinct-parts}
 
+-- the frames with emptied trees, where there are frames
 abbrev pub emptied_some : Option (List Frame) → Option (List Frame)
 emptied_some None = None
 emptied_some (Some fs) = Some (emptied_frames fs)
 
 -- ---- parts
 
-elements_and-emptied : (ts : Elements) (t : Tree) → elements_and (emptied_elements ts) (emptied t) ≡ emptied_elements (elements_and ts t)
-elements_and-emptied no_element t = refl
-elements_and-emptied (element u ts) t = ap (element (emptied u)) (elements_and-emptied ts t)
+elements_and-emptied_tree : (ts : Elements) (t : Tree) → elements_and (emptied_elements ts) (emptied_tree t) ≡ emptied_elements (elements_and ts t)
+elements_and-emptied_tree no_element t = refl
+elements_and-emptied_tree (element u ts) t = ap (element (emptied_tree u)) (elements_and-emptied_tree ts t)
 
-members_and-emptied : (ms : Members) (key : List ℕ) (t : Tree) → members_and (emptied_members ms) key (emptied t) ≡ emptied_members (members_and ms key t)
-members_and-emptied no_member key t = refl
-members_and-emptied (member k u ms) key t = ap (member k (emptied u)) (members_and-emptied ms key t)
+members_and-emptied_tree : (ms : Members) (key : List ℕ) (t : Tree) → members_and (emptied_members ms) key (emptied_tree t) ≡ emptied_members (members_and ms key t)
+members_and-emptied_tree no_member key t = refl
+members_and-emptied_tree (member k u ms) key t = ap (member k (emptied_tree u)) (members_and-emptied_tree ms key t)
 
-pub put_emptied : (fs : List Frame) (t : Tree) → put (emptied_frames fs) (emptied t) ≡ emptied_some (put fs t)
+-- emptying trees commutes with placing a value
+pub put_emptied : (fs : List Frame) (t : Tree) → frames_with (emptied_frames fs) (emptied_tree t) ≡ emptied_some (frames_with fs t)
 put_emptied [] t = refl
 put_emptied (awaiting ∷ fs) t = refl
 put_emptied (root u ∷ fs) t = refl
 put_emptied (whole u ∷ fs) t = refl
-put_emptied (in_seq ts ∷ fs) t = ap (λ us. Some (in_seq us ∷ emptied_frames fs)) (elements_and-emptied ts t)
+put_emptied (in_seq ts ∷ fs) t = ap (λ us. Some (in_seq us ∷ emptied_frames fs)) (elements_and-emptied_tree ts t)
 put_emptied (at_key ms ∷ fs) (text key) = refl
 put_emptied (at_key ms ∷ fs) (sequence ts) = refl
 put_emptied (at_key ms ∷ fs) (mapping ns) = refl
-put_emptied (at_value ms key ∷ fs) t = ap (λ ns. Some (at_key ns ∷ emptied_frames fs)) (members_and-emptied ms key t)
+put_emptied (at_value ms key ∷ fs) t = ap (λ ns. Some (at_key ns ∷ emptied_frames fs)) (members_and-emptied_tree ms key t)
 
-document_emptied : (fs : List Frame) → document_ended (emptied_frames fs) ≡ emptied_some (document_ended fs)
+document_emptied : (fs : List Frame) → after_document_end (emptied_frames fs) ≡ emptied_some (after_document_end fs)
 document_emptied [] = refl
 document_emptied (awaiting ∷ fs) = refl
 document_emptied (root u ∷ fs) = refl
@@ -102,7 +104,7 @@ members_and-distinct (member k u ms) key t =
     turn false true c = refl
     turn false false c = refl
 
-put_differs : (fs : List Frame) (t : Tree) → Differs (put fs t) (distinct t && frames_distinct fs)
+put_differs : (fs : List Frame) (t : Tree) → Differs (frames_with fs t) (distinct t && frames_distinct fs)
 put_differs [] t = tt
 put_differs (awaiting ∷ fs) t = refl
 put_differs (root u ∷ fs) t = tt
@@ -115,7 +117,7 @@ put_differs (at_key ms ∷ fs) (mapping ns) = tt
 put_differs (at_value ms key ∷ fs) t =
     and_assoc (distinct t) (values_distinct ms) (frames_distinct fs) ∙ ap (λ b. b && frames_distinct fs) (sym (members_and-distinct ms key t))
 
-document_differs : (fs : List Frame) → Differs (document_ended fs) (frames_distinct fs)
+document_differs : (fs : List Frame) → Differs (after_document_end fs) (frames_distinct fs)
 document_differs [] = tt
 document_differs (awaiting ∷ fs) = tt
 document_differs (root u ∷ fs) = refl
@@ -149,9 +151,11 @@ none_emptied : (o : Option (List Frame)) → emptied_some o ≡ None → o ≡ N
 none_emptied None e = refl
 none_emptied (Some fs) e = cc
 
+-- where emptied frames take an inner event, so do the frames themselves, and their keys differ as before
 pub inner_stepped : (fs new : List Frame) (s : Shape) → IsInner s → step (emptied_frames fs) s ≡ Some new → Stepped new (frames_distinct fs) (step fs s)
 inner_stepped fs new s h e = stepped (step fs s) new (frames_distinct fs) (sym (step_emptied fs s h) ∙ e) (step_differs fs s h)
 
+-- where emptied frames refuse an inner event, so do the frames themselves
 pub inner_none : (fs : List Frame) (s : Shape) → IsInner s → step (emptied_frames fs) s ≡ None → step fs s ≡ None
 inner_none fs s h e = none_emptied (step fs s) (sym (step_emptied fs s h) ∙ e)
 
@@ -169,6 +173,7 @@ pub record InMap (fs : List Frame) (ms : Members) (rest : List Frame) : Type 0 w
   pub emptied_is : ms ≡ emptied_members members
   pub after : rest ≡ emptied_frames outer
 
+-- frames that are emptied to an open sequence have an open sequence
 pub in_seq_parts : (fs : List Frame) (es : Elements) (rest : List Frame) → emptied_frames fs ≡ in_seq es ∷ rest → InSeq fs rest
 in_seq_parts [] es rest e = cc
 in_seq_parts (awaiting ∷ fs) es rest e = cc
@@ -178,6 +183,7 @@ in_seq_parts (in_seq ts ∷ fs) es rest e = record { elements = ts; outer = fs; 
 in_seq_parts (at_key ms ∷ fs) es rest e = cc
 in_seq_parts (at_value ms key ∷ fs) es rest e = cc
 
+-- frames that are emptied to an open mapping have an open mapping
 pub in_map_parts : (fs : List Frame) (ns : Members) (rest : List Frame) → emptied_frames fs ≡ at_key ns ∷ rest → InMap fs ns rest
 in_map_parts [] ns rest e = cc
 in_map_parts (awaiting ∷ fs) ns rest e = cc
@@ -187,17 +193,19 @@ in_map_parts (in_seq ts ∷ fs) ns rest e = cc
 in_map_parts (at_key ms ∷ fs) ns rest e = record { members = ms; outer = fs; is = refl; emptied_is = cc; after = cc }
 in_map_parts (at_value ms key ∷ fs) ns rest e = cc
 
-pub seq_stepped : (fs rest new : List Frame) → InSeq fs rest → put rest (sequence no_element) ≡ Some new → Stepped new (frames_distinct fs) (seq_ended fs)
+-- where the end of an emptied sequence is taken, so is that of the sequence
+pub seq_stepped : (fs rest new : List Frame) → InSeq fs rest → frames_with rest (sequence no_element) ≡ Some new → Stepped new (frames_distinct fs) (after_seq_end fs)
 seq_stepped fs rest new i e =
-    let found = stepped (put i.outer (sequence i.elements)) new (elements_distinct i.elements && frames_distinct i.outer)
-    (sym (put_emptied i.outer (sequence i.elements)) ∙ ap (λ gs. put gs (sequence no_element)) (sym i.after) ∙ e)
+    let found = stepped (frames_with i.outer (sequence i.elements)) new (elements_distinct i.elements && frames_distinct i.outer)
+    (sym (put_emptied i.outer (sequence i.elements)) ∙ ap (λ gs. frames_with gs (sequence no_element)) (sym i.after) ∙ e)
     (put_differs i.outer (sequence i.elements)) in
-    subst (λ gs. Stepped new (frames_distinct gs) (seq_ended gs)) (sym i.is) found
+    subst (λ gs. Stepped new (frames_distinct gs) (after_seq_end gs)) (sym i.is) found
 
-pub seq_put_none : (fs rest : List Frame) → InSeq fs rest → put rest (sequence no_element) ≡ None → seq_ended fs ≡ None
+-- where an emptied sequence has no place, the sequence has none
+pub seq_put_none : (fs rest : List Frame) → InSeq fs rest → frames_with rest (sequence no_element) ≡ None → after_seq_end fs ≡ None
 seq_put_none fs rest i e =
-    ap seq_ended i.is
-    ∙ none_emptied (put i.outer (sequence i.elements)) (sym (put_emptied i.outer (sequence i.elements)) ∙ ap (λ gs. put gs (sequence no_element)) (sym i.after) ∙ e)
+    ap after_seq_end i.is
+    ∙ none_emptied (frames_with i.outer (sequence i.elements)) (sym (put_emptied i.outer (sequence i.elements)) ∙ ap (λ gs. frames_with gs (sequence no_element)) (sym i.after) ∙ e)
 
 keys_of_mapping : (ms : Members) (d : Bool) (fs : List Frame) → d ≡ (values_distinct ms && frames_distinct fs)
     → (d && keys_differ ms) ≡ (members_distinct ms && frames_distinct fs)
@@ -206,36 +214,37 @@ keys_of_mapping ms d fs e =
     ∙ and_assoc (keys_differ ms) (values_distinct ms) (frames_distinct fs)
     ∙ ap (λ b. b && frames_distinct fs) (sym (members_distinct-parts ms))
 
-has_key-emptied : (key : List ℕ) (ms : Members) → has_key key (emptied_members ms) ≡ has_key key ms
-has_key-emptied key no_member = refl
-has_key-emptied key (member k t ms) = ap (λ b. same_text key k || b) (has_key-emptied key ms)
+has_key-emptied_tree : (key : List ℕ) (ms : Members) → has_key key (emptied_members ms) ≡ has_key key ms
+has_key-emptied_tree key no_member = refl
+has_key-emptied_tree key (member k t ms) = ap (λ b. same_text key k || b) (has_key-emptied_tree key ms)
 
-keys_differ-emptied : (ms : Members) → keys_differ (emptied_members ms) ≡ keys_differ ms
-keys_differ-emptied no_member = refl
-keys_differ-emptied (member k t ms) = ap₂ (λ a b. not a && b) (has_key-emptied k ms) (keys_differ-emptied ms)
+keys_differ-emptied_tree : (ms : Members) → keys_differ (emptied_members ms) ≡ keys_differ ms
+keys_differ-emptied_tree no_member = refl
+keys_differ-emptied_tree (member k t ms) = ap₂ (λ a b. not a && b) (has_key-emptied_tree k ms) (keys_differ-emptied_tree ms)
 
 -- the flag is taken together with whether this mapping's keys differ
-pub map_stepped : (fs rest new : List Frame) (ns : Members) (d : Bool) → InMap fs ns rest → put rest (mapping no_member) ≡ Some new → d ≡ frames_distinct fs
-    → Stepped new (d && keys_differ ns) (map_ended fs)
+pub map_stepped : (fs rest new : List Frame) (ns : Members) (d : Bool) → InMap fs ns rest → frames_with rest (mapping no_member) ≡ Some new → d ≡ frames_distinct fs
+    → Stepped new (d && keys_differ ns) (after_map_end fs)
 map_stepped fs rest new ns d i e was =
-    let keys : keys_differ ns ≡ keys_differ i.members = ap keys_differ i.emptied_is ∙ keys_differ-emptied i.members in
+    let keys : keys_differ ns ≡ keys_differ i.members = ap keys_differ i.emptied_is ∙ keys_differ-emptied_tree i.members in
     let flag : (d && keys_differ ns) ≡ (members_distinct i.members && frames_distinct i.outer) =
     ap (λ b. d && b) keys ∙ keys_of_mapping i.members d i.outer (was ∙ ap frames_distinct i.is) in
-    let found = stepped (put i.outer (mapping i.members)) new (members_distinct i.members && frames_distinct i.outer)
-    (sym (put_emptied i.outer (mapping i.members)) ∙ ap (λ gs. put gs (mapping no_member)) (sym i.after) ∙ e)
+    let found = stepped (frames_with i.outer (mapping i.members)) new (members_distinct i.members && frames_distinct i.outer)
+    (sym (put_emptied i.outer (mapping i.members)) ∙ ap (λ gs. frames_with gs (mapping no_member)) (sym i.after) ∙ e)
     (put_differs i.outer (mapping i.members)) in
-    let there : Stepped new (members_distinct i.members && frames_distinct i.outer) (map_ended fs) =
-    subst (λ gs. Stepped new (members_distinct i.members && frames_distinct i.outer) (map_ended gs)) (sym i.is) found in
-    subst (λ b. Stepped new b (map_ended fs)) (sym flag) there
+    let there : Stepped new (members_distinct i.members && frames_distinct i.outer) (after_map_end fs) =
+    subst (λ gs. Stepped new (members_distinct i.members && frames_distinct i.outer) (after_map_end gs)) (sym i.is) found in
+    subst (λ b. Stepped new b (after_map_end fs)) (sym flag) there
 
-pub map_put_none : (fs rest : List Frame) (ns : Members) → InMap fs ns rest → put rest (mapping no_member) ≡ None → map_ended fs ≡ None
+-- where an emptied mapping has no place, the mapping has none
+pub map_put_none : (fs rest : List Frame) (ns : Members) → InMap fs ns rest → frames_with rest (mapping no_member) ≡ None → after_map_end fs ≡ None
 map_put_none fs rest ns i e =
-    ap map_ended i.is
-    ∙ none_emptied (put i.outer (mapping i.members)) (sym (put_emptied i.outer (mapping i.members)) ∙ ap (λ gs. put gs (mapping no_member)) (sym i.after) ∙ e)
+    ap after_map_end i.is
+    ∙ none_emptied (frames_with i.outer (mapping i.members)) (sym (put_emptied i.outer (mapping i.members)) ∙ ap (λ gs. frames_with gs (mapping no_member)) (sym i.after) ∙ e)
 
 -- no sequence, no mapping is innermost, or its place is none for a collection
 
-collection_none : (fs : List Frame) (us ts : Elements) → put (emptied_frames fs) (sequence us) ≡ None → put fs (sequence ts) ≡ None
+collection_none : (fs : List Frame) (us ts : Elements) → frames_with (emptied_frames fs) (sequence us) ≡ None → frames_with fs (sequence ts) ≡ None
 collection_none [] us ts e = refl
 collection_none (awaiting ∷ fs) us ts e = cc
 collection_none (root u ∷ fs) us ts e = refl
@@ -244,7 +253,7 @@ collection_none (in_seq vs ∷ fs) us ts e = cc
 collection_none (at_key ms ∷ fs) us ts e = refl
 collection_none (at_value ms key ∷ fs) us ts e = cc
 
-mapping_none : (fs : List Frame) (ns os : Members) → put (emptied_frames fs) (mapping ns) ≡ None → put fs (mapping os) ≡ None
+mapping_none : (fs : List Frame) (ns os : Members) → frames_with (emptied_frames fs) (mapping ns) ≡ None → frames_with fs (mapping os) ≡ None
 mapping_none [] ns os e = refl
 mapping_none (awaiting ∷ fs) ns os e = cc
 mapping_none (root u ∷ fs) ns os e = refl
@@ -253,7 +262,8 @@ mapping_none (in_seq vs ∷ fs) ns os e = cc
 mapping_none (at_key ms ∷ fs) ns os e = refl
 mapping_none (at_value ms key ∷ fs) ns os e = cc
 
-pub seq_none : (fs : List Frame) → seq_ended (emptied_frames fs) ≡ None → seq_ended fs ≡ None
+-- where the end of a sequence is refused on emptied frames, it is on the frames themselves
+pub seq_none : (fs : List Frame) → after_seq_end (emptied_frames fs) ≡ None → after_seq_end fs ≡ None
 seq_none [] e = refl
 seq_none (awaiting ∷ fs) e = refl
 seq_none (root u ∷ fs) e = refl
@@ -262,7 +272,8 @@ seq_none (in_seq ts ∷ fs) e = collection_none fs (emptied_elements ts) ts e
 seq_none (at_key ms ∷ fs) e = refl
 seq_none (at_value ms key ∷ fs) e = refl
 
-pub map_none : (fs : List Frame) → map_ended (emptied_frames fs) ≡ None → map_ended fs ≡ None
+-- where the end of a mapping is refused on emptied frames, it is on the frames themselves
+pub map_none : (fs : List Frame) → after_map_end (emptied_frames fs) ≡ None → after_map_end fs ≡ None
 map_none [] e = refl
 map_none (awaiting ∷ fs) e = refl
 map_none (root u ∷ fs) e = refl
@@ -275,10 +286,11 @@ map_none (at_value ms key ∷ fs) e = refl
 
 pub record Finished (differ : Bool) (fs : List Frame) : Type 0 where
   pub tree : Tree
-  pub is : finished fs ≡ Some tree
+  pub is : finished_tree fs ≡ Some tree
   pub distinct : differ ≡ distinct tree
 
-pub finished_emptied : (fs : List Frame) (t : Tree) (d : Bool) → finished (emptied_frames fs) ≡ Some t → d ≡ frames_distinct fs → Finished d fs
+-- where emptied frames hold a whole tree, so do the frames themselves
+pub finished_emptied : (fs : List Frame) (t : Tree) (d : Bool) → finished_tree (emptied_frames fs) ≡ Some t → d ≡ frames_distinct fs → Finished d fs
 finished_emptied [] t d e h = cc
 finished_emptied (awaiting ∷ fs) t d e h = cc
 finished_emptied (root u ∷ fs) t d e h = cc
@@ -288,7 +300,8 @@ finished_emptied (in_seq ts ∷ fs) t d e h = cc
 finished_emptied (at_key ms ∷ fs) t d e h = cc
 finished_emptied (at_value ms key ∷ fs) t d e h = cc
 
-pub finished_none : (fs : List Frame) → finished (emptied_frames fs) ≡ None → finished fs ≡ None
+-- where emptied frames hold no whole tree, neither do the frames themselves
+pub finished_none : (fs : List Frame) → finished_tree (emptied_frames fs) ≡ None → finished_tree fs ≡ None
 finished_none [] e = refl
 finished_none (awaiting ∷ fs) e = refl
 finished_none (root u ∷ fs) e = refl

@@ -8,7 +8,7 @@ use Rattle.yaml_events.specs.declared.event.Event.{Event}
 use Rattle.yaml_grammar.specs.Events as grammar
 use Rattle.yaml_grammar.specs.Trees.{Tree, shape, shapes, IsTreeOf}
 use Rattle.yaml_tree.specs.Building.{HasNone, HasNoTree}
-use Rattle.yaml_tree.specs.Frames.{Frame, whole, step, finished}
+use Rattle.yaml_tree.specs.Frames.{Frame, whole, step, finished_tree}
 use Rattle.yaml_tree.proofs.FrameLemmas.{after, run, run-append, run-None, document_run, run_written, finished_whole}
 
 -- the list of which xs and x are the first items
@@ -19,6 +19,7 @@ items_on xs all x prefix within here =
     ∙ ap (λ ys. ys ++ get_or all (length xs) x ∷ [] ++ drop (length xs + 1) all) (sym prefix)
     ∙ ap (λ y. xs ++ y ∷ [] ++ drop (length xs + 1) all) (sym here)
 
+-- the shapes of two lists of events, one after the other
 pub shapes_of-append : (xs ys : List Event) → shapes (events_of (xs ++ ys)) ≡ shapes (events_of xs) ++ shapes (events_of ys)
 shapes_of-append [] ys = refl
 shapes_of-append (x ∷ xs) ys = ap (λ ss. shape (event_of x) ∷ ss) (shapes_of-append xs ys)
@@ -42,20 +43,23 @@ run_stopped xs more all x fs split e none =
 
 -- ---- a tree, or none
 
+-- the events of a tree build it
 pub tree_run : (es : List grammar.Event) (t : Tree) → IsTreeOf es t → run (Some []) (shapes es) ≡ Some (whole t ∷ [])
 tree_run es t is = ap (run (Some [])) is ∙ document_run t
 
-pub run_tree : (es : List grammar.Event) (fs : List Frame) (t : Tree) → run (Some []) (shapes es) ≡ Some fs → finished fs ≡ Some t → IsTreeOf es t
+-- events that build a tree are its events
+pub run_tree : (es : List grammar.Event) (fs : List Frame) (t : Tree) → run (Some []) (shapes es) ≡ Some fs → finished_tree fs ≡ Some t → IsTreeOf es t
 run_tree es fs t e done = run_written (shapes es) (whole t ∷ []) (e ∙ ap Some (finished_whole fs t done))
 
+-- events that stop the builder are those of no tree
 pub none_stopped : (es : List grammar.Event) → run (Some []) (shapes es) ≡ None → (t : Tree) → IsTreeOf es t → ⊥
 none_stopped es e t is = let found = tree_run es t is in cc
 
-none_unfinished : (es : List grammar.Event) (fs : List Frame) → run (Some []) (shapes es) ≡ Some fs → finished fs ≡ None → (t : Tree) → IsTreeOf es t → ⊥
+none_unfinished : (es : List grammar.Event) (fs : List Frame) → run (Some []) (shapes es) ≡ Some fs → finished_tree fs ≡ None → (t : Tree) → IsTreeOf es t → ⊥
 none_unfinished es fs e none t is =
     let found = tree_run es t is in
     let same : fs ≡ whole t ∷ [] = cc in
-    let done : finished (whole t ∷ []) ≡ None = subst (λ gs. finished gs ≡ None) same none in
+    let done : finished_tree (whole t ∷ []) ≡ None = subst (λ gs. finished_tree gs ≡ None) same none in
     cc
 
 no_tree : {A : Type 0} (o : Option A) (es : List grammar.Event) → (o ≡ None → (t : Tree) → IsTreeOf es t → ⊥) → (fault : ReadFault)
@@ -70,14 +74,16 @@ no_tree o es none KeyTwice h = absurd h
 no_tree o es none TooDeep h = absurd h
 no_tree o es none LargeInStyle h = absurd h
 
+-- where an event has no place, the fault is right: the events are those of no tree
 pub stopped_refuses : (xs more all : List Event) (x : Event) (fs : List Frame) (fault : ReadFault) → all ≡ xs ++ x ∷ [] ++ more
     → run (Some []) (shapes (events_of xs)) ≡ Some fs → HasNone (step fs (shape (event_of x))) fault → HasNoTree (events_of all) fault
 stopped_refuses xs more all x fs fault split e =
     no_tree (step fs (shape (event_of x))) (events_of all) (λ none. none_stopped (events_of all) (run_stopped xs more all x fs split e none)) fault
 
+-- where no tree is whole at the end, the fault is right: the events are those of no tree
 pub unfinished_refuses : (es : List grammar.Event) (fs : List Frame) (fault : ReadFault) → run (Some []) (shapes es) ≡ Some fs
-    → HasNone (finished fs) fault → HasNoTree es fault
-unfinished_refuses es fs fault e = no_tree (finished fs) es (none_unfinished es fs e) fault
+    → HasNone (finished_tree fs) fault → HasNoTree es fault
+unfinished_refuses es fs fault e = no_tree (finished_tree fs) es (none_unfinished es fs e) fault
 
 -- a list of events is that of one tree at most
 pub tree_is_one : (es : List grammar.Event) (t u : Tree) → IsTreeOf es t → IsTreeOf es u → t ≡ u

@@ -2,32 +2,38 @@
 use Rattle.std.proofs.Common.{◌≡◌, ℕ, List, [], ◌∷◌, ◌++◌, Option, Some, None, append_assoc, refl, sym, ap, subst, ◌∙◌}
 use Rattle.std.proofs.lemmas.List.{append-nil}
 use Rattle.yaml_grammar.specs.Trees.{Tree, text, sequence, mapping, Elements, no_element, element, Members, no_member, member, Shape, document_from, document_to, seq_from, seq_to, map_from, map_to, scalar_of, tree_shapes, elements_shapes, members_shapes}
-use Rattle.yaml_tree.specs.Frames.{Frame, awaiting, root, whole, in_seq, at_key, at_value, elements_and, members_and, put, step, finished}
+use Rattle.yaml_tree.specs.Frames.{Frame, awaiting, root, whole, in_seq, at_key, at_value, elements_and, members_and, frames_with, step, finished_tree}
 
 -- ---- several events
 
+-- the frames after one more event, where there are frames
 abbrev pub after : Option (List Frame) → Shape → Option (List Frame)
 after None s = None
 after (Some fs) s = step fs s
 
+-- the frames after a list of events
 abbrev pub run : Option (List Frame) → List Shape → Option (List Frame)
 run o [] = o
 run o (s ∷ ss) = run (after o s) ss
 
+-- a run over two lists is the run over the one and then over the other
 pub run-append : (o : Option (List Frame)) (xs ys : List Shape) → run o (xs ++ ys) ≡ run (run o xs) ys
 run-append o [] ys = refl
 run-append o (x ∷ xs) ys = run-append (after o x) xs ys
 
+-- a run that was stopped stays stopped
 pub run-None : (ss : List Shape) → run None ss ≡ None
 run-None [] = refl
 run-None (s ∷ ss) = run-None ss
 
 -- ---- more at the end
 
+-- elements, and then others
 abbrev pub elements_join : Elements → Elements → Elements
 elements_join ts no_element = ts
 elements_join ts (element u us) = elements_join (elements_and ts u) us
 
+-- members, and then others
 abbrev pub members_join : Members → Members → Members
 members_join ms no_member = ms
 members_join ms (member key u ns) = members_join (members_and ms key u) ns
@@ -40,19 +46,23 @@ members_join-member : (key : List ℕ) (t : Tree) (ms ns : Members) → members_
 members_join-member key t ms no_member = refl
 members_join-member key t ms (member k u ns) = members_join-member key t (members_and ms k u) ns
 
+-- no element before others adds nothing
 pub elements_join-none : (us : Elements) → elements_join no_element us ≡ us
 elements_join-none no_element = refl
 elements_join-none (element u us) = elements_join-element u no_element us ∙ ap (element u) (elements_join-none us)
 
+-- no member before others adds nothing
 pub members_join-none : (ns : Members) → members_join no_member ns ≡ ns
 members_join-none no_member = refl
 members_join-none (member key u ns) = members_join-member key u no_member ns ∙ ap (member key u) (members_join-none ns)
 
+-- the shapes of elements with one more at the end
 pub elements_and-shapes : (ts : Elements) (u : Tree) → elements_shapes (elements_and ts u) ≡ elements_shapes ts ++ tree_shapes u
 elements_and-shapes no_element u = append-nil (tree_shapes u)
 elements_and-shapes (element t ts) u =
     ap (λ ss. tree_shapes t ++ ss) (elements_and-shapes ts u) ∙ sym (append_assoc (tree_shapes t) (elements_shapes ts) (tree_shapes u))
 
+-- the shapes of members with one more at the end
 pub members_and-shapes : (ms : Members) (key : List ℕ) (u : Tree)
     → members_shapes (members_and ms key u) ≡ members_shapes ms ++ scalar_of key ∷ tree_shapes u
 members_and-shapes no_member key u = ap (λ ss. scalar_of key ∷ ss) (append-nil (tree_shapes u))
@@ -64,16 +74,16 @@ members_and-shapes (member k t ms) key u =
 
 -- the part, with the values of a collection in it one after another
 mutual
-  tree_run : (t : Tree) (fs : List Frame) (rest : List Shape) → run (Some fs) (tree_shapes t ++ rest) ≡ run (put fs t) rest
+  tree_run : (t : Tree) (fs : List Frame) (rest : List Shape) → run (Some fs) (tree_shapes t ++ rest) ≡ run (frames_with fs t) rest
   tree_run (text value) fs rest = refl
   tree_run (sequence ts) fs rest =
       ap (run (Some (in_seq no_element ∷ fs))) (append_assoc (elements_shapes ts) (seq_to ∷ []) rest)
       ∙ elements_run ts no_element fs (seq_to ∷ rest)
-      ∙ ap (λ us. run (put fs (sequence us)) rest) (elements_join-none ts)
+      ∙ ap (λ us. run (frames_with fs (sequence us)) rest) (elements_join-none ts)
   tree_run (mapping ms) fs rest =
       ap (run (Some (at_key no_member ∷ fs))) (append_assoc (members_shapes ms) (map_to ∷ []) rest)
       ∙ members_run ms no_member fs (map_to ∷ rest)
-      ∙ ap (λ ns. run (put fs (mapping ns)) rest) (members_join-none ms)
+      ∙ ap (λ ns. run (frames_with fs (mapping ns)) rest) (members_join-none ms)
 
   elements_run : (ts us : Elements) (fs : List Frame) (rest : List Shape)
       → run (Some (in_seq us ∷ fs)) (elements_shapes ts ++ rest) ≡ run (Some (in_seq (elements_join us ts) ∷ fs)) rest
@@ -91,11 +101,13 @@ mutual
       ∙ tree_run t (at_value ns key ∷ fs) (members_shapes ms ++ rest)
       ∙ members_run ms (members_and ns key t) fs rest
 
+-- the events of a document build its tree
 pub document_run : (t : Tree) → run (Some []) (document_from ∷ (tree_shapes t ++ document_to ∷ [])) ≡ Some (whole t ∷ [])
 document_run t = tree_run t (awaiting ∷ []) (document_to ∷ [])
 
 -- ---- the events that the open parts were made by
 
+-- the events that frames were built from
 abbrev pub written : List Frame → List Shape
 written [] = []
 written (awaiting ∷ fs) = written fs ++ document_from ∷ []
@@ -113,7 +125,7 @@ Writes (Some gs) ss = written gs ≡ ss
 written_joined : (fs : List Frame) (s : Shape) (xs ys : List Shape) → written fs ++ s ∷ (xs ++ ys) ≡ written fs ++ s ∷ xs ++ ys
 written_joined fs s xs ys = sym (append_assoc (written fs) (s ∷ xs) ys)
 
-put_writes : (fs : List Frame) (t : Tree) → Writes (put fs t) (written fs ++ tree_shapes t)
+put_writes : (fs : List Frame) (t : Tree) → Writes (frames_with fs t) (written fs ++ tree_shapes t)
 put_writes [] t = tt
 put_writes (awaiting ∷ fs) t = written_joined fs document_from [] (tree_shapes t)
 put_writes (root u ∷ fs) t = tt
@@ -144,7 +156,7 @@ step_writes (awaiting ∷ fs) seq_to = tt
 step_writes (root t ∷ fs) seq_to = tt
 step_writes (whole t ∷ fs) seq_to = tt
 step_writes (in_seq ts ∷ fs) seq_to =
-    same_writes (put fs (sequence ts)) _ _ (written_joined fs seq_from (elements_shapes ts) (seq_to ∷ [])) (put_writes fs (sequence ts))
+    same_writes (frames_with fs (sequence ts)) _ _ (written_joined fs seq_from (elements_shapes ts) (seq_to ∷ [])) (put_writes fs (sequence ts))
 step_writes (at_key ms ∷ fs) seq_to = tt
 step_writes (at_value ms key ∷ fs) seq_to = tt
 step_writes fs map_from = refl
@@ -154,7 +166,7 @@ step_writes (root t ∷ fs) map_to = tt
 step_writes (whole t ∷ fs) map_to = tt
 step_writes (in_seq ts ∷ fs) map_to = tt
 step_writes (at_key ms ∷ fs) map_to =
-    same_writes (put fs (mapping ms)) _ _ (written_joined fs map_from (members_shapes ms) (map_to ∷ [])) (put_writes fs (mapping ms))
+    same_writes (frames_with fs (mapping ms)) _ _ (written_joined fs map_from (members_shapes ms) (map_to ∷ [])) (put_writes fs (mapping ms))
 step_writes (at_value ms key ∷ fs) map_to = tt
 step_writes fs (scalar_of value) = put_writes fs (text value)
 
@@ -180,12 +192,14 @@ run_wrote (Some fs) [] = sym (append-nil (written fs))
 run_wrote (Some fs) (s ∷ ss) =
     joined (Some fs) s ss (step fs s) (run (step fs s) ss) (after_wrote (Some fs) s (step fs s) refl) (run_wrote (step fs s) ss)
 
+-- a run from nothing has read just the events that its frames were built from
 pub run_written : (ss : List Shape) (gs : List Frame) → run (Some []) ss ≡ Some gs → ss ≡ written gs
 run_written ss gs e =
     let wrote : written gs ≡ [] ++ ss = subst (Wrote (Some []) ss) e (run_wrote (Some []) ss) in
     sym wrote
 
-pub finished_whole : (fs : List Frame) (t : Tree) → finished fs ≡ Some t → fs ≡ whole t ∷ []
+-- frames that hold a finished tree hold nothing else
+pub finished_whole : (fs : List Frame) (t : Tree) → finished_tree fs ≡ Some t → fs ≡ whole t ∷ []
 finished_whole [] t e = cc
 finished_whole (awaiting ∷ fs) t e = cc
 finished_whole (root u ∷ fs) t e = cc

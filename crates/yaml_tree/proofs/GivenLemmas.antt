@@ -21,6 +21,7 @@ one_reading source one other first second =
     let here = first.some in
     sym here.means ∙ second.every here.presentation here.presents
 
+-- bytes give one tree at most
 pub given_one : (bytes : List ℕ) (limits : Limits) (t u : Tree) → IsRead bytes limits t → IsRead bytes limits u → t ≡ u
 given_one bytes limits t u first second =
     let one = first.gives in
@@ -37,6 +38,7 @@ given_by bytes limits es t reads read =
 refused_tree : (bytes : List ℕ) (limits : Limits) (fault : ReadFault) (r : RefusesTree bytes limits fault) (t : Tree) → IsRead bytes limits t → r.tree ≡ t
 refused_tree bytes limits fault r t read = tree_is_one r.events r.tree t r.is_tree (given_by bytes limits r.events t r.reads read)
 
+-- bytes that are refused give no tree
 pub refused_none : (bytes : List ℕ) (limits : Limits) (fault : ReadFault) → fault ≢ OutOfMemory → Refuses bytes limits fault
     → (t : Tree) → IsRead bytes limits t → ⊥
 refused_none bytes limits TooLong memory h t read =

@@ -16,9 +16,11 @@ use Rattle.yaml_tree.specs.Keys.{keys_differ, values_distinct}
 use Rattle.yaml_tree.specs.Seen.{Pair, members_of}
 use Rattle.yaml_tree.proofs.CharacterLemmas.{same_text-Decides}
 
+-- a key among those that were seen
 abbrev pub Key : Type 0
 Key = Bor (List ℕ)
 
+-- the order of keys: that of their bytes
 abbrev pub key_cmp : Key → Key → Ordering
 key_cmp a b = slice_cmp nat_cmp a.now b.now
 
@@ -37,6 +39,7 @@ none_seen ks (m ∷ ms) = not (is_seen (string_bytes m.0) ks) && none_seen ks ms
 compared : (a b : List ℕ) → is_eq (slice_cmp nat_cmp a b) ≡ same_text a b
 compared a b = is_eq-slice_cmp a b ∙ same_from_decides _ _ (bytes_eq-Decides a b) (same_text-Decides a b)
 
+-- a search in the set of keys finds a key exactly if it was seen
 pub contains-is_seen : (k : Key) (ks : List Key) → list_any (is_at (key_cmp k)) ks ≡ is_seen k.now ks
 contains-is_seen k [] = refl
 contains-is_seen k (x ∷ xs) = ap₂ (λ a b. a || b) (compared k.now x.now) (contains-is_seen k xs)
@@ -78,6 +81,7 @@ seen_at Equal q k x xs more e later =
 seen_at Greater q k x xs more e later =
     ap (λ b. same_text q x.now || b) later ∙ or_turn (same_text q x.now) (same_text q k.now) (is_seen q xs)
 
+-- what was seen after one more key is inserted
 pub is_seen-insert : (q : List ℕ) (ks : List Key) (k : Key) → is_seen q (insert_key key_cmp ks k) ≡ (same_text q k.now || is_seen q ks)
 is_seen-insert q [] k = refl
 is_seen-insert q (x ∷ xs) k = seen_at (key_cmp k x) q k x xs _ refl (is_seen-insert q xs k)
@@ -121,6 +125,7 @@ clear_new k ks m ms utf8 e new =
     ∙ ap₂ (λ a t. (not a && none_seen ks ms) && (not (has_key (chars t) (members_of ms)) && keys_differ (members_of ms)))
     (sym new ∙ ap (λ t. is_seen t ks) e) e
 
+-- no key of a mapping is among no keys
 pub none_seen-nil : (ms : List Pair) → none_seen [] ms ≡ true
 none_seen-nil [] = refl
 none_seen-nil (m ∷ ms) = none_seen-nil ms

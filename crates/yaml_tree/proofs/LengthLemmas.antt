@@ -4,8 +4,9 @@ use Rattle.std.proofs.lemmas.Str.{len_utf8_bounds}
 use Rattle.std.proofs.lemmas.Bool.{and_parts}
 use Rattle.yaml_grammar.specs.Texts.{byte_len, spaces, first}
 use Rattle.yaml_grammar.specs.Trees.{Tree, text, sequence, mapping, Elements, no_element, element, Members, no_member, member, depth, elements_depth, members_depth}
-use Rattle.yaml_grammar.specs.Style.{letter, plain_in_style, literal_in_style, quoted, quoted_chars, literal_mark, literal_lines, feeds_at_end, scalar_lines, key_text, long_key, key_lines, elements_at, elements_after, element_at, members_at, members_after, value_at, style_text}
+use Rattle.yaml_grammar.specs.Style.{letter, plain_in_style, literal_in_style, in_double_quotes, quoted_chars, literal_mark, literal_lines, feeds_at_end, scalar_lines, key_text, long_key, key_lines, elements_at, elements_after, element_at, members_at, members_after, value_at, style_text}
 
+-- a text has at least as many bytes as characters
 pub length-byte_len : (cs : List ℕ) → length cs ≤ byte_len cs
 length-byte_len [] = omega arith
 length-byte_len (c ∷ cs) = let after = length-byte_len cs in omega (arith, after, len_utf8_bounds c)
@@ -21,11 +22,11 @@ some p (c ∷ cs) e = omega arith
 plain_some : (value : List ℕ) → plain_in_style value ≡ true → 1 ≤ length value
 plain_some value e = some letter value (and_parts _ _ (and_parts _ _ (and_parts _ _ e).0).0).0
 
-quoted_two : (value : List ℕ) → 2 ≤ length (quoted value)
+quoted_two : (value : List ℕ) → 2 ≤ length (in_double_quotes value)
 quoted_two value = omega (arith, length-append (codes "\"" ++ quoted_chars value) (codes "\""))
 
 key_one : (key : List ℕ) → 1 ≤ length (key_text key)
-key_one key = if_two 1 (plain_in_style key) key (quoted key) (plain_some key) (omega (arith, quoted_two key))
+key_one key = if_two 1 (plain_in_style key) key (in_double_quotes key) (plain_some key) (omega (arith, quoted_two key))
 
 mark_one : (n : ℕ) → 1 ≤ length (literal_mark n)
 mark_one zero = omega arith
@@ -42,7 +43,7 @@ scalar_two j value =
     (λ e. omega (arith, plain_some value e, length-append value (codes "\n")))
     (if_two 2 (literal_in_style value) _ _
     (λ _. literal_two (feeds_at_end value) (literal_lines j true value))
-    (omega (arith, quoted_two value, length-append (quoted value) (codes "\n"))))
+    (omega (arith, quoted_two value, length-append (in_double_quotes value) (codes "\n"))))
 
 long_two : (key : List ℕ) (i : ℕ) → 2 ≤ length (codes "? " ++ key ++ codes "\n" ++ spaces i)
 long_two key i = omega (arith, length-append (codes "? " ++ key ++ codes "\n") (spaces i), length-append (codes "? " ++ key) (codes "\n"))
@@ -96,6 +97,7 @@ mutual
   deep_members_after (member key t ms) i =
       omega (arith, deep_value t i, deep_members_after ms i, parts (spaces i ++ key_lines i key) (value_at t i) (members_after ms i))
 
+-- the text of a deep tree is long: two characters at least for each level
 pub deep_text : (t : Tree) → 2 * depth t ≤ length (style_text t)
 deep_text (text value) = scalar_two 2 value
 deep_text (sequence ts) = deep_elements ts 0

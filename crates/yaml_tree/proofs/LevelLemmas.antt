@@ -5,6 +5,7 @@ use Rattle.yaml_tree.specs.Keys.{own_keys_differ, values_distinct, level_distinc
 use Rattle.yaml_tree.specs.declared.keys.Level.{Level}
 use Rattle.yaml_tree.proofs.KeyLemmas.{members_distinct-parts}
 
+-- the keys of levels with one more level differ where both parts' do
 pub levels_distinct-append : (ls : List Level) (l : Level) → levels_distinct (ls ++ l ∷ []) ≡ (levels_distinct ls && level_distinct l)
 levels_distinct-append [] l = by (level_distinct l)
   where
@@ -17,6 +18,7 @@ levels_distinct-append (x ∷ xs) l = ap (λ b. level_distinct x && b) (levels_d
     by true b c = refl
     by false b c = refl
 
+-- one more level adds its steps
 pub steps_left-append : (ls : List Level) (l : Level) → steps_left (ls ++ l ∷ []) ≡ steps_left ls + 1 + level_nodes l + level_nodes l
 steps_left-append [] l = omega arith
 steps_left-append (x ∷ xs) l = let after = steps_left-append xs l in omega (arith, after)
@@ -34,6 +36,7 @@ step_distinct all others level first rest inside own p q r s =
     by true false false = refl
     by false b c = refl
 
+-- where the first key of a level comes twice, not all keys differ
 pub step_refused : (all others level first rest : Bool) → all ≡ (others && level) → level ≡ (first && rest) → first ≡ false → all ≡ false
 step_refused all others level first rest p q r = p ∙ ap (λ b. others && b) (q ∙ ap (λ b. b && rest) r) ∙ by others
   where
@@ -41,6 +44,7 @@ step_refused all others level first rest p q r = p ∙ ap (λ b. others && b) (q
     by true = refl
     by false = refl
 
+-- a test and `true` is the test
 pub and_true : (b : Bool) → (b && true) ≡ b
 and_true true = refl
 and_true false = refl

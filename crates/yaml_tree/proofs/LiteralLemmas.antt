@@ -33,6 +33,7 @@ literal_last j (x ∷ xs) one some =
 
 -- ---- the same of bytes
 
+-- what comes before a line feed in UTF-8 is UTF-8
 pub line_IsUtf8 : (bs prefix after : List ℕ) → IsUtf8 bs → bs ≡ prefix ++ 10 ∷ after → IsUtf8 prefix
 line_IsUtf8 bs prefix after utf8 e =
     let within : length prefix < length bs = omega (arith, ap length e, length-append prefix (10 ∷ after)) in
@@ -40,23 +41,28 @@ line_IsUtf8 bs prefix after utf8 e =
     subst IsUtf8 (ap (take (length prefix)) e ∙ take-append_seam prefix (10 ∷ after))
     (IsUtf8-take bs (length prefix) utf8 (IsCharBoundary-before_ascii bs (length prefix) within (omega (arith, feed))))
 
+-- a line feed is a character of its own
 pub chars-feed : (bs : List ℕ) → chars (10 ∷ bs) ≡ 10 ∷ chars bs
 unfolding chars
 chars-feed [] = refl
 chars-feed (b ∷ bs) = refl
 
+-- a text without a line feed is one line
 pub line_is_one : (bs : List ℕ) → IsUtf8 bs → NoCharPasses (λ d. d == 10) bs → IsOneLine (chars bs)
 line_is_one bs utf8 none = subst IsOneLine (chars_from_encodes none.0 bs utf8 none.1) none.2
 
+-- the characters of a text are those before a line feed, the line feed, and those after it
 pub chars-lines : (bs prefix after : List ℕ) → IsUtf8 bs → bs ≡ prefix ++ 10 ∷ after → chars bs ≡ chars prefix ++ 10 ∷ chars after
 chars-lines bs prefix after utf8 e =
     ap chars e ∙ chars-append prefix (10 ∷ after) (line_IsUtf8 bs prefix after utf8 e)
     ∙ ap (λ cs. chars prefix ++ cs) (chars-feed after)
 
+-- a line that holds something is written after its indentation
 pub line_filled : (j : ℕ) (cs : List ℕ) → (length cs ≡ 0 → ⊥) → spaces j ++ cs ++ codes "\n" ≡ line_text j cs
 line_filled j [] some = absurd (some refl)
 line_filled j (c ∷ cs) some = refl
 
+-- what comes after a line feed in UTF-8 is UTF-8
 pub after_IsUtf8 : (bs prefix after : List ℕ) → IsUtf8 bs → bs ≡ prefix ++ 10 ∷ after → IsUtf8 after
 after_IsUtf8 bs prefix after utf8 e =
     let within : length prefix < length bs = omega (arith, ap length e, length-append prefix (10 ∷ after)) in

@@ -3,7 +3,7 @@ use Rattle.std.proofs.Common.{◌≡◌, ℕ, Bool, true, false, ◌||◌, List,
 use Rattle.yaml_grammar.specs.Events.{Event}
 use Rattle.yaml_grammar.specs.Trees as trees
 use Rattle.yaml_grammar.specs.Trees.{Tree, Elements, no_element, element, Members, no_member, member, Shape, document_from, document_to, seq_from, seq_to, map_from, map_to, scalar_of, shapes, IsTreeOf}
-use Rattle.yaml_tree.specs.Frames.{Frame, awaiting, whole, in_seq, at_key, at_value, elements_and, members_and, put, step}
+use Rattle.yaml_tree.specs.Frames.{Frame, awaiting, whole, in_seq, at_key, at_value, elements_and, members_and, frames_with, step}
 use Rattle.yaml_tree.specs.Nested.{Nested, text, sequence, mapping, Values, no_value, value, Pairs, no_pair, pair, nested_shapes, values_shapes, pairs_shapes, has_collection_key, values_have_collection_key, pairs_have_collection_key, HasCollectionKey}
 use Rattle.yaml_tree.proofs.EventLemmas.{run_tree, none_stopped}
 use Rattle.yaml_tree.proofs.FrameLemmas.{run, run-None, elements_join, members_join, elements_join-none, members_join-none}
@@ -48,18 +48,18 @@ unless_none false xs rest = run-None xs ∙ sym (run-None rest)
 
 mutual
   nested_run : (v : Nested) (fs : List Frame) (rest : List Shape)
-      → run (Some fs) (nested_shapes v ++ rest) ≡ run (unless (has_collection_key v) (put fs (plain_tree v))) rest
+      → run (Some fs) (nested_shapes v ++ rest) ≡ run (unless (has_collection_key v) (frames_with fs (plain_tree v))) rest
   nested_run (text s) fs rest = refl
   nested_run (sequence vs) fs rest =
       ap (run (Some (in_seq no_element ∷ fs))) (append_assoc (values_shapes vs) (seq_to ∷ []) rest)
       ∙ values_run vs no_element fs (seq_to ∷ rest)
       ∙ at_step (values_have_collection_key vs) (in_seq (elements_join no_element (plain_elements vs)) ∷ fs) seq_to rest
-      ∙ ap (λ ts. run (unless (values_have_collection_key vs) (put fs (trees.sequence ts))) rest) (elements_join-none (plain_elements vs))
+      ∙ ap (λ ts. run (unless (values_have_collection_key vs) (frames_with fs (trees.sequence ts))) rest) (elements_join-none (plain_elements vs))
   nested_run (mapping ps) fs rest =
       ap (run (Some (at_key no_member ∷ fs))) (append_assoc (pairs_shapes ps) (map_to ∷ []) rest)
       ∙ pairs_run ps no_member fs (map_to ∷ rest)
       ∙ at_step (pairs_have_collection_key ps) (at_key (members_join no_member (plain_members ps)) ∷ fs) map_to rest
-      ∙ ap (λ ms. run (unless (pairs_have_collection_key ps) (put fs (trees.mapping ms))) rest) (members_join-none (plain_members ps))
+      ∙ ap (λ ms. run (unless (pairs_have_collection_key ps) (frames_with fs (trees.mapping ms))) rest) (members_join-none (plain_members ps))
 
   values_run : (vs : Values) (ts : Elements) (fs : List Frame) (rest : List Shape)
       → run (Some (in_seq ts ∷ fs)) (values_shapes vs ++ rest)
@@ -96,7 +96,7 @@ document_run : (es : List Event) (v : Nested) → shapes es ≡ document_from �
 document_run es v are =
     ap (run (Some [])) are ∙ nested_run v (awaiting ∷ []) (document_to ∷ []) ∙ at_end (has_collection_key v)
   where
-    at_end : (b : Bool) → run (unless b (put (awaiting ∷ []) (plain_tree v))) (document_to ∷ []) ≡ unless b (Some (whole (plain_tree v) ∷ []))
+    at_end : (b : Bool) → run (unless b (frames_with (awaiting ∷ []) (plain_tree v))) (document_to ∷ []) ≡ unless b (Some (whole (plain_tree v) ∷ []))
     at_end true = refl
     at_end false = refl
 

@@ -3,15 +3,17 @@ use Rattle.std.proofs.Common.{◌≡◌, ◌<◌, List, [], ◌∷◌, ◌++◌,
 use Rattle.std.specs.Str.{chars}
 use Rattle.yaml_grammar.specs.Trees as grammar
 use Rattle.yaml_tree.specs.Building.{frame_of, frames_onto, frames_of}
-use Rattle.yaml_tree.specs.Frames.{Frame, awaiting, root, whole, in_seq, at_key, at_value, elements_and, members_and, finished}
+use Rattle.yaml_tree.specs.Frames.{Frame, awaiting, root, whole, in_seq, at_key, at_value, elements_and, members_and, finished_tree}
 use Rattle.yaml_tree.specs.Seen.{Pair, tree_of, elements_of, members_of}
 use Rattle.yaml_tree.specs.declared.build.Part.{Part}
 use Rattle.yaml_tree.specs.declared.tree.Tree.{Tree}
 
+-- the elements of a list with one more tree at the end
 pub elements_of-and : (ts : List Tree) (t : Tree) → elements_of (ts ++ t ∷ []) ≡ elements_and (elements_of ts) (tree_of t)
 elements_of-and [] t = refl
 elements_of-and (u ∷ ts) t = ap (grammar.element (tree_of u)) (elements_of-and ts t)
 
+-- the members of a list with one more pair at the end
 pub members_of-and : (ms : List Pair) (m : Pair) → members_of (ms ++ m ∷ []) ≡ members_and (members_of ms) (chars (string_bytes m.0)) (tree_of m.1)
 members_of-and [] m = refl
 members_of-and (n ∷ ms) m = ap (grammar.member (chars (string_bytes n.0)) (tree_of n.1)) (members_of-and ms m)
@@ -20,11 +22,12 @@ frames_onto-push : (ps : List Part) (p : Part) (fs : List Frame) → frames_onto
 frames_onto-push [] p fs = refl
 frames_onto-push (q ∷ ps) p fs = frames_onto-push ps p (frame_of q ∷ fs)
 
+-- a part that is pushed is the innermost frame
 pub frames_of-push : (ps : List Part) (p : Part) → frames_of (ps ++ p ∷ []) ≡ frame_of p ∷ frames_of ps
 frames_of-push ps p = frames_onto-push ps p []
 
 -- a document in which something else is open is not finished
-unfinished_onto : (f : Frame) (ps : List Part) (g : Frame) (fs : List Frame) → finished (f ∷ frames_onto ps (g ∷ fs)) ≡ None
+unfinished_onto : (f : Frame) (ps : List Part) (g : Frame) (fs : List Frame) → finished_tree (f ∷ frames_onto ps (g ∷ fs)) ≡ None
 unfinished_onto awaiting [] g fs = refl
 unfinished_onto (root t) [] g fs = refl
 unfinished_onto (whole t) [] g fs = refl
@@ -33,6 +36,7 @@ unfinished_onto (at_key ms) [] g fs = refl
 unfinished_onto (at_value ms key) [] g fs = refl
 unfinished_onto f (p ∷ ps) g fs = unfinished_onto f ps (frame_of p) (g ∷ fs)
 
-pub unfinished : (f : Frame) (ps : List Part) → 0 < length ps → finished (f ∷ frames_of ps) ≡ None
+-- where another part is open around it, no tree is finished
+pub unfinished : (f : Frame) (ps : List Part) → 0 < length ps → finished_tree (f ∷ frames_of ps) ≡ None
 unfinished f [] h = absurd (omega arith)
 unfinished f (p ∷ ps) h = unfinished_onto f ps (frame_of p) []

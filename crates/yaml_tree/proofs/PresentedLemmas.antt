@@ -10,12 +10,13 @@ use Rattle.yaml_grammar.specs.FlowNodes as flows
 use Rattle.yaml_grammar.specs.FlowNodes.{Flow, Entries, Entry, Value, flow_events, entries_events, entry_events, value_events}
 use Rattle.yaml_grammar.specs.FlowScalars.{scalar_value}
 use Rattle.yaml_grammar.specs.Reads.{Reads}
-use Rattle.yaml_grammar.specs.Streams.{Explicit, content, nothing, Document, bare, explicit, directed, Part, suffixes, line, further, Stream, explicit_events, document_events, optional_document_events, part_events, parts_events, meant}
+use Rattle.yaml_grammar.specs.Streams.{Explicit, content, nothing, Document, bare, explicit, directed, Part, suffixes, line, further, Stream, explicit_events, document_events, optional_document_events, part_events, parts_events, stream_events}
 use Rattle.yaml_grammar.specs.Trees.{Shape, document_from, document_to, seq_from, seq_to, map_from, map_to, shape, shapes}
 use Rattle.yaml_tree.specs.Reading.{document_count}
 use Rattle.yaml_tree.proofs.StartLemmas.{starts, starts_counted, nested_starts}
 use Rattle.yaml_tree.specs.Nested.{Nested, text, sequence, mapping, Values, no_value, value, Pairs, no_pair, pair, nested_shapes, values_shapes, pairs_shapes}
 
+-- the shapes of two lists of events, one after the other
 pub shapes-append : (xs ys : List Event) → shapes (xs ++ ys) ≡ shapes xs ++ shapes ys
 shapes-append [] ys = refl
 shapes-append (x ∷ xs) ys = ap (λ ss. shape x ∷ ss) (shapes-append xs ys)
@@ -227,7 +228,7 @@ parts_shapes [] at = refl
 parts_shapes (p ∷ ps) at =
     shapes-append (part_events p at) _ ∙ ap₂ (λ ss ts. ss ++ ts) (part_shapes p at) (parts_shapes ps _) ∙ sym (documents-append (part_values p) (parts_values ps))
 
-stream_shapes : (s : Stream) → shapes (meant s) ≡ documents_shapes (optional_values s.document ++ parts_values s.parts)
+stream_shapes : (s : Stream) → shapes (stream_events s) ≡ documents_shapes (optional_values s.document ++ parts_values s.parts)
 stream_shapes s =
     shapes-append (optional_document_events s.document _) _ ∙ ap₂ (λ ss ts. ss ++ ts) (optional_shapes s.document _) (parts_shapes s.parts _)
     ∙ sym (documents-append (optional_values s.document) (parts_values s.parts))
@@ -250,6 +251,7 @@ one_value (v ∷ w ∷ vs) e =
     let two = documents_starts w vs in
     absurd (omega (arith, e, one, two))
 
+-- the events of a text with one document are those of one value
 pub document_nested : (source : List ℕ) (es : List Event) → Reads source es → document_count es ≡ 1 → OneValue (shapes es)
 document_nested source es reads one =
     let some = reads.some in

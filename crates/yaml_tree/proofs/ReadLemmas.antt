@@ -14,6 +14,7 @@ use Rattle.yaml_tree.proofs.ByteLemmas.{byte_len-chars}
 use Rattle.yaml_tree.proofs.NestedLemmas.{collection_key}
 use Rattle.yaml_tree.proofs.PresentedLemmas.{document_nested}
 
+-- a good tree whose events the bytes read as is given by the bytes
 pub tree_read : (bytes : List ℕ) (limits : Limits) (es : List Event) (t : Tree) → ReadsAs bytes limits.bytes es → IsTreeOf (events_of es) t → Good t limits
     → IsRead bytes limits t
 tree_read bytes limits es t reads is good = record {
@@ -39,6 +40,7 @@ key_refused bytes limits es h none =
     let held = document_nested (chars bytes) (events_of es) reads.reads h.1 in
     (reads.text, events_of es, reads.reads, h.1, collection_key (events_of es) held.value held.are none)
 
+-- a fault of a tree that is not too deep is right for the bytes
 pub shallow_refused : (bytes : List ℕ) (limits : Limits) (es : List Event) (fault : ReadFault) → ReadsAs bytes limits.bytes es → document_count (events_of es) ≡ 1
     → HasNoTree (events_of es) fault → Refuses bytes limits fault
 shallow_refused bytes limits es TooLong reads one h = absurd h
@@ -51,6 +53,7 @@ shallow_refused bytes limits es TooDeep reads one h = absurd h
 shallow_refused bytes limits es LargeInStyle reads one h = absurd h
 shallow_refused bytes limits es OutOfMemory reads one h = tt
 
+-- a fault of a tree that is too deep is right for the bytes
 pub deep_refused : (bytes : List ℕ) (limits : Limits) (es : List Event) (fault : ReadFault) → ReadsAs bytes limits.bytes es → document_count (events_of es) ≡ 1
     → ((t : Tree) → IsTreeOf (events_of es) t → limits.depth < depth t) → RefusesDeep (events_of es) fault → Refuses bytes limits fault
 deep_refused bytes limits es TooLong reads one deep h = absurd h

@@ -7,16 +7,18 @@ use Rattle.std.proofs.lemmas.Str.{encode_ascii, chars-append, encodes-chars, enc
 use Rattle.std.specs.Char.{to_ascii_lowercase}
 use Rattle.std.specs.Str.{chars}
 use Rattle.yaml_chars.specs.Classes.{between}
-use Rattle.yaml_grammar.specs.Texts.{every}
+use Rattle.std.specs.List.{list_all}
 use Rattle.yaml_grammar.specs.Style.{word_char, lower, feeds_at_end}
 use Rattle.yaml_tree.proofs.CharacterLemmas.{every-push}
 
+-- a character of a word is ASCII
 pub word_char-below : (c : ℕ) → word_char c ≡ true → c < 128
 word_char-below c e = grind (arith, nat_tests)
 
 same_lower : (c : ℕ) → to_ascii_lowercase c ≡ (if between 65 90 c then c + 32 else c)
 same_lower c = grind (arith, nat_tests)
 
+-- std's lowercase letters are those of the definition
 pub map-lower : (cs : List ℕ) → map to_ascii_lowercase cs ≡ lower cs
 map-lower [] = refl
 map-lower (c ∷ cs) = ap₂ (λ d ds. d ∷ ds) (same_lower c) (map-lower cs)
@@ -31,23 +33,23 @@ pub feeds_at_end-feed : (xs : List ℕ) → feeds_at_end (xs ++ 10 ∷ []) ≡ s
 feeds_at_end-feed [] = refl
 feeds_at_end-feed (x ∷ xs) =
     rw (every-push is_feed (x ∷ xs) 10 refl)
-    (if-suc (every is_feed (x ∷ xs)) _ _ _ _ (ap suc (omega (arith, length-append xs (10 ∷ [])))) (feeds_at_end-feed xs))
+    (if-suc (list_all is_feed (x ∷ xs)) _ _ _ _ (ap suc (omega (arith, length-append xs (10 ∷ [])))) (feeds_at_end-feed xs))
   where
     if-suc : (b : Bool) (m n p q : ℕ) → m ≡ suc p → n ≡ suc q → (if b then m else n) ≡ suc (if b then p else q)
     if-suc true m n p q e f = e
     if-suc false m n p q e f = f
 
-ends_in_feed : (x : ℕ) (xs : List ℕ) → every is_feed (x ∷ xs) ≡ true → (prefix : List ℕ) × (x ∷ xs ≡ prefix ++ 10 ∷ [])
+ends_in_feed : (x : ℕ) (xs : List ℕ) → list_all is_feed (x ∷ xs) ≡ true → (prefix : List ℕ) × (x ∷ xs ≡ prefix ++ 10 ∷ [])
 ends_in_feed x [] e = ([], ap (λ d. d ∷ []) (eqb-true x 10 (and_parts (x == 10) true e).0))
 ends_in_feed x (y ∷ ys) e =
-    let after = ends_in_feed y ys (and_parts (x == 10) (every is_feed (y ∷ ys)) e).1 in
+    let after = ends_in_feed y ys (and_parts (x == 10) (list_all is_feed (y ∷ ys)) e).1 in
     (x ∷ after.0, ap (λ zs. x ∷ zs) after.1)
 
 -- none where the text doesn't end in one
 pub feeds_at_end-none : (xs : List ℕ) → ((prefix : List ℕ) → xs ≡ prefix ++ 10 ∷ [] → ⊥) → feeds_at_end xs ≡ 0
 feeds_at_end-none [] none = refl
 feeds_at_end-none (x ∷ xs) none =
-    if-zero (every is_feed (x ∷ xs)) _ _
+    if-zero (list_all is_feed (x ∷ xs)) _ _
     (λ e. let ends = ends_in_feed x xs e in none ends.0 ends.1)
     (feeds_at_end-none xs (λ prefix e. none (x ∷ prefix) (ap (λ zs. x ∷ zs) e)))
   where
@@ -62,6 +64,7 @@ no_feed_at_end bs utf8 none =
     (λ prefix e. none (encode_utf8_all prefix) (sym (encodes-chars bs utf8) ∙ ap encode_utf8_all e ∙ encodes-append prefix (10 ∷ [])
     ∙ ap (λ bytes. encode_utf8_all prefix ++ (bytes ++ [])) (encode_ascii 10 (lit< tt))))
 
+-- what comes before a last line feed in UTF-8 is UTF-8
 pub prefix_IsUtf8 : (bs prefix : List ℕ) → IsUtf8 bs → bs ≡ prefix ++ 10 ∷ [] → IsUtf8 prefix
 prefix_IsUtf8 bs prefix utf8 e =
     let within : length prefix < length bs = omega (arith, ap length e, length-append prefix (10 ∷ [])) in
@@ -69,6 +72,7 @@ prefix_IsUtf8 bs prefix utf8 e =
     subst IsUtf8 (ap (take (length prefix)) e ∙ take-append_seam prefix (10 ∷ []))
     (IsUtf8-take bs (length prefix) utf8 (IsCharBoundary-before_ascii bs (length prefix) within (omega (arith, feed))))
 
+-- a line feed at the end counts one more
 pub feed_at_end : (bs prefix : List ℕ) → IsUtf8 bs → bs ≡ prefix ++ 10 ∷ [] → feeds_at_end (chars bs) ≡ suc (feeds_at_end (chars prefix))
 unfolding chars
 feed_at_end bs prefix utf8 e =

@@ -7,29 +7,36 @@ use Rattle.yaml_grammar.specs.Trees.{Elements, no_element, element, Members, no_
 use Rattle.yaml_tree.specs.Seen.{Pair, tree_of, elements_of, members_of}
 use Rattle.yaml_tree.specs.declared.tree.Tree.{Tree, Text, Seq, Map, the_lemmas}
 
+-- a text of the code as the definitions have it
 pub tree_of-Text : (s : String Global) → tree_of (Text s) ≡ grammar.text (chars (string_bytes s))
 tree_of-Text s = search (rules, the_lemmas)
 
+-- a sequence of the code as the definitions have it
 pub tree_of-Seq : (v : Vec Tree Global) → tree_of (Seq v) ≡ grammar.sequence (elements_of v.items)
 tree_of-Seq v = search (rules, the_lemmas)
 
+-- a mapping of the code as the definitions have it
 pub tree_of-Map : (v : Vec Pair Global) → tree_of (Map v) ≡ grammar.mapping (members_of v.items)
 tree_of-Map v = search (rules, the_lemmas)
 
 -- ---- lists of trees, one after another
 
+-- elements, and then others
 abbrev pub join_elements : Elements → Elements → Elements
 join_elements no_element us = us
 join_elements (element t ts) us = element t (join_elements ts us)
 
+-- members, and then others
 abbrev pub join_members : Members → Members → Members
 join_members no_member ns = ns
 join_members (member key t ms) ns = member key t (join_members ms ns)
 
+-- the elements of two lists, one after the other
 pub elements_of-append : (ts us : List Tree) → elements_of (ts ++ us) ≡ join_elements (elements_of ts) (elements_of us)
 elements_of-append [] us = refl
 elements_of-append (t ∷ ts) us = ap (element (tree_of t)) (elements_of-append ts us)
 
+-- the members of two lists, one after the other
 pub members_of-append : (ms ns : List Pair) → members_of (ms ++ ns) ≡ join_members (members_of ms) (members_of ns)
 members_of-append [] ns = refl
 members_of-append (m ∷ ms) ns = ap (member (chars (string_bytes m.0)) (tree_of m.1)) (members_of-append ms ns)
@@ -42,6 +49,7 @@ elements_of-step ts us i t u within is before last =
     ∙ ap (λ x. join_elements (elements_of (take i ts)) (element (tree_of x) no_element)) is
     ∙ sym (elements_of-append (take i ts) (get_or ts i t ∷ [])) ∙ ap elements_of (sym (take_more ts i t within))
 
+-- members up to a place, the one there, and those after it
 pub members_of-step : (ms ns : List Pair) (i : ℕ) (m n : Pair) → i < length ms → m ≡ get_or ms i m
     → members_of ns ≡ members_of (take i ms) → string_bytes n.0 ≡ string_bytes m.0 → tree_of n.1 ≡ tree_of m.1
     → members_of (ns ++ n ∷ []) ≡ members_of (take (i + 1) ms)

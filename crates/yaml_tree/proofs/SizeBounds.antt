@@ -1,38 +1,39 @@
--- A part has no more indented lines than bytes, so lengths at small indentations are small where the length in the one style is.
+-- A part has no more indented lines than bytes, so lengths at small indentations are small where the length in the one
+-- style is.
 use Rattle.std.proofs.Common.{◌≡◌, ℕ, zero, suc, ◌+◌, ◌*◌, ◌/◌, ◌%◌, ◌≤◌, ◌==◌, ◌||◌, nat_le, nat_lt, Bool, true, false, length, length-append, if◌then◌else◌, List, [], ◌∷◌, ◌++◌, codes, arith}
 use Rattle.std.proofs.lemmas.Bool.Decides.{nat_tests}
 use Rattle.std.proofs.lemmas.Str.{len_utf8_bounds}
 use Rattle.yaml_chars.specs.Classes.{between}
 use Rattle.yaml_grammar.specs.Texts.{byte_len, spaces}
 use Rattle.yaml_grammar.specs.Trees.{Tree, text, sequence, mapping, Elements, no_element, element, Members, no_member, member}
-use Rattle.yaml_grammar.specs.Style.{shown as is_shown, hex, letter_escape, quoted_char, quoted_chars, plain_in_style, literal_in_style, quoted, literal_mark, literal_lines, feeds_at_end, scalar_lines, key_text, long_key, key_lines, elements_at, elements_after, element_at, members_at, members_after, value_at, style_text}
+use Rattle.yaml_grammar.specs.Style.{shown as is_shown, hex, letter_escape, quoted_char, quoted_chars, plain_in_style, literal_in_style, in_double_quotes, literal_mark, literal_lines, feeds_at_end, scalar_lines, key_text, long_key, key_lines, elements_at, elements_after, element_at, members_at, members_after, value_at, style_text}
 use Rattle.yaml_tree.specs.BudgetLaws.{byte_len-append}
-use Rattle.yaml_tree.specs.Sizes.{literal_indented, scalar_indented, key_indented, indented, elements_indented, elements_after_indented, members_indented, members_after_indented, value_indented}
+use Rattle.yaml_tree.specs.Sizes.{indented_literal_lines, indented_scalar_lines, indented_key_lines, indented, elements_indented, elements_after_indented, members_indented, members_after_indented, value_indented}
 use Rattle.yaml_tree.proofs.SizeLaws.{three, four, scalar_law, elements_law, members_law}
 
-literal_bound : (fresh : Bool) (cs : List ℕ) → literal_indented fresh cs ≤ byte_len (literal_lines 0 fresh cs)
+literal_bound : (fresh : Bool) (cs : List ℕ) → indented_literal_lines fresh cs ≤ byte_len (literal_lines 0 fresh cs)
 literal_bound fresh [] = omega arith
 literal_bound fresh (c ∷ cs) = by (c == 10) fresh (literal_bound true cs) (literal_bound false cs)
   where
-    by : (feed starts : Bool) → literal_indented true cs ≤ byte_len (literal_lines 0 true cs)
-        → literal_indented false cs ≤ byte_len (literal_lines 0 false cs)
-        → (if feed then literal_indented true cs else (if starts then 1 else 0) + literal_indented false cs)
+    by : (feed starts : Bool) → indented_literal_lines true cs ≤ byte_len (literal_lines 0 true cs)
+        → indented_literal_lines false cs ≤ byte_len (literal_lines 0 false cs)
+        → (if feed then indented_literal_lines true cs else (if starts then 1 else 0) + indented_literal_lines false cs)
         ≤ byte_len (if feed then 10 ∷ literal_lines 0 true cs else (if starts then spaces 0 else []) ++ c ∷ literal_lines 0 false cs)
     by true starts on off = omega (arith, on)
     by false true on off = omega (arith, off, len_utf8_bounds c)
     by false false on off = omega (arith, off)
 
-scalar_bound : (value : List ℕ) → scalar_indented value ≤ byte_len (scalar_lines 0 value)
+scalar_bound : (value : List ℕ) → indented_scalar_lines value ≤ byte_len (scalar_lines 0 value)
 scalar_bound value = by (plain_in_style value) (literal_in_style value) (literal_mark (feeds_at_end value))
   where
     by : (plain literal : Bool) (mark : List ℕ)
-        → (if plain then 0 else if literal then literal_indented true value else 0)
-        ≤ byte_len (if plain then value ++ codes "\n" else if literal then mark ++ codes "\n" ++ literal_lines 0 true value else quoted value ++ codes "\n")
+        → (if plain then 0 else if literal then indented_literal_lines true value else 0)
+        ≤ byte_len (if plain then value ++ codes "\n" else if literal then mark ++ codes "\n" ++ literal_lines 0 true value else in_double_quotes value ++ codes "\n")
     by true literal mark = omega arith
     by false true mark = omega (arith, literal_bound true value, three mark (codes "\n") (literal_lines 0 true value))
     by false false mark = omega arith
 
-key_bound : (key : List ℕ) → 1 + key_indented key ≤ byte_len (key_lines 0 key)
+key_bound : (key : List ℕ) → 1 + indented_key_lines key ≤ byte_len (key_lines 0 key)
 key_bound key = by (long_key key) (key_text key)
   where
     by : (long : Bool) (shown : List ℕ) → 1 + (if long then 1 else 0)
@@ -45,7 +46,8 @@ key_bound key = by (long_key key) (key_text key)
         )
     by false shown = omega (arith, byte_len-append shown (codes ":"))
 
-pub key_lines_bound : (key : List ℕ) → key_indented key ≤ 1
+-- at most one line of a key is indented
+pub key_lines_bound : (key : List ℕ) → indented_key_lines key ≤ 1
 key_lines_bound key = by (long_key key)
   where
     by : (long : Bool) → (if long then 1 else 0) ≤ 1
@@ -71,10 +73,11 @@ quoted_chars_short [] = omega arith
 quoted_chars_short (c ∷ cs) =
     omega (arith, quoted_chars_short cs, quoted_char_short c, length-append (quoted_char c) (quoted_chars cs))
 
+-- a key of at most 166 characters is no long one
 pub short_key : (key : List ℕ) → length key ≤ 166 → false ≡ long_key key
 short_key key short = by (length (key_text key)) (text_short (plain_in_style key))
   where
-    text_short : (plain : Bool) → length (if plain then key else quoted key) ≤ 1000
+    text_short : (plain : Bool) → length (if plain then key else in_double_quotes key) ≤ 1000
     text_short true = omega arith
     text_short false =
         omega (arith, quoted_chars_short key, length-append (codes "\"" ++ quoted_chars key) (codes "\""), length-append (codes "\"") (quoted_chars key))
@@ -98,10 +101,11 @@ quoted_chars_bound (c ∷ cs) =
       byte_len-append (quoted_char c) (quoted_chars cs),
     )
 
+-- the text of a key is at most 24 times as long as the key, and 6 bytes
 pub key_bytes_bound : (key : List ℕ) → byte_len (key_lines 0 key) ≤ 24 * byte_len key + 6
 key_bytes_bound key = by (long_key key) (key_text key) (text_bound (plain_in_style key))
   where
-    text_bound : (plain : Bool) → byte_len (if plain then key else quoted key) ≤ 24 * byte_len key + 2
+    text_bound : (plain : Bool) → byte_len (if plain then key else in_double_quotes key) ≤ 24 * byte_len key + 2
     text_bound true = omega arith
     text_bound false = omega (arith, quoted_chars_bound key, three (codes "\"") (quoted_chars key) (codes "\""))
 
@@ -117,21 +121,25 @@ key_bytes_bound key = by (long_key key) (key_text key) (text_bound (plain_in_sty
     by false shown h = omega (arith, h, byte_len-append shown (codes ":"))
 
 mutual
+  -- an element has a byte at least for each line that is indented
   pub element_bound : (t : Tree) → indented t ≤ byte_len (element_at t 0)
   element_bound (text value) = omega (arith, scalar_bound value, scalar_law 2 value)
   element_bound (sequence ts) = omega (arith, elements_bound ts, elements_law ts 2)
   element_bound (mapping ms) = omega (arith, members_bound ms, members_law ms 2)
 
+  -- so do the elements of a sequence
   pub elements_bound : (ts : Elements) → elements_indented ts ≤ byte_len (elements_at ts 0)
   elements_bound no_element = omega arith
   elements_bound (element t ts) =
       omega (arith, element_bound t, elements_after_bound ts, three (codes "- ") (element_at t 0) (elements_after ts 0))
 
+  -- so do the elements after the first
   pub elements_after_bound : (ts : Elements) → elements_after_indented ts ≤ byte_len (elements_after ts 0)
   elements_after_bound no_element = omega arith
   elements_after_bound (element t ts) =
       omega (arith, element_bound t, elements_after_bound ts, three (codes "- ") (element_at t 0) (elements_after ts 0))
 
+  -- so do the members of a mapping
   pub members_bound : (ms : Members) → members_indented ms ≤ byte_len (members_at ms 0)
   members_bound no_member = omega arith
   members_bound (member key t ms) =
@@ -143,6 +151,7 @@ mutual
         three (key_lines 0 key) (value_at t 0) (members_after ms 0),
       )
 
+  -- so do the members after the first
   pub members_after_bound : (ms : Members) → members_after_indented ms ≤ byte_len (members_after ms 0)
   members_after_bound no_member = omega arith
   members_after_bound (member key t ms) =
@@ -154,6 +163,7 @@ mutual
         three (key_lines 0 key) (value_at t 0) (members_after ms 0),
       )
 
+  -- so does a value
   pub value_bound : (t : Tree) → value_indented t ≤ byte_len (value_at t 0)
   value_bound (text value) = omega (arith, scalar_bound value, scalar_law 2 value, byte_len-append (codes " ") (scalar_lines 2 value))
   value_bound (sequence no_element) = omega arith
@@ -181,11 +191,13 @@ times_at_most (suc (suc i)) n h = absurd (omega arith)
 
 -- ---- by the length of the whole
 
+-- as an element, a tree is at most three times as long as alone
 pub element_small : (t : Tree) → byte_len (element_at t 0) ≤ 3 * byte_len (style_text t)
 element_small (text value) = omega arith
 element_small (sequence ts) = omega (arith, elements_bound ts, elements_law ts 2)
 element_small (mapping ms) = omega (arith, members_bound ms, members_law ms 2)
 
+-- as a value, a tree is at most three times as long as alone, and 3 bytes
 pub value_small : (t : Tree) → byte_len (value_at t 0) ≤ 3 + 3 * byte_len (style_text t)
 value_small (text value) = omega (arith, byte_len-append (codes " ") (scalar_lines 2 value))
 value_small (sequence no_element) = omega arith

@@ -14,6 +14,7 @@ other (c ∷ cs) (d ∷ ds) h = by (c == d) (other cs ds (λ e. h (ap suc e)))
     by true e = e
     by false e = refl
 
+-- lowercase letters keep a text's length
 pub length-lower : (cs : List ℕ) → length (lower cs) ≡ length cs
 length-lower [] = refl
 length-lower (c ∷ cs) = ap suc (length-lower cs)
@@ -22,6 +23,7 @@ or-false : (b : Bool) → (b || false) ≡ b
 or-false true = refl
 or-false false = refl
 
+-- the special words of one letter
 pub of_one : (v : List ℕ) → length v ≡ 1 → is_among v special_words ≡ (same_text v (codes "y") || same_text v (codes "n"))
 of_one v h =
     rw (
@@ -35,6 +37,7 @@ of_one v h =
       or-false (same_text v (codes "n")),
     ) refl
 
+-- the special words of two letters
 pub of_two : (v : List ℕ) → length v ≡ 2 → is_among v special_words ≡ (same_text v (codes "no") || same_text v (codes "on"))
 of_two v h =
     rw (
@@ -48,6 +51,7 @@ of_two v h =
       or-false (same_text v (codes "on")),
     ) refl
 
+-- the special words of three letters
 pub of_three : (v : List ℕ) → length v ≡ 3 → is_among v special_words ≡ (same_text v (codes "yes") || same_text v (codes "off"))
 of_three v h =
     rw (
@@ -61,6 +65,7 @@ of_three v h =
       or-false (same_text v (codes "off")),
     ) refl
 
+-- the special words of four letters
 pub of_four : (v : List ℕ) → length v ≡ 4 → is_among v special_words ≡ (same_text v (codes "null") || same_text v (codes "true"))
 of_four v h =
     rw (
@@ -74,6 +79,7 @@ of_four v h =
       or-false (same_text v (codes "true")),
     ) refl
 
+-- the special word of five letters
 pub of_five : (v : List ℕ) → length v ≡ 5 → is_among v special_words ≡ same_text v (codes "false")
 of_five v h =
     rw (
@@ -88,6 +94,7 @@ of_five v h =
       or-false (same_text v (codes "false")),
     ) refl
 
+-- no special word has another length
 pub of_other : (v : List ℕ) → (length v ≡ 1 → ⊥) → (length v ≡ 2 → ⊥) → (length v ≡ 3 → ⊥) → (length v ≡ 4 → ⊥) → (length v ≡ 5 → ⊥)
     → is_among v special_words ≡ false
 of_other v one two three four five =

@@ -9,6 +9,7 @@ use Rattle.yaml_tree.specs.Reading.{document_count}
 
 -- ---- the events of a tree are those of one document
 
+-- how many documents start in a list of shapes
 abbrev pub starts : List Shape → ℕ
 starts [] = 0
 starts (document_from ∷ ss) = suc (starts ss)
@@ -19,6 +20,7 @@ starts (map_from ∷ ss) = starts ss
 starts (map_to ∷ ss) = starts ss
 starts (scalar_of cs ∷ ss) = starts ss
 
+-- the documents of events are the starts among their shapes
 pub starts_counted : (es : List Event) → document_count es ≡ starts (shapes es)
 starts_counted [] = refl
 starts_counted (document_start ∷ es) = ap suc (starts_counted es)
@@ -45,12 +47,14 @@ mutual
   members_starts (member key t ms) ss =
       ap starts (append_assoc (tree_shapes t) (members_shapes ms) ss) ∙ tree_starts t (members_shapes ms ++ ss) ∙ members_starts ms ss
 
+-- the events of a tree have one document
 pub tree_counted : (es : List Event) (t : Tree) → IsTreeOf es t → document_count es ≡ 1
 tree_counted es t is = starts_counted es ∙ ap starts is ∙ ap suc (tree_starts t (document_to ∷ []))
 
 -- ---- and those of a value begin none
 
 mutual
+  -- no document starts inside a value
   pub nested_starts : (v : Nested) (ss : List Shape) → starts (nested_shapes v ++ ss) ≡ starts ss
   nested_starts (nested.text s) ss = refl
   nested_starts (nested.sequence vs) ss = ap starts (append_assoc (values_shapes vs) (seq_to ∷ []) ss) ∙ values_starts vs (seq_to ∷ ss)

@@ -1,7 +1,7 @@
 -- How a scalar's and a key's text follow from its style.
 use Rattle.std.proofs.Common.{◌≡◌, ℕ, zero, suc, Bool, true, false, if◌then◌else◌, List, ◌++◌, codes, refl, sym}
 use Rattle.std.specs.Str.{chars}
-use Rattle.yaml_grammar.specs.Style.{plain_in_style, literal_in_style, feeds_at_end, literal_mark, literal_lines, quoted, scalar_lines, key_text}
+use Rattle.yaml_grammar.specs.Style.{plain_in_style, literal_in_style, feeds_at_end, literal_mark, literal_lines, in_double_quotes, scalar_lines, key_text}
 use Rattle.yaml_tree.specs.ScalarStyles.{literal_style, key_style, value_style}
 use Rattle.yaml_tree.specs.declared.scalar.ScalarStyle.{ScalarStyle}
 use Rattle.yaml_tree.specs.declared.scalar.ScalarStyle.TheVariants.{Plain, Double, LiteralStrip, LiteralClip, LiteralKeep}
@@ -14,11 +14,13 @@ key_else : (p : Bool) (x y : List ℕ) → ((if p then Plain else Double) ≡ Pl
 key_else true x y other = absurd (other refl)
 key_else false x y other = refl
 
+-- the text of a plain key is the key
 pub key_plain : (key : List ℕ) → key_style key ≡ Plain → key_text key ≡ key
-key_plain key = key_as (plain_in_style key) key (quoted key)
+key_plain key = key_as (plain_in_style key) key (in_double_quotes key)
 
-pub key_quoted : (key : List ℕ) → (key_style key ≡ Plain → ⊥) → key_text key ≡ quoted key
-key_quoted key = key_else (plain_in_style key) key (quoted key)
+-- the text of any other key is in double quotes
+pub key_quoted : (key : List ℕ) → (key_style key ≡ Plain → ⊥) → key_text key ≡ in_double_quotes key
+key_quoted key = key_else (plain_in_style key) key (in_double_quotes key)
 
 abbrev by_tests : Bool → Bool → ℕ → ScalarStyle
 by_tests p l n = if p then Plain else if l then literal_style n else Double
@@ -64,55 +66,69 @@ module _ (plain lines double : List ℕ) where
   as_keep false false n e = cc
 
 module _ (j : ℕ) (value : List ℕ) where
+  -- the lines of a plain value
   pub value_plain : value_style value ≡ Plain → value ++ codes "\n" ≡ scalar_lines j value
   value_plain e = sym (as_plain _ (literal_lines j true value) _ (plain_in_style value) (literal_in_style value) (feeds_at_end value) e)
 
-  pub value_double : value_style value ≡ Double → quoted value ++ codes "\n" ≡ scalar_lines j value
+  -- the lines of a value in double quotes
+  pub value_double : value_style value ≡ Double → in_double_quotes value ++ codes "\n" ≡ scalar_lines j value
   value_double e = sym (as_double _ (literal_lines j true value) _ (plain_in_style value) (literal_in_style value) (feeds_at_end value) e)
 
+  -- the lines of a literal that ends in no line feed
   pub value_strip : value_style value ≡ LiteralStrip → codes "|-\n" ++ literal_lines j true value ≡ scalar_lines j value
   value_strip e = sym (as_strip _ (literal_lines j true value) _ (plain_in_style value) (literal_in_style value) (feeds_at_end value) e)
 
+  -- the lines of a literal that ends in one line feed
   pub value_clip : value_style value ≡ LiteralClip → codes "|\n" ++ literal_lines j true value ≡ scalar_lines j value
   value_clip e = sym (as_clip _ (literal_lines j true value) _ (plain_in_style value) (literal_in_style value) (feeds_at_end value) e)
 
+  -- the lines of a literal that ends in more line feeds
   pub value_keep : value_style value ≡ LiteralKeep → codes "|+\n" ++ literal_lines j true value ≡ scalar_lines j value
   value_keep e = sym (as_keep _ (literal_lines j true value) _ (plain_in_style value) (literal_in_style value) (feeds_at_end value) e)
 
 -- ---- the characters of what is written as it is
 
+-- the characters of `|-` and a line feed
 pub chars-strip : chars (codes "|-\n") ≡ codes "|-\n"
 unfolding chars
 chars-strip = refl
 
+-- the characters of `|` and a line feed
 pub chars-clip : chars (codes "|\n") ≡ codes "|\n"
 unfolding chars
 chars-clip = refl
 
+-- the characters of `|+` and a line feed
 pub chars-keep : chars (codes "|+\n") ≡ codes "|+\n"
 unfolding chars
 chars-keep = refl
 
+-- the characters of `? `
 pub chars-question : chars (codes "? ") ≡ codes "? "
 unfolding chars
 chars-question = refl
 
+-- the characters of `- `
 pub chars-dash : chars (codes "- ") ≡ codes "- "
 unfolding chars
 chars-dash = refl
 
+-- the characters of an empty sequence
 pub chars-no_element : chars (codes "[]\n") ≡ codes "[]\n"
 unfolding chars
 chars-no_element = refl
 
+-- the characters of an empty mapping
 pub chars-no_member : chars (codes "{}\n") ≡ codes "{}\n"
 unfolding chars
 chars-no_member = refl
 
+-- the characters of an empty sequence after a key
 pub chars-no_element_value : chars (codes " []\n") ≡ codes " []\n"
 unfolding chars
 chars-no_element_value = refl
 
+-- the characters of an empty mapping after a key
 pub chars-no_member_value : chars (codes " {}\n") ≡ codes " {}\n"
 unfolding chars
 chars-no_member_value = refl

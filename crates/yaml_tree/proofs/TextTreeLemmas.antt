@@ -5,7 +5,8 @@ use Rattle.std.proofs.lemmas.Bool.Decides.{nat_tests}
 use Rattle.std.proofs.lemmas.Str.{scalars-chars, IsUtf8-string_bytes}
 use Rattle.std.proofs.Math.Utf8.{scalar, scalars, scalar_cases}
 use Rattle.std.specs.Str.{chars}
-use Rattle.yaml_grammar.specs.Texts.{every, IsText}
+use Rattle.std.specs.List.{list_all}
+use Rattle.yaml_grammar.specs.Texts.{IsText}
 use Rattle.yaml_grammar.specs.Trees.{Tree as Seen, IsTextTree, AreTextElements, AreTextMembers}
 use Rattle.yaml_chars.specs.Classes.{code_point}
 use Rattle.yaml_tree.specs.Seen.{Pair, tree_of, level, elements_from, members_from}
@@ -20,28 +21,30 @@ all_code_points : (cs : List ℕ) → scalars cs ≡ true → IsText cs
 all_code_points [] e = refl
 all_code_points (c ∷ cs) e =
     let parts = and_parts (scalar c) (scalars cs) e in
-    and_from (code_point c) (every code_point cs) (passes c (scalar_cases c parts.0)) (all_code_points cs parts.1)
+    and_from (code_point c) (list_all code_point cs) (passes c (scalar_cases c parts.0)) (all_code_points cs parts.1)
 
+-- a `String` holds a text
 pub chars-IsText : (s : String Global) → IsText (chars (string_bytes s))
 chars-IsText s = all_code_points (chars (string_bytes s)) (scalars-chars (string_bytes s) (IsUtf8-string_bytes s))
 
 -- a tree with the fact of it
-abbrev Told : Type 0
-Told = (t : Tree) × IsTextTree (tree_of t)
+abbrev TextTree : Type 0
+TextTree = (t : Tree) × IsTextTree (tree_of t)
 
-elements_told : (es : List Told) → AreTextElements (elements_from (map tree_of (map (λ e. e.0) es)))
-elements_told [] = tt
-elements_told (e ∷ es) = (e.1, elements_told es)
+elements_hold_texts : (es : List TextTree) → AreTextElements (elements_from (map tree_of (map (λ e. e.0) es)))
+elements_hold_texts [] = tt
+elements_hold_texts (e ∷ es) = (e.1, elements_hold_texts es)
 
-members_told : (ms : List (String Global × Told)) → AreTextMembers (members_from (map (λ (m : Pair). (m.0, tree_of m.1)) (map (λ (m : String Global × Told). (m.0, m.1.0)) ms)))
-members_told [] = tt
-members_told (m ∷ ms) = (chars-IsText m.0, m.1.1, members_told ms)
+members_hold_texts : (ms : List (String Global × TextTree)) → AreTextMembers (members_from (map (λ (m : Pair). (m.0, tree_of m.1)) (map (λ (m : String Global × TextTree). (m.0, m.1.0)) ms)))
+members_hold_texts [] = tt
+members_hold_texts (m ∷ ms) = (chars-IsText m.0, m.1.1, members_hold_texts ms)
 
-of_level : (y : Tree-F Told) → IsTextTree (level (map-Tree Tree Seen tree_of (map-Tree Told Tree (λ e. e.0) y)))
+of_level : (y : Tree-F TextTree) → IsTextTree (level (map-Tree Tree Seen tree_of (map-Tree TextTree Tree (λ e. e.0) y)))
 of_level (Tree-F.Text s) = chars-IsText s
-of_level (Tree-F.Seq items) = elements_told items.items
-of_level (Tree-F.Map pairs) = members_told pairs.items
+of_level (Tree-F.Seq items) = elements_hold_texts items.items
+of_level (Tree-F.Map pairs) = members_hold_texts pairs.items
 
+-- each scalar and key of a tree of the code is a text
 pub tree_of-IsTextTree : (t : Tree) → IsTextTree (tree_of t)
 tree_of-IsTextTree = ind-Tree (λ t. IsTextTree (tree_of t)) (λ x y is.
     subst IsTextTree (sym (fold-roll-Tree Seen level x))

@@ -7,23 +7,23 @@ use Rattle.yaml_tree.specs.Building.{frames_of}
 use Rattle.yaml_tree.specs.Frames.{Frame, awaiting, root, whole, in_seq, at_key, at_value}
 use Rattle.yaml_tree.specs.Keys.{values_distinct}
 
-abbrev pub emptied : Tree → Tree
-emptied (text value) = text value
-emptied (sequence ts) = sequence no_element
-emptied (mapping ms) = mapping no_member
+abbrev pub emptied_tree : Tree → Tree
+emptied_tree (text value) = text value
+emptied_tree (sequence ts) = sequence no_element
+emptied_tree (mapping ms) = mapping no_member
 
 abbrev pub emptied_elements : Elements → Elements
 emptied_elements no_element = no_element
-emptied_elements (element t ts) = element (emptied t) (emptied_elements ts)
+emptied_elements (element t ts) = element (emptied_tree t) (emptied_elements ts)
 
 abbrev pub emptied_members : Members → Members
 emptied_members no_member = no_member
-emptied_members (member key t ms) = member key (emptied t) (emptied_members ms)
+emptied_members (member key t ms) = member key (emptied_tree t) (emptied_members ms)
 
 abbrev pub emptied_frame : Frame → Frame
 emptied_frame awaiting = awaiting
-emptied_frame (root t) = root (emptied t)
-emptied_frame (whole t) = whole (emptied t)
+emptied_frame (root t) = root (emptied_tree t)
+emptied_frame (whole t) = whole (emptied_tree t)
 emptied_frame (in_seq ts) = in_seq (emptied_elements ts)
 emptied_frame (at_key ms) = at_key (emptied_members ms)
 emptied_frame (at_value ms key) = at_value (emptied_members ms) key

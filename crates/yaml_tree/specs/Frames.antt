@@ -21,69 +21,69 @@ members_and no_member name u = member name u no_member
 members_and (member key t ms) name u = member key t (members_and ms name u)
 
 -- the part with a further value in it, where there is a place for it
-abbrev pub placed : Frame → Tree → Option Frame
-placed awaiting t = Some (root t)
-placed (root u) t = None
-placed (whole u) t = None
-placed (in_seq ts) t = Some (in_seq (elements_and ts t))
-placed (at_key ms) (text key) = Some (at_value ms key)
-placed (at_key ms) (sequence ts) = None
-placed (at_key ms) (mapping ns) = None
-placed (at_value ms key) t = Some (at_key (members_and ms key t))
+abbrev pub frame_with : Frame → Tree → Option Frame
+frame_with awaiting t = Some (root t)
+frame_with (root u) t = None
+frame_with (whole u) t = None
+frame_with (in_seq ts) t = Some (in_seq (elements_and ts t))
+frame_with (at_key ms) (text key) = Some (at_value ms key)
+frame_with (at_key ms) (sequence ts) = None
+frame_with (at_key ms) (mapping ns) = None
+frame_with (at_value ms key) t = Some (at_key (members_and ms key t))
 
 abbrev pub inside : Option Frame → List Frame → Option (List Frame)
 inside None fs = None
 inside (Some f) fs = Some (f ∷ fs)
 
-abbrev pub put : List Frame → Tree → Option (List Frame)
-put [] t = None
-put (f ∷ fs) t = inside (placed f t) fs
+abbrev pub frames_with : List Frame → Tree → Option (List Frame)
+frames_with [] t = None
+frames_with (f ∷ fs) t = inside (frame_with f t) fs
 
 -- the document, the sequence, the mapping that ends
-abbrev pub document_ended : List Frame → Option (List Frame)
-document_ended [] = None
-document_ended (awaiting ∷ fs) = None
-document_ended (root t ∷ fs) = Some (whole t ∷ fs)
-document_ended (whole t ∷ fs) = None
-document_ended (in_seq ts ∷ fs) = None
-document_ended (at_key ms ∷ fs) = None
-document_ended (at_value ms key ∷ fs) = None
+abbrev pub after_document_end : List Frame → Option (List Frame)
+after_document_end [] = None
+after_document_end (awaiting ∷ fs) = None
+after_document_end (root t ∷ fs) = Some (whole t ∷ fs)
+after_document_end (whole t ∷ fs) = None
+after_document_end (in_seq ts ∷ fs) = None
+after_document_end (at_key ms ∷ fs) = None
+after_document_end (at_value ms key ∷ fs) = None
 
-abbrev pub seq_ended : List Frame → Option (List Frame)
-seq_ended [] = None
-seq_ended (awaiting ∷ fs) = None
-seq_ended (root t ∷ fs) = None
-seq_ended (whole t ∷ fs) = None
-seq_ended (in_seq ts ∷ fs) = put fs (sequence ts)
-seq_ended (at_key ms ∷ fs) = None
-seq_ended (at_value ms key ∷ fs) = None
+abbrev pub after_seq_end : List Frame → Option (List Frame)
+after_seq_end [] = None
+after_seq_end (awaiting ∷ fs) = None
+after_seq_end (root t ∷ fs) = None
+after_seq_end (whole t ∷ fs) = None
+after_seq_end (in_seq ts ∷ fs) = frames_with fs (sequence ts)
+after_seq_end (at_key ms ∷ fs) = None
+after_seq_end (at_value ms key ∷ fs) = None
 
-abbrev pub map_ended : List Frame → Option (List Frame)
-map_ended [] = None
-map_ended (awaiting ∷ fs) = None
-map_ended (root t ∷ fs) = None
-map_ended (whole t ∷ fs) = None
-map_ended (in_seq ts ∷ fs) = None
-map_ended (at_key ms ∷ fs) = put fs (mapping ms)
-map_ended (at_value ms key ∷ fs) = None
+abbrev pub after_map_end : List Frame → Option (List Frame)
+after_map_end [] = None
+after_map_end (awaiting ∷ fs) = None
+after_map_end (root t ∷ fs) = None
+after_map_end (whole t ∷ fs) = None
+after_map_end (in_seq ts ∷ fs) = None
+after_map_end (at_key ms ∷ fs) = frames_with fs (mapping ms)
+after_map_end (at_value ms key ∷ fs) = None
 
 -- the open parts after one event more, where it has a place
 abbrev pub step : List Frame → Shape → Option (List Frame)
 step fs document_from = Some (awaiting ∷ fs)
-step fs document_to = document_ended fs
+step fs document_to = after_document_end fs
 step fs seq_from = Some (in_seq no_element ∷ fs)
-step fs seq_to = seq_ended fs
+step fs seq_to = after_seq_end fs
 step fs map_from = Some (at_key no_member ∷ fs)
-step fs map_to = map_ended fs
-step fs (scalar_of value) = put fs (text value)
+step fs map_to = after_map_end fs
+step fs (scalar_of value) = frames_with fs (text value)
 
 -- the tree of the document, where nothing else is open
-abbrev pub finished : List Frame → Option Tree
-finished [] = None
-finished (awaiting ∷ fs) = None
-finished (root t ∷ fs) = None
-finished (whole t ∷ []) = Some t
-finished (whole t ∷ f ∷ fs) = None
-finished (in_seq ts ∷ fs) = None
-finished (at_key ms ∷ fs) = None
-finished (at_value ms key ∷ fs) = None
+abbrev pub finished_tree : List Frame → Option Tree
+finished_tree [] = None
+finished_tree (awaiting ∷ fs) = None
+finished_tree (root t ∷ fs) = None
+finished_tree (whole t ∷ []) = Some t
+finished_tree (whole t ∷ f ∷ fs) = None
+finished_tree (in_seq ts ∷ fs) = None
+finished_tree (at_key ms ∷ fs) = None
+finished_tree (at_value ms key ∷ fs) = None

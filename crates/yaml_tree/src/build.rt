@@ -3,7 +3,7 @@ ghost use Rattle.std.specs.Prelude.{◌≡◌, List, [], ◌∷◌, Some, MatchR
 ghost use Rattle.yaml_events.specs.Meant.{event_of, events_of};
 ghost use Rattle.yaml_grammar.specs.Trees.{IsTreeOf, shape};
 ghost use Rattle.yaml_tree.specs.Building.{frame_of, frames_of, HasNone, HasNoTree};
-ghost use Rattle.yaml_tree.specs.Frames.{in_seq, at_key, placed, put, step, document_ended, seq_ended, map_ended, finished};
+ghost use Rattle.yaml_tree.specs.Frames.{in_seq, at_key, frame_with, frames_with, step, after_document_end, after_seq_end, after_map_end, finished_tree};
 ghost use Rattle.yaml_tree.specs.Seen.{tree_of, elements_of, members_of};
 
 use crate::{ReadFault, Tree};
@@ -32,8 +32,8 @@ impl Part {
     /// key is next, or if no value may follow.
     fn with(self, tree: Tree) -> Result<Part, ReadFault>
         ensures { MatchResult result
-            (λ part. placed (frame_of self) (tree_of tree) ≡ Some (frame_of part))
-            (HasNone (placed (frame_of self) (tree_of tree))) }
+            (λ part. frame_with (frame_of self) (tree_of tree) ≡ Some (frame_of part))
+            (HasNone (frame_with (frame_of self) (tree_of tree))) }
     {
         match self {
             Part::Document => Ok(Part::Root(tree)),
@@ -101,9 +101,9 @@ impl Builder {
     /// Puts a value into the innermost part. Returns `KeyNotText` if it has no place there.
     pub(crate) fn put(&mut self, tree: Tree) -> Result<(), ReadFault>
         ensures { MatchResult result
-            (λ _. put (frames_of self.old.parts.items) (tree_of tree)
+            (λ _. frames_with (frames_of self.old.parts.items) (tree_of tree)
             ≡ Some (frames_of self.new.parts.items))
-            (HasNone (put (frames_of self.old.parts.items) (tree_of tree))) }
+            (HasNone (frames_with (frames_of self.old.parts.items) (tree_of tree))) }
     {
         let part = self.pop()?;
         let more = part.with(tree)?;
@@ -113,9 +113,9 @@ impl Builder {
     /// Ends the innermost part. Returns `KeyNotText` if it is no document that has its value.
     fn end_document(&mut self) -> Result<(), ReadFault>
         ensures { MatchResult result
-            (λ _. document_ended (frames_of self.old.parts.items)
+            (λ _. after_document_end (frames_of self.old.parts.items)
             ≡ Some (frames_of self.new.parts.items))
-            (HasNone (document_ended (frames_of self.old.parts.items))) }
+            (HasNone (after_document_end (frames_of self.old.parts.items))) }
     {
         let part = self.pop()?;
         match part {
@@ -129,7 +129,7 @@ impl Builder {
         ensures { MatchResult result
             (λ items. frames_of self.old.parts.items
             ≡ in_seq (elements_of items.items) ∷ frames_of self.new.parts.items)
-            (HasNone (seq_ended (frames_of self.old.parts.items))) }
+            (HasNone (after_seq_end (frames_of self.old.parts.items))) }
     {
         let part = self.pop()?;
         match part {
@@ -143,7 +143,7 @@ impl Builder {
         ensures { MatchResult result
             (λ pairs. frames_of self.old.parts.items
             ≡ at_key (members_of pairs.items) ∷ frames_of self.new.parts.items)
-            (HasNone (map_ended (frames_of self.old.parts.items))) }
+            (HasNone (after_map_end (frames_of self.old.parts.items))) }
     {
         let part = self.pop()?;
         match part {
@@ -183,8 +183,8 @@ impl Builder {
     /// The tree of the document. Returns `KeyNotText` if the document has not ended.
     pub(crate) fn finish(mut self) -> Result<Tree, ReadFault>
         ensures { MatchResult result
-            (λ tree. finished (frames_of self.parts.items) ≡ Some (tree_of tree))
-            (HasNone (finished (frames_of self.parts.items))) }
+            (λ tree. finished_tree (frames_of self.parts.items) ≡ Some (tree_of tree))
+            (HasNone (finished_tree (frames_of self.parts.items))) }
     {
         let last = self.pop()?;
         if !self.parts.is_empty() {

@@ -5,7 +5,7 @@ ghost use Rattle.yaml_grammar.specs.Trees as grammar;
 ghost use Rattle.yaml_grammar.specs.Trees.{IsTreeOf, distinct, shape};
 ghost use Rattle.yaml_tree.specs.Building.{HasNone, HasNoTree};
 ghost use Rattle.yaml_tree.specs.Emptied.{Keeps, Took};
-ghost use Rattle.yaml_tree.specs.Frames.{Frame, step, seq_ended, map_ended};
+ghost use Rattle.yaml_tree.specs.Frames.{Frame, step, after_seq_end, after_map_end};
 
 use crate::build::Builder;
 use crate::keys::keys_differ;
@@ -48,8 +48,8 @@ impl KeyCheck {
     /// Ends the innermost part. Returns `KeyNotText` if it is no sequence, or if it is a key.
     fn end_seq(&mut self) -> Result<(), ReadFault>
         ensures { (fs : List Frame) → Keeps self.old fs → MatchResult result
-            (λ _. Took self.new (seq_ended fs))
-            (HasNone (seq_ended fs)) }
+            (λ _. Took self.new (after_seq_end fs))
+            (HasNone (after_seq_end fs)) }
     {
         let _ = self.builder.end_seq()?;
         let ended = Tree::Seq(Vec::new(self.builder.alloc));
@@ -59,8 +59,8 @@ impl KeyCheck {
     /// Ends the innermost part and compares its keys. Returns `KeyNotText` if it is no mapping, or if it is a key.
     fn end_map(&mut self) -> Result<(), ReadFault>
         ensures { (fs : List Frame) → Keeps self.old fs → MatchResult result
-            (λ _. Took self.new (map_ended fs))
-            (HasNone (map_ended fs)) }
+            (λ _. Took self.new (after_map_end fs))
+            (HasNone (after_map_end fs)) }
     {
         let pairs = self.builder.end_map()?;
         let differ = keys_differ(self.builder.alloc, &pairs)?;

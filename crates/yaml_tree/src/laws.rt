@@ -5,8 +5,8 @@ ghost use Rattle.yaml_grammar.specs.Trees.{Tree};
 ghost use Rattle.yaml_grammar.specs.Style.{key_lines, element_at, value_at};
 ghost use Rattle.yaml_tree.specs.Sizes.{length_at, key_size, element_size, value_size};
 
-/// The length of a key, an element and a value at each indentation follows from its size: it has the bytes that it
-/// has at the indentation 0, and the indentation once more for each of its lines that is indented.
+/// The length of a key, an element and a value at each indentation follows from its size. It has the bytes that it has
+/// at the indentation 0, and the indentation once more for each of its lines that is indented.
 pub fn lengths_follow_indentation()
     ensures key { (key : List ℕ) (i : ℕ) → byte_len (key_lines i key) ≡ length_at (key_size key) i }
     ensures element { (t : Tree) (i : ℕ) → byte_len (element_at t i)

@@ -35,7 +35,7 @@ pub use sink::Sink;
 pub use size::Size;
 pub use style::{write_key, write_style, write_text, write_value};
 pub use tree::Tree;
-pub use yaml_docs::ReadFault;
+pub use yaml_docs::{Brief, ReadFault};
 
 #[cfg(test)]
 mod build_tests;

@@ -2,8 +2,8 @@
 ghost use Rattle.std.specs.Prelude.{◌≡◌, ◌≤◌, ◌<◌, ◌/◌, ◌%◌, ◌^◌, ◌∷◌, [], true, false, ◌==◌, ◌||◌, length, take, OnOk, MatchOption};
 ghost use Rattle.std.specs.Str.{chars};
 ghost use Rattle.yaml_chars.specs.Classes.{between};
-ghost use Rattle.yaml_grammar.specs.Texts.{every};
-ghost use Rattle.yaml_grammar.specs.Style.{hex, letter_escape, quoted_char, quoted_chars, quoted};
+ghost use Rattle.std.specs.List.{list_all};
+ghost use Rattle.yaml_grammar.specs.Style.{hex, letter_escape, quoted_char, quoted_chars, in_double_quotes};
 ghost use Rattle.yaml_tree.specs.Runs.{stands_alone, number_escape};
 
 use crate::Sink;
@@ -11,7 +11,7 @@ use crate::scalar::is_shown;
 
 /// Writes a text in double quotes, on one line.
 pub(crate) fn write_quoted<S: Sink>(text: &str, sink: &mut S) -> Result<(), S::Fault>
-    ensures { OnOk result (S.Takes sink.old (quoted (chars text.now)) sink.new) }
+    ensures { OnOk result (S.Takes sink.old (in_double_quotes (chars text.now)) sink.new) }
 {
     sink.put_char('"')?;
     write_quoted_chars(text, sink)?;
@@ -39,7 +39,7 @@ fn write_quoted_chars<S: Sink>(text: &str, sink: &mut S) -> Result<(), S::Fault>
 /// How many bytes at the start are ASCII characters that need no escape.
 fn run_len(text: &str) -> usize
     ensures within { result ≤ length text.now }
-    ensures alone { every stands_alone (take result text.now) ≡ true }
+    ensures alone { list_all stands_alone (take result text.now) ≡ true }
 {
     let bytes = text.as_bytes();
     for (i, byte) in bytes.iter().enumerate() {

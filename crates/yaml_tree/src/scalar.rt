@@ -2,7 +2,8 @@
 ghost use Rattle.std.specs.Prelude.{◌≡◌, ◌&&◌, IsTrue, if◌then◌else◌};
 ghost use Rattle.std.specs.Str.{chars};
 ghost use Rattle.yaml_grammar.specs.Style.{letter, word_char, shown, plain_in_style, literal_in_style, special_words, lower, is_among, shown_or_feed, space_or_feed, feeds_at_end};
-ghost use Rattle.yaml_grammar.specs.Texts.{every, first, same_text};
+ghost use Rattle.std.specs.List.{list_all};
+ghost use Rattle.yaml_grammar.specs.Texts.{first, same_text};
 ghost use Rattle.yaml_chars.specs.Classes.{is_in};
 ghost use Rattle.yaml_tree.specs.ScalarStyles.{value_style, key_style, literal_style};
 
@@ -28,7 +29,7 @@ pub fn scalar_style(text: &str, is_key: bool) -> ScalarStyle
     ensures { result ≡ (if is_key then key_style (chars text.now)
         else value_style (chars text.now)) }
 {
-    if is_plain(text) {
+    if is_plain_in_style(text) {
         ScalarStyle::Plain
     } else if !is_key && is_literal(text) {
         literal_style(text)
@@ -61,7 +62,7 @@ pub(crate) fn is_shown(c: char) -> bool
         || (c >= '\u{a0}' && printable(c) && !matches!(c, '\u{2028}' | '\u{2029}' | '\u{feff}'))
 }
 
-fn is_plain(text: &str) -> bool
+fn is_plain_in_style(text: &str) -> bool
     ensures { result ≡ plain_in_style (chars text.now) }
 {
     is_word(text) && text.len() <= 128 && !is_special(text)
@@ -69,7 +70,7 @@ fn is_plain(text: &str) -> bool
 
 /// Whether a text is a letter and then word characters, all of them ASCII.
 fn is_word(text: &str) -> bool
-    ensures word { result ≡ first letter (chars text.now) && every word_char (chars text.now) }
+    ensures word { result ≡ first letter (chars text.now) && list_all word_char (chars text.now) }
     ensures ascii { IsTrue result → chars text.now ≡ text.now }
 {
     starts_with_letter(text) && has_word_chars(text)
@@ -82,7 +83,7 @@ fn starts_with_letter(text: &str) -> bool
 }
 
 fn has_word_chars(text: &str) -> bool
-    ensures word { result ≡ every word_char (chars text.now) }
+    ensures word { result ≡ list_all word_char (chars text.now) }
     ensures ascii { IsTrue result → chars text.now ≡ text.now }
 {
     text.bytes().all(is_word_byte)
@@ -122,7 +123,7 @@ fn is_literal(text: &str) -> bool
 }
 
 fn is_shown_in_lines(text: &str) -> bool
-    ensures { result ≡ every shown_or_feed (chars text.now) }
+    ensures { result ≡ list_all shown_or_feed (chars text.now) }
 {
     text.chars().all(is_shown_or_feed)
 }

@@ -157,9 +157,12 @@ fn copies_are_equal(rt: HostRuntime) -> Result<(), Fail> {
 }
 
 #[test]
-fn faults_by_name(rt: HostRuntime) -> Result<(), Fail> {
+fn faults_are_shown(rt: HostRuntime) -> Result<(), Fail> {
     let fault = ReadFault::Documents { count: 2 };
-    let name = format!(in rt.alloc(); "{fault}")?;
+    let sentence = format!(in rt.alloc(); "{fault}")?;
+    assert_eq!(rt; sentence.as_str(), "the text has 2 documents, and not one");
+    let name = fault.brief();
+    let name = format!(in rt.alloc(); "{name}")?;
     assert_eq!(rt; name.as_str(), "Documents");
     Ok(())
 }

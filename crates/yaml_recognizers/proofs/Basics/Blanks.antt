@@ -3,15 +3,16 @@ use Rattle.std.proofs.Common.{◌≡◌, refl, inl, inr}
 use Rattle.std.specs.Prelude.{ℕ, Bool, true, false, not, ◌||◌, List, [], ◌∷◌, ◌++◌}
 use Rattle.std.proofs.lemmas.Bool.{and_parts, cases_Bool, false≢true}
 use Rattle.yaml_chars.specs.Classes.{white, line_break}
-use Rattle.yaml_grammar.specs.Texts.{every, first}
-use Rattle.yaml_recognizers.specs.Prefixes.{dropped}
+use Rattle.std.specs.List.{list_all}
+use Rattle.yaml_grammar.specs.Texts.{first}
+use Rattle.yaml_recognizers.specs.Prefixes.{drop_while}
 use Rattle.yaml_recognizers.specs.Joins.{at_break}
 
 -- what is left does not begin with another such character
-pub dropped_first : (p : ℕ → Bool) (text : List ℕ) → first p (dropped p text) ≡ false
-dropped_first p [] = refl
-dropped_first p (c ∷ cs) =
-    elim (cases_Bool (p c)) [ inl e ↦ rw e (dropped_first p cs) | inr e ↦ rw (e, e) ]
+pub drop_while_first : (p : ℕ → Bool) (text : List ℕ) → first p (drop_while p text) ≡ false
+drop_while_first p [] = refl
+drop_while_first p (c ∷ cs) =
+    elim (cases_Bool (p c)) [ inl e ↦ rw e (drop_while_first p cs) | inr e ↦ rw (e, e) ]
 
 -- a character that is neither white nor a break is at the start
 abbrev pub inked : List ℕ → Bool
@@ -37,9 +38,9 @@ inked_no_break (c ∷ cs) h = both (white c) (line_break c) h
     both false false h = refl
 
 -- after whitespace there is a break if there is one at once
-pub white_at_break : (blank rest : List ℕ) → every white blank ≡ true → at_break (blank ++ rest) ≡ at_break rest
+pub white_at_break : (blank rest : List ℕ) → list_all white blank ≡ true → at_break (blank ++ rest) ≡ at_break rest
 white_at_break [] rest h = refl
-white_at_break (x ∷ xs) rest h = let p : (white x ≡ true) × (every white xs ≡ true) = and_parts _ _ h in rw p.0 (white_at_break xs rest p.1)
+white_at_break (x ∷ xs) rest h = let p : (white x ≡ true) × (list_all white xs ≡ true) = and_parts _ _ h in rw p.0 (white_at_break xs rest p.1)
 
 -- without whitespace at its start, a text is at a break if it starts with one
 pub no_white_at_break : (text : List ℕ) → first white text ≡ false → at_break text ≡ first line_break text

@@ -4,32 +4,33 @@ use Rattle.std.specs.Prelude.{Bool, List, [], false, suc, true, zero, ℕ, ◌++
 use Rattle.std.proofs.lemmas.Bool.{and_from, and_parts, cases_Bool, cond_both, eqb-true, false≢true}
 use Rattle.yaml_chars.specs.Classes.{space, white}
 use Rattle.yaml_grammar.specs.BlockScalars.{past_spaces, spaces_before}
-use Rattle.yaml_grammar.specs.Texts.{every, first, spaces}
-use Rattle.yaml_recognizers.specs.Prefixes.{dropped, past, taken}
+use Rattle.std.specs.List.{list_all}
+use Rattle.yaml_grammar.specs.Texts.{first, spaces}
+use Rattle.yaml_recognizers.specs.Prefixes.{drop_while, past, take_while}
 
 -- characters that pass, before one that doesn't, are taken whole
-pub taken_all : (p : ℕ → Bool) (xs rest : List ℕ) → every p xs ≡ true → first p rest ≡ false → taken p (xs ++ rest) ≡ xs
-taken_all p [] [] h f = refl
-taken_all p [] (c ∷ cs) h f = rw f
-taken_all p (x ∷ xs) rest h f = let q : (p x ≡ true) × (every p xs ≡ true) = and_parts _ _ h in rw q.0 (ap (λ ys. x ∷ ys) (taken_all p xs rest q.1 f))
+pub take_while_all : (p : ℕ → Bool) (xs rest : List ℕ) → list_all p xs ≡ true → first p rest ≡ false → take_while p (xs ++ rest) ≡ xs
+take_while_all p [] [] h f = refl
+take_while_all p [] (c ∷ cs) h f = rw f
+take_while_all p (x ∷ xs) rest h f = let q : (p x ≡ true) × (list_all p xs ≡ true) = and_parts _ _ h in rw q.0 (ap (λ ys. x ∷ ys) (take_while_all p xs rest q.1 f))
 
 -- and what comes after them is left
-pub dropped_all : (p : ℕ → Bool) (xs rest : List ℕ) → every p xs ≡ true → first p rest ≡ false → dropped p (xs ++ rest) ≡ rest
-dropped_all p [] [] h f = refl
-dropped_all p [] (c ∷ cs) h f = rw f
-dropped_all p (x ∷ xs) rest h f = let q : (p x ≡ true) × (every p xs ≡ true) = and_parts _ _ h in rw q.0 (dropped_all p xs rest q.1 f)
+pub drop_while_all : (p : ℕ → Bool) (xs rest : List ℕ) → list_all p xs ≡ true → first p rest ≡ false → drop_while p (xs ++ rest) ≡ rest
+drop_while_all p [] [] h f = refl
+drop_while_all p [] (c ∷ cs) h f = rw f
+drop_while_all p (x ∷ xs) rest h f = let q : (p x ≡ true) × (list_all p xs ≡ true) = and_parts _ _ h in rw q.0 (drop_while_all p xs rest q.1 f)
 
 -- a text is its longest such prefix and what is left
-pub taken_split : (p : ℕ → Bool) (text : List ℕ) → text ≡ taken p text ++ dropped p text
-taken_split p [] = refl
-taken_split p (c ∷ cs) =
-    elim (cases_Bool (p c)) [ inl e ↦ rw e (ap (λ xs. c ∷ xs) (taken_split p cs)) | inr e ↦ rw e ]
+pub take_while_split : (p : ℕ → Bool) (text : List ℕ) → text ≡ take_while p text ++ drop_while p text
+take_while_split p [] = refl
+take_while_split p (c ∷ cs) =
+    elim (cases_Bool (p c)) [ inl e ↦ rw e (ap (λ xs. c ∷ xs) (take_while_split p cs)) | inr e ↦ rw e ]
 
 -- all characters that are taken pass
-pub taken_every : (p : ℕ → Bool) (text : List ℕ) → every p (taken p text) ≡ true
-taken_every p [] = refl
-taken_every p (c ∷ cs) =
-    cond_both (p c) (c ∷ taken p cs) [] (λ (t : List ℕ). every p t ≡ true) (λ e. and_from _ _ e (taken_every p cs)) (λ _. refl)
+pub take_while_every : (p : ℕ → Bool) (text : List ℕ) → list_all p (take_while p text) ≡ true
+take_while_every p [] = refl
+take_while_every p (c ∷ cs) =
+    cond_both (p c) (c ∷ take_while p cs) [] (λ (t : List ℕ). list_all p t ≡ true) (λ e. and_from _ _ e (take_while_every p cs)) (λ _. refl)
 
 -- a text that starts with a character is that character and the rest
 pub head_is : (k : ℕ) (text : List ℕ) → first (λ x. x == k) text ≡ true → text ≡ k ∷ past text
@@ -60,6 +61,6 @@ spaces_split (c ∷ cs) = elim (cases_Bool (c == 32)) [
 ]
 
 -- spaces are whitespace
-pub every_space : (k : ℕ) → every white (spaces k) ≡ true
+pub every_space : (k : ℕ) → list_all white (spaces k) ≡ true
 every_space zero = refl
 every_space (suc k) = every_space k

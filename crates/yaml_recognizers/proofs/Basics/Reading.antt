@@ -2,7 +2,7 @@
 use Rattle.std.proofs.Common.{ap, inl, inr, refl, subst, ◌≡◌, ◌⊎◌}
 use Rattle.std.specs.Prelude.{Bool, List, None, Some, [], cond, false, true, ℕ, ◌==◌, ◌∷◌}
 use Rattle.std.proofs.lemmas.Bool.{eqb-true}
-use Rattle.yaml_recognizers.specs.Reading.{Read, closed, if_fits, on}
+use Rattle.yaml_recognizers.specs.Reading.{Read, read_closing, if_fits, on}
 
 -- what holds of what is read, if anything is
 abbrev pub Sound : {A : Type 0} → (A → List ℕ → Type 0) → Read A → Type 0
@@ -48,7 +48,7 @@ chosen true x y z h = inl (refl, h)
 chosen false x y z h = inr (refl, h)
 
 -- a value that is closed by a character, and that character
-pub closed_parts : {A : Type 0} (x : ℕ) (a : A) (text : List ℕ) (y : A) (rest : List ℕ) → closed x a text ≡ Some (y, rest) → (a ≡ y) × (text ≡ x ∷ rest)
+pub closed_parts : {A : Type 0} (x : ℕ) (a : A) (text : List ℕ) (y : A) (rest : List ℕ) → read_closing x a text ≡ Some (y, rest) → (a ≡ y) × (text ≡ x ∷ rest)
 closed_parts x a [] y rest h = absurd (none_some _ h)
 closed_parts x a (c ∷ cs) y rest h = elim (chosen (c == x) _ _ _ h) [
   | inl e ↦ (let p = some_parts a y cs rest e.1 in let i : c ≡ x = eqb-true c x e.0 in let j : cs ≡ rest = p.1 in (p.0, cc))

@@ -4,9 +4,10 @@ use Rattle.std.specs.Prelude.{List, [], false, not, suc, true, zero, ℕ, ◌++�
 use Rattle.std.proofs.lemmas.Bool.{and_left, and_parts, and_right, cases_Bool, cases_eq, eqb-true, false≢true, ne_eqb, not-true, not_from_false, not_from_true, or_from, or_left, or_parts}
 use Rattle.yaml_chars.specs.Classes.{line_break, nb, ns, printable, space, white}
 use Rattle.yaml_grammar.specs.BlockScalars.{past_spaces}
-use Rattle.yaml_grammar.specs.Texts.{every, first, is_empty, marker, spaces}
+use Rattle.std.specs.List.{list_all}
+use Rattle.yaml_grammar.specs.Texts.{first, is_empty, marker, spaces}
 use Rattle.yaml_recognizers.specs.Ends.{solid}
-use Rattle.yaml_recognizers.specs.Prefixes.{dropped, past, sign, taken}
+use Rattle.yaml_recognizers.specs.Prefixes.{drop_while, past, sign, take_while}
 use Rattle.yaml_recognizers.proofs.Basics.Prefixes.{spaces_passed}
 
 -- a solid character is no whitespace, no break and no `#`
@@ -23,12 +24,12 @@ solid_not_white [] f = refl
 solid_not_white (x ∷ xs) f = (solid_parts x f).0
 
 -- so no whitespace is taken from it
-pub solid_untaken : (after : List ℕ) → first solid after ≡ true → taken white after ≡ []
+pub solid_untaken : (after : List ℕ) → first solid after ≡ true → take_while white after ≡ []
 solid_untaken [] f = refl
 solid_untaken (x ∷ xs) f = rw ((solid_parts x f).0)
 
 -- and nothing is dropped
-pub solid_undropped : (after : List ℕ) → first solid after ≡ true → dropped white after ≡ after
+pub solid_undropped : (after : List ℕ) → first solid after ≡ true → drop_while white after ≡ after
 solid_undropped [] f = refl
 solid_undropped (x ∷ xs) f = rw ((solid_parts x f).0)
 
@@ -53,7 +54,7 @@ pub white_no_ns : (c : ℕ) → white c ≡ true → ns c ≡ false
 white_no_ns c h = and_right _ _ (not_from_true _ h)
 
 -- white before something solid is spaces, or has a tab
-pub lead_past : (lead rest : List ℕ) → every white lead ≡ true → first solid rest ≡ true
+pub lead_past : (lead rest : List ℕ) → list_all white lead ≡ true → first solid rest ≡ true
     → (past_spaces (lead ++ rest) ≡ rest) ⊎ (first solid (past_spaces (lead ++ rest)) ≡ false)
 lead_past [] rest w h = inl (spaces_passed 0 rest (solid_space rest h))
 lead_past (c ∷ cs) rest w h = elim (cases_Bool (c == 32)) [

@@ -9,7 +9,8 @@ use Rattle.yaml_grammar.specs.BlockScalars.{block_fits, block_text}
 use Rattle.yaml_grammar.specs.FlowNodes.{Flow, flow_fits, flow_text, short_key}
 use Rattle.yaml_grammar.specs.FlowScalars.{block_key, outer}
 use Rattle.yaml_grammar.specs.Separation.{LineEnd, Sep, comments_fit, comments_text, indents, inline, lines, sep_fits, sep_text}
-use Rattle.yaml_grammar.specs.Texts.{byte_len, every, first, is_empty, spaces, starts_line}
+use Rattle.std.specs.List.{list_all}
+use Rattle.yaml_grammar.specs.Texts.{byte_len, first, is_empty, spaces, starts_line}
 use Rattle.yaml_recognizers.specs.CanonicalComments.{is_line_end}
 use Rattle.yaml_recognizers.proofs.Block.BlockNodesBegin.{append_some, block_prefix}
 use Rattle.yaml_recognizers.proofs.Separation.CommentsComplete.{not_line_end}
@@ -77,7 +78,7 @@ pub record Parted (n : Node) (m : ℕ) (shallow : Bool) (after : List ℕ) : Typ
 -- separation before something solid
 record PartedSep (n : ℕ) (sep : Sep) (rest : List ℕ) : Type 0 where
   comments : comments_fit true (sep_comments sep) (sep_lead sep ++ rest) ≡ true
-  lead : every white (sep_lead sep) ≡ true
+  lead : list_all white (sep_lead sep) ≡ true
   bol : starts_line true (sep_text sep) ≡ starts_line true (sep_lead sep)
 
 sep_part : (n : ℕ) (sep : Sep) (rest : List ℕ) → sep_fits n false true sep rest ≡ true → first solid rest ≡ true → PartedSep n sep rest
@@ -91,7 +92,7 @@ items_solid : (is : Items) (k : ℕ) (after : List ℕ) → first solid (items_t
 items_solid (item i) k after = refl
 items_solid (item_and i is) k after = refl
 
-key_solid : (key : Flow) (gap : List ℕ) (bol more : Bool) (rest : List ℕ) → flow_fits key 0 block_key bol (gap ++ (58 ∷ rest)) && every white gap && short_key key gap && more ≡ true
+key_solid : (key : Flow) (gap : List ℕ) (bol more : Bool) (rest : List ℕ) → flow_fits key 0 block_key bol (gap ++ (58 ∷ rest)) && list_all white gap && short_key key gap && more ≡ true
     → first solid (flow_text key ++ (gap ++ (58 ∷ rest))) ≡ true
 key_solid key gap bol more rest h =
     form_solid key 0 block_key bol (gap ++ (58 ∷ rest)) (flow_form_fits key 0 block_key bol (gap ++ (58 ∷ rest)) (and_parts _ _ (and_parts _ _ (and_parts _ _ h).0).0).0)

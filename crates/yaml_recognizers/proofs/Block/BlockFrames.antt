@@ -11,8 +11,8 @@ use Rattle.yaml_recognizers.specs.BlockNodes.{asked_key, indented_node, key_valu
 use Rattle.yaml_recognizers.specs.BlockScalars.{read_block}
 use Rattle.yaml_chars.specs.Classes.{white}
 use Rattle.yaml_recognizers.specs.Comments.{all_comments}
-use Rattle.yaml_recognizers.specs.Ends.{ended}
-use Rattle.yaml_recognizers.specs.Prefixes.{dropped, past, sign, taken}
+use Rattle.yaml_recognizers.specs.Ends.{block_node_stops}
+use Rattle.yaml_recognizers.specs.Prefixes.{drop_while, past, sign, take_while}
 use Rattle.yaml_recognizers.specs.Reading.{Read, on}
 use Rattle.yaml_recognizers.specs.Recognizers.{block_indented_at, block_items_at, block_key_in, block_node_at, block_pair_at, block_pairs_at, flow_leaf_at}
 use Rattle.yaml_recognizers.proofs.Meanings.Steps.{indented_steps, items_steps, node_steps, pair_steps, pairs_steps}
@@ -146,7 +146,7 @@ pair_goes_on sits done p None = refl
 pair_goes_on sits done p (Some r) = ap (λ ps. Some (pairs_part sits ps, r.1)) (sym (more_joined_pairs done p r.0))
 
 -- after a pair at the same indentation comes the next one
-pub pair_next : (sits : Sits) (k : ℕ) (done : List Pair) (p : Pair) (rest : List ℕ) → (spaces_before rest == k) && not (ended k false rest) ≡ true
+pub pair_next : (sits : Sits) (k : ℕ) (done : List Pair) (p : Pair) (rest : List ℕ) → (spaces_before rest == k) && not (block_node_stops k false rest) ≡ true
     → pairs_after sits k done p rest ≡ close_pairs sits (done ++ p ∷ []) (block_pairs_at k (k == 0) (past_spaces rest))
 pair_next sits k done p rest h = ap (close_pairs sits done) (goes_on (λ t. block_pairs_at k (k == 0) t)) ∙ pair_goes_on sits done p (block_pairs_at k (k == 0) (past_spaces rest))
   where
@@ -154,7 +154,7 @@ pair_next sits k done p rest h = ap (close_pairs sits done) (goes_on (λ t. bloc
     goes_on again = rw h refl
 
 -- after the last pair the mapping is closed
-pub pair_last : (sits : Sits) (k : ℕ) (done : List Pair) (p : Pair) (rest : List ℕ) → (spaces_before rest == k) && not (ended k false rest) ≡ false
+pub pair_last : (sits : Sits) (k : ℕ) (done : List Pair) (p : Pair) (rest : List ℕ) → (spaces_before rest == k) && not (block_node_stops k false rest) ≡ false
     → pairs_after sits k done p rest ≡ Some (pairs_part sits (joined_pairs done (pair p)), rest)
 pair_last sits k done p rest h = ap (close_pairs sits done) (ends (λ t. block_pairs_at k (k == 0) t))
   where
@@ -225,5 +225,5 @@ pub leaf_after_comments : (m : ℕ) (shallow bol : Bool) (text : List ℕ)
     → (bol || not (is_empty (all_comments bol text).0)) && nat_le m (spaces_before (all_comments bol text).1)
     && opens_pair block_key_in flow_leaf_at read_block (spaces_before (all_comments bol text).1 == 0) (past_spaces (all_comments bol text).1) ≡ false
     → block_node_at m shallow bol text
-    ≡ leaf_at block_key_in flow_leaf_at read_block m bol (sep_at m bol (all_comments bol text).0 (taken white (all_comments bol text).1)) (dropped white (all_comments bol text).1)
+    ≡ leaf_at block_key_in flow_leaf_at read_block m bol (sep_at m bol (all_comments bol text).0 (take_while white (all_comments bol text).1)) (drop_while white (all_comments bol text).1)
 leaf_after_comments m shallow bol text h p = node_steps m shallow bol text ∙ rw (h, p) refl

@@ -6,13 +6,14 @@ use Rattle.yaml_chars.specs.Classes.{ns, white}
 use Rattle.yaml_grammar.specs.FlowNodes.{Flow, flow_text, is_plain, map, scalar, seq, short_key}
 use Rattle.yaml_grammar.specs.FlowScalars.{FlowContext, block_key, double, lines_after, lines_text, one_line, outer, plain, plain_kind, plain_line, plain_lines, plain_text, single}
 use Rattle.yaml_grammar.specs.Separation.{LineEnd, comment_line_fits, comments_text, line_end_text}
-use Rattle.yaml_grammar.specs.Texts.{every, first, is_empty, no_marker}
+use Rattle.std.specs.List.{list_all}
+use Rattle.yaml_grammar.specs.Texts.{first, is_empty, no_marker}
 use Rattle.yaml_recognizers.specs.BlockNodes.{block_key_at, key_after}
 use Rattle.yaml_recognizers.specs.CanonicalComments.{canonical_comments}
 use Rattle.yaml_recognizers.specs.CanonicalFlowNodes.{canonical_flow}
 use Rattle.yaml_recognizers.specs.Comments.{read_line_end}
 use Rattle.yaml_recognizers.specs.Ends.{Stops, in_flow, less_deep}
-use Rattle.yaml_recognizers.specs.Prefixes.{dropped, past, sign, taken}
+use Rattle.yaml_recognizers.specs.Prefixes.{drop_while, past, sign, take_while}
 use Rattle.yaml_recognizers.specs.Reading.{Read, on}
 use Rattle.yaml_recognizers.proofs.Block.BlockNodesComplete.{KeySound}
 use Rattle.yaml_recognizers.proofs.Block.BlockNodesSound.{KeyOf}
@@ -20,7 +21,7 @@ use Rattle.yaml_recognizers.proofs.Separation.CommentsComplete.{line_end_read, n
 use Rattle.yaml_recognizers.proofs.Flow.FlowNodesBegin.{plain_prefix}
 use Rattle.yaml_recognizers.proofs.Flow.FlowNodesSound.{FlowOfAt}
 use Rattle.yaml_recognizers.proofs.Flow.FlowNodesWider.{flow_wider}
-use Rattle.yaml_recognizers.proofs.Basics.Prefixes.{dropped_all, taken_all, taken_every, taken_split}
+use Rattle.yaml_recognizers.proofs.Basics.Prefixes.{drop_while_all, take_while_all, take_while_every, take_while_split}
 use Rattle.yaml_recognizers.proofs.Separation.LineEnds.{comments_parts, no_comments_parts}
 use Rattle.yaml_recognizers.proofs.Basics.Reading.{Sound, none_some, some_parts, sound_is, sound_on}
 use Rattle.yaml_recognizers.proofs.Basics.Solid.{head_of}
@@ -47,7 +48,7 @@ key_gap_some : (gap rest : List ℕ) → is_empty (gap ++ (58 ∷ rest)) ≡ fal
 key_gap_some [] rest = refl
 key_gap_some (x ∷ xs) rest = refl
 
-no_colon_after : (comments : List LineEnd) (after gap rest : List ℕ) → canonical_comments false comments after ≡ true → every white gap ≡ true
+no_colon_after : (comments : List LineEnd) (after gap rest : List ℕ) → canonical_comments false comments after ≡ true → list_all white gap ≡ true
     → comments_text comments ++ after ≡ gap ++ (58 ∷ rest) → ⊥
 no_colon_after [] after gap rest h w e = false≢true (sym (key_gap_some gap rest) ∙ (ap is_empty (sym e) ∙ (no_comments_parts false after h).0))
 no_colon_after (c ∷ cs) after gap rest h w e =
@@ -58,7 +59,7 @@ no_colon_after (c ∷ cs) after gap rest h w e =
 
 -- ---- what may come after a flow node in a block
 
-before_colon_stops : (n : ℕ) (c : FlowContext) (after_plain : Bool) (gap rest : List ℕ) → in_flow c ≡ false → every white gap ≡ true → first ns rest ≡ false → Stops n c after_plain (gap ++ (58 ∷ rest))
+before_colon_stops : (n : ℕ) (c : FlowContext) (after_plain : Bool) (gap rest : List ℕ) → in_flow c ≡ false → list_all white gap ≡ true → first ns rest ≡ false → Stops n c after_plain (gap ++ (58 ∷ rest))
 before_colon_stops n c after_plain gap rest o w h = inr (inl (record { outside = o; gap = gap; rest = rest; is = refl; gap_white = w; apart = h }))
 
 -- comments and a line less deep end a flow node
@@ -78,15 +79,15 @@ module _ (read_flow : ℕ → FlowContext → Bool → List ℕ → Read Flow)
   -- what is read as a key is one
   pub whole_key : (bol : Bool) (text : List ℕ) → Sound (WholeKey bol text) (block_key_at read_flow bol text)
   whole_key bol text =
-      sound_on (FlowOfAt 0 block_key bol text) (WholeKey bol text) (read_flow 0 block_key bol text) (λ key rest. key_after key (taken white rest) (dropped white rest)) (flow_sound 0 block_key bol text)
+      sound_on (FlowOfAt 0 block_key bol text) (WholeKey bol text) (read_flow 0 block_key bol text) (λ key rest. key_after key (take_while white rest) (drop_while white rest)) (flow_sound 0 block_key bol text)
       (λ key rest p.
-      let gap : List ℕ = taken white rest in
-      let rest_after : List ℕ = dropped white rest in
+      let gap : List ℕ = take_while white rest in
+      let rest_after : List ℕ = drop_while white rest in
       cond_both (sign 58 rest_after && short_key key gap) (Some ((key, gap), past rest_after)) None (Sound (WholeKey bol text))
       (λ h. let q : (sign 58 rest_after ≡ true) × (short_key key gap ≡ true) = and_parts _ _ h in
       let c : (rest_after ≡ 58 ∷ past rest_after) × (first ns (past rest_after) ≡ false) = head_of 58 rest_after q.0 in
-      let e : rest ≡ gap ++ (58 ∷ past rest_after) = taken_split white rest ∙ ap (λ u. gap ++ u) c.0 in
-      ((p.0 ∙ ap (λ u. flow_text key ++ u) e, subst (λ (u : List ℕ). canonical_flow key 0 block_key bol u ≡ true) e p.1, taken_every white rest, q.1), c.1))
+      let e : rest ≡ gap ++ (58 ∷ past rest_after) = take_while_split white rest ∙ ap (λ u. gap ++ u) c.0 in
+      ((p.0 ∙ ap (λ u. flow_text key ++ u) e, subst (λ (u : List ℕ). canonical_flow key 0 block_key bol u ≡ true) e p.1, take_while_every white rest, q.1), c.1))
       (λ _. tt))
 
   -- the same of each result
@@ -94,12 +95,12 @@ module _ (read_flow : ℕ → FlowContext → Bool → List ℕ → Read Flow)
   keys_sound bol text r e = (sound_is (WholeKey bol text) (block_key_at read_flow bol text) r (whole_key bol text) e).0
 
   -- a key that fits is read
-  pub keys_read : (key : Flow) (gap : List ℕ) (bol : Bool) (rest : List ℕ) → canonical_flow key 0 block_key bol (gap ++ (58 ∷ rest)) ≡ true → every white gap ≡ true
+  pub keys_read : (key : Flow) (gap : List ℕ) (bol : Bool) (rest : List ℕ) → canonical_flow key 0 block_key bol (gap ++ (58 ∷ rest)) ≡ true → list_all white gap ≡ true
       → short_key key gap ≡ true → first ns rest ≡ false → block_key_at read_flow bol (flow_text key ++ (gap ++ (58 ∷ rest))) ≡ Some ((key, gap), rest)
   keys_read key gap bol rest h w s n =
-      ap (λ r. on r (λ key' rest'. key_after key' (taken white rest') (dropped white rest')))
+      ap (λ r. on r (λ key' rest'. key_after key' (take_while white rest') (drop_while white rest')))
       (flow_read key 0 block_key bol (gap ++ (58 ∷ rest)) h (before_colon_stops 0 block_key (is_plain key) gap rest refl w n))
-      ∙ rw (taken_all white gap (58 ∷ rest) w refl, dropped_all white gap (58 ∷ rest) w refl, n, s) refl
+      ∙ rw (take_while_all white gap (58 ∷ rest) w refl, drop_while_all white gap (58 ∷ rest) w refl, n, s) refl
 
   no_key_if : (f : Flow) (m : ℕ) (b b' : Bool) (comments : List LineEnd) (after : List ℕ) → canonical_flow f m outer b (comments_text comments ++ after) ≡ true
       → canonical_comments false comments after ≡ true → less_deep m after ≡ true → (r : Read (Flow × List ℕ)) → Sound (WholeKey b' (flow_text f ++ (comments_text comments ++ after))) r → r ≡ None

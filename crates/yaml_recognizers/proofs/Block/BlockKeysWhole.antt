@@ -5,7 +5,8 @@ use Rattle.yaml_chars.specs.Classes.{ns, white}
 use Rattle.yaml_grammar.specs.FlowNodes.{Flow, flow_text, short_key}
 use Rattle.yaml_grammar.specs.FlowScalars.{FlowContext, Scalar, block_key, outer}
 use Rattle.yaml_grammar.specs.Separation.{LineEnd, comments_text}
-use Rattle.yaml_grammar.specs.Texts.{every, first}
+use Rattle.std.specs.List.{list_all}
+use Rattle.yaml_grammar.specs.Texts.{first}
 use Rattle.yaml_recognizers.specs.BlockNodes.{block_key_at}
 use Rattle.yaml_recognizers.specs.CanonicalComments.{canonical_comments}
 use Rattle.yaml_recognizers.specs.CanonicalFlowNodes.{canonical_flow}
@@ -26,7 +27,7 @@ module _ (read_scalar : ℕ → FlowContext → Bool → List ℕ → Read Scala
   key_regrouped key gap rest = simp append_assoc
 
   -- a key that fits is read
-  pub block_key_read : (key : Flow) (gap : List ℕ) (bol : Bool) (rest : List ℕ) → canonical_flow key 0 block_key bol (gap ++ codes ":" ++ rest) ≡ true → every white gap ≡ true
+  pub block_key_read : (key : Flow) (gap : List ℕ) (bol : Bool) (rest : List ℕ) → canonical_flow key 0 block_key bol (gap ++ codes ":" ++ rest) ≡ true → list_all white gap ≡ true
       → short_key key gap ≡ true → first ns rest ≡ false → key_in bol (flow_text key ++ gap ++ codes ":" ++ rest) ≡ Some ((key, gap), rest)
   block_key_read key gap bol rest h w s n =
       let fit : canonical_flow key 0 block_key bol (gap ++ (58 ∷ rest)) ≡ true = subst (λ (t : List ℕ). canonical_flow key 0 block_key bol t ≡ true) (append_assoc gap (codes ":") rest) h in

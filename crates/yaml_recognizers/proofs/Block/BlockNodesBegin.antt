@@ -8,7 +8,8 @@ use Rattle.yaml_grammar.specs.BlockScalars.{BlockScalar, block_text, past_spaces
 use Rattle.yaml_grammar.specs.FlowNodes.{Flow, flow_text, short_key}
 use Rattle.yaml_grammar.specs.FlowScalars.{block_key, outer}
 use Rattle.yaml_grammar.specs.Separation.{LineEnd, Sep, comments_text, indents, inline, lines, sep_text}
-use Rattle.yaml_grammar.specs.Texts.{begins, every, first, is_empty, marker, spaces, starts_line}
+use Rattle.std.specs.List.{list_all}
+use Rattle.yaml_grammar.specs.Texts.{begins, first, is_empty, marker, spaces, starts_line}
 use Rattle.yaml_recognizers.specs.BlockNodes.{bar}
 use Rattle.yaml_recognizers.specs.CanonicalBlockNodes.{canonical_indented, canonical_items, canonical_node, canonical_pair, canonical_pairs}
 use Rattle.yaml_recognizers.specs.CanonicalComments.{canonical_comments, canonical_sep}
@@ -73,7 +74,7 @@ block_prefix b after = block_first (b.header).folded _ _ _ _ _ _
 sep_apart : (m : ℕ) (sep : Sep) (rest : List ℕ) → canonical_sep m false false sep rest ≡ true → first ns (sep_text sep ++ rest) ≡ false
 sep_apart m (inline []) rest h = absurd (false≢true h)
 sep_apart m (inline (c ∷ cs)) rest h =
-    let p : (every white (c ∷ cs) ≡ true) × (true ≡ true) = and_parts _ _ h in white_no_ns c (and_parts _ _ p.0).0
+    let p : (list_all white (c ∷ cs) ≡ true) × (true ≡ true) = and_parts _ _ h in white_no_ns c (and_parts _ _ p.0).0
 sep_apart m (lines comments lead) rest h =
     let p : (not (is_empty comments) && canonical_comments false comments (lead ++ rest) ≡ true) × (indents m lead ≡ true) = and_parts _ _ h in
     let regrouped : sep_text (lines comments lead) ++ rest ≡ comments_text comments ++ (lead ++ rest) = simp append_assoc in
@@ -122,16 +123,16 @@ items_start (item_and i is) k after h =
 -- what a key on one line starts with
 pub record KeyParts (key : Flow) (gap : List ℕ) (bol : Bool) (rest : List ℕ) : Type 0 where
   pub fit : canonical_flow key 0 block_key bol (gap ++ (58 ∷ rest)) ≡ true
-  pub gap_white : every white gap ≡ true
+  pub gap_white : list_all white gap ≡ true
   pub short : short_key key gap ≡ true
 
 -- a key on one line that fits starts so
 pub key_parts : (key : Flow) (gap : List ℕ) (bol : Bool) (rest : List ℕ) (more : Bool)
-    → canonical_flow key 0 block_key bol (gap ++ (58 ∷ rest)) && every white gap && short_key key gap && more ≡ true → KeyParts key gap bol rest × (more ≡ true)
+    → canonical_flow key 0 block_key bol (gap ++ (58 ∷ rest)) && list_all white gap && short_key key gap && more ≡ true → KeyParts key gap bol rest × (more ≡ true)
 key_parts key gap bol rest more h =
-    let p : (canonical_flow key 0 block_key bol (gap ++ (58 ∷ rest)) && every white gap && short_key key gap ≡ true) × (more ≡ true) = and_parts _ _ h in
-    let q : (canonical_flow key 0 block_key bol (gap ++ (58 ∷ rest)) && every white gap ≡ true) × (short_key key gap ≡ true) = and_parts _ _ p.0 in
-    let r : (canonical_flow key 0 block_key bol (gap ++ (58 ∷ rest)) ≡ true) × (every white gap ≡ true) = and_parts _ _ q.0 in
+    let p : (canonical_flow key 0 block_key bol (gap ++ (58 ∷ rest)) && list_all white gap && short_key key gap ≡ true) × (more ≡ true) = and_parts _ _ h in
+    let q : (canonical_flow key 0 block_key bol (gap ++ (58 ∷ rest)) && list_all white gap ≡ true) × (short_key key gap ≡ true) = and_parts _ _ p.0 in
+    let r : (canonical_flow key 0 block_key bol (gap ++ (58 ∷ rest)) ≡ true) × (list_all white gap ≡ true) = and_parts _ _ q.0 in
     (record { fit = r.0; gap_white = r.1; short = q.1 }, p.1)
 
 -- what the first line of a mapping starts with

@@ -8,21 +8,22 @@ use Rattle.yaml_grammar.specs.BlockScalars.{BlockScalar, block_text, past_spaces
 use Rattle.yaml_grammar.specs.FlowNodes.{Flow, flow_text, short_key}
 use Rattle.yaml_grammar.specs.FlowScalars.{block_key, outer}
 use Rattle.yaml_grammar.specs.Separation.{LineEnd, Sep, comments_text, indents, inline, lines, sep_text}
-use Rattle.yaml_grammar.specs.Texts.{begins, every, first, is_empty, spaces, starts_line}
+use Rattle.std.specs.List.{list_all}
+use Rattle.yaml_grammar.specs.Texts.{begins, first, is_empty, spaces, starts_line}
 use Rattle.yaml_recognizers.specs.BlockNodes.{asked_key, bar, flow_with, key_value, leaf_at, leaf_after, more_items, more_pairs, node_below, omits, opens_pair, read_indented, read_items, read_node, read_pair, read_pairs, sep_at}
 use Rattle.yaml_recognizers.specs.CanonicalBlockNodes.{canonical_indented, canonical_items, canonical_node, canonical_pair, canonical_pairs}
 use Rattle.yaml_recognizers.specs.CanonicalBlockScalars.{canonical_block}
 use Rattle.yaml_recognizers.specs.CanonicalComments.{canonical_comments, canonical_sep, is_line_end}
 use Rattle.yaml_recognizers.specs.CanonicalFlowNodes.{canonical_flow}
 use Rattle.yaml_recognizers.specs.Comments.{all_comments}
-use Rattle.yaml_recognizers.specs.Ends.{ended, less_deep, solid}
+use Rattle.yaml_recognizers.specs.Ends.{block_node_stops, less_deep, solid}
 use Rattle.yaml_recognizers.specs.Prefixes.{sign}
 use Rattle.yaml_recognizers.specs.Reading.{Read, on}
 use Rattle.yaml_recognizers.proofs.Block.BlockNodesBegin.{Prefix, KeyParts, append_some, block_prefix, closes, comments_closed, indented_apart, items_start, key_parts, lead_deep, node_apart, pairs_prefix}
-use Rattle.yaml_recognizers.proofs.Block.BlockNodesEnd.{colon_stop, dash_goes_on, deep_goes_on, ended_at, ended_items, ended_last, ended_pairs, ended_shallow, ended_value, items_stop, not_ended}
+use Rattle.yaml_recognizers.proofs.Block.BlockNodesEnd.{colon_stop, dash_goes_on, deep_goes_on, block_node_stops_at, block_node_stops_items, block_node_stops_last, block_node_stops_pairs, block_node_stops_shallow, block_node_stops_value, items_stop, not_ended}
 use Rattle.yaml_recognizers.proofs.Separation.CommentsComplete.{at_line, comments_all, no_comments, not_line_end}
 use Rattle.yaml_recognizers.proofs.Flow.FlowNodesBegin.{Opens, flow_opens}
-use Rattle.yaml_recognizers.proofs.Basics.Prefixes.{dropped_all, spaces_counted, spaces_passed, taken_all}
+use Rattle.yaml_recognizers.proofs.Basics.Prefixes.{drop_while_all, spaces_counted, spaces_passed, take_while_all}
 use Rattle.yaml_recognizers.proofs.Separation.LineEnds.{comments_no_ns, comments_unsolid, fits_end, no_comments_parts}
 use Rattle.yaml_recognizers.proofs.Basics.Solid.{dash_solid, lead_past, solid_not_white, solid_some, solid_space, unsolid_sign, white_no_ns}
 
@@ -64,7 +65,7 @@ unfoldable mutual
 abbrev pub KeySound : Bool → List ℕ → (Flow × List ℕ) × List ℕ → Type 0
 KeySound bol text r =
     (text ≡ flow_text r.0.0 ++ (r.0.1 ++ (58 ∷ r.1))) × (canonical_flow r.0.0 0 block_key bol (r.0.1 ++ (58 ∷ r.1)) ≡ true)
-    × (every white r.0.1 ≡ true) × (short_key r.0.0 r.0.1 ≡ true)
+    × (list_all white r.0.1 ≡ true) × (short_key r.0.0 r.0.1 ≡ true)
 
 le_both : (m k : ℕ) (shallow : Bool) → m ≤ k → nat_le m (cond shallow (suc k) k) ≡ true
 le_both m k true h = le-leb m (suc k) (omega arith)
@@ -72,7 +73,7 @@ le_both m k false h = le-leb m k h
 
 module _ (read_key : Bool → List ℕ → Read (Flow × List ℕ)) (read_flow : ℕ → Bool → List ℕ → Read Flow) (read_block : ℕ → List ℕ → Read BlockScalar)
     (key_sound : (bol : Bool) (text : List ℕ) (r : (Flow × List ℕ) × List ℕ) → read_key bol text ≡ Some r → KeySound bol text r)
-    (key_read : (key : Flow) (gap : List ℕ) (bol : Bool) (rest : List ℕ) → canonical_flow key 0 block_key bol (gap ++ (58 ∷ rest)) ≡ true → every white gap ≡ true
+    (key_read : (key : Flow) (gap : List ℕ) (bol : Bool) (rest : List ℕ) → canonical_flow key 0 block_key bol (gap ++ (58 ∷ rest)) ≡ true → list_all white gap ≡ true
     → short_key key gap ≡ true → first ns rest ≡ false → read_key bol (flow_text key ++ (gap ++ (58 ∷ rest))) ≡ Some ((key, gap), rest))
     (flow_no_key : (f : Flow) (m : ℕ) (b b' : Bool) (comments : List LineEnd) (after : List ℕ) → canonical_flow f m outer b (comments_text comments ++ after) ≡ true
     → canonical_comments false comments after ≡ true → less_deep m after ≡ true → read_key b' (flow_text f ++ (comments_text comments ++ after)) ≡ None)
@@ -109,13 +110,13 @@ module _ (read_key : Bool → List ℕ → Read (Flow × List ℕ)) (read_flow :
     closed : (bol : Bool) → opens bol text ≡ false
 
   -- after white
-  lead_dash : (lead rest : List ℕ) → every white lead ≡ true → Leaf rest → sign 45 (past_spaces (lead ++ rest)) ≡ false
+  lead_dash : (lead rest : List ℕ) → list_all white lead ≡ true → Leaf rest → sign 45 (past_spaces (lead ++ rest)) ≡ false
   lead_dash lead rest w l = elim (lead_past lead rest w l.solid_first) [
     | inl e ↦ subst (λ (t : List ℕ). sign 45 t ≡ false) (sym e) l.no_dash
     | inr e ↦ unsolid_sign 45 (past_spaces (lead ++ rest)) refl e
   ]
 
-  lead_closed : (bol : Bool) (lead rest : List ℕ) → every white lead ≡ true → Leaf rest → opens bol (past_spaces (lead ++ rest)) ≡ false
+  lead_closed : (bol : Bool) (lead rest : List ℕ) → list_all white lead ≡ true → Leaf rest → opens bol (past_spaces (lead ++ rest)) ≡ false
   lead_closed bol lead rest w l = elim (lead_past lead rest w l.solid_first) [
     | inl e ↦ subst (λ (t : List ℕ). opens bol t ≡ false) (sym e) (l.closed bol)
     | inr e ↦ unsolid_closed bol (past_spaces (lead ++ rest)) e
@@ -129,25 +130,25 @@ module _ (read_key : Bool → List ℕ → Read (Flow × List ℕ)) (read_flow :
   leaf m bol sep text = leaf_after read_key read_flow read_block m bol sep text
 
   -- neither items nor pairs, where the lead is white before a leaf
-  leaf_lead : (fuel m : ℕ) (shallow bol : Bool) (comments : List LineEnd) (lead rest : List ℕ) → every white lead ≡ true → Leaf rest
+  leaf_lead : (fuel m : ℕ) (shallow bol : Bool) (comments : List LineEnd) (lead rest : List ℕ) → list_all white lead ≡ true → Leaf rest
       → after_with fuel m shallow bol (comments, lead ++ rest) ≡ leaf_at read_key read_flow read_block m bol (sep_at m bol comments lead) rest
   leaf_lead fuel m shallow bol comments lead rest w l =
       let s : ℕ = spaces_before (lead ++ rest) in
       let a : (bol || not (is_empty comments)) && sign 45 (past_spaces (lead ++ rest)) && nat_le m (cond shallow (suc s) s) ≡ false = and_left _ _ (and_right _ _ (lead_dash lead rest w l)) in
       let b : (bol || not (is_empty comments)) && nat_le m s && opens (s == 0) (past_spaces (lead ++ rest)) ≡ false = and_right _ _ (lead_closed (s == 0) lead rest w l) in
-      rw (a, b, taken_all white lead rest w (solid_not_white rest l.solid_first), dropped_all white lead rest w (solid_not_white rest l.solid_first))
+      rw (a, b, take_while_all white lead rest w (solid_not_white rest l.solid_first), drop_while_all white lead rest w (solid_not_white rest l.solid_first))
 
   node_leaf : (fuel m : ℕ) (shallow bol : Bool) (sep : Sep) (rest : List ℕ) → canonical_sep m false bol sep rest ≡ true → Leaf rest
       → after_with fuel m shallow bol (all_comments bol (sep_text sep ++ rest)) ≡ leaf m bol sep rest
   node_leaf fuel m shallow bol (inline blank) rest h l =
-      let p : (every white blank ≡ true) × (bol || not (is_empty blank) ≡ true) = and_parts _ _ h in
+      let p : (list_all white blank ≡ true) × (bol || not (is_empty blank) ≡ true) = and_parts _ _ h in
       ap (after_with fuel m shallow bol) (no_comments bol blank rest p.0 l.solid_first)
       ∙ (leaf_lead fuel m shallow bol [] blank rest p.0 l
       ∙ rw p.1 refl)
   node_leaf fuel m shallow bol (lines [] lead) rest h l = absurd (false≢true h)
   node_leaf fuel m shallow bol (lines (e ∷ es) lead) rest h l =
       let p : (canonical_comments bol (e ∷ es) (lead ++ rest) ≡ true) × (indents m lead ≡ true) = and_parts _ _ h in
-      let w : (every white lead ≡ true) × (begins (spaces m) lead ≡ true) = and_parts _ _ p.1 in
+      let w : (list_all white lead ≡ true) × (begins (spaces m) lead ≡ true) = and_parts _ _ p.1 in
       let regrouped : sep_text (lines (e ∷ es) lead) ++ rest ≡ comments_text (e ∷ es) ++ (lead ++ rest) = simp append_assoc in
       ap (λ t. after_with fuel m shallow bol (all_comments bol t)) regrouped
       ∙ (ap (after_with fuel m shallow bol) (comments_all bol (e ∷ es) (lead ++ rest) p.0)
@@ -163,7 +164,7 @@ module _ (read_key : Bool → List ℕ → Read (Flow × List ℕ)) (read_flow :
     apart : first ns text ≡ false
 
   lines_given : (k : ℕ) (shallow : Bool) (comments : List LineEnd) (rest : List ℕ) → canonical_comments false comments rest ≡ true → is_empty rest ≡ false
-      → ended (suc k) shallow rest ≡ false → Given k shallow (comments_text comments ++ rest)
+      → block_node_stops (suc k) shallow rest ≡ false → Given k shallow (comments_text comments ++ rest)
   lines_given k shallow [] rest h e n = absurd (false≢true (sym e ∙ (no_comments_parts false rest h).0))
   lines_given k shallow (c ∷ cs) rest h e n =
       let u : first solid (past_spaces (comments_text (c ∷ cs) ++ rest)) ≡ false = comments_unsolid false c cs rest h in
@@ -177,7 +178,7 @@ module _ (read_key : Bool → List ℕ → Read (Flow × List ℕ)) (read_flow :
   leaf_given : (k : ℕ) (shallow : Bool) (sep : Sep) (rest : List ℕ) → canonical_sep (suc k) false false sep rest ≡ true → Leaf rest → Given k shallow (sep_text sep ++ rest)
   leaf_given k shallow (inline []) rest h l = absurd (false≢true h)
   leaf_given k shallow (inline (c ∷ cs)) rest h l =
-      let p : (every white (c ∷ cs) ≡ true) × (true ≡ true) = and_parts _ _ h in
+      let p : (list_all white (c ∷ cs) ≡ true) × (true ≡ true) = and_parts _ _ h in
       record {
         no_dash = lead_dash (c ∷ cs) rest p.0 l;
         closed = lead_closed false (c ∷ cs) rest p.0 l;
@@ -187,20 +188,20 @@ module _ (read_key : Bool → List ℕ → Read (Flow × List ℕ)) (read_flow :
   leaf_given k shallow (lines [] lead) rest h l = absurd (false≢true h)
   leaf_given k shallow (lines (e ∷ es) lead) rest h l =
       let p : (canonical_comments false (e ∷ es) (lead ++ rest) ≡ true) × (indents (suc k) lead ≡ true) = and_parts _ _ h in
-      let w : (every white lead ≡ true) × (begins (spaces (suc k)) lead ≡ true) = and_parts _ _ p.1 in
+      let w : (list_all white lead ≡ true) × (begins (spaces (suc k)) lead ≡ true) = and_parts _ _ p.1 in
       let regrouped : sep_text (lines (e ∷ es) lead) ++ rest ≡ comments_text (e ∷ es) ++ (lead ++ rest) = simp append_assoc in
       subst (Given k shallow) (sym regrouped)
       (lines_given k shallow (e ∷ es) (lead ++ rest) p.0 (append_some lead rest l.solid_first)
       (deep_goes_on k shallow (lead ++ rest) (not_line_end lead rest w.0 l.solid_first) (le-leb (suc k) (spaces_before (lead ++ rest)) (lead_deep (suc k) lead rest w.1))))
 
   flow_leaf : (f : Flow) (m : ℕ) (b shallow : Bool) (comments : List LineEnd) (after : List ℕ) → canonical_flow f m outer b (comments_text comments ++ after) ≡ true
-      → canonical_comments false comments after ≡ true → ended m shallow after ≡ true → Leaf (flow_text f ++ (comments_text comments ++ after))
+      → canonical_comments false comments after ≡ true → block_node_stops m shallow after ≡ true → Leaf (flow_text f ++ (comments_text comments ++ after))
   flow_leaf f m b shallow comments after h c e =
       let o : Opens (flow_text f ++ (comments_text comments ++ after)) = (flow_opens f m outer b (comments_text comments ++ after) refl h).0 in
       record {
         solid_first = o.solid_first;
         no_dash = o.no_dash;
-        closed = λ bol. or_from _ _ o.no_ask (ap is_some (flow_no_key f m b bol comments after h c (ended_shallow m shallow after (fits_end false comments after c) e)));
+        closed = λ bol. or_from _ _ o.no_ask (ap is_some (flow_no_key f m b bol comments after h c (block_node_stops_shallow m shallow after (fits_end false comments after c) e)));
       }
 
   block_leaf : (b : BlockScalar) (after : List ℕ) → Leaf (block_text b ++ after)
@@ -255,7 +256,7 @@ module _ (read_key : Bool → List ℕ → Read (Flow × List ℕ)) (read_flow :
 
   -- ---- a node that is given
 
-  node_given : (n : Node) (k : ℕ) (shallow : Bool) (after : List ℕ) → canonical_node n (suc k) shallow false after ≡ true → ended (suc k) shallow after ≡ true → Given k shallow (node_text n ++ after)
+  node_given : (n : Node) (k : ℕ) (shallow : Bool) (after : List ℕ) → canonical_node n (suc k) shallow false after ≡ true → block_node_stops (suc k) shallow after ≡ true → Given k shallow (node_text n ++ after)
   node_given (block sep b) k shallow after h e =
       subst (Given k shallow) (sym (append_assoc (sep_text sep) (block_text b) after)) (leaf_given k shallow sep (block_text b ++ after) (and_parts _ _ h).0 (block_leaf b after))
   node_given (flow sep f comments) k shallow after h e =
@@ -339,7 +340,7 @@ module _ (read_key : Bool → List ℕ → Read (Flow × List ℕ)) (read_flow :
       let c : omits (suc k) shallow (all_comments false text) ≡ false = g.given in
       rw (a, b, c) refl
 
-  omitted_step : (fuel k : ℕ) (shallow : Bool) (comments : List LineEnd) (after : List ℕ) → canonical_comments false comments after ≡ true → ended (suc k) shallow after ≡ true
+  omitted_step : (fuel k : ℕ) (shallow : Bool) (comments : List LineEnd) (after : List ℕ) → canonical_comments false comments after ≡ true → block_node_stops (suc k) shallow after ≡ true
       → indented_at (suc fuel) k shallow (comments_text comments ++ after) ≡ Some (omitted comments, after)
   unfolding read_node
   omitted_step fuel k shallow comments after h e =
@@ -351,7 +352,7 @@ module _ (read_key : Bool → List ℕ → Read (Flow × List ℕ)) (read_flow :
       rw (a, b, comments_all false comments after h, o) refl
 
   -- the next line has a pair
-  pairs_go : (k : ℕ) (rest : List ℕ) → Start (k == 0) rest → (spaces_before (spaces k ++ rest) == k) && not (ended k false (spaces k ++ rest)) ≡ true
+  pairs_go : (k : ℕ) (rest : List ℕ) → Start (k == 0) rest → (spaces_before (spaces k ++ rest) == k) && not (block_node_stops k false (spaces k ++ rest)) ≡ true
   pairs_go k rest s =
       and_from _ _ (eq-eqb (spaces_before (spaces k ++ rest)) k (spaces_counted k rest (solid_space rest s.prefix.solid_first)))
       (not_from_false _ (not_ended k k false rest s.prefix.solid_first (λ e. s.prefix.unmarked (eq-eqb k 0 e)) (and_left _ _ (le-ltb k k (omega arith)))))
@@ -362,7 +363,7 @@ module _ (read_key : Bool → List ℕ → Read (Flow × List ℕ)) (read_flow :
     unfolding read_node node_size
 
     -- a node that fits is read whole, given levels enough
-    pub node_read : (n : Node) (fuel m : ℕ) (shallow bol : Bool) (after : List ℕ) → node_size n ≤ fuel → canonical_node n m shallow bol after ≡ true → ended m shallow after ≡ true
+    pub node_read : (n : Node) (fuel m : ℕ) (shallow bol : Bool) (after : List ℕ) → node_size n ≤ fuel → canonical_node n m shallow bol after ≡ true → block_node_stops m shallow after ≡ true
         → node_at fuel m shallow bol (node_text n ++ after) ≡ Some (n, after)
     node_read (block sep b) zero m shallow bol after z h e = absurd (omega arith)
     node_read (flow sep f comments) zero m shallow bol after z h e = absurd (omega arith)
@@ -381,7 +382,7 @@ module _ (read_key : Bool → List ℕ → Read (Flow × List ℕ)) (read_flow :
         let rest : List ℕ = flow_text f ++ more in
         let p : (canonical_sep m false bol sep rest && canonical_flow f m outer (starts_line bol (sep_text sep)) more ≡ true) × (canonical_comments false comments after ≡ true) = and_parts _ _ h in
         let q : (canonical_sep m false bol sep rest ≡ true) × (canonical_flow f m outer (starts_line bol (sep_text sep)) more ≡ true) = and_parts _ _ p.0 in
-        let s : less_deep m after ≡ true = ended_shallow m shallow after (fits_end false comments after p.1) e in
+        let s : less_deep m after ≡ true = block_node_stops_shallow m shallow after (fits_end false comments after p.1) e in
         let b : first bar rest ≡ false = (flow_opens f m outer (starts_line bol (sep_text sep)) more refl q.1).1 in
         let c : (not (is_empty comments) || is_empty after) && not (is_line_end after) ≡ true = closes comments after p.1 in
         let regrouped : node_text (flow sep f comments) ++ after ≡ sep_text sep ++ rest = simp append_assoc in
@@ -400,7 +401,7 @@ module _ (read_key : Bool → List ℕ → Read (Flow × List ℕ)) (read_flow :
         ap (node_at (suc fuel) m shallow bol) regrouped
         ∙ (ap (after_with fuel m shallow bol) (comments_all bol comments (spaces k ++ rest) q.0)
         ∙ (after_items fuel m k shallow bol comments rest (at_line bol comments (spaces k ++ rest) q.0 (solid_some k rest (dash_solid rest s))) s q.1
-        ∙ ap (λ r. on r (λ is' rest'. Some (items comments k is', rest'))) (items_read is fuel k after (omega arith) p.1 (ended_items m k shallow after q.1 e))))
+        ∙ ap (λ r. on r (λ is' rest'. Some (items comments k is', rest'))) (items_read is fuel k after (omega arith) p.1 (block_node_stops_items m k shallow after q.1 e))))
     node_read (pairs comments k ps) (suc fuel) m shallow bol after z h e =
         let rest : List ℕ = pairs_text ps k ++ after in
         let p : (canonical_comments bol comments (spaces k ++ rest) && nat_le m k ≡ true) × (canonical_pairs ps k (k == 0) after ≡ true) = and_parts _ _ h in
@@ -410,16 +411,16 @@ module _ (read_key : Bool → List ℕ → Read (Flow × List ℕ)) (read_flow :
         ap (node_at (suc fuel) m shallow bol) regrouped
         ∙ (ap (after_with fuel m shallow bol) (comments_all bol comments (spaces k ++ rest) q.0)
         ∙ (after_pairs fuel m k shallow bol comments rest (at_line bol comments (spaces k ++ rest) q.0 (solid_some k rest s.prefix.solid_first)) s q.1
-        ∙ ap (λ r. on r (λ ps' rest'. Some (pairs comments k ps', rest'))) (pairs_read ps fuel k (k == 0) after (omega arith) p.1 (ended_pairs m k shallow after q.1 e))))
+        ∙ ap (λ r. on r (λ ps' rest'. Some (pairs comments k ps', rest'))) (pairs_read ps fuel k (k == 0) after (omega arith) p.1 (block_node_stops_pairs m k shallow after q.1 e))))
 
-    items_read : (is : Items) (fuel k : ℕ) (after : List ℕ) → items_size is ≤ fuel → canonical_items is k after ≡ true → ended (suc k) true after ≡ true
+    items_read : (is : Items) (fuel k : ℕ) (after : List ℕ) → items_size is ≤ fuel → canonical_items is k after ≡ true → block_node_stops (suc k) true after ≡ true
         → items_at fuel k (items_text is k ++ after) ≡ Some (is, after)
     items_read (item i) zero k after z h e = absurd (omega arith)
     items_read (item_and i is) zero k after z h e = absurd (omega arith)
     items_read (item i) (suc fuel) k after z h e =
         let p : (not (first ns (indented_text i k ++ after)) ≡ true) × (canonical_indented i k false after ≡ true) = and_parts _ _ h in
         rw p.0 refl
-        ∙ (ap (λ r. on r (λ i' rest'. more_items k (λ t. items_at fuel k t) i' rest')) (indented_read i fuel k false after (omega arith) p.1 (ended_last k after e))
+        ∙ (ap (λ r. on r (λ i' rest'. more_items k (λ t. items_at fuel k t) i' rest')) (indented_read i fuel k false after (omega arith) p.1 (block_node_stops_last k after e))
         ∙ rw (items_stop k after e) refl)
     items_read (item_and i is) (suc fuel) k after z h e =
         let next : List ℕ = items_text is k ++ after in
@@ -431,17 +432,17 @@ module _ (read_key : Bool → List ℕ → Read (Flow × List ℕ)) (read_flow :
         let regrouped : items_text (item_and i is) k ++ after ≡ 45 ∷ (indented_text i k ++ rest) = simp append_assoc in
         ap (items_at (suc fuel) k) regrouped
         ∙ (rw q.0 refl
-        ∙ (ap (λ r. on r (λ i' rest'. more_items k (λ t. items_at fuel k t) i' rest')) (indented_read i fuel k false rest (omega arith) q.1 (ended_at k false next f refl))
+        ∙ (ap (λ r. on r (λ i' rest'. more_items k (λ t. items_at fuel k t) i' rest')) (indented_read i fuel k false rest (omega arith) q.1 (block_node_stops_at k false next f refl))
         ∙ (rw (spaces_counted k next f, spaces_passed k next f, eq-eqb k k refl, s) refl
         ∙ ap (λ r. on r (λ is' rest'. Some (item_and i is', rest'))) (items_read is fuel k after (omega arith) p.1 e))))
 
-    pairs_read : (ps : Pairs) (fuel k : ℕ) (bol : Bool) (after : List ℕ) → pairs_size ps ≤ fuel → canonical_pairs ps k bol after ≡ true → ended k false after ≡ true
+    pairs_read : (ps : Pairs) (fuel k : ℕ) (bol : Bool) (after : List ℕ) → pairs_size ps ≤ fuel → canonical_pairs ps k bol after ≡ true → block_node_stops k false after ≡ true
         → pairs_at fuel k bol (pairs_text ps k ++ after) ≡ Some (ps, after)
     pairs_read (pair p) zero k bol after z h e = absurd (omega arith)
     pairs_read (pair_and p ps) zero k bol after z h e = absurd (omega arith)
     pairs_read (pair p) (suc fuel) k bol after z h e =
-        let stop : (spaces_before after == k) && not (ended k false after) ≡ false = and_right _ _ (not_from_true _ e) in
-        ap (λ r. on r (λ p' rest'. more_pairs k (λ t. pairs_at fuel k (k == 0) t) p' rest')) (pair_read p fuel k bol after (omega arith) h (ended_value k after e) (colon_stop k after e))
+        let stop : (spaces_before after == k) && not (block_node_stops k false after) ≡ false = and_right _ _ (not_from_true _ e) in
+        ap (λ r. on r (λ p' rest'. more_pairs k (λ t. pairs_at fuel k (k == 0) t) p' rest')) (pair_read p fuel k bol after (omega arith) h (block_node_stops_value k after e) (colon_stop k after e))
         ∙ rw stop refl
     pairs_read (pair_and p ps) (suc fuel) k bol after z h e =
         let next : List ℕ = pairs_text ps k ++ after in
@@ -450,14 +451,14 @@ module _ (read_key : Bool → List ℕ → Read (Flow × List ℕ)) (read_flow :
         let s : Start (k == 0) next = pairs_start ps k (k == 0) after q.1 in
         let f : first space next ≡ false = solid_space next s.prefix.solid_first in
         let colon : (spaces_before rest == k) && sign 58 (past_spaces rest) ≡ false = and_right _ _ (subst (λ (t : List ℕ). sign 58 t ≡ false) (sym (spaces_passed k next f)) s.prefix.no_colon) in
-        let go : (spaces_before rest == k) && not (ended k false rest) ≡ true = pairs_go k next s in
+        let go : (spaces_before rest == k) && not (block_node_stops k false rest) ≡ true = pairs_go k next s in
         let regrouped : pairs_text (pair_and p ps) k ++ after ≡ pair_text p k ++ rest = simp append_assoc in
         ap (pairs_at (suc fuel) k bol) regrouped
-        ∙ (ap (λ r. on r (λ p' rest'. more_pairs k (λ t. pairs_at fuel k (k == 0) t) p' rest')) (pair_read p fuel k bol rest (omega arith) q.0 (ended_at k true next f s.prefix.no_dash) colon)
+        ∙ (ap (λ r. on r (λ p' rest'. more_pairs k (λ t. pairs_at fuel k (k == 0) t) p' rest')) (pair_read p fuel k bol rest (omega arith) q.0 (block_node_stops_at k true next f s.prefix.no_dash) colon)
         ∙ (rw go (rw (spaces_passed k next f) refl)
         ∙ ap (λ r. on r (λ ps' rest'. Some (pair_and p ps', rest'))) (pairs_read ps fuel k (k == 0) after (omega arith) q.1 e)))
 
-    pair_read : (p : Pair) (fuel k : ℕ) (bol : Bool) (after : List ℕ) → pair_size p ≤ fuel → canonical_pair p k bol after ≡ true → ended (suc k) true after ≡ true
+    pair_read : (p : Pair) (fuel k : ℕ) (bol : Bool) (after : List ℕ) → pair_size p ≤ fuel → canonical_pair p k bol after ≡ true → block_node_stops (suc k) true after ≡ true
         → (spaces_before after == k) && sign 58 (past_spaces after) ≡ false → pair_at fuel k bol (pair_text p k ++ after) ≡ Some (p, after)
     pair_read (asked key value) zero k bol after z h e c = absurd (omega arith)
     pair_read (asked_alone key) zero k bol after z h e c = absurd (omega arith)
@@ -473,7 +474,7 @@ module _ (read_key : Bool → List ℕ → Read (Flow × List ℕ)) (read_flow :
         let regrouped : pair_text (asked key value) k ++ after ≡ 63 ∷ (indented_text key k ++ rest) = simp append_assoc in
         ap (pair_at (suc fuel) k bol) regrouped
         ∙ (rw r.0 refl
-        ∙ (ap (λ x. on x (λ key' rest'. asked_key k (λ t. indented_at fuel k true t) key' rest')) (indented_read key fuel k true rest (omega arith) q.1 (ended_at k true (58 ∷ last) refl refl))
+        ∙ (ap (λ x. on x (λ key' rest'. asked_key k (λ t. indented_at fuel k true t) key' rest')) (indented_read key fuel k true rest (omega arith) q.1 (block_node_stops_at k true (58 ∷ last) refl refl))
         ∙ (rw (not-true _ r.1, spaces_counted k (58 ∷ last) refl, spaces_passed k (58 ∷ last) refl, eq-eqb k k refl, a) refl
         ∙ ap (λ x. on x (λ value' rest'. Some (asked key value', rest'))) (indented_read value fuel k true after (omega arith) p.1 e))))
     pair_read (asked_alone key) (suc fuel) k bol after z h e c =
@@ -506,7 +507,7 @@ module _ (read_key : Bool → List ℕ → Read (Flow × List ℕ)) (read_flow :
         ∙ (ap (key_value k (λ t. node_at fuel (suc k) true false t) (key, gap) rest) (comments_all false comments after p.1)
         ∙ rw o refl)))
 
-    indented_read : (i : Indented) (fuel k : ℕ) (shallow : Bool) (after : List ℕ) → indented_size i ≤ fuel → canonical_indented i k shallow after ≡ true → ended (suc k) shallow after ≡ true
+    indented_read : (i : Indented) (fuel k : ℕ) (shallow : Bool) (after : List ℕ) → indented_size i ≤ fuel → canonical_indented i k shallow after ≡ true → block_node_stops (suc k) shallow after ≡ true
         → indented_at fuel k shallow (indented_text i k ++ after) ≡ Some (i, after)
     indented_read (compact_items m is) zero k shallow after z h e = absurd (omega arith)
     indented_read (compact_pairs m ps) zero k shallow after z h e = absurd (omega arith)
@@ -519,7 +520,7 @@ module _ (read_key : Bool → List ℕ → Read (Flow × List ℕ)) (read_flow :
         ap (indented_at (suc fuel) k shallow) (append_assoc (spaces m) (items_text is (k + 1 + m)) after)
         ∙ (compact_items_step fuel k m shallow rest p.0 (items_start is (k + 1 + m) after p.1)
         ∙ ap (λ r. on r (λ is' rest'. Some (compact_items m is', rest')))
-        (items_read is fuel (k + 1 + m) after (omega arith) p.1 (ended_items (suc k) (k + 1 + m) shallow after (le_both (suc k) (k + 1 + m) shallow l) e)))
+        (items_read is fuel (k + 1 + m) after (omega arith) p.1 (block_node_stops_items (suc k) (k + 1 + m) shallow after (le_both (suc k) (k + 1 + m) shallow l) e)))
     indented_read (compact_pairs m ps) (suc fuel) k shallow after z h e =
         let rest : List ℕ = pairs_text ps (k + 1 + m) ++ after in
         let p : (nat_le 1 m ≡ true) × (canonical_pairs ps (k + 1 + m) false after ≡ true) = and_parts _ _ h in
@@ -527,7 +528,7 @@ module _ (read_key : Bool → List ℕ → Read (Flow × List ℕ)) (read_flow :
         ap (indented_at (suc fuel) k shallow) (append_assoc (spaces m) (pairs_text ps (k + 1 + m)) after)
         ∙ (compact_pairs_step fuel k m shallow rest p.0 (pairs_start ps (k + 1 + m) false after p.1)
         ∙ ap (λ r. on r (λ ps' rest'. Some (compact_pairs m ps', rest')))
-        (pairs_read ps fuel (k + 1 + m) false after (omega arith) p.1 (ended_pairs (suc k) (k + 1 + m) shallow after (le-leb (suc k) (k + 1 + m) l) e)))
+        (pairs_read ps fuel (k + 1 + m) false after (omega arith) p.1 (block_node_stops_pairs (suc k) (k + 1 + m) shallow after (le-leb (suc k) (k + 1 + m) l) e)))
     indented_read (node n) (suc fuel) k shallow after z h e =
         given_step fuel k shallow (node_text n ++ after) (node_given n k shallow after h e)
         ∙ ap (λ r. on r (λ n' rest'. Some (node n', rest'))) (node_read n fuel (suc k) shallow false after (omega arith) h e)

@@ -10,7 +10,7 @@ use Rattle.yaml_grammar.specs.Separation.{LineEnd, comments_text}
 use Rattle.yaml_grammar.specs.Texts.{is_empty, spaces}
 use Rattle.yaml_recognizers.specs.BlockNodes.{asked_key, deep_indented, deep_items, deep_node, deep_pair, deep_pairs, indented_node, key_value, more_items, more_pairs, node_below, omits, opens_pair, read_indented, read_items, read_node, read_pair, read_pairs}
 use Rattle.yaml_recognizers.specs.Comments.{all_comments}
-use Rattle.yaml_recognizers.specs.Ends.{ended}
+use Rattle.yaml_recognizers.specs.Ends.{block_node_stops}
 use Rattle.yaml_recognizers.specs.Prefixes.{past, sign}
 use Rattle.yaml_recognizers.specs.Reading.{Read, on}
 use Rattle.yaml_recognizers.proofs.Block.BlockNodesBegin.{pair_long}
@@ -63,7 +63,7 @@ pairs_alike most k text p p' again again' l s v s' =
     ∙ on_same (p' text) _ _ (λ a rest q.
     let r : suc (length rest) ≤ length text = v a rest q in
     let t : length (past_spaces rest) ≤ length rest = spaces_left rest in
-    cond_same ((spaces_before rest == k) && not (ended k false rest)) _ _ _ _ (λ _. ap (λ x. on x (λ ps rest'. Some (pair_and a ps, rest'))) (s' (past_spaces rest) (omega arith))) (λ _. refl))
+    cond_same ((spaces_before rest == k) && not (block_node_stops k false rest)) _ _ _ _ (λ _. ap (λ x. on x (λ ps rest'. Some (pair_and a ps, rest'))) (s' (past_spaces rest) (omega arith))) (λ _. refl))
 
 module _ (read_key : Bool → List ℕ → Read (Flow × List ℕ)) (read_flow : ℕ → Bool → List ℕ → Read Flow) (read_block : ℕ → List ℕ → Read BlockScalar)
     (key_sound : (bol : Bool) (text : List ℕ) → Sound (KeyOf bol text) (read_key bol text))
@@ -249,7 +249,7 @@ module _ (read_key : Bool → List ℕ → Read (Flow × List ℕ)) (read_flow :
       ∙ on_same (pair_in k bol text) _ _ (λ p rest q.
       let r : suc (length rest) ≤ length text = pair_left (4 * length text + 2) k bol text p rest q in
       let t : length (past_spaces rest) ≤ length rest = spaces_left rest in
-      cond_same ((spaces_before rest == k) && not (ended k false rest)) _ _ _ _
+      cond_same ((spaces_before rest == k) && not (block_node_stops k false rest)) _ _ _ _
       (λ _. ap (λ x. on x (λ ps rest'. Some (pair_and p ps, rest'))) (pairs_same (4 * length text + 2) (4 * length (past_spaces rest) + 3) k (k == 0) (past_spaces rest) (omega arith) (omega arith)))
       (λ _. refl))
 

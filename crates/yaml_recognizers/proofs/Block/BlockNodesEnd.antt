@@ -6,7 +6,7 @@ use Rattle.yaml_chars.specs.Classes.{space}
 use Rattle.yaml_grammar.specs.BlockScalars.{past_spaces, spaces_before}
 use Rattle.yaml_grammar.specs.Texts.{first, is_empty, marker, spaces}
 use Rattle.yaml_recognizers.specs.CanonicalComments.{is_line_end}
-use Rattle.yaml_recognizers.specs.Ends.{ended, solid}
+use Rattle.yaml_recognizers.specs.Ends.{block_node_stops, solid}
 use Rattle.yaml_recognizers.specs.Prefixes.{sign}
 use Rattle.yaml_recognizers.proofs.Separation.CommentsComplete.{not_line_end}
 use Rattle.yaml_recognizers.proofs.Basics.Prefixes.{every_space, spaces_counted, spaces_passed, spaces_split}
@@ -22,10 +22,10 @@ or_mono : (x y z : Bool) → (y ≡ true → z ≡ true) → x || y ≡ true →
 or_mono true y z f h = refl
 or_mono false y z f h = f h
 
-ended_mono : (m m' : ℕ) (shallow dash' : Bool) (text : List ℕ)
+block_node_stops_mono : (m m' : ℕ) (shallow dash' : Bool) (text : List ℕ)
     → (less (spaces_before text) m shallow (sign 45 (past_spaces text)) ≡ true → less (spaces_before text) m' dash' (sign 45 (past_spaces text)) ≡ true)
-    → ended m shallow text ≡ true → ended m' dash' text ≡ true
-ended_mono m m' shallow dash' text f h = or_mono _ _ _ f h
+    → block_node_stops m shallow text ≡ true → block_node_stops m' dash' text ≡ true
+block_node_stops_mono m m' shallow dash' text f h = or_mono _ _ _ f h
 
 less_items : (s m k : ℕ) (shallow d : Bool) → nat_le m (cond shallow (suc k) k) ≡ true → less s m shallow d ≡ true → less s (suc k) true d ≡ true
 less_items s m k false d g h =
@@ -43,12 +43,12 @@ less_items s m k true d g h =
     ])
 
 -- what ends a node ends the items in it
-pub ended_items : (m k : ℕ) (shallow : Bool) (text : List ℕ) → nat_le m (cond shallow (suc k) k) ≡ true → ended m shallow text ≡ true → ended (suc k) true text ≡ true
-ended_items m k shallow text g h = ended_mono m (suc k) shallow true text (less_items _ m k shallow _ g) h
+pub block_node_stops_items : (m k : ℕ) (shallow : Bool) (text : List ℕ) → nat_le m (cond shallow (suc k) k) ≡ true → block_node_stops m shallow text ≡ true → block_node_stops (suc k) true text ≡ true
+block_node_stops_items m k shallow text g h = block_node_stops_mono m (suc k) shallow true text (less_items _ m k shallow _ g) h
 
 -- what ends a node that may be as deep as its parent ends one that may not
-pub ended_last : (k : ℕ) (text : List ℕ) → ended (suc k) true text ≡ true → ended (suc k) false text ≡ true
-ended_last k text h = ended_mono (suc k) (suc k) true false text (λ l. and_from _ _ (and_parts _ _ l).0 refl) h
+pub block_node_stops_last : (k : ℕ) (text : List ℕ) → block_node_stops (suc k) true text ≡ true → block_node_stops (suc k) false text ≡ true
+block_node_stops_last k text h = block_node_stops_mono (suc k) (suc k) true false text (λ l. and_from _ _ (and_parts _ _ l).0 refl) h
 
 less_pairs : (s m k : ℕ) (shallow d : Bool) → nat_le m k ≡ true → less s m shallow d ≡ true → less s k false d ≡ true
 less_pairs s m k shallow d g h =
@@ -57,8 +57,8 @@ less_pairs s m k shallow d g h =
     and_from _ _ (lt-ltb s k (omega arith)) refl
 
 -- what ends a node ends the pairs in it
-pub ended_pairs : (m k : ℕ) (shallow : Bool) (text : List ℕ) → nat_le m k ≡ true → ended m shallow text ≡ true → ended k false text ≡ true
-ended_pairs m k shallow text g h = ended_mono m k shallow false text (less_pairs _ m k shallow _ g) h
+pub block_node_stops_pairs : (m k : ℕ) (shallow : Bool) (text : List ℕ) → nat_le m k ≡ true → block_node_stops m shallow text ≡ true → block_node_stops k false text ≡ true
+block_node_stops_pairs m k shallow text g h = block_node_stops_mono m k shallow false text (less_pairs _ m k shallow _ g) h
 
 less_value : (s k : ℕ) (d : Bool) → less s k false d ≡ true → less s (suc k) true d ≡ true
 less_value s k d h =
@@ -66,12 +66,12 @@ less_value s k d h =
     and_from _ _ (lt-ltb s (suc k) (omega arith)) (not_from_false _ (and_left _ _ (lt-leb (suc k) (suc s) (omega arith))))
 
 -- what ends a value ends a node that may be as deep as its parent
-pub ended_value : (k : ℕ) (text : List ℕ) → ended k false text ≡ true → ended (suc k) true text ≡ true
-ended_value k text h = ended_mono k (suc k) false true text (less_value _ k _) h
+pub block_node_stops_value : (k : ℕ) (text : List ℕ) → block_node_stops k false text ≡ true → block_node_stops (suc k) true text ≡ true
+block_node_stops_value k text h = block_node_stops_mono k (suc k) false true text (less_value _ k _) h
 
 -- a line at k ends what is deeper
-pub ended_at : (k : ℕ) (shallow : Bool) (rest : List ℕ) → first space rest ≡ false → shallow && sign 45 rest ≡ false → ended (suc k) shallow (spaces k ++ rest) ≡ true
-ended_at k shallow rest f d =
+pub block_node_stops_at : (k : ℕ) (shallow : Bool) (rest : List ℕ) → first space rest ≡ false → shallow && sign 45 rest ≡ false → block_node_stops (suc k) shallow (spaces k ++ rest) ≡ true
+block_node_stops_at k shallow rest f d =
     or_right _ _ (and_from _ _ (rw (spaces_counted k rest f) (lt-ltb k (suc k) (omega arith)))
     (not_from_false _ (rw (spaces_passed k rest f) (both_off shallow _ (sign 45 rest) d))))
   where
@@ -89,7 +89,7 @@ start_alone (suc s) rest h m = or_from _ _ (marker_first 32 (spaces s ++ rest) r
 
 -- a line with something solid, deep enough, ends no node
 pub not_ended : (s m : ℕ) (shallow : Bool) (rest : List ℕ) → first solid rest ≡ true → (s ≡ 0 → marker rest ≡ false) → less s m shallow (sign 45 rest) ≡ false
-    → ended m shallow (spaces s ++ rest) ≡ false
+    → block_node_stops m shallow (spaces s ++ rest) ≡ false
 not_ended s m shallow rest h k l =
     let f : first space rest ≡ false = solid_space rest h in
     or_from _ _ (start_alone s rest h k) (rw (spaces_counted s rest f, spaces_passed s rest f) l)
@@ -99,12 +99,12 @@ not_less_dash k j false h = let l : suc k ≤ j = leb-true (suc k) j h in and_le
 not_less_dash k j true h = and_right _ _ (not_from_true _ (and_from _ _ h refl))
 
 -- a `-` that is deep enough ends no node
-pub dash_goes_on : (k j : ℕ) (shallow : Bool) (rest : List ℕ) → sign 45 rest ≡ true → nat_le (suc k) (cond shallow (suc j) j) ≡ true → ended (suc k) shallow (spaces j ++ rest) ≡ false
+pub dash_goes_on : (k j : ℕ) (shallow : Bool) (rest : List ℕ) → sign 45 rest ≡ true → nat_le (suc k) (cond shallow (suc j) j) ≡ true → block_node_stops (suc k) shallow (spaces j ++ rest) ≡ false
 dash_goes_on k j shallow rest h l =
     not_ended j (suc k) shallow rest (dash_solid rest h) (λ _. dash_unmarked rest h) (subst (λ (b : Bool). less j (suc k) shallow b ≡ false) (sym h) (not_less_dash k j shallow l))
 
 -- a line that is deep enough ends no node
-pub deep_goes_on : (k : ℕ) (shallow : Bool) (text : List ℕ) → is_line_end text ≡ false → nat_le (suc k) (spaces_before text) ≡ true → ended (suc k) shallow text ≡ false
+pub deep_goes_on : (k : ℕ) (shallow : Bool) (text : List ℕ) → is_line_end text ≡ false → nat_le (suc k) (spaces_before text) ≡ true → block_node_stops (suc k) shallow text ≡ false
 deep_goes_on k shallow [] e h = let l : suc k ≤ 0 = leb-true (suc k) 0 h in absurd (omega arith)
 deep_goes_on k shallow (c ∷ cs) e h = elim (cases_Bool (c == 32)) [
   | inl i ↦ (let j : c ≡ 32 = eqb-true c 32 i in
@@ -119,9 +119,9 @@ or_falls : (x y : Bool) → x ≡ false → x || y ≡ true → y ≡ true
 or_falls x y e h = subst (λ (b : Bool). b || y ≡ true) e h
 
 -- before a sign an end is a line less deep
-ended_less : (m : ℕ) (shallow : Bool) (text : List ℕ) → first solid (past_spaces text) ≡ true → marker (past_spaces text) ≡ false → ended m shallow text ≡ true
+block_node_stops_less : (m : ℕ) (shallow : Bool) (text : List ℕ) → first solid (past_spaces text) ≡ true → marker (past_spaces text) ≡ false → block_node_stops m shallow text ≡ true
     → less (spaces_before text) m shallow (sign 45 (past_spaces text)) ≡ true
-ended_less m shallow text s u h =
+block_node_stops_less m shallow text s u h =
     or_falls _ _ (subst (λ (t : List ℕ). is_empty t || marker t || is_line_end t ≡ false) (sym (spaces_split text)) (start_alone (spaces_before text) (past_spaces text) s (λ _. u))) h
 
 unless : (x y : Bool) → (x ≡ true → y ≡ true → ⊥) → x && y ≡ false
@@ -130,24 +130,24 @@ unless true false f = refl
 unless false y f = refl
 
 -- what ends a node is no further item
-pub items_stop : (k : ℕ) (text : List ℕ) → ended (suc k) true text ≡ true → (spaces_before text == k) && sign 45 (past_spaces text) ≡ false
+pub items_stop : (k : ℕ) (text : List ℕ) → block_node_stops (suc k) true text ≡ true → (spaces_before text == k) && sign 45 (past_spaces text) ≡ false
 items_stop k text h = unless (spaces_before text == k) (sign 45 (past_spaces text)) (λ e s.
     let more : Bool = nat_le (suc k) (suc (spaces_before text)) && sign 45 (past_spaces text) in
-    let l : (nat_lt (spaces_before text) (suc k) ≡ true) × (not more ≡ true) = and_parts _ _ (ended_less (suc k) true text (dash_solid (past_spaces text) s) (dash_unmarked (past_spaces text) s) h) in
+    let l : (nat_lt (spaces_before text) (suc k) ≡ true) × (not more ≡ true) = and_parts _ _ (block_node_stops_less (suc k) true text (dash_solid (past_spaces text) s) (dash_unmarked (past_spaces text) s) h) in
     let i : spaces_before text ≡ k = eqb-true (spaces_before text) k e in
     false≢true (sym (not_from_true more (and_from _ _ (le-leb (suc k) (suc (spaces_before text)) (omega arith)) s)) ∙ l.1))
 
 -- nor the `:` of a value
-pub colon_stop : (k : ℕ) (text : List ℕ) → ended k false text ≡ true → (spaces_before text == k) && sign 58 (past_spaces text) ≡ false
+pub colon_stop : (k : ℕ) (text : List ℕ) → block_node_stops k false text ≡ true → (spaces_before text == k) && sign 58 (past_spaces text) ≡ false
 colon_stop k text h = unless (spaces_before text == k) (sign 58 (past_spaces text)) (λ e s.
-    let l : (nat_lt (spaces_before text) k ≡ true) × (true ≡ true) = and_parts _ _ (ended_less k false text (sign_solid 58 (past_spaces text) refl s) (colon_unmarked (past_spaces text) s) h) in
+    let l : (nat_lt (spaces_before text) k ≡ true) × (true ≡ true) = and_parts _ _ (block_node_stops_less k false text (sign_solid 58 (past_spaces text) refl s) (colon_unmarked (past_spaces text) s) h) in
     let i : spaces_before text ≡ k = eqb-true (spaces_before text) k e in
     let j : spaces_before text < k = ltb-true (spaces_before text) k l.0 in
     absurd (omega arith))
 
 -- what ends a node is less deep, a marker or the end
-pub ended_shallow : (m : ℕ) (shallow : Bool) (text : List ℕ) → is_line_end text ≡ false → ended m shallow text ≡ true → is_empty text || marker text || nat_lt (spaces_before text) m ≡ true
-ended_shallow m shallow text e h = elim (or_cases (is_empty text || marker text || is_line_end text) _ h) [
+pub block_node_stops_shallow : (m : ℕ) (shallow : Bool) (text : List ℕ) → is_line_end text ≡ false → block_node_stops m shallow text ≡ true → is_empty text || marker text || nat_lt (spaces_before text) m ≡ true
+block_node_stops_shallow m shallow text e h = elim (or_cases (is_empty text || marker text || is_line_end text) _ h) [
   | inl a ↦ elim (or_cases (is_empty text || marker text) _ a) [ inl b ↦ or_left _ _ b | inr b ↦ absurd (false≢true (sym e ∙ b)) ]
   | inr a ↦ (let l : (nat_lt (spaces_before text) m ≡ true) × (not (shallow && nat_le m (suc (spaces_before text)) && sign 45 (past_spaces text)) ≡ true) = and_parts _ _ a in or_right (is_empty text || marker text) (nat_lt (spaces_before text) m) l.0)
 ]

@@ -10,7 +10,8 @@ use Rattle.yaml_grammar.specs.BlockScalars.{BlockScalar, block_fits, block_text}
 use Rattle.yaml_grammar.specs.FlowNodes.{flow_fits, flow_text, short_key}
 use Rattle.yaml_grammar.specs.FlowScalars.{block_key, outer}
 use Rattle.yaml_grammar.specs.Separation.{LineEnd, comments_fit, comments_text, sep_fits, sep_text}
-use Rattle.yaml_grammar.specs.Texts.{every, first, spaces, starts_line}
+use Rattle.std.specs.List.{list_all}
+use Rattle.yaml_grammar.specs.Texts.{first, spaces, starts_line}
 use Rattle.yaml_recognizers.specs.CanonicalBlockNodes.{canonical_indented, canonical_items, canonical_node, canonical_pair, canonical_pairs}
 use Rattle.yaml_recognizers.specs.CanonicalComments.{is_line_end}
 use Rattle.yaml_recognizers.specs.CanonicalFlowNodes.{canonical_flow}
@@ -308,16 +309,16 @@ mutual
       rw (indented_before key k ls after, omitted_same key ls) (and_from _ _ p.0 (indented_form_fits key k true ls after p.1 l t))
   pair_form_fits (keyed key gap value) k bol ls after h l t =
       let rest : List ℕ = gap ++ (58 ∷ (node_text value ++ (comments_text ls ++ after))) in
-      let p : (flow_fits key 0 block_key bol rest && every white gap && short_key key gap ≡ true) × (node_fits value (suc k) true false (comments_text ls ++ after) ≡ true) = and_parts _ _ h in
-      let q : (flow_fits key 0 block_key bol rest && every white gap ≡ true) × (short_key key gap ≡ true) = and_parts _ _ p.0 in
-      let r : (flow_fits key 0 block_key bol rest ≡ true) × (every white gap ≡ true) = and_parts _ _ q.0 in
+      let p : (flow_fits key 0 block_key bol rest && list_all white gap && short_key key gap ≡ true) × (node_fits value (suc k) true false (comments_text ls ++ after) ≡ true) = and_parts _ _ h in
+      let q : (flow_fits key 0 block_key bol rest && list_all white gap ≡ true) × (short_key key gap ≡ true) = and_parts _ _ p.0 in
+      let r : (flow_fits key 0 block_key bol rest ≡ true) × (list_all white gap ≡ true) = and_parts _ _ q.0 in
       rw (node_before value ls after, flow_form_text key)
       (and_from _ _ (and_from _ _ (and_from _ _ (flow_form_fits key 0 block_key bol rest r.0) r.1) q.1) (node_form_fits value (suc k) true false ls after p.1 l t))
   pair_form_fits (keyed_alone key gap comments) k bol ls after h l t =
       let rest : List ℕ = gap ++ (58 ∷ (comments_text comments ++ (comments_text ls ++ after))) in
-      let p : (flow_fits key 0 block_key bol rest && every white gap && short_key key gap ≡ true) × (comments_fit false comments (comments_text ls ++ after) ≡ true) = and_parts _ _ h in
-      let q : (flow_fits key 0 block_key bol rest && every white gap ≡ true) × (short_key key gap ≡ true) = and_parts _ _ p.0 in
-      let r : (flow_fits key 0 block_key bol rest ≡ true) × (every white gap ≡ true) = and_parts _ _ q.0 in
+      let p : (flow_fits key 0 block_key bol rest && list_all white gap && short_key key gap ≡ true) × (comments_fit false comments (comments_text ls ++ after) ≡ true) = and_parts _ _ h in
+      let q : (flow_fits key 0 block_key bol rest && list_all white gap ≡ true) × (short_key key gap ≡ true) = and_parts _ _ p.0 in
+      let r : (flow_fits key 0 block_key bol rest ≡ true) × (list_all white gap ≡ true) = and_parts _ _ q.0 in
       rw (joined_before comments ls after, flow_form_text key)
       (and_from _ _ (and_from _ _ (and_from _ _ (flow_form_fits key 0 block_key bol rest r.0) r.1) q.1) (comments_form_fit false comments ls after p.1 l t))
 

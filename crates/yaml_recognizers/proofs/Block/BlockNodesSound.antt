@@ -8,20 +8,21 @@ use Rattle.yaml_grammar.specs.BlockScalars.{BlockScalar, block_text, past_spaces
 use Rattle.yaml_grammar.specs.FlowNodes.{Flow, flow_text, short_key}
 use Rattle.yaml_grammar.specs.FlowScalars.{block_key, outer}
 use Rattle.yaml_grammar.specs.Separation.{LineEnd, Sep, comments_text, indents, inline, lines, sep_text}
-use Rattle.yaml_grammar.specs.Texts.{every, first, is_empty, spaces, starts_line}
+use Rattle.std.specs.List.{list_all}
+use Rattle.yaml_grammar.specs.Texts.{first, is_empty, spaces, starts_line}
 use Rattle.yaml_recognizers.specs.BlockNodes.{asked_key, bar, flow_with, indented_node, key_value, leaf_at, leaf_after, more_items, more_pairs, node_below, omits, opens_pair, read_indented, read_items, read_node, read_pair, read_pairs, sep_at}
 use Rattle.yaml_recognizers.specs.CanonicalBlockNodes.{canonical_indented, canonical_items, canonical_node, canonical_pair, canonical_pairs}
 use Rattle.yaml_recognizers.specs.CanonicalBlockScalars.{canonical_block}
 use Rattle.yaml_recognizers.specs.CanonicalComments.{canonical_comments, canonical_sep, is_line_end}
 use Rattle.yaml_recognizers.specs.CanonicalFlowNodes.{canonical_flow}
 use Rattle.yaml_recognizers.specs.Comments.{all_comments, closes_line}
-use Rattle.yaml_recognizers.specs.Ends.{ended, solid}
-use Rattle.yaml_recognizers.specs.Prefixes.{dropped, past, sign, taken}
+use Rattle.yaml_recognizers.specs.Ends.{block_node_stops, solid}
+use Rattle.yaml_recognizers.specs.Prefixes.{drop_while, past, sign, take_while}
 use Rattle.yaml_recognizers.specs.Reading.{Read, on}
 use Rattle.yaml_recognizers.proofs.Separation.CommentsComplete.{not_line_end}
 use Rattle.yaml_recognizers.proofs.Separation.CommentsSound.{CommentsOf, all_sound}
 use Rattle.yaml_recognizers.proofs.Flow.FlowNodesBegin.{flow_opens}
-use Rattle.yaml_recognizers.proofs.Basics.Prefixes.{every_space, spaces_split, taken_every, taken_split}
+use Rattle.yaml_recognizers.proofs.Basics.Prefixes.{every_space, spaces_split, take_while_every, take_while_split}
 use Rattle.yaml_recognizers.proofs.Basics.Reading.{Sound, sound_on}
 use Rattle.yaml_recognizers.proofs.Basics.Solid.{dash_solid, head_of, sign_solid}
 
@@ -67,7 +68,7 @@ BlockOf m text b rest = (text ≡ block_text b ++ rest) × (canonical_block m b 
 abbrev pub KeyOf : Bool → List ℕ → Flow × List ℕ → List ℕ → Type 0
 KeyOf bol text key rest =
     (text ≡ flow_text key.0 ++ (key.1 ++ (58 ∷ rest))) × (canonical_flow key.0 0 block_key bol (key.1 ++ (58 ∷ rest)) ≡ true)
-    × (every white key.1 ≡ true) × (short_key key.0 key.1 ≡ true)
+    × (list_all white key.1 ≡ true) × (short_key key.0 key.1 ≡ true)
 
 module _ (read_key : Bool → List ℕ → Read (Flow × List ℕ)) (read_flow : ℕ → Bool → List ℕ → Read Flow) (read_block : ℕ → List ℕ → Read BlockScalar)
     (key_sound : (bol : Bool) (text : List ℕ) → Sound (KeyOf bol text) (read_key bol text))
@@ -99,7 +100,7 @@ module _ (read_key : Bool → List ℕ → Read (Flow × List ℕ)) (read_flow :
       ))
       (λ _. tt)))
 
-  sep_sound : (m : ℕ) (shallow bol : Bool) (cs : List LineEnd) (lead rest text : List ℕ) → every white lead ≡ true → text ≡ comments_text cs ++ (lead ++ rest)
+  sep_sound : (m : ℕ) (shallow bol : Bool) (cs : List LineEnd) (lead rest text : List ℕ) → list_all white lead ≡ true → text ≡ comments_text cs ++ (lead ++ rest)
       → (bol || not (is_empty cs) ≡ true → is_line_end (lead ++ rest) ≡ false → canonical_comments bol cs (lead ++ rest) ≡ true)
       → Sound (NodeOf m shallow bol text) (leaf_at read_key read_flow read_block m bol (sep_at m bol cs lead) rest)
   sep_sound m shallow bol [] lead rest text w t f =
@@ -140,7 +141,7 @@ module _ (read_key : Bool → List ℕ → Read (Flow × List ℕ)) (read_flow :
       let rest : List ℕ = past_spaces c.1 in
       cond_both ((bol || not (is_empty c.0)) && sign 45 rest && nat_le m (if shallow then suc s else s)) (on (ia s rest) (λ is rest'. Some (items c.0 s is, rest')))
       (if (bol || not (is_empty c.0)) && nat_le m s && opens (s == 0) rest then on (pa s (s == 0) rest) (λ ps rest'. Some (pairs c.0 s ps, rest'))
-      else leaf_at read_key read_flow read_block m bol (sep_at m bol c.0 (taken white c.1)) (dropped white c.1))
+      else leaf_at read_key read_flow read_block m bol (sep_at m bol c.0 (take_while white c.1)) (drop_while white c.1))
       (Sound (NodeOf m shallow bol text))
       (λ h.
       let p : ((bol || not (is_empty c.0)) && sign 45 rest ≡ true) × (nat_le m (if shallow then suc s else s) ≡ true) = and_parts _ _ h in
@@ -153,7 +154,7 @@ module _ (read_key : Bool → List ℕ → Read (Flow × List ℕ)) (read_flow :
         and_from _ _ (and_from _ _ (subst (λ (u : List ℕ). canonical_comments bol c.0 u ≡ true) e (cs.1 q.0 (no_line_here c.1 (dash_solid rest q.1)))) p.1) r.1,
       )))
       (λ _. cond_both ((bol || not (is_empty c.0)) && nat_le m s && opens (s == 0) rest) (on (pa s (s == 0) rest) (λ ps rest'. Some (pairs c.0 s ps, rest')))
-      (leaf_at read_key read_flow read_block m bol (sep_at m bol c.0 (taken white c.1)) (dropped white c.1))
+      (leaf_at read_key read_flow read_block m bol (sep_at m bol c.0 (take_while white c.1)) (drop_while white c.1))
       (Sound (NodeOf m shallow bol text))
       (λ h.
       let p : ((bol || not (is_empty c.0)) && nat_le m s ≡ true) × (opens (s == 0) rest ≡ true) = and_parts _ _ h in
@@ -166,8 +167,8 @@ module _ (read_key : Bool → List ℕ → Read (Flow × List ℕ)) (read_flow :
         and_from _ _ (and_from _ _ (subst (λ (u : List ℕ). canonical_comments bol c.0 u ≡ true) e (cs.1 q.0 (no_line_here c.1 (opens_solid (s == 0) rest p.1)))) q.1) r.1,
       )))
       (λ _.
-      let e : c.1 ≡ taken white c.1 ++ dropped white c.1 = taken_split white c.1 in
-      sep_sound m shallow bol c.0 (taken white c.1) (dropped white c.1) text (taken_every white c.1) (cs.0 ∙ ap (λ u. comments_text c.0 ++ u) e)
+      let e : c.1 ≡ take_while white c.1 ++ drop_while white c.1 = take_while_split white c.1 in
+      sep_sound m shallow bol c.0 (take_while white c.1) (drop_while white c.1) text (take_while_every white c.1) (cs.0 ∙ ap (λ u. comments_text c.0 ++ u) e)
       (λ b l. subst (λ (u : List ℕ). canonical_comments bol c.0 u ≡ true) e (cs.1 b (subst (λ (u : List ℕ). is_line_end u ≡ false) (sym e) l)))))
 
   -- the line at k that goes on
@@ -194,10 +195,10 @@ module _ (read_key : Bool → List ℕ → Read (Flow × List ℕ)) (read_flow :
   pairs_more : (k : ℕ) (bol : Bool) (text : List ℕ) (again : List ℕ → Read Pairs) → ((t : List ℕ) → Sound (PairsOf k (k == 0) t) (again t))
       → (x : Pair) (rest : List ℕ) → PairOf k bol text x rest → Sound (PairsOf k bol text) (more_pairs k again x rest)
   pairs_more k bol text again s x rest p =
-      cond_both ((spaces_before rest == k) && not (ended k false rest)) (on (again (past_spaces rest)) (λ ps rest'. Some (pair_and x ps, rest'))) (Some (pair x, rest)) (Sound (PairsOf k bol text))
+      cond_both ((spaces_before rest == k) && not (block_node_stops k false rest)) (on (again (past_spaces rest)) (λ ps rest'. Some (pair_and x ps, rest'))) (Some (pair x, rest)) (Sound (PairsOf k bol text))
       (λ g. sound_on (PairsOf k (k == 0) (past_spaces rest)) (PairsOf k bol text) (again (past_spaces rest)) (λ ps rest'. Some (pair_and x ps, rest')) (s (past_spaces rest))
       (λ ps rest' q.
-      let a : (spaces_before rest == k ≡ true) × (not (ended k false rest) ≡ true) = and_parts _ _ g in
+      let a : (spaces_before rest == k ≡ true) × (not (block_node_stops k false rest) ≡ true) = and_parts _ _ g in
       let e : rest ≡ spaces k ++ (pairs_text ps k ++ rest') = line_split k rest (pairs_text ps k ++ rest') a.0 q.0 in
       let regrouped : pairs_text (pair_and x ps) k ++ rest' ≡ pair_text x k ++ (spaces k ++ (pairs_text ps k ++ rest')) = simp append_assoc in (
         p.0 ∙ (ap (λ u. pair_text x k ++ u) e ∙ sym regrouped),
@@ -234,7 +235,7 @@ module _ (read_key : Bool → List ℕ → Read (Flow × List ℕ)) (read_flow :
       let cs : CommentsOf false rest c = all_sound false rest in
       cond_both (omits (suc k) true c) (Some (keyed_alone key.0 key.1 c.0, c.1)) (on (again rest) (λ n rest'. Some (keyed key.0 key.1 n, rest'))) (Sound (PairOf k bol text))
       (λ h.
-      let a : (closes_line c ≡ true) × (ended (suc k) true c.1 ≡ true) = and_parts _ _ h in
+      let a : (closes_line c ≡ true) × (block_node_stops (suc k) true c.1 ≡ true) = and_parts _ _ h in
       let regrouped : pair_text (keyed_alone key.0 key.1 c.0) k ++ c.1 ≡ flow_text key.0 ++ (key.1 ++ (58 ∷ (comments_text c.0 ++ c.1))) = simp append_assoc in (
         p.0 ∙ (ap (λ u. flow_text key.0 ++ (key.1 ++ (58 ∷ u))) cs.0 ∙ sym regrouped),
         and_from _ _ (and_from _ _ (and_from _ _ (subst (λ (u : List ℕ). canonical_flow key.0 0 block_key bol (key.1 ++ (58 ∷ u)) ≡ true) cs.0 p.1) p.2) p.3)
@@ -254,7 +255,7 @@ module _ (read_key : Bool → List ℕ → Read (Flow × List ℕ)) (read_flow :
       let cs : CommentsOf false text c = all_sound false text in
       cond_both (omits (suc k) shallow c) (Some (omitted c.0, c.1)) (on (again text) (λ n rest'. Some (node n, rest'))) (Sound (IndentedOf k shallow text))
       (λ h.
-      let a : (closes_line c ≡ true) × (ended (suc k) shallow c.1 ≡ true) = and_parts _ _ h in
+      let a : (closes_line c ≡ true) × (block_node_stops (suc k) shallow c.1 ≡ true) = and_parts _ _ h in
       (cs.0, tail_fit c.0 c.1 cs.1 a.0))
       (λ _. sound_on (NodeOf (suc k) shallow false text) (IndentedOf k shallow text) (again text) (λ n rest'. Some (node n, rest')) (s text) (λ n rest' q. q))
 

@@ -11,7 +11,7 @@ use Rattle.yaml_recognizers.specs.BlockNodes.{block_key_at, whole_node}
 use Rattle.yaml_recognizers.specs.CanonicalBlockNodes.{canonical_node}
 use Rattle.yaml_recognizers.specs.CanonicalComments.{canonical_comments}
 use Rattle.yaml_recognizers.specs.CanonicalFlowNodes.{canonical_flow}
-use Rattle.yaml_recognizers.specs.Ends.{ended, less_deep}
+use Rattle.yaml_recognizers.specs.Ends.{block_node_stops, less_deep}
 use Rattle.yaml_recognizers.specs.FlowNodes.{whole_flow}
 use Rattle.yaml_recognizers.specs.Reading.{Read}
 use Rattle.yaml_recognizers.specs.Scalars.{ReadsBlocks, ReadsScalars}
@@ -77,7 +77,7 @@ module _ (read_scalar : ℕ → FlowContext → Bool → List ℕ → Read Scala
       whole_flow_read read_scalar scalars f m outer b (comments_text comments ++ after) h (before_comments_stops m (is_plain f) comments after c d)
 
   -- a canonical node is read
-  pub whole_node_read : (n : Node) (m : ℕ) (shallow bol : Bool) (after : List ℕ) → canonical_node n m shallow bol after ≡ true → ended m shallow after ≡ true
+  pub whole_node_read : (n : Node) (m : ℕ) (shallow bol : Bool) (after : List ℕ) → canonical_node n m shallow bol after ≡ true → block_node_stops m shallow after ≡ true
       → whole_node read_scalar read_block m shallow bol (node_text n ++ after) ≡ Some (n, after)
   whole_node_read n m shallow bol after h e =
       let rf = whole_flow read_scalar in
@@ -104,7 +104,7 @@ module _ (read_scalar : ℕ → FlowContext → Bool → List ℕ → Read Scala
 
   -- two nodes at the start of a text that both end: they are the same, and end at the same place
   pub node_once : (n n' : Node) (m : ℕ) (shallow bol : Bool) (after after' : List ℕ) → node_text n ++ after ≡ node_text n' ++ after'
-      → canonical_node n m shallow bol after ≡ true → canonical_node n' m shallow bol after' ≡ true → ended m shallow after ≡ true → ended m shallow after' ≡ true
+      → canonical_node n m shallow bol after ≡ true → canonical_node n' m shallow bol after' ≡ true → block_node_stops m shallow after ≡ true → block_node_stops m shallow after' ≡ true
       → (n ≡ n') × (after ≡ after')
   node_once n n' m shallow bol after after' t h h' e e' =
       some_parts n n' after after'

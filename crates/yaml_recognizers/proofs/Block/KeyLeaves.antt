@@ -6,11 +6,12 @@ use Rattle.std.proofs.lemmas.Bool.{and_parts, false≢true}
 use Rattle.yaml_chars.specs.Classes.{ns, white}
 use Rattle.yaml_grammar.specs.FlowNodes.{Flow, flow_text, is_plain, short_key}
 use Rattle.yaml_grammar.specs.FlowScalars.{block_key, outer}
-use Rattle.yaml_grammar.specs.Texts.{every, first}
+use Rattle.std.specs.List.{list_all}
+use Rattle.yaml_grammar.specs.Texts.{first}
 use Rattle.yaml_recognizers.specs.CanonicalFlowNodes.{canonical_flow}
 use Rattle.yaml_recognizers.specs.Ends.{Stops}
 use Rattle.yaml_recognizers.specs.FlowScalars.{read_scalar}
-use Rattle.yaml_recognizers.specs.Prefixes.{dropped, past, sign, taken}
+use Rattle.yaml_recognizers.specs.Prefixes.{drop_while, past, sign, take_while}
 use Rattle.yaml_recognizers.specs.OneLine.{on_one_line}
 use Rattle.yaml_recognizers.specs.Reading.{Read}
 use Rattle.yaml_recognizers.specs.Recognizers.{StandsFlow, block_key_in, flow_node_at}
@@ -19,13 +20,13 @@ use Rattle.yaml_recognizers.proofs.Flow.FlowNodesFound.{stands}
 use Rattle.yaml_recognizers.proofs.Flow.FlowNodesNarrower.{flow_key_line, flow_narrower}
 use Rattle.yaml_recognizers.proofs.Flow.FlowNodesWhole.{whole_flow_read, whole_flow_sound}
 use Rattle.yaml_recognizers.proofs.Flow.FlowNodesWider.{flow_wider}
-use Rattle.yaml_recognizers.proofs.Basics.Prefixes.{dropped_all, taken_all, taken_every, taken_split}
+use Rattle.yaml_recognizers.proofs.Basics.Prefixes.{drop_while_all, take_while_all, take_while_every, take_while_split}
 use Rattle.yaml_recognizers.proofs.Basics.Reading.{none_some, some_parts, sound_is}
 use Rattle.yaml_recognizers.proofs.Scalars.ScalarsInNodes.{reads_scalars}
 use Rattle.yaml_recognizers.proofs.Basics.Solid.{head_of}
 use Rattle.std.proofs.Common.{inl, inr}
 
-before_colon : (n : ℕ) (after_plain : Bool) (gap rest : List ℕ) → every white gap ≡ true → first ns rest ≡ false → Stops n outer after_plain (gap ++ (58 ∷ rest))
+before_colon : (n : ℕ) (after_plain : Bool) (gap rest : List ℕ) → list_all white gap ≡ true → first ns rest ≡ false → Stops n outer after_plain (gap ++ (58 ∷ rest))
 before_colon n after_plain gap rest w h = inr (inl (record { outside = refl; gap = gap; rest = rest; is = refl; gap_white = w; apart = h }))
 
 -- what is found as a key
@@ -45,21 +46,21 @@ key_is_leaf m bol text key gap rest e =
 
 -- whether a leaf, with what comes after it, is a key
 abbrev pub is_key : Flow → List ℕ → Bool
-is_key f rest = on_one_line f && (sign 58 (dropped white rest) && short_key f (taken white rest))
+is_key f rest = on_one_line f && (sign 58 (drop_while white rest) && short_key f (take_while white rest))
 
 -- a leaf that passes the test for a key is the key there
 pub leaf_is_key : (m : ℕ) (bol : Bool) (text : List ℕ) (f : Flow) (rest : List ℕ) → flow_node_at m outer bol text ≡ Some (f, rest) → is_key f rest ≡ true
-    → block_key_in bol text ≡ Some ((f, taken white rest), past (dropped white rest))
+    → block_key_in bol text ≡ Some ((f, take_while white rest), past (drop_while white rest))
 leaf_is_key m bol text f rest e k =
     let s : StandsFlow m outer bol text f rest = stands m outer bol text f rest e in
-    let p : (on_one_line f ≡ true) × (sign 58 (dropped white rest) && short_key f (taken white rest) ≡ true) = and_parts _ _ k in
-    let q : (sign 58 (dropped white rest) ≡ true) × (short_key f (taken white rest) ≡ true) = and_parts _ _ p.1 in
-    let h : (dropped white rest ≡ 58 ∷ past (dropped white rest)) × (first ns (past (dropped white rest)) ≡ false) = head_of 58 (dropped white rest) q.0 in
-    let r : rest ≡ taken white rest ++ (58 ∷ past (dropped white rest)) = taken_split white rest ∙ ap (λ u. taken white rest ++ u) h.0 in
+    let p : (on_one_line f ≡ true) × (sign 58 (drop_while white rest) && short_key f (take_while white rest) ≡ true) = and_parts _ _ k in
+    let q : (sign 58 (drop_while white rest) ≡ true) × (short_key f (take_while white rest) ≡ true) = and_parts _ _ p.1 in
+    let h : (drop_while white rest ≡ 58 ∷ past (drop_while white rest)) × (first ns (past (drop_while white rest)) ≡ false) = head_of 58 (drop_while white rest) q.0 in
+    let r : rest ≡ take_while white rest ++ (58 ∷ past (drop_while white rest)) = take_while_split white rest ∙ ap (λ u. take_while white rest ++ u) h.0 in
     let fit : canonical_flow f 0 block_key bol rest ≡ true = flow_narrower f m 0 outer block_key bol rest refl p.0 s.canonical in
     ap (block_key_in bol) (s.spells ∙ ap (λ u. flow_text f ++ u) r)
-    ∙ keys_read flow_node_at (whole_flow_read read_scalar reads_scalars) (whole_flow_sound read_scalar reads_scalars) f (taken white rest) bol (past (dropped white rest))
-    (subst (λ (u : List ℕ). canonical_flow f 0 block_key bol u ≡ true) r fit) (taken_every white rest) q.1 h.1
+    ∙ keys_read flow_node_at (whole_flow_read read_scalar reads_scalars) (whole_flow_sound read_scalar reads_scalars) f (take_while white rest) bol (past (drop_while white rest))
+    (subst (λ (u : List ℕ). canonical_flow f 0 block_key bol u ≡ true) r fit) (take_while_every white rest) q.1 h.1
 
 -- what is found as a key has the leaf's own rest
 key_of_leaf : (m : ℕ) (bol : Bool) (text : List ℕ) (f : Flow) (rest : List ℕ) (key : Flow) (gap after : List ℕ) → flow_node_at m outer bol text ≡ Some (f, rest)
@@ -70,7 +71,7 @@ key_of_leaf m bol text f rest key gap after e k =
     let line : on_one_line key ≡ true = flow_key_line key 0 block_key outer bol (gap ++ (58 ∷ after)) refl (w.0).1 in
     let short : short_key key gap ≡ true = (w.0).3 in
     let here : is_key key (gap ++ (58 ∷ after)) ≡ true =
-    rw (taken_all white gap (58 ∷ after) (w.0).2 refl, dropped_all white gap (58 ∷ after) (w.0).2 refl, line, w.1, short) refl in
+    rw (take_while_all white gap (58 ∷ after) (w.0).2 refl, drop_while_all white gap (58 ∷ after) (w.0).2 refl, line, w.1, short) refl in
     ap (λ g. is_key g rest) s.0 ∙ (ap (is_key key) s.1 ∙ here)
 
 -- a leaf that isn't such a one is no key, and where no leaf is there is no key

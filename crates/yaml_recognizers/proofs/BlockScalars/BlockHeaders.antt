@@ -3,7 +3,8 @@ use Rattle.std.proofs.Common.{◌≡◌, refl, sym, ◌∙◌, ap, subst, inl, i
 use Rattle.std.specs.Prelude.{ℕ, ◌+◌, ◌-◌, Bool, true, false, not, ◌&&◌, ◌||◌, ◌==◌, nat_le, List, [], ◌∷◌, ◌++◌, Option, Some, None, is_some, codes, if◌then◌else◌}
 use Rattle.std.proofs.lemmas.Bool.{and_parts, and_from, or_cases, or_left, false≢true, eqb-true, cond_both, leb-true, le-leb, not_from_false, cases_Bool}
 use Rattle.yaml_chars.specs.Classes.{between, white, line_break}
-use Rattle.yaml_grammar.specs.Texts.{every, is_empty, optional, ends_word}
+use Rattle.std.specs.List.{list_all}
+use Rattle.yaml_grammar.specs.Texts.{is_empty, optional, ends_word}
 use Rattle.yaml_grammar.specs.Separation.{Break, lf, cr, cr_lf, break_text, stop_fits, LineEnd, comment_text, line_end_text, comment_fits, line_end_fits}
 use Rattle.yaml_grammar.specs.BlockScalars.{Chomping, strip, clip, keep, Header, digit_text, chomping_text, header_text}
 use Rattle.yaml_recognizers.proofs.Basics.Reading.{Sound, sound_on, sound_to}
@@ -45,10 +46,10 @@ header_end_sound (c ∷ cs) = sound_to (LineOf false (c ∷ cs)) (HeaderEndOf (c
 
 -- ---- after the signs comes whitespace, a break or the end
 
-end_word : (blank : List ℕ) (comment : Option (List ℕ)) (stop : Option Break) (after : List ℕ) → every white blank ≡ true
+end_word : (blank : List ℕ) (comment : Option (List ℕ)) (stop : Option Break) (after : List ℕ) → list_all white blank ≡ true
     → comment_fits (false || not (is_empty blank)) comment ≡ true → stop_fits stop after ≡ true
     → ends_word (blank ++ (optional comment_text comment ++ (optional break_text stop ++ after))) ≡ true
-end_word (b ∷ bs) comment stop after w c f = or_left (white b) (line_break b) (and_parts (white b) (every white bs) w).0
+end_word (b ∷ bs) comment stop after w c f = or_left (white b) (line_break b) (and_parts (white b) (list_all white bs) w).0
 end_word [] (Some t) stop after w c f = absurd (false≢true c)
 end_word [] None None [] w c f = refl
 end_word [] None None (x ∷ xs) w c f = absurd (false≢true f)
@@ -71,8 +72,8 @@ unsigned (c ∷ cs) h = elim (or_cases (white c) (line_break c) h) [
 
 end_unsigned : (e : LineEnd) (after : List ℕ) → line_end_fits false e after ≡ true → Unsigned (line_end_text e ++ after)
 end_unsigned e after h =
-    let p : (every white e.blank && comment_fits (false || not (is_empty e.blank)) e.comment ≡ true) × (stop_fits e.stop after ≡ true) = and_parts _ _ h in
-    let q : (every white e.blank ≡ true) × (comment_fits (false || not (is_empty e.blank)) e.comment ≡ true) = and_parts _ _ p.0 in
+    let p : (list_all white e.blank && comment_fits (false || not (is_empty e.blank)) e.comment ≡ true) × (stop_fits e.stop after ≡ true) = and_parts _ _ h in
+    let q : (list_all white e.blank ≡ true) × (comment_fits (false || not (is_empty e.blank)) e.comment ≡ true) = and_parts _ _ p.0 in
     let regrouped : line_end_text e ++ after ≡ e.blank ++ (optional comment_text e.comment ++ (optional break_text e.stop ++ after)) = simp append_assoc in
     unsigned (line_end_text e ++ after) (ap ends_word regrouped ∙ end_word e.blank e.comment e.stop after q.0 q.1 p.1)
 

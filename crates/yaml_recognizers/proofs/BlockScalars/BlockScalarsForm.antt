@@ -6,7 +6,8 @@ use Rattle.std.proofs.lemmas.Bool.{and_from, and_left, and_parts, and_right, cas
 use Rattle.yaml_chars.specs.Classes.{space, white}
 use Rattle.yaml_grammar.specs.BlockScalars.{BlockScalar, Chomping, Header, block_body_text, block_events, block_fits, block_text, chomping_text, clip, digit_text, gaps_fit, gaps_text, goes_on, header_text, indent_fits, keep, past_spaces, spaces_before, strip, text_lines_fit, text_lines_text, trail_fits}
 use Rattle.yaml_grammar.specs.Separation.{Break, LineEnd, break_text, comment_line_fits, comment_text, comments_fit, comments_text, cr, cr_lf, lf, line_end_fits, line_end_text, stop_fits}
-use Rattle.yaml_grammar.specs.Texts.{every, first, is_empty, optional}
+use Rattle.std.specs.List.{list_all}
+use Rattle.yaml_grammar.specs.Texts.{first, is_empty, optional}
 use Rattle.yaml_recognizers.specs.CanonicalBlockScalars.{canonical_block, whole_trail}
 use Rattle.yaml_recognizers.specs.CanonicalComments.{hash, is_line_end}
 use Rattle.yaml_recognizers.proofs.Basics.Prefixes.{spaces_counted, spaces_passed}
@@ -87,12 +88,12 @@ no_space [] h = refl
 no_space (c ∷ cs) h = (or_parts (c == 32) (c == 9) h).0
 
 -- a `#` after white and spaces alone
-hash_after : (blank tail : List ℕ) → every white blank ≡ true → first white tail ≡ false → first hash (past_spaces (blank ++ tail)) ≡ true
-    → (every space blank ≡ true) × (spaces_before (blank ++ tail) ≡ length blank) × (first hash tail ≡ true)
+hash_after : (blank tail : List ℕ) → list_all white blank ≡ true → first white tail ≡ false → first hash (past_spaces (blank ++ tail)) ≡ true
+    → (list_all space blank ≡ true) × (spaces_before (blank ++ tail) ≡ length blank) × (first hash tail ≡ true)
 hash_after [] tail w f h =
     let s : first space tail ≡ false = no_space tail f in (refl, spaces_counted 0 tail s, rw (spaces_passed 0 tail s) at h)
 hash_after (c ∷ cs) tail w f h =
-    let p : (white c ≡ true) × (every white cs ≡ true) = and_parts _ _ w in
+    let p : (white c ≡ true) × (list_all white cs ≡ true) = and_parts _ _ w in
     elim (cases_Bool (c == 32)) [
       | inl e ↦ (let r = hash_after cs tail p.1 f (rw e at h) in rw e (r.0, ap suc r.1, r.2))
       | inr e ↦ absurd (white_hash c p.0 (rw e at h))
@@ -110,7 +111,7 @@ hash_comment None (Some cr_lf) rest f h = absurd (false≢true h)
 -- a line that begins with a `#` after fewer than q spaces is such a comment
 hash_line : (q : ℕ) (e : LineEnd) (rest : List ℕ) → comment_line_fits true e rest ≡ true
     → nat_lt (spaces_before (line_end_text e ++ rest)) q && first hash (past_spaces (line_end_text e ++ rest)) ≡ true
-    → is_some e.comment && every space e.blank && nat_lt (length e.blank) q ≡ true
+    → is_some e.comment && list_all space e.blank && nat_lt (length e.blank) q ≡ true
 hash_line q e rest f h =
     let l : LineParts true e rest = line_parts true e rest f in
     let tail : List ℕ = optional comment_text e.comment ++ (optional break_text e.stop ++ rest) in
@@ -130,7 +131,7 @@ takes_not (Some q) (e ∷ es) after f n h =
     let line : comment_line_fits true e (comments_text es ++ after) ≡ true = (and_parts _ _ f).0 in
     elim (cases_Bool (nat_lt (spaces_before text) q && first hash (past_spaces text))) [
       | inr i ↦ not_from_false _ (and_left _ _ i)
-      | inl i ↦ (let c : is_some e.comment && every space e.blank && nat_lt (length e.blank) q ≡ true =
+      | inl i ↦ (let c : is_some e.comment && list_all space e.blank && nat_lt (length e.blank) q ≡ true =
           hash_line q e (comments_text es ++ after) line (subst (λ (t : List ℕ). nat_lt (spaces_before t) q && first hash (past_spaces t) ≡ true) regrouped i) in
           absurd (false≢true (sym h ∙ and_from _ _ (and_from _ _ c f) (not_from_false _ n))))
     ]
@@ -141,7 +142,7 @@ trail_fit : (q : ℕ) (trail ls : List LineEnd) (after : List ℕ) → trail_fit
     → takes (if is_empty trail then Some q else None) ls after ≡ true → (trail_fits q (trail ++ ls) after ≡ true) × (whole_trail q (trail ++ ls) after ≡ true)
 trail_fit q [] ls after h l t = and_parts _ _ t
 trail_fit q (e ∷ es) ls after h l t =
-    let p : (is_some e.comment && every space e.blank && nat_lt (length e.blank) q ≡ true) × (comments_fit true (e ∷ es) (comments_text ls ++ after) ≡ true) = and_parts _ _ h in
+    let p : (is_some e.comment && list_all space e.blank && nat_lt (length e.blank) q ≡ true) × (comments_fit true (e ∷ es) (comments_text ls ++ after) ≡ true) = and_parts _ _ h in
     (and_from _ _ p.0 (joined_fit true (e ∷ es) ls after p.1 l), t)
 
 -- all of `block_fits` but the comments

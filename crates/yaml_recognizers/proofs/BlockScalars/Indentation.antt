@@ -5,7 +5,7 @@ use Rattle.std.proofs.lemmas.Bool.{and_parts, and_from, and_left, and_right, or_
 use Rattle.yaml_chars.specs.Classes.{between, line_break, space, nb}
 use Rattle.yaml_grammar.specs.Texts.{first, begins, is_empty, spaces, optional, no_marker}
 use Rattle.yaml_grammar.specs.Separation.{break_text}
-use Rattle.yaml_grammar.specs.BlockScalars.{Gap, gaps_text, TextLine, text_lines_text, gaps_fit, text_line_fits, text_lines_fit, spaces_before, past_spaces, goes_on, widest, last_spaces, sets_none, detected, indent_fits}
+use Rattle.yaml_grammar.specs.BlockScalars.{Gap, gaps_text, TextLine, text_lines_text, gaps_fit, text_line_fits, text_lines_fit, spaces_before, past_spaces, goes_on, widest, last_spaces, sets_none, is_detected_indent, indent_fits}
 use Rattle.yaml_recognizers.proofs.BlockScalars.EmptyLines.{gaps_meet, fit_all, all_fit, GapsOf, gaps_of_read, gaps_of_sound, gaps_at_read}
 use Rattle.yaml_recognizers.proofs.Basics.Spaces.{spaces_added, spaces_past, no_space, nb_unbroken, marked, Ended, ended_parts, TextHere, text_goes_on}
 use Rattle.yaml_recognizers.proofs.BlockScalars.TextLines.{after_indent, TextLineParts, text_line_parts, line_here, LinesOf}
@@ -84,7 +84,7 @@ nb_break (c ∷ cs) h = nb_unbroken c h
 
 -- ---- where a body fits its indentation is found
 
-found_none : (m q : ℕ) (gaps : List Gap) (rest : List ℕ) → detected m q gaps [] rest ≡ true → gaps_fit q gaps rest ≡ true → goes_on q rest ≡ false
+found_none : (m q : ℕ) (gaps : List Gap) (rest : List ℕ) → is_detected_indent m q gaps [] rest ≡ true → gaps_fit q gaps rest ≡ true → goes_on q rest ≡ false
     → find_indent None m (gaps_text gaps ++ rest) ≡ Some q
 found_none m q gaps rest d f n =
     let p : (q == max m (max (widest gaps) (last_spaces rest)) ≡ true) × (sets_none m rest ≡ true) = and_parts _ _ d in
@@ -123,7 +123,7 @@ indent_found None m q gaps (l ∷ ls) rest i f t n =
 -- the indentation q is found before the lines of spaces g.0 and what comes after them
 pub record Found (m q : ℕ) (text : List ℕ) (g : List Gap × List ℕ) : Type 0 where
   pub read : gaps_at q text ≡ g
-  pub fits : (texts : List TextLine) (rest : List ℕ) → LinesOf q g.1 texts rest → detected m q g.0 texts rest ≡ true
+  pub fits : (texts : List TextLine) (rest : List ℕ) → LinesOf q g.1 texts rest → is_detected_indent m q g.0 texts rest ≡ true
 
 gaps_narrow : (q : ℕ) (text : List ℕ) (g : List Gap × List ℕ) → GapsOf (λ _. true) text g → nat_le (widest g.0) q ≡ true → gaps_at q text ≡ g
 gaps_narrow q text g a w = ap (gaps_at q) a.0 ∙ gaps_at_read q g.0 g.1 (all_fit q g.0 g.1 a.1 w) (and_right (nat_le (spaces_before g.1) q) (first line_break (past_spaces g.1)) a.2)
@@ -136,7 +136,7 @@ lines_go_on q l ls text rest s =
     ap (goes_on q) (s.split ∙ regrouped) ∙ text_goes_on q (after_indent l (text_lines_text q ls ++ rest)) (line_here q l (text_lines_text q ls ++ rest) p.0)
 
 none_detected : (m q : ℕ) (gaps : List Gap) (text : List ℕ) (texts : List TextLine) (rest : List ℕ) → q ≡ max m (max (widest gaps) (last_spaces text)) → sets_none m text ≡ true
-    → first line_break (past_spaces text) ≡ false → LinesOf q text texts rest → detected m q gaps texts rest ≡ true
+    → first line_break (past_spaces text) ≡ false → LinesOf q text texts rest → is_detected_indent m q gaps texts rest ≡ true
 none_detected m q gaps text [] rest i h n s =
     let e : text ≡ rest = s.split in
     subst (λ (t : List ℕ). (q == max m (max (widest gaps) (last_spaces t))) && sets_none m t ≡ true) e (and_from _ _ (eq-eqb q (max m (max (widest gaps) (last_spaces text))) i) h)
@@ -167,7 +167,7 @@ text_unspaced : (q : ℕ) (l : TextLine) (after text : List ℕ) → spaces_befo
 text_unspaced q l after text c e = unspaced_text l.text (optional break_text l.stop ++ (gaps_text l.gaps ++ after)) (omega (arith, spaces_added q (after_indent l after), ap spaces_before e))
 
 set_detected : (m q : ℕ) (gaps : List Gap) (text : List ℕ) (texts : List TextLine) (rest : List ℕ) → q ≡ spaces_before text → sets_none m text ≡ false → first nb (past_spaces text) ≡ true
-    → LinesOf q text texts rest → detected m q gaps texts rest ≡ true
+    → LinesOf q text texts rest → is_detected_indent m q gaps texts rest ≡ true
 set_detected m q gaps text [] rest i h f s =
     let p : (m ≤ spaces_before text) × (no_marker true text ≡ true) = sets_parts m text h in
     let e : text ≡ rest = s.split in

@@ -3,16 +3,17 @@ use Rattle.std.proofs.Common.{◌≡◌, refl, sym, ◌∙◌, ap, subst, append
 use Rattle.std.specs.Prelude.{ℕ, zero, suc, Bool, true, false, not, ◌&&◌, List, [], ◌∷◌, ◌++◌, length, drop, Some}
 use Rattle.std.proofs.lemmas.Bool.{and_parts, and_from, false≢true, cond_both}
 use Rattle.yaml_chars.specs.Classes.{nb}
-use Rattle.yaml_grammar.specs.Texts.{every, first, is_empty, spaces, optional, no_marker}
+use Rattle.std.specs.List.{list_all}
+use Rattle.yaml_grammar.specs.Texts.{first, is_empty, spaces, optional, no_marker}
 use Rattle.yaml_grammar.specs.Separation.{break_text, stop_fits}
 use Rattle.yaml_grammar.specs.BlockScalars.{gaps_text, TextLine, text_line_text, text_lines_text, gaps_fit, text_line_fits, text_lines_fit, goes_on}
 use Rattle.yaml_recognizers.proofs.Separation.CommentsComplete.{stop_read}
 use Rattle.yaml_recognizers.proofs.Separation.CommentsSound.{StopOf, stop_sound}
-use Rattle.yaml_recognizers.proofs.Basics.Prefixes.{taken_all, dropped_all, taken_split, taken_every}
+use Rattle.yaml_recognizers.proofs.Basics.Prefixes.{take_while_all, drop_while_all, take_while_split, take_while_every}
 use Rattle.yaml_recognizers.proofs.Separation.LineEnds.{stop_not_nb}
 use Rattle.yaml_recognizers.proofs.Basics.Reading.{Sound, sound_on}
 use Rattle.yaml_recognizers.specs.Comments.{read_stop}
-use Rattle.yaml_recognizers.specs.Prefixes.{taken, dropped}
+use Rattle.yaml_recognizers.specs.Prefixes.{take_while, drop_while}
 use Rattle.yaml_recognizers.specs.Reading.{Read, on}
 use Rattle.yaml_recognizers.proofs.BlockScalars.EmptyLines.{fit_meet, GapsOf, gaps_at_read, gaps_of_sound}
 use Rattle.yaml_recognizers.proofs.Basics.Spaces.{spaces_dropped, gap_here, at_most, Ended, ended_parts, TextHere, text_goes_on, text_no_gap, TextAt, goes_on_text}
@@ -29,7 +30,7 @@ line_regrouped q l after = simp append_assoc
 -- what a text line that fits has
 pub record TextLineParts (q : ℕ) (l : TextLine) (after : List ℕ) : Type 0 where
   pub some : not (is_empty l.text) ≡ true
-  pub chars : every nb l.text ≡ true
+  pub chars : list_all nb l.text ≡ true
   pub unmarked : no_marker true (text_line_text q l ++ after) ≡ true
   pub stop : stop_fits l.stop (gaps_text l.gaps ++ after) ≡ true
   pub gaps : gaps_fit q l.gaps after ≡ true
@@ -37,18 +38,18 @@ pub record TextLineParts (q : ℕ) (l : TextLine) (after : List ℕ) : Type 0 wh
 -- a text line that fits has these parts
 pub text_line_parts : (q : ℕ) (l : TextLine) (after : List ℕ) → text_line_fits q l after ≡ true → TextLineParts q l after
 text_line_parts q l after h =
-    let a : (not (is_empty l.text) && every nb l.text && no_marker true (text_line_text q l ++ after) && stop_fits l.stop (gaps_text l.gaps ++ after) ≡ true)
+    let a : (not (is_empty l.text) && list_all nb l.text && no_marker true (text_line_text q l ++ after) && stop_fits l.stop (gaps_text l.gaps ++ after) ≡ true)
     × (gaps_fit q l.gaps after ≡ true) = and_parts _ _ h in
-    let b : (not (is_empty l.text) && every nb l.text && no_marker true (text_line_text q l ++ after) ≡ true) × (stop_fits l.stop (gaps_text l.gaps ++ after) ≡ true) = and_parts _ _ a.0 in
-    let c : (not (is_empty l.text) && every nb l.text ≡ true) × (no_marker true (text_line_text q l ++ after) ≡ true) = and_parts _ _ b.0 in
-    let d : (not (is_empty l.text) ≡ true) × (every nb l.text ≡ true) = and_parts _ _ c.0 in
+    let b : (not (is_empty l.text) && list_all nb l.text && no_marker true (text_line_text q l ++ after) ≡ true) × (stop_fits l.stop (gaps_text l.gaps ++ after) ≡ true) = and_parts _ _ a.0 in
+    let c : (not (is_empty l.text) && list_all nb l.text ≡ true) × (no_marker true (text_line_text q l ++ after) ≡ true) = and_parts _ _ b.0 in
+    let d : (not (is_empty l.text) ≡ true) × (list_all nb l.text ≡ true) = and_parts _ _ c.0 in
     record { some = d.0; chars = d.1; unmarked = c.1; stop = b.1; gaps = a.1 }
 
 -- ---- those that fit are read
 
-first_of_all : (p : ℕ → Bool) (xs rest : List ℕ) → not (is_empty xs) ≡ true → every p xs ≡ true → first p (xs ++ rest) ≡ true
+first_of_all : (p : ℕ → Bool) (xs rest : List ℕ) → not (is_empty xs) ≡ true → list_all p xs ≡ true → first p (xs ++ rest) ≡ true
 first_of_all p [] rest n h = absurd (false≢true n)
-first_of_all p (x ∷ xs) rest n h = (and_parts (p x) (every p xs) h).0
+first_of_all p (x ∷ xs) rest n h = (and_parts (p x) (list_all p xs) h).0
 
 -- a text line starts after its indentation
 pub line_here : (q : ℕ) (l : TextLine) (after : List ℕ) → text_line_fits q l after ≡ true → TextHere q (after_indent l after)
@@ -73,7 +74,7 @@ line_read q l after h n =
     let p : TextLineParts q l after = text_line_parts q l after h in
     let rest : List ℕ = optional break_text l.stop ++ (gaps_text l.gaps ++ after) in
     let f : first nb rest ≡ false = stop_not_nb l.stop (gaps_text l.gaps ++ after) p.stop in
-    rw (taken_all nb l.text rest p.chars f, dropped_all nb l.text rest p.chars f, stop_read l.stop (gaps_text l.gaps ++ after) p.stop, gaps_at_read q l.gaps after p.gaps n)
+    rw (take_while_all nb l.text rest p.chars f, drop_while_all nb l.text rest p.chars f, stop_read l.stop (gaps_text l.gaps ++ after) p.stop, gaps_at_read q l.gaps after p.gaps n)
 
 abbrev more_lines : ℕ → ℕ → TextLine → List ℕ → Read (List TextLine)
 more_lines fuel q l rest = on (read_text_lines fuel q rest) (λ ls after. Some (l ∷ ls, after))
@@ -120,26 +121,26 @@ lines_few q (l ∷ ls) after h =
 pub record LineOf (q : ℕ) (line : List ℕ) (l : TextLine) (rest : List ℕ) : Type 0 where
   pub split : line ≡ after_indent l rest
   pub some : not (is_empty l.text) ≡ true
-  pub chars : every nb l.text ≡ true
+  pub chars : list_all nb l.text ≡ true
   pub stop : stop_fits l.stop (gaps_text l.gaps ++ rest) ≡ true
   pub gaps : gaps_fit q l.gaps rest ≡ true
   pub no_gap : gap_here (at_most q) rest ≡ false
 
-taken_some : (p : ℕ → Bool) (text : List ℕ) → first p text ≡ true → not (is_empty (taken p text)) ≡ true
-taken_some p [] h = absurd (false≢true h)
-taken_some p (c ∷ cs) h = rw h refl
+take_while_some : (p : ℕ → Bool) (text : List ℕ) → first p text ≡ true → not (is_empty (take_while p text)) ≡ true
+take_while_some p [] h = absurd (false≢true h)
+take_while_some p (c ∷ cs) h = rw h refl
 
 -- a text line that is read fits
 pub line_sound : (q : ℕ) (line : List ℕ) → first nb line ≡ true → Sound (LineOf q line) (read_text_line q line)
 line_sound q line h =
-    sound_on (StopOf (dropped nb line)) (LineOf q line) (read_stop (dropped nb line))
-    (λ stop rest. Some (record { text = taken nb line; stop = stop; gaps = (gaps_at q rest).0 }, (gaps_at q rest).1)) (stop_sound (dropped nb line))
+    sound_on (StopOf (drop_while nb line)) (LineOf q line) (read_stop (drop_while nb line))
+    (λ stop rest. Some (record { text = take_while nb line; stop = stop; gaps = (gaps_at q rest).0 }, (gaps_at q rest).1)) (stop_sound (drop_while nb line))
     (λ stop rest s.
     let g : GapsOf (at_most q) rest (gaps_at q rest) = gaps_of_sound (at_most q) rest in
     record {
-      split = taken_split nb line ∙ ap (λ t. taken nb line ++ t) (s.0 ∙ ap (λ t. optional break_text stop ++ t) g.0);
-      some = taken_some nb line h;
-      chars = taken_every nb line;
+      split = take_while_split nb line ∙ ap (λ t. take_while nb line ++ t) (s.0 ∙ ap (λ t. optional break_text stop ++ t) g.0);
+      some = take_while_some nb line h;
+      chars = take_while_every nb line;
       stop = subst (λ (t : List ℕ). stop_fits stop t ≡ true) g.0 s.1;
       gaps = fit_meet q (gaps_at q rest).0 (gaps_at q rest).1 ∙ g.1;
       no_gap = g.2;

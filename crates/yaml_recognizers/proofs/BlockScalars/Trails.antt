@@ -4,15 +4,16 @@ use Rattle.std.proofs.Common.{◌≡◌, refl, sym, ◌∙◌, ap, inl, inr, app
 use Rattle.std.specs.Prelude.{ℕ, zero, suc, true, false, ◌&&◌, ◌==◌, nat_lt, List, [], ◌∷◌, ◌++◌, length, Option, Some, None, is_some}
 use Rattle.std.proofs.lemmas.Bool.{and_parts, and_from, false≢true, eqb-true, not-true, not_from_false, cond_both, cases_Bool, cond-true, cond-false}
 use Rattle.yaml_chars.specs.Classes.{white, space}
-use Rattle.yaml_grammar.specs.Texts.{every, first, spaces, optional}
+use Rattle.std.specs.List.{list_all}
+use Rattle.yaml_grammar.specs.Texts.{first, spaces, optional}
 use Rattle.yaml_grammar.specs.Separation.{Break, lf, cr, cr_lf, break_text, stop_fits, LineEnd, comment_text, line_end_text, comment_line_fits, comments_text, comments_fit}
 use Rattle.yaml_grammar.specs.BlockScalars.{spaces_before, past_spaces, trail_fits}
-use Rattle.yaml_recognizers.proofs.Basics.Prefixes.{taken_all, dropped_all, spaces_split, every_space}
+use Rattle.yaml_recognizers.proofs.Basics.Prefixes.{take_while_all, drop_while_all, spaces_split, every_space}
 use Rattle.yaml_recognizers.proofs.Separation.LineEnds.{LineParts, line_parts, line_regrouped, tail_not_white}
 use Rattle.yaml_recognizers.specs.CanonicalBlockScalars.{whole_trail}
 use Rattle.yaml_recognizers.specs.CanonicalComments.{hash, is_line_end}
 use Rattle.yaml_recognizers.specs.Comments.{all_comments}
-use Rattle.yaml_recognizers.specs.Prefixes.{taken, dropped}
+use Rattle.yaml_recognizers.specs.Prefixes.{take_while, drop_while}
 use Rattle.yaml_recognizers.proofs.Basics.Reading.{none_some}
 use Rattle.yaml_recognizers.proofs.Separation.CommentsComplete.{line_end_read, no_line, comments_all}
 use Rattle.yaml_recognizers.proofs.Separation.CommentsSound.{CommentsOf, all_sound, comments_end}
@@ -21,11 +22,11 @@ use Rattle.yaml_recognizers.specs.BlockScalars.{trail_here, read_trail}
 
 -- ---- what fits is read
 
-spaces_then : (blank tail : List ℕ) → every space blank ≡ true → first space tail ≡ false → (spaces_before (blank ++ tail) ≡ length blank) × (past_spaces (blank ++ tail) ≡ tail)
+spaces_then : (blank tail : List ℕ) → list_all space blank ≡ true → first space tail ≡ false → (spaces_before (blank ++ tail) ≡ length blank) × (past_spaces (blank ++ tail) ≡ tail)
 spaces_then [] [] h n = (refl, refl)
 spaces_then [] (c ∷ cs) h n = (rw n refl, rw n refl)
 spaces_then (c ∷ cs) tail h n =
-    let p : (c == 32 ≡ true) × (every space cs ≡ true) = and_parts _ _ h in
+    let p : (c == 32 ≡ true) × (list_all space cs ≡ true) = and_parts _ _ h in
     let more : (spaces_before (cs ++ tail) ≡ length cs) × (past_spaces (cs ++ tail) ≡ tail) = spaces_then cs tail p.1 n in
     (rw p.0 (ap suc more.0), rw p.0 more.1)
 
@@ -40,7 +41,7 @@ line_here text r h = elim (cases_Bool (is_line_end text)) [
   | inr e ↦ absurd (none_some r (sym (no_line true text e) ∙ h))
 ]
 
-here : (q : ℕ) (e : LineEnd) (rest : List ℕ) → comment_line_fits true e rest ≡ true → is_some e.comment ≡ true → every space e.blank ≡ true → nat_lt (length e.blank) q ≡ true
+here : (q : ℕ) (e : LineEnd) (rest : List ℕ) → comment_line_fits true e rest ≡ true → is_some e.comment ≡ true → list_all space e.blank ≡ true → nat_lt (length e.blank) q ≡ true
     → trail_here q (line_end_text e ++ rest) ≡ true
 here q e rest h c s l =
     let p : LineParts true e rest = line_parts true e rest h in
@@ -54,9 +55,9 @@ here q e rest h c s l =
 pub trail_read : (q : ℕ) (trail : List LineEnd) (after : List ℕ) → trail_fits q trail after ≡ true → whole_trail q trail after ≡ true → read_trail q (comments_text trail ++ after) ≡ (trail, after)
 trail_read q [] after h w = cond-false (trail_here q after) _ _ (not-true _ w)
 trail_read q (e ∷ es) after h w =
-    let a : (is_some e.comment && every space e.blank && nat_lt (length e.blank) q ≡ true) × (comments_fit true (e ∷ es) after ≡ true) = and_parts _ _ h in
-    let b : (is_some e.comment && every space e.blank ≡ true) × (nat_lt (length e.blank) q ≡ true) = and_parts _ _ a.0 in
-    let c : (is_some e.comment ≡ true) × (every space e.blank ≡ true) = and_parts _ _ b.0 in
+    let a : (is_some e.comment && list_all space e.blank && nat_lt (length e.blank) q ≡ true) × (comments_fit true (e ∷ es) after ≡ true) = and_parts _ _ h in
+    let b : (is_some e.comment && list_all space e.blank ≡ true) × (nat_lt (length e.blank) q ≡ true) = and_parts _ _ a.0 in
+    let c : (is_some e.comment ≡ true) × (list_all space e.blank ≡ true) = and_parts _ _ b.0 in
     let d : (comment_line_fits true e (comments_text es ++ after) ≡ true) × (comments_fit true es after ≡ true) = and_parts _ _ a.1 in
     let regrouped : comments_text (e ∷ es) ++ after ≡ line_end_text e ++ (comments_text es ++ after) = simp append_assoc in
     cond-true (trail_here q (comments_text (e ∷ es) ++ after)) _ _ (ap (trail_here q) regrouped ∙ here q e (comments_text es ++ after) d.0 c.0 c.1 b.1)
@@ -68,7 +69,7 @@ trail_read q (e ∷ es) after h w =
 abbrev pub TrailOf : ℕ → List ℕ → List LineEnd × List ℕ → Type 0
 TrailOf q text t = (text ≡ comments_text t.0 ++ t.1) × (trail_fits q t.0 t.1 ≡ true) × (whole_trail q t.0 t.1 ≡ true)
 
-spaces_every : (k : ℕ) → every space (spaces k) ≡ true
+spaces_every : (k : ℕ) → list_all space (spaces k) ≡ true
 spaces_every zero = refl
 spaces_every (suc k) = spaces_every k
 
@@ -91,7 +92,7 @@ comment_there None (Some cr_lf) rest f h = absurd (false≢true h)
 
 -- the first line has its `#` after fewer than q spaces
 first_fits : (q : ℕ) (e : LineEnd) (rest text : List ℕ) → text ≡ line_end_text e ++ rest → comment_line_fits true e rest ≡ true → nat_lt (spaces_before text) q ≡ true → first hash (past_spaces text) ≡ true
-    → is_some e.comment && every space e.blank && nat_lt (length e.blank) q ≡ true
+    → is_some e.comment && list_all space e.blank && nat_lt (length e.blank) q ≡ true
 first_fits q e rest text i h l f =
     let p : LineParts true e rest = line_parts true e rest h in
     let tail : List ℕ = optional comment_text e.comment ++ (optional break_text e.stop ++ rest) in
@@ -100,10 +101,10 @@ first_fits q e rest text i h l f =
     let w : first white (past_spaces text) ≡ false = hash_unwhite (past_spaces text) f in
     let whole : text ≡ e.blank ++ tail = i ∙ line_regrouped e rest in
     let blank : e.blank ≡ spaces k =
-    sym (taken_all white e.blank tail p.blank_white n) ∙ (ap (taken white) (sym whole ∙ spaces_split text) ∙ taken_all white (spaces k) (past_spaces text) (every_space k) w) in
+    sym (take_while_all white e.blank tail p.blank_white n) ∙ (ap (take_while white) (sym whole ∙ spaces_split text) ∙ take_while_all white (spaces k) (past_spaces text) (every_space k) w) in
     let after : tail ≡ past_spaces text =
-    sym (dropped_all white e.blank tail p.blank_white n) ∙ (ap (dropped white) (sym whole ∙ spaces_split text) ∙ dropped_all white (spaces k) (past_spaces text) (every_space k) w) in
-    and_from _ _ (and_from _ _ (comment_there e.comment e.stop rest p.stop_fit (ap (first hash) after ∙ f)) (ap (every space) blank ∙ spaces_every k))
+    sym (drop_while_all white e.blank tail p.blank_white n) ∙ (ap (drop_while white) (sym whole ∙ spaces_split text) ∙ drop_while_all white (spaces k) (past_spaces text) (every_space k) w) in
+    and_from _ _ (and_from _ _ (comment_there e.comment e.stop rest p.stop_fit (ap (first hash) after ∙ f)) (ap (list_all space) blank ∙ spaces_every k))
     (ap (λ (j : ℕ). nat_lt j q) (ap length blank ∙ spaces_long k) ∙ l)
 
 comments_trail : (q : ℕ) (text : List ℕ) (es : List LineEnd) (rest : List ℕ) → text ≡ comments_text es ++ rest → comments_fit true es rest ≡ true → is_line_end rest ≡ false → trail_here q text ≡ true

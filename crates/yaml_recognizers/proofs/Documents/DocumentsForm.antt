@@ -7,7 +7,8 @@ use Rattle.yaml_chars.specs.Classes.{white}
 use Rattle.yaml_grammar.specs.BlockNodes.{node_fits, node_text}
 use Rattle.yaml_grammar.specs.Separation.{LineEnd, comments_fit, comments_text}
 use Rattle.yaml_grammar.specs.Streams.{Document, Explicit, bare, content, directed, directive_text, document_events, document_text, explicit, explicit_events, explicit_fits, explicit_text, nothing}
-use Rattle.yaml_grammar.specs.Texts.{ends_word, every, is_empty}
+use Rattle.std.specs.List.{list_all}
+use Rattle.yaml_grammar.specs.Texts.{ends_word, is_empty}
 use Rattle.yaml_recognizers.specs.CanonicalComments.{canonical_comments, is_line_end}
 use Rattle.yaml_recognizers.specs.CanonicalStreams.{canonical_document, canonical_explicit}
 use Rattle.yaml_recognizers.proofs.Block.BlockNodesForm.{node_before, node_form, node_form_events, node_form_fits, node_form_text, node_open}
@@ -91,12 +92,12 @@ document_form_fits (bare n) ls opened bol after h l t =
 document_form_fits (explicit x) ls opened bol after h l t = explicit_form_fits x ls bol after h l t
 document_form_fits (directed blank first_version comments x) ls opened bol after h l t =
     let more : List ℕ = comments_text ls ++ after in
-    let head : Bool = bol && every white blank && not (is_empty blank) in
+    let head : Bool = bol && list_all white blank && not (is_empty blank) in
     let p : (opened ≡ true) × (head && comments_fit false comments (explicit_text x ++ more) && explicit_fits x true more ≡ true) = and_parts _ _ h in
     let q : (head && comments_fit false comments (explicit_text x ++ more) ≡ true) × (explicit_fits x true more ≡ true) = and_parts _ _ p.1 in
     let r : (head ≡ true) × (comments_fit false comments (explicit_text x ++ more) ≡ true) = and_parts _ _ q.0 in
-    let s : (bol && every white blank ≡ true) × (not (is_empty blank) ≡ true) = and_parts _ _ r.0 in
-    let u : (bol ≡ true) × (every white blank ≡ true) = and_parts _ _ s.0 in
+    let s : (bol && list_all white blank ≡ true) × (not (is_empty blank) ≡ true) = and_parts _ _ r.0 in
+    let u : (bol ≡ true) × (list_all white blank ≡ true) = and_parts _ _ s.0 in
     let c : canonical_comments false comments (explicit_text x ++ more) ≡ true = and_from _ _ r.1 (not_from_false _ (explicit_stop x more)) in
     let e : canonical_explicit (explicit_form x ls) true after ≡ true = explicit_form_fits x ls true after q.1 l t in
     rw (explicit_before x ls after) (and_from _ _ (and_from _ _ (and_from _ _ (and_from _ _ (and_from _ _ p.0 u.0) u.1) s.1) c) e)

@@ -6,16 +6,16 @@ use Rattle.yaml_grammar.specs.BlockScalars.{strip}
 use Rattle.yaml_grammar.specs.FlowNodes.{scalar}
 use Rattle.yaml_grammar.specs.FlowScalars.{plain}
 use Rattle.yaml_grammar.specs.Separation.{LineEnd, Sep, inline, lf, lines}
-use Rattle.yaml_grammar.specs.Streams.{Part, Stream, bare, fits, line, spelled}
+use Rattle.yaml_grammar.specs.Streams.{Part, Stream, bare, fits, line, stream_text}
 use Rattle.yaml_recognizers.specs.CanonicalStreams.{Piece, document, line as line_piece}
 use Rattle.yaml_recognizers.proofs.Documents.StreamsForm.{stream_form}
 
 -- two presentations of a text that fit, and their one form
 record Share (one other : Stream) (source : List ℕ) (pieces : List Piece) : Type 0 where
-  one_spells : spelled one ≡ source
+  one_spells : stream_text one ≡ source
   one_fits : fits one ≡ true
   one_form : stream_form one ≡ record { mark = false; pieces = pieces }
-  other_spells : spelled other ≡ source
+  other_spells : stream_text other ≡ source
   other_fits : fits other ≡ true
   other_form : stream_form other ≡ record { mark = false; pieces = pieces }
 

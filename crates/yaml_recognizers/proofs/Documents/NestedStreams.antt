@@ -6,11 +6,11 @@ use Rattle.std.proofs.lemmas.List.{append-nil}
 use Rattle.yaml_grammar.specs.Events.{Event}
 use Rattle.yaml_grammar.specs.Reads.{CanRead, Presents}
 use Rattle.yaml_grammar.specs.Separation.{LineEnd, comment_fits, comment_line_fits, comments_fit, comments_text, line_end_text}
-use Rattle.yaml_grammar.specs.Streams.{Document, bare, directed, document_events, document_fits, document_text, explicit, explicit_events, explicit_fits, explicit_text, fits, mark_text, meant, optional_document_events, optional_document_fits, part_fits, part_text, parts_events, parts_fit, parts_text, spelled, suffix_fits, suffix_text, suffixes}
+use Rattle.yaml_grammar.specs.Streams.{Document, bare, directed, document_events, document_fits, document_text, explicit, explicit_events, explicit_fits, explicit_text, fits, mark_text, stream_events, optional_document_events, optional_document_fits, part_fits, part_text, parts_events, parts_fit, parts_text, stream_text, suffix_fits, suffix_text, suffixes}
 use Rattle.yaml_grammar.specs.Texts.{byte_len, ends_word, is_empty, optional, starts_line}
 use Rattle.yaml_recognizers.specs.CanonicalComments.{canonical_comments}
-use Rattle.yaml_recognizers.specs.CanonicalStreams.{FlatStream, Piece, canonical_document, canonical_explicit, canonical_pieces, canonical_stream, document, flat_meant, flat_text, line, pieces_events, pieces_text, suffix}
-use Rattle.yaml_recognizers.specs.NestedStreams.{Opened, closed_pieces, nested, opened_pieces}
+use Rattle.yaml_recognizers.specs.CanonicalStreams.{FlatStream, Piece, canonical_document, canonical_explicit, canonical_pieces, canonical_stream, document, flat_events, flat_text, line, pieces_events, pieces_text, suffix}
+use Rattle.yaml_recognizers.specs.NestedStreams.{Opened, closed_pieces, nested_stream, opened_pieces}
 use Rattle.yaml_recognizers.proofs.Meanings.CanonicalFits.{comments_fit_too, document_fits_too, explicit_fits_too}
 use Rattle.yaml_recognizers.proofs.Separation.LineEnds.{LineParts, line_parts}
 use Rattle.yaml_recognizers.proofs.Basics.LineStarts.{byte_len_joined, comments_start, line_not_end, line_starts, starts_joined}
@@ -193,25 +193,25 @@ mutual
 -- ---- together
 
 -- the nested form spells the same
-pub nested_spells : (s : FlatStream) → canonical_stream s ≡ true → spelled (nested s) ≡ flat_text s
+pub nested_spells : (s : FlatStream) → canonical_stream s ≡ true → stream_text (nested_stream s) ≡ flat_text s
 nested_spells s h =
     let o : Opened = opened_pieces s.pieces in
-    let regrouped : spelled (nested s) ≡ mark_text s.mark ++ opened_text o = simp append_assoc in
+    let regrouped : stream_text (nested_stream s) ≡ mark_text s.mark ++ opened_text o = simp append_assoc in
     regrouped ∙ ap (λ u. mark_text s.mark ++ u) (sym (opened_spells s.pieces true h))
 
 -- it fits
-pub nested_fits : (s : FlatStream) → canonical_stream s ≡ true → fits (nested s) ≡ true
+pub nested_fits : (s : FlatStream) → canonical_stream s ≡ true → fits (nested_stream s) ≡ true
 nested_fits s h = let f = opened_fits s.pieces true h refl in and_from _ _ (and_from _ _ f.prefix f.document) f.parts
 
 -- it means the same
-pub nested_means : (s : FlatStream) → canonical_stream s ≡ true → meant (nested s) ≡ flat_meant s
+pub nested_means : (s : FlatStream) → canonical_stream s ≡ true → stream_events (nested_stream s) ≡ flat_events s
 nested_means s h = sym (opened_means s.pieces true (if s.mark then 3 else 0) h)
 
 -- so it is a presentation of the text
-pub nested_presents : (s : FlatStream) → canonical_stream s ≡ true → Presents (nested s) (flat_text s)
+pub nested_presents : (s : FlatStream) → canonical_stream s ≡ true → Presents (nested_stream s) (flat_text s)
 nested_presents s h = record { fits = nested_fits s h; spells = nested_spells s h }
 
 -- so the text can be read as what the flat stream means
-pub can_read : (text : List ℕ) (s : FlatStream) → text ≡ flat_text s → canonical_stream s ≡ true → CanRead text (flat_meant s)
+pub can_read : (text : List ℕ) (s : FlatStream) → text ≡ flat_text s → canonical_stream s ≡ true → CanRead text (flat_events s)
 can_read text s t h =
-    record { presentation = nested s; presents = record { fits = nested_fits s h; spells = nested_spells s h ∙ sym t }; means = nested_means s h }
+    record { presentation = nested_stream s; presents = record { fits = nested_fits s h; spells = nested_spells s h ∙ sym t }; means = nested_means s h }

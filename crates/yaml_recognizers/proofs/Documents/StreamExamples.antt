@@ -3,7 +3,7 @@
 use Rattle.std.proofs.Common.{◌≡◌, refl}
 use Rattle.std.specs.Prelude.{ℕ, List, [], ◌∷◌, ◌++◌, Option, Some, None, codes, replicate}
 use Rattle.yaml_grammar.specs.Events.{Event, document_start, document_end, seq_start, seq_end, map_start, map_end, scalar_event, plain_style, single_style, double_style, literal_style, folded_style, omitted_style}
-use Rattle.yaml_recognizers.specs.CanonicalStreams.{FlatStream, flat_meant}
+use Rattle.yaml_recognizers.specs.CanonicalStreams.{FlatStream, flat_events}
 use Rattle.yaml_recognizers.specs.FlowNodes.{read_flow}
 use Rattle.yaml_recognizers.specs.BlockNodes.{read_node}
 use Rattle.yaml_recognizers.specs.Streams.{read_explicit, read_piece, read_pieces}
@@ -29,7 +29,7 @@ read text events = record { text = text; events = Some events }
 
 abbrev events_of : Option FlatStream → Option (List Event)
 events_of None = None
-events_of (Some s) = Some (flat_meant s)
+events_of (Some s) = Some (flat_events s)
 
 -- what the examples should give
 abbrev pub wanted : List Example → List (Option (List Event))

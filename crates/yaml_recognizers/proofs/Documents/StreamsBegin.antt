@@ -9,7 +9,8 @@ use Rattle.yaml_grammar.specs.FlowNodes.{Flow, flow_text, map, scalar, seq}
 use Rattle.yaml_grammar.specs.FlowScalars.{FlowContext, double, line_text, lines_after, outer, plain, plain_kind, plain_line, plain_text, single}
 use Rattle.yaml_grammar.specs.Separation.{LineEnd, Sep, comment_line_fits, comments_text, indents, inline, line_end_text, lines, sep_text}
 use Rattle.yaml_grammar.specs.Streams.{Explicit, bare, content, directed, explicit, explicit_text, nothing}
-use Rattle.yaml_grammar.specs.Texts.{ends_word, every, first, is_empty, marker, spaces, starts_line}
+use Rattle.std.specs.List.{list_all}
+use Rattle.yaml_grammar.specs.Texts.{ends_word, first, is_empty, marker, spaces, starts_line}
 use Rattle.yaml_recognizers.specs.BlockNodes.{bar, omits}
 use Rattle.yaml_recognizers.specs.CanonicalBlockNodes.{canonical_items, canonical_node, canonical_pairs}
 use Rattle.yaml_recognizers.specs.CanonicalBlockScalars.{canonical_block}
@@ -17,7 +18,7 @@ use Rattle.yaml_recognizers.specs.CanonicalComments.{canonical_comments, canonic
 use Rattle.yaml_recognizers.specs.CanonicalFlowNodes.{canonical_flow}
 use Rattle.yaml_recognizers.specs.CanonicalStreams.{Piece, canonical_explicit, canonical_pieces, document, line, piece_text, pieces_text, suffix}
 use Rattle.yaml_recognizers.specs.Comments.{all_comments}
-use Rattle.yaml_recognizers.specs.Ends.{ended, solid}
+use Rattle.yaml_recognizers.specs.Ends.{block_node_stops, solid}
 use Rattle.yaml_recognizers.specs.Prefixes.{sign}
 use Rattle.yaml_recognizers.proofs.Block.BlockNodesBegin.{Prefix, append_some, block_prefix, items_start, pair_long, pairs_prefix}
 use Rattle.yaml_recognizers.proofs.Separation.CommentsComplete.{comments_all, no_comments, no_line, not_line_end}
@@ -70,7 +71,7 @@ leaf_prefix bol (inline []) rest h s r u =
       unreserved = r;
     }
 leaf_prefix bol (inline (x ∷ xs)) rest h s r u =
-    let w : every white (x ∷ xs) ≡ true = (and_parts _ _ h).0 in
+    let w : list_all white (x ∷ xs) ≡ true = (and_parts _ _ h).0 in
     let f : (marker (x ∷ (xs ++ rest)) ≡ false) × (reserved x ≡ false) = white_prefix x (xs ++ rest) (and_parts _ _ w).0 in
     record {
       comments = [];
@@ -97,7 +98,7 @@ leaf_prefix bol (lines (e ∷ es) []) rest h s r u =
     }
 leaf_prefix bol (lines (e ∷ es) (x ∷ xs)) rest h s r u =
     let p : (canonical_comments bol (e ∷ es) (x ∷ (xs ++ rest)) ≡ true) × (indents 0 (x ∷ xs) ≡ true) = and_parts _ _ h in
-    let w : every white (x ∷ xs) ≡ true = (and_parts _ _ p.1).0 in
+    let w : list_all white (x ∷ xs) ≡ true = (and_parts _ _ p.1).0 in
     let f : (marker (x ∷ (xs ++ rest)) ≡ false) × (reserved x ≡ false) = white_prefix x (xs ++ rest) (and_parts _ _ w).0 in
     let regrouped : sep_text (lines (e ∷ es) (x ∷ xs)) ++ rest ≡ comments_text (e ∷ es) ++ (x ∷ (xs ++ rest)) = simp append_assoc in
     record {
@@ -176,7 +177,7 @@ node_prefix (pairs comments k ps) bol after h =
 
 -- ---- a node after `---`, and a bare one
 
-goes_on_at_top : (rest : List ℕ) → is_empty rest ≡ false → marker rest ≡ false → is_line_end rest ≡ false → ended 0 false rest ≡ false
+goes_on_at_top : (rest : List ℕ) → is_empty rest ≡ false → marker rest ≡ false → is_line_end rest ≡ false → block_node_stops 0 false rest ≡ false
 goes_on_at_top rest e u l = or_from _ _ (or_from _ _ (or_from _ _ e u) l) (and_left _ _ (le-ltb (spaces_before rest) 0 (omega arith)))
 
 given_at_top : (comments : List LineEnd) (rest : List ℕ) → is_empty rest ≡ false → is_line_end rest ≡ false
@@ -258,7 +259,7 @@ node_long (pairs comments k ps) m shallow bol after h = omega (arith, pairs_long
 -- ---- what comes after a document ends it
 
 -- a marker ends a node
-pub marked : (m : ℕ) (shallow : Bool) (text : List ℕ) → marker text ≡ true → ended m shallow text ≡ true
+pub marked : (m : ℕ) (shallow : Bool) (text : List ℕ) → marker text ≡ true → block_node_stops m shallow text ≡ true
 marked m shallow text h = or_left _ _ (or_left _ _ (or_right (is_empty text) _ h))
 
 explicit_ends : (x : Explicit) (bol : Bool) (rest : List ℕ) → canonical_explicit x bol rest ≡ true → marker (explicit_text x ++ rest) ≡ true
@@ -270,7 +271,7 @@ explicit_ends (nothing comments) bol rest h =
     (and_parts _ _ p.0).1
 
 -- after a document comes the end, a marker, or a line of whitespace or a comment
-pub document_ended : (ps : List Piece) (bol : Bool) → canonical_pieces ps false bol ≡ true → ended 0 false (pieces_text ps) ≡ true
+pub document_ended : (ps : List Piece) (bol : Bool) → canonical_pieces ps false bol ≡ true → block_node_stops 0 false (pieces_text ps) ≡ true
 document_ended [] bol h = refl
 document_ended (suffix comments ∷ ps) bol h =
     let p : (bol && ends_word (comments_text comments ++ pieces_text ps) && canonical_comments false comments (pieces_text ps) ≡ true)

@@ -6,20 +6,21 @@ use Rattle.yaml_chars.specs.Classes.{white}
 use Rattle.yaml_grammar.specs.BlockNodes.{Node, node_text}
 use Rattle.yaml_grammar.specs.Separation.{LineEnd, comments_text, line_end_text}
 use Rattle.yaml_grammar.specs.Streams.{Explicit, bare, content, directed, document_text, explicit, explicit_text, mark_text, nothing}
-use Rattle.yaml_grammar.specs.Texts.{begins, ends_word, every, first, is_empty, marker, starts_line}
+use Rattle.std.specs.List.{list_all}
+use Rattle.yaml_grammar.specs.Texts.{begins, ends_word, first, is_empty, marker, starts_line}
 use Rattle.yaml_recognizers.specs.BlockNodes.{omits}
 use Rattle.yaml_recognizers.specs.CanonicalBlockNodes.{canonical_node}
 use Rattle.yaml_recognizers.specs.CanonicalComments.{canonical_comments, is_line_end}
 use Rattle.yaml_recognizers.specs.CanonicalStreams.{FlatStream, Piece, canonical_explicit, canonical_piece, canonical_pieces, canonical_stream, document, flat_text, line, opens, piece_text, pieces_text, suffix}
 use Rattle.yaml_recognizers.specs.Comments.{all_comments, closes_line}
-use Rattle.yaml_recognizers.specs.Ends.{ended}
+use Rattle.yaml_recognizers.specs.Ends.{block_node_stops}
 use Rattle.yaml_recognizers.specs.Reading.{Read, on}
 use Rattle.yaml_recognizers.specs.Streams.{directed_with, mark_at, more_pieces, order_mark, percent, piece_and, read_directed, read_explicit, read_piece, read_pieces, read_version, stream_of, suffix_with, with_mark}
 use Rattle.yaml_recognizers.proofs.Block.BlockNodesBegin.{closes}
 use Rattle.yaml_recognizers.proofs.Separation.CommentsComplete.{comments_all, line_end_read}
 use Rattle.yaml_recognizers.proofs.Separation.CommentsSound.{line_is_end}
 use Rattle.yaml_recognizers.proofs.Flow.FlowNodesBegin.{reserved}
-use Rattle.yaml_recognizers.proofs.Basics.Prefixes.{dropped_all, taken_all}
+use Rattle.yaml_recognizers.proofs.Basics.Prefixes.{drop_while_all, take_while_all}
 use Rattle.yaml_recognizers.proofs.Separation.LineEnds.{line_long}
 use Rattle.yaml_recognizers.proofs.Documents.StreamsBegin.{Bare, bare_prefix, content_given, document_ended, node_prefix, node_long}
 
@@ -64,7 +65,7 @@ line_no_mark (c ∷ cs) h = elim (cases_eq c 0xfeff) [
 abbrev pub Follows : Piece → List ℕ → Type 0
 Follows (suffix comments) after = Unit {0}
 Follows (line e) after = Unit {0}
-Follows (document d) after = ended 0 false after ≡ true
+Follows (document d) after = block_node_stops 0 false after ≡ true
 
 -- what follows a piece ends it
 pub follows : (p : Piece) (ps : List Piece) (opened bol : Bool) → canonical_pieces ps (opens opened p) bol ≡ true → Follows p (pieces_text ps)
@@ -129,8 +130,8 @@ version_not_white true rest = refl
 version_not_white false rest = refl
 
 module _ (node_at : Bool → List ℕ → Read Node)
-    (node_read : (n : Node) (bol : Bool) (after : List ℕ) → canonical_node n 0 false bol after ≡ true → ended 0 false after ≡ true → node_at bol (node_text n ++ after) ≡ Some (n, after)) where
-  explicit_read : (x : Explicit) (after : List ℕ) → canonical_explicit x true after ≡ true → ended 0 false after ≡ true → read_explicit node_at (explicit_text x ++ after) ≡ Some (x, after)
+    (node_read : (n : Node) (bol : Bool) (after : List ℕ) → canonical_node n 0 false bol after ≡ true → block_node_stops 0 false after ≡ true → node_at bol (node_text n ++ after) ≡ Some (n, after)) where
+  explicit_read : (x : Explicit) (after : List ℕ) → canonical_explicit x true after ≡ true → block_node_stops 0 false after ≡ true → read_explicit node_at (explicit_text x ++ after) ≡ Some (x, after)
   unfolding read_explicit
   explicit_read (content n) after h e =
       let text : List ℕ = node_text n ++ after in
@@ -143,8 +144,8 @@ module _ (node_at : Bool → List ℕ → Read Node)
       let o : omits 0 false (comments, after) ≡ true = and_from _ _ (closes comments after p.1) e in
       rw p.0 (rw (comments_all false comments after p.1) (rw o refl))
 
-  directed_read : (blank : List ℕ) (first_version : Bool) (comments : List LineEnd) (x : Explicit) (after : List ℕ) → every white blank ≡ true → is_empty blank ≡ false
-      → canonical_comments false comments (explicit_text x ++ after) ≡ true → canonical_explicit x true after ≡ true → ended 0 false after ≡ true
+  directed_read : (blank : List ℕ) (first_version : Bool) (comments : List LineEnd) (x : Explicit) (after : List ℕ) → list_all white blank ≡ true → is_empty blank ≡ false
+      → canonical_comments false comments (explicit_text x ++ after) ≡ true → canonical_explicit x true after ≡ true → block_node_stops 0 false after ≡ true
       → read_directed node_at (document_text (directed blank first_version comments x) ++ after) ≡ Some (directed blank first_version comments x, after)
   directed_read blank first_version comments x after w b c h e =
       let rest : List ℕ = explicit_text x ++ after in
@@ -152,7 +153,7 @@ module _ (node_at : Bool → List ℕ → Read Node)
       let regrouped : document_text (directed blank first_version comments x) ++ after ≡ codes "%YAML" ++ (blank ++ version) = simp append_assoc in
       let f : first white version ≡ false = version_not_white first_version (comments_text comments ++ rest) in
       ap (read_directed node_at) regrouped
-      ∙ rw (taken_all white blank version w f, dropped_all white blank version w f, b)
+      ∙ rw (take_while_all white blank version w f, drop_while_all white blank version w f, b)
       (ap (λ r. on r (λ v rest'. directed_with node_at blank v (all_comments false rest'))) (version_read first_version (comments_text comments ++ rest))
       ∙ (ap (directed_with node_at blank first_version) (comments_all false comments rest c)
       ∙ rw (closes comments rest c)
@@ -199,10 +200,10 @@ module _ (node_at : Bool → List ℕ → Read Node)
       let d = dashes x after h in
       explicit_step x opened (explicit_text x ++ after) (Some (x, after)) d.0 d.1 d.2 (explicit_read x after h f)
   piece_read (document (directed blank first_version comments x)) opened bol after h f =
-      let p : (opened && bol && every white blank && not (is_empty blank) && canonical_comments false comments (explicit_text x ++ after) ≡ true) × (canonical_explicit x true after ≡ true) = and_parts _ _ h in
-      let q : (opened && bol && every white blank && not (is_empty blank) ≡ true) × (canonical_comments false comments (explicit_text x ++ after) ≡ true) = and_parts _ _ p.0 in
-      let r : (opened && bol && every white blank ≡ true) × (not (is_empty blank) ≡ true) = and_parts _ _ q.0 in
-      let s : (opened && bol ≡ true) × (every white blank ≡ true) = and_parts _ _ r.0 in
+      let p : (opened && bol && list_all white blank && not (is_empty blank) && canonical_comments false comments (explicit_text x ++ after) ≡ true) × (canonical_explicit x true after ≡ true) = and_parts _ _ h in
+      let q : (opened && bol && list_all white blank && not (is_empty blank) ≡ true) × (canonical_comments false comments (explicit_text x ++ after) ≡ true) = and_parts _ _ p.0 in
+      let r : (opened && bol && list_all white blank ≡ true) × (not (is_empty blank) ≡ true) = and_parts _ _ q.0 in
+      let s : (opened && bol ≡ true) × (list_all white blank ≡ true) = and_parts _ _ r.0 in
       let t : (opened ≡ true) × (bol ≡ true) = and_parts _ _ s.0 in
       rw (t.0, t.1) (ap (λ u. on u (λ d rest. Some (document d, rest))) (directed_read blank first_version comments x after s.1 (not-true _ r.1) q.1 p.1 f))
 

@@ -8,7 +8,7 @@ use Rattle.std.proofs.lemmas.List.{append-nil}
 use Rattle.yaml_grammar.specs.BlockNodes.{node_events, node_text}
 use Rattle.yaml_grammar.specs.Events.{as_document}
 use Rattle.yaml_grammar.specs.Separation.{LineEnd, comments_text, line_end_text}
-use Rattle.yaml_grammar.specs.Streams.{Document, Part, Stream, bare, directed, directive_text, document_events, document_text, explicit, explicit_text, further, line as part_line, mark_text, meant, optional_document_events, part_events, part_text, parts_events, parts_text, spelled, suffix_text, suffixes}
+use Rattle.yaml_grammar.specs.Streams.{Document, Part, Stream, bare, directed, directive_text, document_events, document_text, explicit, explicit_text, further, line as part_line, mark_text, stream_events, optional_document_events, part_events, part_text, parts_events, parts_text, stream_text, suffix_text, suffixes}
 use Rattle.yaml_grammar.specs.Texts.{byte_len, optional}
 use Rattle.yaml_recognizers.specs.CanonicalStreams.{Piece, document, line, piece_events, piece_text, pieces_events, pieces_text, suffix}
 use Rattle.yaml_recognizers.proofs.Block.BareNodes.{leading, parted_events, parted_text, unled}
@@ -94,7 +94,7 @@ parts_pieces_text [] = refl
 parts_pieces_text (p ∷ ps) = pieces_joined (part_pieces p) (parts_pieces ps) ∙ rw (part_pieces_text p, parts_pieces_text ps)
 
 -- those of a stream spell the stream
-pub stream_pieces_text : (s : Stream) → mark_text s.mark ++ pieces_text (stream_pieces s) ≡ spelled s
+pub stream_pieces_text : (s : Stream) → mark_text s.mark ++ pieces_text (stream_pieces s) ≡ stream_text s
 stream_pieces_text s =
     let text : pieces_text (stream_pieces s) ≡ comments_text s.prefix ++ (optional document_text s.document ++ parts_text s.parts) =
     simp (pieces_joined, lines_pieces_text s.prefix, optional_pieces_text s.document, parts_pieces_text s.parts) in
@@ -146,7 +146,7 @@ parts_pieces_events (p ∷ ps) at =
     pieces_events_joined (part_pieces p) (parts_pieces ps) at ∙ rw (part_pieces_events p at, part_pieces_text p, parts_pieces_events ps)
 
 -- the pieces of a stream mean what it does
-pub stream_pieces_events : (s : Stream) → pieces_events (stream_pieces s) (if s.mark then 3 else 0) ≡ meant s
+pub stream_pieces_events : (s : Stream) → pieces_events (stream_pieces s) (if s.mark then 3 else 0) ≡ stream_events s
 stream_pieces_events s =
     let at : ℕ = if s.mark then 3 else 0 in
     let after : ℕ = at + byte_len (comments_text s.prefix) in

@@ -6,18 +6,19 @@ use Rattle.yaml_chars.specs.Classes.{white}
 use Rattle.yaml_grammar.specs.BlockNodes.{Node}
 use Rattle.yaml_grammar.specs.Separation.{LineEnd, comments_text}
 use Rattle.yaml_grammar.specs.Streams.{Document, Explicit, bare, content, directed, document_text, explicit, explicit_text, mark_text, nothing}
-use Rattle.yaml_grammar.specs.Texts.{begins, ends_word, every, first, is_empty, starts_line}
+use Rattle.std.specs.List.{list_all}
+use Rattle.yaml_grammar.specs.Texts.{begins, ends_word, first, is_empty, starts_line}
 use Rattle.yaml_recognizers.specs.BlockNodes.{omits}
 use Rattle.yaml_recognizers.specs.CanonicalComments.{canonical_comments, is_line_end}
 use Rattle.yaml_recognizers.specs.CanonicalStreams.{FlatStream, Piece, canonical_document, canonical_explicit, canonical_piece, canonical_pieces, canonical_stream, document, flat_text, line, opens, piece_text, pieces_text, suffix}
 use Rattle.yaml_recognizers.specs.Comments.{all_comments, closes_line, read_line_end}
-use Rattle.yaml_recognizers.specs.Ends.{ended}
-use Rattle.yaml_recognizers.specs.Prefixes.{dropped, taken}
+use Rattle.yaml_recognizers.specs.Ends.{block_node_stops}
+use Rattle.yaml_recognizers.specs.Prefixes.{drop_while, take_while}
 use Rattle.yaml_recognizers.specs.Reading.{Read, on}
 use Rattle.yaml_recognizers.specs.Streams.{directed_with, explicit_with, mark_at, more_pieces, order_mark, percent, piece_and, read_directed, read_explicit, read_piece, read_pieces, read_version, stream_of, suffix_with, version_with, with_mark}
 use Rattle.yaml_recognizers.proofs.Block.BlockNodesSound.{NodeOf, tail_fit}
 use Rattle.yaml_recognizers.proofs.Separation.CommentsSound.{CommentsOf, LineOf, all_sound, line_sound}
-use Rattle.yaml_recognizers.proofs.Basics.Prefixes.{taken_every, taken_split}
+use Rattle.yaml_recognizers.proofs.Basics.Prefixes.{take_while_every, take_while_split}
 use Rattle.yaml_recognizers.proofs.Basics.Reading.{Sound, sound_on}
 use Rattle.yaml_recognizers.proofs.Documents.StreamsComplete.{begins_split}
 
@@ -59,7 +60,7 @@ module _ (node_at : Bool → List ℕ → Read Node) (node_sound : (bol : Bool) 
       let c : List LineEnd × List ℕ = all_comments false after in
       cond_both (omits 0 false c) (Some (nothing c.0, c.1)) (on (node_at false after) (λ n rest. Some (content n, rest))) (Sound (ExplicitOf text))
       (λ o.
-      let p : (closes_line c ≡ true) × (ended 0 false c.1 ≡ true) = and_parts _ _ o in
+      let p : (closes_line c ≡ true) × (block_node_stops 0 false c.1 ≡ true) = and_parts _ _ o in
       let cs : ClosedOf after c = closed_sound after p.0 in
       (t ∙ ap (λ u. codes "---" ++ u) cs.0, and_from _ _ (subst (λ (u : List ℕ). ends_word u ≡ true) cs.0 w) cs.1))
       (λ _. sound_on (NodeOf 0 false false after) (ExplicitOf text) (node_at false after) (λ n rest. Some (content n, rest)) (node_sound false after)
@@ -76,7 +77,7 @@ module _ (node_at : Bool → List ℕ → Read Node) (node_sound : (bol : Bool) 
 
   -- after `%YAML`, its white and the version
   after_version : (text blank after : List ℕ) (first_version : Bool) → text ≡ codes "%YAML" ++ (blank ++ ((if first_version then codes "1.1" else codes "1.2") ++ after))
-      → every white blank ≡ true → is_empty blank ≡ false → Sound (DirectedOf text) (directed_with node_at blank first_version (all_comments false after))
+      → list_all white blank ≡ true → is_empty blank ≡ false → Sound (DirectedOf text) (directed_with node_at blank first_version (all_comments false after))
   after_version text blank after first_version t w b =
       let c : List LineEnd × List ℕ = all_comments false after in
       cond_both (closes_line c) (on (read_explicit node_at c.1) (λ x rest. Some (directed blank first_version c.0 x, rest))) None (Sound (DirectedOf text))
@@ -92,7 +93,7 @@ module _ (node_at : Bool → List ℕ → Read Node) (node_sound : (bol : Bool) 
       )))
       (λ _. tt)
 
-  after_percent : (text blank after : List ℕ) → text ≡ codes "%YAML" ++ (blank ++ after) → every white blank ≡ true → Sound (DirectedOf text) (version_with node_at blank after)
+  after_percent : (text blank after : List ℕ) → text ≡ codes "%YAML" ++ (blank ++ after) → list_all white blank ≡ true → Sound (DirectedOf text) (version_with node_at blank after)
   after_percent text blank after t w =
       cond_both (is_empty blank) None (on (read_version after) (λ first_version rest. directed_with node_at blank first_version (all_comments false rest))) (Sound (DirectedOf text))
       (λ _. tt)
@@ -101,11 +102,11 @@ module _ (node_at : Bool → List ℕ → Read Node) (node_sound : (bol : Bool) 
 
   directed_sound : (text : List ℕ) → Sound (DirectedOf text) (read_directed node_at text)
   directed_sound text =
-      cond_both (begins (codes "%YAML") text) (version_with node_at (taken white (drop 5 text)) (dropped white (drop 5 text))) None (Sound (DirectedOf text))
+      cond_both (begins (codes "%YAML") text) (version_with node_at (take_while white (drop 5 text)) (drop_while white (drop 5 text))) None (Sound (DirectedOf text))
       (λ h.
       let t : text ≡ codes "%YAML" ++ drop 5 text = begins_split (codes "%YAML") text h in
-      let s : drop 5 text ≡ taken white (drop 5 text) ++ dropped white (drop 5 text) = taken_split white (drop 5 text) in
-      after_percent text (taken white (drop 5 text)) (dropped white (drop 5 text)) (t ∙ ap (λ u. codes "%YAML" ++ u) s) (taken_every white (drop 5 text)))
+      let s : drop 5 text ≡ take_while white (drop 5 text) ++ drop_while white (drop 5 text) = take_while_split white (drop 5 text) in
+      after_percent text (take_while white (drop 5 text)) (drop_while white (drop 5 text)) (t ∙ ap (λ u. codes "%YAML" ++ u) s) (take_while_every white (drop 5 text)))
       (λ _. tt)
 
   suffix_sound : (opened bol : Bool) (text : List ℕ) → bol ≡ true → mark_at 46 text ≡ true → Sound (PieceOf opened bol text) (suffix_with (all_comments false (drop 3 text)))

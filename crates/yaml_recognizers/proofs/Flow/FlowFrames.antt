@@ -6,12 +6,12 @@ use Rattle.yaml_grammar.specs.FlowScalars.{FlowContext, inside, one_line}
 use Rattle.yaml_grammar.specs.Separation.{Sep, gap_text}
 use Rattle.yaml_grammar.specs.Texts.{first, starts_line}
 use Rattle.yaml_recognizers.specs.Ends.{is_colon}
-use Rattle.yaml_recognizers.specs.FlowFrames.{Bracket, DoneEntry, OpenFlow, asked_key, close_with, closer, collection_of, entries_of, entry_of, first_node, joined, pair_value, plug, unwind}
-use Rattle.yaml_recognizers.specs.FlowNodes.{asked_entry, asked_with, ends_entry, is_asked, made, next_entry}
+use Rattle.yaml_recognizers.specs.FlowFrames.{Bracket, DoneEntry, OpenFlow, asked_key, close_with, closer, collection_of, entries_of, entry_of, first_node, entries_onto, pair_value, plug, unwind}
+use Rattle.yaml_recognizers.specs.FlowNodes.{asked_entry, asked_with, ends_entry, is_asked, entry_if_short, next_entry}
 use Rattle.yaml_recognizers.specs.FlowScalars.{read_scalar}
 use Rattle.yaml_recognizers.specs.Prefixes.{past}
 use Rattle.yaml_recognizers.specs.Gaps.{GapRead, read_gap}
-use Rattle.yaml_recognizers.specs.Reading.{Read, closed, on}
+use Rattle.yaml_recognizers.specs.Reading.{Read, read_closing, on}
 use Rattle.yaml_recognizers.specs.Recognizers.{flow_entries_at, flow_entry_at, flow_node_at, flow_value_at}
 use Rattle.yaml_recognizers.proofs.Flow.FlowNodesDepth.{entries_step, entry_step, flow_step, value_step}
 use Rattle.yaml_recognizers.proofs.Scalars.ScalarsInNodes.{reads_scalars}
@@ -26,7 +26,7 @@ unwind_none n d [] = refl
 unwind_none n d (o ∷ os) = unwind_none n d os
 
 -- one entry more at the end of those that are read
-pub joined_more : (xs : List DoneEntry) (x : DoneEntry) (es : Entries) → joined (xs ++ x ∷ []) es ≡ joined xs (next x.entry x.before x.after es)
+pub joined_more : (xs : List DoneEntry) (x : DoneEntry) (es : Entries) → entries_onto (xs ++ x ∷ []) es ≡ entries_onto xs (next x.entry x.before x.after es)
 joined_more [] x es = refl
 joined_more (y ∷ ys) x es = ap (next y.entry y.before y.after) (joined_more ys x es)
 
@@ -51,12 +51,12 @@ is_scalar n c bol text h k = flow_step read_scalar reads_scalars n c bol text �
 
 -- ---- the start of an entry
 
-closed_here : (b : Bracket) (text : List ℕ) → close_with b (Some (none, text)) ≡ closed (closer b.in_seq) (collection_of b.in_seq b.gap (joined b.done none)) text
+closed_here : (b : Bracket) (text : List ℕ) → close_with b (Some (none, text)) ≡ read_closing (closer b.in_seq) (collection_of b.in_seq b.gap (entries_onto b.done none)) text
 closed_here b text = refl
 
 -- at the closing bracket there is no further entry
 pub no_entry : (n : ℕ) (d : FlowContext) (bol : Bool) (b : Bracket) (text : List ℕ) → first (λ x. x == closer b.in_seq) text ≡ true
-    → close_with b (flow_entries_at n d b.in_seq bol (closer b.in_seq) text) ≡ closed (closer b.in_seq) (collection_of b.in_seq b.gap (joined b.done none)) text
+    → close_with b (flow_entries_at n d b.in_seq bol (closer b.in_seq) text) ≡ read_closing (closer b.in_seq) (collection_of b.in_seq b.gap (entries_onto b.done none)) text
 no_entry n d bol b text h =
     let e : flow_entries_at n d b.in_seq bol (closer b.in_seq) text ≡ Some (none, text) = entries_step read_scalar reads_scalars n d b.in_seq bol (closer b.in_seq) text ∙ rw h refl in
     ap (close_with b) e
@@ -114,17 +114,17 @@ pub value_begins : (n : ℕ) (d : FlowContext) (in_seq bol : Bool) (key : Flow) 
     ≡ on (flow_node_at n d (starts_line false (gap_text (read_gap n (one_line d) (past (read_gap n (one_line d) text).1)).0)) (read_gap n (one_line d) (past (read_gap n (one_line d) text).1)).1)
     (λ f rest. entry_of n d in_seq (pair_value None bol key (read_gap n (one_line d) text).0 (read_gap n (one_line d) (past (read_gap n (one_line d) text).1)).0) f rest)
 value_begins n d in_seq bol key text h k =
-    ap (λ r. on r (λ value rest. made n d in_seq bol None key value rest)) (value_given n d (is_plain key) text h k)
+    ap (λ r. on r (λ value rest. entry_if_short n d in_seq bol None key value rest)) (value_given n d (is_plain key) text h k)
     ∙ on_on {A = Flow} {B = Value}
     (flow_node_at n d (starts_line false (gap_text (read_gap n (one_line d) (past (read_gap n (one_line d) text).1)).0)) (read_gap n (one_line d) (past (read_gap n (one_line d) text).1)).1)
-    (λ f rest. Some (given (read_gap n (one_line d) text).0 (read_gap n (one_line d) (past (read_gap n (one_line d) text).1)).0 f, rest)) (made n d in_seq bol None key)
+    (λ f rest. Some (given (read_gap n (one_line d) text).0 (read_gap n (one_line d) (past (read_gap n (one_line d) text).1)).0 f, rest)) (entry_if_short n d in_seq bol None key)
 
 -- without a `:` there is no value
 pub no_value : (n : ℕ) (d : FlowContext) (in_seq bol : Bool) (key : Flow) (text : List ℕ) → is_colon d (is_plain key) (read_gap n (one_line d) text).1 ≡ false
-    → entry_of n d in_seq (first_node bol) key text ≡ made n d in_seq bol None key absent text
+    → entry_of n d in_seq (first_node bol) key text ≡ entry_if_short n d in_seq bol None key absent text
 no_value n d in_seq bol key text h =
     let e : flow_value_at n d (is_plain key) text ≡ Some (absent, text) = value_step read_scalar reads_scalars n d (is_plain key) text ∙ rw h refl in
-    ap (λ r. on r (λ value rest. made n d in_seq bol None key value rest)) e
+    ap (λ r. on r (λ value rest. entry_if_short n d in_seq bol None key value rest)) e
 
 -- the same after a key that is asked for
 pub asked_value_begins : (n : ℕ) (d : FlowContext) (in_seq bol : Bool) (sep : Sep) (key : Flow) (text : List ℕ) → is_colon d (is_plain key) (read_gap n (one_line d) text).1 ≡ true
@@ -150,8 +150,8 @@ value_left_out n d after_plain text h k = value_step read_scalar reads_scalars n
 -- a value is left out after its `:`
 pub value_is_left_out : (n : ℕ) (d : FlowContext) (in_seq bol : Bool) (key : Flow) (text : List ℕ) → is_colon d (is_plain key) (read_gap n (one_line d) text).1 ≡ true
     → ends_entry (read_gap n (one_line d) (past (read_gap n (one_line d) text).1)).1 || (is_plain key && not (is_some (read_gap n (one_line d) (past (read_gap n (one_line d) text).1)).0)) ≡ true
-    → entry_of n d in_seq (first_node bol) key text ≡ made n d in_seq bol None key (empty (read_gap n (one_line d) text).0) (past (read_gap n (one_line d) text).1)
-value_is_left_out n d in_seq bol key text h k = ap (λ r. on r (λ value rest. made n d in_seq bol None key value rest)) (value_left_out n d (is_plain key) text h k)
+    → entry_of n d in_seq (first_node bol) key text ≡ entry_if_short n d in_seq bol None key (empty (read_gap n (one_line d) text).0) (past (read_gap n (one_line d) text).1)
+value_is_left_out n d in_seq bol key text h k = ap (λ r. on r (λ value rest. entry_if_short n d in_seq bol None key value rest)) (value_left_out n d (is_plain key) text h k)
 
 -- the same after a key that is asked for
 pub asked_value_left_out : (n : ℕ) (d : FlowContext) (in_seq : Bool) (sep : Sep) (key : Flow) (text : List ℕ) → is_colon d (is_plain key) (read_gap n (one_line d) text).1 ≡ true
@@ -197,12 +197,12 @@ comma_after n d b e text h =
     moved : (b : Bracket) (x : DoneEntry) (r : Read Entries) → close_with b (on r (λ es rest. Some (next x.entry x.before x.after es, rest)))
         ≡ close_with (record { in_seq = b.in_seq; gap = b.gap; done = b.done ++ x ∷ [] }) r
     moved b x None = refl
-    moved b x (Some r) = ap (λ es. closed (closer b.in_seq) (collection_of b.in_seq b.gap es) r.1) (sym (joined_more b.done x r.0))
+    moved b x (Some r) = ap (λ es. read_closing (closer b.in_seq) (collection_of b.in_seq b.gap es) r.1) (sym (joined_more b.done x r.0))
 
 -- without a comma the entry is the last
 pub last_entry : (n : ℕ) (d : FlowContext) (b : Bracket) (e : Entry) (text : List ℕ) → first (λ x. x == 44) (read_gap n (one_line d) text).1 ≡ false
     → close_with b (entries_of n d b.in_seq e text)
-    ≡ closed (closer b.in_seq) (collection_of b.in_seq b.gap (joined b.done (last e (read_gap n (one_line d) text).0))) (read_gap n (one_line d) text).1
+    ≡ read_closing (closer b.in_seq) (collection_of b.in_seq b.gap (entries_onto b.done (last e (read_gap n (one_line d) text).0))) (read_gap n (one_line d) text).1
 last_entry n d b e text h = ap (close_with b) (last_is (read_gap n (one_line d)) (λ gap r. flow_entries_at n d b.in_seq (starts_line false (gap_text gap)) (closer b.in_seq) r) e (read_gap n (one_line d) text) h)
   where
     last_is : (gap_at : List ℕ → GapRead) (again : Option Sep → List ℕ → Read Entries) (e : Entry) (before : GapRead) → first (λ x. x == 44) before.1 ≡ false

@@ -9,9 +9,9 @@ use Rattle.yaml_grammar.specs.Texts.{first, starts_line}
 use Rattle.yaml_recognizers.specs.CanonicalComments.{canonical_gap}
 use Rattle.yaml_recognizers.specs.CanonicalFlowNodes.{canonical_entries, canonical_entry, canonical_flow, canonical_value}
 use Rattle.yaml_recognizers.specs.Ends.{BetweenBrackets, Stops, closing, in_flow, is_colon, solid}
-use Rattle.yaml_recognizers.specs.FlowNodes.{asked_entry, ends_entry, flow_ends, given_value, in_brackets, is_asked, keyed_entry, made, next_entry, read_entries, read_entry, read_flow, read_value, some_value}
+use Rattle.yaml_recognizers.specs.FlowNodes.{asked_entry, ends_entry, flow_ends, given_value, in_brackets, is_asked, keyed_entry, entry_if_short, next_entry, read_entries, read_entry, read_flow, read_value, some_value}
 use Rattle.yaml_recognizers.specs.Gaps.{read_gap}
-use Rattle.yaml_recognizers.specs.Reading.{Read, closed, on}
+use Rattle.yaml_recognizers.specs.Reading.{Read, read_closing, on}
 use Rattle.yaml_recognizers.specs.Scalars.{ReadsScalars}
 use Rattle.yaml_recognizers.proofs.Flow.FlowNodesBegin.{bracket, bracket_closing, bracket_no_comma, entries_begin, entry_opens, flow_begins, scalar_begins}
 use Rattle.yaml_recognizers.proofs.Flow.FlowNodesWider.{flow_wider, gap_wider}
@@ -182,7 +182,7 @@ module _ (read_scalar : ℕ → FlowContext → Bool → List ℕ → Read Scala
         let regrouped : flow_text (seq gap es) ++ after ≡ 91 ∷ (gap_text gap ++ rest) = simp append_assoc in
         ap (read_flow read_scalar (suc fuel) n c bol) regrouped
         ∙ (ap (in_brackets seq 93 again) (gap_read n (one_line c) gap rest p.0 (entries_begin es n (inside c) true _ 93 after refl p.1))
-        ∙ ap (λ r. on r (λ es' rest'. closed 93 (seq gap es') rest')) (entries_read es fuel n (inside c) true _ 93 after (inside_flow c) (omega arith) refl p.1))
+        ∙ ap (λ r. on r (λ es' rest'. read_closing 93 (seq gap es') rest')) (entries_read es fuel n (inside c) true _ 93 after (inside_flow c) (omega arith) refl p.1))
     flow_read (map gap es) (suc fuel) n c bol after m h st =
         let p : (canonical_gap n (one_line c) gap (entries_text es ++ (125 ∷ after)) ≡ true) × (canonical_entries es n (inside c) false (starts_line false (gap_text gap)) (125 ∷ after) ≡ true) = and_parts _ _ h in
         let rest : List ℕ = entries_text es ++ (125 ∷ after) in
@@ -190,7 +190,7 @@ module _ (read_scalar : ℕ → FlowContext → Bool → List ℕ → Read Scala
         let regrouped : flow_text (map gap es) ++ after ≡ 123 ∷ (gap_text gap ++ rest) = simp append_assoc in
         ap (read_flow read_scalar (suc fuel) n c bol) regrouped
         ∙ (ap (in_brackets map 125 again) (gap_read n (one_line c) gap rest p.0 (entries_begin es n (inside c) false _ 125 after refl p.1))
-        ∙ ap (λ r. on r (λ es' rest'. closed 125 (map gap es') rest')) (entries_read es fuel n (inside c) false _ 125 after (inside_flow c) (omega arith) refl p.1))
+        ∙ ap (λ r. on r (λ es' rest'. read_closing 125 (map gap es') rest')) (entries_read es fuel n (inside c) false _ 125 after (inside_flow c) (omega arith) refl p.1))
 
     entries_read : (es : Entries) (fuel n : ℕ) (d : FlowContext) (in_seq bol : Bool) (close : ℕ) (after : List ℕ) → in_flow d ≡ true → entries_size es ≤ fuel → bracket close ≡ true
         → canonical_entries es n d in_seq bol (close ∷ after) ≡ true
@@ -243,9 +243,9 @@ module _ (read_scalar : ℕ → FlowContext → Bool → List ℕ → Read Scala
         let value_at : Bool → List ℕ → Read Value = λ after_plain rest'. read_value read_scalar fuel n d after_plain rest' in
         ap (read_entry read_scalar (suc fuel) n d in_seq bol) regrouped
         ∙ (rw ((flow_begins key n d bol _ key_fits).2) refl
-        ∙ (ap (λ x. on x (λ key' rest'. keyed_entry value_at (made n d in_seq bol None) key' rest'))
+        ∙ (ap (λ x. on x (λ key' rest'. keyed_entry value_at (entry_if_short n d in_seq bol None) key' rest'))
         (flow_read key fuel n d bol (value_text value ++ after) (omega arith) key_fits (stops_flow n d key (value_text value ++ (gap_text gap ++ rest)) (inl (value_stop value n d (is_plain key) gap rest i k g value_fit))))
-        ∙ (ap (λ x. on x (λ value' rest'. made n d in_seq bol None key value' rest')) (value_read value fuel n d (is_plain key) gap rest i (omega arith) k g value_fit)
+        ∙ (ap (λ x. on x (λ value' rest'. entry_if_short n d in_seq bol None key value' rest')) (value_read value fuel n d (is_plain key) gap rest i (omega arith) k g value_fit)
         ∙ rw (either_left pair (one_line d) _ _ (λ b. canonical_value value n d b (is_plain key) after) true p.0 p.1) refl)))
     entry_read (entry (Some sep) key value) (suc fuel) n d in_seq bol gap rest i m k g h =
         let after : List ℕ = gap_text gap ++ rest in

@@ -6,10 +6,10 @@ use Rattle.yaml_grammar.specs.FlowScalars.{FlowContext, Scalar, inside, one_line
 use Rattle.yaml_grammar.specs.Separation.{Sep, gap_text}
 use Rattle.yaml_grammar.specs.Texts.{first, starts_line}
 use Rattle.yaml_recognizers.specs.Ends.{is_colon}
-use Rattle.yaml_recognizers.specs.FlowNodes.{asked_entry, asked_with, ends_entry, in_brackets, is_asked, keyed_entry, made, next_entry, read_entries, read_entry, read_flow, read_value, some_value, whole_entries, whole_entry, whole_flow, whole_value}
+use Rattle.yaml_recognizers.specs.FlowNodes.{asked_entry, asked_with, ends_entry, in_brackets, is_asked, keyed_entry, entry_if_short, next_entry, read_entries, read_entry, read_flow, read_value, some_value, whole_entries, whole_entry, whole_flow, whole_value}
 use Rattle.yaml_recognizers.specs.Prefixes.{past}
 use Rattle.yaml_recognizers.specs.Gaps.{GapRead, read_gap}
-use Rattle.yaml_recognizers.specs.Reading.{Read, closed, on}
+use Rattle.yaml_recognizers.specs.Reading.{Read, read_closing, on}
 use Rattle.yaml_recognizers.specs.Scalars.{ReadsScalars}
 use Rattle.yaml_recognizers.proofs.Flow.FlowNodesSound.{asked_head, colon_parts, entry_sound, flow_sound}
 use Rattle.yaml_recognizers.proofs.Basics.Prefixes.{head_is}
@@ -59,11 +59,11 @@ module _ (read_scalar : ℕ → FlowContext → Bool → List ℕ → Read Scala
         let again : ℕ → Bool → ℕ → Read Entries = λ depth in_seq close. read_entries read_scalar depth n (inside c) in_seq (starts_line false (gap_text g.0)) close g.1 in
         cond_same (first (λ x. x == 91) text) _ _ _ _
         (λ e. let s : suc (length g.1) ≤ length text = past_gap_left n (one_line c) 91 text (head_is 91 text e) in
-        ap (λ r. on r (λ es rest. closed 93 (seq g.0 es) rest))
+        ap (λ r. on r (λ es rest. read_closing 93 (seq g.0 es) rest))
         (entries_same fuel fuel' n (inside c) true (starts_line false (gap_text g.0)) 93 g.1 (omega arith) (omega arith)))
         (λ _. cond_same (first (λ x. x == 123) text) _ _ _ _
         (λ e. let s : suc (length g.1) ≤ length text = past_gap_left n (one_line c) 123 text (head_is 123 text e) in
-        ap (λ r. on r (λ es rest. closed 125 (map g.0 es) rest))
+        ap (λ r. on r (λ es rest. read_closing 125 (map g.0 es) rest))
         (entries_same fuel fuel' n (inside c) false (starts_line false (gap_text g.0)) 125 g.1 (omega arith) (omega arith)))
         (λ _. refl))
 
@@ -97,7 +97,7 @@ module _ (read_scalar : ℕ → FlowContext → Bool → List ℕ → Read Scala
         let a : GapRead = read_gap n (one_line d) (past text) in
         let flow_in : ℕ → Option Sep → List ℕ → Read Flow = λ depth gap rest. read_flow read_scalar depth n d (starts_line false (gap_text gap)) rest in
         let value_in : ℕ → Bool → List ℕ → Read Value = λ depth after_plain rest. read_value read_scalar depth n d after_plain rest in
-        let keyed : ℕ → Flow → List ℕ → Read Entry = λ depth key rest. keyed_entry (value_in depth) (made n d in_seq bol None) key rest in
+        let keyed : ℕ → Flow → List ℕ → Read Entry = λ depth key rest. keyed_entry (value_in depth) (entry_if_short n d in_seq bol None) key rest in
         cond_same (is_asked d text) _ _ _ _
         (λ k. let s : suc (length a.1) ≤ length text = past_gap_left n (one_line d) 63 text (asked_head d text k) in
         asked_same (flow_in fuel) (flow_in fuel') (value_in fuel) (value_in fuel') a.0 a.1
@@ -107,7 +107,7 @@ module _ (read_scalar : ℕ → FlowContext → Bool → List ℕ → Read Scala
         (λ _. ap (λ r. on r (keyed fuel)) (flow_same fuel fuel' n d bol text (omega arith) (omega arith))
         ∙ on_same (read_flow read_scalar fuel' n d bol text) (keyed fuel) (keyed fuel') (λ key rest q.
         let r : length rest ≤ length text = flow_left fuel' n d bol text key rest q in
-        ap (λ x. on x (λ value rest'. made n d in_seq bol None key value rest')) (value_same fuel fuel' n d (is_plain key) rest (omega arith) (omega arith))))
+        ap (λ x. on x (λ value rest'. entry_if_short n d in_seq bol None key value rest')) (value_same fuel fuel' n d (is_plain key) rest (omega arith) (omega arith))))
 
     -- and the same value
     pub value_same : (fuel fuel' n : ℕ) (d : FlowContext) (after_plain : Bool) (text : List ℕ) → 4 * length text + 1 ≤ fuel → 4 * length text + 1 ≤ fuel'
@@ -145,11 +145,11 @@ module _ (read_scalar : ℕ → FlowContext → Bool → List ℕ → Read Scala
       ap (λ k. read_flow read_scalar k n c bol text) deep
       ∙ cond_same (first (λ x. x == 91) text) _ _ _ _
       (λ e. let s : suc (length g.1) ≤ length text = past_gap_left n (one_line c) 91 text (head_is 91 text e) in
-      ap (λ r. on r (λ es rest. closed 93 (seq g.0 es) rest))
+      ap (λ r. on r (λ es rest. read_closing 93 (seq g.0 es) rest))
       (entries_same (4 * length text) (4 * length g.1 + 4) n (inside c) true (starts_line false (gap_text g.0)) 93 g.1 (omega arith) (omega arith)))
       (λ _. cond_same (first (λ x. x == 123) text) _ _ _ _
       (λ e. let s : suc (length g.1) ≤ length text = past_gap_left n (one_line c) 123 text (head_is 123 text e) in
-      ap (λ r. on r (λ es rest. closed 125 (map g.0 es) rest))
+      ap (λ r. on r (λ es rest. read_closing 125 (map g.0 es) rest))
       (entries_same (4 * length text) (4 * length g.1 + 4) n (inside c) false (starts_line false (gap_text g.0)) 125 g.1 (omega arith) (omega arith)))
       (λ _. refl))
 
@@ -178,7 +178,7 @@ module _ (read_scalar : ℕ → FlowContext → Bool → List ℕ → Read Scala
   pub entry_step : (n : ℕ) (d : FlowContext) (in_seq bol : Bool) (text : List ℕ) → whole_entry read_scalar n d in_seq bol text
       ≡ (if is_asked d text
       then asked_entry (λ gap rest. whole_flow read_scalar n d (starts_line false (gap_text gap)) rest) (λ after_plain rest. whole_value read_scalar n d after_plain rest) (read_gap n (one_line d) (past text))
-      else on (whole_flow read_scalar n d bol text) (λ key rest. keyed_entry (λ after_plain rest'. whole_value read_scalar n d after_plain rest') (made n d in_seq bol None) key rest))
+      else on (whole_flow read_scalar n d bol text) (λ key rest. keyed_entry (λ after_plain rest'. whole_value read_scalar n d after_plain rest') (entry_if_short n d in_seq bol None) key rest))
   unfolding read_flow
   entry_step n d in_seq bol text =
       let deep : 4 * length text + 3 ≡ suc (4 * length text + 2) = omega arith in
@@ -192,11 +192,11 @@ module _ (read_scalar : ℕ → FlowContext → Bool → List ℕ → Read Scala
       (flow_same fuel (4 * length a.1 + 1) n d (starts_line false (gap_text a.0)) a.1 (omega arith) (omega arith))
       (λ key rest q. let r : length rest ≤ length a.1 = flow_left (4 * length a.1 + 1) n d (starts_line false (gap_text a.0)) a.1 key rest q in
       value_same fuel (4 * length rest + 1) n d (is_plain key) rest (omega arith) (omega arith)))
-      (λ _. ap (λ r. on r (λ key rest. keyed_entry (λ after_plain rest'. read_value read_scalar fuel n d after_plain rest') (made n d in_seq bol None) key rest))
+      (λ _. ap (λ r. on r (λ key rest. keyed_entry (λ after_plain rest'. read_value read_scalar fuel n d after_plain rest') (entry_if_short n d in_seq bol None) key rest))
       (flow_same fuel (4 * length text + 1) n d bol text (omega arith) (omega arith))
       ∙ on_same (whole_flow read_scalar n d bol text) _ _ (λ key rest q.
       let r : length rest ≤ length text = flow_left (4 * length text + 1) n d bol text key rest q in
-      ap (λ x. on x (λ value rest'. made n d in_seq bol None key value rest')) (value_same fuel (4 * length rest + 1) n d (is_plain key) rest (omega arith) (omega arith))))
+      ap (λ x. on x (λ value rest'. entry_if_short n d in_seq bol None key value rest')) (value_same fuel (4 * length rest + 1) n d (is_plain key) rest (omega arith) (omega arith))))
 
   -- a value, from its parts
   pub value_step : (n : ℕ) (d : FlowContext) (after_plain : Bool) (text : List ℕ) → whole_value read_scalar n d after_plain text

@@ -8,7 +8,7 @@ use Rattle.yaml_chars.specs.Classes.{is_in, line_break, nb_json, ns, white}
 use Rattle.yaml_grammar.specs.FlowNodes.{Entries, Entry, Flow, Value, absent, asked_text, before_colon, empty, entries_text, entry, entry_text, flow_text, given, is_plain, last, map, next, none, scalar, seq, short_key, single_pair, value_text}
 use Rattle.yaml_grammar.specs.FlowScalars.{FlowContext, block_key, inner, outer, QuotedChar, Line, Scalar, double, quoted_char_fits, escape, flow_key, hex_digit, inside, quoted_char_text, line_text, lines_text, number, one_line, plain, plain_line, plain_next, plain_run, plain_text, raw, scalar_fits, scalar_text, single, single_text}
 use Rattle.yaml_grammar.specs.Separation.{Break, Sep, break_text, comment_line_fits, comment_text, comments_fit, comments_text, cr, cr_lf, gap_text, inline, lf, line_end_text, lines, stop_fits}
-use Rattle.yaml_grammar.specs.Texts.{every, is_empty, optional, starts_line}
+use Rattle.yaml_grammar.specs.Texts.{is_empty, optional, starts_line}
 use Rattle.yaml_recognizers.specs.CanonicalComments.{canonical_gap, is_line_end}
 use Rattle.yaml_recognizers.proofs.Separation.LineEnds.{line_parts}
 use Rattle.yaml_recognizers.specs.CanonicalFlowNodes.{canonical_entries, canonical_entry, canonical_flow, canonical_value}
@@ -17,7 +17,7 @@ use Rattle.yaml_recognizers.specs.WholeScalars.{stands_on_one_line}
 
 -- the text has no break
 abbrev pub unbroken : List ℕ → Bool
-unbroken xs = every (λ x. not (line_break x)) xs
+unbroken xs = list_all (λ x. not (line_break x)) xs
 
 -- two texts joined have no break if neither has
 pub unbroken_joined : (xs ys : List ℕ) → unbroken (xs ++ ys) ≡ unbroken xs && unbroken ys
@@ -58,7 +58,7 @@ one_unbroken x h = rw h refl
 single_unbroken : (x : ℕ) → nb_json x ≡ true → unbroken (single_text x) ≡ true
 single_unbroken x h = cond_both (x == 39) (codes "''") (x ∷ []) (λ (t : List ℕ). unbroken t ≡ true) (λ _. refl) (λ _. one_unbroken x (grind (arith, nat_tests)))
 
-digits_unbroken : (ds : List ℕ) → every hex_digit ds ≡ true → unbroken ds ≡ true
+digits_unbroken : (ds : List ℕ) → list_all hex_digit ds ≡ true → unbroken ds ≡ true
 digits_unbroken [] h = refl
 digits_unbroken (d ∷ ds) h = let q = and_parts _ _ h in and_from _ _ (digit d q.0) (digits_unbroken ds q.1)
   where
@@ -146,7 +146,7 @@ nonempty_after : (xs ys : List ℕ) → is_empty ys ≡ false → is_empty (xs +
 nonempty_after [] ys h = h
 nonempty_after (x ∷ xs) ys h = refl
 
-white_unbroken : (xs : List ℕ) → every white xs ≡ true → unbroken xs ≡ true
+white_unbroken : (xs : List ℕ) → list_all white xs ≡ true → unbroken xs ≡ true
 white_unbroken [] h = refl
 white_unbroken (x ∷ xs) h = let q = and_parts _ _ h in and_from _ _ (one x q.0) (white_unbroken xs q.1)
   where

@@ -8,12 +8,12 @@ use Rattle.yaml_grammar.specs.FlowNodes.{Entry, Flow, absent, last, scalar}
 use Rattle.yaml_grammar.specs.FlowScalars.{FlowContext, one_line}
 use Rattle.yaml_grammar.specs.Texts.{first, no_marker}
 use Rattle.yaml_recognizers.specs.Ends.{is_colon}
-use Rattle.yaml_recognizers.specs.FlowFrames.{Bracket, close_with, closer, collection_of, entries_of, joined}
+use Rattle.yaml_recognizers.specs.FlowFrames.{Bracket, close_with, closer, collection_of, entries_of, entries_onto}
 use Rattle.yaml_recognizers.specs.FlowNodes.{ends_entry}
 use Rattle.yaml_recognizers.specs.FlowScalars.{read_scalar}
 use Rattle.yaml_recognizers.specs.Gaps.{GapRead, read_gap}
 use Rattle.yaml_recognizers.specs.PlainScalars.{read_plain}
-use Rattle.yaml_recognizers.specs.Reading.{closed, on}
+use Rattle.yaml_recognizers.specs.Reading.{read_closing, on}
 use Rattle.yaml_recognizers.specs.Recognizers.{flow_node_at, flow_value_at}
 use Rattle.yaml_recognizers.proofs.Flow.FlowFrames.{is_scalar, last_entry}
 use Rattle.yaml_recognizers.proofs.Flow.FlowNodesDepth.{value_step}
@@ -55,7 +55,7 @@ pub no_value_after : (n : ℕ) (d : FlowContext) (after_plain : Bool) (x : ℕ) 
 no_value_after n d after_plain x xs h g = value_step read_scalar reads_scalars n d after_plain (x ∷ xs) ∙ rw (g, no_colon d after_plain x xs h) refl
 
 -- after an entry: no comma and no bracket
-not_closed : (in_seq : Bool) (f : Flow) (x : ℕ) (xs : List ℕ) → blank x ≡ true → closed (closer in_seq) f (x ∷ xs) ≡ None
+not_closed : (in_seq : Bool) (f : Flow) (x : ℕ) (xs : List ℕ) → blank x ≡ true → read_closing (closer in_seq) f (x ∷ xs) ≡ None
 not_closed true f x xs h = rw ((no_sign x h).2) refl
 not_closed false f x xs h = rw ((no_sign x h).3) refl
 
@@ -64,4 +64,4 @@ pub no_entries_after : (n : ℕ) (d : FlowContext) (b : Bracket) (e : Entry) (x 
     → close_with b (entries_of n d b.in_seq e (x ∷ xs)) ≡ None
 no_entries_after n d b e x xs h g =
     last_entry n d b e (x ∷ xs) (ap (λ (r : GapRead). first (λ y. y == 44) r.1) g ∙ (no_sign x h).4)
-    ∙ (ap (λ (r : GapRead). closed (closer b.in_seq) (collection_of b.in_seq b.gap (joined b.done (last e r.0))) r.1) g ∙ not_closed b.in_seq (collection_of b.in_seq b.gap (joined b.done (last e None))) x xs h)
+    ∙ (ap (λ (r : GapRead). read_closing (closer b.in_seq) (collection_of b.in_seq b.gap (entries_onto b.done (last e r.0))) r.1) g ∙ not_closed b.in_seq (collection_of b.in_seq b.gap (entries_onto b.done (last e None))) x xs h)

@@ -9,7 +9,8 @@ use Rattle.yaml_grammar.specs.FlowNodes.{Entries, Entry, Flow, Value, absent, em
 use Rattle.yaml_grammar.specs.FlowScalars.{FlowContext, block_key, flow_key, inside, one_line, outer}
 use Rattle.yaml_grammar.specs.Separation.{LineEnd, Sep, comments_fit, gap_fits, indents, inline, lines, sep_fits}
 use Rattle.yaml_grammar.specs.Streams.{Document, Explicit, bare, content, directed, document_fits, explicit, explicit_fits, explicit_text, nothing}
-use Rattle.yaml_grammar.specs.Texts.{every, is_empty}
+use Rattle.std.specs.List.{list_all}
+use Rattle.yaml_grammar.specs.Texts.{is_empty}
 use Rattle.yaml_recognizers.specs.CanonicalBlockNodes.{canonical_indented, canonical_items, canonical_node, canonical_pair, canonical_pairs}
 use Rattle.yaml_recognizers.specs.CanonicalBlockScalars.{canonical_block}
 use Rattle.yaml_recognizers.specs.CanonicalComments.{canonical_comments, canonical_gap, canonical_sep}
@@ -152,9 +153,9 @@ pub document_fits_too : (d : Document) (opened bol : Bool) (after : List ℕ) �
 document_fits_too (bare n) opened bol after h = node_fits_too n 0 false bol after (and_parts _ _ h).1
 document_fits_too (explicit x) opened bol after h = explicit_fits_too x bol after h
 document_fits_too (directed blank first_version comments x) opened bol after h =
-    let p : (opened && bol && every white blank && not (is_empty blank) && canonical_comments false comments (explicit_text x ++ after) ≡ true) × (canonical_explicit x true after ≡ true) = and_parts _ _ h in
-    let q : (opened && bol && every white blank && not (is_empty blank) ≡ true) × (canonical_comments false comments (explicit_text x ++ after) ≡ true) = and_parts _ _ p.0 in
-    let r : (opened && bol && every white blank ≡ true) × (not (is_empty blank) ≡ true) = and_parts _ _ q.0 in
-    let s : (opened && bol ≡ true) × (every white blank ≡ true) = and_parts _ _ r.0 in
+    let p : (opened && bol && list_all white blank && not (is_empty blank) && canonical_comments false comments (explicit_text x ++ after) ≡ true) × (canonical_explicit x true after ≡ true) = and_parts _ _ h in
+    let q : (opened && bol && list_all white blank && not (is_empty blank) ≡ true) × (canonical_comments false comments (explicit_text x ++ after) ≡ true) = and_parts _ _ p.0 in
+    let r : (opened && bol && list_all white blank ≡ true) × (not (is_empty blank) ≡ true) = and_parts _ _ q.0 in
+    let s : (opened && bol ≡ true) × (list_all white blank ≡ true) = and_parts _ _ r.0 in
     let t : (opened ≡ true) × (bol ≡ true) = and_parts _ _ s.0 in
     and_from _ _ (and_from _ _ (and_from _ _ (and_from _ _ t.1 s.1) r.1) (comments_fit_too false comments (explicit_text x ++ after) q.1)) (explicit_fits_too x true after p.1)

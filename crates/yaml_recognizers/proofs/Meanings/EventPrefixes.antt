@@ -7,7 +7,7 @@ use Rattle.yaml_grammar.specs.FlowNodes.{Entries, entries_events, entry_events, 
 use Rattle.yaml_grammar.specs.Separation.{gap_text}
 use Rattle.yaml_grammar.specs.Texts.{byte_len}
 use Rattle.yaml_recognizers.specs.BlockFrames.{joined_items, joined_pairs}
-use Rattle.yaml_recognizers.specs.FlowFrames.{DoneEntry, joined}
+use Rattle.yaml_recognizers.specs.FlowFrames.{DoneEntry, entries_onto}
 
 -- ---- brackets
 
@@ -27,7 +27,7 @@ done_events (x ∷ xs) in_seq at = entry_events x.entry in_seq at ++ done_events
 
 -- they are a prefix of the events of all entries
 pub entries_prefix : (done : List DoneEntry) (es : Entries) (in_seq : Bool) (at : ℕ)
-    → entries_events (joined done es) in_seq at ≡ done_events done in_seq at ++ entries_events es in_seq (done_end done at)
+    → entries_events (entries_onto done es) in_seq at ≡ done_events done in_seq at ++ entries_events es in_seq (done_end done at)
 entries_prefix [] es in_seq at = refl
 entries_prefix (x ∷ xs) es in_seq at =
     ap (λ r. entry_events x.entry in_seq at ++ r) (entries_prefix xs es in_seq (done_place x at))

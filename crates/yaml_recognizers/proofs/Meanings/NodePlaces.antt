@@ -9,17 +9,18 @@ use Rattle.yaml_grammar.specs.FlowNodes.{Entries, Entry, Flow, Value, absent, be
 use Rattle.yaml_grammar.specs.FlowScalars.{FlowContext, block_key, flow_key, inner, inside, one_line, outer}
 use Rattle.yaml_grammar.specs.Separation.{LineEnd, Sep, comments_fit, comments_text, gap_fits, gap_text, sep_fits, sep_text}
 use Rattle.yaml_grammar.specs.Streams.{Document, Explicit, Part, Stream, bare, content, directed, directive_text, document_fits, document_text, explicit, explicit_fits, explicit_text, fits, further, line, nothing, optional_document_fits, part_fits, part_text, parts_fit, parts_text, suffix_text, suffixes}
-use Rattle.yaml_grammar.specs.Texts.{byte_len, first, every, optional, spaces, starts_line}
+use Rattle.std.specs.List.{list_all}
+use Rattle.yaml_grammar.specs.Texts.{byte_len, first, optional, spaces, starts_line}
 use Rattle.yaml_recognizers.specs.CanonicalBlockNodes.{canonical_node, canonical_pairs}
 use Rattle.yaml_recognizers.specs.CanonicalFlowNodes.{canonical_value}
 use Rattle.yaml_recognizers.specs.CanonicalComments.{canonical_comments, is_line_end}
-use Rattle.yaml_recognizers.specs.Ends.{BeforeColon, BeforeComments, BetweenBrackets, Stops, closing, ended, in_flow, solid}
+use Rattle.yaml_recognizers.specs.Ends.{BeforeColon, BeforeComments, BetweenBrackets, Stops, closing, block_node_stops, in_flow, solid}
 use Rattle.yaml_recognizers.specs.Prefixes.{sign}
 use Rattle.yaml_recognizers.specs.NodePlaces.{NodePlace, NodeStands, block_at, document_places, entries_places, entry_places, explicit_places, flow_at, flow_places, indented_places, items_places, node_places, optional_document_places, pair_places, pairs_places, part_places, parts_places, stream_places, value_places}
 use Rattle.yaml_recognizers.specs.Recognizers.{flow_node_stops}
 use Rattle.yaml_recognizers.specs.StandingNodes.{EndsNode}
 use Rattle.yaml_recognizers.proofs.Block.BlockNodesBegin.{Prefix, node_apart, pairs_prefix}
-use Rattle.yaml_recognizers.proofs.Block.BlockNodesEnd.{ended_at, ended_items, ended_last, ended_pairs, ended_shallow, ended_value}
+use Rattle.yaml_recognizers.proofs.Block.BlockNodesEnd.{block_node_stops_at, block_node_stops_items, block_node_stops_last, block_node_stops_pairs, block_node_stops_shallow, block_node_stops_value}
 use Rattle.yaml_recognizers.proofs.Block.BlockNodesForm.{node_before, node_form, node_form_fits, node_open, pairs_form, pairs_form_fit, pairs_form_text, pairs_open}
 use Rattle.yaml_recognizers.proofs.BlockScalars.BlockScalarsForm.{takes, takes_none, takes_not}
 use Rattle.yaml_recognizers.proofs.Separation.CommentsComplete.{not_line_end}
@@ -141,7 +142,7 @@ mutual
 
 -- ---- what ends a part of a block node
 
-ends_as : (m m' : ℕ) (shallow shallow' : Bool) (after : List ℕ) → ((text : List ℕ) → ended m shallow text ≡ true → ended m' shallow' text ≡ true) → EndsNode m shallow after
+ends_as : (m m' : ℕ) (shallow shallow' : Bool) (after : List ℕ) → ((text : List ℕ) → block_node_stops m shallow text ≡ true → block_node_stops m' shallow' text ≡ true) → EndsNode m shallow after
     → EndsNode m' shallow' after
 ends_as m m' shallow shallow' after f e = record { lines = e.lines; after = e.after; is = e.is; fit = e.fit; whole = e.whole; ends = f e.after e.ends }
 
@@ -154,7 +155,7 @@ ends_at k shallow rest s d =
       is = refl;
       fit = refl;
       whole = not_line_end (spaces k) rest (every_space k) s;
-      ends = ended_at k shallow rest (solid_space rest s) d;
+      ends = block_node_stops_at k shallow rest (solid_space rest s) d;
     }
 
 -- the lines after a part, as many of them as it may have
@@ -207,10 +208,10 @@ leaf_stops f comments m shallow after h e =
       rest = e.after;
       is = comments_spelled comments m shallow after e;
       fits = comments_more comments m shallow after h e;
-      shallow = ended_shallow m shallow e.after e.whole e.ends;
+      shallow = block_node_stops_shallow m shallow e.after e.whole e.ends;
     }))
 
-key_stops : (key : Flow) (gap rest : List ℕ) → every white gap ≡ true → first ns rest ≡ false → Stops 0 block_key (is_plain key) (gap ++ (58 ∷ rest))
+key_stops : (key : Flow) (gap rest : List ℕ) → list_all white gap ≡ true → first ns rest ≡ false → Stops 0 block_key (is_plain key) (gap ++ (58 ∷ rest))
 key_stops key gap rest w a = inr (inl (record { outside = refl; gap = gap; rest = rest; is = refl; gap_white = w; apart = a }))
 
 items_dash : (is : Items) (k : ℕ) (after : List ℕ) → first solid (items_text is k ++ after) ≡ true
@@ -239,15 +240,15 @@ mutual
       let place : ℕ = at + byte_len (comments_text comments) + k in
       let p : (comments_fit bol comments (spaces k ++ (items_text is k ++ after)) && nat_le m (cond shallow (suc k) k) ≡ true) × (items_fit is k after ≡ true) = and_parts _ _ h in
       first_and (block_at m shallow bol at (items comments k is) after) (items_places is k place after) (record { spells = refl; fits = h; after = e })
-      (items_stand is k place after p.1 (ends_as m (suc k) shallow true after (λ t. ended_items m k shallow t (and_parts _ _ p.0).1) e))
+      (items_stand is k place after p.1 (ends_as m (suc k) shallow true after (λ t. block_node_stops_items m k shallow t (and_parts _ _ p.0).1) e))
   node_stand (pairs comments k ps) m shallow bol at after h e =
       let place : ℕ = at + byte_len (comments_text comments) + k in
       let p : (comments_fit bol comments (spaces k ++ (pairs_text ps k ++ after)) && nat_le m k ≡ true) × (pairs_fit ps k (k == 0) after ≡ true) = and_parts _ _ h in
       first_and (block_at m shallow bol at (pairs comments k ps) after) (pairs_places ps k (k == 0) place after) (record { spells = refl; fits = h; after = e })
-      (pairs_stand ps k (k == 0) place after p.1 (ends_as m k shallow false after (λ t. ended_pairs m k shallow t (and_parts _ _ p.0).1) e))
+      (pairs_stand ps k (k == 0) place after p.1 (ends_as m k shallow false after (λ t. block_node_stops_pairs m k shallow t (and_parts _ _ p.0).1) e))
 
   items_stand : (is : Items) (k at : ℕ) (after : List ℕ) → items_fit is k after ≡ true → EndsNode (suc k) true after → Each (items_places is k at after)
-  items_stand (item i) k at after h e = indented_stand i k false (at + 1) after (and_parts _ _ h).1 (ends_as (suc k) (suc k) true false after (λ t. ended_last k t) e)
+  items_stand (item i) k at after h e = indented_stand i k false (at + 1) after (and_parts _ _ h).1 (ends_as (suc k) (suc k) true false after (λ t. block_node_stops_last k t) e)
   items_stand (item_and i is) k at after h e =
       let rest : List ℕ = spaces k ++ (items_text is k ++ after) in
       let later : ℕ = at + 1 + byte_len (indented_text i k) + k in
@@ -256,7 +257,7 @@ mutual
       (indented_stand i k false (at + 1) rest (and_parts _ _ p.0).1 (ends_at k false (items_text is k ++ after) (items_dash is k after) refl)) (items_stand is k later after p.1 e)
 
   pairs_stand : (ps : Pairs) (k : ℕ) (bol : Bool) (at : ℕ) (after : List ℕ) → pairs_fit ps k bol after ≡ true → EndsNode k false after → Each (pairs_places ps k bol at after)
-  pairs_stand (pair p) k bol at after h e = pair_stand p k bol at after h (ends_as k (suc k) false true after (λ t. ended_value k t) e)
+  pairs_stand (pair p) k bol at after h e = pair_stand p k bol at after h (ends_as k (suc k) false true after (λ t. block_node_stops_value k t) e)
   pairs_stand (pair_and p ps) k bol at after h e =
       let rest : List ℕ = spaces k ++ (pairs_text ps k ++ after) in
       let later : ℕ = at + byte_len (pair_text p k) + k in
@@ -276,17 +277,17 @@ mutual
   pair_stand (keyed key gap value) k bol at after h e =
       let rest : List ℕ = node_text value ++ after in
       let later : ℕ = at + byte_len (flow_text key) + byte_len gap + 1 in
-      let p : (flow_fits key 0 block_key bol (gap ++ (58 ∷ rest)) && every white gap && short_key key gap ≡ true) × (node_fits value (suc k) true false after ≡ true) = and_parts _ _ h in
-      let q : (flow_fits key 0 block_key bol (gap ++ (58 ∷ rest)) && every white gap ≡ true) × (short_key key gap ≡ true) = and_parts _ _ p.0 in
-      let r : (flow_fits key 0 block_key bol (gap ++ (58 ∷ rest)) ≡ true) × (every white gap ≡ true) = and_parts _ _ q.0 in
+      let p : (flow_fits key 0 block_key bol (gap ++ (58 ∷ rest)) && list_all white gap && short_key key gap ≡ true) × (node_fits value (suc k) true false after ≡ true) = and_parts _ _ h in
+      let q : (flow_fits key 0 block_key bol (gap ++ (58 ∷ rest)) && list_all white gap ≡ true) × (short_key key gap ≡ true) = and_parts _ _ p.0 in
+      let r : (flow_fits key 0 block_key bol (gap ++ (58 ∷ rest)) ≡ true) × (list_all white gap ≡ true) = and_parts _ _ q.0 in
       both (flow_places key 0 block_key bol at (gap ++ (58 ∷ rest))) (node_places value (suc k) true false later after)
       (flow_stand key 0 block_key bol at (gap ++ (58 ∷ rest)) r.0 (ends_here 0 block_key key (gap ++ (58 ∷ rest)) (key_stops key gap rest r.1 (value_apart value k (suc k) true after p.1 e))))
       (node_stand value (suc k) true false later after p.1 e)
   pair_stand (keyed_alone key gap comments) k bol at after h e =
       let rest : List ℕ = comments_text comments ++ after in
-      let p : (flow_fits key 0 block_key bol (gap ++ (58 ∷ rest)) && every white gap && short_key key gap ≡ true) × (comments_fit false comments after ≡ true) = and_parts _ _ h in
-      let q : (flow_fits key 0 block_key bol (gap ++ (58 ∷ rest)) && every white gap ≡ true) × (short_key key gap ≡ true) = and_parts _ _ p.0 in
-      let r : (flow_fits key 0 block_key bol (gap ++ (58 ∷ rest)) ≡ true) × (every white gap ≡ true) = and_parts _ _ q.0 in
+      let p : (flow_fits key 0 block_key bol (gap ++ (58 ∷ rest)) && list_all white gap && short_key key gap ≡ true) × (comments_fit false comments after ≡ true) = and_parts _ _ h in
+      let q : (flow_fits key 0 block_key bol (gap ++ (58 ∷ rest)) && list_all white gap ≡ true) × (short_key key gap ≡ true) = and_parts _ _ p.0 in
+      let r : (flow_fits key 0 block_key bol (gap ++ (58 ∷ rest)) ≡ true) × (list_all white gap ≡ true) = and_parts _ _ q.0 in
       let apart : first ns rest ≡ false =
       subst (λ (t : List ℕ). first ns t ≡ false) (sym (comments_spelled comments (suc k) true after e)) (comments_no_ns (comments ++ e.lines) e.after (comments_more comments (suc k) true after p.1 e)) in
       flow_stand key 0 block_key bol at (gap ++ (58 ∷ rest)) r.0 (ends_here 0 block_key key (gap ++ (58 ∷ rest)) (key_stops key gap rest r.1 apart))
@@ -294,9 +295,9 @@ mutual
   indented_stand : (i : Indented) (k : ℕ) (shallow : Bool) (at : ℕ) (after : List ℕ) → indented_fits i k shallow after ≡ true → EndsNode (suc k) shallow after
       → Each (indented_places i k shallow at after)
   indented_stand (compact_items s is) k shallow at after h e =
-      items_stand is (k + 1 + s) (at + s) after (and_parts _ _ h).1 (ends_as (suc k) (suc (k + 1 + s)) shallow true after (λ t. ended_items (suc k) (k + 1 + s) shallow t (compact_deep k s shallow)) e)
+      items_stand is (k + 1 + s) (at + s) after (and_parts _ _ h).1 (ends_as (suc k) (suc (k + 1 + s)) shallow true after (λ t. block_node_stops_items (suc k) (k + 1 + s) shallow t (compact_deep k s shallow)) e)
   indented_stand (compact_pairs s ps) k shallow at after h e =
-      pairs_stand ps (k + 1 + s) false (at + s) after (and_parts _ _ h).1 (ends_as (suc k) (k + 1 + s) shallow false after (λ t. ended_pairs (suc k) (k + 1 + s) shallow t (compact_deep k s false)) e)
+      pairs_stand ps (k + 1 + s) false (at + s) after (and_parts _ _ h).1 (ends_as (suc k) (k + 1 + s) shallow false after (λ t. block_node_stops_pairs (suc k) (k + 1 + s) shallow t (compact_deep k s false)) e)
   indented_stand (node n) k shallow at after h e = node_stand n (suc k) shallow false at after h e
   indented_stand (omitted comments) k shallow at after h e = All-nil NodeStands
 

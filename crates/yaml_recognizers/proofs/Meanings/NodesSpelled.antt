@@ -6,7 +6,7 @@ use Rattle.yaml_grammar.specs.BlockNodes.{Indented, Items, Node, Pair, Pairs, as
 use Rattle.yaml_grammar.specs.FlowNodes.{Entries, Entry, Flow, Value, absent, asked_text, empty, entries_text, entry, entry_text, flow_text, given, last, map, next, none, scalar, seq, single_pair, value_text}
 use Rattle.yaml_grammar.specs.FlowScalars.{FlowContext, block_key, flow_key, inside, outer}
 use Rattle.yaml_grammar.specs.Separation.{LineEnd, Sep, comments_text, gap_text, sep_text}
-use Rattle.yaml_grammar.specs.Streams.{Document, Explicit, Part, Stream, bare, content, directed, directive_text, document_text, explicit, explicit_text, further, line, mark_text, nothing, part_text, parts_text, spelled, suffix_text, suffixes}
+use Rattle.yaml_grammar.specs.Streams.{Document, Explicit, Part, Stream, bare, content, directed, directive_text, document_text, explicit, explicit_text, further, line, mark_text, nothing, part_text, parts_text, stream_text, suffix_text, suffixes}
 use Rattle.yaml_grammar.specs.Texts.{byte_len, optional, spaces, starts_line}
 use Rattle.yaml_recognizers.specs.NodePlaces.{NodePlace, NodeSpelled, SpelledAt, block_at, document_places, entries_places, entry_places, explicit_places, flow_at, flow_places, indented_places, items_places, node_places, optional_document_places, pair_places, pairs_places, part_places, parts_places, stream_places, value_places}
 use Rattle.yaml_recognizers.proofs.Basics.LineStarts.{byte_len_joined}
@@ -242,9 +242,9 @@ whole : (text : List ℕ) → SpelledAt text 0 text []
 whole text = record { before = []; is = sym (append-nil text); place = refl }
 
 -- all nodes of a stream are spelled at their places
-pub stream_spelled : (s : Stream) → All (NodeSpelled (spelled s)) (stream_places s)
+pub stream_spelled : (s : Stream) → All (NodeSpelled (stream_text s)) (stream_places s)
 stream_spelled s =
-    let text : List ℕ = spelled s in
+    let text : List ℕ = stream_text s in
     let one : List ℕ = mark_text s.mark ++ comments_text s.prefix in
     let two : List ℕ = one ++ optional document_text s.document in
     let at : ℕ = (if s.mark then 3 else 0) + byte_len (comments_text s.prefix) in

@@ -10,8 +10,9 @@ use Rattle.yaml_grammar.specs.BlockScalars.{BlockScalar, Gap, Header, TextLine, 
 use Rattle.yaml_grammar.specs.FlowNodes.{Entries, Entry, Flow, Value, absent, asked_text, empty, entries_text, entry, entry_text, flow_fits, flow_text, given, last, map, next, none, scalar, seq, short_key, single_pair, value_text}
 use Rattle.yaml_grammar.specs.FlowScalars.{FlowContext, block_key, flow_key, inside, outer}
 use Rattle.yaml_grammar.specs.Separation.{Break, LineEnd, Sep, break_text, comments_fit, comments_text, gap_text, line_end_fits, line_end_text, sep_fits, sep_text, stop_fits, comment_text}
-use Rattle.yaml_grammar.specs.Streams.{Document, Explicit, Part, Stream, bare, content, directed, directive_text, document_fits, document_text, explicit, explicit_fits, explicit_text, fits, further, line, mark_text, nothing, optional_document_fits, part_fits, part_text, parts_fit, parts_text, spelled, suffix_fits, suffix_text, suffixes, suffixes_fit}
-use Rattle.yaml_grammar.specs.Texts.{byte_len, every, first, is_empty, optional, spaces, starts_line}
+use Rattle.yaml_grammar.specs.Streams.{Document, Explicit, Part, Stream, bare, content, directed, directive_text, document_fits, document_text, explicit, explicit_fits, explicit_text, fits, further, line, mark_text, nothing, optional_document_fits, part_fits, part_text, parts_fit, parts_text, stream_text, suffix_fits, suffix_text, suffixes, suffixes_fit}
+use Rattle.std.specs.List.{list_all}
+use Rattle.yaml_grammar.specs.Texts.{byte_len, first, is_empty, optional, spaces, starts_line}
 use Rattle.yaml_recognizers.specs.NodePlaces.{NodePlace, NodeStarts, StartsAt, block_at, document_places, entries_places, entry_places, explicit_places, flow_at, flow_places, indented_places, items_places, node_places, optional_document_places, pair_places, pairs_places, part_places, parts_places, stream_places, value_places}
 use Rattle.yaml_recognizers.proofs.Block.BlockNodesBegin.{pair_long}
 use Rattle.yaml_recognizers.proofs.Flow.FlowNodesForm.{flow_form, flow_form_fits, flow_form_text}
@@ -405,9 +406,9 @@ module _ (mark : Bool) (text : List ℕ) where
       (parts_started ps (starts_line bol (part_text p)) _ q.1 (back bol (starts_line bol (part_text p)) (part_text p) (parts_text ps) [] refl s))
 
 -- a line starts at each node of a stream of which this is said
-pub stream_starts : (s : Stream) → fits s ≡ true → All (NodeStarts s.mark (spelled s)) (stream_places s)
+pub stream_starts : (s : Stream) → fits s ≡ true → All (NodeStarts s.mark (stream_text s)) (stream_places s)
 stream_starts s h =
-    let text : List ℕ = spelled s in
+    let text : List ℕ = stream_text s in
     let prefix_text : List ℕ = comments_text s.prefix in
     let document_part : List ℕ = optional document_text s.document in
     let words : List ℕ = prefix_text ++ document_part in

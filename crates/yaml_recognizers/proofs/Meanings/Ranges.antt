@@ -7,7 +7,7 @@ use Rattle.yaml_grammar.specs.Events.{Event, as_document, as_map, as_seq, docume
 use Rattle.yaml_grammar.specs.FlowNodes.{Entries, Entry, Flow, Value, absent, asked_text, empty, entries_events, entries_text, entry, entry_events, entry_text, flow_events, flow_text, given, is_pair, last, map, next, none, scalar, seq, value_events, value_text}
 use Rattle.yaml_grammar.specs.FlowScalars.{scalar_text}
 use Rattle.yaml_grammar.specs.Separation.{LineEnd, Sep, comments_text, gap_text, line_end_text, sep_text}
-use Rattle.yaml_grammar.specs.Streams.{Document, Explicit, Part, Stream, bare, content, directed, directive_text, document_events, document_text, explicit, explicit_events, explicit_text, further, line, mark_text, meant, nothing, optional_document_events, part_events, part_text, parts_events, parts_text, spelled, suffix_text, suffixes}
+use Rattle.yaml_grammar.specs.Streams.{Document, Explicit, Part, Stream, bare, content, directed, directive_text, document_events, document_text, explicit, explicit_events, explicit_text, further, line, mark_text, stream_events, nothing, optional_document_events, part_events, part_text, parts_events, parts_text, stream_text, suffix_text, suffixes}
 use Rattle.yaml_grammar.specs.Texts.{byte_len, optional, spaces}
 use Rattle.yaml_recognizers.specs.Ranges.{RangesInOrder}
 use Rattle.yaml_recognizers.proofs.Basics.LineStarts.{byte_len_joined}
@@ -344,13 +344,13 @@ mark_len true = refl
 mark_len false = refl
 
 -- the ranges of a stream are in order and within it
-pub stream_ranges : (p : Stream) → RangesInOrder 0 (meant p) (byte_len (spelled p))
+pub stream_ranges : (p : Stream) → RangesInOrder 0 (stream_events p) (byte_len (stream_text p))
 stream_ranges p =
     let l = len4 (mark_text p.mark) (comments_text p.prefix) (optional document_text p.document) (parts_text p.parts) in
     let m = mark_len p.mark in
     let at : ℕ = (if p.mark then 3 else 0) + byte_len (comments_text p.prefix) in
     let after : ℕ = at + byte_len (optional document_text p.document) in
-    let high : ℕ = byte_len (spelled p) in
+    let high : ℕ = byte_len (stream_text p) in
     ranges_joined 0 (optional_document_events p.document at) after (parts_events p.parts after) high
     (ranges_from 0 at (optional_document_events p.document at) after (omega arith) (optional_ranges p.document at))
     (within after after (parts_events p.parts after) (parts_text p.parts) high (omega arith) (omega (arith, l, m)) (parts_ranges p.parts after))

@@ -12,7 +12,7 @@ use Rattle.yaml_recognizers.specs.BlockScalars.{read_block}
 use Rattle.yaml_recognizers.specs.CanonicalBlockNodes.{canonical_node}
 use Rattle.yaml_recognizers.specs.CanonicalComments.{is_line_end}
 use Rattle.yaml_recognizers.specs.Comments.{all_comments}
-use Rattle.yaml_recognizers.specs.Ends.{ended}
+use Rattle.yaml_recognizers.specs.Ends.{block_node_stops}
 use Rattle.yaml_recognizers.specs.FlowScalars.{read_scalar}
 use Rattle.yaml_recognizers.specs.Recognizers.{StandsFlow, block_node_at, flow_node_at, flow_node_stops}
 use Rattle.yaml_recognizers.specs.StandingNodes.{BlockNodeStands, EndsNode, FlowNodeStands, IsBlockNode, IsFlowNode, NoBlockNode, NoFlowNode, SameBlockNode, SameFlowNode}
@@ -71,19 +71,19 @@ flow_only n c bol text f rest e =
 
 -- lines of comments that are there end a node
 lines_end : (m : ℕ) (shallow : Bool) (e : LineEnd) (es : List LineEnd) (after : List ℕ) → comments_fit true (e ∷ es) after ≡ true
-    → ended m shallow (comments_text (e ∷ es) ++ after) ≡ true
+    → block_node_stops m shallow (comments_text (e ∷ es) ++ after) ≡ true
 lines_end m shallow e es after h =
     let text : List ℕ = comments_text (e ∷ es) ++ after in
     let line : is_line_end (line_end_text e ++ (comments_text es ++ after)) ≡ true = line_is_end true e (comments_text es ++ after) (and_parts _ _ h).0 in
     let regrouped : text ≡ line_end_text e ++ (comments_text es ++ after) = append_assoc (line_end_text e) (comments_text es) after in
     or_left _ _ (or_right (is_empty text || marker text) _ (subst (λ (t : List ℕ). is_line_end t ≡ true) (sym regrouped) line))
 
-left_ended : (m : ℕ) (shallow : Bool) (ls : List LineEnd) (after : List ℕ) → comments_fit true ls after ≡ true → ended m shallow after ≡ true
-    → ended m shallow (comments_text ls ++ after) ≡ true
+left_ended : (m : ℕ) (shallow : Bool) (ls : List LineEnd) (after : List ℕ) → comments_fit true ls after ≡ true → block_node_stops m shallow after ≡ true
+    → block_node_stops m shallow (comments_text ls ++ after) ≡ true
 left_ended m shallow [] after l e = e
 left_ended m shallow (l' ∷ ls) after l e = lines_end m shallow l' ls after l
 
-read_at : (g : Node) (m : ℕ) (shallow bol : Bool) (left : List ℕ) → canonical_node g m shallow bol left ≡ true → ended m shallow left ≡ true
+read_at : (g : Node) (m : ℕ) (shallow bol : Bool) (left : List ℕ) → canonical_node g m shallow bol left ≡ true → block_node_stops m shallow left ≡ true
     → block_node_at m shallow bol (node_text g ++ left) ≡ Some (g, left)
 read_at = whole_node_read read_scalar reads_scalars read_block blocks_read
 

@@ -8,7 +8,7 @@ use Rattle.yaml_grammar.specs.FlowScalars.{Empty}
 use Rattle.yaml_grammar.specs.Separation.{Break, indents}
 use Rattle.yaml_grammar.specs.Texts.{no_marker}
 use Rattle.yaml_recognizers.specs.Comments.{read_break}
-use Rattle.yaml_recognizers.specs.Prefixes.{dropped, taken}
+use Rattle.yaml_recognizers.specs.Prefixes.{drop_while, take_while}
 use Rattle.yaml_recognizers.specs.Joins.{after_blank, read_empty, read_join, with_lead}
 use Rattle.yaml_recognizers.specs.Reading.{Read, on}
 use Rattle.yaml_recognizers.specs.Repeated.{all_of}
@@ -61,11 +61,11 @@ passed_all n start es t p h =
 -- ---- the start of the next line
 
 -- a join, from the start of the next line
-pub step_lead : (escaped : Bool) (n : ℕ) (blank : List ℕ) (stop : Break) (es : List Empty) (t : List ℕ) → indents n (taken white t) && no_marker true t ≡ true
-    → with_lead escaped n blank stop (es, t) ≡ Some (record { escaped = escaped; blank = blank; stop = stop; empties = es; lead = taken white t }, dropped white t)
+pub step_lead : (escaped : Bool) (n : ℕ) (blank : List ℕ) (stop : Break) (es : List Empty) (t : List ℕ) → indents n (take_while white t) && no_marker true t ≡ true
+    → with_lead escaped n blank stop (es, t) ≡ Some (record { escaped = escaped; blank = blank; stop = stop; empties = es; lead = take_while white t }, drop_while white t)
 step_lead escaped n blank stop es t h = cond-true _ _ _ h
 
 -- without enough indentation there is no join
-pub no_lead : (escaped : Bool) (n : ℕ) (blank : List ℕ) (stop : Break) (es : List Empty) (t : List ℕ) → indents n (taken white t) && no_marker true t ≡ false
+pub no_lead : (escaped : Bool) (n : ℕ) (blank : List ℕ) (stop : Break) (es : List Empty) (t : List ℕ) → indents n (take_while white t) && no_marker true t ≡ false
     → with_lead escaped n blank stop (es, t) ≡ None
 no_lead escaped n blank stop es t h = cond-false _ _ _ h

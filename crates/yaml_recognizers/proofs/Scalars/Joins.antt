@@ -3,17 +3,18 @@ use Rattle.std.proofs.Common.{ap, append-nil, append_assoc, arith, inl, inr, len
 use Rattle.std.specs.Prelude.{Bool, List, None, Some, [], codes, cond, false, flat_map, if◌then◌else◌, length, not, true, ℕ, ◌&&◌, ◌++◌, ◌==◌, ◌||◌, ◌∷◌}
 use Rattle.std.proofs.lemmas.Bool.{and_from, and_parts, cond-false, cond_both, eqb-true, false≢true, not-true, not_from_false, or_cases}
 use Rattle.yaml_chars.specs.Classes.{space, white}
-use Rattle.yaml_grammar.specs.FlowScalars.{Empty, Kind, Line, empties_fit, empties_text, empty_fits, empty_text, ends, join_fits, starts}
+use Rattle.yaml_grammar.specs.FlowScalars.{Empty, Kind, Line, empties_fit, empties_text, empty_fits, empty_text, ends, join_fits}
 use Rattle.yaml_grammar.specs.Separation.{Break, break_fits, break_text, cr, cr_lf, indents, lf}
-use Rattle.yaml_grammar.specs.Texts.{begins, every, first, is_empty, no_marker, spaces}
+use Rattle.std.specs.List.{list_all}
+use Rattle.yaml_grammar.specs.Texts.{begins, first, is_empty, no_marker, spaces}
 use Rattle.yaml_recognizers.specs.Comments.{read_break}
-use Rattle.yaml_recognizers.specs.Prefixes.{dropped, past, taken}
-use Rattle.yaml_recognizers.specs.Joins.{Join, at_break, after_blank, prefix_text, join_of, line_of, read_empty, read_join, spelled, with_lead}
+use Rattle.yaml_recognizers.specs.Prefixes.{drop_while, past, take_while}
+use Rattle.yaml_recognizers.specs.Joins.{Join, at_break, after_blank, prefix_text, join_of, line_of, read_empty, read_join, join_text_then, with_lead}
 use Rattle.yaml_recognizers.specs.Reading.{Read, on}
 use Rattle.yaml_recognizers.specs.Repeated.{repeated}
-use Rattle.yaml_recognizers.proofs.Basics.Blanks.{dropped_first, inked, inked_no_white, inked_not_at_break, white_at_break}
+use Rattle.yaml_recognizers.proofs.Basics.Blanks.{drop_while_first, inked, inked_no_white, inked_not_at_break, white_at_break}
 use Rattle.yaml_recognizers.proofs.Basics.Breaks.{BreakOf, break_first, break_read, break_sound, unbroken}
-use Rattle.yaml_recognizers.proofs.Basics.Prefixes.{dropped_all, taken_all, taken_every, taken_split}
+use Rattle.yaml_recognizers.proofs.Basics.Prefixes.{drop_while_all, take_while_all, take_while_every, take_while_split}
 use Rattle.yaml_recognizers.proofs.Basics.Reading.{Sound, sound_is, sound_on}
 use Rattle.yaml_recognizers.proofs.Basics.Repeated.{Each, Shrinks, repeated_read, repeated_sound}
 
@@ -27,13 +28,13 @@ empty_read n e after h =
     let q = and_parts _ _ p.0 in
     let rest : List ℕ = break_text e.stop ++ after in
     let f : first white rest ≡ false = break_first white e.stop after refl refl in
-    rw (append_assoc e.blank (break_text e.stop) after, taken_all white e.blank rest q.0 f, dropped_all white e.blank rest q.0 f, q.1, break_read e.stop after p.1)
+    rw (append_assoc e.blank (break_text e.stop) after, take_while_all white e.blank rest q.0 f, drop_while_all white e.blank rest q.0 f, q.1, break_read e.stop after p.1)
 
 -- none begins where no break comes after the white
 pub no_empty : (n : ℕ) (text : List ℕ) → at_break text ≡ false → read_empty n text ≡ None
 unfolding read_empty
 no_empty n text h =
-    rw (unbroken (dropped white text) h) (both (begins (spaces n) (taken white text) || every space (taken white text)))
+    rw (unbroken (drop_while white text) h) (both (begins (spaces n) (take_while white text) || list_all space (take_while white text)))
   where
     both : (b : Bool) → ◌≡◌ {A = Read Empty} (cond b None None) None
     both true = refl
@@ -47,13 +48,13 @@ EmptyOf n text e rest = (text ≡ empty_text e ++ rest) × (empty_fits n e rest 
 pub empty_sound : (n : ℕ) (text : List ℕ) → Sound (EmptyOf n text) (read_empty n text)
 unfolding read_empty
 empty_sound n text =
-    let blank : List ℕ = taken white text in
+    let blank : List ℕ = take_while white text in
     let made : Break → List ℕ → Read Empty = λ stop rest. Some (record { blank = blank; stop = stop }, rest) in
-    cond_both (begins (spaces n) blank || every space blank) (on (read_break (dropped white text)) made) None (Sound (EmptyOf n text))
-    (λ i. sound_on (BreakOf (dropped white text)) (EmptyOf n text) (read_break (dropped white text)) made (break_sound (dropped white text))
+    cond_both (begins (spaces n) blank || list_all space blank) (on (read_break (drop_while white text)) made) None (Sound (EmptyOf n text))
+    (λ i. sound_on (BreakOf (drop_while white text)) (EmptyOf n text) (read_break (drop_while white text)) made (break_sound (drop_while white text))
     (λ stop rest b. (
-      taken_split white text ∙ (ap (λ t. blank ++ t) b.0 ∙ sym (append_assoc blank (break_text stop) rest)),
-      and_from _ _ (and_from _ _ (taken_every white text) i) b.1,
+      take_while_split white text ∙ (ap (λ t. blank ++ t) b.0 ∙ sym (append_assoc blank (break_text stop) rest)),
+      and_from _ _ (and_from _ _ (take_while_every white text) i) b.1,
     )))
     (λ _. tt)
 
@@ -101,7 +102,7 @@ empties_sound n fuel text = repeated_sound (read_empty n) (EmptiesOf n) (λ t. (
 
 -- what a join has to meet by itself before what the line holds
 pub record Joins (n : ℕ) (j : Join) (rest : List ℕ) : Type 0 where
-  pub prefix : cond j.escaped (is_empty j.blank) (every white j.blank) ≡ true
+  pub prefix : cond j.escaped (is_empty j.blank) (list_all white j.blank) ≡ true
   pub stop : break_fits j.stop (empties_text j.empties ++ (j.lead ++ rest)) ≡ true
   pub empties : empties_fit n j.empties (j.lead ++ rest) ≡ true
   pub lead : indents n j.lead ≡ true
@@ -116,13 +117,13 @@ pub after_blank_read : (escaped : Bool) (n : ℕ) (blank : List ℕ) (stop : Bre
 unfolding after_blank
 after_blank_read escaped n blank stop empties lead rest i b e l m =
     let after : List ℕ = empties_text empties ++ (lead ++ rest) in
-    let w : every white lead ≡ true = (and_parts _ _ l).0 in
+    let w : list_all white lead ≡ true = (and_parts _ _ l).0 in
     let f : first white rest ≡ false = inked_no_white rest i in
     let no_break : at_break (lead ++ rest) ≡ false = white_at_break lead rest w ∙ inked_not_at_break rest i in
     let found : repeated (read_empty n) (length after) after ≡ (empties, lead ++ rest) =
     repeated_read (read_empty n) empty_text empties (length after) (lead ++ rest)
     (omega (arith, empties_long empties, length-append (empties_text empties) (lead ++ rest))) (empties_each n empties (lead ++ rest) e no_break) in
-    rw (break_read stop after b, found, taken_all white lead rest w f, dropped_all white lead rest w f, l, m)
+    rw (break_read stop after b, found, take_while_all white lead rest w f, drop_while_all white lead rest w f, l, m)
 
 white_no_backslash : (x : ℕ) → white x ≡ true → (x == 92) ≡ false
 white_no_backslash x h = elim (or_cases (x == 32) (x == 9) h) [
@@ -130,7 +131,7 @@ white_no_backslash x h = elim (or_cases (x == 32) (x == 9) h) [
   | inr e ↦ ap (λ y. y == 92) (eqb-true x 9 e)
 ]
 
-no_backslash : (blank : List ℕ) (b : Break) (rest : List ℕ) → every white blank ≡ true → first (λ x. x == 92) (blank ++ (break_text b ++ rest)) ≡ false
+no_backslash : (blank : List ℕ) (b : Break) (rest : List ℕ) → list_all white blank ≡ true → first (λ x. x == 92) (blank ++ (break_text b ++ rest)) ≡ false
 no_backslash [] b rest h = break_first (λ x. x == 92) b rest refl refl
 no_backslash (x ∷ xs) b rest h = white_no_backslash x (and_parts _ _ h).0
 
@@ -138,23 +139,23 @@ prefix_grouped : (blank : List ℕ) (b : Break) (rest : List ℕ) → (blank ++ 
 prefix_grouped blank b rest = ap (λ t. (t ++ break_text b) ++ rest) (append-nil blank) ∙ append_assoc blank (break_text b) rest
 
 -- a join without a backslash is read from its whitespace on
-pub unescaped_read : (escapes : Bool) (n : ℕ) (blank : List ℕ) (b : Break) (rest : List ℕ) → every white blank ≡ true
+pub unescaped_read : (escapes : Bool) (n : ℕ) (blank : List ℕ) (b : Break) (rest : List ℕ) → list_all white blank ≡ true
     → read_join escapes n (blank ++ (break_text b ++ rest)) ≡ after_blank false n blank (break_text b ++ rest)
 unfolding read_join
 unescaped_read escapes n blank b rest h =
     let f : first white (break_text b ++ rest) ≡ false = break_first white b rest refl refl in
     let e : escapes && first (λ x. x == 92) (blank ++ (break_text b ++ rest)) ≡ false = right escapes _ (no_backslash blank b rest h) in
-    cond-false _ _ _ e ∙ rw (taken_all white blank _ h f, dropped_all white blank _ h f) refl
+    cond-false _ _ _ e ∙ rw (take_while_all white blank _ h f, drop_while_all white blank _ h f) refl
   where
     right : (x y : Bool) → y ≡ false → x && y ≡ false
     right true y h = h
     right false y h = refl
 
 join_parts_read : (escapes : Bool) (n : ℕ) (escaped : Bool) (blank : List ℕ) (stop : Break) (empties : List Empty) (lead rest : List ℕ) → inked rest ≡ true
-    → escapes || not escaped ≡ true → cond escaped (is_empty blank) (every white blank) ≡ true
+    → escapes || not escaped ≡ true → cond escaped (is_empty blank) (list_all white blank) ≡ true
     → break_fits stop (empties_text empties ++ (lead ++ rest)) ≡ true → empties_fit n empties (lead ++ rest) ≡ true → indents n lead ≡ true
     → no_marker true (lead ++ rest) ≡ true
-    → read_join escapes n (spelled (record { escaped = escaped; blank = blank; stop = stop; empties = empties; lead = lead }) rest)
+    → read_join escapes n (join_text_then (record { escaped = escaped; blank = blank; stop = stop; empties = empties; lead = lead }) rest)
     ≡ Some (record { escaped = escaped; blank = blank; stop = stop; empties = empties; lead = lead }, rest)
 unfolding read_join
 join_parts_read false n true blank stop empties lead rest i a f b e l m = absurd (false≢true a)
@@ -166,27 +167,27 @@ join_parts_read escapes n false blank stop empties lead rest i a f b e l m =
 
 -- a join that fits is read
 pub join_read : (escapes : Bool) (n : ℕ) (j : Join) (rest : List ℕ) → Joins n j rest → inked rest ≡ true → escapes || not j.escaped ≡ true
-    → read_join escapes n (spelled j rest) ≡ Some (j, rest)
+    → read_join escapes n (join_text_then j rest) ≡ Some (j, rest)
 join_read escapes n j rest h i a = join_parts_read escapes n j.escaped j.blank j.stop j.empties j.lead rest i a h.prefix h.stop h.empties h.lead h.unmarked
 
 -- ---- what is read joins
 
 -- the join fits at the start of the text, before the rest
 pub record JoinOf (escapes : Bool) (n : ℕ) (text : List ℕ) (j : Join) (rest : List ℕ) : Type 0 where
-  pub spells : text ≡ spelled j rest
+  pub spells : text ≡ join_text_then j rest
   pub joins : Joins n j rest
   pub prefix : first white rest ≡ false
   pub allowed : escapes || not j.escaped ≡ true
 
 lead_sound : (escapes escaped : Bool) (n : ℕ) (blank : List ℕ) (stop : Break) (text : List ℕ) (empties : List Empty × List ℕ)
-    → escapes || not escaped ≡ true → cond escaped (is_empty blank) (every white blank) ≡ true → EmptiesOf n text empties.0 empties.1
+    → escapes || not escaped ≡ true → cond escaped (is_empty blank) (list_all white blank) ≡ true → EmptiesOf n text empties.0 empties.1
     → break_fits stop text ≡ true
     → Sound (JoinOf escapes n ((blank ++ (if escaped then codes "\\" else []) ++ break_text stop) ++ text)) (with_lead escaped n blank stop empties)
 lead_sound escapes escaped n blank stop text empties a f s b =
-    let lead : List ℕ = taken white empties.1 in
-    let rest : List ℕ = dropped white empties.1 in
+    let lead : List ℕ = take_while white empties.1 in
+    let rest : List ℕ = drop_while white empties.1 in
     let j : Join = record { escaped = escaped; blank = blank; stop = stop; empties = empties.0; lead = lead } in
-    let split : empties.1 ≡ lead ++ rest = taken_split white empties.1 in
+    let split : empties.1 ≡ lead ++ rest = take_while_split white empties.1 in
     let whole : text ≡ empties_text empties.0 ++ (lead ++ rest) = s.0 ∙ ap (λ t. empties_text empties.0 ++ t) split in
     cond_both (indents n lead && no_marker true empties.1) (Some (j, rest)) None
     (Sound (JoinOf escapes n ((blank ++ (if escaped then codes "\\" else []) ++ break_text stop) ++ text)))
@@ -200,12 +201,12 @@ lead_sound escapes escaped n blank stop text empties a f s b =
         lead = p.0;
         unmarked = subst (λ (t : List ℕ). no_marker true t ≡ true) split p.1;
       };
-      prefix = dropped_first white empties.1;
+      prefix = drop_while_first white empties.1;
       allowed = a;
     })
     (λ _. tt)
 
-blank_sound : (escapes escaped : Bool) (n : ℕ) (blank text : List ℕ) → escapes || not escaped ≡ true → cond escaped (is_empty blank) (every white blank) ≡ true
+blank_sound : (escapes escaped : Bool) (n : ℕ) (blank text : List ℕ) → escapes || not escaped ≡ true → cond escaped (is_empty blank) (list_all white blank) ≡ true
     → Sound (JoinOf escapes n (blank ++ ((if escaped then codes "\\" else []) ++ text))) (after_blank escaped n blank text)
 unfolding after_blank
 blank_sound escapes escaped n blank text a f =
@@ -232,17 +233,17 @@ not_needed false = refl
 pub join_sound : (escapes : Bool) (n : ℕ) (text : List ℕ) → Sound (JoinOf escapes n text) (read_join escapes n text)
 unfolding read_join
 join_sound escapes n text =
-    cond_both (escapes && first (λ x. x == 92) text) (after_blank true n [] (past text)) (after_blank false n (taken white text) (dropped white text))
+    cond_both (escapes && first (λ x. x == 92) text) (after_blank true n [] (past text)) (after_blank false n (take_while white text) (drop_while white text))
     (Sound (JoinOf escapes n text))
     (escaped_sound escapes n text)
-    (λ _. subst (λ (t : List ℕ). Sound (JoinOf escapes n t) (after_blank false n (taken white text) (dropped white text))) (sym (taken_split white text))
-    (blank_sound escapes false n (taken white text) (dropped white text) (not_needed escapes) (taken_every white text)))
+    (λ _. subst (λ (t : List ℕ). Sound (JoinOf escapes n t) (after_blank false n (take_while white text) (drop_while white text))) (sym (take_while_split white text))
+    (blank_sound escapes false n (take_while white text) (drop_while white text) (not_needed escapes) (take_while_every white text)))
 
 -- ---- joins of lines
 
 -- in terms of the line
 pub line_joins : {A : Type 0} (kind : Kind A) (n : ℕ) (before : List A) (l : Line A) (after : List ℕ) → join_fits kind n before l after ≡ true
-    → (Joins n (join_of l) (flat_map kind.spell l.held ++ after)) × (starts kind.blank l.held ≡ false) × (l.escaped ≡ false → ends kind.blank before ≡ false)
+    → (Joins n (join_of l) (flat_map kind.spell l.held ++ after)) × (first kind.blank l.held ≡ false) × (l.escaped ≡ false → ends kind.blank before ≡ false)
 line_joins kind n before l after h =
     let p = and_parts _ _ h in
     let q = and_parts _ _ p.0 in
@@ -261,7 +262,7 @@ line_joins kind n before l after h =
 
 -- a line with a join that fits, fits
 pub line_fits : {A : Type 0} (kind : Kind A) (n : ℕ) (before : List A) (j : Join) (held : List A) (after : List ℕ) → Joins n j (flat_map kind.spell held ++ after)
-    → starts kind.blank held ≡ false → (j.escaped ≡ false → ends kind.blank before ≡ false) → join_fits kind n before (line_of j held) after ≡ true
+    → first kind.blank held ≡ false → (j.escaped ≡ false → ends kind.blank before ≡ false) → join_fits kind n before (line_of j held) after ≡ true
 line_fits kind n before j held after h s f =
     and_from _ _ (and_from _ _ (and_from _ _ (and_from _ _ (and_from _ _ (prefix j.escaped _ _ _ h.prefix f) h.stop) h.empties) h.lead) (not_from_false _ s)) h.unmarked
   where
@@ -270,7 +271,7 @@ line_fits kind n before j held after h s f =
     prefix false e w f h i = and_from _ _ h (not_from_false _ (i refl))
 
 -- a join begins at a break, unless with a backslash
-pub joins_at_break : (n : ℕ) (j : Join) (rest : List ℕ) → Joins n j rest → j.escaped ≡ false → at_break (spelled j rest) ≡ true
+pub joins_at_break : (n : ℕ) (j : Join) (rest : List ℕ) → Joins n j rest → j.escaped ≡ false → at_break (join_text_then j rest) ≡ true
 joins_at_break n j rest h e = from j.escaped j.blank h.prefix e
   where
     broken : (b : Break) (t : List ℕ) → at_break (break_text b ++ t) ≡ true
@@ -278,7 +279,7 @@ joins_at_break n j rest h e = from j.escaped j.blank h.prefix e
     broken cr t = refl
     broken cr_lf t = refl
 
-    from : (escaped : Bool) (blank : List ℕ) → cond escaped (is_empty blank) (every white blank) ≡ true → escaped ≡ false
+    from : (escaped : Bool) (blank : List ℕ) → cond escaped (is_empty blank) (list_all white blank) ≡ true → escaped ≡ false
         → at_break ((blank ++ (if escaped then codes "\\" else []) ++ break_text j.stop) ++ (empties_text j.empties ++ (j.lead ++ rest))) ≡ true
     from true blank f e = absurd (false≢true (sym e))
     from false blank f e =
@@ -286,7 +287,7 @@ joins_at_break n j rest h e = from j.escaped j.blank h.prefix e
 
 -- the text of a line
 pub line_regrouped : {A : Type 0} (spell : A → List ℕ) (l : Line A) (after : List ℕ)
-    → (prefix_text (join_of l) ++ empties_text l.empties ++ l.lead ++ flat_map spell l.held) ++ after ≡ spelled (join_of l) (flat_map spell l.held ++ after)
+    → (prefix_text (join_of l) ++ empties_text l.empties ++ l.lead ++ flat_map spell l.held) ++ after ≡ join_text_then (join_of l) (flat_map spell l.held ++ after)
 line_regrouped spell l after = regroup (prefix_text (join_of l)) (empties_text l.empties) l.lead (flat_map spell l.held) after
   where
     regroup : (a b c d e : List ℕ) → (a ++ b ++ c ++ d) ++ e ≡ a ++ (b ++ (c ++ (d ++ e)))

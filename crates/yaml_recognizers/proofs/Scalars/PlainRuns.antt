@@ -3,7 +3,8 @@ use Rattle.std.proofs.Common.{◌≡◌, refl, sym, ◌∙◌, ap, subst, append
 use Rattle.std.specs.Prelude.{ℕ, Bool, true, false, cond, not, ◌&&◌, ◌||◌, ◌==◌, List, [], ◌∷◌, ◌++◌, length, drop}
 use Rattle.std.proofs.lemmas.Bool.{and_parts, and_from, and_left, or_cases, eqb-true, false≢true, not_from_false, not-true, cond_both, cases_Bool}
 use Rattle.yaml_chars.specs.Classes.{white, line_break, ns}
-use Rattle.yaml_grammar.specs.Texts.{every, is_empty}
+use Rattle.std.specs.List.{list_all}
+use Rattle.yaml_grammar.specs.Texts.{is_empty}
 use Rattle.yaml_grammar.specs.Separation.{Break, lf, cr, cr_lf, break_text}
 use Rattle.yaml_grammar.specs.FlowScalars.{FlowContext, outer, inner, block_key, flow_key, safe, plain_next, plain_run, ends}
 use Rattle.yaml_recognizers.specs.PlainScalars.{read_run, last_of}
@@ -60,12 +61,12 @@ no_run_at_break c prev cr rest = no_run c prev 13 rest (break_unplain c prev 13 
 no_run_at_break c prev cr_lf rest = no_run c prev 13 (10 ∷ rest) (break_unplain c prev 13 (10 ∷ rest) refl) refl
 
 -- nor after white where none does at once
-pub white_stops : (c : FlowContext) (prev : ℕ) (blank tail : List ℕ) → every white blank ≡ true → ((x : ℕ) → white x ≡ true → read_run c x tail ≡ [])
+pub white_stops : (c : FlowContext) (prev : ℕ) (blank tail : List ℕ) → list_all white blank ≡ true → ((x : ℕ) → white x ≡ true → read_run c x tail ≡ [])
     → (is_empty blank ≡ true → read_run c prev tail ≡ []) → read_run c prev (blank ++ tail) ≡ []
 unfolding read_run
 white_stops c prev [] tail w f g = g refl
 white_stops c prev (x ∷ xs) tail w f g =
-    let p : (white x ≡ true) × (every white xs ≡ true) = and_parts _ _ w in
+    let p : (white x ≡ true) × (list_all white xs ≡ true) = and_parts _ _ w in
     let more : read_run c x (xs ++ tail) ≡ [] = white_stops c x xs tail p.1 f (λ _. f x p.0) in
     rw (more, white_unplain c prev x (xs ++ tail) p.0) (same (white x))
   where

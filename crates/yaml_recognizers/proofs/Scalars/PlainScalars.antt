@@ -4,12 +4,13 @@ use Rattle.std.proofs.Math.Seq.{drop-append_seam, drop-append-add}
 use Rattle.std.specs.Prelude.{ℕ, Bool, true, false, cond, not, ◌&&◌, ◌||◌, List, [], ◌∷◌, ◌++◌, length, drop, flat_map, Some, None, is_some, codes, if◌then◌else◌}
 use Rattle.std.proofs.lemmas.Bool.{and_parts, and_from, or_from, false≢true, not_from_false, not-true, cond_both, cond-true}
 use Rattle.yaml_chars.specs.Classes.{white}
-use Rattle.yaml_grammar.specs.Texts.{every, first, is_empty, no_marker}
+use Rattle.std.specs.List.{list_all}
+use Rattle.yaml_grammar.specs.Texts.{first, is_empty, no_marker}
 use Rattle.yaml_grammar.specs.Separation.{break_text}
-use Rattle.yaml_grammar.specs.FlowScalars.{FlowContext, one_line, Line, plain, plain_text, line_text, lines_text, empties_text, starts, ends, join_fits, lines_after, plain_first, plain_next, plain_run, plain_line, plain_more, plain_kind, plain_lines, scalar_fits}
+use Rattle.yaml_grammar.specs.FlowScalars.{FlowContext, one_line, Line, plain, plain_text, line_text, lines_text, empties_text, ends, join_fits, lines_after, plain_first, plain_next, plain_run, plain_line, plain_more, plain_kind, plain_lines, scalar_fits}
 use Rattle.yaml_recognizers.specs.Reading.{Read, on}
 use Rattle.yaml_recognizers.specs.Repeated.{repeated}
-use Rattle.yaml_recognizers.specs.Joins.{Join, join_of, line_of, spelled, read_join}
+use Rattle.yaml_recognizers.specs.Joins.{Join, join_of, line_of, join_text_then, read_join}
 use Rattle.yaml_recognizers.specs.PlainScalars.{read_run, with_run, read_plain_line, plain_lines_at, with_lines, read_plain, last_of, last_char, plain_ends}
 use Rattle.yaml_recognizers.specs.FlowScalars.{scalar_ends, Stands}
 use Rattle.yaml_recognizers.proofs.Basics.Blanks.{inked}
@@ -29,12 +30,12 @@ plain_texts (x ∷ xs) = ap (λ ys. x ∷ ys) (plain_texts xs)
 pub plain_regrouped : (prefix : List ℕ) (more : List (Line ℕ)) (after : List ℕ) → lines_text plain_text prefix more ++ after ≡ prefix ++ lines_after plain_kind more after
 plain_regrouped prefix more after = ap (λ (t : List ℕ). (t ++ flat_map (line_text plain_text) more) ++ after) (plain_texts prefix) ∙ append_assoc prefix _ after
 
-line_spelled : (l : Line ℕ) (after : List ℕ) → line_text plain_text l ++ after ≡ spelled (join_of l) (l.held ++ after)
-line_spelled l after = line_regrouped plain_text l after ∙ ap (λ t. spelled (join_of l) (t ++ after)) (plain_texts l.held)
+line_spelled : (l : Line ℕ) (after : List ℕ) → line_text plain_text l ++ after ≡ join_text_then (join_of l) (l.held ++ after)
+line_spelled l after = line_regrouped plain_text l after ∙ ap (λ t. join_text_then (join_of l) (t ++ after)) (plain_texts l.held)
 
 -- the text of further lines, from the first of them
 pub lines_spelled : (l : Line ℕ) (ls : List (Line ℕ)) (after : List ℕ)
-    → lines_after plain_kind (l ∷ ls) after ≡ spelled (join_of l) (l.held ++ lines_after plain_kind ls after)
+    → lines_after plain_kind (l ∷ ls) after ≡ join_text_then (join_of l) (l.held ++ lines_after plain_kind ls after)
 lines_spelled l ls after = append_assoc (line_text plain_text l) (flat_map (line_text plain_text) ls) after ∙ line_spelled l (lines_after plain_kind ls after)
 
 -- ---- complete
@@ -57,11 +58,11 @@ ends_lines n c last after h k = none (one_line c) (read_plain_line n c after) (a
     none false (Some r) h k = absurd (false≢true h)
 
 -- a join ends a line
-pub join_stops : (c : FlowContext) (prev : ℕ) (j : Join) (rest : List ℕ) → not j.escaped ≡ true → cond j.escaped (is_empty j.blank) (every white j.blank) ≡ true
-    → read_run c prev (spelled j rest) ≡ []
+pub join_stops : (c : FlowContext) (prev : ℕ) (j : Join) (rest : List ℕ) → not j.escaped ≡ true → cond j.escaped (is_empty j.blank) (list_all white j.blank) ≡ true
+    → read_run c prev (join_text_then j rest) ≡ []
 join_stops c prev j rest e f = parts j.escaped j.blank e f
   where
-    parts : (escaped : Bool) (blank : List ℕ) → not escaped ≡ true → cond escaped (is_empty blank) (every white blank) ≡ true
+    parts : (escaped : Bool) (blank : List ℕ) → not escaped ≡ true → cond escaped (is_empty blank) (list_all white blank) ≡ true
         → read_run c prev ((blank ++ (if escaped then codes "\\" else []) ++ break_text j.stop) ++ (empties_text j.empties ++ (j.lead ++ rest))) ≡ []
     parts true blank e f = absurd (false≢true e)
     parts false blank e f =
@@ -122,7 +123,7 @@ plain_line_goes_on n c before l ls after h =
     let extra : List ℕ = read_run c (last_of 32 l.held) rest in
     let j = line_joins plain_kind n before l rest r.1 in
     let joins : Joins n (join_of l) (l.held ++ rest) = subst (λ (t : List ℕ). Joins n (join_of l) (t ++ rest)) (plain_texts l.held) j.0 in
-    let joined : read_join false n (spelled (join_of l) (l.held ++ rest)) ≡ Some (join_of l, l.held ++ rest) =
+    let joined : read_join false n (join_text_then (join_of l) (l.held ++ rest)) ≡ Some (join_of l, l.held ++ rest) =
     join_read false n (join_of l) (l.held ++ rest) joins (more_inked c l.held rest q.1) r.0 in
     let m = more_run c l.held rest q.1 in
     let run : read_run c 32 (l.held ++ rest) ≡ l.held ++ extra = run_goes_on c 32 l.held rest m.0 in
@@ -228,7 +229,7 @@ with_run_sound n c text j rest run o r =
     cond_both (is_empty run) None (Some (line_of j run, after)) (Sound (PlainLineOf n c text))
     (λ _. tt)
     (λ i. record {
-      spells = o.spells ∙ (ap (spelled j) r.spells ∙ sym (line_spelled (line_of j run) after));
+      spells = o.spells ∙ (ap (join_text_then j) r.spells ∙ sym (line_spelled (line_of j run) after));
       joins = subst (λ (t : List ℕ). Joins n j t) whole o.joins;
       bare = o.allowed;
       more = run_more c rest run r o.prefix i;
@@ -261,7 +262,7 @@ no_lines : (n : ℕ) (c : FlowContext) (text : List ℕ) → PlainLinesOf n c te
 unfolding last_char
 no_lines n c text = record { spells = refl; fit = λ before f. refl; end = λ before e. e }
 
-more_starts : (c : FlowContext) (held after : List ℕ) → plain_more c held after ≡ true → starts white held ≡ false
+more_starts : (c : FlowContext) (held after : List ℕ) → plain_more c held after ≡ true → first white held ≡ false
 more_starts c [] after h = refl
 more_starts c (x ∷ xs) after h = not-true _ (and_parts _ _ h).0
 

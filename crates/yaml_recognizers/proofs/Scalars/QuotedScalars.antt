@@ -4,14 +4,14 @@ use Rattle.std.specs.Prelude.{ℕ, Bool, true, false, cond, not, ◌&&◌, ◌||
 use Rattle.std.specs.List.{list_all}
 use Rattle.std.proofs.lemmas.Bool.{and_parts, and_from, false≢true, cond_both, cond-true, cond-false, cases_Bool}
 use Rattle.yaml_chars.specs.Classes.{white}
-use Rattle.yaml_grammar.specs.Texts.{every, first, is_empty}
+use Rattle.yaml_grammar.specs.Texts.{first, is_empty}
 use Rattle.yaml_grammar.specs.Separation.{Break, break_text}
-use Rattle.yaml_grammar.specs.FlowScalars.{FlowContext, one_line, Line, Kind, line_text, lines_text, empties_text, starts, ends, join_fits, lines_after, quoted_lines}
+use Rattle.yaml_grammar.specs.FlowScalars.{FlowContext, one_line, Line, Kind, line_text, lines_text, empties_text, ends, join_fits, lines_after, quoted_lines}
 use Rattle.yaml_recognizers.specs.Prefixes.{past}
 use Rattle.yaml_recognizers.specs.Reading.{Read, on}
 use Rattle.yaml_recognizers.specs.Repeated.{repeated}
-use Rattle.yaml_recognizers.specs.Joins.{Join, join_of, line_of, spelled, at_break, read_join}
-use Rattle.yaml_recognizers.specs.QuotedScalars.{read_held, all_held, read_quoted_line, apart, closed, further, read_quoted}
+use Rattle.yaml_recognizers.specs.Joins.{Join, join_of, line_of, join_text_then, at_break, read_join}
+use Rattle.yaml_recognizers.specs.QuotedScalars.{read_held, line_things, read_quoted_line, apart, read_closing_quote, further, read_quoted}
 use Rattle.yaml_recognizers.proofs.Basics.Blanks.{inked, inked_not_at_break}
 use Rattle.yaml_recognizers.proofs.Basics.Reading.{Sound, sound_on, sound_to, sound_is}
 use Rattle.yaml_recognizers.proofs.Basics.Repeated.{Each, repeated_read, repeated_sound}
@@ -79,21 +79,21 @@ module _ {A : Type 0} (kind : Kind A) (holds : A → Bool) (escapes : Bool) (rea
     pub blank : ends kind.blank before ≡ true → at_break after ≡ false
 
   -- what a line holds is read
-  pub held_read : (xs : List A) (after : List ℕ) → list_all holds xs ≡ true → StopsLine xs after → all_held read_one (flat_map kind.spell xs ++ after) ≡ (xs, after)
+  pub held_read : (xs : List A) (after : List ℕ) → list_all holds xs ≡ true → StopsLine xs after → line_things read_one (flat_map kind.spell xs ++ after) ≡ (xs, after)
   held_read xs after h s =
       repeated_read (read_held read_one) kind.spell xs (length (flat_map kind.spell xs ++ after)) after
       (omega (arith, held_long xs, length-append (flat_map kind.spell xs) after)) (held_each xs after h s.none s.blank)
 
   -- a join does
   unescaped_stops : (n : ℕ) (before : List A) (j : Join) (rest : List ℕ) → Joins n j rest → j.escaped ≡ false → ends kind.blank before ≡ false
-      → StopsLine before (spelled j rest)
+      → StopsLine before (join_text_then j rest)
   unfolding read_held
   unescaped_stops n before j rest h e f = record {
     none = cond-true _ _ _ (joins_at_break n j rest h e);
     blank = λ b. absurd (false≢true (sym f ∙ b));
   }
 
-  escaped_stops : (before : List A) (j : Join) (rest : List ℕ) → j.escaped ≡ true → is_empty j.blank ≡ true → escapes ≡ true → StopsLine before (spelled j rest)
+  escaped_stops : (before : List A) (j : Join) (rest : List ℕ) → j.escaped ≡ true → is_empty j.blank ≡ true → escapes ≡ true → StopsLine before (join_text_then j rest)
   unfolding read_held
   escaped_stops before j rest e b a = parts j.escaped j.blank e b
     where
@@ -104,9 +104,9 @@ module _ {A : Type 0} (kind : Kind A) (holds : A → Bool) (escapes : Bool) (rea
       parts true [] e b = record { none = readable.joins j.stop (empties_text j.empties ++ (j.lead ++ rest)) a; blank = λ i. refl }
 
   join_stops : (n : ℕ) (before : List A) (j : Join) (rest : List ℕ) → Joins n j rest → (j.escaped ≡ false → ends kind.blank before ≡ false)
-      → escapes || not j.escaped ≡ true → StopsLine before (spelled j rest)
+      → escapes || not j.escaped ≡ true → StopsLine before (join_text_then j rest)
   join_stops n before j rest h f a = elim (cases_Bool j.escaped) [
-    | inl e ↦ escaped_stops before j rest e (subst (λ (b : Bool). cond b (is_empty j.blank) (every white j.blank) ≡ true) e h.prefix)
+    | inl e ↦ escaped_stops before j rest e (subst (λ (b : Bool). cond b (is_empty j.blank) (list_all white j.blank) ≡ true) e h.prefix)
         (allowed escapes (subst (λ (b : Bool). escapes || not b ≡ true) e a))
     | inr e ↦ unescaped_stops n before j rest h e (f e)
   ]
@@ -138,11 +138,11 @@ module _ {A : Type 0} (kind : Kind A) (holds : A → Bool) (escapes : Bool) (rea
       let s = and_parts _ _ r.0 in
       let rest : List ℕ = lines_after kind ls after in
       let j = line_joins kind n before l rest s.1 in
-      let regrouped : lines_after kind (l ∷ ls) after ≡ spelled (join_of l) (flat_map kind.spell l.held ++ rest) =
+      let regrouped : lines_after kind (l ∷ ls) after ≡ join_text_then (join_of l) (flat_map kind.spell l.held ++ rest) =
       append_assoc (line_text kind.spell l) (flat_map (line_text kind.spell) ls) after ∙ line_regrouped kind.spell l rest in
       subst (StopsLine before) (sym regrouped) (join_stops n before (join_of l) (flat_map kind.spell l.held ++ rest) j.0 j.2 s.0)
 
-  line_inked : (held : List A) (ls : List (Line A)) (after : List ℕ) → list_all holds held ≡ true → starts kind.blank held ≡ false
+  line_inked : (held : List A) (ls : List (Line A)) (after : List ℕ) → list_all holds held ≡ true → first kind.blank held ≡ false
       → is_empty ls || not (is_empty held) ≡ true → inked after ≡ true → inked (flat_map kind.spell held ++ lines_after kind ls after) ≡ true
   line_inked [] [] after h s a i = i
   line_inked [] (l ∷ ls) after h s a i = absurd (false≢true a)
@@ -161,11 +161,11 @@ module _ {A : Type 0} (kind : Kind A) (holds : A → Bool) (escapes : Bool) (rea
       let rest : List ℕ = lines_after kind ls after in
       let held : List ℕ = flat_map kind.spell l.held ++ rest in
       let j = line_joins kind n before l rest s.1 in
-      let joined : read_join escapes n (spelled (join_of l) held) ≡ Some (join_of l, held) =
+      let joined : read_join escapes n (join_text_then (join_of l) held) ≡ Some (join_of l, held) =
       join_read escapes n (join_of l) held j.0 (line_inked l.held ls after r.1 j.1 q.1 e.inked) s.0 in
-      let found : all_held read_one held ≡ (l.held, rest) = held_read l.held rest r.1 (lines_stop n l.held ls after e p.1) in
+      let found : line_things read_one held ≡ (l.held, rest) = held_read l.held rest r.1 (lines_stop n l.held ls after e p.1) in
       ap (read_quoted_line read_one escapes n) (line_regrouped kind.spell l rest)
-      ∙ (ap (λ (x : Read Join). on x (λ j' rest'. let held' = all_held read_one rest' in Some (line_of j' held'.0, held'.1))) joined
+      ∙ (ap (λ (x : Read Join). on x (λ j' rest'. let held' = line_things read_one rest' in Some (line_of j' held'.0, held'.1))) joined
       ∙ ap (λ (x : List A × List ℕ). Some (line_of (join_of l) x.0, x.1)) found)
 
   lines_each : (n : ℕ) (before : List A) (ls : List (Line A)) (after : List ℕ) → EndsLines n after → quoted_lines kind holds escapes n before ls after ≡ true
@@ -211,8 +211,8 @@ module _ {A : Type 0} (kind : Kind A) (holds : A → Bool) (escapes : Bool) (rea
       let rest : List ℕ = lines_after kind more after in
       let regrouped : lines_text kind.spell prefix more ++ after ≡ flat_map kind.spell prefix ++ rest = append_assoc (flat_map kind.spell prefix) (flat_map (line_text kind.spell) more) after in
       ap (read_quoted read_one closes escapes n c) regrouped
-      ∙ (ap (λ (f : List A × List ℕ). closed closes f.0 (further read_one escapes n c f.1)) (held_read prefix rest h (lines_stop n prefix more after e l))
-      ∙ (ap (closed closes prefix) (further_read n c prefix more after e l k)
+      ∙ (ap (λ (f : List A × List ℕ). read_closing_quote closes f.0 (further read_one escapes n c f.1)) (held_read prefix rest h (lines_stop n prefix more after e l))
+      ∙ (ap (read_closing_quote closes prefix) (further_read n c prefix more after e l k)
       ∙ cond-true _ _ _ (and_from _ _ x (lines_apart n prefix more after l))))
 
   -- ---- what a line holds, sound
@@ -222,7 +222,7 @@ module _ {A : Type 0} (kind : Kind A) (holds : A → Bool) (escapes : Bool) (rea
     pub spells : text ≡ flat_map kind.spell xs ++ rest
     pub held : list_all holds xs ≡ true
     pub blank : ends kind.blank xs ≡ true → at_break rest ≡ false
-    pub prefix : first white text ≡ false → starts kind.blank xs ≡ false
+    pub prefix : first white text ≡ false → first kind.blank xs ≡ false
 
   -- one thing that is read fits
   pub held_sound : (text : List ℕ) (a : A) (t : List ℕ) → read_held read_one text ≡ Some (a, t) → (at_break text ≡ false) × OneOf kind holds text a t
@@ -259,7 +259,7 @@ module _ {A : Type 0} (kind : Kind A) (holds : A → Bool) (escapes : Bool) (rea
       }
 
   -- all that is read of a line fits
-  pub all_held_sound : (text : List ℕ) → HeldOf text (all_held read_one text).0 (all_held read_one text).1
+  pub all_held_sound : (text : List ℕ) → HeldOf text (line_things read_one text).0 (line_things read_one text).1
   all_held_sound text =
       repeated_sound (read_held read_one) HeldOf
       (λ t. record { spells = refl; held = refl; blank = λ b. absurd (false≢true b); prefix = λ f. refl }) held_step (length text) text
@@ -272,16 +272,16 @@ module _ {A : Type 0} (kind : Kind A) (holds : A → Bool) (escapes : Bool) (rea
     pub joins : Joins n (join_of l) (flat_map kind.spell l.held ++ rest)
     pub allowed : escapes || not l.escaped ≡ true
     pub held : list_all holds l.held ≡ true
-    pub prefix : starts kind.blank l.held ≡ false
+    pub prefix : first kind.blank l.held ≡ false
     pub blank : ends kind.blank l.held ≡ true → at_break rest ≡ false
     pub break : l.escaped ≡ false → at_break text ≡ true
 
   line_of_join : (n : ℕ) (text : List ℕ) (j : Join) (rest : List ℕ) → JoinOf escapes n text j rest
-      → LineOf n text (line_of j (all_held read_one rest).0) (all_held read_one rest).1
+      → LineOf n text (line_of j (line_things read_one rest).0) (line_things read_one rest).1
   line_of_join n text j rest o =
-      let held : List A × List ℕ = all_held read_one rest in
+      let held : List A × List ℕ = line_things read_one rest in
       let s : HeldOf rest held.0 held.1 = all_held_sound rest in
-      let whole : spelled j rest ≡ spelled j (flat_map kind.spell held.0 ++ held.1) = ap (spelled j) s.spells in
+      let whole : join_text_then j rest ≡ join_text_then j (flat_map kind.spell held.0 ++ held.1) = ap (join_text_then j) s.spells in
       record {
         spells = o.spells ∙ (whole ∙ sym (line_regrouped kind.spell (line_of j held.0) held.1));
         joins = subst (λ (t : List ℕ). Joins n j t) s.spells o.joins;
@@ -297,7 +297,7 @@ module _ {A : Type 0} (kind : Kind A) (holds : A → Bool) (escapes : Bool) (rea
   unfolding read_quoted_line
   quoted_line_sound n text =
       sound_on (JoinOf escapes n text) (LineOf n text) (read_join escapes n text)
-      (λ j rest. let held = all_held read_one rest in Some (line_of j held.0, held.1)) (join_sound escapes n text) (line_of_join n text)
+      (λ j rest. let held = line_things read_one rest in Some (line_of j held.0, held.1)) (join_sound escapes n text) (line_of_join n text)
 
   -- after what ends with white only where no break comes after it
   pub record LinesOf (n : ℕ) (text : List ℕ) (ls : List (Line A)) (rest : List ℕ) : Type 0 where
@@ -356,7 +356,7 @@ module _ {A : Type 0} (kind : Kind A) (holds : A → Bool) (escapes : Bool) (rea
   pub quoted_sound : (closes : List ℕ → Bool) (n : ℕ) (c : FlowContext) (text : List ℕ) → Sound (QuotedOf closes n c text) (read_quoted read_one closes escapes n c text)
   unfolding read_quoted
   quoted_sound closes n c text =
-      let prefix : List A × List ℕ = all_held read_one text in
+      let prefix : List A × List ℕ = line_things read_one text in
       let more : List (Line A) × List ℕ = further read_one escapes n c prefix.1 in
       let f : HeldOf text prefix.0 prefix.1 = all_held_sound text in
       let m = further_sound n c prefix.1 in

@@ -10,7 +10,7 @@ use Rattle.yaml_recognizers.specs.Prefixes.{past}
 use Rattle.yaml_recognizers.specs.Reading.{Read, on}
 use Rattle.yaml_recognizers.specs.Repeated.{all_of}
 use Rattle.yaml_recognizers.specs.Joins.{Join, line_of, at_break, read_join}
-use Rattle.yaml_recognizers.specs.QuotedScalars.{read_held, all_held, read_quoted_line, apart, closed, further, read_quoted}
+use Rattle.yaml_recognizers.specs.QuotedScalars.{read_held, line_things, read_quoted_line, apart, read_closing_quote, further, read_quoted}
 use Rattle.yaml_recognizers.specs.QuotedSteps.{read_after_join, with_thing, with_things, with_join, quoted_value, with_prefix, join_value}
 use Rattle.yaml_recognizers.proofs.Basics.Reading.{sound_is}
 use Rattle.yaml_recognizers.proofs.Basics.Repeated.{Shrinks, all_none, all_some}
@@ -55,7 +55,7 @@ module _ {A : Type 0} (kind : Kind A) (holds : A → Bool) (escapes : Bool) (rea
 
   -- ---- one thing
 
-  thing_more : (a : A) (prefix : List A) (more : List (Line A) × List ℕ) → closed closes (a ∷ prefix) more ≡ with_thing a (closed closes prefix more)
+  thing_more : (a : A) (prefix : List A) (more : List (Line A) × List ℕ) → read_closing_quote closes (a ∷ prefix) more ≡ with_thing a (read_closing_quote closes prefix more)
   thing_more a prefix more = both (closes more.1 && apart more.0)
     where
       both : (b : Bool) → cond b (Some ((a ∷ prefix, more.0), past more.1)) None ≡ with_thing a (cond b (Some ((prefix, more.0), past more.1)) None)
@@ -67,8 +67,8 @@ module _ {A : Type 0} (kind : Kind A) (holds : A → Bool) (escapes : Bool) (rea
       → read_quoted read_one closes escapes n c text ≡ with_thing a (read_quoted read_one closes escapes n c t)
   unfolding read_quoted
   step_thing text a t h =
-      ap (λ (f : List A × List ℕ). closed closes f.0 (further read_one escapes n c f.1)) (all_some (read_held read_one) held_shrinks text a t h)
-      ∙ thing_more a (all_held read_one t).0 (further read_one escapes n c (all_held read_one t).1)
+      ap (λ (f : List A × List ℕ). read_closing_quote closes f.0 (further read_one escapes n c f.1)) (all_some (read_held read_one) held_shrinks text a t h)
+      ∙ thing_more a (line_things read_one t).0 (further read_one escapes n c (line_things read_one t).1)
 
   -- a run of things, of which the last is no white before a break
   pub step_things : (xs : List A) (t : List ℕ) → list_all holds xs ≡ true → (ends kind.blank xs ≡ true → at_break t ≡ false)
@@ -91,16 +91,16 @@ module _ {A : Type 0} (kind : Kind A) (holds : A → Bool) (escapes : Bool) (rea
 
   -- ---- the closing quote
 
-  nothing_held : (text : List ℕ) → read_held read_one text ≡ None → read_quoted read_one closes escapes n c text ≡ closed closes [] (further read_one escapes n c text)
+  nothing_held : (text : List ℕ) → read_held read_one text ≡ None → read_quoted read_one closes escapes n c text ≡ read_closing_quote closes [] (further read_one escapes n c text)
   unfolding read_quoted
-  nothing_held text h = ap (λ (f : List A × List ℕ). closed closes f.0 (further read_one escapes n c f.1)) (all_none (read_held read_one) text h)
+  nothing_held text h = ap (λ (f : List A × List ℕ). read_closing_quote closes f.0 (further read_one escapes n c f.1)) (all_none (read_held read_one) text h)
 
   no_line : (text : List ℕ) → read_join escapes n text ≡ None → further read_one escapes n c text ≡ ([], text)
   unfolding read_quoted_line
   no_line text j = by_line (one_line c)
     where
       line : read_quoted_line read_one escapes n text ≡ None
-      line = ap (λ (r : Read Join). on r (λ j rest. let held = all_held read_one rest in Some (line_of j held.0, held.1))) j
+      line = ap (λ (r : Read Join). on r (λ j rest. let held = line_things read_one rest in Some (line_of j held.0, held.1))) j
 
       by_line : (b : Bool) → cond b ([], text) (all_of (read_quoted_line read_one escapes n) text) ≡ ([], text)
       by_line true = refl
@@ -110,18 +110,18 @@ module _ {A : Type 0} (kind : Kind A) (holds : A → Bool) (escapes : Bool) (rea
   pub step_close : (text : List ℕ) → read_held read_one text ≡ None → read_join escapes n text ≡ None → closes text ≡ true
       → read_quoted read_one closes escapes n c text ≡ Some (([], []), past text)
   step_close text h j e =
-      nothing_held text h ∙ (ap (closed closes []) (no_line text j) ∙ rw e refl)
+      nothing_held text h ∙ (ap (read_closing_quote closes []) (no_line text j) ∙ rw e refl)
 
   -- if neither it nor a join is there, nothing is read
   pub step_fault : (text : List ℕ) → read_held read_one text ≡ None → read_join escapes n text ≡ None → closes text ≡ false
       → read_quoted read_one closes escapes n c text ≡ None
   step_fault text h j e =
-      nothing_held text h ∙ (ap (closed closes []) (no_line text j) ∙ rw e refl)
+      nothing_held text h ∙ (ap (read_closing_quote closes []) (no_line text j) ∙ rw e refl)
 
   -- nor after one line of a key
   pub step_key : (text : List ℕ) → read_held read_one text ≡ None → one_line c ≡ true → closes text ≡ false → read_quoted read_one closes escapes n c text ≡ None
   step_key text h k e =
-      nothing_held text h ∙ (ap (closed closes []) (cond-true (one_line c) _ _ k) ∙ rw e refl)
+      nothing_held text h ∙ (ap (read_closing_quote closes []) (cond-true (one_line c) _ _ k) ∙ rw e refl)
 
   -- ---- a join
 
@@ -129,7 +129,7 @@ module _ {A : Type 0} (kind : Kind A) (holds : A → Bool) (escapes : Bool) (rea
   checked found rest = if is_empty found.1 || not (is_empty found.0) then Some (found, rest) else None
 
   join_more : (j : Join) (held : List A) (more : List (Line A) × List ℕ)
-      → closed closes [] (line_of j held ∷ more.0, more.1) ≡ with_join j (on (closed closes held more) (λ found rest. checked found rest))
+      → read_closing_quote closes [] (line_of j held ∷ more.0, more.1) ≡ with_join j (on (read_closing_quote closes held more) (λ found rest. checked found rest))
   unfolding checked
   join_more j held more = both (closes more.1) (apart more.0)
     where
@@ -148,9 +148,9 @@ module _ {A : Type 0} (kind : Kind A) (holds : A → Bool) (escapes : Bool) (rea
       both false z = refl
 
   line_there : (text : List ℕ) (j : Join) (t : List ℕ) → read_join escapes n text ≡ Some (j, t)
-      → read_quoted_line read_one escapes n text ≡ Some (line_of j (all_held read_one t).0, (all_held read_one t).1)
+      → read_quoted_line read_one escapes n text ≡ Some (line_of j (line_things read_one t).0, (line_things read_one t).1)
   unfolding read_quoted_line
-  line_there text j t e = ap (λ (r : Read Join). on r (λ j rest. let held = all_held read_one rest in Some (line_of j held.0, held.1))) e
+  line_there text j t e = ap (λ (r : Read Join). on r (λ j rest. let held = line_things read_one rest in Some (line_of j held.0, held.1))) e
 
   further_there : (text : List ℕ) → one_line c ≡ false → further read_one escapes n c text ≡ all_of (read_quoted_line read_one escapes n) text
   further_there text k = cond-false (one_line c) ([], text) (all_of (read_quoted_line read_one escapes n) text) k
@@ -160,13 +160,13 @@ module _ {A : Type 0} (kind : Kind A) (holds : A → Bool) (escapes : Bool) (rea
       → read_quoted read_one closes escapes n c text ≡ with_join j (read_after_join read_one closes escapes n c t)
   unfolding read_quoted read_after_join checked
   step_join text j t h k e =
-      let held : List A × List ℕ = all_held read_one t in
+      let held : List A × List ℕ = line_things read_one t in
       let lines : all_of (read_quoted_line read_one escapes n) text ≡ (line_of j held.0 ∷ (all_of (read_quoted_line read_one escapes n) held.1).0, (all_of (read_quoted_line read_one escapes n) held.1).1) =
       all_some (read_quoted_line read_one escapes n) line_shrinks text (line_of j held.0) held.1 (line_there text j t e) in
       nothing_held text h
-      ∙ (ap (closed closes []) (further_there text k ∙ lines)
+      ∙ (ap (read_closing_quote closes []) (further_there text k ∙ lines)
       ∙ (join_more j held.0 (all_of (read_quoted_line read_one escapes n) held.1)
-      ∙ ap (λ (m : List (Line A) × List ℕ). with_join j (on (closed closes held.0 m) (λ found rest. checked found rest))) (sym (further_there held.1 k))))
+      ∙ ap (λ (m : List (Line A) × List ℕ). with_join j (on (read_closing_quote closes held.0 m) (λ found rest. checked found rest))) (sym (further_there held.1 k))))
 
   -- ---- after a join
 
@@ -207,7 +207,7 @@ module _ {A : Type 0} (kind : Kind A) (holds : A → Bool) (escapes : Bool) (rea
       by_line true i = e
       by_line false i = line (read_quoted_line read_one escapes n text) refl i
 
-  refused : (ls : List (Line A)) (rest : List ℕ) → (is_empty ls ≡ true → closes rest ≡ false) → on (closed closes [] (ls, rest)) (λ found rest'. checked found rest') ≡ None
+  refused : (ls : List (Line A)) (rest : List ℕ) → (is_empty ls ≡ true → closes rest ≡ false) → on (read_closing_quote closes [] (ls, rest)) (λ found rest'. checked found rest') ≡ None
   unfolding checked
   refused [] rest f = ap (λ b. on (cond (b && true) (Some (([], []), past rest)) None) (λ found rest'. checked found rest')) (f refl)
   refused (l ∷ ls) rest f = never (closes rest && apart (l ∷ ls))

@@ -8,11 +8,12 @@ use Rattle.yaml_grammar.specs.BlockScalars.{spaces_before}
 use Rattle.yaml_grammar.specs.FlowNodes.{is_plain, scalar}
 use Rattle.yaml_grammar.specs.FlowScalars.{Empty, FlowContext, Line, Scalar, block_key, double, flow_key, inner, one_line, outer, plain, plain_next, safe, single}
 use Rattle.yaml_grammar.specs.Separation.{Break, LineEnd, Sep, break_text, comment_fits, comment_line_fits, comment_text, comments_fit, comments_text, gap_fits, gap_text, indents, inline, line_end_text, lines, stop_fits}
-use Rattle.yaml_grammar.specs.Texts.{begins, every, first, is_empty, marker, no_marker, optional, spaces}
+use Rattle.std.specs.List.{list_all}
+use Rattle.yaml_grammar.specs.Texts.{begins, first, is_empty, marker, no_marker, optional, spaces}
 use Rattle.yaml_recognizers.specs.Comments.{read_break}
 use Rattle.yaml_recognizers.specs.Ends.{closing, in_flow, is_colon, less_deep}
 use Rattle.yaml_recognizers.specs.FlowScalars.{scalar_ends}
-use Rattle.yaml_recognizers.specs.Prefixes.{dropped, taken}
+use Rattle.yaml_recognizers.specs.Prefixes.{drop_while, take_while}
 use Rattle.yaml_recognizers.specs.Joins.{Join, at_break, after_blank, read_empty, read_join, with_lead}
 use Rattle.yaml_recognizers.specs.PlainScalars.{last_char, plain_ends, read_plain_line, read_run, with_run}
 use Rattle.yaml_recognizers.specs.QuotedScalars.{quote}
@@ -20,7 +21,7 @@ use Rattle.yaml_recognizers.specs.Reading.{Read, on}
 use Rattle.yaml_recognizers.specs.Repeated.{and_more, repeated}
 use Rattle.yaml_recognizers.proofs.Basics.Blanks.{white_at_break}
 use Rattle.yaml_recognizers.proofs.Basics.Breaks.{break_first, break_read, unbroken}
-use Rattle.yaml_recognizers.proofs.Basics.Prefixes.{dropped_all}
+use Rattle.yaml_recognizers.proofs.Basics.Prefixes.{drop_while_all}
 use Rattle.yaml_recognizers.proofs.Scalars.Joins.{no_empty}
 use Rattle.yaml_recognizers.proofs.Separation.LineEnds.{LineParts, line_parts, line_regrouped, tail_not_white}
 use Rattle.yaml_recognizers.proofs.Scalars.PlainRuns.{no_run, no_run_at_break, no_run_at_end, unplain, white_stops}
@@ -28,7 +29,7 @@ use Rattle.yaml_recognizers.proofs.Scalars.SingleScalars.{white_is}
 
 -- a further line of a plain scalar begins with this text
 abbrev pub goes_on : ℕ → FlowContext → List ℕ → Bool
-goes_on n c text = indents n (taken white text) && no_marker true text && not (is_empty (read_run c 32 (dropped white text)))
+goes_on n c text = indents n (take_while white text) && no_marker true text && not (is_empty (read_run c 32 (drop_while white text)))
 
 -- ---- each style
 
@@ -55,17 +56,17 @@ ends_scalar n c (double prefix more) after e = refl
 -- no line begins without a break
 pub no_line_here : (n : ℕ) (c : FlowContext) (text : List ℕ) → at_break text ≡ false → read_plain_line n c text ≡ None
 unfolding read_plain_line read_join after_blank
-no_line_here n c text h = rw (unbroken (dropped white text) h) refl
+no_line_here n c text h = rw (unbroken (drop_while white text) h) refl
 
 -- nor where what comes after the break and the empty lines goes on with none
-no_line_after : (n : ℕ) (c : FlowContext) (text : List ℕ) (b : Break) (rest : List ℕ) → read_break (dropped white text) ≡ Some (b, rest)
+no_line_after : (n : ℕ) (c : FlowContext) (text : List ℕ) (b : Break) (rest : List ℕ) → read_break (drop_while white text) ≡ Some (b, rest)
     → goes_on n c (repeated (read_empty n) (length rest) rest).1 ≡ false → read_plain_line n c text ≡ None
 unfolding read_plain_line read_join after_blank
 no_line_after n c text b rest e h =
     let found : List Empty × List ℕ = repeated (read_empty n) (length rest) rest in
     let finish : Read Join → Read (Line ℕ) = λ r. on r (λ j t. with_run j t (read_run c 32 t)) in
-    ap (λ (r : Read Break). finish (on r (λ stop t. with_lead false n (taken white text) stop (repeated (read_empty n) (length t) t)))) e
-    ∙ last (indents n (taken white found.1) && no_marker true found.1) _ (dropped white found.1) h
+    ap (λ (r : Read Break). finish (on r (λ stop t. with_lead false n (take_while white text) stop (repeated (read_empty n) (length t) t)))) e
+    ∙ last (indents n (take_while white found.1) && no_marker true found.1) _ (drop_while white found.1) h
   where
     last : (b : Bool) (j : Join) (t : List ℕ) → b && not (is_empty (read_run c 32 t)) ≡ false
         → ◌≡◌ {A = Read (Line ℕ)} (on (cond b (Some (j, t)) None) (λ j' t'. with_run j' t' (read_run c 32 t'))) None
@@ -74,12 +75,12 @@ no_line_after n c text b rest e h =
 
 -- ---- white, and then what is neither white nor a break
 
-white_first : (p : ℕ → Bool) (blank tail : List ℕ) → every white blank ≡ true → p 32 ≡ false → p 9 ≡ false → first p tail ≡ false → first p (blank ++ tail) ≡ false
+white_first : (p : ℕ → Bool) (blank tail : List ℕ) → list_all white blank ≡ true → p 32 ≡ false → p 9 ≡ false → first p tail ≡ false → first p (blank ++ tail) ≡ false
 white_first p [] tail w s t h = h
 white_first p (x ∷ xs) tail w s t h = white_is (λ y. p y ≡ false) x (and_parts _ _ w).0 s t
 
 -- whitespace, and a text that starts with no run, break or quote, end a scalar
-pub blank_ends : (n : ℕ) (c : FlowContext) (blank tail : List ℕ) → every white blank ≡ true → ((prev : ℕ) → read_run c prev tail ≡ []) → at_break tail ≡ false
+pub blank_ends : (n : ℕ) (c : FlowContext) (blank tail : List ℕ) → list_all white blank ≡ true → ((prev : ℕ) → read_run c prev tail ≡ []) → at_break tail ≡ false
     → first quote tail ≡ false → Ends n c (blank ++ tail)
 blank_ends n c blank tail w r b q = record {
   run = λ prev. white_stops c prev blank tail w (λ x _. r x) (λ _. r prev);
@@ -97,7 +98,7 @@ colon_unplain c prev rest h = rw h (none (safe c 58))
     none false = refl
 
 -- a `:` that no safe character follows
-pub colon_ends : (n : ℕ) (c : FlowContext) (gap rest : List ℕ) → every white gap ≡ true → first (safe c) rest ≡ false → Ends n c (gap ++ (58 ∷ rest))
+pub colon_ends : (n : ℕ) (c : FlowContext) (gap rest : List ℕ) → list_all white gap ≡ true → first (safe c) rest ≡ false → Ends n c (gap ++ (58 ∷ rest))
 colon_ends n c gap rest g h = blank_ends n c gap (58 ∷ rest) g (λ prev. no_run c prev 58 rest (colon_unplain c prev rest h) refl) refl refl
 
 closing_is : (P : ℕ → Type 0) (x : ℕ) → closing x ≡ true → P 44 → P 93 → P 125 → P x
@@ -183,15 +184,15 @@ tail_first p None None (x ∷ xs) f h a b = absurd (false≢true f)
 tail_first p None (Some s) rest f h a b = break_first p s rest a b
 
 after_white : (bol : Bool) (e : LineEnd) (rest : List ℕ) → LineParts bol e rest
-    → dropped white (line_end_text e ++ rest) ≡ optional comment_text e.comment ++ (optional break_text e.stop ++ rest)
+    → drop_while white (line_end_text e ++ rest) ≡ optional comment_text e.comment ++ (optional break_text e.stop ++ rest)
 after_white bol e rest p =
-    ap (dropped white) (line_regrouped e rest) ∙ dropped_all white e.blank _ p.blank_white (tail_not_white e.comment e.stop rest p.stop_fit)
+    ap (drop_while white) (line_regrouped e rest) ∙ drop_while_all white e.blank _ p.blank_white (tail_not_white e.comment e.stop rest p.stop_fit)
 
 -- no line of a plain scalar begins with a line of comments
 line_stuck : (n : ℕ) (c : FlowContext) (bol : Bool) (e : LineEnd) (rest : List ℕ) → comment_line_fits bol e rest ≡ true → goes_on n c (line_end_text e ++ rest) ≡ false
 line_stuck n c bol e rest h =
     let p = line_parts bol e rest h in
-    let none : read_run c 32 (dropped white (line_end_text e ++ rest)) ≡ [] = ap (read_run c 32) (after_white bol e rest p) ∙ tail_runs c 32 e.comment e.stop rest p.stop_fit refl in
+    let none : read_run c 32 (drop_while white (line_end_text e ++ rest)) ≡ [] = ap (read_run c 32) (after_white bol e rest p) ∙ tail_runs c 32 e.comment e.stop rest p.stop_fit refl in
     and_right _ _ (ap (λ (r : List ℕ). not (is_empty r)) none)
 
 -- an empty line is a whole line of comments, or none
@@ -201,10 +202,10 @@ unfolding read_empty
 empty_or_none n bol e rest h =
     let p = line_parts bol e rest h in
     let text : List ℕ = line_end_text e ++ rest in
-    let blank : List ℕ = taken white text in
+    let blank : List ℕ = take_while white text in
     elim (tail_break e.comment e.stop rest p.stop_fit) [
       | inl f ↦ inl (no_empty n text (ap (first line_break) (after_white bol e rest p) ∙ f))
-      | inr b ↦ elim (cases_Bool (begins (spaces n) blank || every space blank)) [
+      | inr b ↦ elim (cases_Bool (begins (spaces n) blank || list_all space blank)) [
         | inl i ↦ inr (
           record { blank = blank; stop = b.0 },
           cond-true _ _ _ i ∙ ap (λ (r : Read Break). on r (λ stop t. Some (record { blank = blank; stop = stop }, t))) (ap read_break (after_white bol e rest p) ∙ b.1),
@@ -276,9 +277,9 @@ gap_ends n m d None tail h b = blank_ends n d [] tail refl b.run b.bare b.unquot
 gap_ends n m d (Some (inline blank)) tail h b = blank_ends n d blank tail (and_parts _ _ h).0 b.run b.bare b.unquoted
 gap_ends n m d (Some (lines es lead)) tail h b =
     let p = and_parts _ _ h in
-    let w : every white lead ≡ true = (and_parts _ _ p.1).0 in
+    let w : list_all white lead ≡ true = (and_parts _ _ p.1).0 in
     let stuck : goes_on n d (lead ++ tail) ≡ false =
-    and_right _ _ (ap (λ (r : List ℕ). not (is_empty r)) (ap (read_run d 32) (dropped_all white lead tail w b.unblank) ∙ b.run 32)) in
+    and_right _ _ (ap (λ (r : List ℕ). not (is_empty r)) (ap (read_run d 32) (drop_while_all white lead tail w b.unblank) ∙ b.run 32)) in
     subst (Ends n d) (sym (append_assoc (comments_text es) lead tail))
     (comments_end n d es (lead ++ tail) p.0 (white_at_break lead tail w ∙ b.bare) stuck)
 
@@ -323,17 +324,17 @@ wide_first c [] h = refl
 wide_first c (x ∷ xs) h = wide_safe c x h
 
 -- after a key: white, and a `:` that no ns follows
-pub ends_before_colon : (n : ℕ) (c : FlowContext) (s : Scalar) (gap rest : List ℕ) → in_flow c ≡ false → every white gap ≡ true → first ns rest ≡ false
+pub ends_before_colon : (n : ℕ) (c : FlowContext) (s : Scalar) (gap rest : List ℕ) → in_flow c ≡ false → list_all white gap ≡ true → first ns rest ≡ false
     → scalar_ends n c s (gap ++ (58 ∷ rest)) ≡ true
 ends_before_colon n c s gap rest i g h = ends_scalar n c s (gap ++ (58 ∷ rest)) (colon_ends n c gap rest g (wide_first c rest i ∙ h))
 
-narrow : (n : ℕ) (text : List ℕ) → nat_lt (spaces_before text) n ≡ true → begins (spaces n) (taken white text) ≡ false
+narrow : (n : ℕ) (text : List ℕ) → nat_lt (spaces_before text) n ≡ true → begins (spaces n) (take_while white text) ≡ false
 narrow zero text h = absurd (omega (arith, ltb-true (spaces_before text) 0 h))
 narrow (suc n) [] h = refl
 narrow (suc n) (x ∷ xs) h = elim (cases_Bool (x == 32)) [
   | inl e ↦ (let i : suc (spaces_before xs) < suc n = ltb-true _ _ (subst (λ (b : Bool). nat_lt (cond b (suc (spaces_before xs)) 0) (suc n) ≡ true) e h) in
       rw e (and_right _ _ (narrow n xs (lt-ltb _ _ (omega arith)))))
-  | inr e ↦ rw e (cond_both (x == 9) (x ∷ taken white xs) [] (λ (t : List ℕ). begins (spaces (suc n)) t ≡ false) (λ _. rw e) (λ _. refl))
+  | inr e ↦ rw e (cond_both (x == 9) (x ∷ take_while white xs) [] (λ (t : List ℕ). begins (spaces (suc n)) t ≡ false) (λ _. rw e) (λ _. refl))
 ]
 
 -- no further line goes on where the text is less deep

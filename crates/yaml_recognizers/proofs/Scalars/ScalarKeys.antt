@@ -4,7 +4,8 @@ use Rattle.std.proofs.Common.{◌≡◌, refl, sym, ◌∙◌, ap}
 use Rattle.std.specs.Prelude.{ℕ, Bool, true, false, not, ◌||◌, List, [], ◌∷◌, ◌++◌, flat_map, Some, codes, if◌then◌else◌}
 use Rattle.std.proofs.lemmas.Bool.{and_parts, and_from, or_left, false≢true}
 use Rattle.yaml_chars.specs.Classes.{line_break}
-use Rattle.yaml_grammar.specs.Texts.{every, first, is_empty, no_marker}
+use Rattle.std.specs.List.{list_all}
+use Rattle.yaml_grammar.specs.Texts.{first, is_empty, no_marker}
 use Rattle.yaml_grammar.specs.Separation.{Break, lf, cr, cr_lf, break_text}
 use Rattle.yaml_grammar.specs.FlowScalars.{FlowContext, one_line, Line, Scalar, plain, single, double, safe, plain_text, single_text, quoted_char_text, join_text, empties_text, line_text, lines_text, scalar_text, plain_first, plain_next, plain_run, plain_line, scalar_fits}
 use Rattle.yaml_recognizers.specs.PlainScalars.{read_run, last_char, plain_ends}
@@ -90,11 +91,11 @@ key_read_wider c d same n m bol text s rest k h e =
 
 -- ---- a scalar whose text has no break is on one line
 
-every_parts : (p : ℕ → Bool) (xs ys : List ℕ) → every p (xs ++ ys) ≡ true → (every p xs ≡ true) × (every p ys ≡ true)
+every_parts : (p : ℕ → Bool) (xs ys : List ℕ) → list_all p (xs ++ ys) ≡ true → (list_all p xs ≡ true) × (list_all p ys ≡ true)
 every_parts p [] ys h = (refl, h)
 every_parts p (x ∷ xs) ys h = let q = and_parts _ _ h in let more = every_parts p xs ys q.1 in (and_from _ _ q.0 more.0, more.1)
 
-lines_broken : {A : Type 0} (spell : A → List ℕ) (prefix : List A) (l : Line A) (ls : List (Line A)) → every (λ x. not (line_break x)) (lines_text spell prefix (l ∷ ls)) ≡ true → ⊥
+lines_broken : {A : Type 0} (spell : A → List ℕ) (prefix : List A) (l : Line A) (ls : List (Line A)) → list_all (λ x. not (line_break x)) (lines_text spell prefix (l ∷ ls)) ≡ true → ⊥
 lines_broken spell prefix l ls h =
     let sign : List ℕ = if l.escaped then codes "\\" else [] in
     let more = every_parts _ (flat_map spell prefix) _ h in
@@ -104,13 +105,13 @@ lines_broken spell prefix l ls h =
     let c = every_parts _ (join_text l) (empties_text l.empties) b.0 in
     unbroken l.stop (every_parts _ (l.blank ++ sign) (break_text l.stop) c.0).1
   where
-    unbroken : (b : Break) → every (λ x. not (line_break x)) (break_text b) ≡ true → ⊥
+    unbroken : (b : Break) → list_all (λ x. not (line_break x)) (break_text b) ≡ true → ⊥
     unbroken lf h = false≢true h
     unbroken cr h = false≢true h
     unbroken cr_lf h = false≢true h
 
 -- a scalar whose text has no break is on one line
-pub unbroken_on_one_line : (s : Scalar) → every (λ x. not (line_break x)) (scalar_text s) ≡ true → stands_on_one_line s ≡ true
+pub unbroken_on_one_line : (s : Scalar) → list_all (λ x. not (line_break x)) (scalar_text s) ≡ true → stands_on_one_line s ≡ true
 unbroken_on_one_line (plain prefix []) h = refl
 unbroken_on_one_line (single prefix []) h = refl
 unbroken_on_one_line (double prefix []) h = refl

@@ -10,7 +10,7 @@ use Rattle.yaml_grammar.specs.Texts.{first}
 use Rattle.yaml_recognizers.specs.CanonicalComments.{is_line_end, stops}
 use Rattle.yaml_recognizers.specs.Ends.{BeforeColon, BeforeComments, BetweenBrackets, Stops}
 use Rattle.yaml_recognizers.specs.FlowScalars.{read_scalar, scalar_ends}
-use Rattle.yaml_recognizers.specs.Prefixes.{dropped}
+use Rattle.yaml_recognizers.specs.Prefixes.{drop_while}
 use Rattle.yaml_recognizers.specs.Joins.{at_break}
 use Rattle.yaml_recognizers.specs.Scalars.{ReadsScalars}
 use Rattle.yaml_recognizers.proofs.Meanings.CanonicalFits.{gap_fits_too}
@@ -20,7 +20,7 @@ use Rattle.yaml_recognizers.proofs.Scalars.ScalarEnds.{ends_before_colon, ends_b
 -- where no line of comments begins there is no line of white
 no_blank_line : (text : List ℕ) → is_line_end text ≡ false → at_break text ≡ false
 no_blank_line [] h = refl
-no_blank_line (c ∷ cs) h = unbroken (dropped white (c ∷ cs)) (or_parts _ _ h).0
+no_blank_line (c ∷ cs) h = unbroken (drop_while white (c ∷ cs)) (or_parts _ _ h).0
   where
     unbroken : (rest : List ℕ) → stops rest ≡ false → first line_break rest ≡ false
     unbroken [] h = refl

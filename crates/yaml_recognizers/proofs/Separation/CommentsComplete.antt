@@ -4,13 +4,14 @@ use Rattle.std.specs.Prelude.{Bool, List, None, Option, Some, [], false, length,
 use Rattle.std.proofs.lemmas.Bool.{and_parts, cond_both, false≢true, not-true, or_parts}
 use Rattle.yaml_chars.specs.Classes.{line_break, nb, white}
 use Rattle.yaml_grammar.specs.Separation.{Break, LineEnd, break_text, comment_fits, comment_line_fits, comment_text, comments_text, cr, cr_lf, lf, line_end_text, stop_fits}
-use Rattle.yaml_grammar.specs.Texts.{every, first, is_empty, optional}
+use Rattle.std.specs.List.{list_all}
+use Rattle.yaml_grammar.specs.Texts.{first, is_empty, optional}
 use Rattle.yaml_recognizers.specs.CanonicalComments.{canonical_comments, hash, is_line_end, stops}
-use Rattle.yaml_recognizers.specs.Comments.{all_comments, more_comments, read_after_blank, read_comments, read_line_end, read_stop, stopped}
+use Rattle.yaml_recognizers.specs.Comments.{all_comments, more_comments, read_after_blank, read_comments, read_line_end, read_stop, line_end_with_stop}
 use Rattle.yaml_recognizers.specs.Ends.{solid}
-use Rattle.yaml_recognizers.specs.Prefixes.{dropped, past, taken}
+use Rattle.yaml_recognizers.specs.Prefixes.{drop_while, past, take_while}
 use Rattle.yaml_recognizers.specs.Reading.{Read}
-use Rattle.yaml_recognizers.proofs.Basics.Prefixes.{dropped_all, taken_all}
+use Rattle.yaml_recognizers.proofs.Basics.Prefixes.{drop_while_all, take_while_all}
 use Rattle.yaml_recognizers.proofs.Separation.LineEnds.{comments_parts, fits_end, line_parts, lines_long, no_comments_parts, stop_not_nb, tail_not_white}
 use Rattle.yaml_recognizers.proofs.Basics.Solid.{solid_parts}
 
@@ -33,25 +34,25 @@ stop_read (Some cr_lf) after h = refl
 
 -- no comment begins there
 stop_unread : (bol : Bool) (blank : List ℕ) (stop : Option Break) (after : List ℕ) → stop_fits stop after ≡ true
-    → read_after_blank bol blank (optional break_text stop ++ after) ≡ stopped blank None (read_stop (optional break_text stop ++ after))
+    → read_after_blank bol blank (optional break_text stop ++ after) ≡ line_end_with_stop blank None (read_stop (optional break_text stop ++ after))
 stop_unread bol blank None [] h = refl
 stop_unread bol blank None (c ∷ cs) h = cc
 stop_unread bol blank (Some lf) after h = refl
 stop_unread bol blank (Some cr) after h = refl
 stop_unread bol blank (Some cr_lf) after h = refl
 
-stopped_at : (e : LineEnd) (after : List ℕ) → not (is_empty (line_end_text e)) ≡ true → stopped e.blank e.comment (Some (e.stop, after)) ≡ Some (e, after)
+stopped_at : (e : LineEnd) (after : List ℕ) → not (is_empty (line_end_text e)) ≡ true → line_end_with_stop e.blank e.comment (Some (e.stop, after)) ≡ Some (e, after)
 stopped_at e after h = rw (not-true _ h)
 
 -- after its white, by whether there is a comment
 after_blank_read : (bol : Bool) (blank : List ℕ) (comment : Option (List ℕ)) (stop : Option Break) (after : List ℕ)
     → comment_fits (bol || not (is_empty blank)) comment ≡ true → stop_fits stop after ≡ true
-    → read_after_blank bol blank (optional comment_text comment ++ (optional break_text stop ++ after)) ≡ stopped blank comment (Some (stop, after))
-after_blank_read bol blank None stop after h f = stop_unread bol blank stop after f ∙ ap (stopped blank None) (stop_read stop after f)
+    → read_after_blank bol blank (optional comment_text comment ++ (optional break_text stop ++ after)) ≡ line_end_with_stop blank comment (Some (stop, after))
+after_blank_read bol blank None stop after h f = stop_unread bol blank stop after f ∙ ap (line_end_with_stop blank None) (stop_read stop after f)
 after_blank_read bol blank (Some text) stop after h f =
-    let q : (bol || not (is_empty blank) ≡ true) × (every nb text ≡ true) = and_parts _ _ h in
+    let q : (bol || not (is_empty blank) ≡ true) × (list_all nb text ≡ true) = and_parts _ _ h in
     let rest : List ℕ = optional break_text stop ++ after in
-    rw (q.0, taken_all nb text rest q.1 (stop_not_nb stop after f), dropped_all nb text rest q.1 (stop_not_nb stop after f), stop_read stop after f)
+    rw (q.0, take_while_all nb text rest q.1 (stop_not_nb stop after f), drop_while_all nb text rest q.1 (stop_not_nb stop after f), stop_read stop after f)
 
 -- a line's end that fits is read
 pub line_end_read : (bol : Bool) (e : LineEnd) (after : List ℕ) → comment_line_fits bol e after ≡ true
@@ -62,7 +63,7 @@ line_end_read bol e after h =
     let f : first white tail ≡ false = tail_not_white e.comment e.stop after p.stop_fit in
     let regrouped : line_end_text e ++ after ≡ e.blank ++ tail = simp append_assoc in
     ap (read_line_end bol) regrouped
-    ∙ (rw (taken_all white e.blank tail p.blank_white f, dropped_all white e.blank tail p.blank_white f) (after_blank_read bol e.blank e.comment e.stop after p.comment_fit p.stop_fit)
+    ∙ (rw (take_while_all white e.blank tail p.blank_white f, drop_while_all white e.blank tail p.blank_white f) (after_blank_read bol e.blank e.comment e.stop after p.comment_fit p.stop_fit)
     ∙ stopped_at e after p.some)
 
 -- ---- where no line ends
@@ -71,25 +72,25 @@ stop_none : (text : List ℕ) → stops text ≡ false → read_stop text ≡ No
 stop_none [] h = absurd (false≢true (sym h))
 stop_none (c ∷ cs) h = let q : (c == 10 ≡ false) × (c == 13 ≡ false) = or_parts _ _ h in rw (q.0, q.1)
 
-none_after : (bol : Bool) (blank rest : List ℕ) → stops rest || (first hash rest && stops (dropped nb (past rest))) ≡ false
+none_after : (bol : Bool) (blank rest : List ℕ) → stops rest || (first hash rest && stops (drop_while nb (past rest))) ≡ false
     → read_after_blank bol blank rest ≡ None
 none_after bol blank [] h = absurd (false≢true (sym h))
 none_after bol blank (c ∷ cs) h =
-    let p : (line_break c ≡ false) × ((c == 35) && stops (dropped nb cs) ≡ false) = or_parts _ _ h in
+    let p : (line_break c ≡ false) × ((c == 35) && stops (drop_while nb cs) ≡ false) = or_parts _ _ h in
     let q : (c == 10 ≡ false) × (c == 13 ≡ false) = or_parts _ _ p.0 in
-    cond_both ((c == 35) && (bol || not (is_empty blank))) (stopped blank (Some (taken nb cs)) (read_stop (dropped nb cs))) (stopped blank None (read_stop (c ∷ cs))) (λ (r : Read LineEnd). r ≡ None)
+    cond_both ((c == 35) && (bol || not (is_empty blank))) (line_end_with_stop blank (Some (take_while nb cs)) (read_stop (drop_while nb cs))) (line_end_with_stop blank None (read_stop (c ∷ cs))) (λ (r : Read LineEnd). r ≡ None)
     (λ e. let i : c == 35 ≡ true = (and_parts _ _ e).0 in
-    let n : stops (dropped nb cs) ≡ false = subst (λ (b : Bool). b && stops (dropped nb cs) ≡ false) i p.1 in
-    ap (stopped blank (Some (taken nb cs))) (stop_none (dropped nb cs) n))
+    let n : stops (drop_while nb cs) ≡ false = subst (λ (b : Bool). b && stops (drop_while nb cs) ≡ false) i p.1 in
+    ap (line_end_with_stop blank (Some (take_while nb cs))) (stop_none (drop_while nb cs) n))
     (λ _. rw (q.0, q.1))
 
 -- where no line ends, none is read
 pub no_line : (bol : Bool) (text : List ℕ) → is_line_end text ≡ false → read_line_end bol text ≡ None
 no_line bol [] h = refl
-no_line bol (c ∷ cs) h = none_after bol (taken white (c ∷ cs)) (dropped white (c ∷ cs)) h
+no_line bol (c ∷ cs) h = none_after bol (take_while white (c ∷ cs)) (drop_while white (c ∷ cs)) h
 
 -- whitespace before something solid is no end of a line
-pub not_line_end : (lead rest : List ℕ) → every white lead ≡ true → first solid rest ≡ true → is_line_end (lead ++ rest) ≡ false
+pub not_line_end : (lead rest : List ℕ) → list_all white lead ≡ true → first solid rest ≡ true → is_line_end (lead ++ rest) ≡ false
 not_line_end [] [] w h = refl
 not_line_end [] (c ∷ cs) w h =
     let p : (white c ≡ false) × (c == 10 ≡ false) × (c == 13 ≡ false) × (c == 35 ≡ false) = solid_parts c h in rw (p.0, p.1, p.2, p.3)
@@ -98,14 +99,14 @@ not_line_end (x ∷ []) (c ∷ cs) w h =
     let p : (white c ≡ false) × (c == 10 ≡ false) × (c == 13 ≡ false) × (c == 35 ≡ false) = solid_parts c h in
     let q : (white x ≡ true) × (true ≡ true) = and_parts _ _ w in rw (q.0, p.0, p.1, p.2, p.3)
 not_line_end (x ∷ (y ∷ ys)) rest w h =
-    let q : (white x ≡ true) × (every white (y ∷ ys) ≡ true) = and_parts _ _ w in rw q.0 (not_line_end (y ∷ ys) rest q.1 h)
+    let q : (white x ≡ true) × (list_all white (y ∷ ys) ≡ true) = and_parts _ _ w in rw q.0 (not_line_end (y ∷ ys) rest q.1 h)
 
 -- no line's end begins before something solid
-pub solid_no_line : (bol : Bool) (lead after : List ℕ) → every white lead ≡ true → first solid after ≡ true → read_line_end bol (lead ++ after) ≡ None
+pub solid_no_line : (bol : Bool) (lead after : List ℕ) → list_all white lead ≡ true → first solid after ≡ true → read_line_end bol (lead ++ after) ≡ None
 solid_no_line bol lead [] w f = absurd (false≢true f)
 solid_no_line bol lead (x ∷ xs) w f =
     let p : (white x ≡ false) × (x == 10 ≡ false) × (x == 13 ≡ false) × (x == 35 ≡ false) = solid_parts x f in
-    rw (taken_all white lead (x ∷ xs) w p.0, dropped_all white lead (x ∷ xs) w p.0, p.3, p.1, p.2)
+    rw (take_while_all white lead (x ∷ xs) w p.0, drop_while_all white lead (x ∷ xs) w p.0, p.3, p.1, p.2)
 
 -- ---- comments
 
@@ -129,7 +130,7 @@ comments_all bol es after h =
     (omega (arith, lines_long bol es after h, length-append (comments_text es) after)) h (no_line true after n) (no_line bol after n)
 
 -- before something solid there are none
-pub no_comments : (bol : Bool) (lead rest : List ℕ) → every white lead ≡ true → first solid rest ≡ true → all_comments bol (lead ++ rest) ≡ ([], lead ++ rest)
+pub no_comments : (bol : Bool) (lead rest : List ℕ) → list_all white lead ≡ true → first solid rest ≡ true → all_comments bol (lead ++ rest) ≡ ([], lead ++ rest)
 no_comments bol lead rest w h = rw (no_line bol (lead ++ rest) (not_line_end lead rest w h))
 
 -- if more comes after comments, there are some, or a line starts

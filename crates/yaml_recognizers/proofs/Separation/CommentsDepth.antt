@@ -4,7 +4,7 @@ use Rattle.std.specs.Prelude.{Bool, List, None, Some, false, length, suc, true, 
 use Rattle.yaml_chars.specs.Classes.{white}
 use Rattle.yaml_grammar.specs.Separation.{LineEnd}
 use Rattle.yaml_recognizers.specs.Comments.{all_comments, more_comments, read_comments, read_line_end}
-use Rattle.yaml_recognizers.specs.Prefixes.{dropped, taken}
+use Rattle.yaml_recognizers.specs.Prefixes.{drop_while, take_while}
 use Rattle.yaml_recognizers.specs.Gaps.{gap_after, gap_from, inline_gap, read_gap}
 use Rattle.yaml_recognizers.specs.Reading.{Read}
 use Rattle.yaml_recognizers.proofs.Separation.CommentsSound.{LineOf, line_sound, shorter}
@@ -43,5 +43,5 @@ gap_step n text e rest q =
     ∙ ap (gap_after n text e) (comments_same (length text) (suc (length rest)) true rest (omega arith) (omega arith))
 
 -- a gap on the line
-pub inline_step : (n : ℕ) (text : List ℕ) → read_line_end false text ≡ None → read_gap n false text ≡ inline_gap (taken white text) (dropped white text)
+pub inline_step : (n : ℕ) (text : List ℕ) → read_line_end false text ≡ None → read_gap n false text ≡ inline_gap (take_while white text) (drop_while white text)
 inline_step n text q = ap (gap_from n text) q

@@ -5,7 +5,8 @@ use Rattle.std.proofs.lemmas.Bool.{and_from, and_parts, false≢true, not_from_f
 use Rattle.std.proofs.lemmas.Grind.{flat_map-append}
 use Rattle.yaml_chars.specs.Classes.{white}
 use Rattle.yaml_grammar.specs.Separation.{LineEnd, Sep, comment_line_fits, comments_fit, comments_text, gap_fits, gap_text, indents, inline, line_end_text, lines, sep_fits, sep_text}
-use Rattle.yaml_grammar.specs.Texts.{every, first, is_empty}
+use Rattle.std.specs.List.{list_all}
+use Rattle.yaml_grammar.specs.Texts.{first, is_empty}
 use Rattle.yaml_recognizers.specs.CanonicalComments.{canonical_comments, canonical_gap, canonical_sep, is_line_end}
 use Rattle.yaml_recognizers.specs.Ends.{solid}
 use Rattle.yaml_recognizers.proofs.Block.BlockNodesBegin.{append_some}
@@ -67,12 +68,12 @@ pub sep_form_fits : (n : ℕ) (key bol : Bool) (sep : Sep) (rest : List ℕ) →
 sep_form_fits n key bol (inline blank) rest h s = h
 sep_form_fits n key bol (lines [] lead) rest h s =
     let p : (not key && (bol || is_empty (lead ++ rest)) ≡ true) × (indents n lead ≡ true) = and_parts _ _ h in
-    let w : every white lead ≡ true = (and_parts _ _ p.1).0 in
+    let w : list_all white lead ≡ true = (and_parts _ _ p.1).0 in
     and_from _ _ w (or_left bol _ (line_not_end bol (lead ++ rest) (and_parts _ _ p.0).1 (append_some lead rest s)))
 sep_form_fits n key bol (lines (e ∷ es) lead) rest h s =
     let p : (not key && comments_fit bol (e ∷ es) (lead ++ rest) ≡ true) × (indents n lead ≡ true) = and_parts _ _ h in
     let q : (not key ≡ true) × (comments_fit bol (e ∷ es) (lead ++ rest) ≡ true) = and_parts _ _ p.0 in
-    let w : every white lead ≡ true = (and_parts _ _ p.1).0 in
+    let w : list_all white lead ≡ true = (and_parts _ _ p.1).0 in
     and_from _ _ (and_from _ _ (and_from _ _ q.0 refl) (and_from _ _ q.1 (not_from_false _ (not_line_end lead rest w s)))) p.1
 
 -- so is that of a gap

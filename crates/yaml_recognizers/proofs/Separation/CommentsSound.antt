@@ -4,14 +4,15 @@ use Rattle.std.specs.Prelude.{Bool, List, None, Option, Some, [], false, if◌th
 use Rattle.std.proofs.lemmas.Bool.{and_from, and_parts, cases_Bool, cond_both, eqb-true, false≢true, not_from_false, or_cases}
 use Rattle.yaml_chars.specs.Classes.{line_break, nb, white}
 use Rattle.yaml_grammar.specs.Separation.{Break, LineEnd, break_text, comment_fits, comment_line_fits, comment_text, comments_text, cr, cr_lf, lf, line_end_text, stop_fits}
-use Rattle.yaml_grammar.specs.Texts.{every, first, is_empty, optional}
+use Rattle.std.specs.List.{list_all}
+use Rattle.yaml_grammar.specs.Texts.{first, is_empty, optional}
 use Rattle.yaml_recognizers.specs.CanonicalComments.{canonical_comments, hash, is_line_end, stops}
-use Rattle.yaml_recognizers.specs.Comments.{all_comments, more_comments, read_after_blank, read_comments, read_cr, read_line_end, read_stop, stopped}
-use Rattle.yaml_recognizers.specs.Prefixes.{dropped, past, taken}
+use Rattle.yaml_recognizers.specs.Comments.{all_comments, more_comments, read_after_blank, read_comments, read_cr, read_line_end, read_stop, line_end_with_stop}
+use Rattle.yaml_recognizers.specs.Prefixes.{drop_while, past, take_while}
 use Rattle.yaml_recognizers.specs.Reading.{Read}
 use Rattle.yaml_recognizers.proofs.Basics.Breaks.{cr_sound}
 use Rattle.yaml_recognizers.proofs.Separation.CommentsComplete.{line_end_read, no_line}
-use Rattle.yaml_recognizers.proofs.Basics.Prefixes.{taken_every, taken_split}
+use Rattle.yaml_recognizers.proofs.Basics.Prefixes.{take_while_every, take_while_split}
 use Rattle.yaml_recognizers.proofs.Separation.LineEnds.{comments_from, line_long}
 use Rattle.yaml_recognizers.proofs.Basics.Reading.{Sound, none_some, sound_to}
 
@@ -35,9 +36,9 @@ stop_sound (c ∷ cs) =
 abbrev pub LineOf : Bool → List ℕ → LineEnd → List ℕ → Type 0
 LineOf bol text e rest = (text ≡ line_end_text e ++ rest) × (comment_line_fits bol e rest ≡ true)
 
-stopped_sound : (bol : Bool) (blank : List ℕ) (comment : Option (List ℕ)) (tail : List ℕ) (r : Read (Option Break)) → every white blank ≡ true
+stopped_sound : (bol : Bool) (blank : List ℕ) (comment : Option (List ℕ)) (tail : List ℕ) (r : Read (Option Break)) → list_all white blank ≡ true
     → comment_fits (bol || not (is_empty blank)) comment ≡ true → Sound (StopOf tail) r
-    → Sound (LineOf bol (blank ++ (optional comment_text comment ++ tail))) (stopped blank comment r)
+    → Sound (LineOf bol (blank ++ (optional comment_text comment ++ tail))) (line_end_with_stop blank comment r)
 stopped_sound bol blank comment tail None w c s = tt
 stopped_sound bol blank comment tail (Some r) w c s =
     let e : LineEnd = record { blank = blank; comment = comment; stop = r.0 } in
@@ -49,22 +50,22 @@ stopped_sound bol blank comment tail (Some r) w c s =
       and_from _ _ (not_from_false _ n) (and_from _ _ (and_from _ _ w c) s.1),
     ))
 
-after_sound : (bol : Bool) (blank rest : List ℕ) → every white blank ≡ true → Sound (LineOf bol (blank ++ rest)) (read_after_blank bol blank rest)
+after_sound : (bol : Bool) (blank rest : List ℕ) → list_all white blank ≡ true → Sound (LineOf bol (blank ++ rest)) (read_after_blank bol blank rest)
 after_sound bol blank [] w = stopped_sound bol blank None [] (read_stop []) w refl (stop_sound [])
 after_sound bol blank (c ∷ cs) w =
-    cond_both ((c == 35) && (bol || not (is_empty blank))) (stopped blank (Some (taken nb cs)) (read_stop (dropped nb cs))) (stopped blank None (read_stop (c ∷ cs)))
+    cond_both ((c == 35) && (bol || not (is_empty blank))) (line_end_with_stop blank (Some (take_while nb cs)) (read_stop (drop_while nb cs))) (line_end_with_stop blank None (read_stop (c ∷ cs)))
     (Sound (LineOf bol (blank ++ (c ∷ cs))))
     (λ h. let p : (c == 35 ≡ true) × (bol || not (is_empty blank) ≡ true) = and_parts _ _ h in
     let i : c ≡ 35 = eqb-true c 35 p.0 in
-    let j : 35 ∷ (taken nb cs ++ dropped nb cs) ≡ c ∷ cs = ap (λ x. x ∷ (taken nb cs ++ dropped nb cs)) (sym i) ∙ ap (λ xs. c ∷ xs) (sym (taken_split nb cs)) in
-    subst (λ (t : List ℕ). Sound (LineOf bol (blank ++ t)) (stopped blank (Some (taken nb cs)) (read_stop (dropped nb cs)))) j
-    (stopped_sound bol blank (Some (taken nb cs)) (dropped nb cs) (read_stop (dropped nb cs)) w (and_from _ _ p.1 (taken_every nb cs)) (stop_sound (dropped nb cs))))
+    let j : 35 ∷ (take_while nb cs ++ drop_while nb cs) ≡ c ∷ cs = ap (λ x. x ∷ (take_while nb cs ++ drop_while nb cs)) (sym i) ∙ ap (λ xs. c ∷ xs) (sym (take_while_split nb cs)) in
+    subst (λ (t : List ℕ). Sound (LineOf bol (blank ++ t)) (line_end_with_stop blank (Some (take_while nb cs)) (read_stop (drop_while nb cs)))) j
+    (stopped_sound bol blank (Some (take_while nb cs)) (drop_while nb cs) (read_stop (drop_while nb cs)) w (and_from _ _ p.1 (take_while_every nb cs)) (stop_sound (drop_while nb cs))))
     (λ _. stopped_sound bol blank None (c ∷ cs) (read_stop (c ∷ cs)) w refl (stop_sound (c ∷ cs)))
 
 -- an end of a line that is read fits
 pub line_sound : (bol : Bool) (text : List ℕ) → Sound (LineOf bol text) (read_line_end bol text)
 line_sound bol text =
-    subst (λ (t : List ℕ). Sound (LineOf bol t) (read_line_end bol text)) (sym (taken_split white text)) (after_sound bol (taken white text) (dropped white text) (taken_every white text))
+    subst (λ (t : List ℕ). Sound (LineOf bol t) (read_line_end bol text)) (sym (take_while_split white text)) (after_sound bol (take_while white text) (drop_while white text) (take_while_every white text))
 
 -- ---- comments
 
@@ -98,12 +99,12 @@ all_sound bol text = comments_sound (suc (length text)) bol text
 
 -- ---- where a line ends it is read
 
-stopped_hash : (blank t : List ℕ) (r : Read (Option Break)) → is_some r ≡ true → is_some (stopped blank (Some t) r) ≡ true
+stopped_hash : (blank t : List ℕ) (r : Read (Option Break)) → is_some r ≡ true → is_some (line_end_with_stop blank (Some t) r) ≡ true
 stopped_hash blank t None h = absurd (false≢true h)
 stopped_hash [] t (Some r) h = refl
 stopped_hash (b ∷ bs) t (Some r) h = refl
 
-stopped_break : (blank : List ℕ) (b : Break) (rest : List ℕ) → is_some (stopped blank None (Some (Some b, rest))) ≡ true
+stopped_break : (blank : List ℕ) (b : Break) (rest : List ℕ) → is_some (line_end_with_stop blank None (Some (Some b, rest))) ≡ true
 stopped_break [] lf rest = refl
 stopped_break [] cr rest = refl
 stopped_break [] cr_lf rest = refl
@@ -118,8 +119,8 @@ stop_some (c ∷ cs) h = elim (cases_Bool (c == 10)) [
   | inr e ↦ (let i : c == 13 ≡ true = subst (λ (b : Bool). b || (c == 13) ≡ true) e h in rw (e, i))
 ]
 
-hash_there : (blank cs : List ℕ) → stops (dropped nb cs) ≡ true → is_some (read_after_blank true blank (35 ∷ cs)) ≡ true
-hash_there blank cs h = stopped_hash blank (taken nb cs) (read_stop (dropped nb cs)) (stop_some (dropped nb cs) h)
+hash_there : (blank cs : List ℕ) → stops (drop_while nb cs) ≡ true → is_some (read_after_blank true blank (35 ∷ cs)) ≡ true
+hash_there blank cs h = stopped_hash blank (take_while nb cs) (read_stop (drop_while nb cs)) (stop_some (drop_while nb cs) h)
 
 break_there : (blank : List ℕ) (c : ℕ) (cs : List ℕ) → c == 35 ≡ false → line_break c ≡ true → is_some (read_after_blank true blank (c ∷ cs)) ≡ true
 break_there blank c cs n h = elim (cases_Bool (c == 10)) [
@@ -127,15 +128,15 @@ break_there blank c cs n h = elim (cases_Bool (c == 10)) [
   | inr e ↦ (let i : c == 13 ≡ true = subst (λ (b : Bool). b || (c == 13) ≡ true) e h in rw (n, e, i) (stopped_break blank (read_cr cs).0 (read_cr cs).1))
 ]
 
-after_there : (blank rest : List ℕ) → is_empty blank && is_empty rest ≡ false → stops rest || (first hash rest && stops (dropped nb (past rest))) ≡ true
+after_there : (blank rest : List ℕ) → is_empty blank && is_empty rest ≡ false → stops rest || (first hash rest && stops (drop_while nb (past rest))) ≡ true
     → is_some (read_after_blank true blank rest) ≡ true
 after_there [] [] e h = absurd (false≢true (sym e))
 after_there (b ∷ bs) [] e h = refl
 after_there blank (c ∷ cs) e h = elim (cases_Bool (c == 35)) [
   | inl i ↦ (let j : c ≡ 35 = eqb-true c 35 i in
-      let s : line_break 35 || ((35 == 35) && stops (dropped nb cs)) ≡ true = subst (λ (x : ℕ). line_break x || ((x == 35) && stops (dropped nb cs)) ≡ true) j h in
+      let s : line_break 35 || ((35 == 35) && stops (drop_while nb cs)) ≡ true = subst (λ (x : ℕ). line_break x || ((x == 35) && stops (drop_while nb cs)) ≡ true) j h in
       subst (λ (x : ℕ). is_some (read_after_blank true blank (x ∷ cs)) ≡ true) (sym j) (hash_there blank cs s))
-  | inr i ↦ break_there blank c cs i (elim (or_cases (line_break c) ((c == 35) && stops (dropped nb cs)) h) [
+  | inr i ↦ break_there blank c cs i (elim (or_cases (line_break c) ((c == 35) && stops (drop_while nb cs)) h) [
     | inl l ↦ l
     | inr l ↦ absurd (false≢true (sym i ∙ (and_parts _ _ l).0))
   ])
@@ -149,7 +150,7 @@ both_empty (x ∷ xs) rest c cs h = refl
 line_there : (text : List ℕ) → is_line_end text ≡ true → is_some (read_line_end true text) ≡ true
 line_there [] h = absurd (false≢true h)
 line_there (c ∷ cs) h =
-    after_there (taken white (c ∷ cs)) (dropped white (c ∷ cs)) (both_empty (taken white (c ∷ cs)) (dropped white (c ∷ cs)) c cs (taken_split white (c ∷ cs))) h
+    after_there (take_while white (c ∷ cs)) (drop_while white (c ∷ cs)) (both_empty (take_while white (c ∷ cs)) (drop_while white (c ∷ cs)) c cs (take_while_split white (c ∷ cs))) h
 
 -- where none is read, no line of comments starts
 pub no_line_end : (text : List ℕ) → read_line_end true text ≡ None → is_line_end text ≡ false

@@ -5,14 +5,15 @@ use Rattle.std.proofs.lemmas.Bool.{and_parts, false≢true}
 use Rattle.yaml_chars.specs.Classes.{white}
 use Rattle.yaml_grammar.specs.FlowScalars.{FlowContext, safe}
 use Rattle.yaml_grammar.specs.Separation.{Sep, comment_line_fits, comments_text, gap_text, indents, inline, line_end_text, lines, sep_text}
-use Rattle.yaml_grammar.specs.Texts.{every, first}
+use Rattle.std.specs.List.{list_all}
+use Rattle.yaml_grammar.specs.Texts.{first}
 use Rattle.yaml_recognizers.specs.CanonicalComments.{canonical_comments, canonical_gap}
 use Rattle.yaml_recognizers.specs.Comments.{read_line_end}
 use Rattle.yaml_recognizers.specs.Ends.{solid}
-use Rattle.yaml_recognizers.specs.Prefixes.{dropped}
+use Rattle.yaml_recognizers.specs.Prefixes.{drop_while}
 use Rattle.yaml_recognizers.specs.Gaps.{gap_after, gap_from, inline_gap, lines_gap, read_gap}
 use Rattle.yaml_recognizers.proofs.Separation.CommentsComplete.{comments_read, line_end_read, solid_no_line}
-use Rattle.yaml_recognizers.proofs.Basics.Prefixes.{dropped_all, taken_all}
+use Rattle.yaml_recognizers.proofs.Basics.Prefixes.{drop_while_all, take_while_all}
 use Rattle.yaml_recognizers.proofs.Separation.LineEnds.{comments_parts, line_long, line_unsafe, lines_long, white_unsafe}
 use Rattle.yaml_recognizers.proofs.Basics.Solid.{solid_not_white, solid_parts, solid_undropped, solid_untaken}
 
@@ -37,20 +38,20 @@ gap_read n true None [] h f = absurd (false≢true f)
 gap_read n true (Some (inline [])) after h f = absurd (false≢true h)
 gap_read n false (Some (inline [])) after h f = absurd (false≢true h)
 gap_read n true (Some (inline (b ∷ bs))) after h f =
-    let w : every white (b ∷ bs) ≡ true = (and_parts _ _ h).0 in
-    ap (λ t. inline_gap t (dropped white ((b ∷ bs) ++ after))) (taken_all white (b ∷ bs) after w (solid_not_white after f))
-    ∙ ap (λ t. (Some (inline (b ∷ bs)), t)) (dropped_all white (b ∷ bs) after w (solid_not_white after f))
+    let w : list_all white (b ∷ bs) ≡ true = (and_parts _ _ h).0 in
+    ap (λ t. inline_gap t (drop_while white ((b ∷ bs) ++ after))) (take_while_all white (b ∷ bs) after w (solid_not_white after f))
+    ∙ ap (λ t. (Some (inline (b ∷ bs)), t)) (drop_while_all white (b ∷ bs) after w (solid_not_white after f))
 gap_read n false (Some (inline (b ∷ bs))) after h f =
-    let w : every white (b ∷ bs) ≡ true = (and_parts _ _ h).0 in
+    let w : list_all white (b ∷ bs) ≡ true = (and_parts _ _ h).0 in
     ap (gap_from n ((b ∷ bs) ++ after)) (solid_no_line false (b ∷ bs) after w f)
-    ∙ (ap (λ t. inline_gap t (dropped white ((b ∷ bs) ++ after))) (taken_all white (b ∷ bs) after w (solid_not_white after f))
-    ∙ ap (λ t. (Some (inline (b ∷ bs)), t)) (dropped_all white (b ∷ bs) after w (solid_not_white after f)))
+    ∙ (ap (λ t. inline_gap t (drop_while white ((b ∷ bs) ++ after))) (take_while_all white (b ∷ bs) after w (solid_not_white after f))
+    ∙ ap (λ t. (Some (inline (b ∷ bs)), t)) (drop_while_all white (b ∷ bs) after w (solid_not_white after f)))
 gap_read n true (Some (lines es lead)) after h f = absurd (false≢true h)
 gap_read n false (Some (lines [] lead)) after h f = absurd (false≢true h)
 gap_read n false (Some (lines (e ∷ es) lead)) after h f =
     let p : (canonical_comments false (e ∷ es) (lead ++ after) ≡ true) × (indents n lead ≡ true) = and_parts _ _ h in
     let q : (comment_line_fits false e (comments_text es ++ (lead ++ after)) ≡ true) × (canonical_comments true es (lead ++ after) ≡ true) = comments_parts false e es (lead ++ after) p.0 in
-    let w : every white lead ≡ true = (and_parts _ _ p.1).0 in
+    let w : list_all white lead ≡ true = (and_parts _ _ p.1).0 in
     let rest : List ℕ = comments_text es ++ (lead ++ after) in
     let text : List ℕ = line_end_text e ++ rest in
     let regrouped : gap_text (Some (lines (e ∷ es) lead)) ++ after ≡ text = simp append_assoc in
@@ -59,6 +60,6 @@ gap_read n false (Some (lines (e ∷ es) lead)) after h f =
     ap (read_gap n false) regrouped
     ∙ (ap (gap_from n text) (line_end_read false e rest q.0)
     ∙ (ap (gap_after n text e) (comments_read (length text) true es (lead ++ after) enough q.1 no_line no_line)
-    ∙ (ap (λ t. lines_gap n text (e ∷ es) t (dropped white (lead ++ after))) (taken_all white lead after w (solid_not_white after f))
-    ∙ (ap (lines_gap n text (e ∷ es) lead) (dropped_all white lead after w (solid_not_white after f))
+    ∙ (ap (λ t. lines_gap n text (e ∷ es) t (drop_while white (lead ++ after))) (take_while_all white lead after w (solid_not_white after f))
+    ∙ (ap (lines_gap n text (e ∷ es) lead) (drop_while_all white lead after w (solid_not_white after f))
     ∙ rw p.1 refl))))

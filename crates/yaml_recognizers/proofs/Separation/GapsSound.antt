@@ -4,14 +4,14 @@ use Rattle.std.specs.Prelude.{Bool, List, None, Some, [], false, length, true, �
 use Rattle.std.proofs.lemmas.Bool.{and_from, cond_both}
 use Rattle.yaml_chars.specs.Classes.{white}
 use Rattle.yaml_grammar.specs.Separation.{LineEnd, comment_line_fits, comments_text, gap_text, indents, line_end_text, lines}
-use Rattle.yaml_grammar.specs.Texts.{every}
+use Rattle.std.specs.List.{list_all}
 use Rattle.yaml_recognizers.specs.CanonicalComments.{canonical_comments, canonical_gap, is_line_end}
 use Rattle.yaml_recognizers.specs.Comments.{read_comments, read_line_end}
-use Rattle.yaml_recognizers.specs.Prefixes.{dropped, taken}
+use Rattle.yaml_recognizers.specs.Prefixes.{drop_while, take_while}
 use Rattle.yaml_recognizers.specs.Gaps.{GapRead, gap_from, inline_gap, read_gap}
 use Rattle.yaml_recognizers.specs.Reading.{Read}
 use Rattle.yaml_recognizers.proofs.Separation.CommentsSound.{CommentsOf, LineOf, comments_end, comments_sound, line_sound, shorter}
-use Rattle.yaml_recognizers.proofs.Basics.Prefixes.{taken_every, taken_split}
+use Rattle.yaml_recognizers.proofs.Basics.Prefixes.{take_while_every, take_while_split}
 use Rattle.yaml_recognizers.proofs.Separation.LineEnds.{comments_from}
 use Rattle.yaml_recognizers.proofs.Basics.Reading.{Sound}
 
@@ -19,20 +19,20 @@ use Rattle.yaml_recognizers.proofs.Basics.Reading.{Sound}
 abbrev pub GapOf : ℕ → Bool → List ℕ → GapRead → Type 0
 GapOf n key text g = (text ≡ gap_text g.0 ++ g.1) × (canonical_gap n key g.0 g.1 ≡ true)
 
-inline_sound : (n : ℕ) (key : Bool) (blank rest : List ℕ) → every white blank ≡ true → GapOf n key (blank ++ rest) (inline_gap blank rest)
+inline_sound : (n : ℕ) (key : Bool) (blank rest : List ℕ) → list_all white blank ≡ true → GapOf n key (blank ++ rest) (inline_gap blank rest)
 inline_sound n key [] rest w = (refl, refl)
 inline_sound n key (c ∷ cs) rest w = (refl, and_from _ _ w refl)
 
 from_sound : (n : ℕ) (text : List ℕ) (r : Read LineEnd) → Sound (LineOf false text) r → GapOf n false text (gap_from n text r)
-from_sound n text None s = subst (λ (t : List ℕ). GapOf n false t (inline_gap (taken white text) (dropped white text))) (sym (taken_split white text)) (inline_sound n false (taken white text) (dropped white text) (taken_every white text))
+from_sound n text None s = subst (λ (t : List ℕ). GapOf n false t (inline_gap (take_while white text) (drop_while white text))) (sym (take_while_split white text)) (inline_sound n false (take_while white text) (drop_while white text) (take_while_every white text))
 from_sound n text (Some r) s =
     let more : List LineEnd × List ℕ = read_comments (length text) true r.1 in
     let cs : CommentsOf true r.1 more = comments_sound (length text) true r.1 in
     let k : length r.1 < length text = shorter false text r.1 r.0 s in
     let end : is_line_end more.1 ≡ false = comments_end (length text) r.1 k in
-    let lead : List ℕ = taken white more.1 in
-    let rest : List ℕ = dropped white more.1 in
-    let e : more.1 ≡ lead ++ rest = taken_split white more.1 in
+    let lead : List ℕ = take_while white more.1 in
+    let rest : List ℕ = drop_while white more.1 in
+    let e : more.1 ≡ lead ++ rest = take_while_split white more.1 in
     let regrouped : gap_text (Some (lines (r.0 ∷ more.0) lead)) ++ rest ≡ line_end_text r.0 ++ (comments_text more.0 ++ (lead ++ rest)) = simp append_assoc in
     cond_both (indents n lead) (Some (lines (r.0 ∷ more.0) lead), rest) (None, text) (GapOf n false text)
     (λ i. (
@@ -44,5 +44,5 @@ from_sound n text (Some r) s =
 
 -- a gap that is read fits
 pub gap_sound : (n : ℕ) (key : Bool) (text : List ℕ) → GapOf n key text (read_gap n key text)
-gap_sound n true text = subst (λ (t : List ℕ). GapOf n true t (inline_gap (taken white text) (dropped white text))) (sym (taken_split white text)) (inline_sound n true (taken white text) (dropped white text) (taken_every white text))
+gap_sound n true text = subst (λ (t : List ℕ). GapOf n true t (inline_gap (take_while white text) (drop_while white text))) (sym (take_while_split white text)) (inline_sound n true (take_while white text) (drop_while white text) (take_while_every white text))
 gap_sound n false text = from_sound n text (read_line_end false text) (line_sound false text)

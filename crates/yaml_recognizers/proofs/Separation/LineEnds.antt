@@ -6,7 +6,8 @@ use Rattle.yaml_chars.specs.Classes.{nb, ns, space, white}
 use Rattle.yaml_grammar.specs.BlockScalars.{past_spaces}
 use Rattle.yaml_grammar.specs.FlowScalars.{FlowContext, block_key, flow_key, inner, outer, safe}
 use Rattle.yaml_grammar.specs.Separation.{Break, LineEnd, break_text, comment_fits, comment_line_fits, comment_text, comments_fit, comments_text, cr, cr_lf, lf, line_end_fits, line_end_text, stop_fits}
-use Rattle.yaml_grammar.specs.Texts.{every, first, is_empty, optional}
+use Rattle.std.specs.List.{list_all}
+use Rattle.yaml_grammar.specs.Texts.{first, is_empty, optional}
 use Rattle.yaml_recognizers.specs.CanonicalComments.{canonical_comments, is_line_end}
 use Rattle.yaml_recognizers.specs.Ends.{solid}
 use Rattle.yaml_recognizers.proofs.Basics.Prefixes.{spaces_passed}
@@ -15,7 +16,7 @@ use Rattle.yaml_recognizers.proofs.Basics.Solid.{white_no_ns, white_unsolid}
 -- what a comment line that fits has
 pub record LineParts (bol : Bool) (e : LineEnd) (rest : List ℕ) : Type 0 where
   pub some : not (is_empty (line_end_text e)) ≡ true
-  pub blank_white : every white e.blank ≡ true
+  pub blank_white : list_all white e.blank ≡ true
   pub comment_fit : comment_fits (bol || not (is_empty e.blank)) e.comment ≡ true
   pub stop_fit : stop_fits e.stop rest ≡ true
 
@@ -23,8 +24,8 @@ pub record LineParts (bol : Bool) (e : LineEnd) (rest : List ℕ) : Type 0 where
 pub line_parts : (bol : Bool) (e : LineEnd) (rest : List ℕ) → comment_line_fits bol e rest ≡ true → LineParts bol e rest
 line_parts bol e rest h =
     let p : (not (is_empty (line_end_text e)) ≡ true) × (line_end_fits bol e rest ≡ true) = and_parts _ _ h in
-    let q : (every white e.blank && comment_fits (bol || not (is_empty e.blank)) e.comment ≡ true) × (stop_fits e.stop rest ≡ true) = and_parts _ _ p.1 in
-    let r : (every white e.blank ≡ true) × (comment_fits (bol || not (is_empty e.blank)) e.comment ≡ true) = and_parts _ _ q.0 in
+    let q : (list_all white e.blank && comment_fits (bol || not (is_empty e.blank)) e.comment ≡ true) × (stop_fits e.stop rest ≡ true) = and_parts _ _ p.1 in
+    let r : (list_all white e.blank ≡ true) × (comment_fits (bol || not (is_empty e.blank)) e.comment ≡ true) = and_parts _ _ q.0 in
     record { some = p.0; blank_white = r.0; comment_fit = r.1; stop_fit = q.1 }
 
 -- the text of a line's end, from its whitespace
@@ -91,7 +92,7 @@ white_space : (tail : List ℕ) → first white tail ≡ false → first space t
 white_space [] h = refl
 white_space (c ∷ cs) h = (or_parts (c == 32) (c == 9) h).0
 
-blank_unsolid : (blank tail : List ℕ) → every white blank ≡ true → first solid tail ≡ false → first white tail ≡ false → first solid (past_spaces (blank ++ tail)) ≡ false
+blank_unsolid : (blank tail : List ℕ) → list_all white blank ≡ true → first solid tail ≡ false → first white tail ≡ false → first solid (past_spaces (blank ++ tail)) ≡ false
 blank_unsolid [] tail w h f = rw (spaces_passed 0 tail (white_space tail f)) h
 blank_unsolid (c ∷ cs) tail w h f = elim (cases_Bool (c == 32)) [
   | inl e ↦ rw e (blank_unsolid cs tail (and_parts _ _ w).1 h f)
@@ -111,7 +112,7 @@ comments_unsolid bol e es rest h =
     let regrouped : comments_text (e ∷ es) ++ rest ≡ line_end_text e ++ (comments_text es ++ rest) = simp append_assoc in
     subst (λ (t : List ℕ). first solid (past_spaces t) ≡ false) (sym regrouped) (line_unsolid bol e _ (comments_parts bol e es rest h).0)
 
-line_first : (blank : List ℕ) (comment : Option (List ℕ)) (stop : Option Break) (rest : List ℕ) → every white blank ≡ true → comment_fits (not (is_empty blank)) comment ≡ true
+line_first : (blank : List ℕ) (comment : Option (List ℕ)) (stop : Option Break) (rest : List ℕ) → list_all white blank ≡ true → comment_fits (not (is_empty blank)) comment ≡ true
     → not (is_empty ((blank ++ optional comment_text comment) ++ optional break_text stop)) ≡ true → first ns (blank ++ (optional comment_text comment ++ (optional break_text stop ++ rest))) ≡ false
 line_first (c ∷ cs) comment stop rest w f s = white_no_ns c (and_parts _ _ w).0
 line_first [] (Some text) stop rest w f s = absurd (false≢true f)
@@ -147,7 +148,7 @@ white_unsafe d x h = elim (or_cases (x == 32) (x == 9) h) [
   | inr e ↦ subst (λ (y : ℕ). safe d y ≡ false) (sym (eqb-true x 9 e)) (blank_unsafe d).1
 ]
 
-parts_unsafe : (d : FlowContext) (blank : List ℕ) (comment : Option (List ℕ)) (stop : Option Break) (after : List ℕ) → every white blank ≡ true
+parts_unsafe : (d : FlowContext) (blank : List ℕ) (comment : Option (List ℕ)) (stop : Option Break) (after : List ℕ) → list_all white blank ≡ true
     → comment_fits (false || not (is_empty blank)) comment ≡ true → not (is_empty (blank ++ optional comment_text comment ++ optional break_text stop)) ≡ true
     → first (safe d) (blank ++ optional comment_text comment ++ optional break_text stop ++ after) ≡ false
 parts_unsafe d (b ∷ bs) comment stop after w c e = white_unsafe d b (and_parts _ _ w).0

@@ -3,8 +3,8 @@ use Rattle.conf_disk.specs.Folder.{synced_whole}
 use Rattle.conf_disk.proofs.Files.{map-set-change}
 use Rattle.conf_disk.proofs.folder.sync_whole.Goals as goal
 
-pub returns-in_ok-extend_from_slice : goal.returns-in_ok-extend_from_slice
-returns-in_ok-extend_from_slice c =
+pub returns : goal.returns
+returns c =
     let within : c.args.id < length c.args.files.now.items = search rules in
     let at : c.index_mut-file.result.now ≡ get_or c.args.files.now.items c.args.id c.index_mut-file.result.now = search rules in
     let synced = c.in_ok-extend_from_slice.ensures.items ∙ ap (λ (l : List ℕ). c.index_mut-file.result.now.synced.items ++ l) c.deref.ensures.value in

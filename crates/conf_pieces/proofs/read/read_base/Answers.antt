@@ -4,7 +4,7 @@ use Rattle.yaml_tree.specs.Kept.{own_limits}
 use Rattle.yaml_tree.specs.Reading.{IsRead, GivesNone}
 use Rattle.yaml_tree.specs.Seen.{tree_of, members_of}
 use Rattle.conf_record.specs.RecordsRead.{base_of, entries}
-use Rattle.conf_pieces.specs.Reading.{parts_seen}
+use Rattle.conf_pieces.specs.Reading.{state_of_parts}
 use Rattle.conf_pieces.proofs.PieceLemmas.{own_parts}
 use Rattle.conf_pieces.proofs.TreeLemmas.{no_parts, one_base, no_base}
 use Rattle.conf_pieces.proofs.read.read_base.Goals as goal
@@ -27,7 +27,7 @@ returns-in_ok-configs-in-Some-base_from-clause-some c =
     let bytes = c.args.bytes.now in
     let t = tree_of c.in-Some.tree in
     let given = subst (λ o. IfSome o (λ tree. IsRead bytes own_limits (tree_of tree))) c.in-Some.is c.in_ok-tree.ensures.some in
-    let parts = ap parts_seen (sym c.in-Some-base_from.is) ∙ c.base_from.ensures.read in
+    let parts = ap state_of_parts (sym c.in-Some-base_from.is) ∙ c.base_from.ensures.read in
     let moved = subst (λ xs. Some (record { configs = entries (members_of xs); count = c.in-Some-base_from.count }) ≡ base_of t) (sym c.in_ok-configs-in-Some-base_from.ensures) parts in
     IfOk-weaker c.from_parts.result _ _
     (λ read e. one_base c.bytes_give_one.ensures bytes t given c.in_ok-configs-in-Some-base_from.configs.items c.in-Some-base_from.count moved read e) c.from_parts.ensures.some
@@ -37,7 +37,7 @@ returns-in_ok-configs-in-Some-base_from-clause-none c =
     let bytes = c.args.bytes.now in
     let t = tree_of c.in-Some.tree in
     let given = subst (λ o. IfSome o (λ tree. IsRead bytes own_limits (tree_of tree))) c.in-Some.is c.in_ok-tree.ensures.some in
-    let parts = ap parts_seen (sym c.in-Some-base_from.is) ∙ c.base_from.ensures.read in
+    let parts = ap state_of_parts (sym c.in-Some-base_from.is) ∙ c.base_from.ensures.read in
     let moved = subst (λ xs. Some (record { configs = entries (members_of xs); count = c.in-Some-base_from.count }) ≡ base_of t) (sym c.in_ok-configs-in-Some-base_from.ensures) parts in
     IfOk-weaker c.from_parts.result _ _
     (λ read e. no_base c.bytes_give_one.ensures bytes t given c.in_ok-configs-in-Some-base_from.configs.items c.in-Some-base_from.count moved read e) c.from_parts.ensures.none
@@ -46,4 +46,4 @@ pub returns-in-None-base_from-clause-none : goal.returns-in-None-base_from-claus
 returns-in-None-base_from-clause-none c =
     let bytes = c.args.bytes.now in
     let given = subst (λ o. IfSome o (λ tree. IsRead bytes own_limits (tree_of tree))) c.in-Some.is c.in_ok-tree.ensures.some in
-    no_parts c.bytes_give_one.ensures bytes (tree_of c.in-Some.tree) given (ap parts_seen (sym c.in-None-base_from.is) ∙ c.base_from.ensures.read)
+    no_parts c.bytes_give_one.ensures bytes (tree_of c.in-Some.tree) given (ap state_of_parts (sym c.in-None-base_from.is) ∙ c.base_from.ensures.read)

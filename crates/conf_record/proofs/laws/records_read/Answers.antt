@@ -50,8 +50,8 @@ returns-clause-record c = λ s new command fits number kept is done numbered.
 
 pub returns-clause-one_record : goal.returns-clause-one_record
 unfolding record_text
-returns-clause-one_record c = λ s new command other fits number told kept is done numbered reads.
+returns-clause-one_record c = λ s new command other fits number read kept is done numbered reads.
     let ok = accepted s new command fits kept done in
     let own = document_gives c.style_reads.ensures.framed (record_tree command number) (record_good command number is ok numbered) in
     let same = c.one_tree.ensures (closed_document (record_tree command number)) own_limits own_limits (record_tree command number) reads.tree own reads.gives in
-    pair_same (command, number) (other, told) (sym (record_tells command number ok numbered) ∙ ap record_of same ∙ reads.tells)
+    pair_same (command, number) (other, read) (sym (record_tells command number ok numbered) ∙ ap record_of same ∙ reads.tells)

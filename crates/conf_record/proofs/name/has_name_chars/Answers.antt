@@ -3,7 +3,7 @@ use Rattle.std.proofs.lemmas.Iterator.{YieldsList-from_chars}
 use Rattle.std.proofs.lemmas.Iterator.Search.{all_from_yields_List}
 use Rattle.std.specs.Str.{chars}
 use borrow.Author.Tests.{tests}
-use Rattle.yaml_tree.proofs.CharacterLemmas.{list_all-every, every-IsAscii, chars-same}
+use Rattle.yaml_tree.proofs.CharacterLemmas.{every-IsAscii, chars-same}
 use Rattle.conf_record.specs.Names.{name_char}
 use Rattle.conf_record.proofs.NameLemmas.{name_char-below}
 use Rattle.conf_record.proofs.name.has_name_chars.Goals as goal
@@ -11,7 +11,7 @@ use Rattle.conf_record.proofs.name.has_name_chars.Goals as goal
 pub returns-clause-named : goal.returns-clause-named
 returns-clause-named c =
     all_from_yields_List name_char _ _ _ c.all.ensures.ran (YieldsList-from_chars c.args.name.now c.utf8.name c.chars.ensures.rest)
-    (λ x b q k. search (rules, tests)) ∙ list_all-every name_char (chars c.args.name.now)
+    (λ x b q k. search (rules, tests))
 
 pub returns-clause-ascii : goal.returns-clause-ascii
 returns-clause-ascii c = λ all.

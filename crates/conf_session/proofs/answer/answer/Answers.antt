@@ -1,6 +1,6 @@
 use Rattle.std.proofs.Common.{◌++◌, ap, ◌∙◌}
 use Rattle.std.specs.Str.{chars}
-use Rattle.yaml_laws.specs.Closed.{framed}
+use Rattle.yaml_laws.specs.Closed.{framed_text_bytes}
 use Rattle.yaml_tree.specs.Seen.{tree_of}
 use Rattle.conf_session.specs.Answers.{one}
 use Rattle.conf_session.proofs.answer.answer.Goals as goal
@@ -8,4 +8,4 @@ use Rattle.conf_session.proofs.answer.answer.Goals as goal
 pub returns : goal.returns
 returns c =
     c.in_ok-write_answer.ensures
-    ∙ ap (λ prefix. prefix ++ framed (one (chars c.args.key.now) (tree_of c.args.value.now))) c.new-text.ensures.bytes
+    ∙ ap (λ prefix. prefix ++ framed_text_bytes (one (chars c.args.key.now) (tree_of c.args.value.now))) c.new-text.ensures.bytes

@@ -3,7 +3,7 @@ use Rattle.std.proofs.lemmas.Result.{IfOk-weaker}
 use Rattle.std.proofs.lemmas.Str.{chars-IsAscii}
 use Rattle.std.specs.Str.{chars}
 use Rattle.yaml_grammar.specs.Trees.{text}
-use Rattle.yaml_laws.specs.Closed.{framed}
+use Rattle.yaml_laws.specs.Closed.{framed_text_bytes}
 use Rattle.yaml_tree.specs.Seen.{tree_of}
 use Rattle.yaml_tree.specs.declared.tree.Tree.{Text}
 use Rattle.yaml_tree.proofs.SeenLemmas.{tree_of-Text}
@@ -17,5 +17,5 @@ returns c =
     let spelled : tree_of (Text digits) ≡ text (decimal c.args.count) =
     tree_of-Text digits ∙ ap (λ b. text (chars b)) c.in_ok-from_str.ensures.ok ∙ ap text (chars-IsAscii c.format.result.now c.format.ensures.ascii ∙ c.format.ensures.text) in
     IfOk-weaker c.answer.result _ _
-    (λ reply e. e ∙ ap (λ k. framed (one k (tree_of (Text digits)))) (ascii (codes "ok") refl) ∙ ap (λ t. framed (one (codes "ok") t)) spelled)
+    (λ reply e. e ∙ ap (λ k. framed_text_bytes (one k (tree_of (Text digits)))) (ascii (codes "ok") refl) ∙ ap (λ t. framed_text_bytes (one (codes "ok") t)) spelled)
     c.answer.ensures

@@ -3,7 +3,7 @@ use Rattle.std.specs.Prelude.{codes}
 use Rattle.std.specs.Str.{chars}
 use Rattle.yaml_grammar.specs.Style.{style_text}
 use Rattle.yaml_grammar.specs.Trees.{text}
-use Rattle.yaml_laws.specs.Closed.{framed}
+use Rattle.yaml_laws.specs.Closed.{framed_text_bytes}
 use Rattle.yaml_tree.specs.Seen.{tree_of}
 use Rattle.yaml_tree.specs.declared.tree.Tree.{Text}
 use Rattle.yaml_tree.proofs.SeenLemmas.{tree_of-Text}
@@ -20,7 +20,7 @@ returns-in_ok-answer-in-Ok g c =
     let exports = c.in-Ok.ensures.ok in
     let spelled : tree_of (Text written) ≡ text (style_text exports.tree) = tree_of-Text written ∙ ap text exports.style in
     export-text (stored_of c.args.store.now) (chars c.args.name.now) exports.tree c.in_ok-answer-in-Ok.field-0 exports.is
-    (c.in_ok-answer-in-Ok.ensures ∙ ap (λ k. framed (one k (tree_of (Text written)))) (ascii (codes "text") refl) ∙ ap (λ t. framed (one (codes "text") t)) spelled) c.in-Ok.ensures.limits
+    (c.in_ok-answer-in-Ok.ensures ∙ ap (λ k. framed_text_bytes (one k (tree_of (Text written)))) (ascii (codes "text") refl) ∙ ap (λ t. framed_text_bytes (one (codes "text") t)) spelled) c.in-Ok.ensures.limits
 
 pub returns-in-Err : goal.returns-in-Err
 returns-in-Err g c =

@@ -2,7 +2,7 @@
 use Rattle.std.proofs.Common.{rules, ◌≡◌, ◌≢◌, ⊎_elim, refl, ap, sym, ◌∙◌}
 use Rattle.std.specs.Prelude.{Ok, Err, codes}
 use Rattle.std.specs.Str.{chars}
-use Rattle.yaml_laws.specs.Closed.{framed}
+use Rattle.yaml_laws.specs.Closed.{framed_text_bytes}
 use Rattle.yaml_tree.specs.Seen.{tree_of}
 use Rattle.tree_path.specs.Pointers.{path_of}
 use Rattle.tree_path.specs.declared.fault.PathFault.TheVariants.{OutOfMemory}
@@ -35,4 +35,4 @@ returns-in-Ok-at g c =
     let parsed : path_of (chars c.args.path.now) ≡ Ok c.in-Ok-parse.path = ⊎_elim (λ never. cc never) (λ is. sym is) c.in-Ok-parse.ensures.met in
     get-value (stored_of c.args.store.now) (chars c.args.name.now) (chars c.args.path.now) (tree_of c.tree.result.now) c.in-Ok-parse.path named parsed
     (tree_of c.in-Ok-at.value.now) c.in_ok-answer-in-Ok-at.field-0 c.in-Ok-at.ensures.ok
-    (c.in_ok-answer-in-Ok-at.ensures ∙ ap (λ k. framed (one k (tree_of c.in-Ok-at.value.now))) (ascii (codes "value") refl)) c.in-Ok.ensures.limits
+    (c.in_ok-answer-in-Ok-at.ensures ∙ ap (λ k. framed_text_bytes (one k (tree_of c.in-Ok-at.value.now))) (ascii (codes "value") refl)) c.in-Ok.ensures.limits

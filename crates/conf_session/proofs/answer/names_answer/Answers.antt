@@ -1,7 +1,7 @@
 -- Each turn moves one name from those that are left into the list.
 use Rattle.std.proofs.Common.{◌≡◌, refl, ap, ◌∙◌}
 use Rattle.std.specs.Prelude.{codes}
-use Rattle.yaml_laws.specs.Closed.{framed}
+use Rattle.yaml_laws.specs.Closed.{framed_text_bytes}
 use Rattle.yaml_grammar.specs.Trees.{sequence}
 use Rattle.yaml_tree.specs.Seen.{tree_of}
 use Rattle.yaml_tree.specs.declared.tree.Tree.{Seq}
@@ -30,4 +30,4 @@ returns g c =
     let listed : tree_of (Seq c.loop-name.names) ≡ sequence (text_elements all) =
     names-all c.loop-name.names c.loop-name.name-iterator all c.loop-name.invariant c.in-None.ensures.steps.0 in
     names-listed (stored_of c.args.store.now) c.names-name-items.ensures.limits c.in_ok-answer.field-0
-    (c.in_ok-answer.ensures ∙ ap (λ k. framed (one k (tree_of (Seq c.loop-name.names)))) (ascii (codes "names") refl) ∙ ap (λ t. framed (one (codes "names") t)) listed)
+    (c.in_ok-answer.ensures ∙ ap (λ k. framed_text_bytes (one k (tree_of (Seq c.loop-name.names)))) (ascii (codes "names") refl) ∙ ap (λ t. framed_text_bytes (one (codes "names") t)) listed)

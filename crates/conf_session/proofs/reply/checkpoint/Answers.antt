@@ -2,7 +2,7 @@
 use Rattle.std.proofs.Common.{ap, ◌∙◌, refl}
 use Rattle.std.specs.Prelude.{decimal, codes, Err}
 use Rattle.yaml_grammar.specs.Trees.{text}
-use Rattle.yaml_laws.specs.Closed.{framed}
+use Rattle.yaml_laws.specs.Closed.{framed_text_bytes}
 use Rattle.conf_session.specs.Answers.{one}
 use Rattle.conf_session.specs.Requests.{checkpointing}
 use Rattle.conf_session.specs.Runs.{stored_of}
@@ -17,7 +17,7 @@ returns-in-Ok-clause-did g c off =
     let new = c.checkpoint.new.self in
     let ok = c.in-Ok.ensures.ok in (
       record {
-        bytes = c.in_ok-answer.ensures ∙ ap (λ n. framed (one (codes "ok") (text (decimal n)))) c.count.ensures.count;
+        bytes = c.in_ok-answer.ensures ∙ ap (λ n. framed_text_bytes (one (codes "ok") (text (decimal n)))) c.count.ensures.count;
         accepted = refl;
         refused = refl;
         short = answer-short (stored_of old) checkpointing c.count.ensures.limits;

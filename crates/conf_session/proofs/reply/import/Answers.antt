@@ -5,7 +5,7 @@ use Rattle.yaml_tree.specs.Reading.{Refuses}
 use Rattle.conf_record.specs.Commands.{text_of}
 use Rattle.conf_record.specs.States.{config_limits}
 use Rattle.std.specs.Str.{chars}
-use Rattle.yaml_laws.specs.Closed.{framed}
+use Rattle.yaml_laws.specs.Closed.{framed_text_bytes}
 use Rattle.conf_session.specs.Answers.{refusal, word, unread_fault}
 use Rattle.conf_session.specs.Requests.{import_text, unread}
 use Rattle.conf_session.proofs.LengthLemmas.{refusal-short}
@@ -21,4 +21,4 @@ returns-clause-did g c off =
     said-read d.honest d.folder d.moment d.left c.args.store.now off (λ image h is. g.met.D.Disk.only_now c.args.store.now.disk image h is) c.requires.means
     (import_text name (chars c.args.source.now)) (unread name f)
     (text-refused name c.args.source.now f c.utf8.source some (subst (λ b. Refuses b config_limits f) c.as_bytes.ensures.value c.in-Err.ensures.refused))
-    tt _ (record { bytes = ap (λ x. framed (refusal (word x))) (c.unread_fault.ensures ∙ ap (λ b. unread_fault (chars b) f) c.deref.ensures); accepted = refl; refused = refl; short = refusal-short (unread_fault name f) })
+    tt _ (record { bytes = ap (λ x. framed_text_bytes (refusal (word x))) (c.unread_fault.ensures ∙ ap (λ b. unread_fault (chars b) f) c.deref.ensures); accepted = refl; refused = refl; short = refusal-short (unread_fault name f) })

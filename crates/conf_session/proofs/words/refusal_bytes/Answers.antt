@@ -1,8 +1,8 @@
 use Rattle.std.proofs.Common.{sym, ap, ◌∙◌}
-use Rattle.yaml_laws.specs.Closed.{framed}
+use Rattle.yaml_laws.specs.Closed.{framed_text_bytes}
 use Rattle.conf_session.specs.Answers.{refusal, word}
 use Rattle.conf_session.proofs.WordLemmas.{spelled-JournalLong}
 use Rattle.conf_session.proofs.words.refusal_bytes.Goals as goal
 
 pub returns-in-JournalLong : goal.returns-in-JournalLong
-returns-in-JournalLong c = sym (ap (λ f. framed (refusal (word f))) c.in-JournalLong.is ∙ spelled-JournalLong)
+returns-in-JournalLong c = sym (ap (λ f. framed_text_bytes (refusal (word f))) c.in-JournalLong.is ∙ spelled-JournalLong)

@@ -14,28 +14,28 @@ pub returns-in-Ok-clause-ok : goal.returns-in-Ok-clause-ok
 returns-in-Ok-clause-ok c =
     let s = c.args.state.now in
     let command = command_of c.in-Some.command in
-    let is : IsRecord c.args.piece.now command c.in-Some.told = search rules in
-    let told : c.in-Some.told ≡ s.count + 1 = sym c.if-count-told.true ∙ c.count.ensures.count ∙ step-one s c.step.new.state command true c.in-Ok.ensures.ok in
-    (command, subst (IsRecord c.args.piece.now command) told is, c.in-Ok.ensures.ok)
+    let is : IsRecord c.args.piece.now command c.in-Some.record_number = search rules in
+    let is_next : c.in-Some.record_number ≡ s.count + 1 = sym c.if-count-record_number.true ∙ c.count.ensures.count ∙ step-one s c.step.new.state command true c.in-Ok.ensures.ok in
+    (command, subst (IsRecord c.args.piece.now command) is_next is, c.in-Ok.ensures.ok)
 
 pub returns-in-Ok-2-clause-refused : goal.returns-in-Ok-2-clause-refused
 returns-in-Ok-2-clause-refused c =
     let s = c.args.state.now in
     let command = command_of c.in-Some.command in
-    let is : IsRecord c.args.piece.now command c.in-Some.told = search rules in
+    let is : IsRecord c.args.piece.now command c.in-Some.record_number = search rules in
     inr (
       refl,
-      no-next-numbered c.documents_are_read.ensures.one_record c.args.piece.now s command c.in-Some.told is
-          (λ e. c.if-count-told.false (c.count.ensures.count ∙ step-one s c.step.new.state command true c.in-Ok.ensures.ok ∙ sym e)),
+      no-next-numbered c.documents_are_read.ensures.one_record c.args.piece.now s command c.in-Some.record_number is
+          (λ e. c.if-count-record_number.false (c.count.ensures.count ∙ step-one s c.step.new.state command true c.in-Ok.ensures.ok ∙ sym e)),
     )
 
 pub returns-in-Err-clause-refused : goal.returns-in-Err-clause-refused
 returns-in-Err-clause-refused c =
-    let is : IsRecord c.args.piece.now (command_of c.in-Some.command) c.in-Some.told = search rules in
+    let is : IsRecord c.args.piece.now (command_of c.in-Some.command) c.in-Some.record_number = search rules in
     ⊎_elim (λ memory. inl memory)
     (λ damaged. inr (
       damaged.0,
       ⊎_elim (λ memory. absurd (damaged.1 memory))
-          (λ refused. no-next-refused c.documents_are_read.ensures.one_record c.args.piece.now c.args.state.now (command_of c.in-Some.command) c.in-Some.told c.in-Err.fault is refused) c.in-Err.ensures.refused,
+          (λ refused. no-next-refused c.documents_are_read.ensures.one_record c.args.piece.now c.args.state.now (command_of c.in-Some.command) c.in-Some.record_number c.in-Err.fault is refused) c.in-Err.ensures.refused,
     ))
     c.refusal.ensures

@@ -1,14 +1,15 @@
-use Rattle.std.proofs.Common.{length}
+use Rattle.std.proofs.Common.{◌≤◌, length, take}
 use Rattle.yaml_grammar.specs.Trees.{Tree}
 use Rattle.yaml_tree.specs.Seen.{tree_of}
 use Rattle.tree_path.specs.Steps.{texts, Lowered, Rebuilt}
 use Rattle.tree_path.proofs.edit.ascend.Given as goal
 
-abbrev pub invariant-loop-token : goal.invariant-loop-token
-invariant-loop-token l =
-    (t a u : Tree) → Lowered (texts l.fn.tokens) t a u (tree_of l.fn.above)
-    → (c : Tree) × Lowered (texts l.left) t a c (tree_of l.above)
-    × ((r : Tree) → Rebuilt (texts l.left) t (tree_of l.tree) r → Rebuilt (texts l.fn.tokens) t (tree_of l.fn.tree) r)
+abbrev pub invariant-loop-left : goal.invariant-loop-left
+invariant-loop-left l =
+    (l.left ≤ length l.tokens)
+    × ((t a u : Tree) → Lowered (texts l.tokens) t a u (tree_of l.fn.above)
+    → (c : Tree) × Lowered (texts (take l.left l.tokens)) t a c (tree_of l.above)
+    × ((r : Tree) → Rebuilt (texts (take l.left l.tokens)) t (tree_of l.tree) r → Rebuilt (texts l.tokens) t (tree_of l.fn.tree) r))
 
-abbrev pub decreases-loop-token : goal.decreases-loop-token
-decreases-loop-token l = length l.left
+abbrev pub decreases-loop-left : goal.decreases-loop-left
+decreases-loop-left l = l.left

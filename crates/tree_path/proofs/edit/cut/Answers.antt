@@ -4,7 +4,8 @@ use Rattle.std.specs.Str.{chars}
 use Rattle.yaml_grammar.specs.Trees.{mapping}
 use Rattle.yaml_tree.specs.Seen.{tree_of, members_of}
 use Rattle.yaml_tree.proofs.SeenLemmas.{tree_of-Text, tree_of-Map}
-use Rattle.tree_path.specs.Paths.{child, cut}
+use Rattle.tree_path.specs.Paths.{child, cut, key_in}
+use Rattle.tree_path.proofs.Places.{place_of-pairs}
 use Rattle.tree_path.proofs.Steps.{cut-Text}
 use Rattle.tree_path.proofs.edit.cut.Goals as goal
 
@@ -18,3 +19,9 @@ returns-in-Map-clause-removed c =
     let token = chars c.args.token.now in
     let seen = ap tree_of c.in-Map.is ∙ tree_of-Map c.in-Map.pairs ∙ ap (λ w. mapping (members_of w.items)) (sym c.in-Map.pairs-is) in
     IfOk-weaker c.cut_pair.result _ _ (λ x h. ap (λ t. child t token) seen ∙ h) c.cut_pair.ensures.removed
+
+pub cut_pair-requires : goal.cut_pair-requires
+cut_pair-requires c =
+    let token = chars c.args.token.now in
+    let seen = ap tree_of c.in-Map.is ∙ tree_of-Map c.in-Map.pairs ∙ ap (λ w. mapping (members_of w.items)) (sym c.in-Map.pairs-is) in
+    c.requires ∙ ap (λ t. key_in t token) seen ∙ place_of-pairs _ token

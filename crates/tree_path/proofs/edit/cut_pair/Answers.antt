@@ -1,4 +1,4 @@
-use Rattle.std.proofs.Common.{Ok, Err, ap, ◌∙◌, sym, rules}
+use Rattle.std.proofs.Common.{Ok, Err, refl, ap, ◌∙◌, sym, rules}
 use Rattle.std.proofs.lemmas.Result.{err_from_is_err_and}
 use Rattle.std.specs.Str.{chars}
 use Rattle.yaml_grammar.specs.Trees.{mapping}
@@ -11,8 +11,8 @@ returns-in_err-place-clause-missed c =
     let p = err_from_is_err_and c.from_residual.result c.from_residual.ensures.1 in
     let v = c.args.pairs.now in
     let token = chars c.args.key.now in
-    let m = place-missed c.key_place.result token c.deref.result.now v.items c.in_err-place.field-0.0 c.in_err-place.ensures.value
-    c.key_place.ensures c.deref.ensures.value in
+    let m = place-missed c.args.place token v.items v.items c.in_err-place.field-0.0 c.in_err-place.ensures.value
+    c.requires refl in
     rw (p.1, p.2) (cut-Map-missed v.items token m.0 ∙ ap Err m.1)
 
 pub remove-requires : goal.remove-requires
@@ -20,7 +20,7 @@ remove-requires c =
     let v = c.args.pairs.now in
     let token = chars c.args.key.now in
     let h = place-within v.items token c.in_ok-place.place
-    (place-found c.key_place.result token c.deref.result.now v.items c.in_ok-place.place c.in_ok-place.ensures.value c.key_place.ensures c.deref.ensures.value) in
+    (place-found c.args.place token v.items v.items c.in_ok-place.place c.in_ok-place.ensures.value c.requires refl) in
     search rules
 
 pub returns-clause-ok : goal.returns-clause-ok
@@ -28,7 +28,7 @@ returns-clause-ok c =
     let v = c.args.pairs.now in
     let token = chars c.args.key.now in
     cut-Map v.items token c.in_ok-place.place
-    (place-found c.key_place.result token c.deref.result.now v.items c.in_ok-place.place c.in_ok-place.ensures.value c.key_place.ensures c.deref.ensures.value)
+    (place-found c.args.place token v.items v.items c.in_ok-place.place c.in_ok-place.ensures.value c.requires refl)
     ∙ ap (λ xs. Ok (mapping (members_of xs))) (sym c.remove.ensures.items)
 
 pub returns-clause-removed : goal.returns-clause-removed
@@ -36,5 +36,5 @@ returns-clause-removed c =
     let v = c.args.pairs.now in
     let token = chars c.args.key.now in
     child-Map v.items token c.in_ok-place.place c.remove.result
-    (place-found c.key_place.result token c.deref.result.now v.items c.in_ok-place.place c.in_ok-place.ensures.value c.key_place.ensures c.deref.ensures.value)
+    (place-found c.args.place token v.items v.items c.in_ok-place.place c.in_ok-place.ensures.value c.requires refl)
     ∙ ap (λ x. Ok (tree_of x.1)) (sym c.remove.ensures.value)

@@ -1,11 +1,13 @@
-use Rattle.std.proofs.Common.{◌≡◌, Err, [], ◌∷◌, ◌+◌, length, String, Global, string_bytes, sym, ap, subst, ◌∙◌, arith}
+use Rattle.std.proofs.Common.{◌≡◌, Err, [], ◌∷◌, ◌+◌, length, Global, sym, ap, subst, ◌∙◌, arith}
+use Rattle.std.specs.Cow.{cow_str_bytes}
+use Rattle.std.specs.declared.borrow.CowStr.{CowStr}
 use Rattle.std.specs.Str.{chars}
 use Rattle.std.proofs.lemmas.List.{length-map}
 use Rattle.std.proofs.lemmas.Result.{err_from_is_err_and}
 use Rattle.yaml_tree.specs.Seen.{tree_of}
-use Rattle.tree_path.specs.Paths.{child, cut}
-use Rattle.tree_path.specs.Steps.{texts, Rebuilt}
-use Rattle.tree_path.proofs.Descents.{texts-append, Rebuilt-same}
+use Rattle.tree_path.specs.Paths.{child, cut, key_in, last_key}
+use Rattle.tree_path.specs.Steps.{texts, Knows, Rebuilt}
+use Rattle.tree_path.proofs.Descents.{texts-append, Rebuilt-same, last_key-parent, at_from-Lowered}
 use Rattle.tree_path.proofs.Edits.{delete-Rebuilt, delete-missed, delete-refused, at-last}
 use Rattle.tree_path.proofs.edit.delete_at.Goals as goal
 
@@ -16,7 +18,7 @@ returns-in_err-descend-clause-refused c =
     let parents = c.unwrap.result.1.now in
     let p = err_from_is_err_and c.from_residual.result c.from_residual.ensures.1 in
     rw (p.1, p.2)
-    (delete-refused (texts c.args.tokens.now) (texts parents) (chars (string_bytes last)) (tree_of c.args.tree.now) c.in_err-descend.field-0.0
+    (delete-refused (texts c.args.tokens.now) (texts parents) (chars (cow_str_bytes last)) (tree_of c.args.tree.now) c.in_err-descend.field-0.0
     (ap texts cases.0 ∙ texts-append parents (last ∷ [])) c.in_err-descend.ensures.refused)
 
 pub returns-in-Ok-clause-ok : goal.returns-in-Ok-clause-ok
@@ -27,9 +29,9 @@ returns-in-Ok-clause-ok c =
     let t = tree_of c.args.tree.now in
     let u = tree_of c.descend.new.tree in
     let low = c.in_ok-descend.ensures.ok in
-    delete-Rebuilt (texts c.args.tokens.now) (texts parents) (chars (string_bytes last)) t _ u (tree_of c.descend.new.above) (tree_of c.cut-outcome.new.tree) (tree_of c.ascend.new.tree)
+    delete-Rebuilt (texts c.args.tokens.now) (texts parents) (chars (cow_str_bytes last)) t _ u (tree_of c.descend.new.above) (tree_of c.cut-outcome.new.tree) (tree_of c.ascend.new.tree)
     (ap texts cases.0 ∙ texts-append parents (last ∷ [])) low
-    (ap (λ b. cut u (chars b)) (sym c.as_str.ensures.value) ∙ c.in-Ok.ensures.ok) (c.ascend.ensures t _ u low).0
+    (ap (λ b. cut u (chars b)) (sym c.as_str-token.ensures.value) ∙ c.in-Ok.ensures.ok) (c.ascend.ensures t _ u low).0
 
 pub returns-in-Ok-clause-removed : goal.returns-in-Ok-clause-removed
 returns-in-Ok-clause-removed c =
@@ -37,9 +39,9 @@ returns-in-Ok-clause-removed c =
     let last = c.unwrap.result.0.now in
     let parents = c.unwrap.result.1.now in
     let u = tree_of c.descend.new.tree in
-    at-last (texts c.args.tokens.now) (texts parents) (chars (string_bytes last)) (tree_of c.args.tree.now) _ u (tree_of c.descend.new.above) (tree_of c.in-Ok.removed)
+    at-last (texts c.args.tokens.now) (texts parents) (chars (cow_str_bytes last)) (tree_of c.args.tree.now) _ u (tree_of c.descend.new.above) (tree_of c.in-Ok.removed)
     (ap texts cases.0 ∙ texts-append parents (last ∷ [])) c.in_ok-descend.ensures.ok
-    (ap (λ b. child u (chars b)) (sym c.as_str.ensures.value) ∙ c.in-Ok.ensures.removed)
+    (ap (λ b. child u (chars b)) (sym c.as_str-token.ensures.value) ∙ c.in-Ok.ensures.removed)
 
 pub returns-clause-refused : goal.returns-clause-refused
 returns-clause-refused c =
@@ -47,10 +49,10 @@ returns-clause-refused c =
     let last = c.unwrap.result.0.now in
     let parents = c.unwrap.result.1.now in
     let u = tree_of c.descend.new.tree in
-    let n : length c.args.tokens.now ≡ length (texts parents) + 1 = omega (arith, cases.1, length-map parents (λ (x : String Global). chars (string_bytes x))) in
-    delete-missed (texts c.args.tokens.now) (texts parents) (chars (string_bytes last)) (length c.args.tokens.now) (tree_of c.args.tree.now) _ u (tree_of c.descend.new.above) c.in-Err.miss
+    let n : length c.args.tokens.now ≡ length (texts parents) + 1 = omega (arith, cases.1, length-map parents (λ (x : CowStr Global). chars (cow_str_bytes x))) in
+    delete-missed (texts c.args.tokens.now) (texts parents) (chars (cow_str_bytes last)) (length c.args.tokens.now) (tree_of c.args.tree.now) _ u (tree_of c.descend.new.above) c.in-Err.miss
     (ap texts cases.0 ∙ texts-append parents (last ∷ [])) n c.in_ok-descend.ensures.ok
-    (ap (λ b. cut u (chars b)) (sym c.as_str.ensures.value) ∙ c.in-Err.ensures.missed)
+    (ap (λ b. cut u (chars b)) (sym c.as_str-token.ensures.value) ∙ c.in-Err.ensures.missed)
     ∙ ap Err (sym c.at_step.ensures)
 
 pub returns-clause-unchanged : goal.returns-clause-unchanged
@@ -61,3 +63,15 @@ returns-clause-unchanged c =
     let low = c.in_ok-descend.ensures.ok in
     Rebuilt-same parents t _ u (tree_of c.descend.new.above) (tree_of c.ascend.new.tree) low
     (subst (λ x. Rebuilt parents t (tree_of x) (tree_of c.ascend.new.tree)) c.in-Err.ensures.unchanged (c.ascend.ensures t _ u low).0)
+
+pub place_in-place-requires : goal.place_in-place-requires
+place_in-place-requires c =
+    let cases = rw c.unwrap.ensures at c.split_last.ensures.cases in
+    let last = c.unwrap.result.0.now in
+    let parents = c.unwrap.result.1.now in
+    let t = tree_of c.args.tree.now in
+    let u = tree_of c.descend.new.tree in
+    subst (Knows c.args.known)
+    (ap (last_key t) (ap texts cases.0 ∙ texts-append parents (last ∷ []))
+    ∙ last_key-parent (texts parents) (chars (cow_str_bytes last)) 1 t u (at_from-Lowered (texts parents) 1 t _ u (tree_of c.descend.new.above) c.in_ok-descend.ensures.ok)
+    ∙ ap (λ b. key_in u (chars b)) (sym c.as_str-token.ensures.value)) c.requires.known

@@ -1,4 +1,5 @@
-use Rattle.std.proofs.Common.{Err, [], ◌∷◌, ◌++◌, take, string_bytes, sym, ap, subst, ◌∙◌}
+use Rattle.std.proofs.Common.{Err, [], ◌∷◌, ◌++◌, take, sym, ap, subst, ◌∙◌}
+use Rattle.std.specs.Cow.{cow_str_bytes}
 use Rattle.std.specs.Str.{chars}
 use Rattle.yaml_tree.specs.Seen.{tree_of}
 use Rattle.tree_path.specs.Paths.{child, put}
@@ -32,8 +33,8 @@ loop-passed-preserved c =
     let t = tree_of c.args.tree.now in
     let a = tree_of c.args.above.now in
     let bytes = c.as_str.ensures.value in
-    let grown = texts (take l.passed c.args.tokens.now) ++ chars (string_bytes token) ∷ [] in
-    let low = Lowered-push (texts (take l.passed c.args.tokens.now)) (chars (string_bytes token)) t a (tree_of l.tree) (tree_of l.above)
+    let grown = texts (take l.passed c.args.tokens.now) ++ chars (cow_str_bytes token) ∷ [] in
+    let low = Lowered-push (texts (take l.passed c.args.tokens.now)) (chars (cow_str_bytes token)) t a (tree_of l.tree) (tree_of l.above)
     (tree_of c.exchange.new.other) (tree_of c.exchange.new.tree) l.invariant
     (ap (λ b. child (tree_of l.tree) (chars b)) (sym bytes) ∙ c.in-Ok.ensures.taken)
     (ap (λ b. put (tree_of l.tree) (chars b) (tree_of l.above)) (sym bytes) ∙ c.in-Ok.ensures.put_there) in

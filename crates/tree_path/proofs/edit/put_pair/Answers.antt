@@ -3,26 +3,25 @@ use Rattle.std.specs.Str.{chars}
 use Rattle.yaml_grammar.specs.Trees.{mapping}
 use Rattle.yaml_tree.specs.Seen.{members_of}
 use Rattle.tree_path.proofs.Steps.{put-Map-last, put-Map, place-within}
-use Rattle.tree_path.specs.Steps.{key_place}
 use Rattle.tree_path.proofs.StepLaws.{none-other}
 use Rattle.tree_path.proofs.edit.put_pair.Goals as goal
 
 pub index_mut-requires : goal.index_mut-requires
 index_mut-requires c =
     let h = place-within c.args.pairs.now.items (chars c.args.key.now) c.in-Some.place
-    (ap (key_place (chars c.args.key.now)) (sym c.deref.ensures.value) ∙ sym c.in-Some.ensures) in
+    (sym c.requires ∙ c.in-Some.is) in
     search rules
 
 pub returns-in-Some-clause-ok : goal.returns-in-Some-clause-ok
 returns-in-Some-clause-ok c =
     let v = c.args.pairs.now in
     put-Map v.items (chars c.args.key.now) c.in-Some.place c.args.value c.index_mut.result.now
-    (ap (key_place (chars c.args.key.now)) (sym c.deref.ensures.value) ∙ sym c.in-Some.ensures)
+    (sym c.requires ∙ c.in-Some.is)
     ∙ ap (λ k. Ok (mapping (members_of (set v.items c.in-Some.place (k, c.args.value))))) (ap (λ q. q.0) (sym c.index_mut.ensures.value))
 
 pub returns-in-Ok-push-clause-ok : goal.returns-in-Ok-push-clause-ok
 returns-in-Ok-push-clause-ok c =
     let v = c.args.pairs.now in
     put-Map-last v.items (chars c.args.key.now) c.in-Ok.key c.args.value
-    (ap (key_place (chars c.args.key.now)) (sym c.deref.ensures.value) ∙ sym c.key_place.ensures ∙ none-other c.key_place.result c.in_default.not-Some) (ap chars c.in-Ok.ensures.ok)
+    (sym c.requires ∙ none-other c.args.place c.in_default.not-Some) (ap chars c.in-Ok.ensures.ok)
     ∙ ap (λ xs. Ok (mapping (members_of xs))) (sym c.in-Ok-push.ensures.items)

@@ -1,27 +1,29 @@
-use Rattle.std.proofs.Common.{◌≡◌, Ok, [], ◌∷◌, ◌+◌, length, String, Global, string_bytes, inl, inr, sym, ap, subst, ◌∙◌, arith}
+use Rattle.std.proofs.Common.{◌≡◌, Ok, [], ◌∷◌, ◌+◌, length, Global, inl, inr, sym, ap, subst, ◌∙◌, arith}
+use Rattle.std.specs.Cow.{cow_str_bytes}
+use Rattle.std.specs.declared.borrow.CowStr.{CowStr}
 use Rattle.std.specs.Str.{chars}
 use Rattle.std.proofs.lemmas.List.{length-map}
 use Rattle.std.proofs.lemmas.Result.{on_ok_weaker, on_err_weaker, IfErr-weaker}
 use Rattle.yaml_tree.specs.Seen.{tree_of}
-use Rattle.tree_path.specs.Paths.{put, at_step}
-use Rattle.tree_path.specs.Steps.{texts, Rebuilt}
-use Rattle.tree_path.proofs.Descents.{texts-append, Rebuilt-same}
+use Rattle.tree_path.specs.Paths.{put, at_step, key_in, last_key}
+use Rattle.tree_path.specs.Steps.{texts, Knows, Rebuilt}
+use Rattle.tree_path.proofs.Descents.{texts-append, Rebuilt-same, last_key-parent, at_from-Lowered}
 use Rattle.tree_path.proofs.Edits.{IfOk-default, set-Rebuilt, set-missed, set-refused}
 use Rattle.tree_path.proofs.edit.set_at.Goals as goal
 
 pub returns-in-Err-clause-refused : goal.returns-in-Err-clause-refused
 returns-in-Err-clause-refused c =
     let parents = texts c.in-Some.parents.now in
-    let last = chars (string_bytes c.in-Some.last.now) in
+    let last = chars (cow_str_bytes c.in-Some.last.now) in
     let split = ap texts c.in-Some.ensures.cases.0 ∙ texts-append c.in-Some.parents.now (c.in-Some.last.now ∷ []) in
     inr (set-refused (texts c.args.tokens.now) parents last (tree_of c.args.tree.now) (tree_of c.args.value) c.in-Err.fault split c.in-Err.ensures.refused)
 
 pub returns-clause-ok : goal.returns-clause-ok
 returns-clause-ok c =
     let parents = texts c.in-Some.parents.now in
-    let last = chars (string_bytes c.in-Some.last.now) in
+    let last = chars (cow_str_bytes c.in-Some.last.now) in
     let split = ap texts c.in-Some.ensures.cases.0 ∙ texts-append c.in-Some.parents.now (c.in-Some.last.now ∷ []) in
-    let same : c.as_str.result.now ≡ string_bytes c.in-Some.last.now = c.as_str.ensures.value in
+    let same : c.as_str-token.result.now ≡ cow_str_bytes c.in-Some.last.now = c.as_str-token.ensures.value in
     let t = tree_of c.args.tree.now in
     let u = tree_of c.descend.new.tree in
     let low = IfOk-default c.descend.result c.descend.ensures.ok c.in_default-descend.not-Err in
@@ -33,14 +35,14 @@ returns-clause-ok c =
 pub returns-clause-refused : goal.returns-clause-refused
 returns-clause-refused c =
     let parents = texts c.in-Some.parents.now in
-    let last = chars (string_bytes c.in-Some.last.now) in
+    let last = chars (cow_str_bytes c.in-Some.last.now) in
     let split = ap texts c.in-Some.ensures.cases.0 ∙ texts-append c.in-Some.parents.now (c.in-Some.last.now ∷ []) in
-    let same : c.as_str.result.now ≡ string_bytes c.in-Some.last.now = c.as_str.ensures.value in
+    let same : c.as_str-token.result.now ≡ cow_str_bytes c.in-Some.last.now = c.as_str-token.ensures.value in
     let t = tree_of c.args.tree.now in
     let u = tree_of c.descend.new.tree in
     let low = IfOk-default c.descend.result c.descend.ensures.ok c.in_default-descend.not-Err in
     let n : length c.args.tokens.now ≡ length parents + 1 =
-    omega (arith, c.in-Some.ensures.cases.1, length-map c.in-Some.parents.now (λ (x : String Global). chars (string_bytes x))) in
+    omega (arith, c.in-Some.ensures.cases.1, length-map c.in-Some.parents.now (λ (x : CowStr Global). chars (cow_str_bytes x))) in
     IfErr-weaker c.put-outcome.result _ _
     (λ e missed. elim missed [
       | inl memory ↦ inl memory
@@ -59,3 +61,15 @@ returns-clause-unchanged c =
     (λ same. Rebuilt-same parents t _ u (tree_of c.descend.new.above) (tree_of c.ascend.new.tree) low
     (subst (λ x. Rebuilt parents t x (tree_of c.ascend.new.tree)) same (c.ascend.ensures t _ u low).0))
     c.put-outcome.ensures.unchanged
+
+pub place_in-place-requires : goal.place_in-place-requires
+place_in-place-requires c =
+    let parents = texts c.in-Some.parents.now in
+    let last = chars (cow_str_bytes c.in-Some.last.now) in
+    let split = ap texts c.in-Some.ensures.cases.0 ∙ texts-append c.in-Some.parents.now (c.in-Some.last.now ∷ []) in
+    let t = tree_of c.args.tree.now in
+    let u = tree_of c.descend.new.tree in
+    let low = IfOk-default c.descend.result c.descend.ensures.ok c.in_default-descend.not-Err in
+    subst (Knows c.args.known)
+    (ap (last_key t) split ∙ last_key-parent parents last 1 t u (at_from-Lowered parents 1 t _ u (tree_of c.descend.new.above) low)
+    ∙ ap (λ b. key_in u (chars b)) (sym c.as_str-token.ensures.value)) c.requires

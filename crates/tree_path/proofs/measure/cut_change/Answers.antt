@@ -1,9 +1,9 @@
-use Rattle.std.proofs.Common.{◌≡◌, sym, ap, subst, ◌∙◌, Ok, Err, arith}
+use Rattle.std.proofs.Common.{ap, ◌∙◌, arith}
 use Rattle.std.proofs.lemmas.Result.{err_from_is_err_and}
 use Rattle.std.specs.Str.{chars}
 use Rattle.yaml_tree.specs.Seen.{tree_of}
 use Rattle.yaml_tree.proofs.SeenLemmas.{tree_of-Text, tree_of-Seq, tree_of-Map}
-use Rattle.tree_path.specs.Paths.{child, cut}
+use Rattle.tree_path.specs.Paths.{cut}
 use Rattle.tree_path.proofs.Steps.{cut-Text}
 use Rattle.tree_path.proofs.ChangeLaws.{cut-missed}
 use Rattle.tree_path.proofs.Located.{child-within}

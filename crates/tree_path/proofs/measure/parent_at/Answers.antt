@@ -1,4 +1,5 @@
-use Rattle.std.proofs.Common.{◌+◌, Err, take, string_bytes, sym, ap, subst, ◌∙◌}
+use Rattle.std.proofs.Common.{◌+◌, Err, take, sym, ap, subst, ◌∙◌}
+use Rattle.std.specs.Cow.{cow_str_bytes}
 use Rattle.std.specs.Str.{chars}
 use Rattle.yaml_tree.specs.Seen.{tree_of}
 use Rattle.tree_path.specs.Changes.{Located, slot_in}
@@ -25,5 +26,5 @@ loop-passed-preserved c =
     let child_there = tree_of c.in-Ok.child.now in
     subst (λ s. Located (texts (take (l.passed + 1) c.args.tokens.now)) Value t s child_there) (sym c.in_collection-slot.ensures)
     (subst (λ ts. Located ts Value t (slot_in (tree_of l.node.now)) child_there) (sym (texts-turn c.args.tokens.now l.passed c.index-tokens-passed.result c.loop-passed-test.true c.index-tokens-passed.is))
-    (Located-push (texts (take l.passed c.args.tokens.now)) (chars (string_bytes c.index-tokens-passed.result)) Value l.slot t (tree_of l.node.now) child_there l.invariant
+    (Located-push (texts (take l.passed c.args.tokens.now)) (chars (cow_str_bytes c.index-tokens-passed.result)) Value l.slot t (tree_of l.node.now) child_there l.invariant
     (ap (λ bytes. child (tree_of l.node.now) (chars bytes)) (sym c.as_str.ensures.value) ∙ c.in-Ok.ensures.ok)))

@@ -1,4 +1,4 @@
-use Rattle.std.proofs.Common.{◌≡◌, sym, ap, subst, ◌∙◌, Ok, Err, arith}
+use Rattle.std.proofs.Common.{◌≡◌, sym, ap, subst, ◌∙◌, Err, arith}
 use Rattle.std.specs.Str.{chars}
 use Rattle.yaml_tree.specs.Seen.{tree_of}
 use Rattle.yaml_tree.proofs.SeenLemmas.{tree_of-Text, tree_of-Seq, tree_of-Map}
@@ -7,7 +7,7 @@ use Rattle.tree_path.specs.Paths.{child, put}
 use Rattle.tree_path.proofs.Steps.{bytes_eq-dash, not_last}
 use Rattle.tree_path.proofs.ChangeLaws.{put_sequence-missed, put_text-missed}
 use Rattle.tree_path.proofs.Located.{child-within}
-use Rattle.tree_path.proofs.Measured.{IsSmallSize, replaced, pushed, added, vec_counted, dash_index}
+use Rattle.tree_path.proofs.Measured.{replaced, pushed, added, vec_counted, dash_index}
 use Rattle.tree_path.proofs.measure.put_change.Goals as goal
 
 pub size_of-requires-clause-deep : goal.size_of-requires-clause-deep

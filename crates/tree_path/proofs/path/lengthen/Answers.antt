@@ -1,12 +1,22 @@
-use Rattle.std.proofs.Common.{◌≡◌, ◌+◌, ◌-◌, length, string_bytes, rules}
-use Rattle.std.proofs.lemmas.Result.{on_ok_weaker}
-use Rattle.tree_path.proofs.Pointers.{pointer_text-lengthened, pushed-OnOk}
+use Rattle.std.proofs.Common.{◌≡◌, [], ◌∷◌, ◌++◌, option_to_list, string_bytes, ap, subst, sym, ◌∙◌}
+use Rattle.std.specs.Cow.{cow_str_bytes}
+use Rattle.std.specs.Str.{IsUtf8}
+use Rattle.std.specs.declared.borrow.CowStr.TheVariants.{Owned}
+use Rattle.std.proofs.lemmas.Str.{IsUtf8-string_bytes}
+use lib.Utf8.{encode}
+use Rattle.tree_path.specs.Pointers.{pointer_text, char_text}
+use Rattle.tree_path.specs.Steps.{texts}
+use Rattle.tree_path.proofs.Pointers.{pointer_text-lengthened}
 use Rattle.tree_path.proofs.path.lengthen.Goals as goal
 
 pub returns-clause-ok : goal.returns-clause-ok
 returns-clause-ok c =
-    let xs = c.args.tokens.now.items in
-    let count : c.len-last.result - 1 + 1 ≡ length xs = search rules in
-    on_ok_weaker c.push.result
-    (λ pushed. pointer_text-lengthened xs (c.len-last.result - 1) c.args.c c.index_mut.result.now c.push.new.self count c.index_mut.ensures.value c.ranges.c.0 pushed)
-    (pushed-OnOk c.push.result (string_bytes c.push.new.self) (string_bytes c.index_mut.result.now) c.args.c c.push.ensures.bytes)
+    let before = c.pop.new.self.items in
+    let last = c.unwrap.result in
+    let longer = Owned c.push.new.self in
+    let owned : string_bytes c.in_ok-last.last ≡ cow_str_bytes last = c.in_ok-last.ensures.ok in
+    let utf8 : IsUtf8 (cow_str_bytes last) = subst IsUtf8 owned (IsUtf8-string_bytes c.in_ok-last.last) in
+    let split : c.args.tokens.now.items ≡ before ++ last ∷ [] = c.pop.ensures.items ∙ ap (λ o. before ++ option_to_list o) c.unwrap.ensures in
+    ap (λ xs. pointer_text (texts xs)) c.in_ok-push-2.ensures.items
+    ∙ pointer_text-lengthened before last longer c.args.c utf8 c.ranges.c.0 (c.in_ok-push.ensures.bytes ∙ ap (λ bs. bs ++ encode c.args.c) owned)
+    ∙ ap (λ xs. pointer_text (texts xs) ++ char_text c.args.c) (sym split)

@@ -1,7 +1,7 @@
 use Rattle.std.proofs.Common.{◌≡◌, sym, ◌∙◌, arith, ℕ, ◌<◌, length}
 use Rattle.yaml_chars.specs.Places.{rest}
 use Rattle.yaml_grammar.specs.BlockScalars.{spaces_before}
-use Rattle.yaml_recognizers.specs.Ends.{ended}
+use Rattle.yaml_recognizers.specs.Ends.{block_node_stops}
 use Rattle.std.specs.Prelude.{not, false}
 use Rattle.yaml_block.proofs.UnwindSteps.{not_as_deep, no_pair_at_line_end, no_pair_at_end, pair_by_marker, filled_there}
 use Rattle.std.proofs.Common.{ap}
@@ -10,7 +10,7 @@ use Rattle.yaml_block.proofs.unwind.goes_on_with_pair.Goals as goal
 pub returns-then-line-indent : goal.returns-then-line-indent
 returns-then-line-indent c =
     not_as_deep c.args.indent (rest c.args.text.now c.args.after.line.start)
-    (not (ended c.args.indent false (rest c.args.text.now c.args.after.line.start)))
+    (not (block_node_stops c.args.indent false (rest c.args.text.now c.args.after.line.start)))
     (λ e. c.if-line-indent.true (sym ((c.requires.line).spaces).counts ∙ e))
 
 pub returns-then-not-after : goal.returns-then-not-after

@@ -5,7 +5,7 @@ use Rattle.yaml_events.specs.Meant.{context_of}
 use Rattle.yaml_events.specs.EventPlaces.{line_starts}
 use Rattle.yaml_grammar.specs.FlowScalars.{inside}
 use Rattle.yaml_recognizers.specs.Recognizers.{flow_node_at}
-use Rattle.yaml_flow.specs.Frames.{Onward, Started, Waits, left, place_of}
+use Rattle.yaml_flow.specs.Frames.{Onward, Started, Waits, steps_left, place_of}
 use Rattle.yaml_flow.proofs.collection.collection.Given as goal
 
 abbrev pub invariant-nodes : goal.invariant-nodes
@@ -20,4 +20,4 @@ invariant-nodes l = record {
 }
 
 abbrev pub decreases-nodes : goal.decreases-nodes
-decreases-nodes l = left l.text l.next
+decreases-nodes l = steps_left l.text l.next

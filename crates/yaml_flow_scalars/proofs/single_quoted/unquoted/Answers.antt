@@ -7,7 +7,7 @@ use Rattle.yaml_grammar.specs.Texts.{first}
 use Rattle.yaml_recognizers.specs.QuotedScalars.{quote}
 use Rattle.yaml_events.specs.Meant.{context_of}
 use Rattle.yaml_scan.proofs.Outcomes.{refuses}
-use Rattle.yaml_flow_scalars.specs.SingleScalars.{NoFoldIn, content, unchanged}
+use Rattle.yaml_flow_scalars.specs.SingleScalars.{NoFoldIn, content, is_unchanged}
 use Rattle.yaml_flow_scalars.specs.Folds.{IsWhiteStart, IsFold}
 use Rattle.yaml_flow_scalars.proofs.SinglePlaces.{quote_at, begun, changed_before, fold_changed, goes_past_fold, goes_past_pair, quote_changed, reads_at_once, reads_none, reads_to_close, running}
 use Rattle.yaml_flow_scalars.proofs.Unbroken.{content_unbroken, run_closed_unbroken}
@@ -74,7 +74,7 @@ returns-then-stands_at-clause-borrowed c =
     let apart = c.if-place-start.false in
     let size = s.run.boundary.0 in
     let end : c.run_end-end.result + 1 - 1 ≡ c.run_end-end.result = omega arith in
-    λ all. absurd (changed_before c.args.text.now c.args.start c.runs.place c.run_end-end.result (i.changed (omega arith)) above size (subst (λ x. AllPass unchanged (slice_range c.args.text.now c.args.start x)) end all))
+    λ all. absurd (changed_before c.args.text.now c.args.start c.runs.place c.run_end-end.result (i.changed (omega arith)) above size (subst (λ x. AllPass is_unchanged (slice_range c.args.text.now c.args.start x)) end all))
 
 pub returns-in_default-clause-none : goal.returns-in_default-clause-none
 returns-in_default-clause-none c =

@@ -1,7 +1,7 @@
 use Rattle.std.proofs.Common.{arith, ap, sym, ◌∙◌, get_or}
 use Rattle.yaml_chars.specs.Classes.{white}
 use Rattle.yaml_chars.proofs.Runs.{blind-white, run_is}
-use Rattle.yaml_scan.proofs.ByteRuns.{taken_is}
+use Rattle.yaml_scan.proofs.ByteRuns.{take_while_is}
 use Rattle.yaml_scan.proofs.runs.white_end.Goals as goal
 
 pub returns-else-is_white-clause-run : goal.returns-else-is_white-clause-run
@@ -13,7 +13,7 @@ returns-else-is_white-clause-run c =
 pub returns-else-is_white-clause-taken : goal.returns-else-is_white-clause-taken
 returns-else-is_white-clause-taken c =
     let i = c.loop-end.invariant in
-    taken_is white c.args.text.now c.args.at c.loop-end.end blind-white c.utf8.text c.requires i.above i.below i.white
+    take_while_is white c.args.text.now c.args.at c.loop-end.end blind-white c.utf8.text c.requires i.above i.below i.white
     (λ _. ap (λ x. white (get_or x c.loop-end.end 0)) (sym c.as_bytes-bytes.ensures.value) ∙ sym c.is_white.ensures ∙ c.if-is_white.false)
 
 pub returns-after-loop-end-clause-run : goal.returns-after-loop-end-clause-run
@@ -24,4 +24,4 @@ returns-after-loop-end-clause-run c =
 pub returns-after-loop-end-clause-taken : goal.returns-after-loop-end-clause-taken
 returns-after-loop-end-clause-taken c =
     let i = c.loop-end.invariant in
-    taken_is white c.args.text.now c.args.at c.loop-end.end blind-white c.utf8.text c.requires i.above i.below i.white (λ l. absurd (omega arith))
+    take_while_is white c.args.text.now c.args.at c.loop-end.end blind-white c.utf8.text c.requires i.above i.below i.white (λ l. absurd (omega arith))

@@ -2,14 +2,14 @@
 use Rattle.std.proofs.Common.{◌≡◌, ◌-◌, true, length}
 use Rattle.std.specs.Str.{chars, IsCharBoundary}
 use Rattle.yaml_chars.specs.Places.{rest}
-use Rattle.yaml_style.specs.Comparing.{compared}
+use Rattle.yaml_style.specs.Comparing.{comparison_after}
 use Rattle.yaml_style.proofs.comparison.after_common.Given as goal
 
 abbrev pub invariant-loop-len : goal.invariant-loop-len
 invariant-loop-len l = record {
   here : IsCharBoundary l.text l.at;
   there : IsCharBoundary l.other l.at;
-  same : compared (chars l.text) true (chars l.other) ≡ compared (rest l.text l.at) true (rest l.other l.at);
+  same : comparison_after (chars l.text) true (chars l.other) ≡ comparison_after (rest l.text l.at) true (rest l.other l.at);
 }
 
 abbrev pub decreases-loop-len : goal.decreases-loop-len

@@ -1,6 +1,6 @@
 use Rattle.std.proofs.Common.{◌≡◌, refl, ◌∷◌, [], true, List, ℕ}
 use Rattle.yaml_chars.specs.Places.{rest}
-use Rattle.yaml_style.specs.Comparing.{compared}
+use Rattle.yaml_style.specs.Comparing.{comparison_after}
 use Rattle.std.proofs.lemmas.Bool.{false≢true}
 use Rattle.yaml_style.proofs.ComparingLemmas.{at_the_end, nothing_left}
 use Rattle.yaml_style.proofs.comparison.common_char.Goals as goal
@@ -13,6 +13,6 @@ pub returns-in_default-next_char-clause-none : goal.returns-in_default-next_char
 returns-in_default-next_char-clause-none c =
     let none = at_the_end c.args.other.now c.args.at (λ l. false≢true (c.in_default-next_char.ensures.found.1 l)) in rw none (nothing_more (rest c.args.text.now c.args.at))
   where
-    nothing_more : (xs : List ℕ) → (compared xs true []).0 ≡ xs
+    nothing_more : (xs : List ℕ) → (comparison_after xs true []).0 ≡ xs
     nothing_more [] = refl
     nothing_more (x ∷ xs) = refl

@@ -1,6 +1,6 @@
 use Rattle.std.proofs.Common.{ap, sym, ◌∙◌, true, false}
 use Rattle.std.specs.Str.{chars}
-use Rattle.yaml_style.specs.Comparing.{compared}
+use Rattle.yaml_style.specs.Comparing.{comparison_after}
 use Rattle.yaml_style.proofs.ComparingLemmas.{strips, no_prefix}
 use Rattle.yaml_style.proofs.comparison.compare.Goals as goal
 
@@ -12,5 +12,5 @@ returns-in-Some c =
 pub returns-in-None : goal.returns-in-None
 returns-in-None c =
     let other = no_prefix c.args.text.now c.args.written.now c.utf8.text c.utf8.written c.in-None.ensures.cases in
-    let s = compared (chars c.args.text.now) true (chars c.args.written.now) in
+    let s = comparison_after (chars c.args.text.now) true (chars c.args.written.now) in
     ap (λ left. (left, false)) c.after_common.ensures ∙ ap (λ b. (s.0, b)) (sym other)

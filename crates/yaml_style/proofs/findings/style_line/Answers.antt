@@ -9,7 +9,7 @@ use Rattle.yaml_tree.specs.Seen.{tree_of}
 use Rattle.yaml_tree.specs.declared.tree.Tree.{Tree}
 use Rattle.yaml_style.specs.Lines.{breaks}
 use Rattle.yaml_style.specs.Findings.{common}
-use Rattle.yaml_style.specs.Comparing.{compared}
+use Rattle.yaml_style.specs.Comparing.{comparison_after}
 use Rattle.yaml_style.proofs.ComparingLemmas.{shares, in_style, not_in_style}
 use Rattle.yaml_style.proofs.SplitLemmas.{no_chars}
 use Rattle.yaml_style.proofs.findings.style_line.Goals.{else-written-via-then-written+else-is_empty_text, else-written-via-else-written}
@@ -17,10 +17,10 @@ use Rattle.yaml_style.proofs.findings.style_line.Goals as goal
 
 -- the comparison, of the text and of the tree that were handed in
 of_both : (s : List ℕ × Bool) (text rest : List ℕ) (agrees : Bool) (t u : Tree) → rest ≡ text → agrees ≡ true → t ≡ u
-    → s ≡ compared (chars rest) agrees (style_text (tree_of t)) → s ≡ compared (chars text) true (style_text (tree_of u))
+    → s ≡ comparison_after (chars rest) agrees (style_text (tree_of t)) → s ≡ comparison_after (chars text) true (style_text (tree_of u))
 of_both s text rest agrees t u same held tree e =
-    e ∙ ap (λ r. compared (chars r) agrees (style_text (tree_of t))) same ∙ ap (λ b. compared (chars text) b (style_text (tree_of t))) held
-    ∙ ap (λ v. compared (chars text) true (style_text (tree_of v))) tree
+    e ∙ ap (λ r. comparison_after (chars r) agrees (style_text (tree_of t))) same ∙ ap (λ b. comparison_after (chars text) b (style_text (tree_of t))) held
+    ∙ ap (λ v. comparison_after (chars text) true (style_text (tree_of v))) tree
 
 pub returns-then-is_empty_text : goal.returns-then-is_empty_text
 returns-then-is_empty_text c =

@@ -7,7 +7,7 @@ use Rattle.yaml_events.specs.Meant.{events_of}
 use Rattle.yaml_events.specs.declared.event.Event.{Event}
 use Rattle.yaml_grammar.specs.Trees.{shapes}
 use Rattle.yaml_tree.specs.Building.{frames_of}
-use Rattle.yaml_tree.specs.Frames.{finished}
+use Rattle.yaml_tree.specs.Frames.{finished_tree}
 use Rattle.yaml_tree.specs.Seen.{tree_of}
 use Rattle.yaml_tree.proofs.CheckLemmas.{emptied_refuses}
 use Rattle.yaml_tree.proofs.EmptiedLemmas.{finished_emptied}
@@ -61,5 +61,5 @@ returns c =
     let whole : l.yielded ≡ all = sym (map-id l.yielded) ∙ end.0 ∙ c.into_vec-event-items.ensures in
     let done : run (Some []) (shapes (events_of all)) ≡ Some fs = subst (λ es. run (Some []) (shapes (events_of es)) ≡ Some fs) whole l.invariant.1 in
     let found = finished_emptied fs (tree_of c.in_ok-finish.field-0) l.check.keys_differ
-    (ap finished (sym l.invariant.2.frames) ∙ c.in_ok-finish.ensures) l.invariant.2.differ in
+    (ap finished_tree (sym l.invariant.2.frames) ∙ c.in_ok-finish.ensures) l.invariant.2.differ in
     (found.tree, run_tree (events_of all) fs found.tree done found.is, found.distinct)

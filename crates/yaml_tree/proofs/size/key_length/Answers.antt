@@ -1,6 +1,6 @@
 use Rattle.std.proofs.Common.{arith}
 use Rattle.std.specs.Str.{chars}
-use Rattle.yaml_tree.specs.Sizes.{key_indented}
+use Rattle.yaml_tree.specs.Sizes.{indented_key_lines}
 use Rattle.yaml_tree.proofs.ByteLemmas.{byte_len-chars}
 use Rattle.yaml_tree.proofs.SizeLaws.{key_law}
 use Rattle.yaml_tree.proofs.SizeBounds.{key_bytes_bound, key_lines_bound, times_at_most}
@@ -16,5 +16,5 @@ returns c =
       key_bytes_bound key,
       key_lines_bound key,
       byte_len-chars c.args.key.now c.utf8.key,
-      times_at_most c.args.indent (key_indented key) c.requires,
+      times_at_most c.args.indent (indented_key_lines key) c.requires,
     )

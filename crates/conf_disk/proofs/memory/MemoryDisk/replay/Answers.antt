@@ -1,10 +1,16 @@
-use Rattle.std.proofs.Common.{◌≡◌, ◌+◌, ◌<◌, length, get_or, take, map, ◌++◌, [], ◌∷◌, List, sym, ◌∙◌, ap, arith}
+use Rattle.std.proofs.Common.{◌≡◌, ◌+◌, ◌<◌, length, get_or, take, map, ◌++◌, [], ◌∷◌, List, sym, ◌∙◌, ap, subst, arith}
 use Rattle.std.proofs.lemmas.List.{take_more, map-append}
 use Rattle.conf_disk.specs.Folder.{after}
+use Rattle.conf_disk.specs.Image.{IsWhole}
+use Rattle.conf_disk.specs.LogLaws.{folder_after-whole}
 use Rattle.conf_disk.specs.Replay.{step_of}
 use Rattle.conf_disk.specs.declared.folder.Change.{Change}
 use Rattle.conf_disk.proofs.Log.{folder_after-pushed}
 use Rattle.conf_disk.proofs.memory.MemoryDisk.replay.Goals as goal
+
+-- the folder after some of the changes is whole
+pub apply-requires : goal.apply-requires
+apply-requires c = subst IsWhole (sym c.loop-change.invariant) (folder_after-whole (map step_of (take c.loop-change.change-index c.args.self.now.changes.items)))
 
 pub loop-change-preserved : goal.loop-change-preserved
 loop-change-preserved c =

@@ -1,10 +1,11 @@
-use Rattle.std.proofs.Common.{◌≡◌, ◌≤◌, Ok, ap, subst, ◌∙◌, arith}
+use Rattle.std.proofs.Common.{◌≡◌, ◌≤◌, Ok, sym, ap, subst, ◌∙◌, arith}
 use Rattle.yaml_grammar.specs.Style.{style_text}
 use Rattle.yaml_grammar.specs.Texts.{byte_len}
 use Rattle.yaml_grammar.specs.Trees.{depth, distinct}
 use Rattle.yaml_tree.specs.Seen.{tree_of}
 use Rattle.yaml_tree.proofs.TextTreeLemmas.{tree_of-IsTextTree}
-use Rattle.conf_record.specs.Edits.{edited}
+use Rattle.tree_path.specs.Paths.{last_key}
+use Rattle.conf_record.specs.Edits.{tree_after_edit}
 use Rattle.conf_record.proofs.EditLemmas.{same_edit}
 use Rattle.conf_record.proofs.edit.Edit.perform.Goals as goal
 
@@ -12,8 +13,8 @@ pub from_parts-requires-clause-kept : goal.from_parts-requires-clause-kept
 from_parts-requires-clause-kept c =
     let leaves = c.requires.leaves in
     let before = ap (λ t. tree_of t) (c.into_tree-tree.ensures.same ∙ c.replace.ensures.value) in
-    let made = subst (λ t. edited c.args.self t c.args.path.now ≡ Ok (tree_of c.edit_tree.new.tree)) before c.in-Ok.ensures.ok in
-    let same = same_edit (edited c.args.self (tree_of c.args.config.now) c.args.path.now) leaves.0 (tree_of c.edit_tree.new.tree) leaves.1 made in
+    let made = subst (λ t. tree_after_edit c.args.self t c.args.path.now ≡ Ok (tree_of c.edit_tree.new.tree)) before c.in-Ok.ensures.ok in
+    let same = same_edit (tree_after_edit c.args.self (tree_of c.args.config.now) c.args.path.now) leaves.0 (tree_of c.edit_tree.new.tree) leaves.1 made in
     let deep : depth (tree_of c.edit_tree.new.tree) ≤ 64 = subst (λ t. depth t ≤ 64) same leaves.2 in
     let long : byte_len (style_text (tree_of c.edit_tree.new.tree)) ≤ 1048576 = subst (λ t. byte_len (style_text t) ≤ 1048576) same leaves.3 in
     record {
@@ -22,3 +23,8 @@ from_parts-requires-clause-kept c =
       deep = omega arith;
       long = omega arith;
     }
+
+pub edit_tree-requires-clause-place : goal.edit_tree-requires-clause-place
+edit_tree-requires-clause-place c =
+    let before = ap (λ t. tree_of t) (c.into_tree-tree.ensures.same ∙ c.replace.ensures.value) in
+    c.requires.place ∙ ap (λ t. last_key t c.args.path.now) (sym before)

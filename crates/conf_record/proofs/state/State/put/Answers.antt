@@ -4,7 +4,7 @@ use Rattle.yaml_tree.specs.Seen.{tree_of}
 use Rattle.conf_record.specs.States.{put_config}
 use Rattle.conf_record.specs.BaseTexts.{entries_length}
 use Rattle.conf_record.specs.Kept.{entries_of}
-use Rattle.conf_record.specs.Steps.{counted}
+use Rattle.conf_record.specs.Steps.{next_state}
 use Rattle.conf_record.proofs.EntryLemmas.{insert_entry-named}
 use Rattle.conf_record.proofs.NameLemmas.{good_name-ascii}
 use Rattle.conf_record.proofs.StateLemmas.{kept_put}
@@ -23,7 +23,7 @@ invariant_of-self-2 c =
     (omega (arith, ap (λ s. s.count) c.self.view_is, c.in_ok-check_room.ensures.counts))
     c.args.name c.args.config utf8 (good_name-ascii name utf8 c.requires.named)
     c.requires.named c.requires.within c.args.fits _
-    (subst (λ s. counted s c.args.fits (put_config s.configs (chars name) tree) ≡ Ok (record { configs = put_config s.configs (chars name) tree; count = s.count + 1 }))
+    (subst (λ s. next_state s c.args.fits (put_config s.configs (chars name) tree) ≡ Ok (record { configs = put_config s.configs (chars name) tree; count = s.count + 1 }))
     (sym c.self.view_is) room)
     c.insert.new.configs.entries c.length_with-entries.result c.in_ok-insert.ensures.ok
     (exact ∙ ap (λ s. entries_length (put_config s.configs (chars name) tree)) (sym c.self.view_is))

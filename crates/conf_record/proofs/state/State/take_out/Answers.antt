@@ -3,7 +3,7 @@ use Rattle.std.specs.Str.{chars}
 use Rattle.conf_record.specs.BaseTexts.{entries_length}
 use Rattle.conf_record.specs.States.{cut_config}
 use Rattle.conf_record.specs.Kept.{entries_of}
-use Rattle.conf_record.specs.Steps.{counted}
+use Rattle.conf_record.specs.Steps.{next_state}
 use Rattle.conf_record.proofs.EntryLemmas.{shift_remove_entry-named}
 use Rattle.conf_record.proofs.StateLemmas.{kept_cut}
 use Rattle.conf_record.proofs.state.State.take_out.Goals as goal
@@ -15,7 +15,7 @@ invariant_of-self c =
     kept_cut c.self.inside.configs.entries c.self.inside.count c.self.inside.entries c.self.invariant
     (omega (arith, ap (λ s. s.count) c.self.view_is, c.in_ok-check_room.ensures.counts))
     c.args.name.now c.utf8.name c.args.fits _
-    (subst (λ s. counted s c.args.fits (cut_config s.configs name) ≡ Ok (record { configs = cut_config s.configs name; count = s.count + 1 }))
+    (subst (λ s. next_state s c.args.fits (cut_config s.configs name) ≡ Ok (record { configs = cut_config s.configs name; count = s.count + 1 }))
     (sym c.self.view_is) room)
     c.shift_remove.new.self.entries c.length_without-entries.result c.shift_remove.ensures.entries
     (c.length_without-entries.ensures ∙ ap (λ s. entries_length (cut_config s.configs name)) (sym c.self.view_is))

@@ -3,7 +3,7 @@ use Rattle.conf_disk.specs.Image.{Image, synced_file}
 use Rattle.conf_disk.specs.Folder.{bytes_under}
 use Rattle.conf_disk.specs.Moments.{LeavesOnly}
 use Rattle.conf_disk.specs.declared.disk.Name.TheVariants.{Store}
-use Rattle.conf_journal.specs.Store.{store_limit, extended}
+use Rattle.conf_journal.specs.Store.{store_limit, file_with_bytes}
 use Rattle.conf_record.specs.Commands.{command_of}
 use Rattle.conf_record.specs.declared.fault.StoreFault.TheVariants.{Reopen, Device}
 use Rattle.conf_store.specs.Meaning.{FileMeans}
@@ -11,7 +11,7 @@ use Rattle.conf_store.specs.Durable.{IsDurable}
 use Rattle.conf_store.specs.View.{StoreView}
 use Rattle.conf_store.specs.Accepting.{IsAccepted}
 use Rattle.conf_store.specs.Calls.{outcome, next_record, Accepts}
-use Rattle.conf_store.proofs.RefusalLemmas.{told-refused}
+use Rattle.conf_store.proofs.RefusalLemmas.{refusal-returned}
 use Rattle.conf_store.proofs.StoreLemmas.{start-leaves, durable-means, append-leaves, append-durable}
 use Rattle.conf_store.proofs.store.Store.apply.Goals as goal
 
@@ -31,7 +31,7 @@ pub returns-in-Err-clause-refused : goal.returns-in-Err-clause-refused
 returns-in-Err-clause-refused g c =
     let inside = c.self.inside in
     let command = command_of c.args.command in
-    told-refused c.args.self.now (record { disk = inside.disk; state = c.accept.new.state; size = inside.size; reopen = inside.reopen }) command c.in-Err.fault c.in-Err.ensures.of_state
+    refusal-returned c.args.self.now (record { disk = inside.disk; state = c.accept.new.state; size = inside.size; reopen = inside.reopen }) command c.in-Err.fault c.in-Err.ensures.of_state
     (⊎_elim (λ memory. inl memory)
     (λ e. inr (subst (λ (s : StoreView g.row.D.Denot). outcome s.size s.state command ≡ Err c.in-Err.fault) c.self.view_is e))
     c.in-Err.ensures.refused)
@@ -118,9 +118,9 @@ returns-in-Ok-append_closed-clause-reads g c h on =
     let inside = c.self.inside in
     let command = command_of c.args.command in
     let now = bytes_under (d.folder c.append_closed.new.disk) Store in
-    subst (λ (s : StoreView g.row.D.Denot). now ≡ extended (bytes_under (d.folder s.disk) Store) (next_record s.state command)) c.self.view_is
+    subst (λ (s : StoreView g.row.D.Denot). now ≡ file_with_bytes (bytes_under (d.folder s.disk) Store) (next_record s.state command)) c.self.view_is
     (ap (λ (image : Image). image.store) (c.in-Ok-append_closed.ensures.reads h)
-    ∙ ap (extended (bytes_under (d.folder inside.disk) Store)) (c.as_bytes.ensures.value ∙ c.in-Ok.ensures.ok.0.is))
+    ∙ ap (file_with_bytes (bytes_under (d.folder inside.disk) Store)) (c.as_bytes.ensures.value ∙ c.in-Ok.ensures.ok.0.is))
 
 pub returns-clause-refused : goal.returns-clause-refused
 returns-clause-refused g c =

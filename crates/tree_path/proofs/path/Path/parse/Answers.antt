@@ -1,10 +1,14 @@
-use Rattle.std.proofs.Common.{◌≡◌, ◌-◌, ◌<◌, ◌∷◌, length, String, Global, string_bytes, inr, refl, sym, ap, ◌∙◌, arith, rules}
+use Rattle.std.proofs.Common.{◌≡◌, ◌-◌, ◌<◌, ◌∷◌, ◌++◌, length, Global, inr, refl, sym, ap, ◌∙◌, arith, rules}
+use Rattle.std.specs.Cow.{cow_str_bytes}
+use Rattle.std.specs.declared.borrow.CowStr.TheVariants.{Borrowed}
+use Rattle.std.specs.declared.borrow.CowStr.{CowStr}
+use lib.Utf8.{encode}
 use Rattle.std.specs.Str.{chars}
 use Rattle.std.specs.Str.Iter.{chars_rest}
 use Rattle.yaml_grammar.specs.Texts.{byte_len}
 use Rattle.tree_path.specs.Pointers.{pointer_text, path_of}
 use Rattle.tree_path.specs.Steps.{texts}
-use Rattle.tree_path.proofs.Pointers.{slash-read, itself-read, tilde-read, escape-read, escape-stray, tilde-place, end-read, prefix-read, path_of-stray, path_of-pointer_text, no_path}
+use Rattle.tree_path.proofs.Pointers.{token-read, itself-read, tilde-read, escape-read, escape-stray, tilde-place, end-read, prefix-read, path_of-stray, path_of-pointer_text, no_path}
 use Rattle.tree_path.specs.declared.fault.PathFault.TheVariants.{BadPath}
 use Rattle.std.proofs.lemmas.Bool.Decides.{nat_tests}
 use Rattle.std.proofs.lemmas.List.{length-map}
@@ -12,8 +16,11 @@ use Rattle.tree_path.proofs.path.Path.parse.Goals as goal
 
 pub loop-c-preserved-then-c-eq47 : goal.loop-c-preserved-then-c-eq47
 loop-c-preserved-then-c-eq47 c =
-    slash-read c.args.text.now (chars_rest c.loop-c.rest) (chars_rest c.next.new.self) c.loop-c.tokens.items c.push.new.self.items c.new.result c.in-Some.c
-    c.loop-c.invariant c.in-Some.ensures.steps.0 c.if-c-eq47.true c.in_ok-push.ensures.items c.new.ensures.bytes
+    let after = c.as_str-after.ensures in
+    token-read c.args.text.now (chars_rest c.loop-c.rest) c.as_str-after.result.now (chars_rest c.chars-rest-then-c-eq47.result) c.loop-c.tokens.items
+    c.push.new.self.items (Borrowed c.range.result) c.in-Some.c c.unescaped_end-end.result c.loop-c.invariant
+    (c.in-Some.ensures.steps.0 ∙ ap (λ bs. encode c.in-Some.c ++ bs) (sym after)) c.if-c-eq47.true c.unescaped_end-end.ensures c.in_ok-push.ensures.items
+    c.range.ensures.value (c.chars-rest-then-c-eq47.ensures.rest ∙ c.range_from.ensures.value)
 
 pub returns-then-is_empty-clause-refused : goal.returns-then-is_empty-clause-refused
 returns-then-is_empty-clause-refused c = λ _ tokens is.
@@ -56,7 +63,7 @@ returns-in-None-clause-met c =
     let m = tilde-place c.args.text.now (chars_rest c.loop-c.rest) new before c.in-Some.c c.utf8.text c.loop-c.invariant c.in-Some.ensures.steps.0 c.if-c-ne126.false in
     let some : 0 < length c.loop-c.tokens.items = search (rules, nat_tests) in
     inr (sym (path_of-stray (chars c.args.text.now) (126 ∷ chars new) (texts c.loop-c.tokens.items) (length c.args.text.now - length c.as_str.result.now - 1) n.0
-    (omega (arith, some, length-map c.loop-c.tokens.items (λ (x : String Global). chars (string_bytes x))))
+    (omega (arith, some, length-map c.loop-c.tokens.items (λ (x : CowStr Global). chars (cow_str_bytes x))))
     (escape-stray new (chars_rest c.next-in-Some.new.self) c.next-in-Some.result _ n.1 c.next-in-Some.ensures.steps.0 c.in-None.ensures)
     (omega (arith, m, ap length c.as_str.ensures))))
 
@@ -69,7 +76,7 @@ returns-in-None-clause-refused c = λ _ tokens is.
     let some : 0 < length c.loop-c.tokens.items = search (rules, nat_tests) in
     no_path (chars c.args.text.now) (BadPath (byte_len before)) tokens
     (path_of-stray (chars c.args.text.now) (126 ∷ chars new) (texts c.loop-c.tokens.items) (byte_len before) n.0
-    (omega (arith, some, length-map c.loop-c.tokens.items (λ (x : String Global). chars (string_bytes x))))
+    (omega (arith, some, length-map c.loop-c.tokens.items (λ (x : CowStr Global). chars (cow_str_bytes x))))
     (escape-stray new (chars_rest c.next-in-Some.new.self) c.next-in-Some.result _ n.1 c.next-in-Some.ensures.steps.0 c.in-None.ensures) refl) is
 
 pub returns-clause-met : goal.returns-clause-met

@@ -1,4 +1,4 @@
-use Rattle.std.proofs.Common.{◌≡◌, ◌++◌}
+use Rattle.std.proofs.Common.{◌≡◌, ◌++◌, length}
 use Rattle.std.specs.Str.{chars, IsUtf8}
 use Rattle.std.specs.Str.Iter.{chars_rest}
 use Rattle.tree_path.specs.Pointers.{pointer_text}
@@ -7,3 +7,6 @@ use Rattle.tree_path.proofs.path.Path.parse.Given as goal
 
 abbrev pub invariant-loop-c : goal.invariant-loop-c
 invariant-loop-c l = (chars l.text ≡ pointer_text (texts l.tokens.items) ++ chars (chars_rest l.rest)) × IsUtf8 (chars_rest l.rest)
+
+abbrev pub decreases-loop-c : goal.decreases-loop-c
+decreases-loop-c l = length (chars_rest l.rest)

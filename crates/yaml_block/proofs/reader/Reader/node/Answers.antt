@@ -6,7 +6,7 @@ use Rattle.yaml_recognizers.proofs.Meanings.StandingNodes.{block_missing}
 use Rattle.yaml_events.specs.EventPlaces.{line_starts}
 use Rattle.yaml_scan.proofs.Outcomes.{fault_passed}
 use Rattle.yaml_block.proofs.EachNode.{each_node}
-use Rattle.yaml_block.specs.States.{BeforeNode, BeforePair, BeforePart, Fails, GoesOn, IsPlaced, Onward, is_shallow, left, place_of}
+use Rattle.yaml_block.specs.States.{BeforeNode, BeforePair, BeforePart, Fails, GoesOn, IsPlaced, Onward, is_shallow, steps_left, place_of}
 use Rattle.yaml_block.specs.declared.frame.Next.{Next}
 use Rattle.yaml_block.specs.declared.frame.Next.TheVariants as next
 use Rattle.yaml_block.proofs.Stacks.{grown_grown}
@@ -147,8 +147,8 @@ returns-in-None-clause-grown c = grown_grown c.args.self.now.events c.parts.self
 
 pub parts-smaller-in_ok-next-in-After : goal.parts-smaller-in_ok-next-in-After
 parts-smaller-in_ok-next-in-After c =
-    subst (λ (k : ℕ). left c.args.text.now c.in_ok-next-in-After.next < k)
-    (sym (ap (left c.args.text.now) c.in-After.is)) (c.in_ok-next-in-After.ensures.onward).less
+    subst (λ (k : ℕ). steps_left c.args.text.now c.in_ok-next-in-After.next < k)
+    (sym (ap (steps_left c.args.text.now) c.in-After.is)) (c.in_ok-next-in-After.ensures.onward).less
 
 pub parts-preserved-in_ok-next-in-After : goal.parts-preserved-in_ok-next-in-After
 parts-preserved-in_ok-next-in-After c =
@@ -171,8 +171,8 @@ parts-preserved-in_ok-next-in-After c =
 
 pub parts-smaller-in_ok-next-in-Pair : goal.parts-smaller-in_ok-next-in-Pair
 parts-smaller-in_ok-next-in-Pair c =
-    subst (λ (k : ℕ). left c.args.text.now c.in_ok-next-in-Pair.next < k)
-    (sym (ap (left c.args.text.now) c.in-Pair.is)) (c.in_ok-next-in-Pair.ensures.onward).less
+    subst (λ (k : ℕ). steps_left c.args.text.now c.in_ok-next-in-Pair.next < k)
+    (sym (ap (steps_left c.args.text.now) c.in-Pair.is)) (c.in_ok-next-in-Pair.ensures.onward).less
 
 pub parts-preserved-in_ok-next-in-Pair : goal.parts-preserved-in_ok-next-in-Pair
 parts-preserved-in_ok-next-in-Pair c =
@@ -200,7 +200,7 @@ parts-smaller c =
     let on : Onward text start (3 * (length text - start) + 1) c.in-Some.next =
     subst (λ (n : Option Next). MatchOption n (Unit {0}) (Onward text start (3 * (length text - start) + 1)))
     c.in-Some.is c.in_ok-next-in-Line.ensures.onward in
-    subst (λ (k : ℕ). left text c.in-Some.next < k) (sym (ap (left text) c.in-Line.is)) on.less
+    subst (λ (k : ℕ). steps_left text c.in-Some.next < k) (sym (ap (steps_left text) c.in-Line.is)) on.less
 
 pub parts-preserved : goal.parts-preserved
 parts-preserved c =

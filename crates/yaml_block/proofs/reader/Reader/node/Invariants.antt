@@ -1,5 +1,5 @@
 use Rattle.std.proofs.Common.{◌≤◌, ◌<◌, ◌^◌, length}
-use Rattle.yaml_block.specs.States.{GoesOn, Grown, IsPlaced, is_shallow, left, place_of}
+use Rattle.yaml_block.specs.States.{GoesOn, Grown, IsPlaced, is_shallow, steps_left, place_of}
 use Rattle.yaml_block.proofs.NodeLoop.{all}
 use Rattle.yaml_block.proofs.reader.Reader.node.Given as goal
 
@@ -14,4 +14,4 @@ invariant-parts l = record {
 }
 
 abbrev pub decreases-parts : goal.decreases-parts
-decreases-parts l = left l.text l.next
+decreases-parts l = steps_left l.text l.next

@@ -12,7 +12,7 @@ use Rattle.yaml_block.specs.declared.frame.Next.{Next}
 use Rattle.yaml_block.specs.declared.frame.Next.TheVariants as next
 use Rattle.yaml_block.specs.declared.frame.Sign.TheVariants.{Dash, Asked}
 use Rattle.yaml_block.proofs.TextPlaces.{IsPastSign, past_sign}
-use Rattle.yaml_recognizers.specs.Ends.{ended}
+use Rattle.yaml_recognizers.specs.Ends.{block_node_stops}
 use Rattle.yaml_block.specs.Frames.{is_shallow as is_shallow_after}
 use Rattle.yaml_block.proofs.SignsAndLines.{leads_so, fails_so, left_out_key, left_out_value, node_there}
 use Rattle.yaml_block.proofs.reader.Reader.on_later_line.Goals as goal
@@ -21,8 +21,8 @@ pub returns-then-waits_for_key-clause-none : goal.returns-then-waits_for_key-cla
 returns-then-waits_for_key-clause-none c =
     let text = c.args.text.now in
     let line = c.args.line in
-    let e : ended (suc c.args.indent) (is_shallow_after c.args.sign) (rest text line.start) ≡ true =
-    ap (λ b. ended (suc c.args.indent) b (rest text line.start)) (sym c.context-context.ensures)
+    let e : block_node_stops (suc c.args.indent) (is_shallow_after c.args.sign) (rest text line.start) ≡ true =
+    ap (λ b. block_node_stops (suc c.args.indent) b (rest text line.start)) (sym c.context-context.ensures)
     ∙ (sym c.is_omitted.ensures ∙ c.if-is_omitted.true) in
     refuses c.refusal.result _
     (left_out_key text c.args.sign c.args.indent c.args.at c.utf8.text c.requires.placed c.requires.closes line
@@ -32,8 +32,8 @@ pub returns-then-is_omitted-clause-leads : goal.returns-then-is_omitted-clause-l
 returns-then-is_omitted-clause-leads c =
     let text = c.args.text.now in
     let line = c.args.line in
-    let e : ended (suc c.args.indent) (is_shallow_after c.args.sign) (rest text line.start) ≡ true =
-    ap (λ b. ended (suc c.args.indent) b (rest text line.start)) (sym c.context-context.ensures)
+    let e : block_node_stops (suc c.args.indent) (is_shallow_after c.args.sign) (rest text line.start) ≡ true =
+    ap (λ b. block_node_stops (suc c.args.indent) b (rest text line.start)) (sym c.context-context.ensures)
     ∙ (sym c.is_omitted.ensures ∙ c.if-is_omitted.true) in
     left_out_value text c.args.sign c.args.indent c.args.at c.utf8.text c.requires.placed c.requires.closes line
     c.requires.line e c.args.self.now (record c.put.new.self { end = c.args.at }) c.omitted.result
@@ -44,8 +44,8 @@ pub returns-clause-leads : goal.returns-clause-leads
 returns-clause-leads c =
     let text = c.args.text.now in
     let line = c.args.line in
-    let e : ended (suc c.args.indent) (is_shallow_after c.args.sign) (rest text line.start) ≡ false =
-    ap (λ b. ended (suc c.args.indent) b (rest text line.start)) (sym c.context-context.ensures)
+    let e : block_node_stops (suc c.args.indent) (is_shallow_after c.args.sign) (rest text line.start) ≡ false =
+    ap (λ b. block_node_stops (suc c.args.indent) b (rest text line.start)) (sym c.context-context.ensures)
     ∙ (sym c.is_omitted.ensures ∙ c.if-is_omitted.false) in
     let node : Indentation = record {
       least = c.args.indent + 1;
@@ -64,8 +64,8 @@ pub returns-clause-none : goal.returns-clause-none
 returns-clause-none c =
     let text = c.args.text.now in
     let line = c.args.line in
-    let e : ended (suc c.args.indent) (is_shallow_after c.args.sign) (rest text line.start) ≡ false =
-    ap (λ b. ended (suc c.args.indent) b (rest text line.start)) (sym c.context-context.ensures)
+    let e : block_node_stops (suc c.args.indent) (is_shallow_after c.args.sign) (rest text line.start) ≡ false =
+    ap (λ b. block_node_stops (suc c.args.indent) b (rest text line.start)) (sym c.context-context.ensures)
     ∙ (sym c.is_omitted.ensures ∙ c.if-is_omitted.false) in
     let node : Indentation = record {
       least = c.args.indent + 1;

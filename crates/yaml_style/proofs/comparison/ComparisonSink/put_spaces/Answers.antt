@@ -2,8 +2,8 @@ use Rattle.std.proofs.Common.{ap, ◌∙◌, ◌∷◌, []}
 use Rattle.std.specs.Str.{chars}
 use Rattle.std.proofs.lemmas.List.{replicate-append-replicate}
 use Rattle.yaml_grammar.specs.Texts.{spaces}
-use Rattle.yaml_style.specs.Comparing.{compared}
-use Rattle.yaml_style.specs.ComparingLaws.{compared-both}
+use Rattle.yaml_style.specs.Comparing.{comparison_after}
+use Rattle.yaml_style.specs.ComparingLaws.{comparison_after-both}
 use Rattle.yaml_style.proofs.comparison.ComparisonSink.put_spaces.Goals as goal
 
 pub loop-preserved : goal.loop-preserved
@@ -11,5 +11,5 @@ loop-preserved c =
     let a = c.args.self.now in
     let b = c.loop.self in
     let d = c.put_char.new.self in
-    compared-both (chars a.rest.now) a.agrees (chars b.rest.now) b.agrees (chars d.rest.now, d.agrees) (spaces c.loop.counter) (32 ∷ []) c.loop.invariant c.in_ok-put_char.ensures
-    ∙ ap (compared (chars a.rest.now) a.agrees) (replicate-append-replicate c.loop.counter 1 32)
+    comparison_after-both (chars a.rest.now) a.agrees (chars b.rest.now) b.agrees (chars d.rest.now, d.agrees) (spaces c.loop.counter) (32 ∷ []) c.loop.invariant c.in_ok-put_char.ensures
+    ∙ ap (comparison_after (chars a.rest.now) a.agrees) (replicate-append-replicate c.loop.counter 1 32)

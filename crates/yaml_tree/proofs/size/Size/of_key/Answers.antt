@@ -1,6 +1,6 @@
 use Rattle.std.proofs.Common.{◌≡◌, ◌-◌, arith}
 use Rattle.std.specs.Str.{chars}
-use Rattle.yaml_tree.specs.Sizes.{key_indented}
+use Rattle.yaml_tree.specs.Sizes.{indented_key_lines}
 use Rattle.yaml_tree.proofs.SizeLaws.{key_law, sized}
 use Rattle.yaml_tree.proofs.ByteLemmas.{byte_len-chars}
 use Rattle.yaml_tree.proofs.SizeBounds.{key_bytes_bound, key_lines_bound}
@@ -12,7 +12,7 @@ overflow_sub-result c = omega (arith, key_law 1 (chars c.args.key.now))
 pub returns-clause-size : goal.returns-clause-size
 returns-clause-size c =
     let more = key_law 1 (chars c.args.key.now) in
-    let lines : c.key_length.result - c.key_length-bytes.result ≡ key_indented (chars c.args.key.now) = omega (arith, more) in
+    let lines : c.key_length.result - c.key_length-bytes.result ≡ indented_key_lines (chars c.args.key.now) = omega (arith, more) in
     sized c.key_length-bytes.ensures lines
 
 pub returns-clause-small : goal.returns-clause-small

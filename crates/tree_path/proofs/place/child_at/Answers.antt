@@ -1,11 +1,19 @@
-use Rattle.std.proofs.Common.{Ok, Err, ap, ◌∙◌, sym, rules}
+use Rattle.std.proofs.Common.{◌≡◌, ℕ, List, Option, Vec, Global, refl, Ok, Err, ap, ◌∙◌, sym, rules}
 use Rattle.std.proofs.lemmas.Result.{err_from_is_err_and}
 use Rattle.std.specs.Str.{chars}
-use Rattle.yaml_tree.specs.Seen.{tree_of}
+use Rattle.yaml_tree.specs.Seen.{Pair, tree_of}
+use Rattle.yaml_tree.specs.declared.tree.Tree.{Tree}
+use Rattle.yaml_tree.specs.declared.tree.Tree.TheVariants.{Map}
 use Rattle.yaml_tree.proofs.SeenLemmas.{tree_of-Text, tree_of-Seq, tree_of-Map}
-use Rattle.tree_path.specs.Paths.{child}
+use Rattle.tree_path.specs.Paths.{child, key_in}
+use Rattle.tree_path.specs.Steps.{key_place}
+use Rattle.tree_path.proofs.Places.{place_of-pairs}
 use Rattle.tree_path.proofs.Steps.{child-Text, child-Seq, child-Seq-missed, child-Map, child-Map-missed, index-counted, place-within, place-found, place-missed}
-use Rattle.tree_path.proofs.place.child.Goals as goal
+use Rattle.tree_path.proofs.place.child_at.Goals as goal
+
+-- the known place, among the pairs of a mapping
+known : (place : Option ℕ) (token : List ℕ) (tree : Tree) (v : Vec Pair Global) → tree ≡ Map v → place ≡ key_in (tree_of tree) token → place ≡ key_place token v.items
+known place token tree v is there = there ∙ ap (λ t. key_in t token) (ap tree_of is ∙ tree_of-Map v) ∙ place_of-pairs v.items token
 
 pub returns-in_err-index-in-Seq-clause-missed : goal.returns-in_err-index-in-Seq-clause-missed
 returns-in_err-index-in-Seq-clause-missed c =
@@ -21,8 +29,8 @@ returns-in_err-place-in-Map-clause-missed c =
     let p = err_from_is_err_and c.from_residual-in_err-place-in-Map.result c.from_residual-in_err-place-in-Map.ensures.1 in
     let v = c.in-Map.pairs in
     let token = chars c.args.token.now in
-    let m = place-missed c.key_place.result token c.deref.result.now v.items c.in_err-place-in-Map.field-0.0 c.in_err-place-in-Map.ensures.value
-    c.key_place.ensures c.deref.ensures.value in
+    let m = place-missed c.args.place token v.items v.items c.in_err-place-in-Map.field-0.0 c.in_err-place-in-Map.ensures.value
+    (known c.args.place token c.args.tree.now v c.in-Map.is c.requires) refl in
     rw (p.1, p.2)
     (ap (λ t. child t token) (ap tree_of c.in-Map.is ∙ tree_of-Map v) ∙ child-Map-missed v.items token m.0 ∙ ap Err m.1)
 
@@ -30,8 +38,8 @@ pub index-requires-in-Map : goal.index-requires-in-Map
 index-requires-in-Map c =
     let v = c.in-Map.pairs in
     let token = chars c.args.token.now in
-    let m = place-found c.key_place.result token c.deref.result.now v.items c.in_ok-place-in-Map.place c.in_ok-place-in-Map.ensures.value
-    c.key_place.ensures c.deref.ensures.value in
+    let m = place-found c.args.place token v.items v.items c.in_ok-place-in-Map.place c.in_ok-place-in-Map.ensures.value
+    (known c.args.place token c.args.tree.now v c.in-Map.is c.requires) refl in
     let h = place-within v.items token c.in_ok-place-in-Map.place m in
     search rules
 
@@ -47,8 +55,8 @@ pub returns-in_ok-place-in-Map-clause-ok : goal.returns-in_ok-place-in-Map-claus
 returns-in_ok-place-in-Map-clause-ok c =
     let v = c.in-Map.pairs in
     let token = chars c.args.token.now in
-    let m = place-found c.key_place.result token c.deref.result.now v.items c.in_ok-place-in-Map.place c.in_ok-place-in-Map.ensures.value
-    c.key_place.ensures c.deref.ensures.value in
+    let m = place-found c.args.place token v.items v.items c.in_ok-place-in-Map.place c.in_ok-place-in-Map.ensures.value
+    (known c.args.place token c.args.tree.now v c.in-Map.is c.requires) refl in
     ap (λ t. child t token) (ap tree_of c.in-Map.is ∙ tree_of-Map v)
     ∙ child-Map v.items token c.in_ok-place-in-Map.place c.index-in-Map.result.now m
     ∙ ap (λ x. Ok (tree_of x.1)) (sym c.index-in-Map.ensures)
