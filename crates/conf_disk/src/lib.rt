@@ -17,6 +17,3 @@ pub use laws::{
     what_reads_may_be_left,
 };
 pub use memory::{Cuts, MemoryDisk};
-
-#[cfg(test)]
-mod tests;

@@ -11,6 +11,3 @@ mod lock;
 
 pub use disk::FolderDisk;
 pub use fault::FolderFault;
-
-#[cfg(test)]
-mod tests;

@@ -17,8 +17,3 @@ mod words;
 pub use fault::SessionFault;
 pub use laws::answers_are_short;
 pub use session::{Tally, run};
-
-#[cfg(test)]
-mod long_tests;
-#[cfg(test)]
-mod tests;

@@ -15,6 +15,3 @@ mod sign;
 mod unwind;
 
 pub use node::block_node;
-
-#[cfg(test)]
-mod tests;

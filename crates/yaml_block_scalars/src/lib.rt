@@ -15,6 +15,3 @@ mod value;
 pub use first_line::header;
 pub use parts::{Chomping, Header};
 pub use scalar::{folded, literal};
-
-#[cfg(test)]
-mod tests;

@@ -166,6 +166,3 @@ pub fn next_char(text: &str, at: usize) -> Option<(char, usize)>
     let character = text[at..].chars().next()?;
     Some((character, character.len_utf8()))
 }
-
-#[cfg(test)]
-mod tests;

@@ -15,10 +15,3 @@ pub use closing::next_close;
 pub use cutter::{CutFault, Cutter, Fed};
 pub use fault::{Brief, ReadFault};
 pub use read::events;
-
-#[cfg(test)]
-mod cutter_tests;
-#[cfg(test)]
-mod read_tests;
-#[cfg(test)]
-mod tests;

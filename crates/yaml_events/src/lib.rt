@@ -14,6 +14,3 @@ pub use context::{BlockContext, FlowContext};
 pub use event::{Event, Span, Style};
 pub use fault::{ScanFault, Why};
 pub use list::Events;
-
-#[cfg(test)]
-mod tests;

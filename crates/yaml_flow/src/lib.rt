@@ -15,6 +15,3 @@ pub use node::flow_node;
 pub use pair::{KEY_LIMIT, key_limit};
 pub use push::omitted;
 pub use scalar::{FlowScalar, scalar_at};
-
-#[cfg(test)]
-mod tests;

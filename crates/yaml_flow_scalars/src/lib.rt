@@ -13,10 +13,3 @@ mod single_quoted;
 pub use double_quoted::double;
 pub use plain_scalar::plain;
 pub use single_quoted::single;
-
-#[cfg(test)]
-mod double_tests;
-#[cfg(test)]
-mod plain_tests;
-#[cfg(test)]
-mod single_tests;

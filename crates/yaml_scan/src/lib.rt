@@ -24,6 +24,3 @@ pub use signs::{
     Marker, is_marker, is_marker_of, is_safe, ns_at, safe_at, sign_at, solid_at, stands_at,
     white_at,
 };
-
-#[cfg(test)]
-mod tests;

@@ -1,5 +1,0 @@
-use Rattle.std.proofs.lemmas.Str.{IsCharBoundary-start}
-use Rattle.yaml_block_scalars.proofs.tests.scan.Goals as goal
-
-pub header-requires : goal.header-requires
-header-requires c = IsCharBoundary-start c.args.text.now c.utf8.text
