@@ -20,6 +20,3 @@ pub use fields::{is_same, keys_are, next_text, next_value};
 pub use laws::{documents_are_read, documents_close};
 pub use parts::part;
 pub use read::{read_base, read_record};
-
-#[cfg(test)]
-mod tests;

@@ -25,8 +25,3 @@ pub use name::good_name;
 pub use record::record_text;
 pub use state::{Names, State};
 pub use steps::step;
-
-#[cfg(test)]
-mod record_tests;
-#[cfg(test)]
-mod tests;

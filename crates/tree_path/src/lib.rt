@@ -16,6 +16,3 @@ pub use fault::PathFault;
 pub use laws::{keys_stay_distinct, set_is_found, text_is_read_back};
 pub use measure::{Plan, delete_change, delete_len, plan_delete, plan_set, set_change, set_len};
 pub use path::Path;
-
-#[cfg(test)]
-mod tests;

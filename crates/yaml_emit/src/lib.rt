@@ -4,6 +4,3 @@
 mod text;
 
 pub use text::style_text;
-
-#[cfg(test)]
-mod tests;

@@ -8,6 +8,3 @@ mod lines;
 
 pub use finding::{Finding, Rule};
 pub use findings::{CONFIGURATION, check};
-
-#[cfg(test)]
-mod tests;

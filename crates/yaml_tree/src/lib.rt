@@ -36,8 +36,3 @@ pub use size::Size;
 pub use style::{write_key, write_style, write_text, write_value};
 pub use tree::Tree;
 pub use yaml_docs::{Brief, ReadFault};
-
-#[cfg(test)]
-mod build_tests;
-#[cfg(test)]
-mod tests;

@@ -1,9 +1,8 @@
 // Paths as texts, the examples of RFC 6901, and edits.
-use crate::{Path, PathFault, at, delete, delete_len, set, set_len};
 use std::alloc::{AllocError, Global};
-use std::borrow::CowStr;
 use std::process::Abort;
 use std::test::Fail;
+use tree_path::{Path, PathFault, at, delete, delete_len, set, set_len};
 use yaml_tree::{Config, Limits, Tree, read_one};
 
 fn text(alloc: Global, value: &str) -> Result<Tree, AllocError> {
@@ -67,11 +66,9 @@ fn texts_are_read_as_paths(rt: HostRuntime) -> Result<(), Fail> {
             "in {text:?}"
         );
     }
+    let whole = config(rt.alloc(), "{~1: {'': x}}")?;
     let path = Path::parse(rt.alloc(), "/~01/")?;
-    let tokens: &[CowStr<'_>] = &path.tokens;
-    assert_eq!(rt; tokens.len(), 2);
-    assert_eq!(rt; tokens[0].as_str(), "~1");
-    assert_eq!(rt; tokens[1].as_str(), "");
+    assert_eq!(rt; show(rt.alloc(), at(whole.tree(), &path)?)?.as_str(), "x");
     Ok(())
 }
 

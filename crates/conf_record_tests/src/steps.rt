@@ -1,7 +1,7 @@
 // Names, and the steps of a state: what each leaves, and what each refuses.
 ghost use Rattle.std.specs.Prelude.{⊤};
 
-use super::*;
+use conf_record::{Command, Names, State, StoreFault, good_name, step};
 use std::alloc::{AllocError, Global};
 use std::convert::Infallible;
 use std::process::Abort;

@@ -1,5 +1,5 @@
 // Records and bases, against texts that were counted by hand.
-use super::*;
+use conf_pieces::{base_text, read_base, read_record, record_text};
 use conf_record::{StoreFault, step};
 use std::alloc::{AllocError, Global};
 use std::test::Fail;

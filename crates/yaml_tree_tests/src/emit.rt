@@ -1,7 +1,7 @@
 // Trees and their texts in the one style.
-use super::*;
 use std::alloc::{AllocError, Global};
 use std::test::Fail;
+use yaml_emit::style_text;
 use yaml_tree::{Config, ReadFault, Tree};
 
 fn text(alloc: Global, value: &str) -> Result<Tree, AllocError> {

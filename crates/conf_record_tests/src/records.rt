@@ -1,5 +1,5 @@
 // Texts of records and of states, against texts that were counted by hand.
-use super::*;
+use conf_record::{Command, State, base_text, record_text, step};
 use std::alloc::{AllocError, Global};
 use std::test::Fail;
 use yaml_tree::{Config, ReadFault, Tree};

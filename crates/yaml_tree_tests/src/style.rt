@@ -1,7 +1,7 @@
 // What is found in texts, and what is refused. Expected values are worked out by hand from the rules and the one style.
-use super::*;
 use std::alloc::Global;
 use std::test::Fail;
+use yaml_style::{Finding, Rule, check};
 use yaml_tree::ReadFault;
 
 fn on(rule: Rule, line: u64) -> Finding {
