@@ -1,9 +1,10 @@
 -- The first character at a place, and runs of characters from there on, by the bytes.
 use Rattle.std.proofs.Common.{◌≡◌, ℕ, zero, suc, ◌+◌, ◌-◌, ◌<◌, ◌≤◌, Bool, true, false, List, [], ◌∷◌, ◌++◌, refl, ap, sym, ◌∙◌, subst, arith, length, inl, inr, get_or, drop, append_assoc, append-nil}
+use Rattle.std.specs.Prelude.{nat_lt}
 use Rattle.std.specs.List.{list_all}
 use Rattle.std.specs.Str.{IsUtf8, IsCharBoundary}
 use Rattle.std.specs.Char.{len_utf8}
-use Rattle.std.proofs.lemmas.Bool.{cases_lt, cond-true, cond-false, eqb-true}
+use Rattle.std.proofs.lemmas.Bool.{and_parts, cases_lt, cond-true, cond-false, eqb-true}
 use Rattle.std.proofs.lemmas.Bool.Decides.{nat_tests}
 use Rattle.std.proofs.lemmas.List.{append_cancel_right, drop_all, drop_more}
 use Rattle.std.proofs.lemmas.Str.{IsCharBoundary-after_ascii}
@@ -16,7 +17,8 @@ use Rattle.yaml_grammar.specs.Texts.{first, spaces}
 use Rattle.yaml_recognizers.proofs.Basics.Prefixes.{drop_while_all, spaces_counted, spaces_passed, take_while_all}
 use Rattle.yaml_recognizers.proofs.Basics.Spaces.{spaces_dropped}
 use Rattle.yaml_recognizers.specs.Prefixes.{drop_while, take_while}
-use Rattle.yaml_scan.specs.ScanPlaces.{AreSpaces, AreTaken, IsNb, nb_byte}
+use Rattle.yaml_scan.specs.Classes.{line_ascii}
+use Rattle.yaml_scan.specs.ScanPlaces.{AreSpaces, AreTaken, IsNb}
 
 -- ---- the first character
 
@@ -133,14 +135,15 @@ spaces_dropped_at bs i j q u b h l =
 -- ---- characters of a line
 
 -- a byte that is nb is a character that is nb
-pub nb_by_byte : (bs : List ℕ) (i : ℕ) → IsUtf8 bs → i < length bs → nb_byte (get_or bs i 0) ≡ true → IsNb bs i (i + 1)
+pub nb_by_byte : (bs : List ℕ) (i : ℕ) → IsUtf8 bs → i < length bs → line_ascii (get_or bs i 0) ≡ true → IsNb bs i (i + 1)
 nb_by_byte bs i u l h =
-    let low : get_or bs i 0 < 128 = grind (arith, nat_tests) in
+    let parts : (nat_lt (get_or bs i 0) 128 ≡ true) × (nb (get_or bs i 0) ≡ true) = and_parts (nat_lt (get_or bs i 0) 128) (nb (get_or bs i 0)) h in
+    let low : get_or bs i 0 < 128 = is_below (get_or bs i 0) parts.0 in
     let there = ascii_prefix bs i (get_or bs i 0) u l low refl in
-    record { above = omega arith; boundary = there.1; char = get_or bs i 0; splits = there.0; fits = byte_is_nb (get_or bs i 0) h }
+    record { above = omega arith; boundary = there.1; char = get_or bs i 0; splits = there.0; fits = parts.1 }
   where
-    byte_is_nb : (c : ℕ) → nb_byte c ≡ true → nb c ≡ true
-    byte_is_nb c h = grind (arith, nat_tests)
+    is_below : (c : ℕ) → nat_lt c 128 ≡ true → c < 128
+    is_below c h = grind (arith, nat_tests)
 
 -- what is taken from a place on is what has been taken and what is taken further on
 pub record AreTakenSoFar (bs : List ℕ) (i j : ℕ) : Type 0 where

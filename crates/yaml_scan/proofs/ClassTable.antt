@@ -1,5 +1,5 @@
 -- The table of classes holds what the classes say: 256 closed facts for each class, at once.
-use Rattle.std.proofs.Common.{◌≡◌, ℕ, ◌<◌, Bool, false, not, nat_eq, bit_and, ◌+◌, ◌≤◌, subst, inl, inr, List, refl, sym, ap, ◌∙◌, arith, get_or, length, map, true}
+use Rattle.std.proofs.Common.{◌≡◌, ℕ, ◌<◌, Bool, false, not, nat_eq, bit_and, ◌≤◌, inl, inr, List, refl, sym, ap, ◌∙◌, arith, get_or, length, map, true}
 use Rattle.std.specs.List.{range_with_len}
 use Rattle.std.proofs.lemmas.Bool.{cases_lt}
 use Rattle.std.proofs.lemmas.Bool.Decides.{nat_tests}
@@ -80,32 +80,6 @@ passed_joined test bytes i j k h g =
       within = g.within;
       passes = λ m from to. elim (cases_lt m j) [ inl l ↦ h.passes m from l | inr l ↦ g.passes m l to ];
     }
-
--- one byte more is passed
-pub passed_one : (test : ℕ → Bool) (bytes : List ℕ) (at : ℕ) → at < length bytes → test (slice_index bytes at) ≡ true → ArePassed test bytes at (at + 1)
-passed_one test bytes at l h = record {
-  above = omega arith;
-  within = omega arith;
-  passes = λ k from to. (let e : at ≡ k = omega arith in subst (λ x. test (slice_index bytes x) ≡ true) e h);
-}
-
--- four bytes more are passed
-pub passed_four : (test : ℕ → Bool) (bytes : List ℕ) (at : ℕ) → at + 4 ≤ length bytes → test (slice_index bytes at) ≡ true → test (slice_index bytes (at + 1)) ≡ true
-    → test (slice_index bytes (at + 2)) ≡ true → test (slice_index bytes (at + 3)) ≡ true → ArePassed test bytes at (at + 4)
-passed_four test bytes at l a b c d = record {
-  above = omega arith;
-  within = l;
-  passes = λ k from to. elim (cases_lt k (at + 1)) [
-    | inl before ↦ (let e : at ≡ k = omega arith in subst (λ x. test (slice_index bytes x) ≡ true) e a)
-    | inr past ↦ elim (cases_lt k (at + 2)) [
-      | inl before ↦ (let e : at + 1 ≡ k = omega arith in subst (λ x. test (slice_index bytes x) ≡ true) e b)
-      | inr past ↦ elim (cases_lt k (at + 3)) [
-        | inl before ↦ (let e : at + 2 ≡ k = omega arith in subst (λ x. test (slice_index bytes x) ≡ true) e c)
-        | inr past ↦ (let e : at + 3 ≡ k = omega arith in subst (λ x. test (slice_index bytes x) ≡ true) e d)
-      ]
-    ]
-  ];
-}
 
 -- where the next byte does not pass, the run ends
 pub run_ends : (class : Class) (text : List ℕ) (at end : ℕ) → IsUtf8 text → IsCharBoundary text at → ArePassed (test_of class) text at end

@@ -1,5 +1,5 @@
 -- Runs of ASCII characters that a line may hold.
-use Rattle.std.proofs.Common.{◌≡◌, ℕ, ◌<◌, ◌≤◌, true, false, List, [], ◌∷◌, ◌++◌, refl, ap, sym, ◌∙◌, arith, length, get_or, append_assoc, inl, inr}
+use Rattle.std.proofs.Common.{◌≡◌, ℕ, ◌<◌, true, false, List, [], ◌∷◌, ◌++◌, refl, ap, sym, ◌∙◌, arith, length, get_or, append_assoc, inl, inr}
 use Rattle.std.specs.List.{list_all}
 use Rattle.std.specs.Str.{IsUtf8, IsCharBoundary}
 use Rattle.std.specs.Prelude.{nat_lt}
@@ -12,15 +12,15 @@ use Rattle.yaml_chars.proofs.Places.{between-append, rest-ascii, rest-between, r
 use Rattle.yaml_grammar.specs.Texts.{first}
 use Rattle.yaml_recognizers.specs.Prefixes.{drop_while, take_while}
 use Rattle.yaml_scan.specs.Classes.{line_ascii}
-use Rattle.yaml_scan.specs.ScanPlaces.{AreTaken, nb_byte}
+use Rattle.yaml_scan.specs.ScanPlaces.{AreTaken}
 use Rattle.yaml_scan.proofs.ByteRuns.{AreTakenSoFar, take_while_all_at}
 
+stopped_low : (c : ℕ) → c < 128 → line_ascii c ≡ false → nb c ≡ false
+stopped_low c l h = let e : nat_lt c 128 ≡ true = grind (arith, nat_tests) in rw e at h
+
 -- an ASCII byte that is no character of a line
-pub no_nb_by_byte : (bs : List ℕ) (i : ℕ) → IsUtf8 bs → i < length bs → get_or bs i 0 < 128 → nb_byte (get_or bs i 0) ≡ false → first nb (rest bs i) ≡ false
-no_nb_by_byte bs i u l low h = ap (first nb) (rest-ascii bs i u l low) ∙ no_nb (get_or bs i 0) low h
-  where
-    no_nb : (c : ℕ) → c < 128 → nb_byte c ≡ false → nb c ≡ false
-    no_nb c l h = grind (arith, nat_tests)
+pub no_nb_by_byte : (bs : List ℕ) (i : ℕ) → IsUtf8 bs → i < length bs → get_or bs i 0 < 128 → line_ascii (get_or bs i 0) ≡ false → first nb (rest bs i) ≡ false
+no_nb_by_byte bs i u l low h = ap (first nb) (rest-ascii bs i u l low) ∙ stopped_low (get_or bs i 0) low h
 
 -- a run before it is taken
 run_taken : (xs ys : List ℕ) → list_all line_ascii xs ≡ true → (take_while nb (xs ++ ys) ≡ xs ++ take_while nb ys) × (drop_while nb (xs ++ ys) ≡ drop_while nb ys)
@@ -55,9 +55,6 @@ pub record AreTakenToStop (bs : List ℕ) (i j : ℕ) : Type 0 where
 -- the same up to the first other byte
 pub take_while_to_stop : (bs : List ℕ) (i j k : ℕ) → IsUtf8 bs → IsCharBoundary bs i → AreTakenSoFar bs i j → IsRun line_ascii bs j k → AreTakenToStop bs i k
 take_while_to_stop bs i j k u b h run = record { taken_so_far = take_while_run bs i j k u b h run; stop = run.stop }
-
-stopped_low : (c : ℕ) → c < 128 → line_ascii c ≡ false → nb c ≡ false
-stopped_low c l h = let e : nat_lt c 128 ≡ true = grind (arith, nat_tests) in rw e at h
 
 -- no character of a line is there, if it is none from U+0080 on
 pub take_while_ends : (bs : List ℕ) (i j : ℕ) → IsUtf8 bs → AreTakenToStop bs i j → (j < length bs → get_or bs j 0 < 128) → AreTaken nb bs i j

@@ -3,7 +3,6 @@ use Rattle.std.specs.Prelude.{◌≡◌, ℕ, ◌-◌, ◌<◌, ◌≤◌, Bool,
 use Rattle.std.specs.Str.{IsCharBoundary}
 use Rattle.yaml_chars.specs.Breaks.{no_break}
 use Rattle.yaml_chars.specs.Classes.{line_break, nb, space, white}
-use Rattle.yaml_chars.specs.Classes.{between as within}
 use Rattle.yaml_chars.specs.Places.{rest, between}
 use Rattle.yaml_grammar.specs.BlockScalars.{past_spaces, spaces_before}
 use Rattle.yaml_grammar.specs.Separation.{Break}
@@ -37,10 +36,6 @@ pub record IsNb (text : List ℕ) (at end : ℕ) : Type 0 where
   pub char : ℕ
   pub splits : rest text at ≡ char ∷ rest text end
   pub fits : nb char ≡ true
-
--- a byte that is by itself a character that a line may hold
-abbrev pub nb_byte : ℕ → Bool
-nb_byte b = (b == 9) || within 32 126 b
 
 -- ---- breaks
 

@@ -4,9 +4,9 @@ ghost use Rattle.std.specs.Str.{IsCharBoundary};
 ghost use Rattle.yaml_chars.specs.Classes.{nb, space, white};
 ghost use Rattle.yaml_chars.specs.Places.{rest, IsRun};
 ghost use Rattle.yaml_grammar.specs.Texts.{first};
-ghost use Rattle.yaml_scan.specs.ScanPlaces.{AreSpaces, AreTaken, IsNb, nb_byte};
+ghost use Rattle.yaml_scan.specs.ScanPlaces.{AreSpaces, AreTaken, IsNb};
 
-use crate::classes::{Class, run_end};
+use crate::classes::{is_line_byte, line_run_end};
 
 /// Returns whether a byte is the space or a tab (5.5, `s-white`).
 pub fn is_white(byte: u8) -> bool
@@ -48,13 +48,6 @@ pub fn spaces_end(text: &str, at: usize) -> usize
     end
 }
 
-/// Returns whether a byte is by itself a character that a line may hold.
-fn is_nb_byte(byte: u8) -> bool
-    ensures { result ≡ nb_byte byte }
-{
-    matches!(byte, b' '..=b'~' | b'\t')
-}
-
 /// Returns the end of the character at `at` if a line may hold it (5.4, `nb-char`), and None
 /// otherwise.
 pub fn nb_at(text: &str, at: usize) -> Option<usize>
@@ -67,7 +60,7 @@ pub fn nb_at(text: &str, at: usize) -> Option<usize>
         return None;
     }
     if bytes[at] < 128 {
-        return if is_nb_byte(bytes[at]) {
+        return if is_line_byte(bytes[at]) {
             Some(at + 1)
         } else {
             None
@@ -97,12 +90,12 @@ pub fn nb_end(text: &str, at: usize) -> usize
     ensures { AreTaken nb text.now at result }
 {
     let bytes = text.as_bytes();
-    let mut end = run_end(text, at, Class::Line);
+    let mut end = line_run_end(text, at);
     'characters: while end < bytes.len() && bytes[end] >= 128 {
         let Some(next) = nb_at(text, end) else {
             return end;
         };
-        end = run_end(text, next, Class::Line);
+        end = line_run_end(text, next);
     }
     end
 }
