@@ -1,13 +1,13 @@
 -- What the bytes of a text say of the characters there, for the scanner of double-quoted scalars.
-use Rattle.std.proofs.Common.{◌≡◌, ℕ, suc, ◌+◌, ◌-◌, ◌*◌, ◌^◌, ◌<◌, ◌≤◌, Bool, true, false, ◌&&◌, List, [], ◌∷◌, ◌++◌, refl, ap, sym, ◌∙◌, subst, arith, length, inl, inr, get_or, take, drop, length-append, length-take, slice_index, Some, None}
-use Rattle.std.specs.Prelude.{◌==◌, ◌↔◌, IsTrue, IfSome, IfNone, Option, is_some, codes, if◌then◌else◌}
+use Rattle.std.proofs.Common.{◌≡◌, ℕ, suc, ◌+◌, ◌-◌, ◌*◌, ◌^◌, ◌<◌, ◌≤◌, Bool, true, false, ◌&&◌, List, [], ◌∷◌, ◌++◌, refl, ap, sym, ◌∙◌, subst, arith, length, inl, inr, get_or, take, drop, length-append, length-take, Some, None}
+use Rattle.std.specs.Prelude.{◌==◌, IfSome, IfNone, Option, is_some, codes, if◌then◌else◌}
 use lib.Utf8.{low_scalar}
 use Rattle.std.specs.Char.{IsScalar, OutOfScalarRange, len_utf8}
 use Rattle.std.specs.Str.{IsUtf8, IsCharBoundary}
 use Rattle.std.proofs.Math.Nat.{pow-le-pow_right}
 use Rattle.std.proofs.Math.Seq.{take-append_seam, drop-append_seam, take-append-add}
 use Rattle.std.proofs.lemmas.Grind.{pow_more}
-use Rattle.std.proofs.lemmas.Bool.{iff_false, and_parts, and_from, and_left, and_right, false≢true, cases_Bool, cond-true, cond-false, eq-eqb, ne_eqb}
+use Rattle.std.proofs.lemmas.Bool.{and_parts, and_from, and_left, and_right, false≢true, cases_Bool, cond-true, cond-false, eq-eqb, ne_eqb}
 use Rattle.std.proofs.lemmas.Bool.Decides.{nat_tests}
 use Rattle.std.proofs.lemmas.Str.{IsCharBoundary-after_ascii}
 use Rattle.yaml_chars.specs.Classes.{line_break, is_in, code_point}

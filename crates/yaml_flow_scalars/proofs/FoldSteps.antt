@@ -1,17 +1,16 @@
 -- Folds: from the places that the code finds to what the recognizer of joins reads.
-use Rattle.std.proofs.Common.{◌≡◌, ◌<◌, ◌≤◌, ◌⊎◌, ◌∙◌, sym, ap, subst, refl, inl, inr, arith}
-use Rattle.std.specs.Prelude.{ℕ, zero, suc, ◌+◌, ◌-◌, Bool, true, false, cond, not, ◌&&◌, ◌||◌, ◌==◌, is_some, List, [], ◌∷◌, ◌++◌, length, Some, None, slice_index}
+use Rattle.std.proofs.Common.{◌≡◌, ◌<◌, ◌≤◌, ◌⊎◌, ◌∙◌, sym, ap, append_assoc, subst, refl, inl, inr, arith}
+use Rattle.std.specs.Prelude.{ℕ, zero, suc, ◌+◌, ◌-◌, Bool, true, false, cond, not, ◌&&◌, ◌||◌, ◌==◌, is_some, List, [], ◌∷◌, ◌++◌, length, Some, None}
 use Rattle.std.specs.List.{list_all}
 use Rattle.std.specs.Str.{IsUtf8, IsCharBoundary}
-use Rattle.std.proofs.lemmas.Bool.{and_from, and_left, and_parts, and_right, or_left, or_right, or_from, cases_Bool, cases_lt, cond_both, cond-false, false≢true, ne_eqb, not_from_false}
+use Rattle.std.proofs.lemmas.Bool.{and_from, and_left, and_parts, and_right, or_left, or_right, or_from, cases_Bool, cases_lt, cond_both, cond-false, false≢true, not_from_false}
 use Rattle.std.proofs.lemmas.List.{drop_more}
 use Rattle.std.proofs.lemmas.List.Sums.{list_all-from_AllPass}
-use Rattle.std.proofs.lemmas.Str.{IsCharBoundary-after_ascii}
 use Rattle.yaml_chars.specs.Classes.{line_break, space, white}
 use Rattle.yaml_chars.specs.Places.{rest, between, IsRun}
 use Rattle.yaml_chars.proofs.Classes.{line_break_no_white}
-use Rattle.yaml_chars.proofs.Places.{rest-ascii, rest-between, rest-end}
-use Rattle.yaml_chars.proofs.Runs.{IsBlind, blind-space, blind-white}
+use Rattle.yaml_chars.proofs.Places.{rest-between, rest-end}
+use Rattle.yaml_chars.proofs.Runs.{IsBlind, blind-white}
 use Rattle.yaml_grammar.specs.FlowScalars.{Empty}
 use Rattle.yaml_grammar.specs.Separation.{Break, indents}
 use Rattle.yaml_grammar.specs.Texts.{begins, first, marker, no_marker, spaces}
@@ -27,9 +26,9 @@ use Rattle.yaml_recognizers.proofs.Scalars.JoinSteps.{Passed, no_lead, passed_al
 use Rattle.yaml_recognizers.proofs.Scalars.Joins.{empty_shrinks}
 use Rattle.yaml_recognizers.proofs.Basics.Reading.{chosen, none_some, on_parts, some_parts}
 use Rattle.yaml_recognizers.proofs.Basics.Repeated.{repeated_end}
-use Rattle.yaml_flow_scalars.specs.Folds.{IsFold, IsPrefix, IsMargin, NoFold}
-use Rattle.yaml_scan.specs.ScanPlaces.{IsBreak}
-use Rattle.yaml_scan.proofs.ByteRuns.{first-rest}
+use Rattle.yaml_flow_scalars.specs.Folds.{IsFold, IsPrefix, NoFold}
+use Rattle.yaml_scan.specs.ScanPlaces.{AreSpaces, IsBreak}
+use Rattle.yaml_scan.proofs.ByteRuns.{first-rest, spaces_there}
 
 -- ---- runs
 
@@ -107,27 +106,21 @@ break_unwhite text stop after e = broken text (sym (break_some text) ∙ ap (λ 
     broken [] h = refl
     broken (c ∷ cs) h = line_break_no_white c h
 
--- one space more
-pub margin_space : (bs : List ℕ) (at end : ℕ) → IsUtf8 bs → at ≤ end → end < length bs → rest bs at ≡ spaces (end - at) ++ rest bs end → slice_index bs end ≡ 32
-    → IsCharBoundary bs (end + 1) × (rest bs at ≡ spaces (end + 1 - at) ++ rest bs (end + 1))
-margin_space bs at end u l within e byte =
-    let ascii : slice_index bs end < 128 = omega arith in
-    let one : rest bs end ≡ 32 ∷ rest bs (end + 1) = rest-ascii bs end u within ascii ∙ ap (λ x. x ∷ rest bs (end + 1)) byte in
-    let count : suc (end - at) ≡ end + 1 - at = omega arith in (
-      IsCharBoundary-after_ascii bs end u within ascii,
-      e ∙ (ap (λ xs. spaces (end - at) ++ xs) one ∙ (shifted (end - at) (rest bs (end + 1)) ∙ ap (λ k. spaces k ++ rest bs (end + 1)) count)),
-    )
-  where
-    shifted : (k : ℕ) (xs : List ℕ) → spaces k ++ (32 ∷ xs) ≡ spaces (suc k) ++ xs
-    shifted zero xs = refl
-    shifted (suc k) xs = ap (λ ys. 32 ∷ ys) (shifted k xs)
+-- what comes after all spaces at a place
+spaced_to : (text : List ℕ) (at end : ℕ) → IsUtf8 text → IsCharBoundary text at → AreSpaces text at end → rest text at ≡ spaces (end - at) ++ rest text end
+spaced_to text at end u b s =
+    let above = s.above in
+    let within = s.boundary.0 in
+    let all : at + (end - at) ≡ end = omega arith in
+    (spaces_there text at (end - at) u b (omega arith) (λ k from to. s.spaces k from (omega arith))).0 ∙ ap (λ x. spaces (end - at) ++ rest text x) all
 
--- spaces end before another character
-pub margin_stop : (bs : List ℕ) (end : ℕ) → IsUtf8 bs → IsCharBoundary bs end → (end < length bs → slice_index bs end ≡ 32 → ⊥) → first space (rest bs end) ≡ false
-margin_stop bs end u b h = elim (cases_lt end (length bs)) [
-  | inl l ↦ first-rest space bs end blind-space u b ∙ (ap (first space) (drop_more bs end 0 l) ∙ ne_eqb (slice_index bs end) 32 (h l))
-  | inr past ↦ ap (first space) (rest-end bs end past)
-]
+-- the first n of some spaces
+spaces_split : (n k : ℕ) (text : List ℕ) → n ≤ k → spaces k ++ text ≡ spaces n ++ (spaces (k - n) ++ text)
+spaces_split zero k text l = let e : k ≡ k - 0 = omega arith in ap (λ x. spaces x ++ text) e
+spaces_split (suc n) zero text l = absurd (omega arith)
+spaces_split (suc n) (suc k) text l =
+    let e : k - n ≡ suc k - suc n = omega arith in
+    ap (λ xs. 32 ∷ xs) (spaces_split n k text (omega arith)) ∙ ap (λ x. 32 ∷ (spaces n ++ (spaces x ++ text))) e
 
 -- what the start of a line is, over its characters
 record Prefixes (n : ℕ) (line after : List ℕ) (indented : Bool) : Type 0 where
@@ -173,23 +166,26 @@ prefix_is n text at end indented above boundary f =
     record { above = above; boundary = boundary; indent = f.indent; skips = f.skips; empty = f.empty; no_empty = f.no_empty }
 
 -- a line with enough spaces is indented
-pub prefix_indented : (n : ℕ) (text : List ℕ) (at margin end : ℕ) → IsUtf8 text → IsMargin n text at margin → n ≤ margin - at → IsRun white text margin end
+pub prefix_indented : (n : ℕ) (text : List ℕ) (at margin end : ℕ) → IsUtf8 text → IsCharBoundary text at → AreSpaces text at margin → n ≤ margin - at → IsRun white text margin end
     → IsPrefix n text at end true
-prefix_indented n text at margin end u m l r =
-    let few = m.few in
-    let below = m.above in
+prefix_indented n text at margin end u b s l r =
+    let below = s.above in
     let above = r.above in
-    let all : margin - at ≡ n = omega arith in
-    let split : rest text at ≡ spaces n ++ (between text margin end ++ rest text end) =
-    m.spaced ∙ (ap (λ k. spaces k ++ rest text margin) all ∙ ap (λ xs. spaces n ++ xs) (rest-between text margin end u above m.boundary r.boundary)) in
-    prefix_is n text at end true (omega arith) r.boundary (subst (λ (t : List ℕ). Prefixes n t (rest text end) true) (sym split)
-    (indented_prefix n (between text margin end) (rest text end) (run_every white text margin end r) (run_first white text margin end blind-white u r)))
+    let held : List ℕ = between text margin end in
+    let after : List ℕ = rest text end in
+    let more : List ℕ = spaces (margin - at - n) in
+    let split : rest text at ≡ spaces n ++ ((more ++ held) ++ after) =
+    spaced_to text at margin u b s
+    ∙ (ap (λ xs. spaces (margin - at) ++ xs) (rest-between text margin end u above s.boundary r.boundary)
+    ∙ (spaces_split n (margin - at) (held ++ after) l ∙ ap (λ xs. spaces n ++ xs) (sym (append_assoc more held after)))) in
+    prefix_is n text at end true (omega arith) r.boundary (subst (λ (t : List ℕ). Prefixes n t after true) (sym split)
+    (indented_prefix n (more ++ held) after (every_spaced (margin - at - n) held (run_every white text margin end r)) (run_first white text margin end blind-white u r)))
 
 -- a line with too few is not
-pub prefix_short : (n : ℕ) (text : List ℕ) (at margin : ℕ) → IsMargin n text at margin → margin - at < n → IsPrefix n text at margin false
-prefix_short n text at margin m l =
-    prefix_is n text at margin false m.above m.boundary (subst (λ (t : List ℕ). Prefixes n t (rest text margin) false) (sym m.spaced)
-    (short_prefix n (margin - at) (rest text margin) l (m.stop l)))
+pub prefix_short : (n : ℕ) (text : List ℕ) (at margin : ℕ) → IsUtf8 text → IsCharBoundary text at → AreSpaces text at margin → margin - at < n → IsPrefix n text at margin false
+prefix_short n text at margin u b s l =
+    prefix_is n text at margin false s.above s.boundary (subst (λ (t : List ℕ). Prefixes n t (rest text margin) false) (sym (spaced_to text at margin u b s))
+    (short_prefix n (margin - at) (rest text margin) l s.stop))
 
 -- ---- the lines of a fold
 

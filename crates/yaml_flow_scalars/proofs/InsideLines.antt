@@ -1,6 +1,6 @@
 -- A flow scalar ends inside a line: its last character is neither a break nor a byte order mark.
-use Rattle.std.proofs.Common.{◌≡◌, refl, sym, ◌∙◌, ap, subst, append-nil, arith}
-use Rattle.std.specs.Prelude.{ℕ, Bool, true, false, not, ◌&&◌, ◌||◌, ◌==◌, List, [], ◌∷◌, ◌++◌, codes, flat_map, if◌then◌else◌}
+use Rattle.std.proofs.Common.{◌≡◌, refl, sym, ◌∙◌, ap, append-nil, arith}
+use Rattle.std.specs.Prelude.{ℕ, Bool, true, false, not, ◌&&◌, ◌||◌, ◌==◌, List, [], ◌∷◌, ◌++◌, codes, flat_map}
 use Rattle.std.specs.Str.{IsUtf8, IsCharBoundary}
 use Rattle.std.proofs.lemmas.Bool.{and_parts, cond_both, false≢true}
 use Rattle.std.proofs.lemmas.Bool.Decides.{nat_tests}
@@ -11,8 +11,8 @@ use Rattle.yaml_chars.specs.Places.{rest, between}
 use Rattle.yaml_chars.proofs.Places.{between-append, rest-between}
 use Rattle.yaml_events.specs.EventPlaces.{line_starts, without_mark}
 use Rattle.yaml_grammar.specs.Events.{Style}
-use Rattle.yaml_grammar.specs.FlowScalars.{FlowContext, outer, inner, block_key, flow_key, Line, Scalar, plain, single, double, ends, plain_first, plain_next, plain_run, plain_line, plain_more, plain_lines, plain_kind, plain_text, single_text, quoted_char_text, line_text, lines_text, join_text, empties_text, lines_after, scalar_text, scalar_fits}
-use Rattle.yaml_grammar.specs.Texts.{is_empty, starts_line}
+use Rattle.yaml_grammar.specs.FlowScalars.{FlowContext, outer, inner, block_key, flow_key, Line, Scalar, plain, single, double, ends, plain_next, plain_run, plain_line, plain_more, plain_lines, plain_kind, plain_text, single_text, quoted_char_text, line_text, lines_text, join_text, empties_text, lines_after, scalar_text, scalar_fits}
+use Rattle.yaml_grammar.specs.Texts.{starts_line}
 use Rattle.yaml_recognizers.proofs.Scalars.PlainScalars.{plain_texts}
 use Rattle.yaml_flow_scalars.specs.Standing.{ScalarAt}
 

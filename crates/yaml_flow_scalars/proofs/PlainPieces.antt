@@ -1,6 +1,6 @@
 -- Runs of plain characters at places of a text: what the recognizer of a run reads over white, and over plain
 -- characters.
-use Rattle.std.proofs.Common.{◌≡◌, refl, sym, ◌∙◌, ap, subst, append_assoc, append-nil, arith, length, length-drop, inl, inr, ℕ, ◌+◌, ◌-◌, ◌<◌, ◌≤◌}
+use Rattle.std.proofs.Common.{◌≡◌, refl, sym, ◌∙◌, ap, append_assoc, append-nil, arith, length, length-drop, inl, inr, ℕ, ◌-◌, ◌<◌, ◌≤◌}
 use Rattle.std.specs.Prelude.{Bool, true, false, cond, not, ◌&&◌, ◌||◌, ◌==◌, nat_lt, List, [], ◌∷◌, ◌++◌, drop, slice_range, codes}
 use lib.Utf8.{encodes}
 use Rattle.std.specs.List.{list_all}
@@ -8,11 +8,10 @@ use Rattle.std.specs.Str.{IsUtf8, IsCharBoundary}
 use Rattle.std.proofs.lemmas.Bool.{and_parts, cases_lt, false≢true, eqb-true}
 use Rattle.std.proofs.lemmas.Bool.Decides.{nat_tests}
 use Rattle.std.proofs.lemmas.List.{append_cancel_right, length-take}
-use Rattle.std.proofs.lemmas.List.Sums.{list_all-from_AllPass}
 use Rattle.yaml_chars.specs.Classes.{is_in, ns, white}
 use Rattle.yaml_chars.specs.Places.{rest, between, IsRun}
-use Rattle.yaml_chars.proofs.Places.{rest-end, rest-between, between-append, between-nil, encodes-between}
-use Rattle.yaml_chars.proofs.Runs.{IsBlind, blind-white}
+use Rattle.yaml_chars.proofs.Places.{rest-between, between-append, between-nil, encodes-between}
+use Rattle.yaml_chars.proofs.Runs.{blind-white}
 use Rattle.yaml_grammar.specs.Texts.{first, is_empty}
 use Rattle.yaml_grammar.specs.FlowScalars.{FlowContext, outer, inner, block_key, flow_key, safe, plain_next}
 use Rattle.yaml_recognizers.specs.PlainScalars.{read_run, last_of}

@@ -1,13 +1,13 @@
 -- Scalars on one line: no break is in them.
-use Rattle.std.proofs.Common.{◌≡◌, refl, sym, ◌∙◌, ap, arith}
-use Rattle.std.specs.Prelude.{ℕ, ◌+◌, ◌<◌, ◌≤◌, Bool, true, false, ◌&&◌, ◌||◌, List, [], ◌∷◌, ◌++◌, length, slice_index, is_some, not}
+use Rattle.std.proofs.Common.{◌≡◌, refl, ◌∙◌, ap, arith}
+use Rattle.std.specs.Prelude.{ℕ, ◌+◌, ◌<◌, Bool, true, false, ◌&&◌, ◌||◌, List, [], ◌∷◌, ◌++◌, length, slice_index, not}
 use Rattle.std.specs.Str.{IsUtf8, IsCharBoundary}
 use Rattle.std.proofs.lemmas.Bool.{and_from, and_parts, cond_both, false≢true, not_from_false}
 use Rattle.std.proofs.lemmas.Bool.Decides.{nat_tests}
 use Rattle.std.proofs.lemmas.List.Sums.{list_all-from_AllPass}
 use Rattle.yaml_chars.specs.Breaks.{no_break}
 use Rattle.yaml_chars.specs.Classes.{ns, white}
-use Rattle.yaml_chars.specs.Places.{rest, between, IsRun}
+use Rattle.yaml_chars.specs.Places.{between, IsRun}
 use Rattle.yaml_chars.proofs.Places.{between-ascii, between-push_ascii}
 use Rattle.yaml_grammar.specs.FlowScalars.{FlowContext, plain_next}
 use Rattle.std.specs.List.{list_all}

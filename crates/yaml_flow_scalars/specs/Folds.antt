@@ -1,13 +1,12 @@
 -- Folds between two lines of a flow scalar, at a place of a text: what the recognizer of joins finds there, whatever
 -- comes before the break (a backslash, or white).
-use Rattle.std.specs.Prelude.{◌≡◌, ℕ, ◌-◌, ◌<◌, ◌≤◌, Bool, true, false, List, ◌++◌, length, Some, None}
+use Rattle.std.specs.Prelude.{◌≡◌, ℕ, ◌<◌, ◌≤◌, Bool, true, false, List, length, Some, None}
 use Rattle.std.specs.Str.{IsCharBoundary}
 use Rattle.yaml_chars.specs.Places.{rest, between}
-use Rattle.yaml_chars.specs.Classes.{space, white}
+use Rattle.yaml_chars.specs.Classes.{white}
 use Rattle.yaml_grammar.specs.FlowScalars.{Empty, ends}
 use Rattle.yaml_grammar.specs.Separation.{Break, indents}
 use Rattle.std.specs.List.{list_all}
-use Rattle.yaml_grammar.specs.Texts.{first, spaces}
 use Rattle.yaml_recognizers.specs.Comments.{read_break}
 use Rattle.yaml_recognizers.specs.Prefixes.{take_while, drop_while}
 use Rattle.yaml_recognizers.specs.Joins.{Join, after_blank, read_empty}
@@ -25,14 +24,6 @@ pub record IsFold (n : ℕ) (text : List ℕ) (at empties next : ℕ) : Type 0 w
 -- no fold begins there
 abbrev pub NoFold : ℕ → List ℕ → ℕ → Type 0
 NoFold n text at = (escaped : Bool) (blank : List ℕ) → after_blank escaped n blank (rest text at) ≡ None
-
--- After the spaces of a line, n of them at most.
-pub record IsMargin (n : ℕ) (text : List ℕ) (at end : ℕ) : Type 0 where
-  pub above : at ≤ end
-  pub boundary : IsCharBoundary text end
-  pub few : end - at ≤ n
-  pub spaced : rest text at ≡ spaces (end - at) ++ rest text end
-  pub stop : end - at < n → first space (rest text end) ≡ false
 
 -- After the white of a line that is indented by n spaces or more, or after the spaces of one that is not: whether it is
 -- indented, and that it is an empty line where a break is there.

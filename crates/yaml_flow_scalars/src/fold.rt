@@ -4,11 +4,11 @@ ghost use Rattle.std.specs.Str.{IsCharBoundary};
 ghost use Rattle.std.specs.String.{string_bytes};
 ghost use Rattle.yaml_grammar.specs.FlowScalars.{folded_break, one_line};
 ghost use Rattle.yaml_events.specs.Meant.{context_of};
-ghost use Rattle.yaml_flow_scalars.specs.Folds.{IsFold, NoFold, IsPrefix, IsMargin, IsWhiteStart};
+ghost use Rattle.yaml_flow_scalars.specs.Folds.{IsFold, NoFold, IsPrefix, IsWhiteStart};
 
 use std::alloc::AllocError;
 use yaml_events::{FlowContext, ScanFault, Why};
-use yaml_scan::{break_end, is_marker, is_white, push_line_feeds, white_end};
+use yaml_scan::{break_end, is_marker, is_white, push_line_feeds, spaces_end, white_end};
 
 /// A break inside a scalar, with the empty lines after it and the white space at the start of the
 /// next line.
@@ -65,7 +65,7 @@ fn line_prefix(text: &str, at: usize, indent: u64) -> Prefix
     requires { IsCharBoundary text.now at }
     ensures { IsPrefix indent text.now at result.end result.indented }
 {
-    let margin = margin_end(text, at, indent);
+    let margin = spaces_end(text, at);
     if ((margin - at) as u64) < indent {
         return Prefix {
             end: margin,
@@ -76,19 +76,6 @@ fn line_prefix(text: &str, at: usize, indent: u64) -> Prefix
         end: white_end(text, margin),
         indented: true,
     }
-}
-
-/// Returns the end of the spaces at `at`, at most `indent` of them.
-fn margin_end(text: &str, at: usize, indent: u64) -> usize
-    requires { IsCharBoundary text.now at }
-    ensures { IsMargin indent text.now at result }
-{
-    let bytes = text.as_bytes();
-    let mut end = at;
-    while end < bytes.len() && ((end - at) as u64) < indent && bytes[end] == b' ' {
-        end += 1;
-    }
-    end
 }
 
 /// Returns why no fold begins with the break at `at`, and the start of the line at fault: the first

@@ -113,7 +113,7 @@ fn letter_or_digit_at(text: &str, at: usize) -> bool
 fn is_letter_or_digit(byte: u8) -> bool
     ensures { result ≡ letter_or_digit byte }
 {
-    matches!(byte, b'0'..=b'9' | b'A'..=b'Z' | b'a'..=b'z')
+    byte.is_ascii_lowercase() || matches!(byte, b'0'..=b'9' | b'A'..=b'Z')
 }
 
 /// Returns whether a plain scalar may begin with a character that ends at `after`
@@ -180,6 +180,7 @@ fn words_of(context: FlowContext) -> Class
 
 /// Returns the end of the plain character at `at`, where no word goes on (`ns-plain-char`): a `:` or a
 /// `#` where one is allowed, or a character that is not ASCII.
+#[inline(always)]
 fn special_end(text: &str, at: usize, before: Before, context: FlowContext) -> Option<usize>
     requires at { IsCharBoundary text.now at }
     requires stop { at < length text.now → word (context_of context) (slice_index text.now at)
@@ -197,6 +198,18 @@ fn special_end(text: &str, at: usize, before: Before, context: FlowContext) -> O
     if byte < 128 && byte != b':' && byte != b'#' {
         return None;
     }
+    decoded_end(text, at, before, context)
+}
+
+/// Returns the end of the plain character at `at`, by the character itself.
+#[inline(never)]
+fn decoded_end(text: &str, at: usize, before: Before, context: FlowContext) -> Option<usize>
+    requires { IsCharBoundary text.now at }
+    ensures found { IfSome result (IsPlainPiece (context_of context)
+        (is_content before) text.now at) }
+    ensures none { IfNone result (NoPlainPiece (context_of context)
+        (is_content before) text.now at) }
+{
     let Some((character, len)) = next_char(text, at) else {
         return None;
     };
@@ -250,7 +263,17 @@ fn plain_run_end(text: &str, from: usize, before: Before, context: FlowContext) 
     }
 }
 
+/// Returns the end of the plain characters from `from` on, where a further line begins.
+#[inline(never)]
+fn further_run_end(text: &str, from: usize, context: FlowContext) -> usize
+    requires { IsCharBoundary text.now from }
+    ensures { IsPlainRun (context_of context) false text.now from result }
+{
+    plain_run_end(text, from, Before::Blank, context)
+}
+
 /// Returns the further line of a plain scalar after a line that ends at `at`. A key has none.
+#[inline(always)]
 fn next_line(text: &str, at: usize, n: u64, context: FlowContext) -> Option<PlainLine>
     requires { IsCharBoundary text.now at }
     ensures found { IfSome result (λ line.
@@ -263,7 +286,7 @@ fn next_line(text: &str, at: usize, n: u64, context: FlowContext) -> Option<Plai
     let Some(fold) = fold_at(text, white_end(text, at), n) else {
         return None;
     };
-    let end = plain_run_end(text, fold.next, Before::Blank, context);
+    let end = further_run_end(text, fold.next, context);
     if end == fold.next {
         return None;
     }
@@ -275,6 +298,7 @@ fn next_line(text: &str, at: usize, n: u64, context: FlowContext) -> Option<Plai
 }
 
 /// Appends what a further line and all lines after it mean. Returns the end of the last one.
+#[inline(never)]
 fn push_lines(
     value: &mut String,
     text: &str,

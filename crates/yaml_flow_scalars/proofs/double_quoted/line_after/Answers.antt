@@ -1,4 +1,4 @@
-use Rattle.std.proofs.Common.{refl, ◌∙◌, sym, arith, true, false}
+use Rattle.std.proofs.Common.{◌∙◌, sym, arith, true, false}
 use Rattle.yaml_events.specs.Meant.{context_of}
 use Rattle.yaml_scan.proofs.Outcomes.{refuses}
 use Rattle.yaml_flow_scalars.specs.DoubleScan.{NoJoinAt}

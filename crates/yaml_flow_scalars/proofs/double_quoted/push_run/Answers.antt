@@ -1,4 +1,4 @@
-use Rattle.std.proofs.Common.{◌≡◌, ◌∙◌, sym, ap, subst, arith, ◌++◌, None, false}
+use Rattle.std.proofs.Common.{◌≡◌, ◌∙◌, sym, ap, arith, ◌++◌, None, false}
 use Rattle.std.specs.String.{string_bytes}
 use Rattle.std.proofs.lemmas.Result.{IfOk-weaker, IfErr-weaker, err_from_is_err_and}
 use Rattle.std.proofs.lemmas.Str.{IsUtf8-string_bytes}
@@ -8,7 +8,7 @@ use Rattle.yaml_events.specs.EventPlaces.{Refuses}
 use Rattle.yaml_recognizers.specs.Joins.{at_break}
 use Rattle.yaml_scan.proofs.Outcomes.{fault_passed, refuses_so}
 use Rattle.yaml_flow_scalars.specs.Folds.{IsWhiteStart}
-use Rattle.yaml_flow_scalars.specs.DoubleScan.{double_value, Adds, JoinsAt, NoJoinAt}
+use Rattle.yaml_flow_scalars.specs.DoubleScan.{double_value, Adds, NoJoinAt}
 use Rattle.yaml_flow_scalars.proofs.DoublePlaces.{stands, stands_not, byte_read}
 use Rattle.yaml_flow_scalars.proofs.DoubleAdds.{adds_more, adds_none, run_adds, inked_adds, run_stray, begins_white, folded_join_adds}
 use Rattle.yaml_flow_scalars.proofs.double_quoted.push_run.Goals as goal

@@ -1,8 +1,5 @@
-use Rattle.std.proofs.Common.{sym, ◌∙◌, subst, arith}
-use Rattle.yaml_chars.specs.Classes.{white}
-use Rattle.yaml_chars.specs.Places.{IsRun}
+use Rattle.std.proofs.Common.{sym, ◌∙◌, arith}
 use Rattle.yaml_events.specs.Meant.{context_of}
-use Rattle.yaml_flow_scalars.specs.Folds.{IsFold, NoFold}
 use Rattle.yaml_flow_scalars.proofs.PlainLines.{no_fold_no_line, empty_no_line, next_line_is}
 use Rattle.yaml_flow_scalars.proofs.plain_scalar.next_line.Goals as goal
 
@@ -17,12 +14,12 @@ returns-then-end-fold-clause-none c =
     let run = c.white_end.ensures.run in
     let fold = c.in-Some.ensures.found in
     empty_no_line c.args.n (context_of c.args.context) c.args.text.now c.args.at c.white_end.result c.utf8.text c.requires run
-    c.in-Some.fold.empties c.in-Some.fold.next c.plain_run_end-end.result fold c.plain_run_end-end.ensures c.if-end-fold.true
+    c.in-Some.fold.empties c.in-Some.fold.next c.further_run_end-end.result fold c.further_run_end-end.ensures c.if-end-fold.true
 
 pub returns-clause-found : goal.returns-clause-found
 returns-clause-found c =
     let run = c.white_end.ensures.run in
     let fold = c.in-Some.ensures.found in
-    let above = c.plain_run_end-end.ensures.above in
+    let above = c.further_run_end-end.ensures.above in
     next_line_is c.args.n (context_of c.args.context) c.args.text.now c.args.at c.white_end.result c.utf8.text c.requires run
-    c.in-Some.fold.empties c.in-Some.fold.next c.plain_run_end-end.result fold c.plain_run_end-end.ensures (sym c.stands_on_one_line.ensures ∙ c.if-stands_on_one_line.false) (omega (arith, c.if-end-fold.false))
+    c.in-Some.fold.empties c.in-Some.fold.next c.further_run_end-end.result fold c.further_run_end-end.ensures (sym c.stands_on_one_line.ensures ∙ c.if-stands_on_one_line.false) (omega (arith, c.if-end-fold.false))

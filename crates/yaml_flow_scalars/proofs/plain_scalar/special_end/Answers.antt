@@ -1,19 +1,12 @@
-use Rattle.std.proofs.Common.{◌<◌, sym, ◌∙◌, ap, arith, ◌+◌, get_or, length}
-use Rattle.std.proofs.lemmas.Str.{len_utf8_bounds}
+use Rattle.std.proofs.Common.{◌<◌, ◌∙◌, ap, arith, get_or, length}
 use Rattle.yaml_events.specs.Meant.{context_of}
-use Rattle.yaml_flow_scalars.specs.PlainPlaces.{goes_on_plain, is_content}
-use Rattle.yaml_flow_scalars.proofs.PlainPieces.{one_piece}
+use Rattle.yaml_flow_scalars.specs.PlainPlaces.{is_content}
 use Rattle.yaml_flow_scalars.proofs.PlainWords.{no_special, none_at_end}
 use Rattle.yaml_flow_scalars.proofs.plain_scalar.special_end.Goals as goal
 
 pub returns-then-at-bytes-clause-none : goal.returns-then-at-bytes-clause-none
 returns-then-at-bytes-clause-none c =
     none_at_end (context_of c.args.context) (is_content c.args.before) c.args.text.now c.args.at (omega (arith, c.as_bytes-bytes.ensures.len))
-
-pub returns-then-is_plain_next-clause-found : goal.returns-then-is_plain_next-clause-found
-returns-then-is_plain_next-clause-found c =
-    one_piece (context_of c.args.context) (is_content c.args.before) c.args.text.now c.args.at (c.args.at + c.in-Some.len) c.in-Some.character c.utf8.text c.requires.at
-    (omega (arith, c.in-Some.ensures.len, (len_utf8_bounds c.in-Some.character).0)) c.in-Some.ensures.boundary c.in-Some.ensures.char (λ before e. sym (c.is_plain_next.ensures before e) ∙ c.if-is_plain_next.true)
 
 pub returns-then-byte-ne35-clause-none : goal.returns-then-byte-ne35-clause-none
 returns-then-byte-ne35-clause-none c =

@@ -7,8 +7,7 @@ use Rattle.yaml_grammar.specs.Texts.{first}
 use Rattle.yaml_recognizers.specs.QuotedScalars.{quote}
 use Rattle.yaml_events.specs.Meant.{context_of}
 use Rattle.yaml_scan.proofs.Outcomes.{refuses}
-use Rattle.yaml_flow_scalars.specs.SingleScalars.{NoFoldIn, content, is_unchanged}
-use Rattle.yaml_flow_scalars.specs.Folds.{IsWhiteStart, IsFold}
+use Rattle.yaml_flow_scalars.specs.SingleScalars.{content, is_unchanged}
 use Rattle.yaml_flow_scalars.proofs.SinglePlaces.{quote_at, begun, changed_before, fold_changed, goes_past_fold, goes_past_pair, quote_changed, reads_at_once, reads_none, reads_to_close, running}
 use Rattle.yaml_flow_scalars.proofs.Unbroken.{content_unbroken, run_closed_unbroken}
 use Rattle.yaml_flow_scalars.proofs.single_quoted.unquoted.Goals as goal
