@@ -87,7 +87,7 @@ impl Edit {
         ensures unchanged { OnErr result (tree_of config.new ≡ tree_of config.old) }
     {
         let before = config.style_length();
-        let mut tree = mem::replace(config, Config::empty(alloc)).into_tree();
+        let mut tree = mem::replace(config, Config::empty()).into_tree();
         match self.edit_tree(alloc, &mut tree, path, place) {
             Ok(()) => {
                 *config = Config::from_parts(tree, bytes);

@@ -2,10 +2,10 @@
 use conf_record::{Command, State, base_text, record_text, step};
 use std::alloc::{AllocError, Global};
 use std::test::Fail;
-use yaml_tree::{Config, ReadFault, Tree};
+use yaml_tree::{Config, ReadFault, Text, Tree};
 
 fn text(alloc: Global, value: &str) -> Result<Tree, AllocError> {
-    Ok(Tree::Text(String::from_str(alloc, value)?))
+    Ok(Tree::Text(Text::new(alloc, value)?))
 }
 
 fn config(alloc: Global, tree: Tree) -> Result<Config, Fail> {
@@ -69,7 +69,7 @@ fn a_record_of_a_delete(rt: HostRuntime) -> Result<(), Fail> {
 #[test]
 fn a_record_of_a_literal(rt: HostRuntime) -> Result<(), Fail> {
     let alloc = rt.alloc();
-    let pairs = vec![in alloc; (String::from_str(alloc, "k")?, text(alloc, "x\n...\ny")?)]?;
+    let pairs = vec![in alloc; (Text::new(alloc, "k")?, text(alloc, "x\n...\ny")?)]?;
     let command = import(alloc, "c", Tree::Map(pairs))?;
     let record = record_text(alloc, &command, 1)?;
     let expected = "---\nat: \"1\"\nimport: c\ntree:\n  k: |-\n    x\n    ...\n    y\n...\n";

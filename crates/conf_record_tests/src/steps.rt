@@ -7,7 +7,7 @@ use std::convert::Infallible;
 use std::process::Abort;
 use std::test::Fail;
 use tree_path::PathFault;
-use yaml_tree::{Config, ReadFault, Sink, Tree, write_style};
+use yaml_tree::{Config, ReadFault, Sink, Text, Tree, write_style};
 
 /// Compares what is written with a text, and takes no memory for it.
 #[derive(Drop)]
@@ -90,11 +90,11 @@ fn holds(state: &State, count: u64, configs: &[(&str, &str)]) -> bool {
 }
 
 fn text(alloc: Global, value: &str) -> Result<Tree, AllocError> {
-    Ok(Tree::Text(String::from_str(alloc, value)?))
+    Ok(Tree::Text(Text::new(alloc, value)?))
 }
 
-fn pair(alloc: Global, key: &str, value: Tree) -> Result<(String, Tree), AllocError> {
-    Ok((String::from_str(alloc, key)?, value))
+fn pair(alloc: Global, key: &str, value: Tree) -> Result<(Text, Tree), AllocError> {
+    Ok((Text::new(alloc, key)?, value))
 }
 
 /// A text of that many letters `x`.
@@ -103,7 +103,7 @@ fn letters(alloc: Global, count: u32) -> Result<Tree, AllocError> {
     for _ in 0..count {
         all.push('x')?;
     }
-    Ok(Tree::Text(all))
+    Ok(Tree::Text(Text::from_string(all)))
 }
 
 /// A text inside sequences of one element, so that the whole is that deep.

@@ -1,5 +1,5 @@
 -- Places in the lists of a tree of src/, and in the elements and members that they are seen as.
-use Rattle.std.proofs.Common.{◌≡◌, ℕ, zero, suc, ◌+◌, ◌<◌, ◌≤◌, Bool, true, false, cond, List, [], ◌∷◌, ◌++◌, length, get_or, set, drop, Option, Some, None, option_map, String, Global, string_bytes, refl, sym, ap, subst, ◌∙◌, arith, rules}
+use Rattle.std.proofs.Common.{◌≡◌, ℕ, zero, suc, ◌+◌, ◌<◌, ◌≤◌, Bool, true, false, cond, List, [], ◌∷◌, ◌++◌, length, get_or, set, drop, Option, Some, None, option_map, refl, sym, ap, subst, ◌∙◌, arith, rules}
 use Rattle.std.specs.List.{remove}
 use Rattle.std.specs.Str.{chars, IsUtf8, bytes_eq}
 use Rattle.std.proofs.lemmas.Bool.Decides.{same_from_decides}
@@ -11,6 +11,8 @@ use Rattle.yaml_grammar.specs.Texts.{same_text}
 use Rattle.yaml_grammar.specs.Trees as grammar
 use Rattle.yaml_grammar.specs.Trees.{element, member}
 use Rattle.yaml_tree.specs.Seen.{Pair, tree_of, elements_of, members_of}
+use Rattle.yaml_tree.specs.TextBytes.{text_bytes}
+use Rattle.yaml_tree.specs.declared.text.Text.{Text}
 use Rattle.yaml_tree.specs.declared.tree.Tree.{Tree}
 use Rattle.tree_path.specs.Paths.{element_at, put_element, cut_element, push_element, value_of, put_member, cut_member, place_of}
 use Rattle.tree_path.specs.Steps.{key_place}
@@ -34,10 +36,10 @@ key_place-start (Some n) = ap Some (omega arith)
 
 -- a pair with the key is found
 pub key_place-turn : (key : List ℕ) (ps : List Pair) (place : ℕ) (p : Pair) → place < length ps → p ≡ get_or ps place p
-    → key_place key (drop place ps) ≡ cond (same_text key (chars (string_bytes p.0))) (Some 0) (option_map suc (key_place key (drop (place + 1) ps)))
+    → key_place key (drop place ps) ≡ cond (same_text key (chars (text_bytes p.0))) (Some 0) (option_map suc (key_place key (drop (place + 1) ps)))
 key_place-turn key ps place p within is =
     at_drop_more (key_place key) ps place p within
-    ∙ ap (λ q. cond (same_text key (chars (string_bytes q.0))) (Some 0) (option_map suc (key_place key (drop (place + 1) ps)))) (sym is)
+    ∙ ap (λ q. cond (same_text key (chars (text_bytes q.0))) (Some 0) (option_map suc (key_place key (drop (place + 1) ps)))) (sym is)
 
 -- else the search goes on
 pub key_place-next : (place : ℕ) (o : Option ℕ) → option_map (λ i. place + i) (option_map suc o) ≡ option_map (λ i. place + 1 + i) o
@@ -53,7 +55,7 @@ key_place-end key ps place past = at_drop_all (key_place key) ps place past
 -- the place of a key among the members is that among the pairs
 pub place_of-pairs : (ps : List Pair) (key : List ℕ) → place_of (members_of ps) key ≡ key_place key ps
 place_of-pairs [] key = refl
-place_of-pairs (p ∷ ps) key = ap (λ o. cond (same_text key (chars (string_bytes p.0))) (Some 0) (option_map suc o)) (place_of-pairs ps key)
+place_of-pairs (p ∷ ps) key = ap (λ o. cond (same_text key (chars (text_bytes p.0))) (Some 0) (option_map suc o)) (place_of-pairs ps key)
 
 -- the value of a key is that at its place
 pub value_of-place : (key : List ℕ) (ps : List Pair) (i : ℕ) → key_place key ps ≡ Some i
@@ -62,7 +64,7 @@ value_of-place key [] i is = cc
 value_of-place key (p ∷ ps) i is =
     let P : Bool → Type 0 = λ b. cond b (Some 0) (option_map suc (key_place key ps)) ≡ Some i
     → (i < suc (length ps)) × ((d : Pair) → cond b (Some (tree_of p.1)) (value_of (members_of ps) key) ≡ Some (tree_of (get_or (p ∷ ps) i d).1)) in
-    (elim (same_text key (chars (string_bytes p.0))) as P [
+    (elim (same_text key (chars (text_bytes p.0))) as P [
       | true ↦ λ e. let z : i ≡ 0 = cc in rw z (omega arith, λ d. refl)
       | false ↦ λ e.
           let o = option_map-Some suc (key_place key ps) i e in
@@ -77,14 +79,14 @@ pub put_member-place : (key : List ℕ) (ps : List Pair) (i : ℕ) (t : Tree) (d
 put_member-place key [] i t d is = cc
 put_member-place key (p ∷ ps) i t d is =
     let P : Bool → Type 0 = λ b. cond b (Some 0) (option_map suc (key_place key ps)) ≡ Some i
-    → cond b (member (chars (string_bytes p.0)) (tree_of t) (members_of ps)) (member (chars (string_bytes p.0)) (tree_of p.1) (put_member (members_of ps) key (tree_of t)))
+    → cond b (member (chars (text_bytes p.0)) (tree_of t) (members_of ps)) (member (chars (text_bytes p.0)) (tree_of p.1) (put_member (members_of ps) key (tree_of t)))
     ≡ members_of (set (p ∷ ps) i ((get_or (p ∷ ps) i d).0, t)) in
-    (elim (same_text key (chars (string_bytes p.0))) as P [
+    (elim (same_text key (chars (text_bytes p.0))) as P [
       | true ↦ λ e. let z : i ≡ 0 = cc in rw z
       | false ↦ λ e.
           let o = option_map-Some suc (key_place key ps) i e in
-          subst (λ n. member (chars (string_bytes p.0)) (tree_of p.1) (put_member (members_of ps) key (tree_of t)) ≡ members_of (set (p ∷ ps) n ((get_or (p ∷ ps) n d).0, t))) o.2
-          (ap (member (chars (string_bytes p.0)) (tree_of p.1)) (put_member-place key ps o.0 t d o.1))
+          subst (λ n. member (chars (text_bytes p.0)) (tree_of p.1) (put_member (members_of ps) key (tree_of t)) ≡ members_of (set (p ∷ ps) n ((get_or (p ∷ ps) n d).0, t))) o.2
+          (ap (member (chars (text_bytes p.0)) (tree_of p.1)) (put_member-place key ps o.0 t d o.1))
     ]) is
 
 -- or taken out
@@ -93,14 +95,14 @@ pub cut_member-place : (key : List ℕ) (ps : List Pair) (i : ℕ) → key_place
 cut_member-place key [] i is = cc
 cut_member-place key (p ∷ ps) i is =
     let P : Bool → Type 0 = λ b. cond b (Some 0) (option_map suc (key_place key ps)) ≡ Some i
-    → cond b (Some (members_of ps)) (option_map (member (chars (string_bytes p.0)) (tree_of p.1)) (cut_member (members_of ps) key))
+    → cond b (Some (members_of ps)) (option_map (member (chars (text_bytes p.0)) (tree_of p.1)) (cut_member (members_of ps) key))
     ≡ Some (members_of (remove (p ∷ ps) i)) in
-    (elim (same_text key (chars (string_bytes p.0))) as P [
+    (elim (same_text key (chars (text_bytes p.0))) as P [
       | true ↦ λ e. let z : i ≡ 0 = cc in rw z
       | false ↦ λ e.
           let o = option_map-Some suc (key_place key ps) i e in
-          subst (λ n. option_map (member (chars (string_bytes p.0)) (tree_of p.1)) (cut_member (members_of ps) key) ≡ Some (members_of (remove (p ∷ ps) n))) o.2
-          (ap (option_map (member (chars (string_bytes p.0)) (tree_of p.1))) (cut_member-place key ps o.0 o.1))
+          subst (λ n. option_map (member (chars (text_bytes p.0)) (tree_of p.1)) (cut_member (members_of ps) key) ≡ Some (members_of (remove (p ∷ ps) n))) o.2
+          (ap (option_map (member (chars (text_bytes p.0)) (tree_of p.1))) (cut_member-place key ps o.0 o.1))
     ]) is
 
 -- no pair has the key
@@ -109,22 +111,22 @@ value_of-absent key [] is = refl
 value_of-absent key (p ∷ ps) is =
     let P : Bool → Type 0 = λ b. cond b (Some 0) (option_map suc (key_place key ps)) ≡ None
     → cond b (Some (tree_of p.1)) (value_of (members_of ps) key) ≡ None in
-    (elim (same_text key (chars (string_bytes p.0))) as P [
+    (elim (same_text key (chars (text_bytes p.0))) as P [
       | true ↦ λ e. cc
       | false ↦ λ e. value_of-absent key ps (option_map-None suc (key_place key ps) e)
     ]) is
 
 -- a key that is missing is added at the end
-pub put_member-absent : (key : List ℕ) (ps : List Pair) (k : String Global) (t : Tree) → key_place key ps ≡ None → chars (string_bytes k) ≡ key
+pub put_member-absent : (key : List ℕ) (ps : List Pair) (k : Text) (t : Tree) → key_place key ps ≡ None → chars (text_bytes k) ≡ key
     → put_member (members_of ps) key (tree_of t) ≡ members_of (ps ++ (k, t) ∷ [])
 put_member-absent key [] k t is named = ap (λ n. member n (tree_of t) grammar.no_member) (sym named)
 put_member-absent key (p ∷ ps) k t is named =
     let P : Bool → Type 0 = λ b. cond b (Some 0) (option_map suc (key_place key ps)) ≡ None
-    → cond b (member (chars (string_bytes p.0)) (tree_of t) (members_of ps)) (member (chars (string_bytes p.0)) (tree_of p.1) (put_member (members_of ps) key (tree_of t)))
+    → cond b (member (chars (text_bytes p.0)) (tree_of t) (members_of ps)) (member (chars (text_bytes p.0)) (tree_of p.1) (put_member (members_of ps) key (tree_of t)))
     ≡ members_of ((p ∷ ps) ++ (k, t) ∷ []) in
-    (elim (same_text key (chars (string_bytes p.0))) as P [
+    (elim (same_text key (chars (text_bytes p.0))) as P [
       | true ↦ λ e. cc
-      | false ↦ λ e. ap (member (chars (string_bytes p.0)) (tree_of p.1)) (put_member-absent key ps k t (option_map-None suc (key_place key ps) e) named)
+      | false ↦ λ e. ap (member (chars (text_bytes p.0)) (tree_of p.1)) (put_member-absent key ps k t (option_map-None suc (key_place key ps) e) named)
     ]) is
 
 -- and isn't taken out
@@ -132,10 +134,10 @@ pub cut_member-absent : (key : List ℕ) (ps : List Pair) → key_place key ps �
 cut_member-absent key [] is = refl
 cut_member-absent key (p ∷ ps) is =
     let P : Bool → Type 0 = λ b. cond b (Some 0) (option_map suc (key_place key ps)) ≡ None
-    → cond b (Some (members_of ps)) (option_map (member (chars (string_bytes p.0)) (tree_of p.1)) (cut_member (members_of ps) key)) ≡ None in
-    (elim (same_text key (chars (string_bytes p.0))) as P [
+    → cond b (Some (members_of ps)) (option_map (member (chars (text_bytes p.0)) (tree_of p.1)) (cut_member (members_of ps) key)) ≡ None in
+    (elim (same_text key (chars (text_bytes p.0))) as P [
       | true ↦ λ e. cc
-      | false ↦ λ e. ap (option_map (member (chars (string_bytes p.0)) (tree_of p.1))) (cut_member-absent key ps (option_map-None suc (key_place key ps) e))
+      | false ↦ λ e. ap (option_map (member (chars (text_bytes p.0)) (tree_of p.1))) (cut_member-absent key ps (option_map-None suc (key_place key ps) e))
     ]) is
 
 -- ---- the element at an index

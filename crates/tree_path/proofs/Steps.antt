@@ -1,5 +1,5 @@
 -- One step in a tree of src/: the index and the pair that the code finds, and what the definitions say there.
-use Rattle.std.proofs.Common.{◌≡◌, ℕ, ◌<◌, ◌≤◌, Bool, true, false, cond, nat_lt, List, [], ◌∷◌, ◌++◌, length, get_or, set, codes, Option, Some, None, option_map, Result, Ok, Err, String, Global, string_bytes, Vec, vec_len, refl, sym, ap, ◌∙◌, arith, rules}
+use Rattle.std.proofs.Common.{◌≡◌, ℕ, ◌<◌, ◌≤◌, Bool, true, false, cond, nat_lt, List, [], ◌∷◌, ◌++◌, length, get_or, set, codes, Option, Some, None, option_map, Result, Ok, Err, Global, Vec, vec_len, refl, sym, ap, ◌∙◌, arith, rules}
 use Rattle.std.specs.List.{remove}
 use Rattle.std.specs.Option.{ok_or}
 use Rattle.std.specs.Str.{chars, IsUtf8, bytes_eq}
@@ -11,6 +11,8 @@ use Rattle.yaml_grammar.specs.Texts.{same_text}
 use Rattle.yaml_grammar.specs.Trees as grammar
 use Rattle.yaml_grammar.specs.Trees.{sequence, mapping}
 use Rattle.yaml_tree.specs.Seen.{Pair, tree_of, elements_of, members_of}
+use Rattle.yaml_tree.specs.TextBytes.{text_bytes}
+use Rattle.yaml_tree.specs.declared.text.Text.{Text}
 use Rattle.yaml_tree.specs.declared.tree.Tree.{Tree}
 use Rattle.tree_path.specs.Paths.{Index, number, after_last, no_index, is_number, number_after, index_of, at_index, present, element_at, put_element, cut_element, push_element, child, put, cut}
 use Rattle.tree_path.specs.Steps.{number_of, index_below, key_place}
@@ -170,7 +172,7 @@ unfolding put
 put-Map ps key i t d is = ap (λ ms. Ok (mapping ms)) (put_member-place key ps i t d is)
 
 -- or added with its key at the end
-pub put-Map-last : (ps : List Pair) (key : List ℕ) (k : String Global) (t : Tree) → key_place key ps ≡ None → chars (string_bytes k) ≡ key
+pub put-Map-last : (ps : List Pair) (key : List ℕ) (k : Text) (t : Tree) → key_place key ps ≡ None → chars (text_bytes k) ≡ key
     → put (mapping (members_of ps)) key (tree_of t) ≡ Ok (mapping (members_of (ps ++ (k, t) ∷ [])))
 unfolding put
 put-Map-last ps key k t is named = ap (λ ms. Ok (mapping ms)) (put_member-absent key ps k t is named)

@@ -1,5 +1,5 @@
 -- What the parts of one step are: the number that a token is, the element and the pair that it leads to.
-use Rattle.std.specs.Prelude.{◌≡◌, ◌==◌, ℕ, suc, List, [], ◌∷◌, Option, Some, None, option_map, min, Result, Ok, Err, if◌then◌else◌, nat_lt, map, string_bytes}
+use Rattle.std.specs.Prelude.{◌≡◌, ◌==◌, ℕ, suc, List, [], ◌∷◌, Option, Some, None, option_map, min, Result, Ok, Err, if◌then◌else◌, nat_lt, map}
 use Rattle.std.specs.Cow.{cow_str_bytes}
 use Rattle.std.specs.declared.borrow.CowStr.{CowStr}
 use Rattle.std.specs.declared.alloc.Global.{Global}
@@ -7,6 +7,7 @@ use Rattle.std.specs.Str.{chars}
 use Rattle.yaml_grammar.specs.Texts.{same_text}
 use Rattle.yaml_grammar.specs.Trees.{Tree}
 use Rattle.yaml_tree.specs.Seen.{Pair}
+use Rattle.yaml_tree.specs.TextBytes.{text_bytes}
 use Rattle.tree_path.specs.Pointers.{tilde, slash}
 use Rattle.tree_path.specs.Paths.{is_number, number_after, index_of, at_index, child, put}
 use Rattle.tree_path.specs.declared.place.Known.{Known}
@@ -30,7 +31,7 @@ index_below token count = at_index (index_of token) (λ n. if nat_lt n count the
 abbrev pub key_place : List ℕ → List Pair → Option ℕ
 key_place key [] = None
 key_place key (pair ∷ pairs) =
-    if same_text key (chars (string_bytes pair.0)) then Some 0 else option_map suc (key_place key pairs)
+    if same_text key (chars (text_bytes pair.0)) then Some 0 else option_map suc (key_place key pairs)
 
 -- what is known of a key's place is so
 abbrev pub Knows : Known → Option ℕ → Type 0

@@ -14,7 +14,7 @@ use crate::place::{self, Known, Miss};
 use std::alloc::Global;
 use std::borrow::CowStr;
 use std::mem;
-use yaml_tree::Tree;
+use yaml_tree::{Text, Tree};
 
 /// The value at a path (RFC 6901, 4). Refused are a step that leads to nothing (`NoSuchPlace`), and one into a
 /// sequence that is no index (`NotIndex`).
@@ -273,7 +273,7 @@ fn put_element(
 /// Puts a value in the place of the first pair with the key, or after the last pair.
 fn put_pair(
     alloc: Global,
-    pairs: &mut Vec<(String, Tree)>,
+    pairs: &mut Vec<(Text, Tree)>,
     key: &str,
     place: Option<usize>,
     value: Tree,
@@ -290,7 +290,7 @@ fn put_pair(
         pairs[place].1 = value;
         return Ok(());
     }
-    let Ok(key) = String::from_str(alloc, key) else {
+    let Ok(key) = Text::new(alloc, key) else {
         return Err((value, PathFault::OutOfMemory));
     };
     match pairs.push((key, value)) {
@@ -332,7 +332,7 @@ fn cut_element(items: &mut Vec<Tree>, token: &str) -> Result<Tree, Miss>
 }
 
 /// Takes out the first pair with the key, at its place.
-fn cut_pair(pairs: &mut Vec<(String, Tree)>, key: &str, place: Option<usize>) -> Result<Tree, Miss>
+fn cut_pair(pairs: &mut Vec<(Text, Tree)>, key: &str, place: Option<usize>) -> Result<Tree, Miss>
     requires { place ≡ key_place (chars key.now) pairs.old.items }
     ensures ok { OnOk result
         (cut (mapping (members_of pairs.old.items)) (chars key.now)

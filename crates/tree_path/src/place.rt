@@ -8,7 +8,7 @@ ghost use Rattle.tree_path.specs.Steps.{number_of, as_usize, index_below, key_pl
 
 use crate::fault::PathFault;
 use std::mem;
-use yaml_tree::Tree;
+use yaml_tree::{Text, Tree};
 
 /// Why a step leads to nothing.
 #[derive(Clone, Copy, Debug, PartialEq, Eq)]
@@ -63,7 +63,7 @@ pub fn element_index(token: &str, count: usize) -> Result<usize, Miss>
 }
 
 /// The place, from 0, of the first pair with the key.
-pub fn key_place(pairs: &[(String, Tree)], key: &str) -> Option<usize>
+pub fn key_place(pairs: &[(Text, Tree)], key: &str) -> Option<usize>
     ensures { result ≡ place_of (chars key.now) pairs.now }
 {
     for (place, (other, _)) in pairs.iter().enumerate() {
@@ -169,7 +169,7 @@ fn exchange_element(items: &mut Vec<Tree>, token: &str, other: &mut Tree) -> Res
     Ok(())
 }
 
-fn exchange_value(pairs: &mut Vec<(String, Tree)>, key: &str, other: &mut Tree) -> Result<(), Miss>
+fn exchange_value(pairs: &mut Vec<(Text, Tree)>, key: &str, other: &mut Tree) -> Result<(), Miss>
     ensures taken { OnOk result
         (child (mapping (members_of pairs.old.items)) (chars key.now) ≡ Ok (tree_of other.new)) }
     ensures put_there { OnOk result

@@ -1,9 +1,9 @@
 -- The keys of a mapping, looked up one after another among those before.
-use Rattle.std.proofs.Common.{◌≡◌, ℕ, Bool, true, false, not, ◌&&◌, ◌||◌, List, [], ◌∷◌, Bor, Ordering, Less, Equal, Greater, string_bytes, nat_cmp, is_eq, IsUtf8, encode_utf8_all, refl, sym, ap, ap₂, ◌∙◌}
+use Rattle.std.proofs.Common.{◌≡◌, ℕ, Bool, true, false, not, ◌&&◌, ◌||◌, List, [], ◌∷◌, Bor, Ordering, Less, Equal, Greater, nat_cmp, is_eq, IsUtf8, encode_utf8_all, refl, sym, ap, ap₂, ◌∙◌}
 use Rattle.std.proofs.lemmas.Bool.Decides.{same_from_decides}
 use Rattle.std.proofs.lemmas.Map.Text.{is_eq-slice_cmp}
 use Rattle.std.proofs.lemmas.Slice.Eq.{bytes_eq-Decides}
-use Rattle.std.proofs.lemmas.Str.{encodes-chars, IsUtf8-string_bytes}
+use Rattle.std.proofs.lemmas.Str.{encodes-chars}
 use Rattle.std.specs.BTreeMap.{is_at}
 use Rattle.std.specs.BTreeSet.{insert_key}
 use Rattle.std.specs.Cmp.Lexicographic.{slice_cmp}
@@ -14,7 +14,9 @@ use Rattle.yaml_grammar.specs.Texts.{same_text}
 use Rattle.yaml_grammar.specs.Trees.{Members, no_member, member, has_key, distinct, members_distinct}
 use Rattle.yaml_tree.specs.Keys.{keys_differ, values_distinct}
 use Rattle.yaml_tree.specs.Seen.{Pair, members_of}
+use Rattle.yaml_tree.specs.TextBytes.{text_bytes}
 use Rattle.yaml_tree.proofs.CharacterLemmas.{same_text-Decides}
+use Rattle.yaml_tree.proofs.TextLemmas.{IsUtf8-text_bytes}
 
 -- a key among those that were seen
 abbrev pub Key : Type 0
@@ -32,7 +34,7 @@ is_seen text (k ∷ ks) = same_text text k.now || is_seen text ks
 -- no key of the pairs is among the keys
 abbrev pub none_seen : List Key → List Pair → Bool
 none_seen ks [] = true
-none_seen ks (m ∷ ms) = not (is_seen (string_bytes m.0) ks) && none_seen ks ms
+none_seen ks (m ∷ ms) = not (is_seen (text_bytes m.0) ks) && none_seen ks ms
 
 -- ---- texts are compared by bytes
 
@@ -100,24 +102,24 @@ none_seen-insert : (k : Key) (ks : List Key) (ms : List Pair) → IsUtf8 k.now
     → none_seen (insert_key key_cmp ks k) ms ≡ (none_seen ks ms && not (has_key (chars k.now) (members_of ms)))
 none_seen-insert k ks [] utf8 = refl
 none_seen-insert k ks (m ∷ ms) utf8 =
-    let q = string_bytes m.0 in
+    let q = text_bytes m.0 in
     let h = has_key (chars k.now) (members_of ms) in
     ap₂ (λ a b. not a && b) (is_seen-insert q ks k) (none_seen-insert k ks ms utf8)
     ∙ part_apart (same_text q k.now) (is_seen q ks) (none_seen ks ms) h
     ∙ ap (λ a. not (is_seen q ks) && none_seen ks ms && not (a || h))
-    (either_way q k.now ∙ sym (same_chars k.now q utf8 (IsUtf8-string_bytes m.0)))
+    (either_way q k.now ∙ sym (same_chars k.now q utf8 (IsUtf8-text_bytes m.0)))
 
 and_assoc : (a b c : Bool) → (a && (b && c)) ≡ (a && b && c)
 and_assoc true b c = refl
 and_assoc false b c = refl
 
 -- a key that was seen before
-pub clear_seen : (k : Key) (ks : List Key) (m : Pair) (ms : List Pair) → k.now ≡ string_bytes m.0 → is_seen k.now ks ≡ true
+pub clear_seen : (k : Key) (ks : List Key) (m : Pair) (ms : List Pair) → k.now ≡ text_bytes m.0 → is_seen k.now ks ≡ true
     → (none_seen ks (m ∷ ms) && keys_differ (members_of (m ∷ ms))) ≡ false
 clear_seen k ks m ms e seen = rw (← e, seen) refl
 
 -- and one that was not
-pub clear_new : (k : Key) (ks : List Key) (m : Pair) (ms : List Pair) → IsUtf8 k.now → k.now ≡ string_bytes m.0 → is_seen k.now ks ≡ false
+pub clear_new : (k : Key) (ks : List Key) (m : Pair) (ms : List Pair) → IsUtf8 k.now → k.now ≡ text_bytes m.0 → is_seen k.now ks ≡ false
     → (none_seen (insert_key key_cmp ks k) ms && keys_differ (members_of ms)) ≡ (none_seen ks (m ∷ ms) && keys_differ (members_of (m ∷ ms)))
 clear_new k ks m ms utf8 e new =
     ap (λ a. a && keys_differ (members_of ms)) (none_seen-insert k ks ms utf8)

@@ -13,6 +13,7 @@ pub mod SizeBounds
 pub mod SpecialWords
 pub mod StyleLemmas
 pub mod CharacterLemmas
+pub mod TextLemmas
 pub mod TextTreeLemmas
 pub mod WalkLemmas
 pub mod FrameLemmas

@@ -1,10 +1,11 @@
 -- Open parts, one more of them or one more thing in one.
-use Rattle.std.proofs.Common.{◌≡◌, ◌<◌, List, [], ◌∷◌, ◌++◌, length, None, string_bytes, arith, refl, ap}
+use Rattle.std.proofs.Common.{◌≡◌, ◌<◌, List, [], ◌∷◌, ◌++◌, length, None, arith, refl, ap}
 use Rattle.std.specs.Str.{chars}
 use Rattle.yaml_grammar.specs.Trees as grammar
 use Rattle.yaml_tree.specs.Building.{frame_of, frames_onto, frames_of}
 use Rattle.yaml_tree.specs.Frames.{Frame, awaiting, root, whole, in_seq, at_key, at_value, elements_and, members_and, finished_tree}
 use Rattle.yaml_tree.specs.Seen.{Pair, tree_of, elements_of, members_of}
+use Rattle.yaml_tree.specs.TextBytes.{text_bytes}
 use Rattle.yaml_tree.specs.declared.build.Part.{Part}
 use Rattle.yaml_tree.specs.declared.tree.Tree.{Tree}
 
@@ -14,9 +15,9 @@ elements_of-and [] t = refl
 elements_of-and (u ∷ ts) t = ap (grammar.element (tree_of u)) (elements_of-and ts t)
 
 -- the members of a list with one more pair at the end
-pub members_of-and : (ms : List Pair) (m : Pair) → members_of (ms ++ m ∷ []) ≡ members_and (members_of ms) (chars (string_bytes m.0)) (tree_of m.1)
+pub members_of-and : (ms : List Pair) (m : Pair) → members_of (ms ++ m ∷ []) ≡ members_and (members_of ms) (chars (text_bytes m.0)) (tree_of m.1)
 members_of-and [] m = refl
-members_of-and (n ∷ ms) m = ap (grammar.member (chars (string_bytes n.0)) (tree_of n.1)) (members_of-and ms m)
+members_of-and (n ∷ ms) m = ap (grammar.member (chars (text_bytes n.0)) (tree_of n.1)) (members_of-and ms m)
 
 frames_onto-push : (ps : List Part) (p : Part) (fs : List Frame) → frames_onto (ps ++ p ∷ []) fs ≡ frame_of p ∷ frames_onto ps fs
 frames_onto-push [] p fs = refl

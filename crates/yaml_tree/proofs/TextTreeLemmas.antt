@@ -1,8 +1,8 @@
 -- Each text of a tree is a text.
-use Rattle.std.proofs.Common.{◌≡◌, ℕ, ◌<◌, ◌≤◌, ◌⊎◌, true, List, [], ◌∷◌, map, Global, String, string_bytes, refl, sym, subst, arith}
+use Rattle.std.proofs.Common.{◌≡◌, ℕ, ◌<◌, ◌≤◌, ◌⊎◌, true, List, [], ◌∷◌, map, refl, sym, subst, arith}
 use Rattle.std.proofs.lemmas.Bool.{and_parts, and_from}
 use Rattle.std.proofs.lemmas.Bool.Decides.{nat_tests}
-use Rattle.std.proofs.lemmas.Str.{scalars-chars, IsUtf8-string_bytes}
+use Rattle.std.proofs.lemmas.Str.{scalars-chars}
 use Rattle.std.proofs.Math.Utf8.{scalar, scalars, scalar_cases}
 use Rattle.std.specs.Str.{chars}
 use Rattle.std.specs.List.{list_all}
@@ -10,9 +10,12 @@ use Rattle.yaml_grammar.specs.Texts.{IsText}
 use Rattle.yaml_grammar.specs.Trees.{Tree as Seen, IsTextTree, AreTextElements, AreTextMembers}
 use Rattle.yaml_chars.specs.Classes.{code_point}
 use Rattle.yaml_tree.specs.Seen.{Pair, tree_of, level, elements_from, members_from}
+use Rattle.yaml_tree.specs.TextBytes.{text_bytes}
+use Rattle.yaml_tree.specs.declared.text.Text.{Text}
 use Rattle.yaml_tree.specs.declared.tree.Tree.{Tree}
 use Rattle.yaml_tree.specs.declared.tree.Tree.TheFolds.{map-Tree, ind-Tree, fold-roll-Tree}
 use Rattle.yaml_tree.specs.declared.tree.Tree.TheOpen.{Tree-F}
+use Rattle.yaml_tree.proofs.TextLemmas.{IsUtf8-text_bytes}
 
 passes : (c : ℕ) → (c < 55296) ⊎ ((57344 ≤ c) × (c < 1114112)) → code_point c ≡ true
 passes c h = grind (arith, nat_tests)
@@ -23,9 +26,9 @@ all_code_points (c ∷ cs) e =
     let parts = and_parts (scalar c) (scalars cs) e in
     and_from (code_point c) (list_all code_point cs) (passes c (scalar_cases c parts.0)) (all_code_points cs parts.1)
 
--- a `String` holds a text
-pub chars-IsText : (s : String Global) → IsText (chars (string_bytes s))
-chars-IsText s = all_code_points (chars (string_bytes s)) (scalars-chars (string_bytes s) (IsUtf8-string_bytes s))
+-- the characters of a `Text` are a text
+pub chars-IsText : (s : Text) → IsText (chars (text_bytes s))
+chars-IsText s = all_code_points (chars (text_bytes s)) (scalars-chars (text_bytes s) (IsUtf8-text_bytes s))
 
 -- a tree with the fact of it
 abbrev TextTree : Type 0
@@ -35,7 +38,7 @@ elements_hold_texts : (es : List TextTree) → AreTextElements (elements_from (m
 elements_hold_texts [] = tt
 elements_hold_texts (e ∷ es) = (e.1, elements_hold_texts es)
 
-members_hold_texts : (ms : List (String Global × TextTree)) → AreTextMembers (members_from (map (λ (m : Pair). (m.0, tree_of m.1)) (map (λ (m : String Global × TextTree). (m.0, m.1.0)) ms)))
+members_hold_texts : (ms : List (Text × TextTree)) → AreTextMembers (members_from (map (λ (m : Pair). (m.0, tree_of m.1)) (map (λ (m : Text × TextTree). (m.0, m.1.0)) ms)))
 members_hold_texts [] = tt
 members_hold_texts (m ∷ ms) = (chars-IsText m.0, m.1.1, members_hold_texts ms)
 

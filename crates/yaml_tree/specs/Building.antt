@@ -1,5 +1,5 @@
 -- What the open parts of src/build.rt mean, and how events of no tree are refused.
-use Rattle.std.specs.Prelude.{◌≡◌, true, false, List, [], ◌∷◌, Option, None, string_bytes}
+use Rattle.std.specs.Prelude.{◌≡◌, true, false, List, [], ◌∷◌, Option, None}
 use Rattle.std.specs.Str.{chars}
 use Rattle.yaml_docs.specs.declared.fault.ReadFault.{ReadFault}
 use Rattle.yaml_docs.specs.declared.fault.ReadFault.TheVariants.{TooLong, NotUtf8, Syntax, Documents, KeyNotText, KeyTwice, TooDeep, LargeInStyle, OutOfMemory}
@@ -10,6 +10,7 @@ use Rattle.yaml_tree.specs.declared.build.Part.{Part}
 use Rattle.yaml_tree.specs.declared.build.Part.TheVariants.{Document, Root, Whole, Seq, Map, Value}
 use Rattle.yaml_tree.specs.Frames.{Frame, awaiting, root, whole, in_seq, at_key, at_value}
 use Rattle.yaml_tree.specs.Seen.{tree_of, elements_of, members_of}
+use Rattle.yaml_tree.specs.TextBytes.{text_bytes}
 
 abbrev pub frame_of : Part → Frame
 frame_of Document = awaiting
@@ -17,7 +18,7 @@ frame_of (Root tree) = root (tree_of tree)
 frame_of (Whole tree) = whole (tree_of tree)
 frame_of (Seq items) = in_seq (elements_of items.items)
 frame_of (Map pairs) = at_key (members_of pairs.items)
-frame_of (Value pairs key) = at_value (members_of pairs.items) (chars (string_bytes key))
+frame_of (Value pairs key) = at_value (members_of pairs.items) (chars (text_bytes key))
 
 -- those of a list whose last one is the innermost, put before others
 abbrev pub frames_onto : List Part → List Frame → List Frame

@@ -10,6 +10,7 @@ pub mod Lines
 pub mod Runs
 pub mod ScalarStyles
 pub mod Seen
+pub mod TextBytes
 pub mod Nested
 pub mod Sizes
 pub mod Reading

@@ -1,26 +1,27 @@
 -- What a tree of src/ is in the grammar: the same, with texts as code points.
-use Rattle.std.specs.Prelude.{List, [], ◌∷◌, map, String, string_bytes}
+use Rattle.std.specs.Prelude.{List, [], ◌∷◌, map}
 use Rattle.std.specs.Str.{chars}
-use Rattle.std.specs.declared.alloc.Global.{Global}
 use Rattle.yaml_grammar.specs.Trees as grammar
+use Rattle.yaml_tree.specs.TextBytes.{text_bytes}
+use Rattle.yaml_tree.specs.declared.text.Text.{Text}
 use Rattle.yaml_tree.specs.declared.tree.Tree.{Tree, fold-Tree}
 use Rattle.yaml_tree.specs.declared.tree.Tree.TheOpen.{Tree-F}
 
 -- a member of a mapping: its key and its value
 abbrev pub Pair : Type 0
-Pair = String Global × Tree
+Pair = Text × Tree
 
 abbrev pub elements_from : List grammar.Tree → grammar.Elements
 elements_from [] = grammar.no_element
 elements_from (t ∷ ts) = grammar.element t (elements_from ts)
 
-abbrev pub members_from : List (String Global × grammar.Tree) → grammar.Members
+abbrev pub members_from : List (Text × grammar.Tree) → grammar.Members
 members_from [] = grammar.no_member
-members_from (m ∷ ms) = grammar.member (chars (string_bytes m.0)) m.1 (members_from ms)
+members_from (m ∷ ms) = grammar.member (chars (text_bytes m.0)) m.1 (members_from ms)
 
 -- one level, with each tree inside already seen
 abbrev pub level : Tree-F grammar.Tree → grammar.Tree
-level (Tree-F.Text s) = grammar.text (chars (string_bytes s))
+level (Tree-F.Text s) = grammar.text (chars (text_bytes s))
 level (Tree-F.Seq items) = grammar.sequence (elements_from items.items)
 level (Tree-F.Map pairs) = grammar.mapping (members_from pairs.items)
 

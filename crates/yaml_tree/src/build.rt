@@ -1,13 +1,16 @@
 // The tree of a document, built from its events.
-ghost use Rattle.std.specs.Prelude.{◌≡◌, List, [], ◌∷◌, Some, MatchResult};
+ghost use Rattle.std.specs.Prelude.{◌≡◌, List, [], ◌∷◌, Some, IfOk, MatchResult};
+ghost use Rattle.std.specs.Cow.{cow_str_bytes};
 ghost use Rattle.yaml_events.specs.Meant.{event_of, events_of};
 ghost use Rattle.yaml_grammar.specs.Trees.{IsTreeOf, shape};
 ghost use Rattle.yaml_tree.specs.Building.{frame_of, frames_of, HasNone, HasNoTree};
 ghost use Rattle.yaml_tree.specs.Frames.{in_seq, at_key, frame_with, frames_with, step, after_document_end, after_seq_end, after_map_end, finished_tree};
 ghost use Rattle.yaml_tree.specs.Seen.{tree_of, elements_of, members_of};
+ghost use Rattle.yaml_tree.specs.TextBytes.{text_bytes};
 
-use crate::{ReadFault, Tree};
-use std::alloc::Global;
+use crate::{ReadFault, Text, Tree};
+use std::alloc::{AllocError, Global};
+use std::borrow::CowStr;
 use yaml_events::{Event, Events};
 
 /// A part of a document that is not complete: its end, or a further value in it, is still to come.
@@ -22,9 +25,9 @@ pub(crate) enum Part {
     /// A sequence of these elements so far.
     Seq(Vec<Tree>),
     /// A mapping of these pairs so far, where a key is next.
-    Map(Vec<(String, Tree)>),
+    Map(Vec<(Text, Tree)>),
     /// A mapping of these pairs so far, where the value of a key is next.
-    Value(Vec<(String, Tree)>, String),
+    Value(Vec<(Text, Tree)>, Text),
 }
 
 impl Part {
@@ -139,7 +142,7 @@ impl Builder {
     }
 
     /// Ends the innermost part and returns its pairs. Returns `KeyNotText` if it is no mapping where a key is next.
-    pub(crate) fn end_map(&mut self) -> Result<Vec<(String, Tree)>, ReadFault>
+    pub(crate) fn end_map(&mut self) -> Result<Vec<(Text, Tree)>, ReadFault>
         ensures { MatchResult result
             (λ pairs. frames_of self.old.parts.items
             ≡ at_key (members_of pairs.items) ∷ frames_of self.new.parts.items)
@@ -174,7 +177,7 @@ impl Builder {
                 self.put(Tree::Map(pairs))
             }
             Event::Scalar { value, .. } => {
-                let text = value.into_owned(self.alloc)?;
+                let text = text_of(self.alloc, value)?;
                 self.put(Tree::Text(text))
             }
         }
@@ -194,6 +197,16 @@ impl Builder {
             Part::Whole(tree) => Ok(tree),
             _ => Err(ReadFault::KeyNotText),
         }
+    }
+}
+
+/// The text of a scalar. One that owns its memory hands it over.
+fn text_of(alloc: Global, value: CowStr<'_>) -> Result<Text, AllocError>
+    ensures { IfOk result (λ text. text_bytes text ≡ cow_str_bytes value.entry) }
+{
+    match value {
+        CowStr::Borrowed(text) => Text::new(alloc, text),
+        CowStr::Owned(string) => Ok(Text::from_string(string)),
     }
 }
 

@@ -8,7 +8,7 @@ ghost use Rattle.yaml_tree.specs.Kept.{IsKept, IsFirstFault, own_limits, limits_
 ghost use Rattle.yaml_tree.specs.Seen.{tree_of};
 
 use crate::keys::has_distinct_keys;
-use crate::{Limits, ReadFault, Tree, style_len};
+use crate::{Limits, ReadFault, Text, Tree, style_len};
 use std::alloc::{AllocError, Global};
 use std::marker::Model;
 
@@ -92,11 +92,11 @@ impl Config {
     }
 
     /// The configuration that is the empty text. It takes no memory.
-    pub fn empty(alloc: Global) -> Config
+    pub fn empty() -> Config
         ensures { tree_of result ≡ text [] }
     {
         Config {
-            tree: Tree::Text(String::new(alloc)),
+            tree: Tree::Text(Text::empty()),
             length: EMPTY_LENGTH,
         }
     }

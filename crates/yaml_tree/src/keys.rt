@@ -4,7 +4,7 @@ ghost use Rattle.yaml_grammar.specs.Trees.{distinct};
 ghost use Rattle.yaml_tree.specs.Keys.{keys_differ, own_keys_differ, level_distinct, level_nodes, nodes};
 ghost use Rattle.yaml_tree.specs.Seen.{tree_of, members_of};
 
-use crate::Tree;
+use crate::{Text, Tree};
 use std::alloc::{AllocError, Global};
 use std::collections::BTreeSet;
 
@@ -37,7 +37,7 @@ enum Level<'t> {
     /// Elements of a sequence.
     Elements(&'t [Tree]),
     /// Values of a mapping.
-    Values(&'t [(String, Tree)]),
+    Values(&'t [(Text, Tree)]),
 }
 
 impl<'t> Level<'t> {
@@ -86,7 +86,7 @@ fn have_own_keys_distinct(alloc: Global, tree: &Tree) -> Result<bool, AllocError
 }
 
 /// Whether the keys of one mapping differ. Each is looked up among those before it, which are in order.
-pub(crate) fn keys_differ(alloc: Global, pairs: &[(String, Tree)]) -> Result<bool, AllocError>
+pub(crate) fn keys_differ(alloc: Global, pairs: &[(Text, Tree)]) -> Result<bool, AllocError>
     ensures { IfOk result (λ answer. answer ≡ keys_differ (members_of pairs.now)) }
 {
     let mut seen = BTreeSet::new(alloc);

@@ -18,9 +18,11 @@ mod quoted;
 mod read;
 mod read_laws;
 mod scalar;
+mod short;
 mod sink;
 mod size;
 mod style;
+mod text;
 mod text_sink;
 mod tree;
 
@@ -34,5 +36,6 @@ pub use scalar::{ScalarStyle, scalar_style};
 pub use sink::Sink;
 pub use size::Size;
 pub use style::{write_key, write_style, write_text, write_value};
+pub use text::Text;
 pub use tree::Tree;
 pub use yaml_docs::{Brief, ReadFault};

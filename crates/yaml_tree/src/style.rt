@@ -10,7 +10,7 @@ ghost use Rattle.yaml_tree.specs.Seen.{tree_of, elements_of, members_of};
 use crate::count::is_long_key;
 use crate::literal::write_literal_lines;
 use crate::quoted::write_quoted;
-use crate::{ScalarStyle, Sink, Tree, scalar_style};
+use crate::{ScalarStyle, Sink, Text, Tree, scalar_style};
 
 /// Writes a tree in the one style: the text, with the end of its last line. The call stack grows with the depth,
 /// which therefore is at most 66; [`is_deeper_than`](Tree::is_deeper_than) tests that.
@@ -134,11 +134,7 @@ pub(crate) fn write_element<S: Sink>(tree: &Tree, indent: u64, sink: &mut S) -> 
 
 /// Writes the members of a mapping at `indent`, the first without its spaces.
 #[cycle(lines)]
-fn write_members<S: Sink>(
-    pairs: &[(String, Tree)],
-    indent: u64,
-    sink: &mut S,
-) -> Result<(), S::Fault>
+fn write_members<S: Sink>(pairs: &[(Text, Tree)], indent: u64, sink: &mut S) -> Result<(), S::Fault>
     requires room { indent + 2 * members_depth (members_of pairs.now) < 2 ^ 64 }
     ensures { OnOk result (S.Takes sink.old (members_at (members_of pairs.now) indent) sink.new) }
 {

@@ -3,6 +3,7 @@ ghost use Rattle.std.specs.Prelude.{◌≡◌, ◌≤◌, min, nat_lt, IfOk};
 ghost use Rattle.yaml_grammar.specs.Trees.{depth, elements_depth, members_depth};
 ghost use Rattle.yaml_tree.specs.Seen.{tree_of, elements_of, members_of};
 
+use crate::Text;
 use std::alloc::{AllocError, Global};
 
 /// A tree of texts (YAML 1.2.2, 3.2.1).
@@ -12,12 +13,14 @@ use std::alloc::{AllocError, Global};
 #[derive(Debug, Drop)]
 pub enum Tree {
     /// A text.
-    Text(String),
+    Text(Text),
     /// A sequence of elements, in order.
     Seq(Vec<Tree>),
     /// A mapping of keys to values, in order.
-    Map(Vec<(String, Tree)>),
+    Map(Vec<(Text, Tree)>),
 }
+
+const _: () = prove!(size_of::<Tree>() == 40);
 
 impl Tree {
     /// Whether the tree is more than `limit` deep. It looks no deeper than that, so the call stack stays small for
@@ -69,7 +72,7 @@ fn has_deeper_element(items: &[Tree], limit: u8) -> bool
 }
 
 #[cycle(deeper)]
-fn has_deeper_value(pairs: &[(String, Tree)], limit: u8) -> bool
+fn has_deeper_value(pairs: &[(Text, Tree)], limit: u8) -> bool
     ensures { result ≡ nat_lt limit (members_depth (members_of pairs.now)) }
 {
     for (_, value) in pairs {
@@ -96,7 +99,7 @@ fn copied(alloc: Global, tree: &Tree) -> Result<Tree, AllocError>
     ensures { IfOk result (λ copy. tree_of copy ≡ tree_of tree.now) }
 {
     match tree {
-        Tree::Text(text) => Ok(Tree::Text(text.clone()?)),
+        Tree::Text(text) => Ok(Tree::Text(text.try_copy(alloc)?)),
         Tree::Seq(items) => Ok(Tree::Seq(copied_items(alloc, items)?)),
         Tree::Map(pairs) => Ok(Tree::Map(copied_pairs(alloc, pairs)?)),
     }
@@ -114,7 +117,7 @@ fn deepest_item(items: &[Tree]) -> u64
 }
 
 #[cycle(depth)]
-fn deepest_value(pairs: &[(String, Tree)]) -> u64
+fn deepest_value(pairs: &[(Text, Tree)]) -> u64
     ensures { result ≡ min (members_depth (members_of pairs.now)) u64.MAX }
 {
     let mut deepest = 0u64;
@@ -136,12 +139,12 @@ fn copied_items(alloc: Global, items: &[Tree]) -> Result<Vec<Tree>, AllocError>
 }
 
 #[cycle(copy)]
-fn copied_pairs(alloc: Global, pairs: &[(String, Tree)]) -> Result<Vec<(String, Tree)>, AllocError>
+fn copied_pairs(alloc: Global, pairs: &[(Text, Tree)]) -> Result<Vec<(Text, Tree)>, AllocError>
     ensures { IfOk result (λ copies. members_of copies.items ≡ members_of pairs.now) }
 {
     let mut copies = Vec::with_capacity(alloc, pairs.len())?;
     for (key, value) in pairs {
-        copies.push((key.clone()?, copied(alloc, value)?))?;
+        copies.push((key.try_copy(alloc)?, copied(alloc, value)?))?;
     }
     Ok(copies)
 }

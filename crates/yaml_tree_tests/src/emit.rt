@@ -2,14 +2,14 @@
 use std::alloc::{AllocError, Global};
 use std::test::Fail;
 use yaml_emit::style_text;
-use yaml_tree::{Config, ReadFault, Tree};
+use yaml_tree::{Config, ReadFault, Text, Tree};
 
 fn text(alloc: Global, value: &str) -> Result<Tree, AllocError> {
-    Ok(Tree::Text(String::from_str(alloc, value)?))
+    Ok(Tree::Text(Text::new(alloc, value)?))
 }
 
-fn pair(alloc: Global, key: &str, value: Tree) -> Result<(String, Tree), AllocError> {
-    Ok((String::from_str(alloc, key)?, value))
+fn pair(alloc: Global, key: &str, value: Tree) -> Result<(Text, Tree), AllocError> {
+    Ok((Text::new(alloc, key)?, value))
 }
 
 fn letters(alloc: Global, count: u32) -> Result<String, AllocError> {

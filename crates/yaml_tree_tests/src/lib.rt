@@ -11,4 +11,6 @@ mod reading;
 #[cfg(test)]
 mod style;
 #[cfg(test)]
+mod texts;
+#[cfg(test)]
 mod trees;

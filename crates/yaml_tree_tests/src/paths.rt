@@ -3,10 +3,10 @@ use std::alloc::{AllocError, Global};
 use std::process::Abort;
 use std::test::Fail;
 use tree_path::{Path, PathFault, at, delete, delete_len, set, set_len};
-use yaml_tree::{Config, Limits, Tree, read_one};
+use yaml_tree::{Config, Limits, Text, Tree, read_one};
 
 fn text(alloc: Global, value: &str) -> Result<Tree, AllocError> {
-    Ok(Tree::Text(String::from_str(alloc, value)?))
+    Ok(Tree::Text(Text::new(alloc, value)?))
 }
 
 fn sequence(alloc: Global, values: &[&str]) -> Result<Tree, AllocError> {
@@ -17,14 +17,14 @@ fn sequence(alloc: Global, values: &[&str]) -> Result<Tree, AllocError> {
     Ok(Tree::Seq(items))
 }
 
-fn pair(alloc: Global, key: &str, value: Tree) -> Result<(String, Tree), AllocError> {
-    Ok((String::from_str(alloc, key)?, value))
+fn pair(alloc: Global, key: &str, value: Tree) -> Result<(Text, Tree), AllocError> {
+    Ok((Text::new(alloc, key)?, value))
 }
 
 /// A tree on one line: texts as they are, sequences in brackets, mappings in braces.
 fn show(alloc: Global, tree: &Tree) -> Result<String, AllocError> {
     match tree {
-        Tree::Text(value) => value.clone(),
+        Tree::Text(value) => String::from_str(alloc, value),
         Tree::Seq(items) => {
             let mut shown = String::from_str(alloc, "[")?;
             for item in items {

@@ -4,11 +4,11 @@ use std::test::Fail;
 use yaml_tree::{Config, ReadFault, ScalarStyle, Size, Tree, scalar_style, style_len};
 
 fn text(alloc: Global, value: &str) -> Result<Tree, AllocError> {
-    Ok(Tree::Text(String::from_str(alloc, value)?))
+    Ok(Tree::Text(Text::new(alloc, value)?))
 }
 
-fn pair(alloc: Global, key: &str, value: &str) -> Result<(String, Tree), AllocError> {
-    Ok((String::from_str(alloc, key)?, text(alloc, value)?))
+fn pair(alloc: Global, key: &str, value: &str) -> Result<(Text, Tree), AllocError> {
+    Ok((Text::new(alloc, key)?, text(alloc, value)?))
 }
 
 /// A tree inside sequences of one element, one in another.
@@ -25,7 +25,7 @@ fn repeated(alloc: Global, piece: &str, times: u32) -> Result<Tree, AllocError> 
     for _ in 0..times {
         all.push_str(piece)?;
     }
-    Ok(Tree::Text(all))
+    Ok(Tree::Text(Text::from_string(all)))
 }
 
 /// The fault of a tree that is refused.
@@ -123,7 +123,7 @@ fn the_style_has_at_most_67108864_bytes(rt: HostRuntime) -> Result<(), Fail> {
 fn a_length_past_the_most_is_none(rt: HostRuntime) -> Result<(), Fail> {
     let alloc = rt.alloc();
     let items = vec![in alloc; text(alloc, "x")?, text(alloc, "y: z")?]?;
-    let b = (String::from_str(alloc, "b")?, Tree::Seq(items));
+    let b = (Text::new(alloc, "b")?, Tree::Seq(items));
     let tree = Tree::Map(vec![in alloc; pair(alloc, "a", "1")?, b]?);
     assert!(rt; !tree.is_deeper_than(66));
     assert_eq!(rt; style_len(&tree, 27), Some(27));
@@ -136,7 +136,7 @@ fn a_length_past_the_most_is_none(rt: HostRuntime) -> Result<(), Fail> {
 fn copies_are_equal(rt: HostRuntime) -> Result<(), Fail> {
     let alloc = rt.alloc();
     let items = vec![in alloc; text(alloc, "x")?]?;
-    let list = (String::from_str(alloc, "list")?, Tree::Seq(items));
+    let list = (Text::new(alloc, "list")?, Tree::Seq(items));
     let tree = Tree::Map(vec![in alloc; pair(alloc, "k", "v")?, list]?);
     assert!(rt; !tree.is_deeper_than(66));
     let copy = tree.try_copy(alloc)?;
@@ -173,7 +173,7 @@ fn very_deep(alloc: Global, levels: u32) -> Result<Tree, AllocError> {
         whole = if level % 2 == 0 {
             Tree::Seq(vec![in alloc; whole]?)
         } else {
-            Tree::Map(vec![in alloc; (String::from_str(alloc, "k")?, whole)]?)
+            Tree::Map(vec![in alloc; (Text::new(alloc, "k")?, whole)]?)
         };
     }
     Ok(whole)
@@ -202,7 +202,7 @@ fn a_tree_that_is_too_deep_is_refused(rt: HostRuntime) -> Result<(), Fail> {
 
 #[test]
 fn the_empty_configuration(rt: HostRuntime) {
-    let config = Config::empty(rt.alloc());
+    let config = Config::empty();
     assert_eq!(rt; config.style_length(), 3);
     assert_eq!(rt; config.depth(), 1);
 }

@@ -23,5 +23,5 @@ pub returns-in-Ok-push-clause-ok : goal.returns-in-Ok-push-clause-ok
 returns-in-Ok-push-clause-ok c =
     let v = c.args.pairs.now in
     put-Map-last v.items (chars c.args.key.now) c.in-Ok.key c.args.value
-    (sym c.requires ∙ none-other c.args.place c.in_default.not-Some) (ap chars c.in-Ok.ensures.ok)
+    (sym c.requires ∙ none-other c.args.place c.in_default.not-Some) (ap chars c.in-Ok.ensures)
     ∙ ap (λ xs. Ok (mapping (members_of xs))) (sym c.in-Ok-push.ensures.items)

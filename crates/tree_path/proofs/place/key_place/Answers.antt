@@ -1,7 +1,8 @@
-use Rattle.std.proofs.Common.{◌≡◌, suc, ◌+◌, Some, cond, option_map, string_bytes, drop, sym, ap, ◌∙◌, arith}
-use Rattle.std.proofs.lemmas.Str.{IsUtf8-string_bytes}
+use Rattle.std.proofs.Common.{◌≡◌, suc, ◌+◌, Some, cond, option_map, drop, sym, ap, ◌∙◌, arith}
 use Rattle.std.specs.Str.{chars, bytes_eq}
 use Rattle.yaml_grammar.specs.Texts.{same_text}
+use Rattle.yaml_tree.specs.TextBytes.{text_bytes}
+use Rattle.yaml_tree.proofs.TextLemmas.{IsUtf8-text_bytes}
 use Rattle.tree_path.specs.Steps.{key_place}
 use Rattle.tree_path.proofs.Places.{bytes_eq-chars, key_place-start, key_place-turn, key_place-next, key_place-end}
 use Rattle.tree_path.proofs.place.key_place.Goals as goal
@@ -13,9 +14,9 @@ pub returns-then-eq : goal.returns-then-eq
 returns-then-eq c =
     let key = c.args.key.now in
     let pair = c.index-pairs-place.result in
-    let same : same_text (chars key) (chars (string_bytes pair.0)) ≡ c.eq.result =
-    sym (c.eq.ensures ∙ ap (λ bytes. bytes_eq bytes key) c.as_str.ensures.value
-    ∙ bytes_eq-chars key (string_bytes pair.0) c.utf8.key (IsUtf8-string_bytes pair.0)) in
+    let same : same_text (chars key) (chars (text_bytes pair.0)) ≡ c.eq.result =
+    sym (c.eq.ensures ∙ ap (λ bytes. bytes_eq bytes key) c.as_str.ensures
+    ∙ bytes_eq-chars key (text_bytes pair.0) c.utf8.key (IsUtf8-text_bytes pair.0)) in
     sym (c.loop-place.invariant
     ∙ ap (option_map (λ i. c.loop-place.place + i))
     (key_place-turn (chars key) c.args.pairs.now c.loop-place.place pair c.loop-place-test.true c.index-pairs-place.is
@@ -26,9 +27,9 @@ pub loop-place-preserved : goal.loop-place-preserved
 loop-place-preserved c =
     let key = c.args.key.now in
     let pair = c.index-pairs-place.result in
-    let same : same_text (chars key) (chars (string_bytes pair.0)) ≡ c.eq.result =
-    sym (c.eq.ensures ∙ ap (λ bytes. bytes_eq bytes key) c.as_str.ensures.value
-    ∙ bytes_eq-chars key (string_bytes pair.0) c.utf8.key (IsUtf8-string_bytes pair.0)) in
+    let same : same_text (chars key) (chars (text_bytes pair.0)) ≡ c.eq.result =
+    sym (c.eq.ensures ∙ ap (λ bytes. bytes_eq bytes key) c.as_str.ensures
+    ∙ bytes_eq-chars key (text_bytes pair.0) c.utf8.key (IsUtf8-text_bytes pair.0)) in
     let left = key_place (chars key) (drop (c.loop-place.place + 1) c.args.pairs.now) in
     c.loop-place.invariant
     ∙ ap (option_map (λ i. c.loop-place.place + i))

@@ -22,7 +22,7 @@ returns-then-not-branch c =
     let here : drop l.key-index pairs ≡ x ∷ rest =
     drop_more pairs l.key-index x (omega arith) ∙ ap (λ y. y ∷ rest) (sym c.loop-key-item.is) in
     let seen = sym (contains-is_seen k ks) ∙ not-false _ (sym c.in_ok-insert.ensures.added ∙ c.if-not-branch.true) in
-    sym (clear_seen k ks x rest c.as_str.ensures.value seen)
+    sym (clear_seen k ks x rest c.as_str.ensures seen)
     ∙ sym (ap (λ ms. none_seen ks ms && keys_differ (members_of ms)) here) ∙ l.invariant
 
 pub loop-key-preserved : goal.loop-key-preserved
@@ -37,5 +37,5 @@ loop-key-preserved c =
     drop_more pairs l.key-index x (omega arith) ∙ ap (λ y. y ∷ rest) (sym c.loop-key-item.is) in
     let new = sym (contains-is_seen k ks) ∙ not-true _ (sym c.in_ok-insert.ensures.added ∙ c.if-not-branch.false) in
     ap (λ ys. none_seen ys rest && keys_differ (members_of rest)) c.in_ok-insert.ensures.keys
-    ∙ clear_new k ks x rest c.as_str.utf8 c.as_str.ensures.value new
+    ∙ clear_new k ks x rest c.as_str.utf8 c.as_str.ensures new
     ∙ sym (ap (λ ms. none_seen ks ms && keys_differ (members_of ms)) here) ∙ l.invariant

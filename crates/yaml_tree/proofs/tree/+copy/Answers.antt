@@ -21,7 +21,7 @@ copied_items-loop-item-preserved t c =
 pub copied_pairs-loop-key-preserved : goal.copied_pairs-loop-key-preserved
 copied_pairs-loop-key-preserved t c =
     let l = c.loop-key in
-    let copy : Pair = (c.in_ok-clone.field-0, c.in_ok-copied.field-0) in
+    let copy : Pair = (c.in_ok-try_copy.field-0, c.in_ok-copied.field-0) in
     ap members_of c.in_ok-push.ensures.items
     ∙ members_of-step c.args.pairs.now l.copies.items l.key-index c.loop-key-item.result copy
-    (omega arith) c.loop-key-item.is l.invariant c.in_ok-clone.ensures.cases c.in_ok-copied.ensures
+    (omega arith) c.loop-key-item.is l.invariant c.in_ok-try_copy.ensures c.in_ok-copied.ensures

@@ -16,9 +16,9 @@ empty_text = (record { texts = refl; keys = refl; deep = omega arith; long = ome
 
 pub invariant_of-result : goal.invariant_of-result
 invariant_of-result c =
-    let seen : tree_of (Text c.new.result) ≡ text [] = tree_of-Text c.new.result ∙ ap (λ bytes. text (chars bytes)) c.new.ensures.bytes ∙ ap text chars-nil in
+    let seen : tree_of (Text c.empty.result) ≡ text [] = tree_of-Text c.empty.result ∙ ap (λ bytes. text (chars bytes)) c.empty.ensures ∙ ap text chars-nil in
     let P : Tree → Type 0 = λ t. Good t own_limits × (3 ≡ byte_len (style_text t)) in
     subst P (sym seen) empty_text
 
 pub returns : goal.returns
-returns c = tree_of-Text c.new.result ∙ ap (λ bytes. text (chars bytes)) c.new.ensures.bytes ∙ ap text chars-nil
+returns c = tree_of-Text c.empty.result ∙ ap (λ bytes. text (chars bytes)) c.empty.ensures ∙ ap text chars-nil
