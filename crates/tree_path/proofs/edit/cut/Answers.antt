@@ -1,8 +1,9 @@
-use Rattle.std.proofs.Common.{ap, ◌∙◌, sym}
-use Rattle.std.proofs.lemmas.Result.{IfOk-weaker}
+use Rattle.std.proofs.Common.{Ok, rules, ap, ◌∙◌, sym}
+use Rattle.std.proofs.lemmas.Result.{IfOk-weaker, on_ok_weaker}
 use Rattle.std.specs.Str.{chars}
 use Rattle.yaml_grammar.specs.Trees.{mapping}
 use Rattle.yaml_tree.specs.Seen.{tree_of, members_of}
+use Rattle.yaml_tree.specs.declared.tree.Tree.{the_lemmas}
 use Rattle.yaml_tree.proofs.SeenLemmas.{tree_of-Text, tree_of-Map}
 use Rattle.tree_path.specs.Paths.{child, cut, key_in}
 use Rattle.tree_path.proofs.Places.{place_of-pairs}
@@ -13,6 +14,13 @@ pub returns-in-Text-clause-missed : goal.returns-in-Text-clause-missed
 returns-in-Text-clause-missed c =
     let token = chars c.args.token.now in
     ap (λ t. cut t token) (ap tree_of c.in-Text.is ∙ tree_of-Text _) ∙ cut-Text _ token
+
+pub returns-in-Map-clause-ok : goal.returns-in-Map-clause-ok
+returns-in-Map-clause-ok c =
+    let token = chars c.args.token.now in
+    let seen = ap tree_of c.in-Map.is ∙ tree_of-Map c.in-Map.pairs ∙ ap (λ w. mapping (members_of w.items)) (sym c.in-Map.pairs-is) in
+    let done = on_ok_weaker c.cut_pair.result (λ h. ap (λ t. cut t token) seen ∙ h ∙ ap Ok (sym (tree_of-Map c.cut_pair.new.pairs))) c.cut_pair.ensures.ok in
+    search (rules, the_lemmas, done)
 
 pub returns-in-Map-clause-removed : goal.returns-in-Map-clause-removed
 returns-in-Map-clause-removed c =
