@@ -1,7 +1,7 @@
 // Styles of scalars, what a configuration refuses, and lengths.
 use std::alloc::{AllocError, Global};
 use std::test::Fail;
-use yaml_tree::{Config, ReadFault, ScalarStyle, Size, Tree, scalar_style, style_len};
+use yaml_tree::{Config, ReadFault, ScalarStyle, Size, Text, Tree, scalar_style, style_len};
 
 fn text(alloc: Global, value: &str) -> Result<Tree, AllocError> {
     Ok(Tree::Text(Text::new(alloc, value)?))
