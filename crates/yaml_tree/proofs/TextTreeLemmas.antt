@@ -4,7 +4,7 @@ use Rattle.std.proofs.lemmas.Bool.{and_parts, and_from}
 use Rattle.std.proofs.lemmas.Bool.Decides.{nat_tests}
 use Rattle.std.proofs.lemmas.Str.{scalars-chars}
 use Rattle.std.proofs.Math.Utf8.{scalar, scalars, scalar_cases}
-use Rattle.std.specs.Str.{chars}
+use Rattle.std.specs.Str.{chars, IsUtf8}
 use Rattle.std.specs.List.{list_all}
 use Rattle.yaml_grammar.specs.Texts.{IsText}
 use Rattle.yaml_grammar.specs.Trees.{Tree as Seen, IsTextTree, AreTextElements, AreTextMembers}
@@ -26,9 +26,9 @@ all_code_points (c ∷ cs) e =
     let parts = and_parts (scalar c) (scalars cs) e in
     and_from (code_point c) (list_all code_point cs) (passes c (scalar_cases c parts.0)) (all_code_points cs parts.1)
 
--- the characters of a `Text` are a text
-pub chars-IsText : (s : Text) → IsText (chars (text_bytes s))
-chars-IsText s = all_code_points (chars (text_bytes s)) (scalars-chars (text_bytes s) (IsUtf8-text_bytes s))
+-- the characters of UTF-8 are a text
+pub chars-IsText : (bytes : List ℕ) → IsUtf8 bytes → IsText (chars bytes)
+chars-IsText bytes utf8 = all_code_points (chars bytes) (scalars-chars bytes utf8)
 
 -- a tree with the fact of it
 abbrev TextTree : Type 0
@@ -40,10 +40,10 @@ elements_hold_texts (e ∷ es) = (e.1, elements_hold_texts es)
 
 members_hold_texts : (ms : List (Text × TextTree)) → AreTextMembers (members_from (map (λ (m : Pair). (m.0, tree_of m.1)) (map (λ (m : Text × TextTree). (m.0, m.1.0)) ms)))
 members_hold_texts [] = tt
-members_hold_texts (m ∷ ms) = (chars-IsText m.0, m.1.1, members_hold_texts ms)
+members_hold_texts (m ∷ ms) = (chars-IsText (text_bytes m.0) (IsUtf8-text_bytes m.0), m.1.1, members_hold_texts ms)
 
 of_level : (y : Tree-F TextTree) → IsTextTree (level (map-Tree Tree Seen tree_of (map-Tree TextTree Tree (λ e. e.0) y)))
-of_level (Tree-F.Text s) = chars-IsText s
+of_level (Tree-F.Text s) = chars-IsText (text_bytes s) (IsUtf8-text_bytes s)
 of_level (Tree-F.Seq items) = elements_hold_texts items.items
 of_level (Tree-F.Map pairs) = members_hold_texts pairs.items
 

@@ -1,5 +1,6 @@
-use Rattle.std.proofs.Common.{◌≡◌, List, ℕ, codes, refl, ap, subst, sym, ◌∙◌}
+use Rattle.std.proofs.Common.{◌≡◌, List, ℕ, codes, string_bytes, refl, ap, subst, sym, ◌∙◌}
 use Rattle.std.proofs.lemmas.Result.{on_ok_weaker}
+use Rattle.std.proofs.lemmas.Str.{IsUtf8-string_bytes}
 use Rattle.std.specs.Str.{chars}
 use Rattle.yaml_grammar.specs.Style.{members_after}
 use Rattle.yaml_grammar.specs.Trees.{Tree, text}
@@ -53,7 +54,7 @@ returns-in_ok-write_text_member-in-Set-2-clause-takes g c =
 pub returns-in_ok-write_text_member-in-Set-2-clause-kept : goal.returns-in_ok-write_text_member-in-Set-2-clause-kept
 returns-in_ok-write_text_member-in-Set-2-clause-kept g c =
     on_ok_weaker c.write_member-in-Set.result
-    (λ kept. subst (λ command. IsCommand (command_of command)) (sym c.in-Set.is) (chars-IsText c.in-Set.path, kept))
+    (λ kept. subst (λ command. IsCommand (command_of command)) (sym c.in-Set.is) (chars-IsText (string_bytes c.in-Set.path) (IsUtf8-string_bytes c.in-Set.path), kept))
     c.write_member-in-Set.ensures.kept
 
 pub returns-in_ok-write_text_member-in-Delete-clause-takes : goal.returns-in_ok-write_text_member-in-Delete-clause-takes
@@ -73,5 +74,5 @@ returns-in_ok-write_text_member-in-Delete-clause-takes g c =
 pub returns-in_ok-write_text_member-in-Delete-clause-kept : goal.returns-in_ok-write_text_member-in-Delete-clause-kept
 returns-in_ok-write_text_member-in-Delete-clause-kept g c =
     on_ok_weaker c.write_text_member-in-Delete-2.result
-    (λ written. subst (λ command. IsCommand (command_of command)) (sym c.in-Delete.is) (chars-IsText c.in-Delete.path))
+    (λ written. subst (λ command. IsCommand (command_of command)) (sym c.in-Delete.is) (chars-IsText (string_bytes c.in-Delete.path) (IsUtf8-string_bytes c.in-Delete.path)))
     c.write_text_member-in-Delete-2.ensures
