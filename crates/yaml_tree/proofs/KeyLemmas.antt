@@ -9,7 +9,7 @@ use Rattle.std.specs.BTreeSet.{insert_key}
 use Rattle.std.specs.Cmp.Lexicographic.{slice_cmp}
 use Rattle.std.specs.List.{list_any}
 use Rattle.std.specs.Ordering.{match_ordering}
-use Rattle.std.specs.Str.{chars}
+use Rattle.std.specs.Str.{chars, bytes_eq}
 use Rattle.yaml_grammar.specs.Texts.{same_text}
 use Rattle.yaml_grammar.specs.Trees.{Members, no_member, member, has_key, distinct, members_distinct}
 use Rattle.yaml_tree.specs.Keys.{keys_differ, values_distinct}
@@ -55,6 +55,13 @@ same_chars a b utf8 utf8' =
     let by_bytes = same_text-Decides a b in
     same_from_decides (same_text (chars a) (chars b)) (same_text a b) decides
     (λ e. ap chars (by_bytes.0 e), λ e. by_bytes.1 (same_bytes a b utf8 utf8' e))
+
+-- keys of the same bytes are the same text
+pub same_key : (key other : List ℕ) → IsUtf8 key → IsUtf8 other → bytes_eq other key ≡ same_text (chars key) (chars other)
+same_key key other utf8 utf8' =
+    let decides = same_text-Decides (chars key) (chars other) in
+    same_from_decides _ _ (bytes_eq-Decides other key)
+    (λ t. same_bytes other key utf8' utf8 (sym (decides.0 t)), λ e. decides.1 (ap chars (sym e)))
 
 either_way : (a b : List ℕ) → same_text a b ≡ same_text b a
 either_way a b =

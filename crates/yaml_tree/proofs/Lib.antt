@@ -18,6 +18,7 @@ pub mod TextTreeLemmas
 pub mod WalkLemmas
 pub mod FrameLemmas
 pub mod PartLemmas
+pub mod InnermostLemmas
 pub mod EventLemmas
 pub mod DepthLemmas
 pub mod EmptiedLemmas

@@ -1,24 +1,32 @@
 -- What the open parts of src/build.rt mean, and how events of no tree are refused.
-use Rattle.std.specs.Prelude.{◌≡◌, true, false, List, [], ◌∷◌, Option, None}
+use Rattle.std.specs.Prelude.{◌≡◌, true, false, List, [], ◌∷◌, Option, Some, None}
 use Rattle.std.specs.Str.{chars}
 use Rattle.yaml_docs.specs.declared.fault.ReadFault.{ReadFault}
 use Rattle.yaml_docs.specs.declared.fault.ReadFault.TheVariants.{TooLong, NotUtf8, Syntax, Documents, KeyNotText, KeyTwice, TooDeep, LargeInStyle, OutOfMemory}
 use Rattle.yaml_grammar.specs.Events.{Event}
 use Rattle.yaml_grammar.specs.Trees as grammar
-use Rattle.yaml_grammar.specs.Trees.{IsTreeOf, distinct}
+use Rattle.yaml_grammar.specs.Trees.{Members, IsTreeOf, distinct}
+use Rattle.yaml_tree.specs.declared.build.OpenMap.{OpenMap}
 use Rattle.yaml_tree.specs.declared.build.Part.{Part}
-use Rattle.yaml_tree.specs.declared.build.Part.TheVariants.{Document, Root, Whole, Seq, Map, Value}
+use Rattle.yaml_tree.specs.declared.build.Part.TheVariants.{Document, Root, Whole, Seq, Map}
 use Rattle.yaml_tree.specs.Frames.{Frame, awaiting, root, whole, in_seq, at_key, at_value}
 use Rattle.yaml_tree.specs.Seen.{tree_of, elements_of, members_of}
 use Rattle.yaml_tree.specs.TextBytes.{text_bytes}
+use Rattle.yaml_tree.specs.declared.text.Text.{Text}
+
+abbrev pub frame_by_key : Members → Option Text → Frame
+frame_by_key ms None = at_key ms
+frame_by_key ms (Some key) = at_value ms (chars (text_bytes key))
+
+abbrev pub map_frame : OpenMap → Frame
+map_frame map = frame_by_key (members_of map.pairs.items) map.key
 
 abbrev pub frame_of : Part → Frame
 frame_of Document = awaiting
 frame_of (Root tree) = root (tree_of tree)
 frame_of (Whole tree) = whole (tree_of tree)
 frame_of (Seq items) = in_seq (elements_of items.items)
-frame_of (Map pairs) = at_key (members_of pairs.items)
-frame_of (Value pairs key) = at_value (members_of pairs.items) (chars (text_bytes key))
+frame_of (Map map) = map_frame map
 
 -- those of a list whose last one is the innermost, put before others
 abbrev pub frames_onto : List Part → List Frame → List Frame

@@ -2,8 +2,8 @@
 ghost use Rattle.std.specs.Prelude.{◌≡◌, List, [], ◌∷◌, Some, IfOk, MatchResult};
 ghost use Rattle.std.specs.Cow.{cow_str_bytes};
 ghost use Rattle.yaml_events.specs.Meant.{event_of, events_of};
-ghost use Rattle.yaml_grammar.specs.Trees.{IsTreeOf, shape};
-ghost use Rattle.yaml_tree.specs.Building.{frame_of, frames_of, HasNone, HasNoTree};
+ghost use Rattle.yaml_grammar.specs.Trees.{IsTreeOf, no_member, shape};
+ghost use Rattle.yaml_tree.specs.Building.{frame_of, frames_of, map_frame, HasNone, HasNoTree};
 ghost use Rattle.yaml_tree.specs.Frames.{in_seq, at_key, frame_with, frames_with, step, after_document_end, after_seq_end, after_map_end, finished_tree};
 ghost use Rattle.yaml_tree.specs.Seen.{tree_of, elements_of, members_of};
 ghost use Rattle.yaml_tree.specs.TextBytes.{text_bytes};
@@ -24,39 +24,72 @@ pub(crate) enum Part {
     Whole(Tree),
     /// A sequence of these elements so far.
     Seq(Vec<Tree>),
-    /// A mapping of these pairs so far, where a key is next.
-    Map(Vec<(Text, Tree)>),
-    /// A mapping of these pairs so far, where the value of a key is next.
-    Value(Vec<(Text, Tree)>, Text),
+    /// A mapping.
+    Map(OpenMap),
 }
 
-impl Part {
-    /// The part with a further value in it. Returns `KeyNotText` if the value is a collection where a
-    /// key is next, or if no value may follow.
-    fn with(self, tree: Tree) -> Result<Part, ReadFault>
-        ensures { MatchResult result
-            (λ part. frame_with (frame_of self) (tree_of tree) ≡ Some (frame_of part))
-            (HasNone (frame_with (frame_of self) (tree_of tree))) }
+/// A mapping whose end is still to come.
+#[derive(Drop)]
+pub(crate) struct OpenMap {
+    pairs: Vec<(Text, Tree)>,
+    /// The key whose value is next. Where there is none, a key is next.
+    key: Option<Text>,
+}
+
+impl OpenMap {
+    /// A mapping of no pairs yet.
+    fn new(alloc: Global) -> Self
+        ensures { map_frame result ≡ at_key no_member }
     {
-        match self {
-            Part::Document => Ok(Part::Root(tree)),
-            Part::Root(_) => Err(ReadFault::KeyNotText),
-            Part::Whole(_) => Err(ReadFault::KeyNotText),
-            Part::Seq(items) => {
-                let mut items = items;
-                items.push(tree)?;
-                Ok(Part::Seq(items))
-            }
-            Part::Map(pairs) => match tree {
-                Tree::Text(key) => Ok(Part::Value(pairs, key)),
+        OpenMap {
+            pairs: Vec::new(alloc),
+            key: None,
+        }
+    }
+
+    /// Puts in a key or a value. Returns `KeyNotText` if a key is next and the tree is a collection.
+    fn put(&mut self, tree: Tree) -> Result<(), ReadFault>
+        ensures { MatchResult result
+            (λ _. frame_with (map_frame self.old) (tree_of tree) ≡ Some (map_frame self.new))
+            (HasNone (frame_with (map_frame self.old) (tree_of tree))) }
+    {
+        match self.key.take() {
+            None => match tree {
+                Tree::Text(key) => {
+                    self.key = Some(key);
+                    Ok(())
+                }
                 Tree::Seq(_) => Err(ReadFault::KeyNotText),
                 Tree::Map(_) => Err(ReadFault::KeyNotText),
             },
-            Part::Value(pairs, key) => {
-                let mut pairs = pairs;
-                pairs.push((key, tree))?;
-                Ok(Part::Map(pairs))
+            Some(key) => {
+                self.pairs.push((key, tree))?;
+                Ok(())
             }
+        }
+    }
+}
+
+impl Part {
+    /// Puts in a further value. Returns `KeyNotText` if the value is a collection where a key is next, or if no value
+    /// may follow.
+    fn put(&mut self, tree: Tree) -> Result<(), ReadFault>
+        ensures { MatchResult result
+            (λ _. frame_with (frame_of self.old) (tree_of tree) ≡ Some (frame_of self.new))
+            (HasNone (frame_with (frame_of self.old) (tree_of tree))) }
+    {
+        match self {
+            Part::Document => {
+                *self = Part::Root(tree);
+                Ok(())
+            }
+            Part::Root(_) => Err(ReadFault::KeyNotText),
+            Part::Whole(_) => Err(ReadFault::KeyNotText),
+            Part::Seq(items) => {
+                items.push(tree)?;
+                Ok(())
+            }
+            Part::Map(map) => map.put(tree),
         }
     }
 }
@@ -108,9 +141,10 @@ impl Builder {
             ≡ Some (frames_of self.new.parts.items))
             (HasNone (frames_with (frames_of self.old.parts.items) (tree_of tree))) }
     {
-        let part = self.pop()?;
-        let more = part.with(tree)?;
-        self.push(more)
+        match self.parts.last_mut() {
+            Some(part) => part.put(tree),
+            None => Err(ReadFault::KeyNotText),
+        }
     }
 
     /// Ends the innermost part. Returns `KeyNotText` if it is no document that has its value.
@@ -150,7 +184,7 @@ impl Builder {
     {
         let part = self.pop()?;
         match part {
-            Part::Map(pairs) => Ok(pairs),
+            Part::Map(OpenMap { pairs, key: None }) => Ok(pairs),
             _ => Err(ReadFault::KeyNotText),
         }
     }
@@ -168,12 +202,14 @@ impl Builder {
             Event::DocEnd => self.end_document(),
             Event::SeqStart => self.push(Part::Seq(Vec::new(self.alloc))),
             Event::SeqEnd => {
-                let items = self.end_seq()?;
+                let mut items = self.end_seq()?;
+                items.shrink_to_fit();
                 self.put(Tree::Seq(items))
             }
-            Event::MapStart => self.push(Part::Map(Vec::new(self.alloc))),
+            Event::MapStart => self.push(Part::Map(OpenMap::new(self.alloc))),
             Event::MapEnd => {
-                let pairs = self.end_map()?;
+                let mut pairs = self.end_map()?;
+                pairs.shrink_to_fit();
                 self.put(Tree::Map(pairs))
             }
             Event::Scalar { value, .. } => {

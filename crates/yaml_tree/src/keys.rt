@@ -1,12 +1,16 @@
 // Whether keys differ (YAML 1.2.2, 3.2.1.3).
 ghost use Rattle.std.specs.Prelude.{◌≡◌, ◌+◌, ◌&&◌, true, IfOk, MatchOption};
-ghost use Rattle.yaml_grammar.specs.Trees.{distinct};
+ghost use Rattle.std.specs.Str.{chars};
+ghost use Rattle.yaml_grammar.specs.Trees.{distinct, has_key};
 ghost use Rattle.yaml_tree.specs.Keys.{keys_differ, own_keys_differ, level_distinct, level_nodes, nodes};
 ghost use Rattle.yaml_tree.specs.Seen.{tree_of, members_of};
 
 use crate::{Text, Tree};
 use std::alloc::{AllocError, Global};
 use std::collections::BTreeSet;
+
+/// How many pairs a mapping has at most whose keys are compared one by one.
+const FEW: usize = 8;
 
 /// Whether in each mapping of a tree the keys differ from one another. The walk keeps its way on a stack of its own,
 /// so the tree may have any depth.
@@ -85,8 +89,44 @@ fn have_own_keys_distinct(alloc: Global, tree: &Tree) -> Result<bool, AllocError
     }
 }
 
-/// Whether the keys of one mapping differ. Each is looked up among those before it, which are in order.
+/// Whether the keys of one mapping differ.
 pub(crate) fn keys_differ(alloc: Global, pairs: &[(Text, Tree)]) -> Result<bool, AllocError>
+    ensures { IfOk result (λ answer. answer ≡ keys_differ (members_of pairs.now)) }
+{
+    if pairs.len() <= FEW {
+        return Ok(few_keys_differ(pairs));
+    }
+    many_keys_differ(alloc, pairs)
+}
+
+/// Whether the keys of a small mapping differ. Each is compared with those after it, which takes no memory.
+fn few_keys_differ(pairs: &[(Text, Tree)]) -> bool
+    ensures { result ≡ keys_differ (members_of pairs.now) }
+{
+    let mut rest = pairs;
+    while let Some(((key, _), after)) = rest.split_first() {
+        if has_key(after, key) {
+            return false;
+        }
+        rest = after;
+    }
+    true
+}
+
+/// Whether one of the pairs has this key.
+fn has_key(pairs: &[(Text, Tree)], key: &str) -> bool
+    ensures { result ≡ has_key (chars key.now) (members_of pairs.now) }
+{
+    for (other, _) in pairs {
+        if other.as_str() == key {
+            return true;
+        }
+    }
+    false
+}
+
+/// Whether the keys of one mapping differ. Each is looked up among those before it, which are in order.
+fn many_keys_differ(alloc: Global, pairs: &[(Text, Tree)]) -> Result<bool, AllocError>
     ensures { IfOk result (λ answer. answer ≡ keys_differ (members_of pairs.now)) }
 {
     let mut seen = BTreeSet::new(alloc);

@@ -4,7 +4,7 @@ use Rattle.std.proofs.lemmas.List.{drop_more}
 use Rattle.yaml_tree.specs.Keys.{keys_differ}
 use Rattle.yaml_tree.specs.Seen.{Pair, members_of}
 use Rattle.yaml_tree.proofs.KeyLemmas.{none_seen, contains-is_seen, clear_seen, clear_new, none_seen-nil}
-use Rattle.yaml_tree.proofs.keys.keys_differ.Goals as goal
+use Rattle.yaml_tree.proofs.keys.many_keys_differ.Goals as goal
 
 pub loop-key-init : goal.loop-key-init
 loop-key-init c =

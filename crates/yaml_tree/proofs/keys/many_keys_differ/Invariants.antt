@@ -2,7 +2,7 @@ use Rattle.std.proofs.Common.{◌≡◌, ◌&&◌, drop}
 use Rattle.yaml_tree.specs.Keys.{keys_differ}
 use Rattle.yaml_tree.specs.Seen.{members_of}
 use Rattle.yaml_tree.proofs.KeyLemmas.{none_seen}
-use Rattle.yaml_tree.proofs.keys.keys_differ.Given as goal
+use Rattle.yaml_tree.proofs.keys.many_keys_differ.Given as goal
 
 -- the keys differ where those that are left differ, and none of them was seen
 abbrev pub invariant-loop-key : goal.invariant-loop-key

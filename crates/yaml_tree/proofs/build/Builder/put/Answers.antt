@@ -1,0 +1,11 @@
+use Rattle.std.proofs.Common.{◌-◌, ◌<◌, refl, arith}
+use Rattle.yaml_tree.specs.Seen.{tree_of}
+use Rattle.yaml_tree.proofs.InnermostLemmas.{put_innermost}
+use Rattle.yaml_tree.proofs.build.Builder.put.Goals as goal
+
+pub returns-in-Some : goal.returns-in-Some
+returns-in-Some c =
+    let parts = c.args.self.now.parts in
+    let filled : 0 < parts.len = c.in-Some.ensures.variant.0 refl in
+    put_innermost parts.items (parts.len - 1) c.in-Some.part.now c.put.new.self (tree_of c.args.tree) c.put.result
+    (omega (arith, parts.ok.0, filled)) c.in-Some.ensures.value c.put.ensures
