@@ -3,6 +3,7 @@
 // comes free.
 ghost use Rattle.std.specs.Prelude.{◌≡◌, ◌⊎◌, ◌<◌, IfOk, IfErr, OnOk, OnErr, Ok, Err, length};
 ghost use Rattle.std.specs.Str.{chars};
+ghost use Rattle.std.specs.Vec.{vec_len, vec_capacity};
 ghost use Rattle.yaml_grammar.specs.Trees.{Tree as Meant, sequence, mapping};
 ghost use Rattle.yaml_tree.specs.Seen.{tree_of, elements_of, members_of};
 ghost use Rattle.tree_path.specs.Paths.{at_step, at, put, cut, set, delete, child, key_in, last_key};
@@ -11,7 +12,7 @@ ghost use Rattle.tree_path.specs.Steps.{texts, key_place, Knows, Lowered, Rebuil
 use crate::fault::PathFault;
 use crate::path::Path;
 use crate::place::{self, Known, Miss};
-use std::alloc::Global;
+use std::alloc::{AllocError, Global};
 use std::borrow::CowStr;
 use std::mem;
 use yaml_tree::{Text, Tree};
@@ -256,10 +257,11 @@ fn put_element(
     ensures unchanged { OnErr result (items.new.items ≡ items.old.items) }
 {
     if token == "-" {
-        return match items.push(value) {
-            Ok(()) => Ok(()),
-            Err(refused) => Err((refused.value, PathFault::OutOfMemory)),
+        let Ok(()) = make_room(items) else {
+            return Err((value, PathFault::OutOfMemory));
         };
+        items.push_reserved(value);
+        return Ok(());
     }
     match place::element_index(token, items.len()) {
         Ok(index) => {
@@ -293,10 +295,23 @@ fn put_pair(
     let Ok(key) = Text::new(alloc, key) else {
         return Err((value, PathFault::OutOfMemory));
     };
-    match pairs.push((key, value)) {
-        Ok(()) => Ok(()),
-        Err(refused) => Err((refused.value.1, PathFault::OutOfMemory)),
+    let Ok(()) = make_room(pairs) else {
+        return Err((value, PathFault::OutOfMemory));
+    };
+    pairs.push_reserved((key, value));
+    Ok(())
+}
+
+/// Makes room for one more in a list. A full one grows by an eighth, so that a state has little more memory than it
+/// needs.
+fn make_room<T>(list: &mut Vec<T>) -> Result<(), AllocError>
+    ensures items { list.new.items ≡ list.old.items }
+    ensures room { OnOk result (vec_len list.new < vec_capacity list.new) }
+{
+    if list.len() < list.capacity() {
+        return Ok(());
     }
+    list.reserve_exact(list.len() / 8 + 1)
 }
 
 /// Takes out the value to which a step leads, where the place of its key is known.

@@ -1,4 +1,4 @@
-use Rattle.std.proofs.Common.{Ok, set, ap, ◌∙◌, sym, rules}
+use Rattle.std.proofs.Common.{Ok, [], ◌∷◌, ◌++◌, set, ap, ◌∙◌, sym, rules}
 use Rattle.std.specs.Str.{chars}
 use Rattle.yaml_grammar.specs.Trees.{mapping}
 use Rattle.yaml_tree.specs.Seen.{members_of}
@@ -19,9 +19,9 @@ returns-in-Some-clause-ok c =
     (sym c.requires ∙ c.in-Some.is)
     ∙ ap (λ k. Ok (mapping (members_of (set v.items c.in-Some.place (k, c.args.value))))) (ap (λ q. q.0) (sym c.index_mut.ensures.value))
 
-pub returns-in-Ok-push-clause-ok : goal.returns-in-Ok-push-clause-ok
-returns-in-Ok-push-clause-ok c =
+pub returns-clause-ok : goal.returns-clause-ok
+returns-clause-ok c =
     let v = c.args.pairs.now in
     put-Map-last v.items (chars c.args.key.now) c.in-Ok.key c.args.value
     (sym c.requires ∙ none-other c.args.place c.in_default.not-Some) (ap chars c.in-Ok.ensures)
-    ∙ ap (λ xs. Ok (mapping (members_of xs))) (sym c.in-Ok-push.ensures.items)
+    ∙ ap (λ xs. Ok (mapping (members_of xs))) (ap (λ xs. xs ++ (c.in-Ok.key, c.args.value) ∷ []) (sym c.in-Ok-make_room.ensures.items) ∙ sym c.push_reserved.ensures.items)
