@@ -85,6 +85,7 @@ fn decoded_nb_at(text: &str, at: usize) -> Option<usize>
 }
 
 /// Returns the end of the characters at `at` that a line may hold (5.4, `nb-char`).
+#[inline(never)]
 pub fn nb_end(text: &str, at: usize) -> usize
     requires { IsCharBoundary text.now at }
     ensures { AreTaken nb text.now at result }
