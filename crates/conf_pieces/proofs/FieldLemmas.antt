@@ -1,5 +1,5 @@
 -- The fields of a mapping: numbers, keys and texts.
-use Rattle.std.proofs.Common.{◌≡◌, refl, sym, ◌∙◌, ap, subst, arith, ◌<◌, ◌^◌, ℕ, suc, ◌+◌, Bool, true, false, ◌&&◌, if◌then◌else◌, nat_le, List, [], ◌∷◌, length, drop, get_or, map, Some, None, decimal, IsUtf8, IsAscii, string_bytes, bytes_eq, encode_utf8_all, Bor}
+use Rattle.std.proofs.Common.{◌≡◌, refl, sym, ◌∙◌, ap, subst, arith, ◌<◌, ◌^◌, ℕ, suc, ◌+◌, Bool, true, false, ◌&&◌, if◌then◌else◌, nat_le, List, [], ◌∷◌, length, drop, get_or, map, Some, None, decimal, IsUtf8, IsAscii, bytes_eq, encode_utf8_all, Bor}
 use Rattle.std.specs.Str.{chars}
 use Rattle.std.specs.Str.Parse.{digits_value}
 use Rattle.std.proofs.lemmas.Bool.{and_from}
@@ -10,6 +10,7 @@ use Rattle.std.proofs.lemmas.List.{drop_more}
 use Rattle.std.proofs.lemmas.Str.{chars-IsAscii, encodes-chars}
 use Rattle.yaml_grammar.specs.Texts.{same_text}
 use Rattle.yaml_tree.specs.Seen.{Pair, members_of}
+use Rattle.yaml_tree.specs.TextBytes.{text_bytes}
 use Rattle.yaml_tree.proofs.CharacterLemmas.{same_text-true, same_text-self, chars-same}
 use Rattle.conf_record.specs.RecordsRead.{number_from_digits, keys_are}
 use Rattle.conf_record.specs.States.{count_limit}
@@ -72,25 +73,25 @@ module _ {K : Type 0} (f : K → List ℕ) where
   keys_are-lengths [] (p ∷ ps) differ = refl
   keys_are-lengths (k ∷ ks) [] differ = refl
   keys_are-lengths (k ∷ ks) (p ∷ ps) differ =
-      both_false (same_text (chars (string_bytes p.0)) (chars (f k))) _ (keys_are-lengths ks ps (λ same. differ (ap suc same)))
+      both_false (same_text (chars (text_bytes p.0)) (chars (f k))) _ (keys_are-lengths ks ps (λ same. differ (ap suc same)))
 
   at_one : (k : K) (p : Pair) (ks : List K) (ps : List Pair)
       → keys_are (texts (map f (k ∷ ks))) (members_of (p ∷ ps))
-      ≡ (same_text (chars (string_bytes p.0)) (chars (f k)) && keys_are (texts (map f ks)) (members_of ps))
+      ≡ (same_text (chars (text_bytes p.0)) (chars (f k)) && keys_are (texts (map f ks)) (members_of ps))
   at_one k p ks ps = refl
 
   module _ (ks : List K) (ps : List Pair) (i : ℕ) (k : K) (p : Pair) (below : i < length ks) (within : i < length ps) where
     here : keys_are (texts (map f (drop i ks))) (members_of (drop i ps))
-        ≡ (same_text (chars (string_bytes (get_or ps i p).0)) (chars (f (get_or ks i k))) && keys_are (texts (map f (drop (i + 1) ks))) (members_of (drop (i + 1) ps)))
+        ≡ (same_text (chars (text_bytes (get_or ps i p).0)) (chars (f (get_or ks i k))) && keys_are (texts (map f (drop (i + 1) ks))) (members_of (drop (i + 1) ps)))
     here =
         ap (λ xs. keys_are (texts (map f xs)) (members_of (drop i ps))) (drop_more ks i k below)
         ∙ ap (λ xs. keys_are (texts (map f (get_or ks i k ∷ drop (i + 1) ks))) (members_of xs)) (drop_more ps i p within)
 
-    pub keys_are-more : same_text (chars (string_bytes (get_or ps i p).0)) (chars (f (get_or ks i k))) ≡ true
+    pub keys_are-more : same_text (chars (text_bytes (get_or ps i p).0)) (chars (f (get_or ks i k))) ≡ true
         → keys_are (texts (map f (drop (i + 1) ks))) (members_of (drop (i + 1) ps)) ≡ keys_are (texts (map f (drop i ks))) (members_of (drop i ps))
     keys_are-more same = sym (here ∙ ap (λ b. b && keys_are (texts (map f (drop (i + 1) ks))) (members_of (drop (i + 1) ps))) same)
 
-    pub keys_are-other : same_text (chars (string_bytes (get_or ps i p).0)) (chars (f (get_or ks i k))) ≡ false
+    pub keys_are-other : same_text (chars (text_bytes (get_or ps i p).0)) (chars (f (get_or ks i k))) ≡ false
         → keys_are (texts (map f (drop i ks))) (members_of (drop i ps)) ≡ false
     keys_are-other differ = here ∙ ap (λ b. b && keys_are (texts (map f (drop (i + 1) ks))) (members_of (drop (i + 1) ps))) differ
 

@@ -1,14 +1,18 @@
 -- The parts of a tree that a `Config` keeps.
-use Rattle.std.proofs.Common.{◌≡◌, ◌≤◌, ℕ, ◌+◌, true, ◌&&◌, List, [], ◌∷◌, ◌++◌, length, max, not, String, Global, append_assoc, append-nil, arith, refl, sym, ap, ◌∙◌}
+use Rattle.std.proofs.Common.{◌≡◌, ◌≤◌, ℕ, ◌+◌, true, ◌&&◌, List, [], ◌∷◌, ◌++◌, length, max, not, String, Global, string_bytes, append_assoc, append-nil, arith, refl, sym, ap, ◌∙◌}
 use Rattle.std.proofs.lemmas.Bool.{and_parts}
+use Rattle.std.specs.Str.{chars}
 use Rattle.yaml_grammar.specs.Texts.{byte_len}
 use Rattle.yaml_grammar.specs.Style.{key_lines, value_at, members_after}
 use Rattle.yaml_grammar.specs.Trees.{Tree, mapping, Members, no_member, member, has_key, distinct, members_distinct, depth, members_depth, AreTextMembers}
 use Rattle.yaml_tree.specs.BudgetLaws.{byte_len-append}
 use Rattle.yaml_tree.specs.Kept.{IsKept}
-use Rattle.yaml_tree.specs.Seen.{Pair, members_of}
+use Rattle.yaml_tree.specs.Seen.{Pair, tree_of, members_of}
+use Rattle.yaml_tree.specs.TextBytes.{text_bytes}
+use Rattle.yaml_tree.specs.declared.text.Text.{Text}
 use Rattle.yaml_tree.specs.declared.tree.Tree as code
-use Rattle.conf_record.specs.RecordsRead.{values}
+use Rattle.conf_record.specs.Kept.{entries_of}
+use Rattle.conf_record.specs.RecordsRead.{values, entries}
 use Rattle.conf_record.proofs.SizeLemmas.{value_size}
 use Rattle.conf_pieces.specs.Reading.{AreKept, trees_of}
 
@@ -51,24 +55,41 @@ own_parts items kept = own_values items (parts_kept (members_of items) kept)
 
 -- ---- pairs that are moved, in their order
 
-pub record MovedSoFar (all done left : List Pair) : Type 0 where
-  pub whole : done ++ left ≡ all
+-- a configuration of the code under its name
+abbrev pub Named : Type 0
+Named = String Global × code.Tree
+
+pub record MovedSoFar (all : List Pair) (done : List Named) (left : List Pair) : Type 0 where
+  pub whole : entries_of done ++ entries (members_of left) ≡ entries (members_of all)
   pub kept : AreKept (trees_of left)
+
+entries_of-one : (done : List Named) (e : Named) → entries_of (done ++ e ∷ []) ≡ entries_of done ++ (chars (string_bytes e.0), tree_of e.1) ∷ []
+entries_of-one [] e = refl
+entries_of-one (d ∷ ds) e = ap (λ es. (chars (string_bytes d.0), tree_of d.1) ∷ es) (entries_of-one ds e)
 
 -- at first no pair was moved
 pub none_moved : (all : List Pair) → AreKept (trees_of all) → MovedSoFar all [] all
 none_moved all kept = record { whole = refl; kept = kept }
 
 -- one more pair is moved
-pub one_moved : (all done left : List Pair) (name : String Global) (t u : code.Tree) → u ≡ t → MovedSoFar all done ((name, t) ∷ left)
-    → (new : List Pair) → new ≡ done ++ (name, u) ∷ [] → MovedSoFar all new left
-one_moved all done left name t u same so new is =
+pub one_moved : (all : List Pair) (done : List Named) (left : List Pair) (key : Text) (name : String Global) (t u : code.Tree)
+    → string_bytes name ≡ text_bytes key → u ≡ t → MovedSoFar all done ((key, t) ∷ left)
+    → (new : List Named) → new ≡ done ++ (name, u) ∷ [] → MovedSoFar all new left
+one_moved all done left key name t u spelled same so new is =
+    let rest = entries (members_of left) in
     record {
-      whole = ap (λ xs. xs ++ left) (is ∙ ap (λ v. done ++ (name, v) ∷ []) same) ∙ append_assoc done ((name, t) ∷ []) left ∙ so.whole;
+      whole =
+          ap (λ xs. entries_of xs ++ rest) is
+          ∙ ap (λ es. es ++ rest) (entries_of-one done (name, u))
+          ∙ ap (λ b. (entries_of done ++ (chars b, tree_of u) ∷ []) ++ rest) spelled
+          ∙ ap (λ v. (entries_of done ++ (chars (text_bytes key), tree_of v) ∷ []) ++ rest) same
+          ∙ append_assoc (entries_of done) ((chars (text_bytes key), tree_of t) ∷ []) rest
+          ∙ so.whole;
       kept = so.kept.1;
     }
 
 -- where no pair is left, all were moved
-pub all_moved : (all done left : List Pair) → MovedSoFar all done left → length left ≡ 0 → done ≡ all
-all_moved all done [] so none = sym (append-nil done) ∙ so.whole
+pub all_moved : (all : List Pair) (done : List Named) (left : List Pair) → MovedSoFar all done left → length left ≡ 0
+    → entries_of done ≡ entries (members_of all)
+all_moved all done [] so none = sym (append-nil (entries_of done)) ∙ so.whole
 all_moved all done (p ∷ ps) so none = absurd (omega arith)

@@ -1,20 +1,20 @@
 -- What a tree is as a record or a base.
-use Rattle.std.proofs.Common.{◌≡◌, refl, sym, ◌∙◌, ap, subst, ℕ, Bool, true, false, List, [], ◌∷◌, codes, Option, Some, None, IfSome, IfNone, string_bytes}
-use Rattle.std.specs.Str.{chars}
+use Rattle.std.proofs.Common.{◌≡◌, refl, sym, ◌∙◌, ap, subst, ℕ, Bool, true, false, List, [], ◌∷◌, codes, Option, Some, None, IfSome, IfNone}
 use Rattle.yaml_grammar.specs.Trees.{Tree, text, sequence, mapping, Elements, Members}
 use Rattle.yaml_tree.specs.Kept.{own_limits}
 use Rattle.yaml_tree.specs.Reading.{IsRead}
-use Rattle.yaml_tree.specs.Seen.{Pair, tree_of, members_of}
+use Rattle.yaml_tree.specs.Seen.{Pair, members_of}
 use Rattle.conf_record.specs.Commands.{Command, command_of}
 use Rattle.conf_record.specs.Kept.{entries_of}
 use Rattle.conf_record.specs.Limits.{IsState}
-use Rattle.conf_record.specs.RecordsRead.{keys_are, values, import_of, set_of, delete_of, record_of, import_keys, set_keys, delete_keys, base_keys, base_of, contents_of, entries}
+use Rattle.conf_record.specs.RecordsRead.{keys_are, values, import_of, set_of, delete_of, record_of, import_keys, set_keys, delete_keys, base_keys, base_of, contents_of}
 use Rattle.conf_record.specs.States.{Contents}
 use Rattle.conf_record.specs.declared.command.Command as code
 use Rattle.conf_record.proofs.LineLemmas.{ascii}
 use Rattle.conf_pieces.specs.Documents.{IsRecord, IsNoRecord, IsBase, IsNoBase}
 use Rattle.conf_pieces.specs.Reading.{texts, command_and_number}
 use Rattle.conf_pieces.proofs.DocumentLemmas.{BytesGiveOne}
+use Rattle.conf_pieces.proofs.PieceLemmas.{Named}
 
 -- ---- records
 
@@ -97,13 +97,9 @@ pub base_other : (ms : Members) → keys_are base_keys ms ≡ false → base_of 
 unfolding base_of
 base_other ms e = rw e refl
 
-entries_same : (items : List Pair) → entries (members_of items) ≡ entries_of items
-entries_same [] = refl
-entries_same (p ∷ ps) = ap (λ es. (chars (string_bytes p.0), tree_of p.1) ∷ es) (entries_same ps)
-
--- the state of these pairs and this count
-abbrev pub state_of : List Pair → ℕ → Contents
-state_of items count = record { configs = entries_of items; count = count }
+-- the state of these configurations and this count
+abbrev pub state_of : List Named → ℕ → Contents
+state_of configs count = record { configs = entries_of configs; count = count }
 
 -- ---- documents, where bytes give one tree at most
 
@@ -129,19 +125,16 @@ module _ (give_one : BytesGiveOne) (bytes : List ℕ) (t : Tree) (is : IsRead by
   pub no_parts : None ≡ base_of t → IsNoBase bytes
   no_parts e = λ state r. no_some state (e ∙ ap base_of (same_as_base state r) ∙ r.reads.tells)
 
-  module _ (items : List Pair) (count : ℕ) (parts : Some (record { configs = entries (members_of items); count = count }) ≡ base_of t) where
-    reads : base_of t ≡ Some (state_of items count)
-    reads = sym parts ∙ ap (λ es. Some (record { configs = es; count = count })) (entries_same items)
-
-    pub one_base : (read : Option Contents) → IfSome read (λ state. (state ≡ state_of items count) × IsState state) → IfSome read (λ state. IsBase bytes state)
+  module _ (configs : List Named) (count : ℕ) (parts : Some (state_of configs count) ≡ base_of t) where
+    pub one_base : (read : Option Contents) → IfSome read (λ state. (state ≡ state_of configs count) × IsState state) → IfSome read (λ state. IsBase bytes state)
     one_base None e = tt
     one_base (Some s) e =
-        record { utf8 = is.utf8; reads = record { tree = t; gives = is.gives; tells = reads ∙ ap Some (sym e.0); kept = e.1 } }
+        record { utf8 = is.utf8; reads = record { tree = t; gives = is.gives; tells = sym parts ∙ ap Some (sym e.0); kept = e.1 } }
 
     some_state : (a b : Contents) → Some a ≡ Some b → a ≡ b
     some_state a b e = cc
 
-    pub no_base : (read : Option Contents) → IfNone read (IsState (state_of items count) → ⊥) → IfNone read (IsNoBase bytes)
+    pub no_base : (read : Option Contents) → IfNone read (IsState (state_of configs count) → ⊥) → IfNone read (IsNoBase bytes)
     no_base (Some s) never = tt
     no_base None never = λ state r.
-        never (subst IsState (some_state state (state_of items count) (sym r.reads.tells ∙ sym (ap base_of (same_as_base state r)) ∙ reads)) r.reads.kept)
+        never (subst IsState (some_state state (state_of configs count) (sym r.reads.tells ∙ sym (ap base_of (same_as_base state r)) ∙ sym parts)) r.reads.kept)

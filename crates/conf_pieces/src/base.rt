@@ -9,10 +9,10 @@ ghost use Rattle.conf_record.specs.RecordsRead.{values, contents_of, base_of};
 ghost use Rattle.conf_pieces.specs.Reading.{AreKept, state_of_parts};
 
 use crate::fields::{is_same, keys_are, next_pairs, next_text, next_value, number_from};
-use yaml_tree::Tree;
+use yaml_tree::{Text, Tree};
 
 /// The configurations and the count of a base's tree, whatever their limits; None where it is no base's.
-pub(crate) fn base_from(tree: Tree) -> Option<(Vec<(String, Tree)>, u64)>
+pub(crate) fn base_from(tree: Tree) -> Option<(Vec<(Text, Tree)>, u64)>
     requires kept { IsKept (tree_of tree) }
     ensures read { state_of_parts result ≡ base_of (tree_of tree) }
     ensures kept { IfSome result (λ p. IsKept (mapping (members_of p.0.items))) }
@@ -29,7 +29,7 @@ pub(crate) fn base_from(tree: Tree) -> Option<(Vec<(String, Tree)>, u64)>
 }
 
 /// The configurations and the count of these values: the format, the count and the configurations.
-fn contents_from(pairs: Vec<(String, Tree)>) -> Option<(Vec<(String, Tree)>, u64)>
+fn contents_from(pairs: Vec<(Text, Tree)>) -> Option<(Vec<(Text, Tree)>, u64)>
     requires kept { AreKept (values (members_of pairs.items)) }
     ensures read { state_of_parts result ≡ contents_of (values (members_of pairs.items)) }
     ensures kept { IfSome result (λ p. IsKept (mapping (members_of p.0.items))) }

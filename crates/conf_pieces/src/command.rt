@@ -9,7 +9,7 @@ use crate::fields::{is_path, keys_are, next_text, next_value, number_from};
 use crate::parts::part;
 use conf_record::{Command, good_name};
 use std::alloc::{AllocError, Global};
-use yaml_tree::Tree;
+use yaml_tree::{Text, Tree};
 
 /// The command and the number of a record's tree; None where it is no record's.
 pub(crate) fn command_from(alloc: Global, tree: Tree) -> Result<Option<(Command, u64)>, AllocError>
@@ -22,7 +22,7 @@ pub(crate) fn command_from(alloc: Global, tree: Tree) -> Result<Option<(Command,
         Tree::Map(pairs) => pairs,
     };
     if keys_are(&["at", "import", "tree"], &pairs) {
-        import_from(pairs)
+        import_from(alloc, pairs)
     } else if keys_are(&["at", "set", "path", "value"], &pairs) {
         set_from(alloc, pairs)
     } else if keys_are(&["at", "delete", "path"], &pairs) {
@@ -33,7 +33,10 @@ pub(crate) fn command_from(alloc: Global, tree: Tree) -> Result<Option<(Command,
 }
 
 /// The import of these values: the number, the name and the tree.
-fn import_from(pairs: Vec<(String, Tree)>) -> Result<Option<(Command, u64)>, AllocError>
+fn import_from(
+    alloc: Global,
+    pairs: Vec<(Text, Tree)>,
+) -> Result<Option<(Command, u64)>, AllocError>
     requires kept { AreKept (values (members_of pairs.items)) }
     ensures { IfOk result (λ read. command_and_number read
         ≡ import_of (values (members_of pairs.items))) }
@@ -57,12 +60,13 @@ fn import_from(pairs: Vec<(String, Tree)>) -> Result<Option<(Command, u64)>, All
     let Some(number) = number_from(&digits) else {
         return Ok(None);
     };
+    let name = name.into_string(alloc)?;
     let tree = part(tree);
     Ok(Some((Command::Import { name, tree }, number)))
 }
 
 /// The set of these values: the number, the name, the path and the value.
-fn set_from(alloc: Global, pairs: Vec<(String, Tree)>) -> Result<Option<(Command, u64)>, AllocError>
+fn set_from(alloc: Global, pairs: Vec<(Text, Tree)>) -> Result<Option<(Command, u64)>, AllocError>
     requires kept { AreKept (values (members_of pairs.items)) }
     ensures { IfOk result (λ read. command_and_number read
         ≡ set_of (values (members_of pairs.items))) }
@@ -92,6 +96,8 @@ fn set_from(alloc: Global, pairs: Vec<(String, Tree)>) -> Result<Option<(Command
     let Some(number) = number_from(&digits) else {
         return Ok(None);
     };
+    let name = name.into_string(alloc)?;
+    let path = path.into_string(alloc)?;
     let value = part(value);
     Ok(Some((Command::Set { name, path, value }, number)))
 }
@@ -99,7 +105,7 @@ fn set_from(alloc: Global, pairs: Vec<(String, Tree)>) -> Result<Option<(Command
 /// The delete of these values: the number, the name and the path.
 fn delete_from(
     alloc: Global,
-    pairs: Vec<(String, Tree)>,
+    pairs: Vec<(Text, Tree)>,
 ) -> Result<Option<(Command, u64)>, AllocError>
     ensures { IfOk result (λ read. command_and_number read
         ≡ delete_of (values (members_of pairs.items))) }
@@ -126,5 +132,7 @@ fn delete_from(
     let Some(number) = number_from(&digits) else {
         return Ok(None);
     };
+    let name = name.into_string(alloc)?;
+    let path = path.into_string(alloc)?;
     Ok(Some((Command::Delete { name, path }, number)))
 }

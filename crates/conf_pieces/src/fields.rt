@@ -5,8 +5,8 @@ ghost use Rattle.std.specs.Vec.Iter.{into_iter_items};
 ghost use Rattle.yaml_grammar.specs.Texts.{same_text};
 ghost use Rattle.yaml_grammar.specs.Trees.{text, mapping};
 ghost use Rattle.yaml_tree.specs.Seen.{tree_of, members_of};
+ghost use Rattle.yaml_tree.specs.TextBytes.{text_bytes};
 ghost use Rattle.tree_path.specs.Pointers.{path_of};
-ghost use Rattle.conf_record.specs.Commands.{text_of};
 ghost use Rattle.conf_record.specs.RecordsRead.{number_from_digits, keys_are, values};
 ghost use Rattle.conf_pieces.specs.Reading.{texts, text_first, mapping_first};
 
@@ -14,10 +14,10 @@ use itoa::Buffer;
 use std::alloc::{AllocError, Global};
 use std::vec::IntoIter;
 use tree_path::{Path, PathFault};
-use yaml_tree::Tree;
+use yaml_tree::{Text, Tree};
 
 /// Whether the keys of a mapping's pairs are these, in this order, and no others.
-pub fn keys_are(keys: &[&str], pairs: &[(String, Tree)]) -> bool
+pub fn keys_are(keys: &[&str], pairs: &[(Text, Tree)]) -> bool
     ensures { result ≡ keys_are (texts (map (λ k. k.now) keys.now)) (members_of pairs.now) }
 {
     if keys.len() != pairs.len() {
@@ -39,7 +39,7 @@ pub fn is_same(one: &str, other: &str) -> bool
 }
 
 /// Takes the next pair off, and returns its value; `None` if no pair is left.
-pub fn next_value(pairs: &mut IntoIter<(String, Tree)>) -> Option<Tree>
+pub fn next_value(pairs: &mut IntoIter<(Text, Tree)>) -> Option<Tree>
     ensures { MatchOption result
         (values (members_of (into_iter_items pairs.old)) ≡ [])
         (λ t. values (members_of (into_iter_items pairs.old))
@@ -50,11 +50,11 @@ pub fn next_value(pairs: &mut IntoIter<(String, Tree)>) -> Option<Tree>
 }
 
 /// Takes the next pair off, and returns its value if that is a text; `None` if it is none, or no pair is left.
-pub fn next_text(pairs: &mut IntoIter<(String, Tree)>) -> Option<String>
+pub fn next_text(pairs: &mut IntoIter<(Text, Tree)>) -> Option<Text>
     ensures { MatchOption result
         (text_first (values (members_of (into_iter_items pairs.old))) ≡ None)
         (λ t. values (members_of (into_iter_items pairs.old))
-        ≡ text (text_of t) ∷ values (members_of (into_iter_items pairs.new))) }
+        ≡ text (chars (text_bytes t)) ∷ values (members_of (into_iter_items pairs.new))) }
 {
     match next_value(pairs)? {
         Tree::Text(text) => Some(text),
@@ -65,7 +65,7 @@ pub fn next_text(pairs: &mut IntoIter<(String, Tree)>) -> Option<String>
 
 /// Takes the next pair off, and returns the pairs of its value if that is a mapping. Returns `None` if it is none, or
 /// no pair is left.
-pub(crate) fn next_pairs(pairs: &mut IntoIter<(String, Tree)>) -> Option<Vec<(String, Tree)>>
+pub(crate) fn next_pairs(pairs: &mut IntoIter<(Text, Tree)>) -> Option<Vec<(Text, Tree)>>
     ensures { MatchOption result
         (mapping_first (values (members_of (into_iter_items pairs.old))) ≡ None)
         (λ v. values (members_of (into_iter_items pairs.old))

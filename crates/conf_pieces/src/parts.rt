@@ -1,11 +1,13 @@
 // Parts of a configuration's tree as configurations.
 ghost use Rattle.std.specs.Prelude.{◌≡◌, IfOk};
 ghost use Rattle.yaml_tree.specs.Kept.{IsKept};
-ghost use Rattle.yaml_tree.specs.Seen.{tree_of};
+ghost use Rattle.yaml_tree.specs.Seen.{tree_of, members_of};
+ghost use Rattle.conf_record.specs.Kept.{entries_of};
+ghost use Rattle.conf_record.specs.RecordsRead.{entries};
 ghost use Rattle.conf_pieces.specs.Reading.{AreKept, trees_of};
 
 use std::alloc::{AllocError, Global};
-use yaml_tree::{ByteCount, Config, Tree, write_style};
+use yaml_tree::{ByteCount, Config, Text, Tree, write_style};
 
 /// A part of a configuration's tree as a configuration of its own. It keeps all limits of a [`Config`]. Its length is
 /// counted, and no memory is taken.
@@ -23,13 +25,15 @@ pub fn part(tree: Tree) -> Config
 /// The same for the values of a mapping, under their keys.
 pub(crate) fn configurations(
     alloc: Global,
-    pairs: Vec<(String, Tree)>,
+    pairs: Vec<(Text, Tree)>,
 ) -> Result<Vec<(String, Config)>, AllocError>
     requires { AreKept (trees_of pairs.items) }
-    ensures { IfOk result (λ configs. configs.items ≡ pairs.items) }
+    ensures { IfOk result (λ configs. entries_of configs.items
+        ≡ entries (members_of pairs.items)) }
 {
     let mut configs = Vec::with_capacity(alloc, pairs.len())?;
     for (name, tree) in pairs {
+        let name = name.into_string(alloc)?;
         configs.push((name, part(tree)))?;
     }
     Ok(configs)

@@ -2,8 +2,8 @@ use Rattle.std.proofs.Common.{◌≡◌, Some, IfSome, IfNone, sym, ap, subst, �
 use Rattle.std.proofs.lemmas.Result.{IfOk-weaker}
 use Rattle.yaml_tree.specs.Kept.{own_limits}
 use Rattle.yaml_tree.specs.Reading.{IsRead, GivesNone}
-use Rattle.yaml_tree.specs.Seen.{tree_of, members_of}
-use Rattle.conf_record.specs.RecordsRead.{base_of, entries}
+use Rattle.yaml_tree.specs.Seen.{tree_of}
+use Rattle.conf_record.specs.RecordsRead.{base_of}
 use Rattle.conf_pieces.specs.Reading.{state_of_parts}
 use Rattle.conf_pieces.proofs.PieceLemmas.{own_parts}
 use Rattle.conf_pieces.proofs.TreeLemmas.{no_parts, one_base, no_base}
@@ -28,7 +28,7 @@ returns-in_ok-configs-in-Some-base_from-clause-some c =
     let t = tree_of c.in-Some.tree in
     let given = subst (λ o. IfSome o (λ tree. IsRead bytes own_limits (tree_of tree))) c.in-Some.is c.in_ok-tree.ensures.some in
     let parts = ap state_of_parts (sym c.in-Some-base_from.is) ∙ c.base_from.ensures.read in
-    let moved = subst (λ xs. Some (record { configs = entries (members_of xs); count = c.in-Some-base_from.count }) ≡ base_of t) (sym c.in_ok-configs-in-Some-base_from.ensures) parts in
+    let moved = subst (λ es. Some (record { configs = es; count = c.in-Some-base_from.count }) ≡ base_of t) (sym c.in_ok-configs-in-Some-base_from.ensures) parts in
     IfOk-weaker c.from_parts.result _ _
     (λ read e. one_base c.bytes_give_one.ensures bytes t given c.in_ok-configs-in-Some-base_from.configs.items c.in-Some-base_from.count moved read e) c.from_parts.ensures.some
 
@@ -38,7 +38,7 @@ returns-in_ok-configs-in-Some-base_from-clause-none c =
     let t = tree_of c.in-Some.tree in
     let given = subst (λ o. IfSome o (λ tree. IsRead bytes own_limits (tree_of tree))) c.in-Some.is c.in_ok-tree.ensures.some in
     let parts = ap state_of_parts (sym c.in-Some-base_from.is) ∙ c.base_from.ensures.read in
-    let moved = subst (λ xs. Some (record { configs = entries (members_of xs); count = c.in-Some-base_from.count }) ≡ base_of t) (sym c.in_ok-configs-in-Some-base_from.ensures) parts in
+    let moved = subst (λ es. Some (record { configs = es; count = c.in-Some-base_from.count }) ≡ base_of t) (sym c.in_ok-configs-in-Some-base_from.ensures) parts in
     IfOk-weaker c.from_parts.result _ _
     (λ read e. no_base c.bytes_give_one.ensures bytes t given c.in_ok-configs-in-Some-base_from.configs.items c.in-Some-base_from.count moved read e) c.from_parts.ensures.none
 
