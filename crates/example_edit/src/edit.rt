@@ -7,7 +7,7 @@ use std::alloc::{AllocError, Global};
 use thiserror::Error;
 use tree_path::{Path, PathFault, set};
 use yaml_emit::style_text;
-use yaml_tree::{Config, Limits, ReadFault, Tree, read_one};
+use yaml_tree::{Config, Limits, ReadFault, Text, Tree, read_one};
 
 /// How large a text and its tree may be.
 pub const LIMITS: Limits = Limits {
@@ -44,7 +44,7 @@ pub fn edited(alloc: Global, bytes: &[u8], pointer: &str, value: &str) -> Result
     };
     let mut tree = config.into_tree();
     let path = Path::parse(alloc, pointer)?;
-    let value = Tree::Text(String::from_str(alloc, value)?);
+    let value = Tree::Text(Text::new(alloc, value)?);
     if let Err((_, fault)) = set(alloc, &mut tree, &path, value) {
         return Err(EditFault::Pointer(fault));
     }
