@@ -103,7 +103,7 @@ empty_line = record { width = 0; stop = lf }
 
 -- a block scalar with no empty line at its start
 abbrev block_of : Header → ℕ → List TextLine → BlockScalar
-block_of h indent texts = record { header = h; indent = indent; gaps = []; texts = texts; trail = [] }
+block_of h indent texts = record { header = h; body = record { indent = indent; gaps = []; texts = texts }; trail = [] }
 
 -- ---- a mapping of a quoted and a plain value
 --

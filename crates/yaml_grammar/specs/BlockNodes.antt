@@ -9,7 +9,7 @@ use Rattle.yaml_grammar.specs.Texts.{first, spaces, byte_len, starts_line}
 use Rattle.yaml_grammar.specs.Separation.{LineEnd, comments_text, comments_fit, Sep, sep_text, sep_fits}
 use Rattle.yaml_grammar.specs.FlowScalars.{outer, block_key}
 use Rattle.yaml_grammar.specs.FlowNodes.{Flow, flow_text, flow_fits, short_key, flow_events}
-use Rattle.yaml_grammar.specs.BlockScalars.{BlockScalar, block_body_text, block_text, block_fits, block_events}
+use Rattle.yaml_grammar.specs.BlockScalars.{BlockScalar, bare_block_text, block_text, block_fits, block_events}
 use Rattle.yaml_grammar.specs.Events.{Event, omitted_at, as_seq, as_map}
 
 -- ---- presentations
@@ -144,7 +144,7 @@ abbrev mutual
 abbrev mutual
   -- the end of a node
   pub node_end : Node → ℕ → ℕ
-  node_end (block sep b) at = at + byte_len (sep_text sep) + byte_len (block_body_text b)
+  node_end (block sep b) at = at + byte_len (sep_text sep) + byte_len (bare_block_text b)
   node_end (flow sep f comments) at = at + byte_len (sep_text sep) + byte_len (flow_text f)
   node_end (items comments k is) at = items_end is k (at + byte_len (comments_text comments) + k)
   node_end (pairs comments k ps) at = pairs_end ps k (at + byte_len (comments_text comments) + k)

@@ -34,12 +34,16 @@ pub record TextLine : Type 0 where
   pub stop : Option Break
   pub gaps : List Gap
 
--- the indentation is that of the text lines; the comments come after the scalar
-pub record BlockScalar : Type 0 where
-  pub header : Header
+-- what is between the header and the comments: empty lines, and text lines, whose indentation this is
+pub record Body : Type 0 where
   pub indent : ℕ
   pub gaps : List Gap
   pub texts : List TextLine
+
+-- [170] c-l+literal and [174] c-l+folded, 8.1: a header, a body, and the comments after them
+pub record BlockScalar : Type 0 where
+  pub header : Header
+  pub body : Body
   pub trail : List LineEnd
 
 -- ---- what they spell
@@ -78,13 +82,17 @@ text_line_text q l = spaces q ++ l.text ++ optional break_text l.stop ++ gaps_te
 abbrev pub text_lines_text : ℕ → List TextLine → List ℕ
 text_lines_text q ls = flat_map (text_line_text q) ls
 
+-- the text of a body
+abbrev pub body_text : Body → List ℕ
+body_text b = gaps_text b.gaps ++ text_lines_text b.indent b.texts
+
 -- the text of the scalar without the comments after it
-abbrev pub block_body_text : BlockScalar → List ℕ
-block_body_text b = header_text b.header ++ gaps_text b.gaps ++ text_lines_text b.indent b.texts
+abbrev pub bare_block_text : BlockScalar → List ℕ
+bare_block_text b = header_text b.header ++ body_text b.body
 
 -- the text of the scalar, with the comments after it
 abbrev pub block_text : BlockScalar → List ℕ
-block_text b = block_body_text b ++ comments_text b.trail
+block_text b = bare_block_text b ++ comments_text b.trail
 
 -- ---- lines
 
@@ -147,7 +155,7 @@ is_detected_indent m q gaps (l ∷ ls) after = nat_le m q && not (begins (spaces
 
 -- With a digit d the indentation is n + d, and d at the top of a document.
 abbrev pub indent_fits : Option ℕ → ℕ → ℕ → List Gap → List TextLine → List ℕ → Bool
-indent_fits (Some d) m q gaps texts after = between 1 9 d && (q == (m - 1) + d)
+indent_fits (Some d) m q gaps texts after = q == (m - 1) + d
 indent_fits None m q gaps texts after = is_detected_indent m q gaps texts after
 
 -- ---- what a block scalar has to meet
@@ -159,14 +167,28 @@ trail_fits q [] after = true
 trail_fits q (e ∷ es) after =
     is_some e.comment && list_all space e.blank && nat_lt (length e.blank) q && comments_fit true (e ∷ es) after
 
+-- [163] c-indentation-indicator, 8.1.1.1: the digit is from 1 to 9, if there is one
+abbrev pub digit_fits : Option ℕ → Bool
+digit_fits None = true
+digit_fits (Some d) = between 1 9 d
+
+-- [162] c-b-block-header, 8.1.1: what a header has to meet
+abbrev pub header_fits : Header → List ℕ → Bool
+header_fits h after = digit_fits h.digit && line_end_fits false h.line_end after
+
+-- [173] l-literal-content, 8.1.2, and [182] l-folded-content, 8.1.3: what a body has to meet, after a header with this
+-- digit or none; no line after it goes on with it
+abbrev pub body_fits : Option ℕ → ℕ → Body → List ℕ → Bool
+body_fits digit m b after =
+    indent_fits digit m b.indent b.gaps b.texts after && gaps_fit b.indent b.gaps (text_lines_text b.indent b.texts ++ after)
+    && text_lines_fit b.indent b.texts after && not (goes_on b.indent after)
+
 -- [170] c-l+literal and [174] c-l+folded, 8.1: what a block scalar has to meet
 abbrev pub block_fits : ℕ → BlockScalar → List ℕ → Bool
 block_fits m b after =
     let rest = comments_text b.trail ++ after in
-    line_end_fits false (b.header).line_end (gaps_text b.gaps ++ (text_lines_text b.indent b.texts ++ rest))
-    && indent_fits (b.header).digit m b.indent b.gaps b.texts rest
-    && gaps_fit b.indent b.gaps (text_lines_text b.indent b.texts ++ rest) && text_lines_fit b.indent b.texts rest
-    && not (goes_on b.indent rest) && trail_fits b.indent b.trail after
+    header_fits b.header (body_text b.body ++ rest) && body_fits (b.header).digit m b.body rest
+    && trail_fits (b.body).indent b.trail after
 
 -- ---- the value (8.1.1.2, 8.1.2, 8.1.3)
 
@@ -203,5 +225,5 @@ block_value folded chomping gaps (l ∷ ls) = line_feeds (length gaps) ++ text_v
 -- header's line.
 abbrev pub block_events : ℕ → BlockScalar → List Event
 block_events at b =
-    scalar_event (if (b.header).folded then folded_style else literal_style) at (at + byte_len (block_body_text b))
-    (block_value (b.header).folded (b.header).chomping b.gaps b.texts) ∷ []
+    scalar_event (if (b.header).folded then folded_style else literal_style) at (at + byte_len (bare_block_text b))
+    (block_value (b.header).folded (b.header).chomping (b.body).gaps (b.body).texts) ∷ []

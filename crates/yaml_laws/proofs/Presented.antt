@@ -78,9 +78,7 @@ abbrev pub literal_block : ℕ → List ℕ → BlockScalar
 literal_block j value =
     record {
       header = record { folded = false; digit = None; chomping = chomping_of (feeds_at_end value); digit_last = false; line_end = feed };
-      indent = j;
-      gaps = [];
-      texts = lines_in true value;
+      body = record { indent = j; gaps = []; texts = lines_in true value };
       trail = [];
     }
 

@@ -152,8 +152,9 @@ literal_fits i m (c ∷ cs) after l h b =
     let f : (c == 32 ≡ false) × (c == 10 ≡ false) = or_parts (c == 32) (c == 10) (not-true _ q.1) in
     let two : i + 2 ≡ suc (suc i) = omega arith in
     let fits : text_lines_fit (i + 2) (lines_in true (c ∷ cs)) after ≡ true = rw two (lines_fit (suc i) true (c ∷ cs) after p.1) in
-    and_from _ _ (and_from _ _ (and_from _ _ (and_from _ _ (and_from _ _ refl
-    (rw f.1 (and_from _ _ (le-leb m (i + 2) l) (not_from_false _ (and_left _ _ f.0))))) refl) fits) (not_from_false _ (ended i after b))) refl
+    let body = and_from _ _ (and_from _ _ (and_from _ _
+    (rw f.1 (and_from _ _ (le-leb m (i + 2) l) (not_from_false _ (and_left _ _ f.0)))) refl) fits) (not_from_false _ (ended i after b)) in
+    and_from _ _ (and_from _ _ refl body) refl
 
 -- ---- values
 

@@ -76,7 +76,7 @@ mutual
 
 -- ---- values
 
-mark_spelled : (n : ℕ) (rest : List ℕ) → ((124 ∷ (chomping_text (chomping_of n) ++ (10 ∷ []))) ++ []) ++ rest ≡ (literal_mark n ++ (10 ∷ [])) ++ rest
+mark_spelled : (n : ℕ) (rest : List ℕ) → (124 ∷ (chomping_text (chomping_of n) ++ (10 ∷ []))) ++ rest ≡ (literal_mark n ++ (10 ∷ [])) ++ rest
 mark_spelled zero rest = refl
 mark_spelled (suc zero) rest = refl
 mark_spelled (suc (suc n)) rest = refl

@@ -1,8 +1,7 @@
 -- What a scanner of block scalars says in terms of the grammar, over lists: some presentation is at the start of the
 -- text, and each one there means the same and ends at the same place.
 use Rattle.std.specs.Prelude.{◌≡◌, ℕ, Bool, true, List, [], ◌∷◌, ◌++◌, Option}
-use Rattle.yaml_grammar.specs.BlockScalars.{Chomping, Header, BlockScalar, header_text, block_text, block_body_text, block_fits, block_events, block_value, TextLine, between_lines, trailing_line_feeds}
-use Rattle.yaml_recognizers.specs.BlockScalars.{header_fits, Body, body_text, body_fits}
+use Rattle.yaml_grammar.specs.BlockScalars.{Chomping, Header, Body, BlockScalar, header_text, body_text, block_text, bare_block_text, header_fits, body_fits, block_fits, block_events, block_value, TextLine, between_lines, trailing_line_feeds}
 
 -- ---- the header
 
@@ -55,7 +54,7 @@ pub record BlockStands (m : ℕ) (text : List ℕ) (b : BlockScalar) (rest : Lis
 
 -- the two spell and mean the same, except for the comments after them
 pub record SameBlock (b c : BlockScalar) : Type 0 where
-  pub spells : block_body_text b ≡ block_body_text c
+  pub spells : bare_block_text b ≡ bare_block_text c
   pub means : (at : ℕ) → block_events at b ≡ block_events at c
 
 -- the block scalar is at the start of the text, and each one there is the same except for comments

@@ -2,8 +2,8 @@
 -- them.
 use Rattle.std.specs.Prelude.{Bool, List, None, Option, Some, [], drop, false, if◌then◌else◌, is_some, length, max, nat_le, nat_lt, not, suc, true, zero, ℕ, ◌&&◌, ◌++◌, ◌+◌, ◌-◌, ◌==◌, ◌∷◌}
 use Rattle.yaml_chars.specs.Classes.{between, nb}
-use Rattle.yaml_grammar.specs.BlockScalars.{BlockScalar, Chomping, Gap, Header, TextLine, clip, gaps_fit, gaps_text, goes_on, indent_fits, keep, last_spaces, past_spaces, sets_none, spaces_before, strip, text_lines_fit, text_lines_text, widest}
-use Rattle.yaml_grammar.specs.Separation.{Break, LineEnd, line_end_fits}
+use Rattle.yaml_grammar.specs.BlockScalars.{BlockScalar, Body, Chomping, Gap, Header, TextLine, clip, goes_on, keep, last_spaces, past_spaces, sets_none, spaces_before, strip, widest}
+use Rattle.yaml_grammar.specs.Separation.{Break, LineEnd}
 use Rattle.yaml_grammar.specs.Texts.{first}
 use Rattle.yaml_recognizers.specs.CanonicalComments.{hash, is_line_end}
 use Rattle.yaml_recognizers.specs.Comments.{all_comments, read_break, read_line_end, read_stop}
@@ -12,15 +12,6 @@ use Rattle.yaml_recognizers.specs.Reading.{Read, on}
 use Rattle.yaml_recognizers.specs.Signs.{dash, greater, plus, vertical_bar}
 
 -- ---- the header
-
--- from 1 to 9, if there is a digit
-abbrev pub digit_fits : Option ℕ → Bool
-digit_fits None = true
-digit_fits (Some d) = between 1 9 d
-
--- what a header has to meet
-abbrev pub header_fits : Header → List ℕ → Bool
-header_fits h after = digit_fits h.digit && line_end_fits false h.line_end after
 
 -- [163] c-indentation-indicator, 8.1.1.1, or none
 abbrev pub read_digit : List ℕ → Option ℕ × List ℕ
@@ -119,22 +110,6 @@ find_indent None m text = indent_after m (all_gaps text)
 
 -- ---- the scalar
 
--- what is between the header and the comments
-pub record Body : Type 0 where
-  pub indent : ℕ
-  pub gaps : List Gap
-  pub texts : List TextLine
-
--- the text of a body
-abbrev pub body_text : Body → List ℕ
-body_text b = gaps_text b.gaps ++ text_lines_text b.indent b.texts
-
--- what a body has to meet
-abbrev pub body_fits : Option ℕ → ℕ → Body → List ℕ → Bool
-body_fits digit m b after =
-    indent_fits digit m b.indent b.gaps b.texts after && gaps_fit b.indent b.gaps (text_lines_text b.indent b.texts ++ after)
-    && text_lines_fit b.indent b.texts after && not (goes_on b.indent after)
-
 -- a body, once its indentation is known
 abbrev pub body_at : List ℕ → Option ℕ → Read Body
 body_at text None = None
@@ -156,7 +131,7 @@ read_trail q text = if trail_here q text then all_comments true text else ([], t
 
 -- the scalar, from its parts
 abbrev pub block_of : Header → Body → List LineEnd → BlockScalar
-block_of h b trail = record { header = h; indent = b.indent; gaps = b.gaps; texts = b.texts; trail = trail }
+block_of h b trail = record { header = h; body = b; trail = trail }
 
 -- [170] c-l+literal and [174] c-l+folded, 8.1
 abbrev pub read_block : ℕ → List ℕ → Read BlockScalar

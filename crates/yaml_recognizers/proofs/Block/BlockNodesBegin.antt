@@ -56,18 +56,18 @@ comments_closed (c ∷ cs) after h = comments_unsolid false c cs after h
 
 -- ---- block scalars
 
-block_first : (folded : Bool) (a b c d e f : List ℕ)
-    → (first bar (((((((if folded then codes ">" else codes "|") ++ a) ++ b) ++ c) ++ d) ++ e) ++ f) ≡ true)
-    × (first solid (((((((if folded then codes ">" else codes "|") ++ a) ++ b) ++ c) ++ d) ++ e) ++ f) ≡ true)
-    × (sign 45 (((((((if folded then codes ">" else codes "|") ++ a) ++ b) ++ c) ++ d) ++ e) ++ f) ≡ false)
-    × (sign 63 (((((((if folded then codes ">" else codes "|") ++ a) ++ b) ++ c) ++ d) ++ e) ++ f) ≡ false)
-block_first true a b c d e f = (refl, refl, refl, refl)
-block_first false a b c d e f = (refl, refl, refl, refl)
+block_first : (folded : Bool) (a b c d e : List ℕ)
+    → (first bar ((((((if folded then codes ">" else codes "|") ++ a) ++ b) ++ c) ++ d) ++ e) ≡ true)
+    × (first solid ((((((if folded then codes ">" else codes "|") ++ a) ++ b) ++ c) ++ d) ++ e) ≡ true)
+    × (sign 45 ((((((if folded then codes ">" else codes "|") ++ a) ++ b) ++ c) ++ d) ++ e) ≡ false)
+    × (sign 63 ((((((if folded then codes ">" else codes "|") ++ a) ++ b) ++ c) ++ d) ++ e) ≡ false)
+block_first true a b c d e = (refl, refl, refl, refl)
+block_first false a b c d e = (refl, refl, refl, refl)
 
 -- a block scalar starts with `|` or `>`
 pub block_prefix : (b : BlockScalar) (after : List ℕ)
     → (first bar (block_text b ++ after) ≡ true) × (first solid (block_text b ++ after) ≡ true) × (sign 45 (block_text b ++ after) ≡ false) × (sign 63 (block_text b ++ after) ≡ false)
-block_prefix b after = block_first (b.header).folded _ _ _ _ _ _
+block_prefix b after = block_first (b.header).folded _ _ _ _ _
 
 -- ---- no ns comes after a sign
 

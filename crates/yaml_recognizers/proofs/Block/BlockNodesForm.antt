@@ -20,7 +20,7 @@ use Rattle.yaml_recognizers.proofs.Separation.CommentsComplete.{not_line_end}
 use Rattle.yaml_recognizers.proofs.Basics.Prefixes.{every_space}
 use Rattle.yaml_recognizers.specs.Ends.{solid}
 use Rattle.yaml_recognizers.proofs.Basics.Solid.{dash_solid}
-use Rattle.yaml_recognizers.proofs.BlockScalars.BlockScalarsForm.{block_form, block_form_events, block_form_fits, block_form_text, block_open, body_form_text, takes, takes_none}
+use Rattle.yaml_recognizers.proofs.BlockScalars.BlockScalarsForm.{block_form, block_form_events, block_form_fits, block_form_text, block_open, bare_form_text, takes, takes_none}
 use Rattle.yaml_recognizers.proofs.Separation.CommentsForm.{comments_form_fit, comments_joined, joined_before, sep_form, sep_form_fits, sep_form_text}
 use Rattle.yaml_recognizers.proofs.Flow.FlowNodesForm.{flow_form, flow_form_events, flow_form_fits, flow_form_text, form_solid}
 
@@ -146,7 +146,7 @@ pair_form_same p k = pair_form_text p k [] ∙ append-nil (pair_text p k)
 mutual
   -- the form of a node ends at the same place
   pub node_form_end : (n : Node) (ls : List LineEnd) (at : ℕ) → node_end (node_form n ls) at ≡ node_end n at
-  node_form_end (block sep b) ls at = rw (sep_form_text sep, body_form_text b ls)
+  node_form_end (block sep b) ls at = rw (sep_form_text sep, bare_form_text b ls)
   node_form_end (flow sep f comments) ls at = rw (sep_form_text sep, flow_form_text f)
   node_form_end (items comments k is) ls at = items_form_end is k ls _
   node_form_end (pairs comments k ps) ls at = pairs_form_end ps k ls _

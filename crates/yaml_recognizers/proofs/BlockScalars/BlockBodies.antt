@@ -2,14 +2,14 @@
 use Rattle.std.proofs.Common.{◌≡◌, refl, sym, ◌∙◌, ap, subst, append_assoc, ◌<◌}
 use Rattle.std.specs.Prelude.{ℕ, suc, ◌+◌, ◌-◌, true, false, not, ◌&&◌, List, ◌++◌, length, Option, Some, None}
 use Rattle.std.proofs.lemmas.Bool.{and_parts, and_from, eq-eqb, not-true, not_from_false}
-use Rattle.yaml_grammar.specs.BlockScalars.{Gap, gaps_text, TextLine, text_lines_text, gaps_fit, text_lines_fit, goes_on, indent_fits}
+use Rattle.yaml_grammar.specs.BlockScalars.{Gap, gaps_text, TextLine, text_lines_text, Body, body_text, gaps_fit, text_lines_fit, goes_on, indent_fits, digit_fits, body_fits}
 use Rattle.yaml_recognizers.proofs.Basics.Reading.{Sound, sound_on}
 use Rattle.yaml_recognizers.specs.Reading.{on}
 use Rattle.yaml_recognizers.proofs.BlockScalars.EmptyLines.{fit_meet, GapsOf, gaps_at_read, gaps_of_sound}
 use Rattle.yaml_recognizers.proofs.BlockScalars.Indentation.{indent_found, Found, IfFound, indent_sound}
 use Rattle.yaml_recognizers.proofs.Basics.Spaces.{at_most}
 use Rattle.yaml_recognizers.proofs.BlockScalars.TextLines.{lines_no_gap, lines_read, lines_few, LinesOf, lines_sound}
-use Rattle.yaml_recognizers.specs.BlockScalars.{digit_fits, Body, body_text, body_fits, gaps_at, all_gaps, lines_at, find_indent, body_at, read_body}
+use Rattle.yaml_recognizers.specs.BlockScalars.{gaps_at, all_gaps, lines_at, find_indent, body_at, read_body}
 
 -- what a body that fits has
 pub record BodyParts (digit : Option ℕ) (m : ℕ) (b : Body) (after : List ℕ) : Type 0 where
@@ -69,4 +69,4 @@ found_sound m text (Some q) f = let g : Found m q text (all_gaps text) = f in at
 -- a body that is read fits
 pub body_sound : (digit : Option ℕ) (m : ℕ) (text : List ℕ) → digit_fits digit ≡ true → Sound (BodyOf digit m text) (read_body digit m text)
 body_sound None m text h = found_sound m text (find_indent None m text) (indent_sound m text)
-body_sound (Some d) m text h = at_sound (Some d) m ((m - 1) + d) text (gaps_at ((m - 1) + d) text) refl (λ texts rest l. and_from _ _ h (eq-eqb ((m - 1) + d) ((m - 1) + d) refl))
+body_sound (Some d) m text h = at_sound (Some d) m ((m - 1) + d) text (gaps_at ((m - 1) + d) text) refl (λ texts rest l. eq-eqb ((m - 1) + d) ((m - 1) + d) refl)

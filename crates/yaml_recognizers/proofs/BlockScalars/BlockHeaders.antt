@@ -6,13 +6,13 @@ use Rattle.yaml_chars.specs.Classes.{between, white, line_break}
 use Rattle.std.specs.List.{list_all}
 use Rattle.yaml_grammar.specs.Texts.{is_empty, optional, ends_word}
 use Rattle.yaml_grammar.specs.Separation.{Break, lf, cr, cr_lf, break_text, stop_fits, LineEnd, comment_text, line_end_text, comment_fits, line_end_fits}
-use Rattle.yaml_grammar.specs.BlockScalars.{Chomping, strip, clip, keep, Header, digit_text, chomping_text, header_text}
+use Rattle.yaml_grammar.specs.BlockScalars.{Chomping, strip, clip, keep, Header, digit_text, chomping_text, header_text, digit_fits, header_fits}
 use Rattle.yaml_recognizers.proofs.Basics.Reading.{Sound, sound_on, sound_to}
 use Rattle.yaml_recognizers.specs.CanonicalBlockScalars.{canonical_header}
 use Rattle.yaml_recognizers.specs.Comments.{read_line_end}
 use Rattle.yaml_recognizers.proofs.Separation.CommentsComplete.{line_end_read}
 use Rattle.yaml_recognizers.proofs.Separation.CommentsSound.{LineOf, line_sound}
-use Rattle.yaml_recognizers.specs.BlockScalars.{digit_fits, header_fits, read_digit, read_mark, read_header_end, header_at, after_mark, after_digit, read_header}
+use Rattle.yaml_recognizers.specs.BlockScalars.{read_digit, read_mark, read_header_end, header_at, after_mark, after_digit, read_header}
 
 -- ---- the end of the header's line
 

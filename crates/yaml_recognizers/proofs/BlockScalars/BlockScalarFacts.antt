@@ -1,20 +1,19 @@
 -- What is read is what is at the start of the text, and means what each presentation there means. If nothing is read,
--- nothing
--- is there. These lemmas are over the grammar's own conditions, without those of the canonical form.
+-- nothing is there. These lemmas are over the grammar's own conditions, without those of the canonical form.
 use Rattle.std.proofs.Common.{◌≡◌, refl, sym, ◌∙◌, ap, append_assoc}
 use Rattle.std.specs.Prelude.{ℕ, ◌+◌, Bool, true, false, not, ◌&&◌, ◌||◌, List, [], ◌∷◌, ◌++◌, Option, Some, None, is_some, if◌then◌else◌}
 use Rattle.std.proofs.lemmas.Bool.{and_parts}
 use Rattle.yaml_grammar.specs.Texts.{is_empty, byte_len}
 use Rattle.yaml_grammar.specs.Separation.{LineEnd, line_end_text, comments_text}
-use Rattle.yaml_grammar.specs.BlockScalars.{Chomping, strip, clip, keep, Header, BlockScalar, chomping_text, header_text, gaps_text, text_lines_text, block_body_text, block_value}
+use Rattle.yaml_grammar.specs.BlockScalars.{Chomping, strip, clip, keep, Header, Body, BlockScalar, chomping_text, header_text, body_text, bare_block_text, block_value, digit_fits}
 use Rattle.yaml_grammar.specs.Events.{Event, scalar_event, literal_style, folded_style}
 use Rattle.yaml_recognizers.specs.Scalars.{ReadsBlocks}
 use Rattle.yaml_recognizers.proofs.Basics.Reading.{none_some, some_parts, sound_is}
-use Rattle.yaml_recognizers.specs.BlockScalars.{digit_fits, read_header, Body, body_text, read_body, read_trail, block_of, read_block}
+use Rattle.yaml_recognizers.specs.BlockScalars.{read_header, read_body, read_trail, block_of, read_block}
 use Rattle.yaml_recognizers.specs.BlockScalarFacts.{HeaderStands, IsHeader, NoHeader, BodyStands, IsBody, NoBody, BlockStands, SameBlock, IsBlock, NoBlock}
 use Rattle.yaml_recognizers.proofs.BlockScalars.BlockHeaders.{bar, signs, header_read, HeaderOf, header_sound}
 use Rattle.yaml_recognizers.proofs.BlockScalars.BlockBodies.{body_read, BodyOf, body_sound}
-use Rattle.yaml_recognizers.proofs.BlockScalars.BlockScalarsWhole.{body_of, BlockParts, block_parts, block_read, BlockOf, block_sound}
+use Rattle.yaml_recognizers.proofs.BlockScalars.BlockScalarsWhole.{BlockParts, block_parts, block_read, BlockOf, block_sound}
 
 -- ---- the recognizer as block nodes take it
 
@@ -109,51 +108,51 @@ no_body digit m text e b rest s = none_some (b, rest) (sym e ∙ body_found digi
 
 -- its header and its body
 pub block_header : (m : ℕ) (text : List ℕ) (b : BlockScalar) (rest : List ℕ) → BlockStands m text b rest
-    → HeaderStands text b.header (body_text (body_of b) ++ (comments_text b.trail ++ rest))
+    → HeaderStands text b.header (body_text b.body ++ (comments_text b.trail ++ rest))
 block_header m text b rest s =
     let p : BlockParts m b rest = block_parts m b rest s.fits in
     record { spells = s.spells ∙ simp append_assoc; fits = p.header }
 
 -- a block scalar that is there has its header and body there
 pub block_body : (m : ℕ) (text : List ℕ) (b : BlockScalar) (rest : List ℕ) → BlockStands m text b rest
-    → BodyStands (b.header).digit m (body_text (body_of b) ++ (comments_text b.trail ++ rest)) (body_of b) (comments_text b.trail ++ rest)
+    → BodyStands (b.header).digit m (body_text b.body ++ (comments_text b.trail ++ rest)) b.body (comments_text b.trail ++ rest)
 block_body m text b rest s = let p : BlockParts m b rest = block_parts m b rest s.fits in record { spells = refl; fits = p.body }
 
 -- the text and the events up to the comments, from the header's text and parts
 abbrev body_spelled : List ℕ → Body → List ℕ
-body_spelled header b = header ++ gaps_text b.gaps ++ text_lines_text b.indent b.texts
+body_spelled header b = header ++ body_text b
 
 abbrev body_events : ℕ → Header → Body → List ℕ → List Event
 body_events at h b text = scalar_event (if h.folded then folded_style else literal_style) at (at + byte_len text) (block_value h.folded h.chomping b.gaps b.texts) ∷ []
 
-same_parts : (b c : BlockScalar) → digit_first b.header ≡ digit_first c.header → body_of b ≡ body_of c → SameBlock b c
+same_parts : (b c : BlockScalar) → digit_first b.header ≡ digit_first c.header → b.body ≡ c.body → SameBlock b c
 same_parts b c h g =
     let text : header_text b.header ≡ header_text c.header = sym (first_text b.header) ∙ (ap header_text h ∙ first_text c.header) in
-    let spelled : block_body_text b ≡ block_body_text c = ap (λ t. body_spelled t (body_of b)) text ∙ ap (body_spelled (header_text c.header)) g in
+    let spelled : bare_block_text b ≡ bare_block_text c = ap (λ t. body_spelled t b.body) text ∙ ap (body_spelled (header_text c.header)) g in
     record {
       spells = spelled;
-      means = λ at. ap (λ x. body_events at x (body_of b) (block_body_text b)) h
-          ∙ (ap (λ x. body_events at (digit_first c.header) x (block_body_text b)) g ∙ ap (body_events at (digit_first c.header) (body_of c)) spelled);
+      means = λ at. ap (λ x. body_events at x b.body (bare_block_text b)) h
+          ∙ (ap (λ x. body_events at (digit_first c.header) x (bare_block_text b)) g ∙ ap (body_events at (digit_first c.header) c.body) spelled);
     }
 
 -- each block scalar that is there is read, but for the place of its digit, and with all comments after it
 pub block_found : (m : ℕ) (text : List ℕ) (b : BlockScalar) (rest : List ℕ) → BlockStands m text b rest
-    → let t = read_trail b.indent (comments_text b.trail ++ rest) in read_block m text ≡ Some (block_of (digit_first b.header) (body_of b) t.0, t.1)
+    → let t = read_trail (b.body).indent (comments_text b.trail ++ rest) in read_block m text ≡ Some (block_of (digit_first b.header) b.body t.0, t.1)
 block_found m text b rest s =
     let tail : List ℕ = comments_text b.trail ++ rest in
-    let h : read_header text ≡ Some (digit_first b.header, body_text (body_of b) ++ tail) = header_found text b.header (body_text (body_of b) ++ tail) (block_header m text b rest s) in
-    let g : read_body (b.header).digit m (body_text (body_of b) ++ tail) ≡ Some (body_of b, tail) = body_found (b.header).digit m (body_text (body_of b) ++ tail) (body_of b) tail (block_body m text b rest s) in
+    let h : read_header text ≡ Some (digit_first b.header, body_text b.body ++ tail) = header_found text b.header (body_text b.body ++ tail) (block_header m text b rest s) in
+    let g : read_body (b.header).digit m (body_text b.body ++ tail) ≡ Some (b.body, tail) = body_found (b.header).digit m (body_text b.body ++ tail) b.body tail (block_body m text b rest s) in
     rw (h, g)
 
 -- all block scalars that are there spell the same up to their comments, and mean the same
 pub block_once : (m : ℕ) (text : List ℕ) (b c : BlockScalar) (rest after : List ℕ) → BlockStands m text b rest → BlockStands m text c after → SameBlock b c
 block_once m text b c rest after s t =
-    let u : List LineEnd × List ℕ = read_trail b.indent (comments_text b.trail ++ rest) in
-    let v : List LineEnd × List ℕ = read_trail c.indent (comments_text c.trail ++ after) in
-    let p : (block_of (digit_first b.header) (body_of b) u.0 ≡ block_of (digit_first c.header) (body_of c) v.0) × (u.1 ≡ v.1) =
-    some_parts (block_of (digit_first b.header) (body_of b) u.0) (block_of (digit_first c.header) (body_of c) v.0) u.1 v.1
+    let u : List LineEnd × List ℕ = read_trail (b.body).indent (comments_text b.trail ++ rest) in
+    let v : List LineEnd × List ℕ = read_trail (c.body).indent (comments_text c.trail ++ after) in
+    let p : (block_of (digit_first b.header) b.body u.0 ≡ block_of (digit_first c.header) c.body v.0) × (u.1 ≡ v.1) =
+    some_parts (block_of (digit_first b.header) b.body u.0) (block_of (digit_first c.header) c.body v.0) u.1 v.1
     (sym (block_found m text b rest s) ∙ block_found m text c after t) in
-    same_parts b c (ap (λ (x : BlockScalar). x.header) p.0) (ap body_of p.0)
+    same_parts b c (ap (λ (x : BlockScalar). x.header) p.0) (ap (λ (x : BlockScalar). x.body) p.0)
 
 -- a block scalar that is read is there, and each one there is the same except for comments
 pub block_is : (m : ℕ) (text : List ℕ) (b : BlockScalar) (rest : List ℕ) → read_block m text ≡ Some (b, rest) → IsBlock m text b rest

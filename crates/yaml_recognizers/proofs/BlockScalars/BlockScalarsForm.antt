@@ -4,8 +4,8 @@ use Rattle.std.proofs.Common.{ap, append_assoc, inl, inr, refl, subst, sym, ◌�
 use Rattle.std.specs.Prelude.{Bool, List, None, Option, Some, [], cond, false, if◌then◌else◌, is_some, length, nat_lt, not, suc, true, ℕ, ◌&&◌, ◌++◌, ◌==◌, ◌||◌, ◌∷◌}
 use Rattle.std.proofs.lemmas.Bool.{and_from, and_left, and_parts, and_right, cases_Bool, eqb-true, false≢true, not_from_false, or_parts}
 use Rattle.yaml_chars.specs.Classes.{space, white}
-use Rattle.yaml_grammar.specs.BlockScalars.{BlockScalar, Chomping, Header, block_body_text, block_events, block_fits, block_text, chomping_text, clip, digit_text, gaps_fit, gaps_text, goes_on, header_text, indent_fits, keep, past_spaces, spaces_before, strip, text_lines_fit, text_lines_text, trail_fits}
-use Rattle.yaml_grammar.specs.Separation.{Break, LineEnd, break_text, comment_line_fits, comment_text, comments_fit, comments_text, cr, cr_lf, lf, line_end_fits, line_end_text, stop_fits}
+use Rattle.yaml_grammar.specs.BlockScalars.{BlockScalar, Chomping, Header, bare_block_text, block_events, block_fits, block_text, body_fits, body_text, chomping_text, clip, digit_text, header_fits, header_text, keep, past_spaces, spaces_before, strip, trail_fits}
+use Rattle.yaml_grammar.specs.Separation.{Break, LineEnd, break_text, comment_line_fits, comment_text, comments_fit, comments_text, cr, cr_lf, lf, line_end_text, stop_fits}
 use Rattle.std.specs.List.{list_all}
 use Rattle.yaml_grammar.specs.Texts.{first, is_empty, optional}
 use Rattle.yaml_recognizers.specs.CanonicalBlockScalars.{canonical_block, whole_trail}
@@ -53,22 +53,22 @@ abbrev pub block_form : BlockScalar → List LineEnd → BlockScalar
 block_form b ls = record b { header = header_form b.header; trail = b.trail ++ ls }
 
 -- it has the same text up to its comments
-pub body_form_text : (b : BlockScalar) (ls : List LineEnd) → block_body_text (block_form b ls) ≡ block_body_text b
-body_form_text b ls = rw (header_form_text b.header)
+pub bare_form_text : (b : BlockScalar) (ls : List LineEnd) → bare_block_text (block_form b ls) ≡ bare_block_text b
+bare_form_text b ls = rw (header_form_text b.header)
 
 -- and then the comments taken in
 pub block_form_text : (b : BlockScalar) (ls : List LineEnd) → block_text (block_form b ls) ≡ block_text b ++ comments_text ls
-block_form_text b ls = rw (body_form_text b ls, comments_joined b.trail ls) (sym (append_assoc (block_body_text b) (comments_text b.trail) (comments_text ls)))
+block_form_text b ls = rw (bare_form_text b ls, comments_joined b.trail ls) (sym (append_assoc (bare_block_text b) (comments_text b.trail) (comments_text ls)))
 
 -- it means the same
 pub block_form_events : (b : BlockScalar) (ls : List LineEnd) (at : ℕ) → block_events at (block_form b ls) ≡ block_events at b
-block_form_events b ls at = rw (body_form_text b ls)
+block_form_events b ls at = rw (bare_form_text b ls)
 
 -- ---- which lines may be taken in
 
 -- where a node ends with a block scalar with no comments after it: the scalar's indentation
 abbrev pub block_open : BlockScalar → Option ℕ
-block_open b = if is_empty b.trail then Some b.indent else None
+block_open b = if is_empty b.trail then Some (b.body).indent else None
 
 -- the lines may be taken in, before what comes after
 abbrev pub takes : Option ℕ → List LineEnd → List ℕ → Bool
@@ -145,19 +145,12 @@ trail_fit q (e ∷ es) ls after h l t =
     let p : (is_some e.comment && list_all space e.blank && nat_lt (length e.blank) q ≡ true) × (comments_fit true (e ∷ es) (comments_text ls ++ after) ≡ true) = and_parts _ _ h in
     (and_from _ _ p.0 (joined_fit true (e ∷ es) ls after p.1 l), t)
 
--- all of `block_fits` but the comments
-abbrev body_fits : ℕ → BlockScalar → List ℕ → Bool
-body_fits m b rest =
-    line_end_fits false (b.header).line_end (gaps_text b.gaps ++ (text_lines_text b.indent b.texts ++ rest))
-    && indent_fits (b.header).digit m b.indent b.gaps b.texts rest
-    && gaps_fit b.indent b.gaps (text_lines_text b.indent b.texts ++ rest) && text_lines_fit b.indent b.texts rest
-    && not (goes_on b.indent rest)
-
 -- it is canonical if the scalar fits
 pub block_form_fits : (b : BlockScalar) (ls : List LineEnd) (m : ℕ) (after : List ℕ) → block_fits m b (comments_text ls ++ after) ≡ true → comments_fit true ls after ≡ true
     → takes (block_open b) ls after ≡ true → canonical_block m (block_form b ls) after ≡ true
 block_form_fits b ls m after h l t =
-    let p : (body_fits m b (comments_text b.trail ++ (comments_text ls ++ after)) ≡ true) × (trail_fits b.indent b.trail (comments_text ls ++ after) ≡ true) = and_parts _ _ h in
-    let body : body_fits m b (comments_text (b.trail ++ ls) ++ after) ≡ true = subst (λ (r : List ℕ). body_fits m b r ≡ true) (sym (joined_before b.trail ls after)) p.0 in
-    let trail = trail_fit b.indent b.trail ls after p.1 l t in
+    let p = and_parts _ _ h in
+    let body : header_fits b.header (body_text b.body ++ (comments_text (b.trail ++ ls) ++ after)) && body_fits (b.header).digit m b.body (comments_text (b.trail ++ ls) ++ after) ≡ true =
+    subst (λ (r : List ℕ). header_fits b.header (body_text b.body ++ r) && body_fits (b.header).digit m b.body r ≡ true) (sym (joined_before b.trail ls after)) p.0 in
+    let trail = trail_fit (b.body).indent b.trail ls after p.1 l t in
     and_from _ _ (and_from _ _ (and_from _ _ body trail.0) (marks_canonical (b.header).digit_last (b.header).digit (b.header).chomping)) trail.1

@@ -3,21 +3,17 @@
 use Rattle.std.proofs.Common.{◌≡◌, refl, sym, ◌∙◌, ap, subst, append_assoc}
 use Rattle.std.specs.Prelude.{ℕ, true, false, not, ◌&&◌, List, ◌++◌, Option, Some, None}
 use Rattle.std.proofs.lemmas.Bool.{and_parts, and_from, not_from_false}
-use Rattle.yaml_grammar.specs.Separation.{LineEnd, line_end_fits, comments_text}
-use Rattle.yaml_grammar.specs.BlockScalars.{Header, Gap, TextLine, BlockScalar, header_text, gaps_text, text_lines_text, block_text, gaps_fit, text_lines_fit, goes_on, indent_fits, trail_fits, block_fits}
+use Rattle.yaml_grammar.specs.Separation.{LineEnd, comments_text}
+use Rattle.yaml_grammar.specs.BlockScalars.{Header, Body, BlockScalar, header_text, body_text, block_text, header_fits, body_fits, trail_fits, block_fits}
 use Rattle.yaml_recognizers.proofs.Basics.Reading.{Sound, sound_on}
 use Rattle.yaml_recognizers.specs.CanonicalBlockScalars.{canonical_header, whole_trail, canonical_block}
 use Rattle.yaml_recognizers.specs.Reading.{on}
-use Rattle.yaml_recognizers.proofs.BlockScalars.BlockBodies.{BodyParts, body_parts, body_read, BodyOf, body_sound}
+use Rattle.yaml_recognizers.proofs.BlockScalars.BlockBodies.{body_read, BodyOf, body_sound}
 use Rattle.yaml_recognizers.proofs.BlockScalars.BlockHeaders.{header_read, HeaderOf, header_sound}
 use Rattle.yaml_recognizers.proofs.BlockScalars.Trails.{trail_read, TrailOf, trail_sound}
-use Rattle.yaml_recognizers.specs.BlockScalars.{digit_fits, header_fits, read_header, Body, body_text, body_fits, read_body, read_trail, block_of, read_block}
+use Rattle.yaml_recognizers.specs.BlockScalars.{read_header, read_body, read_trail, block_of, read_block}
 
 -- ---- the parts of a block scalar
-
--- the body of a block scalar
-abbrev pub body_of : BlockScalar → Body
-body_of b = record { indent = b.indent; gaps = b.gaps; texts = b.texts }
 
 -- the text of a scalar, from its parts
 pub block_regrouped : (h : Header) (b : Body) (trail : List LineEnd) (after : List ℕ)
@@ -26,55 +22,28 @@ block_regrouped h b trail after = simp append_assoc
 
 -- what a block scalar that fits has
 pub record BlockParts (m : ℕ) (b : BlockScalar) (after : List ℕ) : Type 0 where
-  pub header : header_fits b.header (body_text (body_of b) ++ (comments_text b.trail ++ after)) ≡ true
-  pub body : body_fits (b.header).digit m (body_of b) (comments_text b.trail ++ after) ≡ true
-  pub trail : trail_fits b.indent b.trail after ≡ true
-
-digit_from : (digit : Option ℕ) (m q : ℕ) (gaps : List Gap) (texts : List TextLine) (after : List ℕ) → indent_fits digit m q gaps texts after ≡ true → digit_fits digit ≡ true
-digit_from None m q gaps texts after h = refl
-digit_from (Some d) m q gaps texts after h = (and_parts _ _ h).0
+  pub header : header_fits b.header (body_text b.body ++ (comments_text b.trail ++ after)) ≡ true
+  pub body : body_fits (b.header).digit m b.body (comments_text b.trail ++ after) ≡ true
+  pub trail : trail_fits (b.body).indent b.trail after ≡ true
 
 -- a block scalar that fits has these parts
 pub block_parts : (m : ℕ) (b : BlockScalar) (after : List ℕ) → block_fits m b after ≡ true → BlockParts m b after
 block_parts m b after h =
-    let rest : List ℕ = comments_text b.trail ++ after in
-    let lines : List ℕ = text_lines_text b.indent b.texts ++ rest in
-    let p : (line_end_fits false (b.header).line_end (gaps_text b.gaps ++ lines) && indent_fits (b.header).digit m b.indent b.gaps b.texts rest && gaps_fit b.indent b.gaps lines
-    && text_lines_fit b.indent b.texts rest && not (goes_on b.indent rest) ≡ true) × (trail_fits b.indent b.trail after ≡ true) = and_parts _ _ h in
-    let q : (line_end_fits false (b.header).line_end (gaps_text b.gaps ++ lines) && indent_fits (b.header).digit m b.indent b.gaps b.texts rest && gaps_fit b.indent b.gaps lines
-    && text_lines_fit b.indent b.texts rest ≡ true) × (not (goes_on b.indent rest) ≡ true) = and_parts _ _ p.0 in
-    let r : (line_end_fits false (b.header).line_end (gaps_text b.gaps ++ lines) && indent_fits (b.header).digit m b.indent b.gaps b.texts rest && gaps_fit b.indent b.gaps lines ≡ true)
-    × (text_lines_fit b.indent b.texts rest ≡ true) = and_parts _ _ q.0 in
-    let s : (line_end_fits false (b.header).line_end (gaps_text b.gaps ++ lines) && indent_fits (b.header).digit m b.indent b.gaps b.texts rest ≡ true) × (gaps_fit b.indent b.gaps lines ≡ true) = and_parts _ _ r.0 in
-    let t : (line_end_fits false (b.header).line_end (gaps_text b.gaps ++ lines) ≡ true) × (indent_fits (b.header).digit m b.indent b.gaps b.texts rest ≡ true) = and_parts _ _ s.0 in
-    record {
-      header = and_from _ _ (digit_from (b.header).digit m b.indent b.gaps b.texts rest t.1)
-          (subst (λ (x : List ℕ). line_end_fits false (b.header).line_end x ≡ true) (sym (append_assoc (gaps_text b.gaps) (text_lines_text b.indent b.texts) rest)) t.0);
-      body = and_from _ _ (and_from _ _ (and_from _ _ t.1 s.1) r.1) q.1;
-      trail = p.1;
-    }
-
--- a block scalar of parts that fit, fits
-pub block_from : (m : ℕ) (h : Header) (b : Body) (trail : List LineEnd) (after : List ℕ) → header_fits h (body_text b ++ (comments_text trail ++ after)) ≡ true
-    → body_fits h.digit m b (comments_text trail ++ after) ≡ true → trail_fits b.indent trail after ≡ true → block_fits m (block_of h b trail) after ≡ true
-block_from m h b trail after f g t =
-    let rest : List ℕ = comments_text trail ++ after in
-    let p : BodyParts h.digit m b rest = body_parts h.digit m b rest g in
-    let e : line_end_fits false h.line_end (gaps_text b.gaps ++ (text_lines_text b.indent b.texts ++ rest)) ≡ true =
-    subst (λ (x : List ℕ). line_end_fits false h.line_end x ≡ true) (append_assoc (gaps_text b.gaps) (text_lines_text b.indent b.texts) rest) (and_parts _ _ f).1 in
-    and_from _ _ (and_from _ _ (and_from _ _ (and_from _ _ (and_from _ _ e p.indent) p.gaps) p.texts) (not_from_false _ p.end)) t
+    let p = and_parts _ _ h in
+    let q = and_parts _ _ p.0 in
+    record { header = q.0; body = q.1; trail = p.1 }
 
 -- ---- complete
 
 -- a canonical block scalar is read
 pub block_read : (b : BlockScalar) (m : ℕ) (after : List ℕ) → canonical_block m b after ≡ true → read_block m (block_text b ++ after) ≡ Some (b, after)
 block_read b m after h =
-    let p : (block_fits m b after && canonical_header b.header ≡ true) × (whole_trail b.indent b.trail after ≡ true) = and_parts _ _ h in
+    let p : (block_fits m b after && canonical_header b.header ≡ true) × (whole_trail (b.body).indent b.trail after ≡ true) = and_parts _ _ h in
     let q : (block_fits m b after ≡ true) × (canonical_header b.header ≡ true) = and_parts _ _ p.0 in
     let parts : BlockParts m b after = block_parts m b after q.0 in
     let rest : List ℕ = comments_text b.trail ++ after in
-    ap (read_block m) (block_regrouped b.header (body_of b) b.trail after)
-    ∙ rw (header_read b.header (body_text (body_of b) ++ rest) parts.header q.1, body_read (b.header).digit m (body_of b) rest parts.body, trail_read b.indent b.trail after parts.trail p.1)
+    ap (read_block m) (block_regrouped b.header b.body b.trail after)
+    ∙ rw (header_read b.header (body_text b.body ++ rest) parts.header q.1, body_read (b.header).digit m b.body rest parts.body, trail_read (b.body).indent b.trail after parts.trail p.1)
 
 -- ---- sound
 
@@ -91,7 +60,7 @@ joined m text after rest h b s t =
     let at : after ≡ body_text b ++ (comments_text trail ++ end) = t.0 ∙ ap (λ x. body_text b ++ x) u.0 in (
       s.0 ∙ (ap (λ x. header_text h ++ x) at ∙ sym (block_regrouped h b trail end)),
       and_from _ _ (and_from _ _
-          (block_from m h b trail end (subst (λ (x : List ℕ). header_fits h x ≡ true) at s.1) (subst (λ (x : List ℕ). body_fits h.digit m b x ≡ true) u.0 t.1) u.1) s.2) u.2,
+          (and_from _ _ (and_from _ _ (subst (λ (x : List ℕ). header_fits h x ≡ true) at s.1) (subst (λ (x : List ℕ). body_fits h.digit m b x ≡ true) u.0 t.1)) u.1) s.2) u.2,
     )
 
 -- a block scalar that is read is canonical

@@ -2,7 +2,7 @@
 use Rattle.std.proofs.Common.{◌≡◌, refl, sym, ◌∙◌, ap, subst, inl, inr, append_assoc, arith, ◌<◌, ◌≤◌}
 use Rattle.std.specs.Prelude.{ℕ, suc, ◌+◌, ◌-◌, max, Bool, true, false, not, ◌&&◌, ◌||◌, ◌==◌, nat_le, nat_lt, List, [], ◌∷◌, ◌++◌, Option, Some, None, if◌then◌else◌}
 use Rattle.std.proofs.lemmas.Bool.{and_parts, and_from, and_left, and_right, or_cases, or_parts, or_from, false≢true, eqb-true, eq-eqb, ne_eqb, cond-true, cond-false, ltb-true, ltb-false, leb-true, le-leb, le-ltb, not-true, not-false, not_from_true, cond_both, cases_Bool}
-use Rattle.yaml_chars.specs.Classes.{between, line_break, space, nb}
+use Rattle.yaml_chars.specs.Classes.{line_break, space, nb}
 use Rattle.yaml_grammar.specs.Texts.{first, begins, is_empty, spaces, optional, no_marker}
 use Rattle.yaml_grammar.specs.Separation.{break_text}
 use Rattle.yaml_grammar.specs.BlockScalars.{Gap, gaps_text, TextLine, text_lines_text, gaps_fit, text_line_fits, text_lines_fit, spaces_before, past_spaces, goes_on, widest, last_spaces, sets_none, is_detected_indent, indent_fits}
@@ -106,7 +106,7 @@ found_some m q gaps text s f =
 pub indent_found : (digit : Option ℕ) (m q : ℕ) (gaps : List Gap) (texts : List TextLine) (rest : List ℕ) → indent_fits digit m q gaps texts rest ≡ true
     → gaps_fit q gaps (text_lines_text q texts ++ rest) ≡ true → text_lines_fit q texts rest ≡ true → goes_on q rest ≡ false
     → find_indent digit m (gaps_text gaps ++ (text_lines_text q texts ++ rest)) ≡ Some q
-indent_found (Some d) m q gaps texts rest i f t n = ap Some (sym (eqb-true q ((m - 1) + d) (and_parts (between 1 9 d) (q == (m - 1) + d) i).1))
+indent_found (Some d) m q gaps texts rest i f t n = ap Some (sym (eqb-true q ((m - 1) + d) i))
 indent_found None m q gaps [] rest i f t n = found_none m q gaps rest i f n
 indent_found None m q gaps (l ∷ ls) rest i f t n =
     let p : (nat_le m q ≡ true) × (not (begins (spaces 1) l.text) ≡ true) = and_parts _ _ i in

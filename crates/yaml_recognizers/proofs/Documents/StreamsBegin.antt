@@ -228,13 +228,13 @@ flow_long (scalar (double prefix more)) n c bol after h = omega arith
 flow_long (seq gap es) n c bol after h = omega arith
 flow_long (map gap es) n c bol after h = omega arith
 
-block_first_long : (folded : Bool) (a b c d e : List ℕ) → 1 ≤ length ((((((if folded then codes ">" else codes "|") ++ a) ++ b) ++ c) ++ d) ++ e)
-block_first_long true a b c d e = omega arith
-block_first_long false a b c d e = omega arith
+block_first_long : (folded : Bool) (a b c d : List ℕ) → 1 ≤ length (((((if folded then codes ">" else codes "|") ++ a) ++ b) ++ c) ++ d)
+block_first_long true a b c d = omega arith
+block_first_long false a b c d = omega arith
 
 -- a block scalar isn't empty
 pub block_long : (b : BlockScalar) → 1 ≤ length (block_text b)
-block_long b = block_first_long (b.header).folded _ _ _ _ _
+block_long b = block_first_long (b.header).folded _ _ _ _
 
 -- items aren't empty
 pub items_long : (is : Items) (k : ℕ) → 1 ≤ length (items_text is k)

@@ -6,7 +6,7 @@ use Rattle.std.proofs.lemmas.Bool.Decides.{nat_tests}
 use Rattle.std.proofs.lemmas.List.Elements.{All-append, All-cons, All-nil}
 use Rattle.yaml_chars.specs.Classes.{line_break, ns, white}
 use Rattle.yaml_grammar.specs.BlockNodes.{Indented, Items, Node, Pair, Pairs, asked, asked_alone, block, compact_items, compact_pairs, flow, indented_fits, indented_text, is_omitted, item, item_and, items, items_fit, items_text, keyed, keyed_alone, node, node_fits, node_text, omitted, pair, pair_and, pair_fits, pair_text, pairs, pairs_fit, pairs_text}
-use Rattle.yaml_grammar.specs.BlockScalars.{BlockScalar, Gap, Header, TextLine, block_body_text, block_fits, block_text, chomping_text, digit_text, gap_line_text, gaps_text, header_text, text_line_fits, text_line_text, text_lines_fit, text_lines_text, trail_fits}
+use Rattle.yaml_grammar.specs.BlockScalars.{BlockScalar, Body, Gap, Header, TextLine, bare_block_text, block_fits, block_text, body_fits, body_text, chomping_text, digit_text, gap_line_text, gaps_text, header_text, text_line_fits, text_line_text, text_lines_fit, text_lines_text, trail_fits}
 use Rattle.yaml_grammar.specs.FlowNodes.{Entries, Entry, Flow, Value, absent, asked_text, empty, entries_text, entry, entry_text, flow_fits, flow_text, given, last, map, next, none, scalar, seq, short_key, single_pair, value_text}
 use Rattle.yaml_grammar.specs.FlowScalars.{FlowContext, block_key, flow_key, inside, outer}
 use Rattle.yaml_grammar.specs.Separation.{Break, LineEnd, Sep, break_text, comments_fit, comments_text, gap_text, line_end_fits, line_end_text, sep_fits, sep_text, stop_fits, comment_text}
@@ -105,20 +105,23 @@ header_end h bol after f =
     ++ (if h.digit_last then chomping_text h.chomping ++ optional digit_text h.digit else optional digit_text h.digit ++ chomping_text h.chomping) in
     joined bol words (line_end_text h.line_end) after (line_end_ends h.line_end (starts_line bol words) after f)
 
+body_end : (digit : Option ℕ) (m : ℕ) (b : Body) (bol : Bool) (after : List ℕ) → body_fits digit m b after ≡ true → line_or_end bol (body_text b ++ after) ≡ true → Ends bol (body_text b) after
+body_end digit m b bol after f h =
+    let texts : List ℕ = text_lines_text b.indent b.texts in
+    let lines : text_lines_fit b.indent b.texts after ≡ true = (and_parts _ _ (and_parts _ _ f).0).1 in
+    let gaps : Ends bol (gaps_text b.gaps) (texts ++ after) =
+    gaps_end b.gaps bol (texts ++ after) (subst (λ (t : List ℕ). line_or_end bol t ≡ true) (append_assoc (gaps_text b.gaps) texts after) h) in
+    joined bol (gaps_text b.gaps) texts after (text_lines_end b.indent b.texts _ after lines gaps)
+
 block_end : (m : ℕ) (b : BlockScalar) (bol : Bool) (after : List ℕ) → block_fits m b after ≡ true → Ends bol (block_text b) after
 block_end m b bol after h =
     let rest : List ℕ = comments_text b.trail ++ after in
-    let texts : List ℕ = text_lines_text b.indent b.texts in
     let p = and_parts _ _ h in
     let q = and_parts _ _ p.0 in
-    let r = and_parts _ _ q.0 in
-    let s = and_parts _ _ r.0 in
-    let t = and_parts _ _ s.0 in
-    let stop : stop_fits ((b.header).line_end).stop (gaps_text b.gaps ++ (texts ++ rest)) ≡ true = (and_parts _ _ t.0).1 in
-    let one : Ends bol (header_text b.header) (gaps_text b.gaps ++ (texts ++ rest)) = header_end b.header bol _ stop in
-    let two : Ends bol (header_text b.header ++ gaps_text b.gaps) (texts ++ rest) = joined bol (header_text b.header) (gaps_text b.gaps) (texts ++ rest) (gaps_end b.gaps _ (texts ++ rest) one) in
-    let three : Ends bol (block_body_text b) rest = joined bol (header_text b.header ++ gaps_text b.gaps) texts rest (text_lines_end b.indent b.texts _ rest r.1 two) in
-    joined bol (block_body_text b) (comments_text b.trail) after (trail_end b.indent b.trail _ after p.1 three)
+    let stop : stop_fits ((b.header).line_end).stop (body_text b.body ++ rest) ≡ true = (and_parts _ _ (and_parts _ _ q.0).1).1 in
+    let one : Ends bol (header_text b.header) (body_text b.body ++ rest) = header_end b.header bol _ stop in
+    let two : Ends bol (bare_block_text b) rest = joined bol (header_text b.header) (body_text b.body) rest (body_end (b.header).digit m b.body _ rest q.1 one) in
+    joined bol (bare_block_text b) (comments_text b.trail) after (trail_end (b.body).indent b.trail _ after p.1 two)
 
 mutual
   node_ends : (n : Node) (m : ℕ) (shallow bol start : Bool) (after : List ℕ) → node_fits n m shallow bol after ≡ true → Ends start (node_text n) after

@@ -2,7 +2,7 @@
 use Rattle.std.proofs.Common.{arith, refl, ◌≡◌, ◌≤◌}
 use Rattle.std.specs.Prelude.{Bool, List, None, Option, Some, [], codes, false, flat_map, if◌then◌else◌, not, suc, true, zero, ℕ, ◌++◌, ◌+◌, ◌∷◌}
 use Rattle.yaml_grammar.specs.BlockNodes.{Indented, Items, Node, Pair, Pairs, asked, asked_alone, block, compact_items, compact_pairs, flow, indented_end, indented_events, indented_text, item, item_and, items, items_end, items_events, items_text, keyed, keyed_alone, node, node_end, node_events, node_text, omitted, pair, pair_and, pair_end, pair_events, pair_text, pairs, pairs_end, pairs_events, pairs_text}
-use Rattle.yaml_grammar.specs.BlockScalars.{block_body_text, block_text}
+use Rattle.yaml_grammar.specs.BlockScalars.{bare_block_text, block_text}
 use Rattle.yaml_grammar.specs.Events.{Event, as_document, as_map, as_seq, document_end, document_start, map_end, map_start, omitted_at, scalar_event, seq_end, seq_start}
 use Rattle.yaml_grammar.specs.FlowNodes.{Entries, Entry, Flow, Value, absent, asked_text, empty, entries_events, entries_text, entry, entry_events, entry_text, flow_events, flow_text, given, is_pair, last, map, next, none, scalar, seq, value_events, value_text}
 use Rattle.yaml_grammar.specs.FlowScalars.{scalar_text}
@@ -160,7 +160,7 @@ mutual
   node_ranged : (n : Node) (at : ℕ) → Ranged at (node_events n at) (node_end n at) (node_text n)
   node_ranged (block sep b) at =
       let l = byte_len_joined (sep_text sep) (block_text b) in
-      let k = byte_len_joined (block_body_text b) (comments_text b.trail) in
+      let k = byte_len_joined (bare_block_text b) (comments_text b.trail) in
       record { ranges = (omega arith, omega arith, omega arith); inside = omega (arith, l, k); onward = omega arith }
   node_ranged (flow sep f comments) at =
       let l = len3 (sep_text sep) (flow_text f) (comments_text comments) in
