@@ -2,8 +2,8 @@
 use Rattle.std.specs.Prelude.{ℕ, Bool, false, not, ◌&&◌, ◌||◌, nat_le, ◌==◌, List, [], ◌∷◌, codes}
 
 -- from low to high, both included
-abbrev pub between : ℕ → ℕ → ℕ → Bool
-between low high c = nat_le low c && nat_le c high
+abbrev pub in_range : ℕ → ℕ → ℕ → Bool
+in_range low high c = nat_le low c && nat_le c high
 
 -- the character is an element of the list
 abbrev pub is_in : ℕ → List ℕ → Bool
@@ -12,17 +12,17 @@ is_in c (d ∷ ds) = (c == d) || is_in c ds
 
 -- what a character of a text may be: a Unicode scalar value
 abbrev pub code_point : ℕ → Bool
-code_point c = between 0 0xd7ff c || between 0xe000 0x10ffff c
+code_point c = in_range 0 0xd7ff c || in_range 0xe000 0x10ffff c
 
 -- [1] c-printable, 5.1
 abbrev pub printable : ℕ → Bool
 printable c =
-    is_in c (9 ∷ 10 ∷ 13 ∷ 0x85 ∷ []) || between 0x20 0x7e c || between 0xa0 0xd7ff c || between 0xe000 0xfffd c
-    || between 0x10000 0x10ffff c
+    is_in c (9 ∷ 10 ∷ 13 ∷ 0x85 ∷ []) || in_range 0x20 0x7e c || in_range 0xa0 0xd7ff c || in_range 0xe000 0xfffd c
+    || in_range 0x10000 0x10ffff c
 
 -- [2] nb-json, 5.1: TAB, and everything from the space on
 abbrev pub nb_json : ℕ → Bool
-nb_json c = (c == 9) || between 0x20 0x10ffff c
+nb_json c = (c == 9) || in_range 0x20 0x10ffff c
 
 -- [26] b-char, 5.4: LF or CR
 abbrev pub line_break : ℕ → Bool

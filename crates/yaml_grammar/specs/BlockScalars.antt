@@ -2,7 +2,7 @@
 -- The number m is n + 1, the least indentation that a block scalar below an indentation of n may have. At the top of a
 -- document n is -1, so m is 0.
 use Rattle.std.specs.Prelude.{ℕ, suc, ◌+◌, ◌-◌, max, Bool, true, false, not, ◌&&◌, ◌||◌, nat_le, nat_lt, ◌==◌, List, [], ◌∷◌, ◌++◌, length, Option, Some, None, is_some, codes, flat_map, if◌then◌else◌}
-use Rattle.yaml_chars.specs.Classes.{between, line_break, white, space, nb}
+use Rattle.yaml_chars.specs.Classes.{in_range, line_break, white, space, nb}
 use Rattle.std.specs.List.{list_all}
 use Rattle.yaml_grammar.specs.Texts.{is_empty, first, begins, spaces, optional, byte_len, no_marker}
 use Rattle.yaml_grammar.specs.Separation.{Break, break_text, break_fits, stop_fits, LineEnd, line_end_text, line_end_fits, comments_text, comments_fit}
@@ -170,7 +170,7 @@ trail_fits q (e ∷ es) after =
 -- [163] c-indentation-indicator, 8.1.1.1: the digit is from 1 to 9, if there is one
 abbrev pub digit_fits : Option ℕ → Bool
 digit_fits None = true
-digit_fits (Some d) = between 1 9 d
+digit_fits (Some d) = in_range 1 9 d
 
 -- [162] c-b-block-header, 8.1.1: what a header has to meet
 abbrev pub header_fits : Header → List ℕ → Bool

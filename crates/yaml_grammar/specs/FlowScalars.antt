@@ -2,7 +2,7 @@
 -- The number n is the least number of spaces at the start of a further line.
 use Rattle.std.specs.Prelude.{ℕ, zero, suc, ◌+◌, ◌-◌, ◌*◌, Bool, true, false, not, ◌&&◌, ◌||◌, nat_lt, ◌==◌, List, [], ◌∷◌, ◌++◌, length, replicate, codes, flat_map, if◌then◌else◌}
 use Rattle.std.specs.List.{list_all}
-use Rattle.yaml_chars.specs.Classes.{between, is_in, code_point, white, space, nb_json, ns, indicator, flow_indicator}
+use Rattle.yaml_chars.specs.Classes.{in_range, is_in, code_point, white, space, nb_json, ns, indicator, flow_indicator}
 use Rattle.yaml_grammar.specs.Texts.{is_empty, first, begins, spaces, byte_len, no_marker}
 use Rattle.yaml_grammar.specs.Separation.{Break, break_text, break_fits, indents}
 use Rattle.yaml_grammar.specs.Events.{Style, plain_style, single_style, double_style, Event, scalar_event}
@@ -187,7 +187,7 @@ plain_lines n c before (l ∷ ls) after =
 
 -- [36] ns-hex-digit, 5.6
 abbrev pub hex_digit : ℕ → Bool
-hex_digit c = between 48 57 c || between 65 70 c || between 97 102 c
+hex_digit c = in_range 48 57 c || in_range 65 70 c || in_range 97 102 c
 
 -- the value of a hexadecimal digit
 abbrev pub digit_of : ℕ → ℕ

@@ -1,6 +1,6 @@
 -- The one style: the text of a tree, with the same indentation, quotes and order everywhere.
 use Rattle.std.specs.Prelude.{ℕ, zero, suc, ◌+◌, ◌/◌, ◌%◌, Bool, true, false, not, ◌&&◌, ◌||◌, nat_le, nat_lt, ◌==◌, List, [], ◌∷◌, ◌++◌, length, codes, if◌then◌else◌}
-use Rattle.yaml_chars.specs.Classes.{between, is_in, printable}
+use Rattle.yaml_chars.specs.Classes.{in_range, is_in, printable}
 use Rattle.std.specs.List.{list_all}
 use Rattle.yaml_grammar.specs.Texts.{first, same_text, spaces}
 use Rattle.yaml_grammar.specs.Trees.{Tree, text, sequence, mapping, Elements, no_element, element, Members, no_member, member}
@@ -9,16 +9,16 @@ use Rattle.yaml_grammar.specs.Trees.{Tree, text, sequence, mapping, Elements, no
 
 -- an ASCII letter
 abbrev pub letter : ℕ → Bool
-letter c = between 65 90 c || between 97 122 c
+letter c = in_range 65 90 c || in_range 97 122 c
 
 -- a letter, a digit, or `_`, `-`, `.` or `/`
 abbrev pub word_char : ℕ → Bool
-word_char c = letter c || between 48 57 c || is_in c (codes "_-./")
+word_char c = letter c || in_range 48 57 c || is_in c (codes "_-./")
 
 -- the text in small ASCII letters
 abbrev pub lower : List ℕ → List ℕ
 lower [] = []
-lower (c ∷ cs) = (if between 65 90 c then c + 32 else c) ∷ lower cs
+lower (c ∷ cs) = (if in_range 65 90 c then c + 32 else c) ∷ lower cs
 
 -- the text is one of these
 abbrev pub is_among : List ℕ → List (List ℕ) → Bool
@@ -35,7 +35,7 @@ plain_in_style value = first letter value && list_all word_char value && nat_le 
 
 -- a character that is written as itself between double quotes and in a literal
 abbrev pub shown : ℕ → Bool
-shown c = between 0x20 0x7e c || (nat_le 0xa0 c && printable c && not (is_in c (0x2028 ∷ 0x2029 ∷ 0xfeff ∷ [])))
+shown c = in_range 0x20 0x7e c || (nat_le 0xa0 c && printable c && not (is_in c (0x2028 ∷ 0x2029 ∷ 0xfeff ∷ [])))
 
 -- a shown character or a line feed
 abbrev pub shown_or_feed : ℕ → Bool
@@ -66,7 +66,7 @@ abbrev pub quoted_char : ℕ → List ℕ
 quoted_char c =
     if (c == 34) || (c == 92) then 92 ∷ c ∷ []
     else if shown c then c ∷ []
-    else if (c == 0) || between 7 13 c || (c == 27) then 92 ∷ letter_escape c ∷ []
+    else if (c == 0) || in_range 7 13 c || (c == 27) then 92 ∷ letter_escape c ∷ []
     else if nat_le c 0xff then codes "\\x" ++ hex (c / 16) ∷ hex (c % 16) ∷ []
     else codes "\\u" ++ hex (c / 4096) ∷ hex (c / 256 % 16) ∷ hex (c / 16 % 16) ∷ hex (c % 16) ∷ []
 

@@ -2,21 +2,21 @@
 use Rattle.std.proofs.Common.{◌≡◌, refl, ◌∙◌, ap, inl, inr, arith, ◌<◌, ◌≤◌}
 use Rattle.std.specs.Prelude.{ℕ, ◌+◌, ◌/◌, ◌%◌, Bool, true, false, not, ◌||◌, nat_lt, nat_le, ◌==◌, List, [], ◌∷◌, ◌++◌, codes}
 use Rattle.std.proofs.lemmas.Bool.{cond_both, and_parts, and_from, or_cases, eqb-true, le-leb, leb-true, ltb-true, agree_below, agree_below_at, false≢true}
-use Rattle.yaml_chars.specs.Classes.{between, is_in, code_point}
+use Rattle.yaml_chars.specs.Classes.{in_range, is_in, code_point}
 use Rattle.std.specs.List.{list_all}
 use Rattle.yaml_grammar.specs.Style.{letter, word_char, shown, hex, letter_escape, quoted_char, quoted_chars}
 
 -- ---- ranges and lists
 
 -- a character of a range is between its ends
-pub from_range : (low high c : ℕ) → between low high c ≡ true → (low ≤ c) × (c ≤ high)
+pub from_range : (low high c : ℕ) → in_range low high c ≡ true → (low ≤ c) × (c ≤ high)
 from_range low high c h =
     let p : (nat_le low c ≡ true) × (nat_le c high ≡ true) = and_parts _ _ h in
     (leb-true low c p.0, leb-true c high p.1)
 
--- a character between the ends is of the range
-pub in_range : (low high c : ℕ) → low ≤ c → c ≤ high → between low high c ≡ true
-in_range low high c l h = and_from _ _ (le-leb low c l) (le-leb c high h)
+-- a character between the ends of a range is of it
+pub to_range : (low high c : ℕ) → low ≤ c → c ≤ high → in_range low high c ≡ true
+to_range low high c l h = and_from _ _ (le-leb low c l) (le-leb c high h)
 
 -- a test of two texts is one of both joined
 pub every_joined : (p : ℕ → Bool) (prefix after : List ℕ) → list_all p prefix ≡ true → list_all p after ≡ true → list_all p (prefix ++ after) ≡ true
@@ -51,14 +51,14 @@ shown_low c h = elim (or_cases _ _ h) [
 -- ---- words: what holds of each letter, or of each character of a word, is found by looking at those below 128
 
 letter_low : (x : ℕ) → letter x ≡ true → x < 128
-letter_low x h = elim (or_cases (between 65 90 x) (between 97 122 x) h) [
+letter_low x h = elim (or_cases (in_range 65 90 x) (in_range 97 122 x) h) [
   | inl a ↦ (let q : (65 ≤ x) × (x ≤ 90) = from_range 65 90 x a in omega (arith, q.1))
   | inr a ↦ (let q : (97 ≤ x) × (x ≤ 122) = from_range 97 122 x a in omega (arith, q.1))
 ]
 
 word_low : (x : ℕ) → word_char x ≡ true → x < 128
-word_low x h = elim (or_cases (letter x || between 48 57 x) (is_in x (codes "_-./")) h) [
-  | inl a ↦ elim (or_cases (letter x) (between 48 57 x) a) [
+word_low x h = elim (or_cases (letter x || in_range 48 57 x) (is_in x (codes "_-./")) h) [
+  | inl a ↦ elim (or_cases (letter x) (in_range 48 57 x) a) [
     | inl l ↦ letter_low x l
     | inr r ↦ (let q : (48 ≤ x) × (x ≤ 57) = from_range 48 57 x r in omega (arith, q.1))
   ]
@@ -104,7 +104,7 @@ quoted_char_all p c w =
     cond_both ((c == 34) || (c == 92)) _ _ (λ cs. list_all p cs ≡ true)
     (λ e. and_from _ _ slash (and_from _ _ (elim (or_cases (c == 34) (c == 92) e) [ inl q ↦ ap p (eqb-true c 34 q) ∙ sign 34 refl | inr q ↦ ap p (eqb-true c 92 q) ∙ slash ]) refl)) (λ n.
     cond_both (shown c) _ _ (λ cs. list_all p cs ≡ true) (λ s. and_from _ _ (w.shown s) refl) (λ s.
-    cond_both ((c == 0) || between 7 13 c || (c == 27)) _ _ (λ cs. list_all p cs ≡ true)
+    cond_both ((c == 0) || in_range 7 13 c || (c == 27)) _ _ (λ cs. list_all p cs ≡ true)
     (λ l. and_from _ _ slash (and_from _ _ (every_at p (letter_escape c) (codes "0abtnvfre") w.letters (escape_letter c)) refl)) (λ l.
     cond_both (nat_le c 0xff) _ _ (λ cs. list_all p cs ≡ true)
     (λ u. let low : c ≤ 0xff = leb-true c 0xff u in

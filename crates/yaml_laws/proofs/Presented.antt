@@ -1,6 +1,6 @@
 -- A presentation of each tree in the one style: which productions its text is made by.
 use Rattle.std.specs.Prelude.{ℕ, zero, suc, ◌+◌, ◌/◌, ◌%◌, Bool, true, false, ◌||◌, nat_le, ◌==◌, List, [], ◌∷◌, Some, None, replicate, if◌then◌else◌}
-use Rattle.yaml_chars.specs.Classes.{between}
+use Rattle.yaml_chars.specs.Classes.{in_range}
 use Rattle.yaml_grammar.specs.Separation.{lf, LineEnd, Sep, inline, lines}
 use Rattle.yaml_grammar.specs.FlowScalars.{QuotedChar, raw, escape, number, plain, double}
 use Rattle.yaml_grammar.specs.FlowNodes.{Flow, scalar, seq, map, none}
@@ -25,7 +25,7 @@ abbrev pub item_of : ℕ → QuotedChar
 item_of c =
     if (c == 34) || (c == 92) then escape c
     else if shown c then raw c
-    else if (c == 0) || between 7 13 c || (c == 27) then escape (letter_escape c)
+    else if (c == 0) || in_range 7 13 c || (c == 27) then escape (letter_escape c)
     else if nat_le c 0xff then number 120 (hex (c / 16) ∷ hex (c % 16) ∷ [])
     else number 117 (hex (c / 4096) ∷ hex (c / 256 % 16) ∷ hex (c / 16 % 16) ∷ hex (c % 16) ∷ [])
 

@@ -2,11 +2,11 @@
 use Rattle.std.proofs.Common.{◌≡◌, refl, sym, ◌∙◌, ap, subst, inl, inr, arith, ◌<◌, ◌≤◌}
 use Rattle.std.specs.Prelude.{ℕ, ◌/◌, ◌%◌, Bool, true, false, not, ◌&&◌, ◌||◌, nat_le, ◌==◌, [], ◌∷◌}
 use Rattle.std.proofs.lemmas.Bool.{cond_both, and_parts, and_from, or_parts, or_cases, or_right, or_from, not_from_false, eqb-true, le-leb, leb-true, agree_below_at, false≢true, cases_lt, ne_eqb}
-use Rattle.yaml_chars.specs.Classes.{between, is_in, code_point, printable, nb_json}
+use Rattle.yaml_chars.specs.Classes.{in_range, is_in, code_point, printable, nb_json}
 use Rattle.yaml_grammar.specs.FlowScalars.{QuotedChar, raw, escape, number, quoted_char_fits, quoted_char_value, hex_digit, digit_of, hex_value, escaped_char}
 use Rattle.yaml_grammar.specs.Style.{shown, hex, letter_escape}
 use Rattle.yaml_laws.proofs.Presented.{item_of}
-use Rattle.yaml_laws.proofs.Characters.{from_range, in_range, after_not, code_point_high, shown_low}
+use Rattle.yaml_laws.proofs.Characters.{from_range, to_range, after_not, code_point_high, shown_low}
 
 -- the item may be between double quotes and means c
 abbrev pub Quotes : ℕ → QuotedChar → Type 0
@@ -16,7 +16,7 @@ Quotes c i = (quoted_char_fits i ≡ true) × (quoted_char_value i ≡ c)
 
 itself : (c : ℕ) → code_point c ≡ true → (c == 34) || (c == 92) ≡ false → shown c ≡ true → Quotes c (raw c)
 itself c t n h =
-    let one_line : nb_json c ≡ true = or_right (c == 9) _ (in_range 0x20 0x10ffff c (shown_low c h) (code_point_high c t)) in
+    let one_line : nb_json c ≡ true = or_right (c == 9) _ (to_range 0x20 0x10ffff c (shown_low c h) (code_point_high c t)) in
     let other : (c == 34 ≡ false) × (c == 92 ≡ false) = or_parts _ _ n in
     (and_from _ _ one_line (not_from_false _ (or_from _ _ other.0 (or_from _ _ other.1 refl))), refl)
 
@@ -29,14 +29,14 @@ escaped c h = elim (or_cases _ _ h) [
 ]
 
 abbrev has_letter : ℕ → Bool
-has_letter c = (c == 0) || between 7 13 c || (c == 27)
+has_letter c = (c == 0) || in_range 7 13 c || (c == 27)
 
 abbrev letter_right : ℕ → Bool
 letter_right c = not (has_letter c) || (quoted_char_fits (escape (letter_escape c)) && (escaped_char (letter_escape c) == c))
 
 has_letter_low : (c : ℕ) → has_letter c ≡ true → c < 28
-has_letter_low c h = elim (or_cases ((c == 0) || between 7 13 c) (c == 27) h) [
-  | inl a ↦ elim (or_cases (c == 0) (between 7 13 c) a) [
+has_letter_low c h = elim (or_cases ((c == 0) || in_range 7 13 c) (c == 27) h) [
+  | inl a ↦ elim (or_cases (c == 0) (in_range 7 13 c) a) [
     | inl e ↦ (let q : c ≡ 0 = eqb-true c 0 e in omega (arith, q))
     | inr r ↦ (let q : (7 ≤ c) × (c ≤ 13) = from_range 7 13 c r in omega (arith, q.1))
   ]
@@ -85,7 +85,7 @@ above k c h = ne_eqb c k (λ e. omega (arith, e))
 -- a character above xFFFF is shown
 shown_above : (c : ℕ) → code_point c ≡ true → 0x10000 ≤ c → shown c ≡ true
 shown_above c t h =
-    let plain : printable c ≡ true = or_right _ _ (in_range 0x10000 0x10ffff c h (code_point_high c t)) in
+    let plain : printable c ≡ true = or_right _ _ (to_range 0x10000 0x10ffff c h (code_point_high c t)) in
     let other : is_in c (0x2028 ∷ 0x2029 ∷ 0xfeff ∷ []) ≡ false =
     or_from _ _ (above 0x2028 c (omega arith)) (or_from _ _ (above 0x2029 c (omega arith)) (or_from _ _ (above 0xfeff c (omega arith)) refl)) in
     or_right _ _ (and_from _ _ (and_from _ _ (le-leb 0xa0 c (omega arith)) plain) (not_from_false _ other))

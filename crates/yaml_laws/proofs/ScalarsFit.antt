@@ -3,7 +3,7 @@ use Rattle.std.proofs.Common.{◌≡◌, refl, sym, ◌∙◌, ap, inl, inr, ari
 use Rattle.std.specs.Prelude.{ℕ, zero, suc, ◌+◌, Bool, true, false, cond, not, ◌&&◌, ◌||◌, nat_le, ◌==◌, List, [], ◌∷◌, ◌++◌, codes}
 use Rattle.std.specs.List.{list_all}
 use Rattle.std.proofs.lemmas.Bool.{cases_Bool, and_parts, and_from, and_left, and_right, or_parts, or_cases, or_left, or_right, or_from, cond_both, leb-true, not-true, not_from_false, le-leb, le-ltb, ne_eqb, false≢true}
-use Rattle.yaml_chars.specs.Classes.{between, is_in, code_point, printable, nb, ns, white, line_break, indicator}
+use Rattle.yaml_chars.specs.Classes.{in_range, is_in, code_point, printable, nb, ns, white, line_break, indicator}
 use Rattle.yaml_grammar.specs.Texts.{IsText, first, spaces, marker, no_marker, starts_line}
 use Rattle.yaml_grammar.specs.Separation.{Sep, sep_text, sep_fits}
 use Rattle.yaml_grammar.specs.FlowScalars.{FlowContext, outer, safe, plain_text, lines_text, plain_run, quoted_char_fits, plain, double}
@@ -104,7 +104,7 @@ bare_gaps_fit q (suc n) after = and_from _ _ (and_from _ _ (le-leb 0 q (omega ar
 
 shown_nb : (c : ℕ) → c == 10 ≡ false → shown_or_feed c ≡ true → nb c ≡ true
 shown_nb c f h = elim (or_cases (shown c) (c == 10) h) [
-  | inl s ↦ elim (or_cases (between 0x20 0x7e c) (nat_le 0xa0 c && printable c && not (is_in c (0x2028 ∷ 0x2029 ∷ 0xfeff ∷ []))) s) [
+  | inl s ↦ elim (or_cases (in_range 0x20 0x7e c) (nat_le 0xa0 c && printable c && not (is_in c (0x2028 ∷ 0x2029 ∷ 0xfeff ∷ []))) s) [
     | inl a ↦ (let r : (0x20 ≤ c) × (c ≤ 0x7e) = from_range 0x20 0x7e c a in
         and_from _ _ (or_left _ _ (or_left _ _ (or_left _ _ (or_right (is_in c (9 ∷ 10 ∷ 13 ∷ 0x85 ∷ [])) _ a))))
         (not_from_false _ (or_from _ _ (or_from _ _ f (ne_eqb c 13 (λ e. omega (arith, r.0, e)))) (ne_eqb c 0xfeff (λ e. omega (arith, r.1, e))))))

@@ -3,7 +3,7 @@ use Rattle.std.proofs.Common.{◌≡◌, refl, sym, ◌∙◌, ap, inl, inr, app
 use Rattle.std.specs.Prelude.{ℕ, zero, suc, ◌+◌, ◌/◌, ◌%◌, Bool, true, false, cond, not, ◌&&◌, ◌||◌, nat_le, ◌==◌, List, [], ◌∷◌, ◌++◌, codes, flat_map}
 use Rattle.std.proofs.lemmas.List.{append-nil}
 use Rattle.std.proofs.lemmas.Bool.{cases_Bool, and_parts, or_parts, not-true}
-use Rattle.yaml_chars.specs.Classes.{between, is_in}
+use Rattle.yaml_chars.specs.Classes.{in_range, is_in}
 use Rattle.std.specs.List.{list_all}
 use Rattle.yaml_grammar.specs.Texts.{spaces, first}
 use Rattle.yaml_grammar.specs.Separation.{Sep, sep_text}
@@ -30,7 +30,7 @@ item_cases false false false false x e short long = refl
 
 item_spelled : (c : ℕ) → quoted_char_text (item_of c) ≡ quoted_char c
 item_spelled c =
-    item_cases ((c == 34) || (c == 92)) (shown c) ((c == 0) || between 7 13 c || (c == 27)) (nat_le c 0xff) c (letter_escape c)
+    item_cases ((c == 34) || (c == 92)) (shown c) ((c == 0) || in_range 7 13 c || (c == 27)) (nat_le c 0xff) c (letter_escape c)
     (hex (c / 16) ∷ hex (c % 16) ∷ []) (hex (c / 4096) ∷ hex (c / 256 % 16) ∷ hex (c / 16 % 16) ∷ hex (c % 16) ∷ [])
 
 items_spelled : (value : List ℕ) → flat_map quoted_char_text (items_of_text value) ≡ quoted_chars value

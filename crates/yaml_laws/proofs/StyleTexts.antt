@@ -2,7 +2,7 @@
 use Rattle.std.proofs.Common.{◌≡◌, refl, arith, ◌<◌, ◌≤◌}
 use Rattle.std.specs.Prelude.{ℕ, zero, suc, ◌+◌, Bool, true, false, nat_lt, ◌==◌, List, [], ◌∷◌, ◌++◌, codes}
 use Rattle.std.proofs.lemmas.Bool.{cond_both, and_parts, and_from, or_left, le-leb}
-use Rattle.yaml_chars.specs.Classes.{between, code_point}
+use Rattle.yaml_chars.specs.Classes.{in_range, code_point}
 use Rattle.std.specs.List.{list_all}
 use Rattle.yaml_grammar.specs.Texts.{IsText, spaces}
 use Rattle.yaml_grammar.specs.Trees.{Tree, text, sequence, mapping, Elements, no_element, element, Members, no_member, member, IsTextTree, AreTextElements, AreTextMembers}
@@ -20,7 +20,7 @@ spaces_text (suc n) = spaces_text n
 -- ---- scalars
 
 low_code_point : (c : ℕ) → c < 1000 → code_point c ≡ true
-low_code_point c h = or_left (between 0 0xd7ff c) _ (and_from _ _ (le-leb 0 c (omega arith)) (le-leb c 0xd7ff (omega arith)))
+low_code_point c h = or_left (in_range 0 0xd7ff c) _ (and_from _ _ (le-leb 0 c (omega arith)) (le-leb c 0xd7ff (omega arith)))
 
 hex_text : (d : ℕ) → d < 300 → code_point (hex d) ≡ true
 hex_text d h = cond_both (nat_lt d 10) (48 + d) (55 + d) (λ x. code_point x ≡ true) (λ e. low_code_point (48 + d) (omega arith)) (λ e. low_code_point (55 + d) (omega arith))

@@ -1,7 +1,7 @@
 -- The recognizer of block scalars (YAML 1.2.2, 8.1): the header, the indentation, the lines, and the comments after
 -- them.
 use Rattle.std.specs.Prelude.{Bool, List, None, Option, Some, [], drop, false, if◌then◌else◌, is_some, length, max, nat_le, nat_lt, not, suc, true, zero, ℕ, ◌&&◌, ◌++◌, ◌+◌, ◌-◌, ◌==◌, ◌∷◌}
-use Rattle.yaml_chars.specs.Classes.{between, nb}
+use Rattle.yaml_chars.specs.Classes.{in_range, nb}
 use Rattle.yaml_grammar.specs.BlockScalars.{BlockScalar, Body, Chomping, Gap, Header, TextLine, clip, goes_on, keep, last_spaces, past_spaces, sets_none, spaces_before, strip, widest}
 use Rattle.yaml_grammar.specs.Separation.{Break, LineEnd}
 use Rattle.yaml_grammar.specs.Texts.{first}
@@ -16,7 +16,7 @@ use Rattle.yaml_recognizers.specs.Signs.{dash, greater, plus, vertical_bar}
 -- [163] c-indentation-indicator, 8.1.1.1, or none
 abbrev pub read_digit : List ℕ → Option ℕ × List ℕ
 read_digit [] = (None, [])
-read_digit (c ∷ cs) = if between 49 57 c then (Some (c - 48), cs) else (None, c ∷ cs)
+read_digit (c ∷ cs) = if in_range 49 57 c then (Some (c - 48), cs) else (None, c ∷ cs)
 
 -- [164] c-chomping-indicator, 8.1.1.2
 abbrev pub read_mark : List ℕ → Chomping × List ℕ

@@ -2,7 +2,7 @@
 use Rattle.std.proofs.Common.{◌≡◌, refl, sym, ◌∙◌, ap, subst, inl, inr, append_assoc, arith, ◌≤◌}
 use Rattle.std.specs.Prelude.{ℕ, ◌+◌, ◌-◌, Bool, true, false, not, ◌&&◌, ◌||◌, ◌==◌, nat_le, List, [], ◌∷◌, ◌++◌, Option, Some, None, is_some, codes, if◌then◌else◌}
 use Rattle.std.proofs.lemmas.Bool.{and_parts, and_from, or_cases, or_left, false≢true, eqb-true, cond_both, leb-true, le-leb, not_from_false, cases_Bool}
-use Rattle.yaml_chars.specs.Classes.{between, white, line_break}
+use Rattle.yaml_chars.specs.Classes.{in_range, white, line_break}
 use Rattle.std.specs.List.{list_all}
 use Rattle.yaml_grammar.specs.Texts.{is_empty, optional, ends_word}
 use Rattle.yaml_grammar.specs.Separation.{Break, lf, cr, cr_lf, break_text, stop_fits, LineEnd, comment_text, line_end_text, comment_fits, line_end_fits}
@@ -79,15 +79,15 @@ end_unsigned e after h =
 
 -- ---- what fits is read
 
-digit_parts : (d : ℕ) → between 1 9 d ≡ true → (between 49 57 (48 + d) ≡ true) × ((48 + d) - 48 ≡ d)
+digit_parts : (d : ℕ) → in_range 1 9 d ≡ true → (in_range 49 57 (48 + d) ≡ true) × ((48 + d) - 48 ≡ d)
 digit_parts d h =
     let p : (nat_le 1 d ≡ true) × (nat_le d 9 ≡ true) = and_parts _ _ h in
     let l : 1 ≤ d = leb-true 1 d p.0 in
     let u : d ≤ 9 = leb-true d 9 p.1 in
     (and_from _ _ (le-leb 49 (48 + d) (omega arith)) (le-leb (48 + d) 57 (omega arith)), omega arith)
 
-digit_read : (d : ℕ) (tail : List ℕ) → between 1 9 d ≡ true → read_digit ((48 + d) ∷ tail) ≡ (Some d, tail)
-digit_read d tail h = let p : (between 49 57 (48 + d) ≡ true) × ((48 + d) - 48 ≡ d) = digit_parts d h in rw (p.0, p.1)
+digit_read : (d : ℕ) (tail : List ℕ) → in_range 1 9 d ≡ true → read_digit ((48 + d) ∷ tail) ≡ (Some d, tail)
+digit_read d tail h = let p : (in_range 49 57 (48 + d) ≡ true) × ((48 + d) - 48 ≡ d) = digit_parts d h in rw (p.0, p.1)
 
 -- the digit and the chomping mark
 abbrev pub signs : Option ℕ → Chomping → Bool → List ℕ
@@ -149,7 +149,7 @@ at_sound folded digit chomping last tail f c =
 abbrev DigitOf : List ℕ → Option ℕ × List ℕ → Type 0
 DigitOf text d = (text ≡ optional digit_text d.0 ++ d.1) × (digit_fits d.0 ≡ true)
 
-number_parts : (c : ℕ) → between 49 57 c ≡ true → (c ≡ 48 + (c - 48)) × (between 1 9 (c - 48) ≡ true)
+number_parts : (c : ℕ) → in_range 49 57 c ≡ true → (c ≡ 48 + (c - 48)) × (in_range 1 9 (c - 48) ≡ true)
 number_parts c h =
     let p : (nat_le 49 c ≡ true) × (nat_le c 57 ≡ true) = and_parts _ _ h in
     let l : 49 ≤ c = leb-true 49 c p.0 in
@@ -158,8 +158,8 @@ number_parts c h =
 
 digit_sound : (text : List ℕ) → DigitOf text (read_digit text)
 digit_sound [] = (refl, refl)
-digit_sound (c ∷ cs) = cond_both (between 49 57 c) (Some (c - 48), cs) (None, c ∷ cs) (DigitOf (c ∷ cs))
-    (λ h. let p : (c ≡ 48 + (c - 48)) × (between 1 9 (c - 48) ≡ true) = number_parts c h in (ap (λ x. x ∷ cs) p.0, p.1))
+digit_sound (c ∷ cs) = cond_both (in_range 49 57 c) (Some (c - 48), cs) (None, c ∷ cs) (DigitOf (c ∷ cs))
+    (λ h. let p : (c ≡ 48 + (c - 48)) × (in_range 1 9 (c - 48) ≡ true) = number_parts c h in (ap (λ x. x ∷ cs) p.0, p.1))
     (λ _. (refl, refl))
 
 abbrev MarkOf : List ℕ → Chomping × List ℕ → Type 0
