@@ -1,3 +1,4 @@
+pub mod Signs
 pub mod Classes
 pub mod Places
 pub mod Breaks

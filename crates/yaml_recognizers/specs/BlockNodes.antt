@@ -7,7 +7,7 @@ use Rattle.yaml_grammar.specs.FlowScalars.{FlowContext, outer, block_key, Scalar
 use Rattle.yaml_grammar.specs.FlowNodes.{Flow, short_key}
 use Rattle.yaml_grammar.specs.BlockScalars.{BlockScalar, spaces_before, past_spaces}
 use Rattle.yaml_grammar.specs.BlockNodes.{Node, block, flow, items, pairs, Items, item, item_and, Pairs, pair, pair_and, Pair, asked, asked_alone, keyed, keyed_alone, Indented, compact_items, compact_pairs, node, omitted, is_omitted}
-use Rattle.yaml_recognizers.specs.Signs.{colon, dash, greater, question, vertical_bar}
+use Rattle.yaml_chars.specs.Signs.{colon, dash, greater, question, vertical_bar}
 use Rattle.yaml_recognizers.specs.Prefixes.{take_while, drop_while, past, sign}
 use Rattle.yaml_recognizers.specs.Reading.{Read, on}
 use Rattle.yaml_recognizers.specs.Comments.{all_comments, closes_line}

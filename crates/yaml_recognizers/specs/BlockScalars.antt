@@ -9,7 +9,7 @@ use Rattle.yaml_recognizers.specs.CanonicalComments.{hash, is_line_end}
 use Rattle.yaml_recognizers.specs.Comments.{all_comments, read_break, read_line_end, read_stop}
 use Rattle.yaml_recognizers.specs.Prefixes.{drop_while, take_while}
 use Rattle.yaml_recognizers.specs.Reading.{Read, on}
-use Rattle.yaml_recognizers.specs.Signs.{dash, greater, plus, vertical_bar}
+use Rattle.yaml_chars.specs.Signs.{dash, greater, plus, vertical_bar}
 
 -- ---- the header
 

@@ -6,7 +6,7 @@ use Rattle.yaml_chars.specs.Classes.{white, line_break, nb}
 use Rattle.std.specs.List.{list_all}
 use Rattle.yaml_grammar.specs.Texts.{is_empty, first}
 use Rattle.yaml_grammar.specs.Separation.{LineEnd, comments_fit, Sep, inline, lines, indents}
-use Rattle.yaml_recognizers.specs.Signs.{number_sign}
+use Rattle.yaml_chars.specs.Signs.{number_sign}
 use Rattle.yaml_recognizers.specs.Prefixes.{drop_while, past}
 
 -- `#`

@@ -6,7 +6,7 @@ use Rattle.yaml_grammar.specs.Texts.{is_empty}
 use Rattle.yaml_recognizers.specs.CanonicalComments.{is_line_end}
 use Rattle.yaml_recognizers.specs.Prefixes.{drop_while, take_while}
 use Rattle.yaml_recognizers.specs.Reading.{Read}
-use Rattle.yaml_recognizers.specs.Signs.{carriage_return, line_feed, number_sign}
+use Rattle.yaml_chars.specs.Signs.{carriage_return, line_feed, number_sign}
 
 -- after a CR: CR LF, or CR alone
 abbrev pub read_cr : List ℕ → Break × List ℕ

@@ -7,7 +7,7 @@ use Rattle.yaml_grammar.specs.Texts.{first, is_empty, marker}
 use Rattle.yaml_grammar.specs.Separation.{LineEnd, comments_text, Sep, gap_text}
 use Rattle.yaml_grammar.specs.FlowScalars.{FlowContext, outer, inner, block_key, flow_key, safe}
 use Rattle.yaml_grammar.specs.BlockScalars.{spaces_before, past_spaces}
-use Rattle.yaml_recognizers.specs.Signs.{colon, dash}
+use Rattle.yaml_chars.specs.Signs.{colon, dash}
 use Rattle.yaml_recognizers.specs.Prefixes.{sign}
 use Rattle.yaml_recognizers.specs.CanonicalComments.{hash, is_line_end, canonical_comments, canonical_gap}
 

@@ -5,7 +5,7 @@ use Rattle.yaml_grammar.specs.Texts.{first, starts_line}
 use Rattle.yaml_grammar.specs.Separation.{Sep, gap_text}
 use Rattle.yaml_grammar.specs.FlowScalars.{FlowContext, flow_key, safe, inside, one_line, Scalar}
 use Rattle.yaml_grammar.specs.FlowNodes.{Flow, scalar, seq, map, Entries, none, last, next, Entry, entry, Value, absent, empty, given, value_text, is_plain, single_pair, short_key, before_colon}
-use Rattle.yaml_recognizers.specs.Signs.{close_brace, close_bracket, comma, open_brace, open_bracket, question}
+use Rattle.yaml_chars.specs.Signs.{close_brace, close_bracket, comma, open_brace, open_bracket, question}
 use Rattle.yaml_recognizers.specs.Prefixes.{past}
 use Rattle.yaml_recognizers.specs.Reading.{Read, on, read_closing, if_fits}
 use Rattle.yaml_recognizers.specs.CanonicalFlowNodes.{canonical_flow, canonical_value}

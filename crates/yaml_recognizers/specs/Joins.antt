@@ -9,7 +9,7 @@ use Rattle.yaml_recognizers.specs.Comments.{read_break}
 use Rattle.yaml_recognizers.specs.Prefixes.{drop_while, past, take_while}
 use Rattle.yaml_recognizers.specs.Reading.{Read, on}
 use Rattle.yaml_recognizers.specs.Repeated.{all_of}
-use Rattle.yaml_recognizers.specs.Signs.{backslash}
+use Rattle.yaml_chars.specs.Signs.{backslash}
 
 -- a line without what it holds: perhaps a backslash, or whitespace; a break, empty lines, and the whitespace at the
 -- start of the line

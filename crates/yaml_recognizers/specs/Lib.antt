@@ -1,5 +1,4 @@
 -- texts, and what recognizers give
-pub mod Signs
 pub mod Prefixes
 pub mod Reading
 -- the canonical form

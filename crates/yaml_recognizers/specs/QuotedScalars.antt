@@ -3,7 +3,7 @@ use Rattle.std.specs.Prelude.{ℕ, Bool, true, false, not, ◌&&◌, ◌||◌, �
 use Rattle.yaml_chars.specs.Classes.{is_in, nb_json}
 use Rattle.yaml_grammar.specs.Texts.{is_empty, first}
 use Rattle.yaml_grammar.specs.FlowScalars.{FlowContext, one_line, QuotedChar, raw, escape, number, Line, Scalar, single, double, digits_after, quoted_char_fits}
-use Rattle.yaml_recognizers.specs.Signs.{backslash, double_quote, single_quote}
+use Rattle.yaml_chars.specs.Signs.{backslash, double_quote, single_quote}
 use Rattle.yaml_recognizers.specs.Prefixes.{past}
 use Rattle.yaml_recognizers.specs.Reading.{Read, on}
 use Rattle.yaml_recognizers.specs.Repeated.{all_of}

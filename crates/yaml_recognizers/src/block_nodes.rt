@@ -9,7 +9,7 @@ ghost use Rattle.yaml_recognizers.specs.Ends.{block_node_stops};
 ghost use Rattle.yaml_recognizers.specs.StandingNodes.{BlockNodeStands, SameBlockNode, IsBlockNode, NoBlockNode};
 ghost use Rattle.yaml_recognizers.specs.Comments.{all_comments};
 ghost use Rattle.yaml_recognizers.specs.BlockScalars.{read_block};
-ghost use Rattle.yaml_recognizers.specs.Signs.{dash, question};
+ghost use Rattle.yaml_chars.specs.Signs.{dash, question};
 ghost use Rattle.yaml_recognizers.specs.Prefixes.{past, sign};
 ghost use Rattle.yaml_recognizers.specs.Reading.{on};
 ghost use Rattle.yaml_recognizers.specs.BlockNodes.{node_below, more_items, more_pairs, asked_key, key_value, opens_pair, indented_node};

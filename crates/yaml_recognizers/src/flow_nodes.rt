@@ -13,7 +13,7 @@ ghost use Rattle.yaml_recognizers.specs.Ends.{Stops, less_deep};
 ghost use Rattle.yaml_recognizers.specs.Gaps.{read_gap};
 ghost use Rattle.yaml_recognizers.specs.FlowScalars.{read_scalar};
 ghost use Rattle.yaml_recognizers.specs.OneLine.{widens, on_one_line};
-ghost use Rattle.yaml_recognizers.specs.Signs.{open_bracket, close_bracket, open_brace, close_brace};
+ghost use Rattle.yaml_chars.specs.Signs.{open_bracket, close_bracket, open_brace, close_brace};
 ghost use Rattle.yaml_recognizers.specs.Prefixes.{past};
 ghost use Rattle.yaml_recognizers.specs.StandingNodes.{FlowNodeStands, SameFlowNode, IsFlowNode, NoFlowNode};
 ghost use Rattle.yaml_recognizers.specs.Reading.{on};
