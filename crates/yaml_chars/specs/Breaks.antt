@@ -3,14 +3,15 @@
 use Rattle.std.specs.Prelude.{◌≡◌, ◌≢◌, ℕ, ◌+◌, ◌≤◌, Bool, not, List, ◌∷◌, Some, drop, slice_get, slice_range}
 use Rattle.std.specs.List.{AllPass}
 use Rattle.std.specs.Str.{IsCharBoundary}
+use Rattle.yaml_chars.specs.Signs.{line_feed, carriage_return}
 use Rattle.yaml_chars.specs.Classes.{line_break}
 use Rattle.yaml_chars.specs.Places.{rest, between}
 
 -- [28] b-break: the list starts with a break of `len` elements, and the other elements come after it
 pub data StartsWithBreak (text : List ℕ) (len : ℕ) (after : List ℕ) : Type 0 where
-  cr_lf : text ≡ 13 ∷ 10 ∷ after → len ≡ 2 → StartsWithBreak text len after
-  lf : text ≡ 10 ∷ after → len ≡ 1 → StartsWithBreak text len after
-  cr : text ≡ 13 ∷ after → slice_get after 0 ≢ Some 10 → len ≡ 1 → StartsWithBreak text len after
+  cr_lf : text ≡ carriage_return ∷ line_feed ∷ after → len ≡ 2 → StartsWithBreak text len after
+  lf : text ≡ line_feed ∷ after → len ≡ 1 → StartsWithBreak text len after
+  cr : text ≡ carriage_return ∷ after → slice_get after 0 ≢ Some line_feed → len ≡ 1 → StartsWithBreak text len after
 
 -- neither LF nor CR
 abbrev pub no_break : ℕ → Bool

@@ -1,5 +1,6 @@
 -- Classes of characters, over code points (YAML 1.2.2, chapter 5).
 use Rattle.std.specs.Prelude.{ℕ, Bool, false, not, ◌&&◌, ◌||◌, nat_le, ◌==◌, List, [], ◌∷◌, codes}
+use Rattle.yaml_chars.specs.Signs.{tab, line_feed, carriage_return, space_char, byte_order_mark}
 
 -- from low to high, both included
 abbrev pub in_range : ℕ → ℕ → ℕ → Bool
@@ -22,23 +23,23 @@ printable c =
 
 -- [2] nb-json, 5.1: TAB, and everything from the space on
 abbrev pub nb_json : ℕ → Bool
-nb_json c = (c == 9) || in_range 0x20 0x10ffff c
+nb_json c = (c == tab) || in_range 0x20 0x10ffff c
 
 -- [26] b-char, 5.4: LF or CR
 abbrev pub line_break : ℕ → Bool
-line_break c = (c == 10) || (c == 13)
+line_break c = (c == line_feed) || (c == carriage_return)
 
 -- [27] nb-char, 5.4: printable, no break and no byte order mark
 abbrev pub nb : ℕ → Bool
-nb c = printable c && not (line_break c || (c == 0xfeff))
+nb c = printable c && not (line_break c || (c == byte_order_mark))
 
 -- [33] s-white, 5.5: the space or TAB
 abbrev pub white : ℕ → Bool
-white c = (c == 32) || (c == 9)
+white c = (c == space_char) || (c == tab)
 
 -- [31] s-space, 5.5
 abbrev pub space : ℕ → Bool
-space c = c == 32
+space c = c == space_char
 
 -- [34] ns-char, 5.5: nb, and not whitespace
 abbrev pub ns : ℕ → Bool

@@ -2,6 +2,7 @@
 -- The number m is n + 1, the least indentation that a block scalar below an indentation of n may have. At the top of a
 -- document n is -1, so m is 0.
 use Rattle.std.specs.Prelude.{ℕ, suc, ◌+◌, ◌-◌, max, Bool, true, false, not, ◌&&◌, ◌||◌, nat_le, nat_lt, ◌==◌, List, [], ◌∷◌, ◌++◌, length, Option, Some, None, is_some, codes, flat_map, if◌then◌else◌}
+use Rattle.yaml_chars.specs.Signs.{digit_zero}
 use Rattle.yaml_chars.specs.Classes.{in_range, line_break, white, space, nb}
 use Rattle.std.specs.List.{list_all}
 use Rattle.yaml_grammar.specs.Texts.{is_empty, first, begins, spaces, optional, byte_len, no_marker}
@@ -50,7 +51,7 @@ pub record BlockScalar : Type 0 where
 
 -- [163] c-indentation-indicator, 8.1.1.1
 abbrev pub digit_text : ℕ → List ℕ
-digit_text d = (48 + d) ∷ []
+digit_text d = (digit_zero + d) ∷ []
 
 -- [164] c-chomping-indicator, 8.1.1.2: `-` for strip, `+` for keep, nothing for clip
 abbrev pub chomping_text : Chomping → List ℕ

@@ -2,11 +2,12 @@
 -- A line of `...` that ends otherwise, or holds a comment, ends a YAML document and closes nothing.
 use Rattle.std.specs.Prelude.{◌≡◌, ℕ, ◌+◌, Bool, true, List, [], ◌∷◌, ◌++◌, length, codes, ◌==◌, IsTrue}
 use Rattle.std.specs.List.{All, concat}
+use Rattle.yaml_chars.specs.Signs.{line_feed}
 
 -- there are no bytes, or the last one is an LF, so that a line starts after them
 abbrev pub ends_line : List ℕ → Bool
 ends_line [] = true
-ends_line (b ∷ []) = b == 10
+ends_line (b ∷ []) = b == line_feed
 ends_line (b ∷ bs) = ends_line bs
 
 -- the place is just after a closing line

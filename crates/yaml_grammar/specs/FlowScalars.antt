@@ -2,6 +2,7 @@
 -- The number n is the least number of spaces at the start of a further line.
 use Rattle.std.specs.Prelude.{ℕ, zero, suc, ◌+◌, ◌-◌, ◌*◌, Bool, true, false, not, ◌&&◌, ◌||◌, nat_lt, ◌==◌, List, [], ◌∷◌, ◌++◌, length, replicate, codes, flat_map, if◌then◌else◌}
 use Rattle.std.specs.List.{list_all}
+use Rattle.yaml_chars.specs.Signs.{null, bell, backspace, tab, line_feed, vertical_tab, form_feed, carriage_return, escape_char, space_char, number_sign, single_quote, digit_zero, colon, capital_l, capital_n, capital_p, backslash, low_line, small_a, small_b, small_e, small_f, small_n, small_r, small_t, small_u, small_v, small_x, next_line, no_break_space, line_separator, paragraph_separator}
 use Rattle.yaml_chars.specs.Classes.{in_range, is_in, code_point, white, space, nb_json, ns, indicator, flow_indicator}
 use Rattle.yaml_grammar.specs.Texts.{is_empty, first, begins, spaces, byte_len, no_marker}
 use Rattle.yaml_grammar.specs.Separation.{Break, break_text, break_fits, indents}
@@ -65,13 +66,13 @@ plain_text c = c ∷ []
 
 -- a character between single quotes; a quote is doubled ([117] c-quoted-quote, 7.3.2)
 abbrev pub single_text : ℕ → List ℕ
-single_text c = if c == 39 then codes "''" else c ∷ []
+single_text c = if c == single_quote then codes "''" else c ∷ []
 
 -- one thing between double quotes, as it is written
 abbrev pub quoted_char_text : QuotedChar → List ℕ
 quoted_char_text (raw c) = c ∷ []
-quoted_char_text (escape c) = 92 ∷ c ∷ []
-quoted_char_text (number c digits) = 92 ∷ c ∷ digits
+quoted_char_text (escape c) = backslash ∷ c ∷ []
+quoted_char_text (number c digits) = backslash ∷ c ∷ digits
 
 -- the text of an empty line
 abbrev pub empty_text : Empty → List ℕ
@@ -154,7 +155,7 @@ plain_first c x after = ns x && (not (indicator x) || (is_in x (codes "?:-") && 
 -- not whitespace
 abbrev pub plain_next : FlowContext → ℕ → ℕ → List ℕ → Bool
 plain_next c prev x after =
-    (safe c x && not (is_in x (codes ":#"))) || ((x == 58) && first (safe c) after) || ((x == 35) && ns prev)
+    (safe c x && not (is_in x (codes ":#"))) || ((x == colon) && first (safe c) after) || ((x == number_sign) && ns prev)
 
 -- [132] nb-ns-plain-in-line, 7.3.3: after the character prev, whitespace and plain characters, of which a plain
 -- character is the last
@@ -170,7 +171,7 @@ plain_line c (x ∷ xs) after = plain_first c x (xs ++ after) && plain_run c x x
 -- [134] s-ns-plain-next-line, 7.3.3: what a further line holds starts with a plain character
 abbrev pub plain_more : FlowContext → List ℕ → List ℕ → Bool
 plain_more c [] after = false
-plain_more c (x ∷ xs) after = not (white x) && plain_run c 32 (x ∷ xs) after
+plain_more c (x ∷ xs) after = not (white x) && plain_run c space_char (x ∷ xs) after
 
 -- what a line of a plain scalar holds: characters
 abbrev pub plain_kind : Kind ℕ
@@ -200,12 +201,12 @@ hex_value n (c ∷ cs) = hex_value (16 * n + digit_of c) cs
 
 -- how many digits come after x ([59]), u ([60]) and U ([61], 5.7)
 abbrev pub digits_after : ℕ → ℕ
-digits_after c = if c == 120 then 2 else (if c == 117 then 4 else 8)
+digits_after c = if c == small_x then 2 else (if c == small_u then 4 else 8)
 
 -- [62] c-ns-esc-char, 5.7, and [107] nb-double-char, 7.3.1; a surrogate or a number above x10FFFF is no character
 abbrev pub quoted_char_fits : QuotedChar → Bool
 quoted_char_fits (raw c) = nb_json c && not (is_in c (codes "\"\\"))
-quoted_char_fits (escape c) = is_in c (9 ∷ codes "0abtnvfre \"/\\N_LP")
+quoted_char_fits (escape c) = is_in c (tab ∷ codes "0abtnvfre \"/\\N_LP")
 quoted_char_fits (number c digits) =
     is_in c (codes "xuU") && (length digits == digits_after c) && list_all hex_digit digits && code_point (hex_value 0 digits)
 
@@ -247,14 +248,16 @@ scalar_fits n c bol (double prefix more) after =
 
 -- a line feed for each of n
 abbrev pub line_feeds : ℕ → List ℕ
-line_feeds n = replicate n 10
+line_feeds n = replicate n line_feed
 
 -- [42] to [58], 5.7: the character that a backslash and this one mean
 abbrev pub escaped_char : ℕ → ℕ
 escaped_char c =
-    if c == 48 then 0 else if c == 97 then 7 else if c == 98 then 8 else if c == 116 then 9 else if c == 110 then 10
-    else if c == 118 then 11 else if c == 102 then 12 else if c == 114 then 13 else if c == 101 then 27 else if c == 78 then 0x85
-    else if c == 95 then 0xa0 else if c == 76 then 0x2028 else if c == 80 then 0x2029 else c
+    if c == digit_zero then null else if c == small_a then bell else if c == small_b then backspace else if c == small_t then tab
+    else if c == small_n then line_feed else if c == small_v then vertical_tab else if c == small_f then form_feed
+    else if c == small_r then carriage_return else if c == small_e then escape_char else if c == capital_n then next_line
+    else if c == low_line then no_break_space else if c == capital_l then line_separator else if c == capital_p then paragraph_separator
+    else c
 
 -- the character that one thing between double quotes means
 abbrev pub quoted_char_value : QuotedChar → ℕ
@@ -273,7 +276,7 @@ values value (x ∷ xs) = value x ∷ values value xs
 
 -- [73] b-l-folded, 6.5: a break is a space, or with k empty lines after it k line feeds
 abbrev pub folded_break : ℕ → List ℕ
-folded_break zero = 32 ∷ []
+folded_break zero = space_char ∷ []
 folded_break (suc k) = line_feeds (suc k)
 
 -- what a further line adds; after a backslash the break itself is nothing

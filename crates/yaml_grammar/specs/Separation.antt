@@ -2,6 +2,7 @@
 -- Each part of a presentation is a value, and `.._text` is the text that it spells. Its conditions are `.._fits`. They
 -- take bol, which says whether the part is at the start of a line, and `after`, the whole text after the part.
 use Rattle.std.specs.Prelude.{ℕ, Bool, true, false, not, ◌&&◌, ◌||◌, List, [], ◌∷◌, ◌++◌, Option, Some, None, flat_map}
+use Rattle.yaml_chars.specs.Signs.{line_feed, carriage_return, number_sign}
 use Rattle.yaml_chars.specs.Classes.{white, nb}
 use Rattle.std.specs.List.{list_all}
 use Rattle.yaml_grammar.specs.Texts.{is_empty, begins, spaces, optional}
@@ -14,14 +15,14 @@ pub data Break : Type 0 where
 
 -- the characters of a break
 abbrev pub break_text : Break → List ℕ
-break_text lf = 10 ∷ []
-break_text cr = 13 ∷ []
-break_text cr_lf = 13 ∷ 10 ∷ []
+break_text lf = line_feed ∷ []
+break_text cr = carriage_return ∷ []
+break_text cr_lf = carriage_return ∷ line_feed ∷ []
 
 -- a CR before an LF is one break with it
 abbrev pub break_fits : Break → List ℕ → Bool
 break_fits lf after = true
-break_fits cr after = not (begins (10 ∷ []) after)
+break_fits cr after = not (begins (line_feed ∷ []) after)
 break_fits cr_lf after = true
 
 -- a break, or the end of the text
@@ -39,7 +40,7 @@ pub record LineEnd : Type 0 where
 
 -- [75] c-nb-comment-text, 6.6: `#` and the characters after it
 abbrev pub comment_text : List ℕ → List ℕ
-comment_text text = 35 ∷ text
+comment_text text = number_sign ∷ text
 
 -- the text of a line's end
 abbrev pub line_end_text : LineEnd → List ℕ

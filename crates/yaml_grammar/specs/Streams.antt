@@ -1,5 +1,6 @@
 -- Streams of documents (YAML 1.2.2, 6.8 and chapter 9).
 use Rattle.std.specs.Prelude.{ℕ, ◌+◌, Bool, true, false, not, ◌&&◌, List, [], ◌∷◌, ◌++◌, Option, Some, None, codes, flat_map, if◌then◌else◌}
+use Rattle.yaml_chars.specs.Signs.{byte_order_mark}
 use Rattle.yaml_chars.specs.Classes.{white}
 use Rattle.std.specs.List.{list_all}
 use Rattle.yaml_grammar.specs.Texts.{is_empty, optional, byte_len, ends_word, starts_line}
@@ -69,7 +70,7 @@ parts_text ps = flat_map part_text ps
 
 -- [3] c-byte-order-mark, 5.2
 abbrev pub mark_text : Bool → List ℕ
-mark_text mark = if mark then 0xfeff ∷ [] else []
+mark_text mark = if mark then byte_order_mark ∷ [] else []
 
 -- the text of a stream
 abbrev pub stream_text : Stream → List ℕ

@@ -1,5 +1,6 @@
 -- The one style: the text of a tree, with the same indentation, quotes and order everywhere.
 use Rattle.std.specs.Prelude.{ℕ, zero, suc, ◌+◌, ◌/◌, ◌%◌, Bool, true, false, not, ◌&&◌, ◌||◌, nat_le, nat_lt, ◌==◌, List, [], ◌∷◌, ◌++◌, length, codes, if◌then◌else◌}
+use Rattle.yaml_chars.specs.Signs.{null, bell, backspace, tab, line_feed, vertical_tab, form_feed, carriage_return, escape_char, space_char, double_quote, digit_zero, backslash, small_a, small_b, small_e, small_f, small_n, small_r, small_t, small_v}
 use Rattle.yaml_chars.specs.Classes.{in_range, is_in, printable}
 use Rattle.std.specs.List.{list_all}
 use Rattle.yaml_grammar.specs.Texts.{first, same_text, spaces}
@@ -39,15 +40,15 @@ shown c = in_range 0x20 0x7e c || (nat_le 0xa0 c && printable c && not (is_in c 
 
 -- a shown character or a line feed
 abbrev pub shown_or_feed : ℕ → Bool
-shown_or_feed c = shown c || (c == 10)
+shown_or_feed c = shown c || (c == line_feed)
 
 -- a space or a line feed
 abbrev pub space_or_feed : ℕ → Bool
-space_or_feed c = (c == 32) || (c == 10)
+space_or_feed c = (c == space_char) || (c == line_feed)
 
 -- it holds a line feed, starts with no space and no line feed, and each character is shown or a line feed
 abbrev pub literal_in_style : List ℕ → Bool
-literal_in_style value = is_in 10 value && not (first space_or_feed value) && list_all shown_or_feed value
+literal_in_style value = is_in line_feed value && not (first space_or_feed value) && list_all shown_or_feed value
 
 -- ---- double quotes
 
@@ -58,15 +59,16 @@ hex d = if nat_lt d 10 then 48 + d else 55 + d
 -- the letter of the short escape of a character that has one (5.7)
 abbrev pub letter_escape : ℕ → ℕ
 letter_escape c =
-    if c == 0 then 48 else if c == 7 then 97 else if c == 8 then 98 else if c == 9 then 116 else if c == 10 then 110
-    else if c == 11 then 118 else if c == 12 then 102 else if c == 13 then 114 else 101
+    if c == null then digit_zero else if c == bell then small_a else if c == backspace then small_b else if c == tab then small_t
+    else if c == line_feed then small_n else if c == vertical_tab then small_v else if c == form_feed then small_f
+    else if c == carriage_return then small_r else small_e
 
 -- a character between double quotes: itself or an escape
 abbrev pub quoted_char : ℕ → List ℕ
 quoted_char c =
-    if (c == 34) || (c == 92) then 92 ∷ c ∷ []
+    if (c == double_quote) || (c == backslash) then backslash ∷ c ∷ []
     else if shown c then c ∷ []
-    else if (c == 0) || in_range 7 13 c || (c == 27) then 92 ∷ letter_escape c ∷ []
+    else if (c == null) || in_range bell carriage_return c || (c == escape_char) then backslash ∷ letter_escape c ∷ []
     else if nat_le c 0xff then codes "\\x" ++ hex (c / 16) ∷ hex (c % 16) ∷ []
     else codes "\\u" ++ hex (c / 4096) ∷ hex (c / 256 % 16) ∷ hex (c / 16 % 16) ∷ hex (c % 16) ∷ []
 
@@ -84,7 +86,7 @@ in_double_quotes value = codes "\"" ++ quoted_chars value ++ codes "\""
 -- how many line feeds end it
 abbrev pub feeds_at_end : List ℕ → ℕ
 feeds_at_end [] = 0
-feeds_at_end (c ∷ cs) = if list_all (λ d. d == 10) (c ∷ cs) then length (c ∷ cs) else feeds_at_end cs
+feeds_at_end (c ∷ cs) = if list_all (λ d. d == line_feed) (c ∷ cs) then length (c ∷ cs) else feeds_at_end cs
 
 -- `|` with the chomping mark, from the number of line feeds at the end
 abbrev pub literal_mark : ℕ → List ℕ
@@ -96,7 +98,7 @@ literal_mark (suc (suc n)) = codes "|+"
 abbrev pub literal_lines : ℕ → Bool → List ℕ → List ℕ
 literal_lines j fresh [] = if fresh then [] else codes "\n"
 literal_lines j fresh (c ∷ cs) =
-    if c == 10 then 10 ∷ literal_lines j true cs
+    if c == line_feed then line_feed ∷ literal_lines j true cs
     else (if fresh then spaces j else []) ++ c ∷ literal_lines j false cs
 
 -- ---- scalars

@@ -3,6 +3,7 @@
 use Rattle.std.specs.List.{list_all}
 use Rattle.std.specs.Prelude.{ℕ, ◌+◌, Bool, true, false, not, ◌&&◌, ◌||◌, ◌==◌, List, [], ◌∷◌, Option, Some, None, replicate, codes, IsTrue}
 use Rattle.std.specs.Char.{len_utf8}
+use Rattle.yaml_chars.specs.Signs.{space_char}
 use Rattle.yaml_chars.specs.Classes.{code_point, white, line_break}
 
 -- there is a first element, and it passes the test
@@ -30,7 +31,7 @@ same_text (c ∷ cs) (d ∷ ds) = (c == d) && same_text cs ds
 
 -- a text of n spaces
 abbrev pub spaces : ℕ → List ℕ
-spaces n = replicate n 32
+spaces n = replicate n space_char
 
 -- the text of what is there, or the empty text
 abbrev pub optional : {A : Type 0} → (A → List ℕ) → Option A → List ℕ

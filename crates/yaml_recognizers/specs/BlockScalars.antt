@@ -9,14 +9,14 @@ use Rattle.yaml_recognizers.specs.CanonicalComments.{hash, is_line_end}
 use Rattle.yaml_recognizers.specs.Comments.{all_comments, read_break, read_line_end, read_stop}
 use Rattle.yaml_recognizers.specs.Prefixes.{drop_while, take_while}
 use Rattle.yaml_recognizers.specs.Reading.{Read, on}
-use Rattle.yaml_chars.specs.Signs.{dash, greater, plus, vertical_bar}
+use Rattle.yaml_chars.specs.Signs.{dash, digit_zero, greater, plus, vertical_bar}
 
 -- ---- the header
 
 -- [163] c-indentation-indicator, 8.1.1.1, or none
 abbrev pub read_digit : List ℕ → Option ℕ × List ℕ
 read_digit [] = (None, [])
-read_digit (c ∷ cs) = if in_range 49 57 c then (Some (c - 48), cs) else (None, c ∷ cs)
+read_digit (c ∷ cs) = if in_range 49 57 c then (Some (c - digit_zero), cs) else (None, c ∷ cs)
 
 -- [164] c-chomping-indicator, 8.1.1.2
 abbrev pub read_mark : List ℕ → Chomping × List ℕ

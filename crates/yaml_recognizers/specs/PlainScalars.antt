@@ -1,5 +1,6 @@
 -- The recognizer of plain scalars (YAML 1.2.2, 7.3.3). It reads as far as a plain scalar goes.
 use Rattle.std.specs.Prelude.{ℕ, Bool, false, not, ◌&&◌, ◌||◌, List, [], ◌∷◌, length, drop, Some, None, is_some, if◌then◌else◌}
+use Rattle.yaml_chars.specs.Signs.{space_char}
 use Rattle.yaml_chars.specs.Classes.{white}
 use Rattle.yaml_grammar.specs.Texts.{is_empty, no_marker}
 use Rattle.yaml_grammar.specs.FlowScalars.{FlowContext, one_line, Line, Scalar, plain, plain_first, plain_next}
@@ -20,7 +21,7 @@ with_run j text run = if is_empty run then None else Some (line_of j run, drop (
 
 -- [134] s-ns-plain-next-line: a further line
 unfoldable pub read_plain_line : ℕ → FlowContext → List ℕ → Read (Line ℕ)
-read_plain_line n c text = on (read_join false n text) (λ j rest. with_run j rest (read_run c 32 rest))
+read_plain_line n c text = on (read_join false n text) (λ j rest. with_run j rest (read_run c space_char rest))
 
 -- all further lines
 abbrev pub plain_lines_at : ℕ → FlowContext → List ℕ → List (Line ℕ) × List ℕ
@@ -46,7 +47,7 @@ last_of prev (x ∷ xs) = last_of x xs
 
 -- the last character of the last line
 unfoldable pub last_char : List ℕ → List (Line ℕ) → ℕ
-last_char prefix [] = last_of 32 prefix
+last_char prefix [] = last_of space_char prefix
 last_char prefix (l ∷ ls) = last_char l.held ls
 
 -- after its last character the line goes on with no plain character, and outside a key no further line does

@@ -8,7 +8,7 @@ use Rattle.yaml_grammar.specs.FlowScalars.{FlowContext, Scalar}
 use Rattle.yaml_grammar.specs.BlockScalars.{BlockScalar}
 use Rattle.yaml_grammar.specs.BlockNodes.{Node}
 use Rattle.yaml_grammar.specs.Streams.{Explicit, content, nothing, Document, bare, explicit, directed}
-use Rattle.yaml_chars.specs.Signs.{dash, dot, percent_sign}
+use Rattle.yaml_chars.specs.Signs.{byte_order_mark, dash, dot, percent_sign}
 use Rattle.yaml_recognizers.specs.Prefixes.{take_while, drop_while}
 use Rattle.yaml_recognizers.specs.Reading.{Read, on}
 use Rattle.yaml_recognizers.specs.CanonicalComments.{is_line_end}
@@ -26,7 +26,7 @@ percent c = c == percent_sign
 
 -- a byte order mark starts the stream: a bare node does not start with it
 abbrev pub order_mark : ℕ → Bool
-order_mark c = c == 0xfeff
+order_mark c = c == byte_order_mark
 
 -- ---- documents
 
