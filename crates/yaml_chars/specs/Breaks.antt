@@ -13,7 +13,7 @@ pub data StartsWithBreak (text : List ℕ) (len : ℕ) (after : List ℕ) : Type
   lf : text ≡ line_feed ∷ after → len ≡ 1 → StartsWithBreak text len after
   cr : text ≡ carriage_return ∷ after → slice_get after 0 ≢ Some line_feed → len ≡ 1 → StartsWithBreak text len after
 
--- neither LF nor CR
+-- neither LF nor CR ([26] b-char, 5.4)
 abbrev pub no_break : ℕ → Bool
 no_break c = not (line_break c)
 

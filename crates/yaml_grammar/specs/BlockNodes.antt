@@ -86,7 +86,7 @@ abbrev mutual
 -- In block-out, which is after `?` or `:`, a sequence may be as deep as its parent ([201] seq-space, 8.2.3); shallow
 -- says so.
 
--- nothing comes after the sign, but comments
+-- [106] e-node, 7.2: nothing comes after the sign, but comments
 abbrev pub is_omitted : Indented → Bool
 is_omitted (omitted comments) = true
 is_omitted _ = false

@@ -24,18 +24,20 @@ pub record Header : Type 0 where
   pub digit_last : Bool
   pub line_end : LineEnd
 
--- an empty line: how many spaces it has, and its break
+-- [70] l-empty, 6.4: how many spaces an empty line has, and its break
 pub record Gap : Type 0 where
   pub width : ℕ
   pub stop : Break
 
--- a text line after its indentation, and the empty lines after it
+-- [171] l-nb-literal-text, 8.1.2, [175] s-nb-folded-text and [177] s-nb-spaced-text, 8.1.3: a text line after its
+-- indentation, and the empty lines after it
 pub record TextLine : Type 0 where
   pub text : List ℕ
   pub stop : Option Break
   pub gaps : List Gap
 
--- what is between the header and the comments: empty lines, and text lines, whose indentation this is
+-- [173] l-literal-content, 8.1.2, and [182] l-folded-content, 8.1.3: what is between the header and the comments: empty
+-- lines, and text lines, whose indentation this is
 pub record Body : Type 0 where
   pub indent : ℕ
   pub gaps : List Gap
@@ -59,7 +61,7 @@ chomping_text strip = codes "-"
 chomping_text clip = []
 chomping_text keep = codes "+"
 
--- the text of a header, with `|` or `>` and the end of its line
+-- [162] c-b-block-header, 8.1.1: the text of a header, with `|` or `>` and the end of its line
 abbrev pub header_text : Header → List ℕ
 header_text h =
     (if h.folded then codes ">" else codes "|")
@@ -109,7 +111,7 @@ text_line_fits q l after =
     not (is_empty l.text) && list_all nb l.text && no_marker true (text_line_text q l ++ after)
     && stop_fits l.stop (gaps_text l.gaps ++ after) && gaps_fit q l.gaps after
 
--- each of the text lines fits
+-- [173] l-literal-content, 8.1.2, and [182] l-folded-content, 8.1.3: each of the text lines fits
 abbrev pub text_lines_fit : ℕ → List TextLine → List ℕ → Bool
 text_lines_fit q [] after = true
 text_lines_fit q (l ∷ ls) after = text_line_fits q l (text_lines_text q ls ++ after) && text_lines_fit q ls after
@@ -124,7 +126,8 @@ abbrev pub past_spaces : List ℕ → List ℕ
 past_spaces [] = []
 past_spaces (c ∷ cs) = if space c then past_spaces cs else c ∷ cs
 
--- the line that starts here is a text line or an empty line at the indentation q
+-- the line that starts here is a text line ([171], 8.1.2; [175], [177], 8.1.3) or an empty line ([70], 6.4) at the
+-- indentation q
 abbrev pub goes_on : ℕ → List ℕ → Bool
 goes_on q text =
     let s = spaces_before text in
@@ -147,14 +150,14 @@ last_spaces text = if is_empty (past_spaces text) then spaces_before text else 0
 abbrev pub sets_none : ℕ → List ℕ → Bool
 sets_none m text = is_empty (past_spaces text) || nat_lt (spaces_before text) m || not (no_marker true text)
 
--- Without a digit, the indentation is that of the first line that holds something other than spaces. No line of spaces
--- before it is wider, as for all empty lines. If that line sets none, the indentation is the width of the widest line
--- of spaces, and at least m.
+-- 8.1.1.1: Without a digit, the indentation is that of the first line that holds something other than spaces. No line
+-- of spaces before it is wider, as for all empty lines. If that line sets none, the indentation is the width of the
+-- widest line of spaces, and at least m.
 abbrev pub is_detected_indent : ℕ → ℕ → List Gap → List TextLine → List ℕ → Bool
 is_detected_indent m q gaps [] after = (q == max m (max (widest gaps) (last_spaces after))) && sets_none m after
 is_detected_indent m q gaps (l ∷ ls) after = nat_le m q && not (begins (spaces 1) l.text)
 
--- With a digit d the indentation is n + d, and d at the top of a document.
+-- [163] c-indentation-indicator, 8.1.1.1: with a digit d the indentation is n + d, and d at the top of a document.
 abbrev pub indent_fits : Option ℕ → ℕ → ℕ → List Gap → List TextLine → List ℕ → Bool
 indent_fits (Some d) m q gaps texts after = q == (m - 1) + d
 indent_fits None m q gaps texts after = is_detected_indent m q gaps texts after
@@ -217,7 +220,8 @@ value_without_lines strip n = []
 value_without_lines clip n = []
 value_without_lines keep n = line_feeds n
 
--- the value, from the empty lines before the first text line, and the text lines with the empty lines after each
+-- [173], 8.1.2, and [182], 8.1.3: the value, from the empty lines before the first text line, and the text lines with
+-- the empty lines after each
 abbrev pub block_value : Bool → Chomping → List Gap → List TextLine → List ℕ
 block_value folded chomping gaps [] = value_without_lines chomping (length gaps)
 block_value folded chomping gaps (l ∷ ls) = line_feeds (length gaps) ++ text_value folded chomping l ls

@@ -10,7 +10,7 @@ pub data Event : Type 0 where
   document_start document_end seq_start seq_end map_start map_end : Event
   scalar_event : (style : Style) (from to : ℕ) (value : List ℕ) → Event
 
--- an omitted value is the empty text
+-- [105] e-scalar, 7.2: an omitted value is the empty text
 abbrev pub omitted_at : ℕ → List Event
 omitted_at at = scalar_event omitted_style at at [] ∷ []
 

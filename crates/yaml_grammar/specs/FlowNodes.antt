@@ -22,11 +22,12 @@ mutual
     last : Entry → Option Sep → Entries
     next : Entry → Option Sep → Option Sep → Entries → Entries
 
-  -- Perhaps a `?` and the separation after it; a node, which is the key unless it is alone in a sequence; and a value.
+  -- [139] ns-flow-seq-entry, [142] ns-flow-map-entry and [150] ns-flow-pair, 7.4: perhaps a `?` and the separation
+  -- after it; a node, which is the key unless it is alone in a sequence; and a value
   pub data Entry : Type 0 where
     entry : Option Sep → Flow → Value → Entry
 
-  -- no `:`; a `:` with nothing after it; a `:` with a node
+  -- [147] and [149], 7.4.2: no `:`; a `:` with nothing after it; a `:` with a node
   pub data Value : Type 0 where
     absent : Value
     empty : Option Sep → Value
@@ -135,7 +136,7 @@ abbrev mutual
 
 -- ---- what they mean, from the place `at` on
 
--- an entry of a sequence that is a pair is a mapping of one key
+-- [150] ns-flow-pair, 7.4.2: an entry of a sequence that is a pair is a mapping of one key
 abbrev pub is_pair : Option Sep → Value → Bool
 is_pair None absent = false
 is_pair ask value = true

@@ -21,8 +21,8 @@ inside inner = inner
 inside block_key = flow_key
 inside flow_key = flow_key
 
--- A block key, and the key of a single pair without `?`, are on one line, and so is everything in them. Keys in `{ }`
--- need not be.
+-- A block key, and the key of a single pair without `?`, are on one line, and so is everything in them ([110], [121]
+-- and [131], 7.3). Keys in `{ }` need not be.
 abbrev pub one_line : FlowContext → Bool
 one_line outer = false
 one_line inner = false
@@ -53,7 +53,7 @@ pub record Line (A : Type 0) : Type 0 where
   pub lead : List ℕ
   pub held : List A
 
--- what the first line holds, and further lines
+-- [109] c-double-quoted, [120] c-single-quoted and [131] ns-plain, 7.3: what the first line holds, and further lines
 pub data Scalar : Type 0 where
   plain single : List ℕ → List (Line ℕ) → Scalar
   double : List QuotedChar → List (Line QuotedChar) → Scalar
@@ -106,7 +106,7 @@ scalar_text (double prefix more) = codes "\"" ++ lines_text quoted_char_text pre
 abbrev pub empty_fits : ℕ → Empty → List ℕ → Bool
 empty_fits n e after = list_all white e.blank && (begins (spaces n) e.blank || list_all space e.blank) && break_fits e.stop after
 
--- each of the empty lines fits
+-- [70] l-empty, 6.4: each of the empty lines fits
 abbrev pub empties_fit : ℕ → List Empty → List ℕ → Bool
 empties_fit n [] after = true
 empties_fit n (e ∷ es) after = empty_fits n e (empties_text es ++ after) && empties_fit n es after
@@ -190,11 +190,11 @@ plain_lines n c before (l ∷ ls) after =
 abbrev pub hex_digit : ℕ → Bool
 hex_digit c = in_range 48 57 c || in_range 65 70 c || in_range 97 102 c
 
--- the value of a hexadecimal digit
+-- the value of a hexadecimal digit ([36], 5.6): 48 is `0`, and 55 and 87 are 10 less than `A` and `a`
 abbrev pub digit_of : ℕ → ℕ
 digit_of c = if nat_lt c 58 then c - 48 else (if nat_lt c 71 then c - 55 else c - 87)
 
--- the number that digits spell after one whose value is n
+-- [59] to [61], 5.7: the number that digits spell after one whose value is n
 abbrev pub hex_value : ℕ → List ℕ → ℕ
 hex_value n [] = n
 hex_value n (c ∷ cs) = hex_value (16 * n + digit_of c) cs
@@ -279,7 +279,8 @@ abbrev pub folded_break : ℕ → List ℕ
 folded_break zero = space_char ∷ []
 folded_break (suc k) = line_feeds (suc k)
 
--- what a further line adds; after a backslash the break itself is nothing
+-- [73] b-l-folded, 6.5, and [112] s-double-escaped, 7.3.1: what a further line adds; after a backslash the break itself
+-- is nothing
 abbrev pub line_value : {A : Type 0} → (A → ℕ) → Line A → List ℕ
 line_value value l = (if l.escaped then line_feeds (length l.empties) else folded_break (length l.empties)) ++ values value l.held
 

@@ -13,19 +13,19 @@ use Rattle.yaml_grammar.specs.Texts.{is_empty, begins, spaces, optional}
 pub data Break : Type 0 where
   lf cr cr_lf : Break
 
--- the characters of a break
+-- [28] b-break, 5.4: the characters of a break
 abbrev pub break_text : Break → List ℕ
 break_text lf = line_feed ∷ []
 break_text cr = carriage_return ∷ []
 break_text cr_lf = carriage_return ∷ line_feed ∷ []
 
--- a CR before an LF is one break with it
+-- [28] b-break, 5.4: a CR before an LF is one break with it
 abbrev pub break_fits : Break → List ℕ → Bool
 break_fits lf after = true
 break_fits cr after = not (begins (line_feed ∷ []) after)
 break_fits cr_lf after = true
 
--- a break, or the end of the text
+-- [76] b-comment, 6.6: a break, or the end of the text
 abbrev pub stop_fits : Option Break → List ℕ → Bool
 stop_fits None after = is_empty after
 stop_fits (Some b) after = break_fits b after
@@ -46,12 +46,12 @@ comment_text text = number_sign ∷ text
 abbrev pub line_end_text : LineEnd → List ℕ
 line_end_text e = e.blank ++ optional comment_text e.comment ++ optional break_text e.stop
 
--- a comment is at the start of a line or after whitespace
+-- [77] s-b-comment, 6.6: a comment is at the start of a line or after whitespace
 abbrev pub comment_fits : Bool → Option (List ℕ) → Bool
 comment_fits apart None = true
 comment_fits apart (Some text) = apart && list_all nb text
 
--- what a line's end has to meet
+-- [77] s-b-comment, 6.6: what a line's end has to meet
 abbrev pub line_end_fits : Bool → LineEnd → List ℕ → Bool
 line_end_fits bol e after =
     list_all white e.blank && comment_fits (bol || not (is_empty e.blank)) e.comment && stop_fits e.stop after
@@ -68,7 +68,7 @@ comment_line_fits bol e after = not (is_empty (line_end_text e)) && line_end_fit
 abbrev pub comments_text : List LineEnd → List ℕ
 comments_text es = flat_map line_end_text es
 
--- each of the lines is a comment line, in its place
+-- [79] s-l-comments, 6.6: each of the lines is a comment line, in its place
 abbrev pub comments_fit : Bool → List LineEnd → List ℕ → Bool
 comments_fit bol [] after = bol || is_empty after
 comments_fit bol (e ∷ es) after = comment_line_fits bol e (comments_text es ++ after) && comments_fit true es after
@@ -99,7 +99,7 @@ sep_fits n key bol (lines comments lead) after = not key && comments_fit bol com
 abbrev pub gap_text : Option Sep → List ℕ
 gap_text gap = optional sep_text gap
 
--- what a separation that may be left out has to meet
+-- [80] s-separate, 6.7: what a separation that may be left out has to meet
 abbrev pub gap_fits : ℕ → Bool → Option Sep → List ℕ → Bool
 gap_fits n key None after = true
 gap_fits n key (Some sep) after = sep_fits n key false sep after

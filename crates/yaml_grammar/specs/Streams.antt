@@ -90,7 +90,7 @@ document_fits (explicit x) bol after = explicit_fits x bol after
 document_fits (directed blank first_version comments x) bol after =
     bol && list_all white blank && not (is_empty blank) && comments_fit false comments (explicit_text x ++ after) && explicit_fits x true after
 
--- a document that may be left out
+-- [211] l-yaml-stream, 9.2: a document that may be left out
 abbrev pub optional_document_fits : Option Document → Bool → List ℕ → Bool
 optional_document_fits None bol after = true
 optional_document_fits (Some d) bol after = document_fits d bol after
@@ -99,7 +99,7 @@ optional_document_fits (Some d) bol after = document_fits d bol after
 abbrev pub suffix_fits : List LineEnd → Bool → List ℕ → Bool
 suffix_fits comments bol after = bol && ends_word (comments_text comments ++ after) && comments_fit false comments after
 
--- each of the suffixes fits
+-- [205] l-document-suffix, 9.1.2: each of the suffixes fits
 abbrev pub suffixes_fit : List (List LineEnd) → List ℕ → Bool
 suffixes_fit [] after = true
 suffixes_fit (s ∷ ss) after = suffix_fits s true (flat_map suffix_text ss ++ after) && suffixes_fit ss after
@@ -114,12 +114,12 @@ part_fits (suffixes one more prefix document) bol after =
 part_fits (line e) bol after = comment_line_fits bol e after
 part_fits (further x) bol after = explicit_fits x bol after
 
--- each of the parts fits
+-- [211] l-yaml-stream, 9.2: each of the parts fits
 abbrev pub parts_fit : List Part → Bool → List ℕ → Bool
 parts_fit [] bol after = is_empty after
 parts_fit (p ∷ ps) bol after = part_fits p bol (parts_text ps ++ after) && parts_fit ps (starts_line bol (part_text p)) after
 
--- a stream fits; the place after a byte order mark is the start of a line
+-- [211] l-yaml-stream, 9.2: a stream fits; the place after a byte order mark is the start of a line
 abbrev pub fits : Stream → Bool
 fits s =
     comments_fit true s.prefix (optional document_text s.document ++ parts_text s.parts)

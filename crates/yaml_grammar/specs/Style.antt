@@ -52,7 +52,7 @@ literal_in_style value = is_in line_feed value && not (first space_or_feed value
 
 -- ---- double quotes
 
--- the hexadecimal digit of a number below 16, in capital letters
+-- the hexadecimal digit of a number below 16, in capital letters: 48 is `0`, and 55 is 10 less than `A`
 abbrev pub hex : ℕ → ℕ
 hex d = if nat_lt d 10 then 48 + d else 55 + d
 

@@ -47,7 +47,7 @@ abbrev pub byte_len : List ℕ → ℕ
 byte_len [] = 0
 byte_len (c ∷ cs) = len_utf8 c + byte_len cs
 
--- the text is empty, or starts with whitespace or a break
+-- [206] c-forbidden, 9.1.2: the text is empty, or starts with whitespace or a break
 abbrev pub ends_word : List ℕ → Bool
 ends_word [] = true
 ends_word (c ∷ cs) = white c || line_break c
@@ -57,7 +57,8 @@ abbrev pub marker : List ℕ → Bool
 marker (a ∷ b ∷ c ∷ rest) = (begins (codes "---") (a ∷ b ∷ c ∷ []) || begins (codes "...") (a ∷ b ∷ c ∷ [])) && ends_word rest
 marker _ = false
 
--- No marker is at the start of a line inside a node. Here bol says whether a line starts where the text does.
+-- [206] c-forbidden, 9.1.2: No marker is at the start of a line inside a node. Here bol says whether a line starts
+-- where the text does.
 abbrev pub no_marker : Bool → List ℕ → Bool
 no_marker bol text = not (bol && marker text)
 

@@ -23,7 +23,7 @@ abbrev pub read_mark : List ℕ → Chomping × List ℕ
 read_mark [] = (clip, [])
 read_mark (c ∷ cs) = if c == dash then (strip, cs) else if c == plus then (keep, cs) else (clip, c ∷ cs)
 
--- the end of the header's line, which is empty at the end of the text
+-- [77] s-b-comment, 6.6: the end of the header's line, which is empty at the end of the text
 abbrev pub read_header_end : List ℕ → Read LineEnd
 read_header_end [] = Some (record { blank = []; comment = None; stop = None }, [])
 read_header_end (c ∷ cs) = read_line_end false (c ∷ cs)
@@ -68,7 +68,7 @@ read_gaps (suc fuel) p text =
 abbrev pub gaps_of : (ℕ → Bool) → List ℕ → List Gap × List ℕ
 gaps_of p text = read_gaps (suc (length text)) p text
 
--- the empty lines at an indentation
+-- [70] l-empty, 6.4: the empty lines at an indentation
 abbrev pub gaps_at : ℕ → List ℕ → List Gap × List ℕ
 gaps_at q text = gaps_of (λ w. nat_le w q) text
 
@@ -76,7 +76,7 @@ gaps_at q text = gaps_of (λ w. nat_le w q) text
 abbrev pub all_gaps : List ℕ → List Gap × List ℕ
 all_gaps text = gaps_of (λ _. true) text
 
--- the line after its indentation, and the empty lines after it
+-- [171], 8.1.2, [175] and [177], 8.1.3: the line after its indentation, and the empty lines after it
 abbrev pub read_text_line : ℕ → List ℕ → Read TextLine
 read_text_line q line =
     on (read_stop (drop_while nb line)) (λ stop rest. let g = gaps_at q rest in Some (record { text = take_while nb line; stop = stop; gaps = g.0 }, g.1))
@@ -95,8 +95,8 @@ lines_at q text = read_text_lines (suc (length text)) q text
 
 -- ---- the indentation
 
--- The indentation, from the lines of spaces at the start and what comes after them. None if a line of spaces is too
--- wide, or if the first other line starts with no character that a text line may have.
+-- 8.1.1.1: The indentation, from the lines of spaces at the start and what comes after them. None if a line of spaces
+-- is too wide, or if the first other line starts with no character that a text line may have.
 abbrev pub indent_after : ℕ → List Gap × List ℕ → Option ℕ
 indent_after m g =
     if sets_none m g.1 then Some (max m (max (widest g.0) (last_spaces g.1)))
@@ -117,11 +117,11 @@ body_at text (Some q) =
     let g = gaps_at q text in
     on (lines_at q g.1) (λ ls rest. Some (record { indent = q; gaps = g.0; texts = ls }, rest))
 
--- a body, from the digit and the least indentation
+-- [173] l-literal-content, 8.1.2, and [182] l-folded-content, 8.1.3: a body, from the digit and the least indentation
 abbrev pub read_body : Option ℕ → ℕ → List ℕ → Read Body
 read_body digit m text = body_at text (find_indent digit m text)
 
--- a comment line with its `#` after fewer than q spaces starts here
+-- [169] l-trail-comments, 8.1.1.2: a comment line with its `#` after fewer than q spaces starts here
 abbrev pub trail_here : ℕ → List ℕ → Bool
 trail_here q text = nat_lt (spaces_before text) q && first hash (past_spaces text) && is_line_end text
 

@@ -13,7 +13,7 @@ use Rattle.yaml_recognizers.specs.CanonicalFlowNodes.{canonical_flow}
 use Rattle.yaml_recognizers.specs.CanonicalBlockScalars.{canonical_block}
 
 abbrev mutual
-  -- a node in its canonical form
+  -- [196] s-l+block-node, 8.2.3: a node in its canonical form
   pub canonical_node : Node → ℕ → Bool → Bool → List ℕ → Bool
   canonical_node (block sep b) m shallow bol after = canonical_sep m false bol sep (block_text b ++ after) && canonical_block m b after
   canonical_node (flow sep f comments) m shallow bol after =
@@ -26,19 +26,20 @@ abbrev mutual
   canonical_node (pairs comments k ps) m shallow bol after =
       canonical_comments bol comments (spaces k ++ (pairs_text ps k ++ after)) && nat_le m k && canonical_pairs ps k (k == 0) after
 
-  -- items in their canonical form
+  -- [183] and [186], 8.2.1: items in their canonical form
   pub canonical_items : Items → ℕ → List ℕ → Bool
   canonical_items (item i) k after = not (first ns (indented_text i k ++ after)) && canonical_indented i k false after
   canonical_items (item_and i is) k after =
       let rest = spaces k ++ (items_text is k ++ after) in
       not (first ns (indented_text i k ++ rest)) && canonical_indented i k false rest && canonical_items is k after
 
-  -- pairs in their canonical form; bol says whether the key of the first pair is at the start of a line
+  -- [187] and [195], 8.2.2: pairs in their canonical form; bol says whether the key of the first pair is at the start
+  -- of a line
   pub canonical_pairs : Pairs → ℕ → Bool → List ℕ → Bool
   canonical_pairs (pair p) k bol after = canonical_pair p k bol after
   canonical_pairs (pair_and p ps) k bol after = canonical_pair p k bol (spaces k ++ (pairs_text ps k ++ after)) && canonical_pairs ps k (k == 0) after
 
-  -- a pair in its canonical form
+  -- [189] to [194], 8.2.2: a pair in its canonical form
   pub canonical_pair : Pair → ℕ → Bool → List ℕ → Bool
   canonical_pair (asked key value) k bol after =
       let rest = spaces k ++ (codes ":" ++ (indented_text value k ++ after)) in
@@ -52,7 +53,7 @@ abbrev mutual
       canonical_flow key 0 block_key bol (gap ++ (codes ":" ++ (comments_text comments ++ after))) && list_all white gap && short_key key gap
       && canonical_comments false comments after
 
-  -- what comes after a sign, in its canonical form
+  -- [185] s-l+block-indented, 8.2.1: what comes after a sign, in its canonical form
   pub canonical_indented : Indented → ℕ → Bool → List ℕ → Bool
   canonical_indented (compact_items s is) k shallow after = nat_le 1 s && canonical_items is (k + 1 + s) after
   canonical_indented (compact_pairs s ps) k shallow after = nat_le 1 s && canonical_pairs ps (k + 1 + s) false after

@@ -13,22 +13,22 @@ use Rattle.yaml_recognizers.specs.Prefixes.{drop_while, past}
 abbrev pub hash : ℕ → Bool
 hash c = c == number_sign
 
--- a break, or the end of the text
+-- [76] b-comment, 6.6: a break, or the end of the text
 abbrev pub stops : List ℕ → Bool
 stops [] = true
 stops (c ∷ cs) = line_break c
 
--- a line of whitespace or a comment starts here
+-- [78] l-comment, 6.6: a line of whitespace or a comment starts here
 abbrev pub is_line_end : List ℕ → Bool
 is_line_end [] = false
 is_line_end (c ∷ cs) =
     let rest = drop_while white (c ∷ cs) in stops rest || (first hash rest && stops (drop_while nb (past rest)))
 
--- all comment lines: no further one comes after them
+-- [79] s-l-comments, 6.6: all comment lines; no further one comes after them
 abbrev pub canonical_comments : Bool → List LineEnd → List ℕ → Bool
 canonical_comments bol es after = comments_fit bol es after && not (is_line_end after)
 
--- separation over lines has the end of a line
+-- [80] s-separate, 6.7: separation over lines has the end of a line
 abbrev pub canonical_sep : ℕ → Bool → Bool → Sep → List ℕ → Bool
 canonical_sep n key bol (inline blank) after = list_all white blank && (bol || not (is_empty blank))
 canonical_sep n key bol (lines comments lead) after =

@@ -7,7 +7,7 @@ use Rattle.yaml_grammar.specs.FlowNodes.{Flow, scalar, seq, map, Entries, none, 
 use Rattle.yaml_recognizers.specs.CanonicalComments.{canonical_gap}
 
 abbrev mutual
-  -- a flow node in its canonical form
+  -- [161] ns-flow-node, 7.5: a flow node in its canonical form
   pub canonical_flow : Flow → ℕ → FlowContext → Bool → List ℕ → Bool
   canonical_flow (scalar s) n c bol after = scalar_fits n c bol s after
   canonical_flow (seq gap es) n c bol after =
@@ -17,7 +17,8 @@ abbrev mutual
       canonical_gap n (one_line c) gap (entries_text es ++ (codes "}" ++ after))
       && canonical_entries es n (inside c) false (starts_line false (gap_text gap)) (codes "}" ++ after)
 
-  -- entries in the context d between the brackets; in_seq says whether they are those of a sequence
+  -- [138] and [141], 7.4: entries in the context d between the brackets; in_seq says whether they are those of a
+  -- sequence
   pub canonical_entries : Entries → ℕ → FlowContext → Bool → Bool → List ℕ → Bool
   canonical_entries none n d in_seq bol after = true
   canonical_entries (last e gap) n d in_seq bol after =
@@ -28,7 +29,7 @@ abbrev mutual
       && canonical_gap n (one_line d) before (codes "," ++ rest) && canonical_gap n (one_line d) gap_after (entries_text es ++ after)
       && canonical_entries es n d in_seq (starts_line false (gap_text gap_after)) after
 
-  -- an entry in its canonical form
+  -- [139], [142] and [150], 7.4: an entry in its canonical form
   pub canonical_entry : Entry → ℕ → FlowContext → Bool → Bool → List ℕ → Bool
   canonical_entry (entry ask key value) n d in_seq bol after =
       canonical_gap n (one_line d) ask (flow_text key ++ (value_text value ++ after))
@@ -37,8 +38,8 @@ abbrev mutual
       else canonical_flow key n d (if is_some ask then starts_line false (gap_text ask) else bol) (value_text value ++ after))
       && canonical_value value n d (one_line d || single_pair in_seq ask value) (is_plain key) after
 
-  -- key: the whitespace before the `:` is on its line; after_plain: after a plain key, `:` needs whitespace before a
-  -- value
+  -- [147] and [149], 7.4.2. key: the whitespace before the `:` is on its line; after_plain: after a plain key, `:`
+  -- needs whitespace before a value
   pub canonical_value : Value → ℕ → FlowContext → Bool → Bool → List ℕ → Bool
   canonical_value absent n d key after_plain after = true
   canonical_value (empty gap) n d key after_plain after =

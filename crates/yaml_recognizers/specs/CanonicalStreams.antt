@@ -42,14 +42,14 @@ flat_text s = mark_text s.mark ++ pieces_text s.pieces
 
 -- ---- what they have to meet
 
--- `---` is at the start of a line, as a marker
+-- [208] l-explicit-document, 9.1.4: `---` is at the start of a line, as a marker
 abbrev pub canonical_explicit : Explicit → Bool → List ℕ → Bool
 canonical_explicit (content n) bol after = bol && ends_word (node_text n ++ after) && canonical_node n 0 false false after
 canonical_explicit (nothing comments) bol after =
     bol && ends_word (comments_text comments ++ after) && canonical_comments false comments after
 
--- A bare document and a directive are at the start of the stream or after a suffix, perhaps with lines between; opened
--- says so. The lines before a bare document are pieces of their own.
+-- [210] l-any-document, 9.2: A bare document and a directive are at the start of the stream or after a suffix,
+-- perhaps with lines between; opened says so. The lines before a bare document are pieces of their own.
 abbrev pub canonical_document : Document → Bool → Bool → List ℕ → Bool
 canonical_document (bare n) opened bol after = opened && not (is_line_end (node_text n ++ after)) && canonical_node n 0 false bol after
 canonical_document (explicit x) opened bol after = canonical_explicit x bol after
@@ -57,7 +57,7 @@ canonical_document (directed blank first_version comments x) opened bol after =
     opened && bol && list_all white blank && not (is_empty blank) && canonical_comments false comments (explicit_text x ++ after)
     && canonical_explicit x true after
 
--- a piece in its canonical form; `...` is at the start of a line, as a marker
+-- [211] l-yaml-stream, 9.2: a piece in its canonical form; `...` is at the start of a line, as a marker
 abbrev pub canonical_piece : Piece → Bool → Bool → List ℕ → Bool
 canonical_piece (suffix comments) opened bol after =
     bol && ends_word (comments_text comments ++ after) && canonical_comments false comments after
@@ -70,13 +70,13 @@ opens opened (suffix comments) = true
 opens opened (line e) = opened
 opens opened (document d) = false
 
--- each of the pieces is canonical where it is
+-- [211] l-yaml-stream, 9.2: each of the pieces is canonical where it is
 abbrev pub canonical_pieces : List Piece → Bool → Bool → Bool
 canonical_pieces [] opened bol = true
 canonical_pieces (p ∷ ps) opened bol =
     canonical_piece p opened bol (pieces_text ps) && canonical_pieces ps (opens opened p) (starts_line bol (piece_text p))
 
--- a flat stream is canonical; the place after a byte order mark is the start of a line
+-- [211] l-yaml-stream, 9.2: a flat stream is canonical; the place after a byte order mark is the start of a line
 abbrev pub canonical_stream : FlatStream → Bool
 canonical_stream s = canonical_pieces s.pieces true true
 

@@ -8,7 +8,7 @@ use Rattle.yaml_recognizers.specs.Prefixes.{drop_while, take_while}
 use Rattle.yaml_recognizers.specs.Reading.{Read}
 use Rattle.yaml_chars.specs.Signs.{carriage_return, line_feed, number_sign}
 
--- after a CR: CR LF, or CR alone
+-- [28] b-break, 5.4, after a CR: CR LF, or CR alone
 abbrev pub read_cr : List ℕ → Break × List ℕ
 read_cr [] = (cr, [])
 read_cr (c ∷ cs) = if c == line_feed then (cr_lf, cs) else (cr, c ∷ cs)
@@ -18,7 +18,7 @@ abbrev pub read_break : List ℕ → Read Break
 read_break [] = None
 read_break (c ∷ cs) = if c == line_feed then Some (lf, cs) else if c == carriage_return then Some (read_cr cs) else None
 
--- a break, or the end of the text
+-- [76] b-comment, 6.6: a break, or the end of the text
 abbrev pub read_stop : List ℕ → Read (Option Break)
 read_stop [] = Some (None, [])
 read_stop (c ∷ cs) = if c == line_feed then Some (Some lf, cs) else if c == carriage_return then (let r = read_cr cs in Some (Some r.0, r.1)) else None
@@ -51,7 +51,7 @@ abbrev pub read_comments : ℕ → Bool → List ℕ → List LineEnd × List �
 read_comments zero bol text = ([], text)
 read_comments (suc fuel) bol text = more_comments text (λ rest. read_comments fuel true rest) (read_line_end bol text)
 
--- all comment lines at the start of the text
+-- [79] s-l-comments, 6.6: all comment lines at the start of the text
 abbrev pub all_comments : Bool → List ℕ → List LineEnd × List ℕ
 all_comments bol text = read_comments (suc (length text)) bol text
 

@@ -19,15 +19,15 @@ use Rattle.yaml_recognizers.specs.Streams.{read_piece, read_pieces, read_stream}
 abbrev pub flow_node_at : ℕ → FlowContext → Bool → List ℕ → Read Flow
 flow_node_at n c bol text = whole_flow read_scalar n c bol text
 
--- what is between brackets, up to the closing one
+-- [138] and [141], 7.4: what is between brackets, up to the closing one
 abbrev pub flow_entries_at : ℕ → FlowContext → Bool → Bool → ℕ → List ℕ → Read Entries
 flow_entries_at n d in_seq bol close text = whole_entries read_scalar n d in_seq bol close text
 
--- one entry
+-- [139], [142] and [150], 7.4: one entry
 abbrev pub flow_entry_at : ℕ → FlowContext → Bool → Bool → List ℕ → Read Entry
 flow_entry_at n d in_seq bol text = whole_entry read_scalar n d in_seq bol text
 
--- the value of an entry
+-- [147] and [149], 7.4.2: the value of an entry
 abbrev pub flow_value_at : ℕ → FlowContext → Bool → List ℕ → Read Value
 flow_value_at n d after_plain text = whole_value read_scalar n d after_plain text
 
@@ -62,15 +62,15 @@ block_node_at m shallow bol text = whole_node read_scalar read_block m shallow b
 abbrev pub flow_leaf_at : ℕ → Bool → List ℕ → Read Flow
 flow_leaf_at m bol text = flow_node_at m outer bol text
 
--- the items at k
+-- [183] l+block-sequence, 8.2.1: the items at k
 abbrev pub block_items_at : ℕ → List ℕ → Read Items
 block_items_at k text = deep_items block_key_in flow_leaf_at read_block k text
 
--- the pairs at k
+-- [187] l+block-mapping, 8.2.2: the pairs at k
 abbrev pub block_pairs_at : ℕ → Bool → List ℕ → Read Pairs
 block_pairs_at k bol text = deep_pairs block_key_in flow_leaf_at read_block k bol text
 
--- one pair
+-- [188] ns-l-block-map-entry, 8.2.2: one pair
 abbrev pub block_pair_at : ℕ → Bool → List ℕ → Read Pair
 block_pair_at k bol text = deep_pair block_key_in flow_leaf_at read_block k bol text
 
@@ -78,7 +78,7 @@ block_pair_at k bol text = deep_pair block_key_in flow_leaf_at read_block k bol 
 abbrev pub block_indented_at : ℕ → Bool → List ℕ → Read Indented
 block_indented_at k shallow text = deep_indented block_key_in flow_leaf_at read_block k shallow text
 
--- the node of a document
+-- [207] l-bare-document, 9.1.3: the node of a document
 abbrev pub document_node_at : Bool → List ℕ → Read Node
 document_node_at bol text = block_node_at 0 false bol text
 

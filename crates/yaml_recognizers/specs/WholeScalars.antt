@@ -5,13 +5,13 @@ use Rattle.yaml_grammar.specs.FlowScalars.{FlowContext, Line, Scalar, plain, sin
 use Rattle.yaml_grammar.specs.Events.{Style}
 use Rattle.yaml_recognizers.specs.QuotedScalars.{quote}
 
--- no plain scalar that fits at the start of the text leaves less of it than the rest
+-- [131] ns-plain, 7.3.3: no plain scalar that fits at the start of the text leaves less of it than the rest
 abbrev pub Longest : ℕ → FlowContext → Bool → List ℕ → List ℕ → Type 0
 Longest n c bol text rest =
     (prefix : List ℕ) (more : List (Line ℕ)) (after : List ℕ) → text ≡ scalar_text (plain prefix more) ++ after
     → scalar_fits n c bol (plain prefix more) after ≡ true → length rest ≤ length after
 
--- A plain scalar is the longest that fits there. A quote closes a single-quoted one if no quote comes after it.
+-- 7.3: A plain scalar is the longest that fits there. A quote closes a single-quoted one if no quote comes after it.
 abbrev pub IsWhole : ℕ → FlowContext → Bool → List ℕ → Scalar → List ℕ → Type 0
 IsWhole n c bol text (plain prefix more) rest = Longest n c bol text rest
 IsWhole n c bol text (single prefix more) rest = first quote rest ≡ false
