@@ -1,0 +1,112 @@
+#!/usr/bin/env python3
+"""Looks at each edit that the prover has to refuse, and fails if one no longer fits the code.
+
+These are the edits of crates/*/must-fail and checks/wrong_bodies/*. The file that an edit names has to be there, and
+each `old:` text to stand in it exactly once. In the file with the edit applied, each name that is imported from a
+module of this repository has to be defined there: else the edit would be refused for that alone. A module that the
+toolchain writes, or one that exports another whole, is not looked at. The last line is 'N edits, M wrong', and the
+status is 1 if M is above 0. It takes a second.
+"""
+
+import functools
+import glob
+import os
+import re
+import sys
+
+TOP = os.path.dirname(os.path.dirname(os.path.abspath(__file__)))
+IMPORT = re.compile(r"\buse\s+Rattle\.(\w+)\.(specs|proofs)\.([\w.]+?)(?:\.\{([^}]*)\}|\s+as\s|;|\s*$)", re.M)
+EXPORT = re.compile(r"\bpub use\s+[\w.]+(?:\.\{([^}]*)\})?")
+DECLARED = re.compile(r"^\s*(?:(?:pub|abbrev)\s+)*(?:(?:data|record)\s+(\S+)|([^:={}()]+?)\s*(?:\{[^}]*\}\s*)*:\s)", re.M)
+
+
+def read(path):
+    with open(os.path.join(TOP, path), encoding="utf-8") as file:
+        return file.read()
+
+
+def names_in(entries):
+    """Each imported name, and the name that it has here."""
+    for entry in entries.split(","):
+        name, _, alias = entry.partition(" as ")
+        if name.strip():
+            yield name.strip(), alias.strip() or name.strip()
+
+
+@functools.lru_cache(maxsize=None)
+def defined(path):
+    """The names that a module defines or exports, or None if it exports another module whole."""
+    text = re.sub(r"^\s*--.*$", "", read(path), flags=re.M)
+    found = set()
+    for match in EXPORT.finditer(text):
+        if match[1] is None:
+            return None
+        found.update(alias for _, alias in names_in(match[1]))
+    for record, names in DECLARED.findall(text):
+        found.update([record] if record else names.split())
+    return found
+
+
+def is_generated(module):
+    """The toolchain writes modules of the crate's types and functions, whose paths have their names."""
+    return re.search(r"(^|\.)[a-z]", module) is not None
+
+
+def missing_imports(text):
+    """What the text imports from this repository that is not there."""
+    for crate, folder, module, entries in IMPORT.findall(text):
+        path = f"crates/{crate}/{folder}/{module.replace('.', '/')}.antt"
+        if not os.path.isdir(os.path.join(TOP, "crates", crate)):
+            continue
+        if not os.path.exists(os.path.join(TOP, path)):
+            if not is_generated(module):
+                yield f"imports Rattle.{crate}.{folder}.{module}, which is not there"
+            continue
+        names = defined(path)
+        for name, _ in names_in(entries):
+            if names is not None and name not in names:
+                yield f"imports {name}, which {path} does not define"
+
+
+def faults(path, crate):
+    """What is wrong with one edit."""
+    lines = read(path).splitlines()
+    file = next((line[len("file: "):] for line in lines if line.startswith("file: ")), None)
+    if file is None or not os.path.exists(os.path.join(TOP, "crates", crate, file)):
+        yield f"edits {file}, which is not there"
+        return
+    source = read(f"crates/{crate}/{file}")
+    edited = source
+    old = [line[len("old: "):] for line in lines if line.startswith("old: ")]
+    new = [line[len("new: "):] for line in lines if line.startswith("new:")]
+    if not old or len(old) != len(new):
+        yield f"has {len(old)} old texts and {len(new)} new ones"
+    for before, after in zip(old, new):
+        count = source.count(before)
+        if count != 1:
+            yield f"edits a text that stands {count} times in {file}: {before.strip()}"
+        edited = edited.replace(before, after)
+    yield from missing_imports(edited)
+
+
+def edits_in(pattern, part):
+    """The edits, each with its crate, which is this part of its path."""
+    for path in sorted(glob.glob(os.path.join(TOP, pattern))):
+        path = os.path.relpath(path, TOP)
+        yield path, path.split(os.sep)[part]
+
+
+def main():
+    edits = [*edits_in("crates/*/must-fail/*.edit", 1), *edits_in("checks/wrong_bodies/*/*.edit", 2)]
+    wrong = 0
+    for path, crate in edits:
+        found = sorted(set(faults(path, crate)))
+        for fault in found:
+            print(f"{path} {fault}")
+        wrong += bool(found)
+    print(f"{len(edits)} edits, {wrong} wrong")
+    return 1 if wrong else 0
+
+
+if __name__ == "__main__":
+    sys.exit(main())
