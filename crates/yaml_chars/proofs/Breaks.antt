@@ -33,6 +33,7 @@ byte_there bs ds i c e =
     let first : get_or (drop i bs) 0 0 ≡ get_or bs i 0 = get_or-drop i bs 0 0 ∙ ap (λ x. get_or bs x 0) (let z : i + 0 ≡ i = omega arith in z) in
     (omega (arith, length-drop i bs, ap (λ (x : List ℕ). length x) e), sym first ∙ ap (λ (x : List ℕ). get_or x 0 0) e)
 
+-- an ASCII byte of a text is the character there, and the next one starts after it
 char_there : (bs ds : List ℕ) (i c : ℕ) → IsUtf8 bs → c < 128 → drop i bs ≡ c ∷ ds → (rest bs i ≡ c ∷ rest bs (i + 1)) × IsCharBoundary bs i × IsCharBoundary bs (i + 1) × (drop (i + 1) bs ≡ ds)
 char_there bs ds i c u a e =
     let there = byte_there bs ds i c e in
@@ -133,6 +134,7 @@ break_begins text len after (cr_lf e size) = (13, 10 ∷ after, e, refl)
 break_begins text len after (lf e size) = (10, after, e, refl)
 break_begins text len after (cr e alone size) = (13, after, e, refl)
 
+-- CR is not LF
 cr_is_no_lf : ◌≡◌ {A = ℕ} 13 10 → ⊥
 cr_is_no_lf h = omega (arith, h)
 
@@ -159,6 +161,7 @@ starts_by text at start len k h above within is_break = elim (cases_lt k start) 
   | inr after ↦ after
 ]
 
+-- the byte at a break is LF or CR
 break_byte : (text : List ℕ) (at start len : ℕ) → IsNextBreak text at start len → (start < length text) × (line_break (slice_index text start) ≡ true)
 break_byte text at start len h =
     let first = break_begins (drop start text) len (drop (start + len) text) h.break in

@@ -102,6 +102,7 @@ pub record IsCharAt (bs : List ℕ) (i c : ℕ) : Type 0 where
   pub low : get_or bs i 0 < 128 → c ≡ get_or bs i 0
   pub high : 128 ≤ get_or bs i 0 → 128 ≤ c
 
+-- a text that begins with the bytes of c begins with a scalar value
 scalar_at_beginning : (bs after : List ℕ) (c : ℕ) → IsUtf8 bs → bs ≡ encode c ++ after → scalar c ≡ true
 scalar_at_beginning bs after c u e =
     let parts = cons_from_encodes u.0 after c (u.1.1 ∙ e) in
@@ -146,6 +147,7 @@ pub record IsSplit (bs : List ℕ) (i : ℕ) (prefix after : List ℕ) (j : ℕ)
   pub spells_prefix : between bs i j ≡ prefix
   pub spells_after : rest bs j ≡ after
 
+-- both parts of a list of scalar values are such lists
 scalars-append : (cs ds : List ℕ) → scalars (cs ++ ds) ≡ true → (scalars cs ≡ true) × (scalars ds ≡ true)
 scalars-append [] ds e = (refl, e)
 scalars-append (c ∷ cs) ds e =
@@ -179,6 +181,7 @@ code_point-scalar c s = elim (scalar_cases c s) [
   | inr high ↦ or_right _ _ (and_from _ _ (le-leb 0xe000 c (omega arith)) (le-leb c 0x10ffff (omega arith)))
 ]
 
+-- scalar values are code points of a text
 code_points-scalars : (cs : List ℕ) → scalars cs ≡ true → list_all code_point cs ≡ true
 code_points-scalars [] s = refl
 code_points-scalars (c ∷ cs) s =

@@ -60,18 +60,22 @@ blind-or one other h g c high fits = ap (λ x. x || other c) (h c high fits) ∙
 
 -- ---- the bytes of a text are bytes
 
+-- each element is a byte
 AreBytes : List ℕ → Type 0
 AreBytes bs = (k : ℕ) → get_or bs k 0 < 256
 
+-- the empty list has no other element
 no_bytes : AreBytes []
 unfolding AreBytes
 no_bytes k = omega (arith, get_or_past {X = ℕ} [] k 0)
 
+-- a byte before bytes
 one_more : (b : ℕ) (bs : List ℕ) → b < 256 → AreBytes bs → AreBytes (b ∷ bs)
 unfolding AreBytes
 one_more b bs l h zero = l
 one_more b bs l h (suc k) = h k
 
+-- the encoding of a character is made of bytes
 bytes-encode : (c : ℕ) → c < 0x110000 → AreBytes (encode c)
 unfolding encode
 bytes-encode c l =
@@ -80,14 +84,17 @@ bytes-encode c l =
     (λ f. cond_both (ltb c 65536) _ _ AreBytes (λ g. (let a = ltb-true c 65536 g in one_more _ _ (omega arith) (one_more _ _ (omega arith) (one_more _ _ (omega arith) no_bytes))))
     (λ g. one_more _ _ (omega arith) (one_more _ _ (omega arith) (one_more _ _ (omega arith) (one_more _ _ (omega arith) no_bytes))))))
 
+-- two lists of bytes, joined, are bytes
 bytes-append : (xs ys : List ℕ) → AreBytes xs → AreBytes ys → AreBytes (xs ++ ys)
 unfolding AreBytes
 bytes-append [] ys h g = g
 bytes-append (x ∷ xs) ys h g = one_more x (xs ++ ys) (h zero) (bytes-append xs ys (λ k. h (suc k)) g)
 
+-- a scalar value is below 0x110000
 scalar_fits : (c : ℕ) → scalar c ≡ true → c < 0x110000
 scalar_fits c s = elim (scalar_cases c s) [ inl low ↦ omega arith | inr high ↦ high.1 ]
 
+-- the encoding of characters is made of bytes
 bytes-encodes : (cs : List ℕ) → scalars cs ≡ true → AreBytes (encodes cs)
 bytes-encodes [] s = no_bytes
 bytes-encodes (c ∷ cs) s =
@@ -114,9 +121,11 @@ test-char_at test bs i c blind u at = blind_both test c (get_or bs i 0) blind (s
 
 -- ---- all characters
 
+-- the test passes each byte
 AllBytesPass : (ℕ → Bool) → List ℕ → Type 0
 AllBytesPass test bs = (k : ℕ) → k < length bs → test (get_or bs k 0) ≡ true
 
+-- a blind test that passes each byte passes each character
 test-encodes : (test : ℕ → Bool) (cs : List ℕ) → IsBlind test → scalars cs ≡ true → AllBytesPass test (encodes cs) → list_all test cs ≡ true
 unfolding AllBytesPass
 test-encodes test [] blind s h = refl
@@ -160,9 +169,11 @@ pub record IsLastChar (bs : List ℕ) (i j : ℕ) (prefix : List ℕ) (c : ℕ) 
   pub low : get_or bs (j - 1) 0 < 128 → c ≡ get_or bs (j - 1) 0
   pub high : 128 ≤ get_or bs (j - 1) 0 → 128 ≤ c
 
+-- the last byte, or 0
 last_byte : List ℕ → ℕ
 last_byte bs = get_or bs (length bs - 1) 0
 
+-- the last byte of a character from 128 on is from 128 on
 last-encode : (c : ℕ) → 128 ≤ c → 128 ≤ last_byte (encode c)
 unfolding encode last_byte
 last-encode c h =
@@ -170,18 +181,21 @@ last-encode c h =
     (λ e. cond_both (ltb c 2048) _ _ (λ xs. 128 ≤ get_or xs (length xs - 1) 0) (λ f. omega arith)
     (λ f. cond_both (ltb c 65536) _ _ (λ xs. 128 ≤ get_or xs (length xs - 1) 0) (λ g. omega arith) (λ g. omega arith)))
 
+-- the last byte of two lists, joined, is that of the second
 last-append : (xs ys : List ℕ) → 0 < length ys → last_byte (xs ++ ys) ≡ last_byte ys
 unfolding last_byte
 last-append xs ys h =
     let e : length (xs ++ ys) - 1 ≡ length xs + (length ys - 1) = omega (arith, length-append xs ys) in
     ap (λ x. get_or (xs ++ ys) x 0) e ∙ get_or-append-add xs ys (length ys - 1) 0
 
+-- the characters end in c; what the last byte of their encoding says of it
 record Ends (cs prefix : List ℕ) (c : ℕ) : Type 0 where
   splits : cs ≡ prefix ++ c ∷ []
   fits : c < 0x110000
   low : last_byte (encodes cs) < 128 → c ≡ last_byte (encodes cs)
   high : 128 ≤ last_byte (encodes cs) → 128 ≤ c
 
+-- there is a last character
 last_of : (c : ℕ) (cs : List ℕ) → scalars (c ∷ cs) ≡ true → (prefix : List ℕ) × (d : ℕ) × Ends (c ∷ cs) prefix d
 unfolding last_byte
 last_of c [] s =

@@ -9,6 +9,7 @@ record Alike {A : Type 0} (a b : A) (xs ys : List Shape) : Type 0 where
   rest : xs ≡ ys
 
 mutual
+  -- two trees whose shapes begin the same list are one
   trees_alike : (t u : Tree) (xs ys : List Shape) → tree_shapes t ++ xs ≡ tree_shapes u ++ ys → Alike t u xs ys
   trees_alike (text value) (text other) xs ys e =
       let same : value ≡ other = cc in
@@ -28,6 +29,7 @@ mutual
       let alike = members_alike ms ns xs ys (sym (append_assoc (members_shapes ms) (map_to ∷ []) xs) ∙ inner ∙ append_assoc (members_shapes ns) (map_to ∷ []) ys) in
       record { one = ap mapping alike.one; rest = alike.rest }
 
+  -- so are two lists of elements
   elements_alike : (ts us : Elements) (xs ys : List Shape) → elements_shapes ts ++ (seq_to ∷ xs) ≡ elements_shapes us ++ (seq_to ∷ ys) → Alike ts us xs ys
   elements_alike no_element no_element xs ys e = record { one = refl; rest = cc }
   elements_alike no_element (element (text v) us) xs ys e = cc
@@ -42,6 +44,7 @@ mutual
       let others = elements_alike ts us xs ys first.rest in
       record { one = ap₂ element first.one others.one; rest = others.rest }
 
+  -- and two lists of members
   members_alike : (ms ns : Members) (xs ys : List Shape) → members_shapes ms ++ (map_to ∷ xs) ≡ members_shapes ns ++ (map_to ∷ ys) → Alike ms ns xs ys
   members_alike no_member no_member xs ys e = record { one = refl; rest = cc }
   members_alike no_member (member key u ns) xs ys e = cc

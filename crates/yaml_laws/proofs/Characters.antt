@@ -25,6 +25,7 @@ every_joined p (c ∷ cs) after h k =
     let q : (p c ≡ true) × (list_all p cs ≡ true) = and_parts _ _ h in
     and_from _ _ q.0 (every_joined p cs after q.1 k)
 
+-- a test that passes all elements passes one of them
 every_at : (p : ℕ → Bool) (x : ℕ) (cs : List ℕ) → list_all p cs ≡ true → is_in x cs ≡ true → p x ≡ true
 every_at p x [] h i = absurd (false≢true i)
 every_at p x (c ∷ cs) h i =
@@ -50,12 +51,14 @@ shown_low c h = elim (or_cases _ _ h) [
 
 -- ---- words: what holds of each letter, or of each character of a word, is found by looking at those below 128
 
+-- a letter is ASCII
 letter_low : (x : ℕ) → letter x ≡ true → x < 128
 letter_low x h = elim (or_cases (in_range 65 90 x) (in_range 97 122 x) h) [
   | inl a ↦ (let q : (65 ≤ x) × (x ≤ 90) = from_range 65 90 x a in omega (arith, q.1))
   | inr a ↦ (let q : (97 ≤ x) × (x ≤ 122) = from_range 97 122 x a in omega (arith, q.1))
 ]
 
+-- a character of a word is ASCII
 word_low : (x : ℕ) → word_char x ≡ true → x < 128
 word_low x h = elim (or_cases (letter x || in_range 48 57 x) (is_in x (codes "_-./")) h) [
   | inl a ↦ elim (or_cases (letter x) (in_range 48 57 x) a) [
@@ -80,9 +83,11 @@ of_word p x all h = after_not (word_char x) (p x) (agree_below_at (λ y. not (wo
 
 -- ---- quoted texts: what holds of all that they are written with
 
+-- the letter is that of a short escape
 abbrev Escaped : ℕ → Type 0
 Escaped x = is_in x (codes "0abtnvfre") ≡ true
 
+-- the letter of a short escape is one of nine
 escape_letter : (c : ℕ) → is_in (letter_escape c) (codes "0abtnvfre") ≡ true
 escape_letter c =
     cond_both (c == 0) _ _ Escaped (λ e. refl) (λ e. cond_both (c == 7) _ _ Escaped (λ e. refl) (λ e. cond_both (c == 8) _ _ Escaped (λ e. refl) (λ e.
@@ -97,6 +102,7 @@ pub record Writes (p : ℕ → Bool) (c : ℕ) : Type 0 where
   pub shown : shown c ≡ true → p c ≡ true
   pub digits : (d : ℕ) → d ≤ 15 + c / 4096 → p (hex d) ≡ true
 
+-- a test that passes all that may be written for c passes what is written
 quoted_char_all : (p : ℕ → Bool) (c : ℕ) → Writes p c → list_all p (quoted_char c) ≡ true
 quoted_char_all p c w =
     let sign : (x : ℕ) → is_in x (codes "\"\\xu") ≡ true → p x ≡ true = λ x i. every_at p x (codes "\"\\xu") w.signs i in

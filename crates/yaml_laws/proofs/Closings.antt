@@ -17,6 +17,7 @@ closes bol [] place = false
 closes bol (b ∷ bs) zero = false
 closes bol (b ∷ bs) (suc place) = (bol && begins (codes "...\n") (b ∷ bs) && (place == 3)) || closes (b == 10) bs place
 
+-- after one byte or more, the last one says whether a line starts
 ends_last : (bol : Bool) (b : ℕ) (bs : List ℕ) → ends_from bol (b ∷ bs) ≡ ends_line (b ∷ bs)
 ends_last bol b [] = refl
 ends_last bol b (c ∷ cs) = ends_last (b == 10) c cs
@@ -28,12 +29,14 @@ ends_same (b ∷ bs) = ends_last true b bs
 
 -- ---- the test says where a closing line ends
 
+-- dots and a line feed close, where a line starts before them
 closes_there : (bol : Bool) (before after : List ℕ) → ends_from bol before ≡ true → closes bol (before ++ (codes "...\n" ++ after)) (length before + 4) ≡ true
 closes_there bol [] after h = rw h
 closes_there bol (b ∷ bs) after h =
     let further : suc (length bs) + 4 ≡ suc (length bs + 4) = omega arith in
     rw further (or_right _ _ (closes_there (b == 10) bs after h))
 
+-- what begins with a text is that text and a rest
 begins_split : (ws text : List ℕ) → begins ws text ≡ true → (rest : List ℕ) × (text ≡ ws ++ rest)
 begins_split [] text h = (text, refl)
 begins_split (w ∷ ws) [] h = absurd (false≢true h)
@@ -50,6 +53,7 @@ pub record Found (bol : Bool) (bytes : List ℕ) (place : ℕ) : Type 0 where
   pub line : ends_from bol before ≡ true
   pub ends : place ≡ length before + 4
 
+-- where the test says so, a closing line ends
 closes_found : (bol : Bool) (bytes : List ℕ) (place : ℕ) → closes bol bytes place ≡ true → Found bol bytes place
 closes_found bol [] place h = absurd (false≢true h)
 closes_found bol (b ∷ bs) zero h = absurd (false≢true h)
@@ -79,10 +83,12 @@ abbrev pub dotless : Bool → List ℕ → Bool
 dotless bol [] = true
 dotless bol (b ∷ bs) = not (bol && (b == 46)) && dotless (b == 10) bs
 
+-- where no dot starts a line, no closing line does
 no_dots : (bol : Bool) (b : ℕ) (bs : List ℕ) (last : Bool) → not (bol && (b == 46)) ≡ true → bol && begins (codes "...\n") (b ∷ bs) && last ≡ false
 no_dots true b bs last h = let e : b == 46 ≡ false = not-true _ h in rw e
 no_dots false b bs last h = refl
 
+-- bytes of which no line starts with a dot don't close, and what comes after them closes as it does alone
 closes_past : (bol : Bool) (prefix after : List ℕ) (place : ℕ) → dotless bol prefix ≡ true → closes bol (prefix ++ after) (length prefix + place) ≡ closes (ends_from bol prefix) after place
 closes_past bol [] after place h = ap (closes bol after) (omega arith)
 closes_past bol (b ∷ bs) after place h =
@@ -103,6 +109,7 @@ closes_after bol (b ∷ bs) after (suc place) h c =
 
 -- ---- a closing line and what comes after it
 
+-- after a closing line the next closing is one of what comes after it
 line_closes : (after : List ℕ) (place : ℕ) → closes true (codes "...\n" ++ after) place ≡ true
     → (place ≡ 4) ⊎ ((q : ℕ) × (place ≡ 4 + q) × (closes true after q ≡ true))
 line_closes after zero h = absurd (false≢true h)
@@ -114,6 +121,7 @@ line_closes after (suc (suc (suc (suc q)))) h = elim (or_cases (suc (suc (suc q)
   | inr c ↦ inr (q, omega arith, c)
 ]
 
+-- and each closing of that is one of the whole
 line_closes_more : (after : List ℕ) (q : ℕ) → closes true after q ≡ true → closes true (codes "...\n" ++ after) (4 + q) ≡ true
 line_closes_more after q h = let four : 4 + q ≡ suc (suc (suc (suc q))) = omega arith in rw four (or_right _ _ h)
 
@@ -126,6 +134,7 @@ pub record Piece (bytes : List ℕ) : Type 0 where
   pub dotless : dotless true body ≡ true
   pub line : ends_from true body ≡ true
 
+-- a piece is its body and a closing line
 regrouped : (piece after : List ℕ) (p : Piece piece) → piece ++ after ≡ p.body ++ (codes "...\n" ++ after)
 regrouped piece after p = ap (λ t. t ++ after) p.is ∙ append_assoc p.body (codes "...\n") after
 
@@ -191,6 +200,7 @@ closes_before_padding bol (b ∷ bs) tail padding (suc place) h = elim (or_cases
       (omega (arith, more.0), or_right _ _ more.1))
 ]
 
+-- whether a text begins with a word is decided within the first bytes
 begins_within : (ws prefix tail other : List ℕ) → length ws ≤ length prefix → begins ws (prefix ++ tail) ≡ true → begins ws (prefix ++ other) ≡ true
 begins_within [] prefix tail other l h = refl
 begins_within (w ∷ ws) [] tail other l h = absurd (omega (arith, l))
@@ -214,6 +224,7 @@ closes_within bol (b ∷ bs) tail other (suc place) l h = elim (or_cases _ _ h) 
 
 -- ---- from the start of a line on
 
+-- a dot is no line feed
 no_feed_dot : (b : ℕ) → b == 46 ≡ true → b == 10 ≡ true → ⊥
 no_feed_dot b d f = let dot : b ≡ 46 = eqb-true b 46 d in let feed : b ≡ 10 = eqb-true b 10 f in omega (arith, dot, feed)
 

@@ -23,12 +23,15 @@ record High (bytes : List ℕ) : Type 0 where
   is : bytes ≡ prefix ∷ more
   high : list_all (nat_le 128) (prefix ∷ more) ≡ true
 
+-- a first byte from 128 on, before others that are so
 high_lead : (low b : ℕ) (bs : List ℕ) → 128 ≤ low → list_all (nat_le 128) bs ≡ true → High ((low + b) ∷ bs)
 high_lead low b bs l h = record { prefix = low + b; more = bs; is = refl; high = and_from _ _ (le-leb 128 (low + b) (omega arith)) h }
 
+-- one more byte from 128 on
 followers : (b : ℕ) (bs : List ℕ) → list_all (nat_le 128) bs ≡ true → list_all (nat_le 128) ((128 + b) ∷ bs) ≡ true
 followers b bs h = and_from _ _ (le-leb 128 (128 + b) (omega arith)) h
 
+-- all bytes of an encoding in two, three or four bytes are from 128 on
 encode_cases : (x y z : Bool) (bytes : List ℕ) (a b d e f g k l m : ℕ) → (x ≡ true → ⊥)
     → High (cond x bytes (cond y ((192 + a) ∷ (128 + b) ∷ []) (cond z ((224 + d) ∷ (128 + e) ∷ (128 + f) ∷ []) ((240 + g) ∷ (128 + k) ∷ (128 + l) ∷ (128 + m) ∷ []))))
 encode_cases true y z bytes a b d e f g k l m n = absurd (n refl)
@@ -37,6 +40,7 @@ encode_cases false false true bytes a b d e f g k l m n = high_lead 224 d ((128 
 encode_cases false false false bytes a b d e f g k l m n =
     high_lead 240 g ((128 + k) ∷ (128 + l) ∷ (128 + m) ∷ []) (omega arith) (followers k ((128 + l) ∷ (128 + m) ∷ []) (followers l ((128 + m) ∷ []) (followers m [] refl)))
 
+-- all bytes of a character from 128 on are so
 encode_high : (c : ℕ) → 128 ≤ c → High (encode c)
 unfolding encode
 encode_high c h =
@@ -65,6 +69,7 @@ high_lined bol b bs rest h =
         let more : (dotless false (ds ++ rest) ≡ dotless false rest) × (ends_from false (ds ++ rest) ≡ ends_from false rest) = on ds p.1 in
         (ap (λ x. dotless x (ds ++ rest)) feed ∙ more.0, ap (λ x. ends_from x (ds ++ rest)) feed ∙ more.1)
 
+-- for dots and line feeds, a character's bytes are as the character
 char_same : (bol : Bool) (c : ℕ) (rest : List ℕ) → (dotless bol (encode c ++ rest) ≡ dotless bol (c ∷ rest)) × (ends_from bol (encode c ++ rest) ≡ ends_from bol (c ∷ rest))
 char_same bol c rest = elim (cases_lt c 128) [
   | inl l ↦ (ap (λ t. dotless bol (t ++ rest)) (encode_ascii c l), ap (λ t. ends_from bol (t ++ rest)) (encode_ascii c l))
@@ -77,6 +82,7 @@ char_same bol c rest = elim (cases_lt c 128) [
       ))
 ]
 
+-- and the bytes of a text as the text
 encoded_same : (bol : Bool) (cs : List ℕ) → (dotless bol (encode_utf8_all cs) ≡ dotless bol cs) × (ends_from bol (encode_utf8_all cs) ≡ ends_from bol cs)
 encoded_same bol [] = (refl, refl)
 encoded_same bol (c ∷ cs) =
@@ -86,6 +92,7 @@ encoded_same bol (c ∷ cs) =
 
 -- ---- one text
 
+-- the bytes of a closing line are its characters
 dots_encoded : encode_utf8_all (codes "...\n") ≡ codes "...\n"
 unfolding encode
 dots_encoded = refl
@@ -125,6 +132,7 @@ record Ends (ts : List Tree) (place : ℕ) : Type 0 where
   all : ts ≡ before ++ (one ∷ after)
   ends : place ≡ length (all_framed_bytes (before ++ (one ∷ [])))
 
+-- texts in a row close only where one of them ends
 all_close : (ts : List Tree) (place : ℕ) → closes true (all_framed_bytes ts) place ≡ true → Ends ts place
 all_close [] place h = absurd (false≢true h)
 all_close (t ∷ ts) place h = elim (piece_closes (framed_text_bytes t) (all_framed_bytes ts) place (framed_piece t) h) [
@@ -139,6 +147,7 @@ all_close (t ∷ ts) place h = elim (piece_closes (framed_text_bytes t) (all_fra
       })
 ]
 
+-- and they close where each one ends
 end_closes : (before : List Tree) (one : Tree) (after : List Tree) → closes true (all_framed_bytes (before ++ (one ∷ after))) (length (all_framed_bytes (before ++ (one ∷ [])))) ≡ true
 end_closes [] one after = ap (λ s. closes true (framed_text_bytes one ++ all_framed_bytes after) (length s)) (append-nil (framed_text_bytes one)) ∙ piece_closes_end (framed_text_bytes one) (all_framed_bytes after) (framed_piece one)
 end_closes (t ∷ before) one after =

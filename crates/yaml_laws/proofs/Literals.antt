@@ -14,10 +14,12 @@ abbrev feeds_after : ℕ → List ℕ → ℕ
 feeds_after n [] = n
 feeds_after n (c ∷ cs) = if c == 10 then feeds_after (suc n) cs else feeds_after 0 cs
 
+-- of line feeds alone, all are at the end
 all_feeds : (cs : List ℕ) → list_all (λ d. d == 10) cs ≡ true → feeds_at_end cs ≡ length cs
 all_feeds [] e = refl
 all_feeds (c ∷ cs) e = cond-true _ _ _ e
 
+-- a count from n on gives n more, if there is nothing but line feeds
 feeds_counted : (n : ℕ) (cs : List ℕ) → feeds_after n cs ≡ cond (list_all (λ d. d == 10) cs) (n + length cs) (feeds_at_end cs)
 feeds_counted n [] = omega arith
 feeds_counted n (c ∷ cs) = elim (cases_Bool (c == 10)) [
@@ -33,6 +35,7 @@ feeds_counted n (c ∷ cs) = elim (cases_Bool (c == 10)) [
     other true e = omega (arith, all_feeds cs e)
     other false e = refl
 
+-- counted from none on, these are the line feeds at the end
 feeds_are : (cs : List ℕ) → feeds_after 0 cs ≡ feeds_at_end cs
 feeds_are cs = feeds_counted 0 cs ∙ by (list_all (λ d. d == 10) cs) refl
   where
@@ -42,6 +45,7 @@ feeds_are cs = feeds_counted 0 cs ∙ by (list_all (λ d. d == 10) cs) refl
 
 -- ---- the value from the first line on
 
+-- a character more at the start of a line is one more at the start of the value
 held_first : (ch : Chomping) (c : ℕ) (held : List ℕ) (empties : ℕ) (more : List TextLine)
     → text_value false ch (line_with (c ∷ held) empties) more ≡ c ∷ text_value false ch (line_with held empties) more
 held_first strip c held empties [] = refl
@@ -49,12 +53,14 @@ held_first clip c held empties [] = refl
 held_first keep c held empties [] = refl
 held_first ch c held empties (l ∷ ls) = refl
 
+-- the line feeds after the last line are those at the end of the value
 last_feeds : (n empties : ℕ) → empties ≡ n + 0 → text_value false (chomping_of (suc n)) (line_with [] empties) [] ≡ replicate (suc n) 10 ++ []
 last_feeds zero empties e = refl
 last_feeds (suc n) empties e =
     let long : length (bare_gaps empties) ≡ suc n = length-replicate empties _ ∙ omega (arith, e) in
     rw long (sym (append-nil (replicate (suc (suc n)) 10)))
 
+-- a line feed after line feeds may as well come before them
 feed_moved : (n : ℕ) (cs : List ℕ) → replicate n 10 ++ (10 ∷ cs) ≡ 10 ∷ (replicate n 10 ++ cs)
 feed_moved zero cs = refl
 feed_moved (suc n) cs = ap (λ t. 10 ∷ t) (feed_moved n cs)

@@ -25,6 +25,7 @@ no_longer one other after rest c d e l =
     let within : closes true other (length one) ≡ true = ap (λ s. closes true s (length one)) (sym (append-nil other)) ∙ closes_within true other rest [] (length one) l here in
     d.once (length one) (closes_at other (length one) within)
 
+-- prefixes of one length of one list are the same
 same_prefix : (one other after rest : List ℕ) → length one ≡ length other → one ++ after ≡ other ++ rest → (one ≡ other) × (after ≡ rest)
 same_prefix [] [] after rest l e = (refl, e)
 same_prefix [] (d ∷ ds) after rest l e = absurd (omega (arith, l))
@@ -35,16 +36,19 @@ same_prefix (c ∷ cs) (d ∷ ds) after rest l e =
     let more : (cs ≡ ds) × (after ≡ rest) = same_prefix cs ds after rest (omega (arith, l)) tail in
     (cc (same, more.0), more.1)
 
+-- two pieces at the start of the same bytes are the same
 same_pieces : (one other after rest : List ℕ) → ClosesOnce one → ClosesOnce other → one ++ after ≡ other ++ rest → (one ≡ other) × (after ≡ rest)
 same_pieces one other after rest c d e = elim (cases_lt (length one) (length other)) [
   | inl l ↦ same_prefix one other after rest (no_longer one other after rest c d e (omega (arith, l))) e
   | inr l ↦ same_prefix one other after rest (sym (no_longer other one rest after d c (sym e) l)) e
 ]
 
+-- a rest that doesn't close begins with no piece
 unclosed_prefix : (piece after rest : List ℕ) → ClosesOnce piece → ((place : ℕ) → ClosesAt rest place → ⊥) → rest ≡ piece ++ after → ⊥
 unclosed_prefix piece after rest c open_end e =
     open_end (length piece) (closes_at rest (length piece) (ap (λ s. closes true s (length piece)) e ∙ closed_prefix piece after c))
 
+-- two lists of pieces of the same bytes are the same, with their rests
 joined_alike : (ps qs : List (List ℕ)) (rest other : List ℕ) → All ClosesOnce ps → All ClosesOnce qs → ((place : ℕ) → ClosesAt rest place → ⊥) → ((place : ℕ) → ClosesAt other place → ⊥)
     → concat ps ++ rest ≡ concat qs ++ other → (ps ≡ qs) × (rest ≡ other)
 joined_alike [] [] rest other h k f g e = (refl, e)
@@ -62,6 +66,7 @@ one_list bytes ps qs rest other a b = joined_alike ps qs rest other a.closed b.c
 
 -- ---- torn texts
 
+-- zeros don't close
 padding_unclosed : (padding place : ℕ) → ClosesAt (replicate padding 0) place → ⊥
 padding_unclosed padding place c = false≢true (sym (padding_closed true padding place) ∙ closes_from (replicate padding 0) place c)
 

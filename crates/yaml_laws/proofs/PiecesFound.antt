@@ -44,6 +44,7 @@ record First (bytes : List ℕ) (k : ℕ) : Type 0 where
   ends : closes true bytes place ≡ true
   first : (q : ℕ) → q < place → closes true bytes q ≡ false
 
+-- there is a first closing below k, or none
 first_below : (bytes : List ℕ) (k : ℕ) → First bytes k ⊎ ((q : ℕ) → q < k → closes true bytes q ≡ false)
 first_below bytes zero = inr (λ q l. absurd (omega (arith, l)))
 first_below bytes (suc k) = elim (first_below bytes k) [
@@ -71,6 +72,7 @@ first_piece bytes place at first =
       | inr high ↦ omega (arith, high, counted)
     ])
 
+-- bytes are cut into pieces and a rest
 cut_in_pieces : (fuel : ℕ) (bytes : List ℕ) → length bytes < fuel → (pieces : List (List ℕ)) × (rest : List ℕ) × Pieces bytes pieces rest
 cut_in_pieces zero bytes l = absurd (omega (arith, l))
 cut_in_pieces (suc fuel) bytes l = elim (first_below bytes (suc (length bytes))) [

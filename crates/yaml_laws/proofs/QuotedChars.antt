@@ -14,6 +14,7 @@ Quotes c i = (quoted_char_fits i ≡ true) × (quoted_char_value i ≡ c)
 
 -- ---- a character that means itself
 
+-- a shown character is written as itself
 itself : (c : ℕ) → code_point c ≡ true → (c == 34) || (c == 92) ≡ false → shown c ≡ true → Quotes c (raw c)
 itself c t n h =
     let one_line : nb_json c ≡ true = or_right (c == 9) _ (to_range 0x20 0x10ffff c (shown_low c h) (code_point_high c t)) in
@@ -22,18 +23,22 @@ itself c t n h =
 
 -- ---- escapes
 
+-- a quote or a backslash is written after a backslash
 escaped : (c : ℕ) → (c == 34) || (c == 92) ≡ true → Quotes c (escape c)
 escaped c h = elim (or_cases _ _ h) [
   | inl e ↦ subst (λ x. Quotes x (escape x)) (sym (eqb-true c 34 e)) (refl, refl)
   | inr e ↦ subst (λ x. Quotes x (escape x)) (sym (eqb-true c 92 e)) (refl, refl)
 ]
 
+-- the character has a short escape that is no quote and no backslash
 abbrev has_letter : ℕ → Bool
 has_letter c = (c == 0) || in_range 7 13 c || (c == 27)
 
+-- its letter means it
 abbrev letter_right : ℕ → Bool
 letter_right c = not (has_letter c) || (quoted_char_fits (escape (letter_escape c)) && (escaped_char (letter_escape c) == c))
 
+-- such a character is below 28
 has_letter_low : (c : ℕ) → has_letter c ≡ true → c < 28
 has_letter_low c h = elim (or_cases ((c == 0) || in_range 7 13 c) (c == 27) h) [
   | inl a ↦ elim (or_cases (c == 0) (in_range 7 13 c) a) [
@@ -43,6 +48,7 @@ has_letter_low c h = elim (or_cases ((c == 0) || in_range 7 13 c) (c == 27) h) [
   | inr e ↦ (let q : c ≡ 27 = eqb-true c 27 e in omega (arith, q))
 ]
 
+-- such a character is written by its letter
 lettered : (c : ℕ) → has_letter c ≡ true → Quotes c (escape (letter_escape c))
 lettered c h =
     let right : letter_right c ≡ true = agree_below_at letter_right (λ x. true) 28 c refl (has_letter_low c h) in
@@ -51,9 +57,11 @@ lettered c h =
 
 -- ---- numbers
 
+-- two digits mean the character
 abbrev short_right : ℕ → Bool
 short_right c = quoted_char_fits (number 120 (hex (c / 16) ∷ hex (c % 16) ∷ [])) && (hex_value 0 (hex (c / 16) ∷ hex (c % 16) ∷ []) == c)
 
+-- a character up to 0xff is written by two digits
 short_number : (c : ℕ) → nat_le c 0xff ≡ true → Quotes c (number 120 (hex (c / 16) ∷ hex (c % 16) ∷ []))
 short_number c h =
     let low : c < 256 = (let q : c ≤ 255 = leb-true c 255 h in omega (arith, q)) in
@@ -61,14 +69,17 @@ short_number c h =
     and_parts _ _ (agree_below_at short_right (λ x. true) 256 c refl low) in
     (p.0, eqb-true _ c p.1)
 
+-- the digit means the number
 abbrev digit_right : ℕ → Bool
 digit_right d = hex_digit (hex d) && (digit_of (hex d) == d)
 
+-- the digit of a number below 16 means it
 digit : (d : ℕ) → d < 16 → (hex_digit (hex d) ≡ true) × (digit_of (hex d) ≡ d)
 digit d h =
     let p : (hex_digit (hex d) ≡ true) × (digit_of (hex d) == d ≡ true) = and_parts _ _ (agree_below_at digit_right (λ x. true) 16 d refl h) in
     (p.0, eqb-true _ d p.1)
 
+-- a character below 0x10000 is written by four digits
 long_number : (c : ℕ) → code_point c ≡ true → c < 0x10000
     → Quotes c (number 117 (hex (c / 4096) ∷ hex (c / 256 % 16) ∷ hex (c / 16 % 16) ∷ hex (c % 16) ∷ []))
 long_number c t h =
@@ -79,6 +90,7 @@ long_number c t h =
     let value : hex_value 0 (hex (c / 4096) ∷ hex (c / 256 % 16) ∷ hex (c / 16 % 16) ∷ hex (c % 16) ∷ []) ≡ c = omega (arith, a.1, b.1, d.1, e.1) in
     (and_from _ _ (and_from _ _ refl (and_from _ _ a.0 (and_from _ _ b.0 (and_from _ _ d.0 (and_from _ _ e.0 refl))))) (ap code_point value ∙ t), value)
 
+-- a greater number is another one
 above : (k c : ℕ) → k < c → c == k ≡ false
 above k c h = ne_eqb c k (λ e. omega (arith, e))
 
@@ -90,6 +102,7 @@ shown_above c t h =
     or_from _ _ (above 0x2028 c (omega arith)) (or_from _ _ (above 0x2029 c (omega arith)) (or_from _ _ (above 0xfeff c (omega arith)) refl)) in
     or_right _ _ (and_from _ _ (and_from _ _ (le-leb 0xa0 c (omega arith)) plain) (not_from_false _ other))
 
+-- a character that isn't shown is below 0x10000
 unshown_low : (c : ℕ) → code_point c ≡ true → shown c ≡ false → c < 0x10000
 unshown_low c t s = elim (cases_lt c 0x10000) [
   | inl h ↦ h

@@ -25,9 +25,11 @@ in_word x = ns x && not (is_in x (codes ":#")) && not (white x)
 abbrev starts_word : ℕ → Bool
 starts_word x = ns x && not (indicator x) && not (white x) && not (x == 46) && not (x == 45)
 
+-- a character of a word is one of a plain scalar
 word_tells : (x : ℕ) → word_char x ≡ true → in_word x ≡ true
 word_tells x h = of_word in_word x refl h
 
+-- a letter may start a plain scalar
 letter_tells : (x : ℕ) → letter x ≡ true → starts_word x ≡ true
 letter_tells x h = of_letter starts_word x refl h
 
@@ -35,6 +37,7 @@ letter_tells x h = of_letter starts_word x refl h
 abbrev pub Wide : FlowContext → Type 0
 Wide c = (x : ℕ) → safe c x ≡ ns x
 
+-- the rest of a word fits as a run of a plain scalar
 run_fits : (c : FlowContext) (prev : ℕ) (xs after : List ℕ) → Wide c → white prev ≡ false → list_all word_char xs ≡ true → plain_run c prev xs after ≡ true
 run_fits c prev [] after w p h = not_from_false _ p
 run_fits c prev (x ∷ xs) after w p h =
@@ -53,6 +56,7 @@ pub no_marker_there : (bol : Bool) (text : List ℕ) → marker text ≡ false �
 no_marker_there true text h = rw h
 no_marker_there false text h = refl
 
+-- a word fits as a plain scalar
 word_fits : (value : List ℕ) (n : ℕ) (c : FlowContext) (bol : Bool) (after : List ℕ) → Wide c → plain_in_style value ≡ true → flow_fits (scalar (plain value [])) n c bol after ≡ true
 word_fits [] n c bol after w h = absurd (false≢true h)
 word_fits (x ∷ xs) n c bol after w h =
@@ -69,12 +73,14 @@ word_fits (x ∷ xs) n c bol after w h =
 
 -- ---- between double quotes
 
+-- each character of a text may stand between double quotes as it is written
 items_fit_quotes : (value : List ℕ) → IsText value → list_all quoted_char_fits (items_of_text value) ≡ true
 items_fit_quotes [] t = refl
 items_fit_quotes (c ∷ cs) t =
     let p : (code_point c ≡ true) × (list_all code_point cs ≡ true) = and_parts _ _ t in
     and_from _ _ (item_quotes c p.0).0 (items_fit_quotes cs p.1)
 
+-- a text between double quotes fits
 quoted_fits : (value : List ℕ) (n : ℕ) (c : FlowContext) (bol : Bool) (after : List ℕ) → IsText value → flow_fits (scalar (double (items_of_text value) [])) n c bol after ≡ true
 quoted_fits value n c bol after t = and_from _ _ (and_from _ _ (items_fit_quotes value t) refl) refl
 
@@ -98,10 +104,12 @@ ended i after b =
     or_from _ _ (or_from _ _ (le-ltb (i + 2) (spaces_before after) (omega (arith, b.0))) (and_right _ _ b.1))
     (and_left _ _ (and_left _ _ (ne_eqb (spaces_before after) (i + 2) (λ e. omega (arith, b.0, e)))))
 
+-- empty lines without spaces fit
 bare_gaps_fit : (q n : ℕ) (after : List ℕ) → gaps_fit q (bare_gaps n) after ≡ true
 bare_gaps_fit q zero after = refl
 bare_gaps_fit q (suc n) after = and_from _ _ (and_from _ _ (le-leb 0 q (omega arith)) refl) (bare_gaps_fit q n after)
 
+-- a character of a literal that is no line feed may be in a line
 shown_nb : (c : ℕ) → c == 10 ≡ false → shown_or_feed c ≡ true → nb c ≡ true
 shown_nb c f h = elim (or_cases (shown c) (c == 10) h) [
   | inl s ↦ elim (or_cases (in_range 0x20 0x7e c) (nat_le 0xa0 c && printable c && not (is_in c (0x2028 ∷ 0x2029 ∷ 0xfeff ∷ []))) s) [
@@ -119,6 +127,7 @@ shown_nb c f h = elim (or_cases (shown c) (c == 10) h) [
   | inr e ↦ absurd (false≢true (sym f ∙ e))
 ]
 
+-- the characters of a line of a literal may be in a line
 held_nb : (cs : List ℕ) → list_all shown_or_feed cs ≡ true → list_all nb (held_by cs) ≡ true
 held_nb [] h = refl
 held_nb (c ∷ cs) h =
@@ -128,11 +137,13 @@ held_nb (c ∷ cs) h =
       | inr e ↦ rw e (and_from _ _ (shown_nb c e p.0) (held_nb cs p.1))
     ]
 
+-- a line of a literal fits
 line_fits : (q c empties : ℕ) (held after : List ℕ) → nb c ≡ true → list_all nb held ≡ true → text_line_fits (suc q) (line_with (c ∷ held) empties) after ≡ true
 line_fits q c empties held after h k =
     let tail : List ℕ = spaces q ++ (c ∷ held) ++ codes "\n" ++ gaps_text (bare_gaps empties) ++ after in
     and_from _ _ (and_from _ _ (and_from _ _ (and_from _ _ refl (and_from _ _ h k)) (no_marker_there true (32 ∷ tail) (unmarked 32 tail refl refl))) refl) (bare_gaps_fit (suc q) empties after)
 
+-- the lines of a literal fit
 lines_fit : (q : ℕ) (fresh : Bool) (cs after : List ℕ) → list_all shown_or_feed cs ≡ true → text_lines_fit (suc q) (lines_in fresh cs) after ≡ true
 lines_fit q fresh [] after h = refl
 lines_fit q fresh (c ∷ cs) after h =
@@ -144,6 +155,7 @@ lines_fit q fresh (c ∷ cs) after h =
           (λ f. lines_fit q false cs after p.1))
     ]
 
+-- a literal fits
 literal_fits : (i m : ℕ) (value after : List ℕ) → m ≤ i + 2 → literal_in_style value ≡ true → Below i after → block_fits m (literal_block (i + 2) value) after ≡ true
 literal_fits i m [] after l h b = absurd (false≢true h)
 literal_fits i m (c ∷ cs) after l h b =

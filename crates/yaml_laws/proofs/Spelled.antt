@@ -19,6 +19,7 @@ use Rattle.yaml_laws.proofs.Presented.{feed, one_space, item_of, items_of_text, 
 
 -- ---- scalars on one line
 
+-- the text of a character that is chosen by tests is chosen by the same tests
 item_cases : (a b c d : Bool) (x e : ℕ) (short long : List ℕ)
     → quoted_char_text (cond a (escape x) (cond b (raw x) (cond c (escape e) (cond d (number 120 short) (number 117 long)))))
     ≡ cond a (92 ∷ x ∷ []) (cond b (x ∷ []) (cond c (92 ∷ e ∷ []) (cond d (92 ∷ 120 ∷ short) (92 ∷ 117 ∷ long))))
@@ -28,22 +29,27 @@ item_cases false false true d x e short long = refl
 item_cases false false false true x e short long = refl
 item_cases false false false false x e short long = refl
 
+-- a character between double quotes is spelled as the one style writes it
 item_spelled : (c : ℕ) → quoted_char_text (item_of c) ≡ quoted_char c
 item_spelled c =
     item_cases ((c == 34) || (c == 92)) (shown c) ((c == 0) || in_range 7 13 c || (c == 27)) (nat_le c 0xff) c (letter_escape c)
     (hex (c / 16) ∷ hex (c % 16) ∷ []) (hex (c / 4096) ∷ hex (c / 256 % 16) ∷ hex (c / 16 % 16) ∷ hex (c % 16) ∷ [])
 
+-- and so are the characters of a text
 items_spelled : (value : List ℕ) → flat_map quoted_char_text (items_of_text value) ≡ quoted_chars value
 items_spelled [] = refl
 items_spelled (c ∷ cs) = rw (item_spelled c, items_spelled cs)
 
+-- plain characters spell themselves
 plain_spelled : (value : List ℕ) → flat_map plain_text value ≡ value
 plain_spelled [] = refl
 plain_spelled (c ∷ cs) = ap (λ t. c ∷ t) (plain_spelled cs)
 
+-- a plain scalar on one line spells itself
 word_spelled : (value : List ℕ) → scalar_text (plain value []) ≡ value
 word_spelled value = append-nil _ ∙ plain_spelled value
 
+-- a text between double quotes is spelled as the one style writes it
 quoted_spelled : (value : List ℕ) → scalar_text (double (items_of_text value) []) ≡ 34 ∷ (quoted_chars value ++ (34 ∷ []))
 quoted_spelled value = ap (λ t. 34 ∷ (t ++ (34 ∷ []))) (append-nil _ ∙ items_spelled value)
 
@@ -76,15 +82,18 @@ mutual
 
 -- ---- values
 
+-- the header of a literal is spelled as the one style writes it
 mark_spelled : (n : ℕ) (rest : List ℕ) → (124 ∷ (chomping_text (chomping_of n) ++ (10 ∷ []))) ++ rest ≡ (literal_mark n ++ (10 ∷ [])) ++ rest
 mark_spelled zero rest = refl
 mark_spelled (suc zero) rest = refl
 mark_spelled (suc (suc n)) rest = refl
 
+-- a literal has no empty line before its first text line
 no_empties : (value : List ℕ) → first space_or_feed value ≡ false → empties_in true value ≡ 0
 no_empties [] h = refl
 no_empties (c ∷ cs) h = let e : (c == 10) ≡ false = (or_parts (c == 32) (c == 10) h).1 in rw e
 
+-- a literal is spelled as the one style writes it
 literal_spelled : (j : ℕ) (value : List ℕ) → literal_in_style value ≡ true
     → block_text (literal_block j value) ≡ (literal_mark (feeds_at_end value) ++ (10 ∷ [])) ++ literal_lines j true value
 literal_spelled j value h =
@@ -93,6 +102,7 @@ literal_spelled j value h =
     let lines : text_lines_text j (lines_in true value) ≡ literal_lines j true value = (rw none at (fresh_spelled j value)) in
     append-nil _ ∙ (mark_spelled (feeds_at_end value) (text_lines_text j (lines_in true value)) ∙ ap (λ t. (literal_mark (feeds_at_end value) ++ (10 ∷ [])) ++ t) lines)
 
+-- a scalar is spelled as the one style writes it
 scalar_spelled : (sep : Sep) (j : ℕ) (value : List ℕ) → node_text (scalar_node sep j value) ≡ sep_text sep ++ scalar_lines j value
 scalar_spelled sep j value = by (plain_in_style value) (literal_in_style value) refl
   where
@@ -128,9 +138,11 @@ item_regrouped s e b = append_assoc (s ++ codes "- ") e b ∙ append_assoc s (co
 pub pair_regrouped : (s k v b : List ℕ) → ((s ++ k) ++ v) ++ b ≡ s ++ ((k ++ v) ++ b)
 pair_regrouped s k v b = ap (λ t. t ++ b) (append_assoc s k v) ∙ append_assoc s (k ++ v) b
 
+-- an item and those after it, regrouped
 item_joined : (a s e b : List ℕ) → (a ++ s) ++ (codes "- " ++ e ++ b) ≡ a ++ (((s ++ codes "- ") ++ e) ++ b)
 item_joined a s e b = append_assoc a s (codes "- " ++ e ++ b) ∙ ap (λ t. a ++ t) (sym (item_regrouped s e b))
 
+-- a pair and those after it, regrouped
 pair_joined : (a s k v b : List ℕ) → (a ++ s) ++ ((k ++ v) ++ b) ≡ a ++ (((s ++ k) ++ v) ++ b)
 pair_joined a s k v b = append_assoc a s ((k ++ v) ++ b) ∙ ap (λ t. a ++ t) (sym (pair_regrouped s k v b))
 
@@ -144,6 +156,7 @@ mutual
   element_spelled (mapping (member key t ms)) i =
       rw (two_more i, members_spelled (pair_of key (value_of t (i + 2))) ms (i + 2), pair_spelled key (value_of t (i + 2)) (i + 2), value_spelled t (i + 2))
 
+  -- a value is spelled as the one style writes it after the `:` of its key
   value_spelled : (t : Tree) (i : ℕ) → node_text (value_of t i) ≡ value_at t i
   value_spelled (text value) i = scalar_spelled one_space (i + 2) value
   value_spelled (sequence no_element) i = refl
@@ -152,10 +165,12 @@ mutual
   value_spelled (mapping (member key t ms)) i =
       rw (members_spelled (pair_of key (value_of t (i + 2))) ms (i + 2), pair_spelled key (value_of t (i + 2)) (i + 2), value_spelled t (i + 2))
 
+  -- a first element and further ones are spelled as the one style writes them
   elements_spelled : (one : Indented) (ts : Elements) (i : ℕ) → items_text (items_from one ts i) i ≡ 45 ∷ (indented_text one i ++ elements_after ts i)
   elements_spelled one no_element i = ap (λ x. 45 ∷ x) (sym (append-nil _))
   elements_spelled one (element t ts) i = rw (elements_spelled (element_of t i) ts i, element_spelled t i) (ap (λ x. 45 ∷ x) (item_joined (indented_text one i) (spaces i) (element_at t i) (elements_after ts i)))
 
+  -- a first member and further ones are spelled as the one style writes them
   members_spelled : (one : Pair) (ms : Members) (i : ℕ) → pairs_text (pairs_from one ms i) i ≡ pair_text one i ++ members_after ms i
   members_spelled one no_member i = sym (append-nil _)
   members_spelled one (member key t ms) i =

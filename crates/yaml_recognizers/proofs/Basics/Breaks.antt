@@ -8,6 +8,7 @@ use Rattle.yaml_grammar.specs.Texts.{begins, first}
 use Rattle.yaml_recognizers.specs.Comments.{read_break, read_cr}
 use Rattle.yaml_recognizers.proofs.Basics.Reading.{Sound}
 
+-- what doesn't begin with a line feed has another first character
 no_feed : (d : ℕ) (ds : List ℕ) → not (begins (10 ∷ []) (d ∷ ds)) ≡ true → d == 10 ≡ false
 no_feed d ds h = split (d == 10) h
   where

@@ -102,6 +102,7 @@ marker_first c [] e f = refl
 marker_first c (b ∷ []) e f = refl
 marker_first c (b ∷ (d ∷ rest)) e f = rw (e, f)
 
+-- a dash before no ns starts no marker
 marker_dash : (cs : List ℕ) → first ns cs ≡ false → marker (45 ∷ cs) ≡ false
 marker_dash [] h = refl
 marker_dash (b ∷ []) h = refl

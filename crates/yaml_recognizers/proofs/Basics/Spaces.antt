@@ -62,6 +62,7 @@ nb_unbroken c h = (or_parts (line_break c) (c == 0xfeff) (not-true _ (and_parts 
 
 -- ---- markers
 
+-- a first character that is no space has no spaces before it
 marker_dash : (a : ℕ) (b : Bool) (d : ℕ) (cs : List ℕ) → d == 32 ≡ false → (a == d) && b ≡ true → spaces_before (a ∷ cs) ≡ 0
 marker_dash a b d cs n h = let i : a ≡ d = eqb-true a d (and_parts (a == d) b h).0 in (no_space (a ∷ cs) (subst (λ (x : ℕ). x == 32 ≡ false) (sym i) n)).0
 
@@ -155,6 +156,7 @@ pub record TextAt (q : ℕ) (text : List ℕ) : Type 0 where
   pub filled : first nb (drop q text) ≡ true
   pub unmarked : no_marker true text ≡ true
 
+-- a line that starts with a space starts with a character that a text line may have
 space_filled : (line : List ℕ) → 0 < spaces_before line → first nb line ≡ true
 space_filled [] h = absurd (omega arith)
 space_filled (c ∷ cs) h = elim (cases_Bool (c == 32)) [

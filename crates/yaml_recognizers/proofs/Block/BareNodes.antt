@@ -21,10 +21,12 @@ use Rattle.yaml_recognizers.proofs.Basics.LineStarts.{byte_len_joined, comments_
 
 -- ---- the parts
 
+-- the comments of a separation
 abbrev sep_comments : Sep → List LineEnd
 sep_comments (inline blank) = []
 sep_comments (lines comments lead) = comments
 
+-- what comes after them
 abbrev sep_lead : Sep → List ℕ
 sep_lead (inline blank) = blank
 sep_lead (lines comments lead) = lead
@@ -45,6 +47,7 @@ unled (pairs comments k ps) = pairs [] k ps
 
 -- ---- text and meaning
 
+-- a separation is its comments and what comes after them
 sep_parted : (sep : Sep) → sep_text sep ≡ comments_text (sep_comments sep) ++ sep_lead sep
 sep_parted (inline blank) = refl
 sep_parted (lines comments lead) = refl
@@ -56,6 +59,7 @@ parted_text (flow sep f comments) = simp (sep_parted sep, append_assoc)
 parted_text (items comments k is) = simp append_assoc
 parted_text (pairs comments k ps) = simp append_assoc
 
+-- its length is that of both
 sep_length : (sep : Sep) (at : ℕ) → at + byte_len (sep_text sep) ≡ at + byte_len (comments_text (sep_comments sep)) + byte_len (sep_lead sep)
 sep_length sep at = rw (sep_parted sep, byte_len_joined (comments_text (sep_comments sep)) (sep_lead sep)) (sym (add_assoc at _ _))
 
@@ -81,6 +85,7 @@ record PartedSep (n : ℕ) (sep : Sep) (rest : List ℕ) : Type 0 where
   lead : list_all white (sep_lead sep) ≡ true
   bol : starts_line true (sep_text sep) ≡ starts_line true (sep_lead sep)
 
+-- where something solid comes next, a separation is comments and an indentation
 sep_part : (n : ℕ) (sep : Sep) (rest : List ℕ) → sep_fits n false true sep rest ≡ true → first solid rest ≡ true → PartedSep n sep rest
 sep_part n (inline blank) rest h s = record { comments = refl; lead = (and_parts _ _ h).0; bol = refl }
 sep_part n (lines comments lead) rest h s =
@@ -88,15 +93,18 @@ sep_part n (lines comments lead) rest h s =
     let b : starts_line true (comments_text comments) ≡ true = line_not_end _ (lead ++ rest) (comments_start true comments (lead ++ rest) p.0) (append_some lead rest s) in
     record { comments = p.0; lead = (and_parts _ _ p.1).0; bol = starts_joined true (comments_text comments) lead ∙ rw b }
 
+-- items start with something solid
 items_solid : (is : Items) (k : ℕ) (after : List ℕ) → first solid (items_text is k ++ after) ≡ true
 items_solid (item i) k after = refl
 items_solid (item_and i is) k after = refl
 
+-- a key starts with something solid
 key_solid : (key : Flow) (gap : List ℕ) (bol more : Bool) (rest : List ℕ) → flow_fits key 0 block_key bol (gap ++ (58 ∷ rest)) && list_all white gap && short_key key gap && more ≡ true
     → first solid (flow_text key ++ (gap ++ (58 ∷ rest))) ≡ true
 key_solid key gap bol more rest h =
     form_solid key 0 block_key bol (gap ++ (58 ∷ rest)) (flow_form_fits key 0 block_key bol (gap ++ (58 ∷ rest)) (and_parts _ _ (and_parts _ _ (and_parts _ _ h).0).0).0)
 
+-- so does a pair
 pair_solid : (p : Pair) (k : ℕ) (bol : Bool) (after : List ℕ) → pair_fits p k bol after ≡ true → first solid (pair_text p k ++ after) ≡ true
 pair_solid (asked key value) k bol after h = refl
 pair_solid (asked_alone key) k bol after h = refl
@@ -107,6 +115,7 @@ pair_solid (keyed_alone key gap comments) k bol after h =
     let regrouped : pair_text (keyed_alone key gap comments) k ++ after ≡ flow_text key ++ (gap ++ (58 ∷ (comments_text comments ++ after))) = simp append_assoc in
     rw regrouped (key_solid key gap bol _ (comments_text comments ++ after) h)
 
+-- so do pairs
 pairs_solid : (ps : Pairs) (k : ℕ) (bol : Bool) (after : List ℕ) → pairs_fit ps k bol after ≡ true → first solid (pairs_text ps k ++ after) ≡ true
 pairs_solid (pair p) k bol after h = pair_solid p k bol after h
 pairs_solid (pair_and p ps) k bol after h =

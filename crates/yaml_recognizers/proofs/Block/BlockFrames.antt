@@ -17,6 +17,7 @@ use Rattle.yaml_recognizers.specs.Reading.{Read, on}
 use Rattle.yaml_recognizers.specs.Recognizers.{block_indented_at, block_items_at, block_key_in, block_node_at, block_pair_at, block_pairs_at, flow_leaf_at}
 use Rattle.yaml_recognizers.proofs.Meanings.Steps.{indented_steps, items_steps, node_steps, pair_steps, pairs_steps}
 
+-- two steps after what was read are one step of both
 on_on : {A B C : Type 0} (r : Read A) (f : A → List ℕ → Read B) (g : B → List ℕ → Read C) → on (on r f) g ≡ on r (λ a t. on (f a t) g)
 on_on None f g = refl
 on_on (Some r) f g = refl
@@ -45,6 +46,7 @@ items_open sits k done text h =
     ap (close_items sits done) (items_steps k text ∙ rw h refl)
     ∙ on_on {A = Indented} {B = Items} (block_indented_at k false (past text)) (λ i rest. more_items k (λ t. block_items_at k t) i rest) (λ is rest. Some (items_part sits (joined_items done is), rest))
 
+-- an item before the others is one more that is read
 item_goes_on : (sits : Sits) (done : List Indented) (i : Indented) (r : Read Items)
     → close_items sits done (on r (λ is rest. Some (item_and i is, rest))) ≡ close_items sits (done ++ i ∷ []) r
 item_goes_on sits done i None = refl
@@ -69,6 +71,7 @@ item_last sits k done i rest h = ap (close_items sits done) (ends (λ t. block_i
 
 -- ---- pairs
 
+-- pairs are read by their first one
 pairs_open : (sits : Sits) (k : ℕ) (bol : Bool) (done : List Pair) (text : List ℕ)
     → close_pairs sits done (block_pairs_at k bol text) ≡ on (block_pair_at k bol text) (λ p rest. pairs_after sits k done p rest)
 pairs_open sits k bol done text =
@@ -182,13 +185,16 @@ node_after_sign k shallow text h p = indented_steps k shallow text ∙ rw (h, p)
 
 -- ---- a node, as a part
 
+-- a node as what comes after a sign
 abbrev as_part : Read Node → Read Indented
 as_part r = on r (λ n rest. Some (node n, rest))
 
+-- items on further lines are such a part
 items_as_part : (comments : List LineEnd) (k : ℕ) (r : Read Items) → as_part (on r (λ is rest. Some (items comments k is, rest))) ≡ close_items (on_lines comments k) [] r
 items_as_part comments k None = refl
 items_as_part comments k (Some r) = refl
 
+-- and so are pairs
 pairs_as_part : (comments : List LineEnd) (k : ℕ) (r : Read Pairs) → as_part (on r (λ ps rest. Some (pairs comments k ps, rest))) ≡ close_pairs (on_lines comments k) [] r
 pairs_as_part comments k None = refl
 pairs_as_part comments k (Some r) = refl

@@ -26,6 +26,7 @@ use Rattle.yaml_recognizers.proofs.Separation.LineEnds.{comments_parts, no_comme
 use Rattle.yaml_recognizers.proofs.Basics.Reading.{Sound, none_some, some_parts, sound_is, sound_on}
 use Rattle.yaml_recognizers.proofs.Basics.Solid.{head_of}
 
+-- a node that fits at the start of a line fits within one
 start_dropped : (f : Flow) (n : ℕ) (c : FlowContext) (after : List ℕ) → canonical_flow f n c true after ≡ true → canonical_flow f n c false after ≡ true
 start_dropped (scalar (plain prefix more)) n c after h =
     let p : (no_marker true (lines_text plain_text prefix more ++ after) && plain_line c prefix (lines_after plain_kind more after) && plain_lines n c prefix more after ≡ true)
@@ -44,10 +45,12 @@ anywhere f n c false after h = h
 
 -- ---- comments begin with no `:`
 
+-- after a key comes something
 key_gap_some : (gap rest : List ℕ) → is_empty (gap ++ (58 ∷ rest)) ≡ false
 key_gap_some [] rest = refl
 key_gap_some (x ∷ xs) rest = refl
 
+-- no `:` comes after comments on the line of a key
 no_colon_after : (comments : List LineEnd) (after gap rest : List ℕ) → canonical_comments false comments after ≡ true → list_all white gap ≡ true
     → comments_text comments ++ after ≡ gap ++ (58 ∷ rest) → ⊥
 no_colon_after [] after gap rest h w e = false≢true (sym (key_gap_some gap rest) ∙ (ap is_empty (sym e) ∙ (no_comments_parts false after h).0))
@@ -59,6 +62,7 @@ no_colon_after (c ∷ cs) after gap rest h w e =
 
 -- ---- what may come after a flow node in a block
 
+-- before the `:` of a key a scalar ends
 before_colon_stops : (n : ℕ) (c : FlowContext) (after_plain : Bool) (gap rest : List ℕ) → in_flow c ≡ false → list_all white gap ≡ true → first ns rest ≡ false → Stops n c after_plain (gap ++ (58 ∷ rest))
 before_colon_stops n c after_plain gap rest o w h = inr (inl (record { outside = o; gap = gap; rest = rest; is = refl; gap_white = w; apart = h }))
 

@@ -40,6 +40,7 @@ append_some (x ∷ xs) rest h = refl
 
 -- ---- comments
 
+-- there are comments, or the text ends
 some_or_end : (comments : List LineEnd) (after : List ℕ) → canonical_comments false comments after ≡ true → not (is_empty comments) || is_empty after ≡ true
 some_or_end [] after h = (no_comments_parts false after h).0
 some_or_end (c ∷ cs) after h = refl
@@ -56,6 +57,7 @@ comments_closed (c ∷ cs) after h = comments_unsolid false c cs after h
 
 -- ---- block scalars
 
+-- what starts with `|` or `>` is solid, and no sign of a block collection
 block_first : (folded : Bool) (a b c d e : List ℕ)
     → (first bar ((((((if folded then codes ">" else codes "|") ++ a) ++ b) ++ c) ++ d) ++ e) ≡ true)
     × (first solid ((((((if folded then codes ">" else codes "|") ++ a) ++ b) ++ c) ++ d) ++ e) ≡ true)
@@ -71,6 +73,7 @@ block_prefix b after = block_first (b.header).folded _ _ _ _ _
 
 -- ---- no ns comes after a sign
 
+-- after a sign no ns comes before a node
 sep_apart : (m : ℕ) (sep : Sep) (rest : List ℕ) → canonical_sep m false false sep rest ≡ true → first ns (sep_text sep ++ rest) ≡ false
 sep_apart m (inline []) rest h = absurd (false≢true h)
 sep_apart m (inline (c ∷ cs)) rest h =
@@ -143,10 +146,12 @@ pub record Prefix (bol : Bool) (text : List ℕ) : Type 0 where
   pub unmarked : bol ≡ true → marker text ≡ false
   pub unreserved : first reserved text ≡ false
 
+-- `?` may start a pair
 asked_prefix : (bol : Bool) (rest : List ℕ) → Prefix bol (63 ∷ rest)
 asked_prefix bol rest =
     record { solid_first = refl; no_dash = refl; no_colon = refl; unmarked = λ _. marker_first 63 rest refl refl; unreserved = refl }
 
+-- a key may start a pair
 key_prefix : (key : Flow) (gap : List ℕ) (bol : Bool) (rest : List ℕ) → canonical_flow key 0 block_key bol (gap ++ (58 ∷ rest)) ≡ true → Prefix bol (flow_text key ++ (gap ++ (58 ∷ rest)))
 key_prefix key gap bol rest h =
     let o : Opens (flow_text key ++ (gap ++ (58 ∷ rest))) = (flow_opens key 0 block_key bol (gap ++ (58 ∷ rest)) refl h).0 in
@@ -158,6 +163,7 @@ key_prefix key gap bol rest h =
       unreserved = o.unreserved;
     }
 
+-- a pair may start a mapping
 pair_prefix : (p : Pair) (k : ℕ) (bol : Bool) (after : List ℕ) → canonical_pair p k bol after ≡ true → Prefix bol (pair_text p k ++ after)
 pair_prefix (asked key value) k bol after h =
     let regrouped : pair_text (asked key value) k ++ after ≡ 63 ∷ (indented_text key k ++ (spaces k ++ (58 ∷ (indented_text value k ++ after)))) = simp append_assoc in

@@ -67,6 +67,7 @@ KeySound bol text r =
     (text ≡ flow_text r.0.0 ++ (r.0.1 ++ (58 ∷ r.1))) × (canonical_flow r.0.0 0 block_key bol (r.0.1 ++ (58 ∷ r.1)) ≡ true)
     × (list_all white r.0.1 ≡ true) × (short_key r.0.0 r.0.1 ≡ true)
 
+-- what is deep enough is so where it may be less deep
 le_both : (m k : ℕ) (shallow : Bool) → m ≤ k → nat_le m (cond shallow (suc k) k) ≡ true
 le_both m k true h = le-leb m (suc k) (omega arith)
 le_both m k false h = le-leb m k h

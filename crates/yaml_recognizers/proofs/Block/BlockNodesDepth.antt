@@ -22,12 +22,15 @@ use Rattle.yaml_recognizers.proofs.Basics.Solid.{head_of}
 
 -- ---- what is left of a text
 
+-- what comes after the spaces is no longer than the text
 spaces_left : (text : List ℕ) → length (past_spaces text) ≤ length text
 spaces_left text = omega (arith, ap length (spaces_split text), length-append (spaces (spaces_before text)) (past_spaces text))
 
+-- a sign takes one character of the text
 sign_left : (k : ℕ) (text : List ℕ) → sign k text ≡ true → suc (length (past text)) ≡ length text
 sign_left k text h = sym (ap length (head_of k text h).0)
 
+-- comments leave no more than the text
 comments_left : (bol : Bool) (text : List ℕ) → length (all_comments bol text).1 ≤ length text
 comments_left bol text =
     let c : List LineEnd × List ℕ = all_comments bol text in
@@ -43,6 +46,7 @@ Leaves {A} f = (text : List ℕ) (a : A) (rest : List ℕ) → f text ≡ Some (
 
 -- ---- the steps go on alike
 
+-- recognizers that agree on shorter texts read the same items
 items_alike : (most k : ℕ) (text : List ℕ) (i i' : List ℕ → Read Indented) (again again' : List ℕ → Read Items) → length text ≤ suc most → Same most i i' → Leaves i' → Same most again again'
     → (if sign 45 text then on (i (past text)) (λ a rest. more_items k again a rest) else None) ≡ (if sign 45 text then on (i' (past text)) (λ a rest. more_items k again' a rest) else None)
 items_alike most k text i i' again again' l s v s' =
@@ -55,6 +59,7 @@ items_alike most k text i i' again again' l s v s' =
     cond_same ((spaces_before rest == k) && sign 45 (past_spaces rest)) _ _ _ _ (λ _. ap (λ x. on x (λ is rest'. Some (item_and a is, rest'))) (s' (past_spaces rest) (omega arith))) (λ _. refl)))
     (λ _. refl)
 
+-- and the same pairs
 pairs_alike : (most k : ℕ) (text : List ℕ) (p p' : List ℕ → Read Pair) (again again' : List ℕ → Read Pairs) → length text ≤ suc most → p text ≡ p' text
     → ((a : Pair) (rest : List ℕ) → p' text ≡ Some (a, rest) → suc (length rest) ≤ length text) → Same most again again'
     → on (p text) (λ a rest. more_pairs k again a rest) ≡ on (p' text) (λ a rest. more_pairs k again' a rest)

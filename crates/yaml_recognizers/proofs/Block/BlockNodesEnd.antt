@@ -18,15 +18,18 @@ use Rattle.yaml_recognizers.proofs.Basics.Solid.{colon_unmarked, dash_solid, das
 abbrev pub less : ℕ → ℕ → Bool → Bool → Bool
 less s m shallow d = nat_lt s m && not (shallow && nat_le m (suc s) && d)
 
+-- what leads from the second of two leads from both
 or_mono : (x y z : Bool) → (y ≡ true → z ≡ true) → x || y ≡ true → x || z ≡ true
 or_mono true y z f h = refl
 or_mono false y z f h = f h
 
+-- where a node ends, another one ends for which each line that is less deep is so too
 block_node_stops_mono : (m m' : ℕ) (shallow dash' : Bool) (text : List ℕ)
     → (less (spaces_before text) m shallow (sign 45 (past_spaces text)) ≡ true → less (spaces_before text) m' dash' (sign 45 (past_spaces text)) ≡ true)
     → block_node_stops m shallow text ≡ true → block_node_stops m' dash' text ≡ true
 block_node_stops_mono m m' shallow dash' text f h = or_mono _ _ _ f h
 
+-- what is less deep than a sequence's parent is less deep than its items
 less_items : (s m k : ℕ) (shallow d : Bool) → nat_le m (cond shallow (suc k) k) ≡ true → less s m shallow d ≡ true → less s (suc k) true d ≡ true
 less_items s m k false d g h =
     let l : s < m = ltb-true s m (and_parts _ _ h).0 in
@@ -50,6 +53,7 @@ block_node_stops_items m k shallow text g h = block_node_stops_mono m (suc k) sh
 pub block_node_stops_last : (k : ℕ) (text : List ℕ) → block_node_stops (suc k) true text ≡ true → block_node_stops (suc k) false text ≡ true
 block_node_stops_last k text h = block_node_stops_mono (suc k) (suc k) true false text (λ l. and_from _ _ (and_parts _ _ l).0 refl) h
 
+-- what is less deep than a mapping's parent is less deep than its pairs
 less_pairs : (s m k : ℕ) (shallow d : Bool) → nat_le m k ≡ true → less s m shallow d ≡ true → less s k false d ≡ true
 less_pairs s m k shallow d g h =
     let l : s < m = ltb-true s m (and_parts _ _ h).0 in
@@ -60,6 +64,7 @@ less_pairs s m k shallow d g h =
 pub block_node_stops_pairs : (m k : ℕ) (shallow : Bool) (text : List ℕ) → nat_le m k ≡ true → block_node_stops m shallow text ≡ true → block_node_stops k false text ≡ true
 block_node_stops_pairs m k shallow text g h = block_node_stops_mono m k shallow false text (less_pairs _ m k shallow _ g) h
 
+-- what is less deep than a mapping is less deep than its values
 less_value : (s k : ℕ) (d : Bool) → less s k false d ≡ true → less s (suc k) true d ≡ true
 less_value s k d h =
     let l : s < k = ltb-true s k (and_parts _ _ h).0 in
@@ -94,6 +99,7 @@ not_ended s m shallow rest h k l =
     let f : first space rest ≡ false = solid_space rest h in
     or_from _ _ (start_alone s rest h k) (rw (spaces_counted s rest f, spaces_passed s rest f) l)
 
+-- a dash at a sequence's place is not less deep
 not_less_dash : (k j : ℕ) (shallow : Bool) → nat_le (suc k) (cond shallow (suc j) j) ≡ true → less j (suc k) shallow true ≡ false
 not_less_dash k j false h = let l : suc k ≤ j = leb-true (suc k) j h in and_left _ _ (le-ltb j (suc k) (omega arith))
 not_less_dash k j true h = and_right _ _ (not_from_true _ (and_from _ _ h refl))
@@ -115,6 +121,7 @@ deep_goes_on k shallow (c ∷ cs) e h = elim (cases_Bool (c == 32)) [
 
 -- ---- what an end is not
 
+-- if the first of two fails, the second holds
 or_falls : (x y : Bool) → x ≡ false → x || y ≡ true → y ≡ true
 or_falls x y e h = subst (λ (b : Bool). b || y ≡ true) e h
 
@@ -124,6 +131,7 @@ block_node_stops_less : (m : ℕ) (shallow : Bool) (text : List ℕ) → first s
 block_node_stops_less m shallow text s u h =
     or_falls _ _ (subst (λ (t : List ℕ). is_empty t || marker t || is_line_end t ≡ false) (sym (spaces_split text)) (start_alone (spaces_before text) (past_spaces text) s (λ _. u))) h
 
+-- two that can't both hold, don't
 unless : (x y : Bool) → (x ≡ true → y ≡ true → ⊥) → x && y ≡ false
 unless true true f = absurd (f refl refl)
 unless true false f = refl

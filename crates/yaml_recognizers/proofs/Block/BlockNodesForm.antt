@@ -135,9 +135,11 @@ mutual
   indented_form_text (node n) k ls = node_form_text n ls
   indented_form_text (omitted comments) k ls = comments_joined comments ls
 
+-- with no further comments, what comes after a sign has the same text
 indented_form_same : (i : Indented) (k : ℕ) → indented_text (indented_form i []) k ≡ indented_text i k
 indented_form_same i k = indented_form_text i k [] ∙ append-nil (indented_text i k)
 
+-- and so has a pair
 pair_form_same : (p : Pair) (k : ℕ) → pair_text (pair_form p []) k ≡ pair_text p k
 pair_form_same p k = pair_form_text p k [] ∙ append-nil (pair_text p k)
 
@@ -151,20 +153,24 @@ mutual
   node_form_end (items comments k is) ls at = items_form_end is k ls _
   node_form_end (pairs comments k ps) ls at = pairs_form_end ps k ls _
 
+  -- items end at the same place
   items_form_end : (is : Items) (k : ℕ) (ls : List LineEnd) (at : ℕ) → items_end (items_form is ls) k at ≡ items_end is k at
   items_form_end (item i) k ls at = indented_form_end i k ls _
   items_form_end (item_and i is) k ls at = rw (indented_form_same i k) (items_form_end is k ls _)
 
+  -- so do pairs
   pairs_form_end : (ps : Pairs) (k : ℕ) (ls : List LineEnd) (at : ℕ) → pairs_end (pairs_form ps ls) k at ≡ pairs_end ps k at
   pairs_form_end (pair p) k ls at = pair_form_end p k ls at
   pairs_form_end (pair_and p ps) k ls at = rw (pair_form_same p k) (pairs_form_end ps k ls _)
 
+  -- so does a pair
   pair_form_end : (p : Pair) (k : ℕ) (ls : List LineEnd) (at : ℕ) → pair_end (pair_form p ls) k at ≡ pair_end p k at
   pair_form_end (asked key value) k ls at = rw (indented_form_same key k) (indented_form_end value k ls _)
   pair_form_end (asked_alone key) k ls at = indented_form_end key k ls _
   pair_form_end (keyed key gap value) k ls at = rw (flow_form_text key) (node_form_end value ls _)
   pair_form_end (keyed_alone key gap comments) k ls at = rw (flow_form_text key)
 
+  -- and what comes after a sign
   indented_form_end : (i : Indented) (k : ℕ) (ls : List LineEnd) (at : ℕ) → indented_end (indented_form i ls) k at ≡ indented_end i k at
   indented_form_end (compact_items s is) k ls at = items_form_end is (k + 1 + s) ls _
   indented_form_end (compact_pairs s ps) k ls at = pairs_form_end ps (k + 1 + s) ls _
@@ -179,20 +185,24 @@ mutual
   node_form_events (items comments k is) ls at = rw (items_form_events is k ls)
   node_form_events (pairs comments k ps) ls at = rw (pairs_form_events ps k ls)
 
+  -- items mean the same
   items_form_events : (is : Items) (k : ℕ) (ls : List LineEnd) (at : ℕ) → items_events (items_form is ls) k at ≡ items_events is k at
   items_form_events (item i) k ls at = indented_form_events i k ls _
   items_form_events (item_and i is) k ls at = rw (indented_form_same i k, indented_form_events i k [], items_form_events is k ls)
 
+  -- so do pairs
   pairs_form_events : (ps : Pairs) (k : ℕ) (ls : List LineEnd) (at : ℕ) → pairs_events (pairs_form ps ls) k at ≡ pairs_events ps k at
   pairs_form_events (pair p) k ls at = pair_form_events p k ls at
   pairs_form_events (pair_and p ps) k ls at = rw (pair_form_same p k, pair_form_events p k [], pairs_form_events ps k ls)
 
+  -- so does a pair
   pair_form_events : (p : Pair) (k : ℕ) (ls : List LineEnd) (at : ℕ) → pair_events (pair_form p ls) k at ≡ pair_events p k at
   pair_form_events (asked key value) k ls at = rw (indented_form_same key k, indented_form_events key k [], indented_form_events value k ls)
   pair_form_events (asked_alone key) k ls at = rw (indented_form_events key k ls, indented_form_end key k ls)
   pair_form_events (keyed key gap value) k ls at = rw (flow_form_text key, flow_form_events key, node_form_events value ls)
   pair_form_events (keyed_alone key gap comments) k ls at = rw (flow_form_text key, flow_form_events key)
 
+  -- and what comes after a sign
   indented_form_events : (i : Indented) (k : ℕ) (ls : List LineEnd) (at : ℕ) → indented_events (indented_form i ls) k at ≡ indented_events i k at
   indented_form_events (compact_items s is) k ls at = rw (items_form_events is (k + 1 + s) ls)
   indented_form_events (compact_pairs s ps) k ls at = rw (pairs_form_events ps (k + 1 + s) ls)
@@ -205,18 +215,23 @@ mutual
 pub node_before : (n : Node) (ls : List LineEnd) (after : List ℕ) → node_text (node_form n ls) ++ after ≡ node_text n ++ (comments_text ls ++ after)
 node_before n ls after = rw (node_form_text n ls) (append_assoc (node_text n) (comments_text ls) after)
 
+-- the comments taken in come after the text of items
 items_before : (is : Items) (k : ℕ) (ls : List LineEnd) (after : List ℕ) → items_text (items_form is ls) k ++ after ≡ items_text is k ++ (comments_text ls ++ after)
 items_before is k ls after = rw (items_form_text is k ls) (append_assoc (items_text is k) (comments_text ls) after)
 
+-- and after that of pairs
 pairs_before : (ps : Pairs) (k : ℕ) (ls : List LineEnd) (after : List ℕ) → pairs_text (pairs_form ps ls) k ++ after ≡ pairs_text ps k ++ (comments_text ls ++ after)
 pairs_before ps k ls after = rw (pairs_form_text ps k ls) (append_assoc (pairs_text ps k) (comments_text ls) after)
 
+-- and of what comes after a sign
 indented_before : (i : Indented) (k : ℕ) (ls : List LineEnd) (after : List ℕ) → indented_text (indented_form i ls) k ++ after ≡ indented_text i k ++ (comments_text ls ++ after)
 indented_before i k ls after = rw (indented_form_text i k ls) (append_assoc (indented_text i k) (comments_text ls) after)
 
+-- and of a block scalar
 block_before : (b : BlockScalar) (ls : List LineEnd) (after : List ℕ) → block_text (block_form b ls) ++ after ≡ block_text b ++ (comments_text ls ++ after)
 block_before b ls after = rw (block_form_text b ls) (append_assoc (block_text b) (comments_text ls) after)
 
+-- what is omitted stays so
 omitted_same : (i : Indented) (ls : List LineEnd) → is_omitted (indented_form i ls) ≡ is_omitted i
 omitted_same (compact_items s is) ls = refl
 omitted_same (compact_pairs s ps) ls = refl
@@ -227,12 +242,14 @@ omitted_same (omitted comments) ls = refl
 solid_stop : (k : ℕ) (rest : List ℕ) → first solid rest ≡ true → is_line_end (spaces k ++ rest) ≡ false
 solid_stop k rest s = not_line_end (spaces k) rest (every_space k) s
 
+-- no comment line starts where further items do
 items_stop : (is : Items) (k : ℕ) (ls : List LineEnd) (after : List ℕ) → canonical_items (items_form is ls) k after ≡ true
     → is_line_end (spaces k ++ (items_text (items_form is ls) k ++ after)) ≡ false
 items_stop is k ls after c =
     let text : List ℕ = items_text (items_form is ls) k ++ after in
     solid_stop k text (dash_solid text (items_start (items_form is ls) k after c))
 
+-- nor where further pairs do
 pairs_stop : (ps : Pairs) (k : ℕ) (bol : Bool) (ls : List LineEnd) (after : List ℕ) → canonical_pairs (pairs_form ps ls) k bol after ≡ true
     → is_line_end (spaces k ++ (pairs_text (pairs_form ps ls) k ++ after)) ≡ false
 pairs_stop ps k bol ls after c = solid_stop k (pairs_text (pairs_form ps ls) k ++ after) (pairs_prefix (pairs_form ps ls) k bol after c).solid_first
@@ -268,6 +285,7 @@ mutual
       let s : is_line_end (spaces k ++ (pairs_text ps k ++ more)) ≡ false = rw (pairs_before ps k ls after) at (pairs_stop ps k (k == 0) ls after c) in
       rw (pairs_before ps k ls after) (and_from _ _ (and_from _ _ (and_from _ _ q.0 (not_from_false _ s)) q.1) c)
 
+  -- the form of items is canonical
   items_form_fit : (is : Items) (k : ℕ) (ls : List LineEnd) (after : List ℕ) → items_fit is k (comments_text ls ++ after) ≡ true
       → comments_fit true ls after ≡ true → takes (items_open is) ls after ≡ true → canonical_items (items_form is ls) k after ≡ true
   items_form_fit (item i) k ls after h l t =
@@ -293,6 +311,7 @@ mutual
       let s : is_line_end rest ≡ false = rw (pairs_before ps k ls after) at (pairs_stop ps k (k == 0) ls after c) in
       rw (pairs_before ps k ls after) (and_from _ _ (pair_form_fits p k bol [] rest q.0 refl (takes_none (pair_open p) rest s)) c)
 
+  -- and that of a pair
   pair_form_fits : (p : Pair) (k : ℕ) (bol : Bool) (ls : List LineEnd) (after : List ℕ) → pair_fits p k bol (comments_text ls ++ after) ≡ true
       → comments_fit true ls after ≡ true → takes (pair_open p) ls after ≡ true → canonical_pair (pair_form p ls) k bol after ≡ true
   pair_form_fits (asked key value) k bol ls after h l t =
@@ -322,6 +341,7 @@ mutual
       rw (joined_before comments ls after, flow_form_text key)
       (and_from _ _ (and_from _ _ (and_from _ _ (flow_form_fits key 0 block_key bol rest r.0) r.1) q.1) (comments_form_fit false comments ls after p.1 l t))
 
+  -- and that of what comes after a sign
   indented_form_fits : (i : Indented) (k : ℕ) (shallow : Bool) (ls : List LineEnd) (after : List ℕ) → indented_fits i k shallow (comments_text ls ++ after) ≡ true
       → comments_fit true ls after ≡ true → takes (indented_open i) ls after ≡ true → canonical_indented (indented_form i ls) k shallow after ≡ true
   indented_form_fits (compact_items s is) k shallow ls after h l t =

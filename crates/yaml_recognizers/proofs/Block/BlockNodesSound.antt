@@ -32,6 +32,7 @@ pub tail_fit : (cs : List LineEnd) (rest : List ℕ) → (not (is_empty cs) ≡ 
 tail_fit [] rest f h = h
 tail_fit (c ∷ cs) rest f h = f refl (not-true _ h)
 
+-- `|` and `>` are solid
 bar_solid : (text : List ℕ) → first bar text ≡ true → first solid text ≡ true
 bar_solid [] h = absurd (false≢true h)
 bar_solid (c ∷ cs) h = elim (or_cases (c == 124) (c == 62) h) [ inl e ↦ ap solid (eqb-true c 124 e) | inr e ↦ ap solid (eqb-true c 62 e) ]

@@ -26,21 +26,25 @@ use Rattle.yaml_recognizers.proofs.Basics.Reading.{Sound, some_parts, sound_is, 
 mutual
   unfolding node_size
 
+  -- a node is no larger than its text
   node_small : (n : Node) → node_size n ≤ 4 * length (node_text n) + 1
   node_small (block sep b) = omega arith
   node_small (flow sep f comments) = omega arith
   node_small (items comments k is) = omega (arith, items_small is k, length-append (comments_text comments ++ spaces k) (items_text is k))
   node_small (pairs comments k ps) = omega (arith, pairs_small ps k, length-append (comments_text comments ++ spaces k) (pairs_text ps k))
 
+  -- nor are items
   items_small : (is : Items) (k : ℕ) → items_size is ≤ 4 * length (items_text is k)
   items_small (item i) k = omega (arith, indented_small i k)
   items_small (item_and i is) k =
       omega (arith, indented_small i k, items_small is k, length-append (codes "-" ++ indented_text i k ++ spaces k) (items_text is k), length-append (codes "-" ++ indented_text i k) (spaces k))
 
+  -- nor are pairs
   pairs_small : (ps : Pairs) (k : ℕ) → pairs_size ps ≤ 4 * length (pairs_text ps k)
   pairs_small (pair p) k = pair_small p k
   pairs_small (pair_and p ps) k = omega (arith, pair_small p k, pairs_small ps k, length-append (pair_text p k ++ spaces k) (pairs_text ps k), length-append (pair_text p k) (spaces k))
 
+  -- nor is a pair
   pair_small : (p : Pair) (k : ℕ) → suc (pair_size p) ≤ 4 * length (pair_text p k)
   pair_small (asked key value) k =
       omega (
@@ -57,6 +61,7 @@ mutual
   pair_small (keyed_alone key gap comments) k =
       omega (arith, length-append (flow_text key ++ gap ++ codes ":") (comments_text comments), length-append (flow_text key ++ gap) (codes ":"))
 
+  -- nor is what comes after a sign
   indented_small : (i : Indented) (k : ℕ) → indented_size i ≤ 4 * length (indented_text i k) + 2
   indented_small (compact_items s is) k = omega (arith, items_small is (k + 1 + s), length-append (spaces s) (items_text is (k + 1 + s)))
   indented_small (compact_pairs s ps) k = omega (arith, pairs_small ps (k + 1 + s), length-append (spaces s) (pairs_text ps (k + 1 + s)))

@@ -26,6 +26,7 @@ use Rattle.yaml_recognizers.proofs.Scalars.ScalarsInNodes.{reads_scalars}
 use Rattle.yaml_recognizers.proofs.Basics.Solid.{head_of}
 use Rattle.std.proofs.Common.{inl, inr}
 
+-- before the `:` of a key a scalar ends
 before_colon : (n : ℕ) (after_plain : Bool) (gap rest : List ℕ) → list_all white gap ≡ true → first ns rest ≡ false → Stops n outer after_plain (gap ++ (58 ∷ rest))
 before_colon n after_plain gap rest w h = inr (inl (record { outside = refl; gap = gap; rest = rest; is = refl; gap_white = w; apart = h }))
 

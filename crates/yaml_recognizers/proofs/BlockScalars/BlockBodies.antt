@@ -29,6 +29,7 @@ body_parts digit m b after h =
 
 -- ---- what fits is read
 
+-- the text of a body before more, regrouped
 body_regrouped : (b : Body) (after : List ℕ) → body_text b ++ after ≡ gaps_text b.gaps ++ (text_lines_text b.indent b.texts ++ after)
 body_regrouped b after = append_assoc (gaps_text b.gaps) (text_lines_text b.indent b.texts) after
 
@@ -50,6 +51,7 @@ body_read digit m b after h =
 abbrev pub BodyOf : Option ℕ → ℕ → List ℕ → Body → List ℕ → Type 0
 BodyOf digit m text b rest = (text ≡ body_text b ++ rest) × (body_fits digit m b rest ≡ true)
 
+-- a body that is read at an indentation fits, if the indentation does
 at_sound : (digit : Option ℕ) (m q : ℕ) (text : List ℕ) (g : List Gap × List ℕ) → gaps_at q text ≡ g
     → ((texts : List TextLine) (rest : List ℕ) → LinesOf q g.1 texts rest → indent_fits digit m q g.0 texts rest ≡ true) → Sound (BodyOf digit m text) (body_at text (Some q))
 at_sound digit m q text g e f =
@@ -62,6 +64,7 @@ at_sound digit m q text g e f =
       and_from _ _ (and_from _ _ (and_from _ _ (f ls rest l) (subst (λ (t : List ℕ). gaps_fit q g.0 t ≡ true) l.split (fit_meet q g.0 g.1 ∙ s.1))) l.fit) (not_from_false _ l.end),
     )))
 
+-- a body that is read at the indentation that was found fits
 found_sound : (m : ℕ) (text : List ℕ) (found : Option ℕ) → IfFound (λ q. Found m q text (all_gaps text)) found → Sound (BodyOf None m text) (body_at text found)
 found_sound m text None f = tt
 found_sound m text (Some q) f = let g : Found m q text (all_gaps text) = f in at_sound None m q text (all_gaps text) g.read g.fits

@@ -30,12 +30,14 @@ blocks_read = record {
 abbrev pub digit_first : Header → Header
 digit_first h = record { folded = h.folded; digit = h.digit; chomping = h.chomping; digit_last = h.digit_last && (is_some h.digit && not (is_empty (chomping_text h.chomping))); line_end = h.line_end }
 
+-- what is last only if it may be, is canonical
 canonical_first : (b c : Bool) → not (b && c) || c ≡ true
 canonical_first true true = refl
 canonical_first true false = refl
 canonical_first false true = refl
 canonical_first false false = refl
 
+-- the digit's place doesn't change the signs where there is no digit or no mark
 signs_first : (digit : Option ℕ) (chomping : Chomping) (last : Bool) → signs digit chomping (last && (is_some digit && not (is_empty (chomping_text chomping)))) ≡ signs digit chomping last
 signs_first digit chomping false = refl
 signs_first None strip true = refl
@@ -45,6 +47,7 @@ signs_first (Some d) strip true = refl
 signs_first (Some d) clip true = refl
 signs_first (Some d) keep true = refl
 
+-- nor does it change the header's text
 first_text : (h : Header) → header_text (digit_first h) ≡ header_text h
 first_text h = ap (λ s. bar h.folded ++ s ++ line_end_text h.line_end) (signs_first h.digit h.chomping h.digit_last)
 
@@ -122,9 +125,11 @@ block_body m text b rest s = let p : BlockParts m b rest = block_parts m b rest 
 abbrev body_spelled : List ℕ → Body → List ℕ
 body_spelled header b = header ++ body_text b
 
+-- its events, from the header, the body and its text
 abbrev body_events : ℕ → Header → Body → List ℕ → List Event
 body_events at h b text = scalar_event (if h.folded then folded_style else literal_style) at (at + byte_len text) (block_value h.folded h.chomping b.gaps b.texts) ∷ []
 
+-- scalars of the same parts are the same
 same_parts : (b c : BlockScalar) → digit_first b.header ≡ digit_first c.header → b.body ≡ c.body → SameBlock b c
 same_parts b c h g =
     let text : header_text b.header ≡ header_text c.header = sym (first_text b.header) ∙ (ap header_text h ∙ first_text c.header) in

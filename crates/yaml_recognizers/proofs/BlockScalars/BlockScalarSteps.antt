@@ -37,10 +37,12 @@ gaps_step p text b rest w e =
 
 -- ---- text lines
 
+-- two ways to go on that agree on what was read are one
 on_same : {A B : Type 0} (r : Read A) (f g : A → List ℕ → Read B) → Sound (λ a rest. f a rest ≡ g a rest) r → on r f ≡ on r g
 on_same None f g s = refl
 on_same (Some r) f g s = s
 
+-- a text line takes something of the text
 line_shorter : (q : ℕ) (text : List ℕ) (l : TextLine) (rest : List ℕ) → TextAt q text → LineOf q (drop q text) l rest → length rest < length text
 line_shorter q text l rest t s =
     rw (t.split, s.split) (omega (
@@ -52,6 +54,7 @@ line_shorter q text l rest t s =
       length-append (gaps_text l.gaps) rest,
     ))
 
+-- more fuel than the text is long changes nothing
 lines_fuel : (fuel more q : ℕ) (text : List ℕ) → length text < fuel → length text < more → gap_here (at_most q) text ≡ false → read_text_lines fuel q text ≡ read_text_lines more q text
 lines_fuel zero more q text l k n = absurd (omega arith)
 lines_fuel (suc fuel) zero q text l k n = absurd (omega arith)

@@ -16,6 +16,7 @@ use Rattle.yaml_recognizers.proofs.Separation.CommentsForm.{comments_joined, joi
 
 -- ---- the header
 
+-- whether the digit is last in the canonical form
 abbrev digit_last_form : Bool → Option ℕ → Chomping → Bool
 digit_last_form digit_last digit chomping = digit_last && (is_some digit && not (is_empty (chomping_text chomping)))
 
@@ -23,6 +24,7 @@ digit_last_form digit_last digit chomping = digit_last && (is_some digit && not 
 abbrev pub header_form : Header → Header
 header_form h = record h { digit_last = digit_last_form h.digit_last h.digit h.chomping }
 
+-- it is the same text
 marks_same : (digit_last : Bool) (digit : Option ℕ) (chomping : Chomping)
     → cond (digit_last_form digit_last digit chomping) (chomping_text chomping ++ optional digit_text digit) (optional digit_text digit ++ chomping_text chomping)
     ≡ cond digit_last (chomping_text chomping ++ optional digit_text digit) (optional digit_text digit ++ chomping_text chomping)
@@ -34,6 +36,7 @@ marks_same true (Some d) strip = refl
 marks_same true (Some d) clip = refl
 marks_same true (Some d) keep = refl
 
+-- and it is canonical
 marks_canonical : (digit_last : Bool) (digit : Option ℕ) (chomping : Chomping)
     → not (digit_last_form digit_last digit chomping) || (is_some digit && not (is_empty (chomping_text chomping))) ≡ true
 marks_canonical false digit chomping = refl
@@ -80,9 +83,11 @@ pub takes_none : (o : Option ℕ) (after : List ℕ) → is_line_end after ≡ f
 takes_none None after h = not_from_false _ h
 takes_none (Some q) after h = not_from_false _ (and_right _ _ h)
 
+-- `#` is no whitespace
 white_hash : (c : ℕ) → white c ≡ true → (c == 35) ≡ true → ⊥
 white_hash c w h = false≢true (subst (λ (x : ℕ). white x ≡ true) (eqb-true c 35 h) w)
 
+-- what is no whitespace is no space
 no_space : (tail : List ℕ) → first white tail ≡ false → first space tail ≡ false
 no_space [] h = refl
 no_space (c ∷ cs) h = (or_parts (c == 32) (c == 9) h).0
@@ -99,6 +104,7 @@ hash_after (c ∷ cs) tail w f h =
       | inr e ↦ absurd (white_hash c p.0 (rw e at h))
     ]
 
+-- a line's end that starts with a `#` has a comment
 hash_comment : (comment : Option (List ℕ)) (stop : Option Break) (rest : List ℕ) → stop_fits stop rest ≡ true
     → first hash (optional comment_text comment ++ (optional break_text stop ++ rest)) ≡ true → is_some comment ≡ true
 hash_comment (Some text) stop rest f h = refl
@@ -138,6 +144,7 @@ takes_not (Some q) (e ∷ es) after f n h =
 
 -- ---- it fits
 
+-- the comments with those taken in fit, and no further line may belong to them
 trail_fit : (q : ℕ) (trail ls : List LineEnd) (after : List ℕ) → trail_fits q trail (comments_text ls ++ after) ≡ true → comments_fit true ls after ≡ true
     → takes (if is_empty trail then Some q else None) ls after ≡ true → (trail_fits q (trail ++ ls) after ≡ true) × (whole_trail q (trail ++ ls) after ≡ true)
 trail_fit q [] ls after h l t = and_parts _ _ t

@@ -51,6 +51,7 @@ block_read b m after h =
 abbrev pub BlockOf : ℕ → List ℕ → BlockScalar → List ℕ → Type 0
 BlockOf m text b rest = (text ≡ block_text b ++ rest) × (canonical_block m b rest ≡ true)
 
+-- a header and a body that are read make a canonical scalar with the comments that are read
 joined : (m : ℕ) (text after rest : List ℕ) (h : Header) (b : Body) → HeaderOf text h after → BodyOf h.digit m after b rest
     → BlockOf m text (block_of h b (read_trail b.indent rest).0) (read_trail b.indent rest).1
 joined m text after rest h b s t =

@@ -26,6 +26,7 @@ fit_meet q (g ∷ gs) after = ap (λ (b : Bool). nat_le g.width q && break_fits 
 
 -- ---- those that fit are read
 
+-- where no empty line starts, none is read
 no_gap_read : (fuel : ℕ) (p : ℕ → Bool) (text : List ℕ) → gap_here p text ≡ false → read_gaps fuel p text ≡ ([], text)
 no_gap_read zero p text h = refl
 no_gap_read (suc fuel) p text h = elim (cases_Bool (p (spaces_before text))) [
@@ -33,17 +34,21 @@ no_gap_read (suc fuel) p text h = elim (cases_Bool (p (spaces_before text))) [
   | inr e ↦ rw e
 ]
 
+-- a break starts with no space
 break_unspaced : (b : Break) (rest : List ℕ) → first space (break_text b ++ rest) ≡ false
 break_unspaced lf rest = refl
 break_unspaced cr rest = refl
 break_unspaced cr_lf rest = refl
 
+-- the spaces of an empty line are counted
 gap_counted : (g : Gap) (rest : List ℕ) → spaces_before (spaces g.width ++ (break_text g.stop ++ rest)) ≡ g.width
 gap_counted g rest = spaces_added g.width (break_text g.stop ++ rest) ∙ (ap (λ (n : ℕ). g.width + n) (no_space (break_text g.stop ++ rest) (break_unspaced g.stop rest)).0 ∙ omega arith)
 
+-- after them comes its break
 gap_passed : (g : Gap) (rest : List ℕ) → past_spaces (spaces g.width ++ (break_text g.stop ++ rest)) ≡ break_text g.stop ++ rest
 gap_passed g rest = spaces_past g.width (break_text g.stop ++ rest) ∙ (no_space (break_text g.stop ++ rest) (break_unspaced g.stop rest)).1
 
+-- empty lines that meet the test are read
 gaps_read : (fuel : ℕ) (p : ℕ → Bool) (gs : List Gap) (after : List ℕ) → length gs < fuel → gaps_meet p gs after ≡ true → gap_here p after ≡ false
     → read_gaps fuel p (gaps_text gs ++ after) ≡ (gs, after)
 gaps_read fuel p [] after l h n = no_gap_read fuel p after n
@@ -66,6 +71,7 @@ GapsOf p text g = (text ≡ gaps_text g.0 ++ g.1) × (gaps_meet p g.0 g.1 ≡ tr
 pub gap_split : (text rest : List ℕ) (b : Break) → past_spaces text ≡ break_text b ++ rest → text ≡ spaces (spaces_before text) ++ (break_text b ++ rest)
 gap_split text rest b e = spaces_split text ∙ ap (λ t. spaces (spaces_before text) ++ t) e
 
+-- a first empty line and those that are read after it meet the test
 more_sound : (p : ℕ → Bool) (text : List ℕ) (again : List ℕ → List Gap × List ℕ) (r : Read Break) → p (spaces_before text) ≡ true → is_some r ≡ first line_break (past_spaces text)
     → Sound (λ b rest. BreakOf (past_spaces text) b rest × GapsOf p rest (again rest)) r → GapsOf p text (more_gaps (spaces_before text) text again r)
 more_sound p text again None w i s = (refl, refl, rw (w, sym i) refl)
@@ -78,15 +84,18 @@ more_sound p text again (Some r) w i s =
       (s.1).2,
     )
 
+-- a break has a character
 break_long : (b : Break) → 0 < length (break_text b)
 break_long lf = omega arith
 break_long cr = omega arith
 break_long cr_lf = omega arith
 
+-- an empty line takes something of the text
 gap_shorter : (text rest : List ℕ) (b : Break) → past_spaces text ≡ break_text b ++ rest → length rest < length text
 gap_shorter text rest b e =
     rw (gap_split text rest b e) (omega (arith, break_long b, length-append (spaces (spaces_before text)) (break_text b ++ rest), length-append (break_text b) rest))
 
+-- empty lines that are read meet the test
 gaps_sound : (fuel : ℕ) (p : ℕ → Bool) (text : List ℕ) → length text < fuel → GapsOf p text (read_gaps fuel p text)
 gaps_sound zero p text l = absurd (omega arith)
 gaps_sound (suc fuel) p text l =
@@ -98,6 +107,7 @@ gaps_sound (suc fuel) p text l =
 
 -- ---- with enough fuel
 
+-- there are no more empty lines than characters
 gaps_few : (gs : List Gap) (after : List ℕ) → length gs < suc (length (gaps_text gs ++ after))
 gaps_few [] after = omega arith
 gaps_few (g ∷ gs) after =

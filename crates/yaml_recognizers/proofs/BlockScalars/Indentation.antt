@@ -23,10 +23,12 @@ none_shallow m q text h l k = elim (or_cases (is_empty (past_spaces text) || nat
   | inr u ↦ (let z : spaces_before text ≡ 0 = marked text u in omega arith)
 ]
 
+-- the empty text has no first character
 empty_first : (p : ℕ → Bool) (text : List ℕ) → is_empty text ≡ true → first p text ≡ false
 empty_first p [] h = refl
 empty_first p (c ∷ cs) h = absurd (false≢true h)
 
+-- a line that sets no indentation is no text line
 none_text : (m q : ℕ) (text : List ℕ) → sets_none m text ≡ true → m ≤ q → (spaces_before text == q) && first nb (past_spaces text) && no_marker true text ≡ false
 none_text m q text h l = elim (or_cases (is_empty (past_spaces text) || nat_lt (spaces_before text) m) (not (no_marker true text)) h) [
   | inl a ↦ elim (or_cases (is_empty (past_spaces text)) (nat_lt (spaces_before text) m) a) [
@@ -56,6 +58,7 @@ pub record SetsIndent (m q : ℕ) (text : List ℕ) : Type 0 where
   pub filled : first nb (past_spaces text) ≡ true
   pub sets : sets_none m text ≡ false
 
+-- a text that starts with no space starts with none before more
 unspaced : (text rest : List ℕ) → not (begins (spaces 1) text) ≡ true → not (is_empty text) ≡ true → first space (text ++ rest) ≡ false
 unspaced [] rest h n = absurd (false≢true n)
 unspaced (c ∷ cs) rest h n = elim (cases_Bool (c == 32)) [
@@ -63,10 +66,12 @@ unspaced (c ∷ cs) rest h n = elim (cases_Bool (c == 32)) [
   | inr e ↦ e
 ]
 
+-- a text with a first character isn't empty
 first_filled : (text : List ℕ) → first nb text ≡ true → is_empty text ≡ false
 first_filled [] h = absurd (false≢true h)
 first_filled (c ∷ cs) h = refl
 
+-- a text line sets the indentation
 line_sets : (m q : ℕ) (line : List ℕ) → m ≤ q → TextHere q line → first space line ≡ false → SetsIndent m q (spaces q ++ line)
 line_sets m q line l t n =
     let z : (spaces_before line ≡ 0) × (past_spaces line ≡ line) = no_space line n in
@@ -78,12 +83,14 @@ line_sets m q line l t n =
       sets = or_from _ _ (or_from _ _ (ap is_empty p ∙ first_filled line t.filled) (le-ltb (spaces_before (spaces q ++ line)) m (omega arith))) (not_from_true _ t.unmarked);
     }
 
+-- nb is no break
 nb_break : (text : List ℕ) → first nb text ≡ true → first line_break text ≡ false
 nb_break [] h = refl
 nb_break (c ∷ cs) h = nb_unbroken c h
 
 -- ---- where a body fits its indentation is found
 
+-- where no line sets an indentation, that of the lines of spaces is found
 found_none : (m q : ℕ) (gaps : List Gap) (rest : List ℕ) → is_detected_indent m q gaps [] rest ≡ true → gaps_fit q gaps rest ≡ true → goes_on q rest ≡ false
     → find_indent None m (gaps_text gaps ++ rest) ≡ Some q
 found_none m q gaps rest d f n =
@@ -93,6 +100,7 @@ found_none m q gaps rest d f n =
     let a : all_gaps (gaps_text gaps ++ rest) ≡ (gaps, rest) = gaps_of_read (λ _. true) gaps rest (fit_all q gaps rest f).0 b in
     ap (indent_after m) a ∙ (cond-true (sets_none m rest) _ _ p.1 ∙ ap Some (sym i))
 
+-- where a line sets the indentation, it is found
 found_some : (m q : ℕ) (gaps : List Gap) (text : List ℕ) → SetsIndent m q text → gaps_fit q gaps text ≡ true → find_indent None m (gaps_text gaps ++ text) ≡ Some q
 found_some m q gaps text s f =
     let w : (gaps_meet (λ _. true) gaps text ≡ true) × (nat_le (widest gaps) q ≡ true) = fit_all q gaps text f in
@@ -125,6 +133,7 @@ pub record Found (m q : ℕ) (text : List ℕ) (g : List Gap × List ℕ) : Type
   pub read : gaps_at q text ≡ g
   pub fits : (texts : List TextLine) (rest : List ℕ) → LinesOf q g.1 texts rest → is_detected_indent m q g.0 texts rest ≡ true
 
+-- lines of spaces of which none is wider than q are the empty lines at q
 gaps_narrow : (q : ℕ) (text : List ℕ) (g : List Gap × List ℕ) → GapsOf (λ _. true) text g → nat_le (widest g.0) q ≡ true → gaps_at q text ≡ g
 gaps_narrow q text g a w = ap (gaps_at q) a.0 ∙ gaps_at_read q g.0 g.1 (all_fit q g.0 g.1 a.1 w) (and_right (nat_le (spaces_before g.1) q) (first line_break (past_spaces g.1)) a.2)
 
@@ -135,6 +144,7 @@ lines_go_on q l ls text rest s =
     let regrouped : text_lines_text q (l ∷ ls) ++ rest ≡ spaces q ++ after_indent l (text_lines_text q ls ++ rest) = simp append_assoc in
     ap (goes_on q) (s.split ∙ regrouped) ∙ text_goes_on q (after_indent l (text_lines_text q ls ++ rest)) (line_here q l (text_lines_text q ls ++ rest) p.0)
 
+-- where no line sets an indentation, that of the lines of spaces fits
 none_detected : (m q : ℕ) (gaps : List Gap) (text : List ℕ) (texts : List TextLine) (rest : List ℕ) → q ≡ max m (max (widest gaps) (last_spaces text)) → sets_none m text ≡ true
     → first line_break (past_spaces text) ≡ false → LinesOf q text texts rest → is_detected_indent m q gaps texts rest ≡ true
 none_detected m q gaps text [] rest i h n s =
@@ -143,6 +153,7 @@ none_detected m q gaps text [] rest i h n s =
 none_detected m q gaps text (l ∷ ls) rest i h n s =
     absurd (false≢true (sym (none_ended m q text h (omega arith) (omega arith) n) ∙ lines_go_on q l ls text rest s))
 
+-- what is found where no line sets an indentation fits
 found_where_none : (m : ℕ) (text : List ℕ) (g : List Gap × List ℕ) → GapsOf (λ _. true) text g → sets_none m g.1 ≡ true → Found m (max m (max (widest g.0) (last_spaces g.1))) text g
 found_where_none m text g a h =
     record {
@@ -156,6 +167,7 @@ sets_parts m text h =
     let p : (is_empty (past_spaces text) || nat_lt (spaces_before text) m ≡ false) × (not (no_marker true text) ≡ false) = or_parts _ _ h in
     (ltb-false (spaces_before text) m (or_parts (is_empty (past_spaces text)) (nat_lt (spaces_before text) m) p.0).1, not-false (no_marker true text) p.1)
 
+-- a text with no spaces before it starts with no space
 unspaced_text : (text rest : List ℕ) → spaces_before (text ++ rest) ≡ 0 → not (begins (spaces 1) text) ≡ true
 unspaced_text [] rest h = refl
 unspaced_text (c ∷ cs) rest h = elim (cases_Bool (c == 32)) [
@@ -163,9 +175,11 @@ unspaced_text (c ∷ cs) rest h = elim (cases_Bool (c == 32)) [
   | inr e ↦ rw e
 ]
 
+-- a text line starts with no space after its indentation
 text_unspaced : (q : ℕ) (l : TextLine) (after text : List ℕ) → spaces_before text ≡ q → text ≡ spaces q ++ after_indent l after → not (begins (spaces 1) l.text) ≡ true
 text_unspaced q l after text c e = unspaced_text l.text (optional break_text l.stop ++ (gaps_text l.gaps ++ after)) (omega (arith, spaces_added q (after_indent l after), ap spaces_before e))
 
+-- where a line sets the indentation, it fits
 set_detected : (m q : ℕ) (gaps : List Gap) (text : List ℕ) (texts : List TextLine) (rest : List ℕ) → q ≡ spaces_before text → sets_none m text ≡ false → first nb (past_spaces text) ≡ true
     → LinesOf q text texts rest → is_detected_indent m q gaps texts rest ≡ true
 set_detected m q gaps text [] rest i h f s =
@@ -180,6 +194,7 @@ set_detected m q gaps text (l ∷ ls) rest i h f s =
     let regrouped : text_lines_text q (l ∷ ls) ++ rest ≡ spaces q ++ after_indent l after = simp append_assoc in
     and_from _ _ (le-leb m q (omega arith)) (text_unspaced q l after text (sym i) (s.split ∙ regrouped))
 
+-- what is found where a line sets the indentation fits
 found_where_set : (m : ℕ) (text : List ℕ) (g : List Gap × List ℕ) → GapsOf (λ _. true) text g → sets_none m g.1 ≡ false → nat_le (widest g.0) (spaces_before g.1) ≡ true
     → first nb (past_spaces g.1) ≡ true → Found m (spaces_before g.1) text g
 found_where_set m text g a h w f =

@@ -47,6 +47,7 @@ text_line_parts q l after h =
 
 -- ---- those that fit are read
 
+-- a test that passes all characters passes the first
 first_of_all : (p : ℕ → Bool) (xs rest : List ℕ) → not (is_empty xs) ≡ true → list_all p xs ≡ true → first p (xs ++ rest) ≡ true
 first_of_all p [] rest n h = absurd (false≢true n)
 first_of_all p (x ∷ xs) rest n h = (and_parts (p x) (list_all p xs) h).0
@@ -69,6 +70,7 @@ lines_no_gap q (l ∷ ls) after h n =
     let regrouped : text_lines_text q (l ∷ ls) ++ after ≡ spaces q ++ after_indent l (text_lines_text q ls ++ after) = simp append_assoc in
     ap (gap_here (at_most q)) regrouped ∙ text_no_gap q (after_indent l (text_lines_text q ls ++ after)) t.filled
 
+-- a text line that fits is read
 line_read : (q : ℕ) (l : TextLine) (after : List ℕ) → text_line_fits q l after ≡ true → gap_here (at_most q) after ≡ false → read_text_line q (after_indent l after) ≡ Some (l, after)
 line_read q l after h n =
     let p : TextLineParts q l after = text_line_parts q l after h in
@@ -76,6 +78,7 @@ line_read q l after h n =
     let f : first nb rest ≡ false = stop_not_nb l.stop (gaps_text l.gaps ++ after) p.stop in
     rw (take_while_all nb l.text rest p.chars f, drop_while_all nb l.text rest p.chars f, stop_read l.stop (gaps_text l.gaps ++ after) p.stop, gaps_at_read q l.gaps after p.gaps n)
 
+-- further text lines after a first one
 abbrev more_lines : ℕ → ℕ → TextLine → List ℕ → Read (List TextLine)
 more_lines fuel q l rest = on (read_text_lines fuel q rest) (λ ls after. Some (l ∷ ls, after))
 
@@ -126,6 +129,7 @@ pub record LineOf (q : ℕ) (line : List ℕ) (l : TextLine) (rest : List ℕ) :
   pub gaps : gaps_fit q l.gaps rest ≡ true
   pub no_gap : gap_here (at_most q) rest ≡ false
 
+-- if the test passes the first character, the prefix isn't empty
 take_while_some : (p : ℕ → Bool) (text : List ℕ) → first p text ≡ true → not (is_empty (take_while p text)) ≡ true
 take_while_some p [] h = absurd (false≢true h)
 take_while_some p (c ∷ cs) h = rw h refl
@@ -152,6 +156,7 @@ pub record LinesOf (q : ℕ) (text : List ℕ) (ls : List TextLine) (rest : List
   pub fit : text_lines_fit q ls rest ≡ true
   pub end : goes_on q rest ≡ false
 
+-- a text line before others
 joined : (q : ℕ) (text rest after : List ℕ) (l : TextLine) (ls : List TextLine) → TextAt q text → LineOf q (drop q text) l rest → LinesOf q rest ls after → LinesOf q text (l ∷ ls) after
 joined q text rest after l ls t s m =
     let regrouped : text_lines_text q (l ∷ ls) ++ after ≡ spaces q ++ after_indent l (text_lines_text q ls ++ after) = simp append_assoc in

@@ -22,6 +22,7 @@ use Rattle.yaml_recognizers.specs.BlockScalars.{trail_here, read_trail}
 
 -- ---- what fits is read
 
+-- the spaces before what is no space are counted and passed
 spaces_then : (blank tail : List ℕ) → list_all space blank ≡ true → first space tail ≡ false → (spaces_before (blank ++ tail) ≡ length blank) × (past_spaces (blank ++ tail) ≡ tail)
 spaces_then [] [] h n = (refl, refl)
 spaces_then [] (c ∷ cs) h n = (rw n refl, rw n refl)
@@ -30,6 +31,7 @@ spaces_then (c ∷ cs) tail h n =
     let more : (spaces_before (cs ++ tail) ≡ length cs) × (past_spaces (cs ++ tail) ≡ tail) = spaces_then cs tail p.1 n in
     (rw p.0 (ap suc more.0), rw p.0 more.1)
 
+-- a comment starts with `#`, which is no space
 hash_first : (comment : Option (List ℕ)) (tail : List ℕ) → is_some comment ≡ true → (first hash (optional comment_text comment ++ tail) ≡ true) × (first space (optional comment_text comment ++ tail) ≡ false)
 hash_first None tail h = absurd (false≢true h)
 hash_first (Some t) tail h = (refl, refl)
@@ -41,6 +43,7 @@ line_here text r h = elim (cases_Bool (is_line_end text)) [
   | inr e ↦ absurd (none_some r (sym (no_line true text e) ∙ h))
 ]
 
+-- a comment line with its `#` after fewer than q spaces is seen
 here : (q : ℕ) (e : LineEnd) (rest : List ℕ) → comment_line_fits true e rest ≡ true → is_some e.comment ≡ true → list_all space e.blank ≡ true → nat_lt (length e.blank) q ≡ true
     → trail_here q (line_end_text e ++ rest) ≡ true
 here q e rest h c s l =
@@ -69,18 +72,22 @@ trail_read q (e ∷ es) after h w =
 abbrev pub TrailOf : ℕ → List ℕ → List LineEnd × List ℕ → Type 0
 TrailOf q text t = (text ≡ comments_text t.0 ++ t.1) × (trail_fits q t.0 t.1 ≡ true) × (whole_trail q t.0 t.1 ≡ true)
 
+-- spaces are spaces
 spaces_every : (k : ℕ) → list_all space (spaces k) ≡ true
 spaces_every zero = refl
 spaces_every (suc k) = spaces_every k
 
+-- k spaces are k characters
 spaces_long : (k : ℕ) → length (spaces k) ≡ k
 spaces_long zero = refl
 spaces_long (suc k) = ap suc (spaces_long k)
 
+-- `#` is no whitespace
 hash_unwhite : (text : List ℕ) → first hash text ≡ true → first white text ≡ false
 hash_unwhite [] h = refl
 hash_unwhite (c ∷ cs) h = ap white (eqb-true c 35 h)
 
+-- a line's end that starts with a `#` has a comment
 comment_there : (comment : Option (List ℕ)) (stop : Option Break) (rest : List ℕ) → stop_fits stop rest ≡ true → first hash (optional comment_text comment ++ (optional break_text stop ++ rest)) ≡ true
     → is_some comment ≡ true
 comment_there (Some t) stop rest f h = refl
@@ -107,6 +114,7 @@ first_fits q e rest text i h l f =
     and_from _ _ (and_from _ _ (comment_there e.comment e.stop rest p.stop_fit (ap (first hash) after ∙ f)) (ap (list_all space) blank ∙ spaces_every k))
     (ap (λ (j : ℕ). nat_lt j q) (ap length blank ∙ spaces_long k) ∙ l)
 
+-- comments of which the first line is such a one fit after the scalar
 comments_trail : (q : ℕ) (text : List ℕ) (es : List LineEnd) (rest : List ℕ) → text ≡ comments_text es ++ rest → comments_fit true es rest ≡ true → is_line_end rest ≡ false → trail_here q text ≡ true
     → TrailOf q text (es, rest)
 comments_trail q text [] rest i f n h = absurd (false≢true (sym n ∙ (ap is_line_end (sym i) ∙ (and_parts _ _ h).1)))
@@ -117,6 +125,7 @@ comments_trail q text (e ∷ es) rest i f n h =
     let regrouped : comments_text (e ∷ es) ++ rest ≡ line_end_text e ++ (comments_text es ++ rest) = simp append_assoc in
     (i, and_from _ _ (first_fits q e (comments_text es ++ rest) text (i ∙ regrouped) d.0 b.0 b.1) f, not_from_false _ n)
 
+-- all comment lines there fit after the scalar
 all_trail : (q : ℕ) (text : List ℕ) → trail_here q text ≡ true → TrailOf q text (all_comments true text)
 all_trail q text h =
     let c : List LineEnd × List ℕ = all_comments true text in

@@ -11,6 +11,7 @@ use Rattle.yaml_recognizers.specs.StandingNodes.{EndsNode}
 use Rattle.yaml_recognizers.proofs.Documents.StreamsBegin.{marked}
 use Rattle.yaml_recognizers.proofs.Documents.StreamsForm.{line_wider}
 
+-- a marker ends a document's node
 at_mark : (text : List ℕ) → is_line_end text ≡ false → marker text ≡ true → EndsNode 0 false text
 at_mark text n h = record { lines = []; after = text; is = refl; fit = refl; whole = n; ends = marked 0 false text h }
 
@@ -19,6 +20,7 @@ explicit_mark : (x : Explicit) (bol : Bool) (rest : List ℕ) → explicit_fits 
 explicit_mark (content n) bol rest h = (and_parts _ _ (and_parts _ _ h).0).1
 explicit_mark (nothing comments) bol rest h = (and_parts _ _ (and_parts _ _ h).0).1
 
+-- no comment line starts where `---` does
 explicit_no_line : (x : Explicit) (rest : List ℕ) → is_line_end (explicit_text x ++ rest) ≡ false
 explicit_no_line (content n) rest = refl
 explicit_no_line (nothing comments) rest = refl
@@ -52,6 +54,7 @@ parts_end (further x ∷ ps) bol h =
     let p : (explicit_fits x bol (parts_text ps ++ []) ≡ true) × (parts_fit ps (starts_line bol (explicit_text x)) [] ≡ true) = and_parts _ _ h in
     at_mark (parts_text (further x ∷ ps)) (explicit_no_line x (parts_text ps)) (explicit_mark x bol (parts_text ps) (rw (append-nil (parts_text ps)) at p.0))
 
+-- later parts end a document's node
 later_end : (before after : List Part) (bol : Bool) → parts_fit (before ++ after) bol [] ≡ true → EndsNode 0 false (parts_text after)
 later_end [] after bol h = parts_end after bol h
 later_end (p ∷ ps) after bol h = later_end ps after (starts_line bol (part_text p)) (and_parts _ _ h).1

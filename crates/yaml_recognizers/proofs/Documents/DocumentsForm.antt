@@ -40,6 +40,7 @@ document_open (directed blank first_version comments x) = explicit_open x
 
 -- ---- text and meaning
 
+-- what comes after `---` has the same text and the comments taken in
 explicit_form_text : (x : Explicit) (ls : List LineEnd) → explicit_text (explicit_form x ls) ≡ explicit_text x ++ comments_text ls
 explicit_form_text (content n) ls = ap (λ (t : List ℕ). 45 ∷ (45 ∷ (45 ∷ t))) (node_form_text n ls)
 explicit_form_text (nothing comments) ls = ap (λ (t : List ℕ). 45 ∷ (45 ∷ (45 ∷ t))) (comments_joined comments ls)
@@ -51,6 +52,7 @@ document_form_text (explicit x) ls = explicit_form_text x ls
 document_form_text (directed blank first_version comments x) ls =
     rw (explicit_form_text x ls) (sym (append_assoc (directive_text blank first_version comments) (explicit_text x) (comments_text ls)))
 
+-- it means the same
 explicit_form_events : (x : Explicit) (ls : List LineEnd) (at : ℕ) → explicit_events (explicit_form x ls) at ≡ explicit_events x at
 explicit_form_events (content n) ls at = rw (node_form_events n ls)
 explicit_form_events (nothing comments) ls at = refl
@@ -63,6 +65,7 @@ document_form_events (directed blank first_version comments x) ls at = explicit_
 
 -- ---- it fits
 
+-- it is canonical
 explicit_form_fits : (x : Explicit) (ls : List LineEnd) (bol : Bool) (after : List ℕ) → explicit_fits x bol (comments_text ls ++ after) ≡ true
     → comments_fit true ls after ≡ true → takes (explicit_open x) ls after ≡ true → canonical_explicit (explicit_form x ls) bol after ≡ true
 explicit_form_fits (content n) ls bol after h l t =
@@ -74,6 +77,7 @@ explicit_form_fits (nothing comments) ls bol after h l t =
     let p : (bol && ends_word (comments_text comments ++ more) ≡ true) × (comments_fit false comments more ≡ true) = and_parts _ _ h in
     rw (joined_before comments ls after) (and_from _ _ p.0 (comments_form_fit false comments ls after p.1 l t))
 
+-- the comments taken in come after its text
 explicit_before : (x : Explicit) (ls : List LineEnd) (after : List ℕ) → explicit_text (explicit_form x ls) ++ after ≡ explicit_text x ++ (comments_text ls ++ after)
 explicit_before x ls after = rw (explicit_form_text x ls) (append_assoc (explicit_text x) (comments_text ls) after)
 

@@ -18,13 +18,16 @@ use Rattle.yaml_recognizers.proofs.Documents.StreamsComplete.{piece_some}
 
 -- ---- what it spells
 
+-- the text of one suffix with what may come after it
 suffixes_text : (comments prefix : List LineEnd) (d : Option Document) → part_text (suffixes comments [] prefix d) ≡ suffix_text comments ++ (comments_text prefix ++ optional document_text d)
 suffixes_text comments prefix d =
     ap (λ t. t ++ comments_text prefix ++ optional document_text d) (append-nil (suffix_text comments)) ∙ append_assoc (suffix_text comments) (comments_text prefix) (optional document_text d)
 
+-- the text of what comes where a document may
 abbrev opened_text : Opened → List ℕ
 opened_text o = comments_text o.prefix ++ (optional document_text o.document ++ parts_text o.parts)
 
+-- a suffix before what comes where a document may
 suffix_opened : (comments : List LineEnd) (o : Opened) (text : List ℕ) → text ≡ opened_text o
     → suffix_text comments ++ text ≡ parts_text (suffixes comments [] o.prefix o.document ∷ o.parts)
 suffix_opened comments o text t =
@@ -32,6 +35,7 @@ suffix_opened comments o text t =
     ap (λ u. suffix_text comments ++ u) t ∙ (regrouped ∙ ap (λ u. u ++ parts_text o.parts) (sym (suffixes_text comments o.prefix o.document)))
 
 mutual
+  -- it spells the pieces
   opened_spells : (ps : List Piece) (bol : Bool) → canonical_pieces ps true bol ≡ true → pieces_text ps ≡ opened_text (opened_pieces ps)
   opened_spells [] bol h = refl
   opened_spells (line e ∷ ps) bol h =
@@ -41,6 +45,7 @@ mutual
   opened_spells (suffix comments ∷ ps) bol h =
       suffix_opened comments (opened_pieces ps) (pieces_text ps) (opened_spells ps (starts_line bol (suffix_text comments)) (and_parts _ _ h).1)
 
+  -- and so does what comes after a document
   closed_spells : (ps : List Piece) (bol : Bool) → canonical_pieces ps false bol ≡ true → pieces_text ps ≡ parts_text (closed_pieces ps)
   closed_spells [] bol h = refl
   closed_spells (line e ∷ ps) bol h = ap (λ u. line_end_text e ++ u) (closed_spells ps (starts_line bol (line_end_text e)) (and_parts _ _ h).1)
@@ -52,6 +57,7 @@ mutual
 
 -- ---- what it has to meet
 
+-- each part of what comes where a document may fits
 record OpenedFits (bol : Bool) (o : Opened) : Type 0 where
   prefix : comments_fit true o.prefix (optional document_text o.document ++ parts_text o.parts) ≡ true
   document : optional_document_fits o.document true (parts_text o.parts) ≡ true
@@ -76,6 +82,7 @@ suffixes_fit_too comments o bol text after h t b f =
     let here : suffix_fits comments bol (opened_text o) ≡ true = subst (λ (u : List ℕ). suffix_fits comments bol u ≡ true) t s in
     subst (λ (u : List ℕ). part_fits (suffixes comments [] o.prefix o.document) bol u ≡ true) (sym b) (and_from _ _ (and_from _ _ (and_from _ _ here refl) f.prefix) f.document)
 
+-- a suffix before what fits makes parts that fit
 suffix_parts : (comments : List LineEnd) (o : Opened) (bol : Bool) (text : List ℕ) → bol && ends_word (comments_text comments ++ text) && canonical_comments false comments text ≡ true
     → text ≡ opened_text o → OpenedFits (starts_line bol (suffix_text comments)) o → parts_fit (suffixes comments [] o.prefix o.document ∷ o.parts) bol [] ≡ true
 suffix_parts comments o bol text h t f =
@@ -84,11 +91,13 @@ suffix_parts comments o bol text h t f =
     and_from _ _ (suffixes_fit_too comments o bol text (parts_text o.parts ++ []) h t (append-nil (parts_text o.parts)) f)
     (subst (λ (b : Bool). parts_fit o.parts b [] ≡ true) (sym e) f.parts)
 
+-- a line starts after a suffix, or the text ends
 suffix_starts : (comments : List LineEnd) (bol : Bool) (text : List ℕ) → bol && ends_word (comments_text comments ++ text) && canonical_comments false comments text ≡ true
     → starts_line bol (suffix_text comments) || is_empty text ≡ true
 suffix_starts comments bol text h = comments_start false comments text (and_parts _ _ (and_parts _ _ h).1).0
 
 mutual
+  -- pieces where a document may come fit
   opened_fits : (ps : List Piece) (bol : Bool) → canonical_pieces ps true bol ≡ true → bol || is_empty (pieces_text ps) ≡ true → OpenedFits bol (opened_pieces ps)
   opened_fits [] bol h b = record { prefix = refl; document = refl; parts = refl }
   opened_fits (line e ∷ ps) bol h b =
@@ -124,6 +133,7 @@ mutual
         parts = suffix_parts comments (opened_pieces ps) bol (pieces_text ps) q.0 (opened_spells ps start q.1) (opened_fits ps start q.1 (suffix_starts comments bol (pieces_text ps) q.0));
       }
 
+  -- and so do pieces after a document
   closed_fits : (ps : List Piece) (bol : Bool) → canonical_pieces ps false bol ≡ true → parts_fit (closed_pieces ps) bol [] ≡ true
   closed_fits [] bol h = refl
   closed_fits (line e ∷ ps) bol h =
@@ -145,10 +155,12 @@ mutual
 
 -- ---- what it means
 
+-- the events of what comes where a document may
 abbrev opened_events : Opened → ℕ → List Event
 opened_events o at =
     let after = at + byte_len (comments_text o.prefix) in optional_document_events o.document after ++ parts_events o.parts (after + byte_len (optional document_text o.document))
 
+-- a suffix has no events
 suffix_events : (comments : List LineEnd) (o : Opened) (at : ℕ) → opened_events o (at + byte_len (suffix_text comments)) ≡ parts_events (suffixes comments [] o.prefix o.document ∷ o.parts) at
 suffix_events comments o at =
     let a : ℕ = byte_len (suffix_text comments) in
@@ -162,6 +174,7 @@ suffix_events comments o at =
     ap (λ n. optional_document_events o.document n ++ parts_events o.parts (at + a + b + c)) one ∙ ap (λ n. optional_document_events o.document (at + a + 0 + b) ++ parts_events o.parts n) two
 
 mutual
+  -- it means what the pieces mean
   opened_means : (ps : List Piece) (bol : Bool) (at : ℕ) → canonical_pieces ps true bol ≡ true → pieces_events ps at ≡ opened_events (opened_pieces ps) at
   opened_means [] bol at h = refl
   opened_means (line e ∷ ps) bol at h =
@@ -180,6 +193,7 @@ mutual
       opened_means ps (starts_line bol (suffix_text comments)) (at + byte_len (suffix_text comments)) (and_parts _ _ h).1
       ∙ (suffix_events comments (opened_pieces ps) at ∙ ap (parts_events (suffixes comments [] (opened_pieces ps).prefix (opened_pieces ps).document ∷ (opened_pieces ps).parts)) n)
 
+  -- and so does what comes after a document
   closed_means : (ps : List Piece) (bol : Bool) (at : ℕ) → canonical_pieces ps false bol ≡ true → pieces_events ps at ≡ parts_events (closed_pieces ps) at
   closed_means [] bol at h = refl
   closed_means (line e ∷ ps) bol at h = closed_means ps (starts_line bol (line_end_text e)) (at + byte_len (line_end_text e)) (and_parts _ _ h).1

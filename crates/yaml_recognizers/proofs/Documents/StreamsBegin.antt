@@ -47,10 +47,12 @@ pub record NodePrefix (bol : Bool) (text : List ℕ) : Type 0 where
   pub unmarked : bol || not (is_empty comments) ≡ true → marker rest ≡ false
   pub unreserved : first reserved rest ≡ false
 
+-- what holds of one test or of nothing holds of the test
 or_none : (b : Bool) → b || false ≡ true → b ≡ true
 or_none true h = refl
 or_none false h = h
 
+-- whitespace starts no marker, and is not reserved
 white_prefix : (x : ℕ) (xs : List ℕ) → white x ≡ true → (marker (x ∷ xs) ≡ false) × (reserved x ≡ false)
 white_prefix x xs h = elim (or_cases (x == 32) (x == 9) h) [
   | inl e ↦ subst (λ (y : ℕ). (marker (y ∷ xs) ≡ false) × (reserved y ≡ false)) (sym (eqb-true x 32 e)) (marker_first 32 xs refl refl, refl)
@@ -111,6 +113,7 @@ leaf_prefix bol (lines (e ∷ es) (x ∷ xs)) rest h s r u =
       unreserved = f.1;
     }
 
+-- a block scalar starts no marker, and is not reserved
 bar_prefix : (text : List ℕ) → first bar text ≡ true → (marker text ≡ false) × (first reserved text ≡ false)
 bar_prefix [] h = absurd (false≢true h)
 bar_prefix (c ∷ cs) h = elim (or_cases (c == 124) (c == 62) h) [
@@ -142,6 +145,7 @@ spaces_prefix bol comments (suc k) rest text t h s u r =
       unreserved = refl;
     }
 
+-- a dash is not reserved
 dash_unreserved : (text : List ℕ) → sign 45 text ≡ true → first reserved text ≡ false
 dash_unreserved text h = let p = sign_head 45 text h in subst (λ (t : List ℕ). first reserved t ≡ false) (sym p.1) refl
 
@@ -177,9 +181,11 @@ node_prefix (pairs comments k ps) bol after h =
 
 -- ---- a node after `---`, and a bare one
 
+-- at the top nothing but a marker or a comment line ends a node
 goes_on_at_top : (rest : List ℕ) → is_empty rest ≡ false → marker rest ≡ false → is_line_end rest ≡ false → block_node_stops 0 false rest ≡ false
 goes_on_at_top rest e u l = or_from _ _ (or_from _ _ (or_from _ _ e u) l) (and_left _ _ (le-ltb (spaces_before rest) 0 (omega arith)))
 
+-- at the top a node is given, and not comments alone
 given_at_top : (comments : List LineEnd) (rest : List ℕ) → is_empty rest ≡ false → is_line_end rest ≡ false
     → (not (is_empty comments) ≡ true → marker rest ≡ false) → omits 0 false (comments, rest) ≡ false
 given_at_top [] rest e l u = and_left _ _ (and_left _ _ e)
@@ -195,6 +201,7 @@ pub record Bare (bol : Bool) (text : List ℕ) : Type 0 where
   pub unmarked : bol ≡ true → marker text ≡ false
   pub unreserved : first reserved text ≡ false
 
+-- where no comments come before a node, the text starts as one without them
 same_prefix : (bol : Bool) (text : List ℕ) (comments : List LineEnd) (rest : List ℕ) → ◌≡◌ {A = List LineEnd × List ℕ} ([], text) (comments, rest) → is_empty rest ≡ false
     → (bol || not (is_empty comments) ≡ true → marker rest ≡ false) → first reserved rest ≡ false → Bare bol text
 same_prefix bol text comments rest p e u r =
@@ -214,6 +221,7 @@ bare_prefix bol text f l =
 
 -- ---- how long nodes are
 
+-- the first line of a plain scalar has a character
 plain_long : (c : FlowContext) (prefix after : List ℕ) → plain_line c prefix after ≡ true → 1 ≤ length prefix
 plain_long c [] after h = absurd (false≢true h)
 plain_long c (x ∷ xs) after h = omega arith
@@ -228,6 +236,7 @@ flow_long (scalar (double prefix more)) n c bol after h = omega arith
 flow_long (seq gap es) n c bol after h = omega arith
 flow_long (map gap es) n c bol after h = omega arith
 
+-- a text that starts with `|` or `>` has a character
 block_first_long : (folded : Bool) (a b c d : List ℕ) → 1 ≤ length (((((if folded then codes ">" else codes "|") ++ a) ++ b) ++ c) ++ d)
 block_first_long true a b c d = omega arith
 block_first_long false a b c d = omega arith
@@ -262,6 +271,7 @@ node_long (pairs comments k ps) m shallow bol after h = omega (arith, pairs_long
 pub marked : (m : ℕ) (shallow : Bool) (text : List ℕ) → marker text ≡ true → block_node_stops m shallow text ≡ true
 marked m shallow text h = or_left _ _ (or_left _ _ (or_right (is_empty text) _ h))
 
+-- `---` is a marker
 explicit_ends : (x : Explicit) (bol : Bool) (rest : List ℕ) → canonical_explicit x bol rest ≡ true → marker (explicit_text x ++ rest) ≡ true
 explicit_ends (content n) bol rest h =
     let p : (bol && ends_word (node_text n ++ rest) ≡ true) × (canonical_node n 0 false false rest ≡ true) = and_parts _ _ h in

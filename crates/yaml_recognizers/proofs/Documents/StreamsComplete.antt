@@ -32,16 +32,19 @@ begins_split (c ∷ cs) (d ∷ ds) h =
     let p : (d == c ≡ true) × (begins cs ds ≡ true) = and_parts _ _ h in
     ap (λ x. x ∷ ds) (eqb-true d c p.0) ∙ ap (λ xs. c ∷ xs) (begins_split cs ds p.1)
 
+-- three dashes as a marker are one
 dashes_mark : (text : List ℕ) → mark_at 45 text ≡ true → marker text ≡ true
 dashes_mark text h =
     let p : (begins (codes "---") text ≡ true) × (ends_word (drop 3 text) ≡ true) = and_parts _ _ h in
     ap marker (begins_split (codes "---") text p.0) ∙ p.1
 
+-- so are three dots
 dots_mark : (text : List ℕ) → mark_at 46 text ≡ true → marker text ≡ true
 dots_mark text h =
     let p : (begins (codes "...") text ≡ true) × (ends_word (drop 3 text) ≡ true) = and_parts _ _ h in
     ap marker (begins_split (codes "...") text p.0) ∙ p.1
 
+-- where no marker is, neither is there
 no_mark_at : (bol : Bool) (x : ℕ) (text : List ℕ) → (mark_at x text ≡ true → marker text ≡ true) → (bol ≡ true → marker text ≡ false) → bol && mark_at x text ≡ false
 no_mark_at false x text f u = refl
 no_mark_at true x text f u = elim (cases_Bool (mark_at x text)) [
@@ -49,6 +52,7 @@ no_mark_at true x text f u = elim (cases_Bool (mark_at x text)) [
   | inr e ↦ e
 ]
 
+-- what is not reserved is no `%` and no byte order mark
 not_reserved : (text : List ℕ) → first reserved text ≡ false → (first percent text ≡ false) × (first order_mark text ≡ false)
 not_reserved [] h = (refl, refl)
 not_reserved (c ∷ cs) h = or_parts _ _ h
@@ -75,13 +79,16 @@ follows (document d) ps opened bol h = document_ended ps bol h
 
 -- ---- what pieces begin with
 
+-- what starts with `---` isn't empty, and starts with no byte order mark
 explicit_some : (x : Explicit) (rest : List ℕ) → (is_empty (explicit_text x ++ rest) ≡ false) × (first order_mark (explicit_text x ++ rest) ≡ false)
 explicit_some (content n) rest = (refl, refl)
 explicit_some (nothing comments) rest = (refl, refl)
 
+-- a canonical node is found as a bare document
 bare_some : (n : Node) (bol : Bool) (rest : List ℕ) → canonical_node n 0 false bol rest ≡ true → is_line_end (node_text n ++ rest) ≡ false → Bare bol (node_text n ++ rest)
 bare_some n bol rest h l = bare_prefix bol (node_text n ++ rest) (node_prefix n bol rest h) l
 
+-- a line that isn't empty isn't so before more
 line_more : (text rest : List ℕ) → not (is_empty text) ≡ true → is_empty (text ++ rest) ≡ false
 line_more [] rest h = absurd (false≢true h)
 line_more (c ∷ cs) rest h = refl
@@ -99,6 +106,7 @@ piece_some (document (bare n)) opened bol rest h =
 piece_some (document (explicit x)) opened bol rest h = explicit_some x rest
 piece_some (document (directed blank first_version comments x)) opened bol rest h = (refl, refl)
 
+-- what starts with `---` has a character
 explicit_long : (x : Explicit) → 1 ≤ length (explicit_text x)
 explicit_long (content n) = omega arith
 explicit_long (nothing comments) = omega arith
@@ -111,6 +119,7 @@ piece_long (document (bare n)) opened bol rest h = node_long n 0 false bol rest 
 piece_long (document (explicit x)) opened bol rest h = explicit_long x
 piece_long (document (directed blank first_version comments x)) opened bol rest h = omega arith
 
+-- there are no more pieces than characters
 pieces_long : (ps : List Piece) (opened bol : Bool) → canonical_pieces ps opened bol ≡ true → length ps ≤ length (pieces_text ps)
 pieces_long [] opened bol h = omega arith
 pieces_long (p ∷ ps) opened bol h =
@@ -121,10 +130,12 @@ pieces_long (p ∷ ps) opened bol h =
 
 -- ---- what is canonical is read
 
+-- the version is read
 version_read : (first_version : Bool) (rest : List ℕ) → read_version ((if first_version then codes "1.1" else codes "1.2") ++ rest) ≡ Some (first_version, rest)
 version_read true rest = refl
 version_read false rest = refl
 
+-- it starts with no whitespace
 version_not_white : (first_version : Bool) (rest : List ℕ) → first white ((if first_version then codes "1.1" else codes "1.2") ++ rest) ≡ false
 version_not_white true rest = refl
 version_not_white false rest = refl

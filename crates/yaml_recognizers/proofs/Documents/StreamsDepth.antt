@@ -11,6 +11,7 @@ use Rattle.yaml_recognizers.proofs.Basics.Reading.{Sound, cond_same, sound_is}
 use Rattle.yaml_recognizers.proofs.Documents.StreamsComplete.{piece_long}
 use Rattle.yaml_recognizers.proofs.Documents.StreamsSound.{PieceOf, piece_sound}
 
+-- recognizers that agree on what is left read the same pieces
 more_same : (again again' : Piece → List ℕ → Option (List Piece)) (r : Read Piece) → ((p : Piece) (rest : List ℕ) → r ≡ Some (p, rest) → again p rest ≡ again' p rest) → more_pieces again r ≡ more_pieces again' r
 more_same again again' None f = refl
 more_same again again' (Some r) f = ap (piece_and r.0) (f r.0 r.1 refl)

@@ -63,6 +63,7 @@ pub lines_pieces_text : (es : List LineEnd) → pieces_text (lines_pieces es) �
 lines_pieces_text [] = refl
 lines_pieces_text (e ∷ es) = rw (lines_pieces_text es)
 
+-- the pieces of a document have its text
 document_pieces_text : (d : Document) → pieces_text (document_pieces d) ≡ document_text d
 document_pieces_text (bare n) =
     pieces_joined (lines_pieces (leading n)) (document (bare (unled n)) ∷ [])
@@ -80,6 +81,7 @@ pub suffixes_pieces_text : (ss : List (List LineEnd)) → pieces_text (suffixes_
 suffixes_pieces_text [] = refl
 suffixes_pieces_text (s ∷ ss) = rw (suffixes_pieces_text ss)
 
+-- the pieces of a part have its text
 part_pieces_text : (p : Part) → pieces_text (part_pieces p) ≡ part_text p
 part_pieces_text (suffixes one more prefix d) =
     let text : pieces_text (suffixes_pieces more ++ (lines_pieces prefix ++ optional_pieces d)) ≡ flat_map suffix_text more ++ (comments_text prefix ++ optional document_text d) =
@@ -111,14 +113,17 @@ pieces_events_joined (p ∷ ps) qs at =
     let place : at + byte_len (piece_text p ++ pieces_text ps) ≡ after + byte_len (pieces_text ps) = rw byte_len_joined (sym (add_assoc at _ _)) in
     rw (pieces_events_joined ps qs after, place) (sym (append_assoc (piece_events p at) (pieces_events ps after) _))
 
+-- lines have no events
 lines_pieces_events : (es : List LineEnd) (at : ℕ) → pieces_events (lines_pieces es) at ≡ []
 lines_pieces_events [] at = refl
 lines_pieces_events (e ∷ es) at = lines_pieces_events es _
 
+-- suffixes have no events
 suffixes_pieces_events : (ss : List (List LineEnd)) (at : ℕ) → pieces_events (suffixes_pieces ss) at ≡ []
 suffixes_pieces_events [] at = refl
 suffixes_pieces_events (s ∷ ss) at = suffixes_pieces_events ss _
 
+-- the pieces of a document mean what it means
 document_pieces_events : (d : Document) (at : ℕ) → pieces_events (document_pieces d) at ≡ document_events d at
 document_pieces_events (bare n) at =
     pieces_events_joined (lines_pieces (leading n)) (document (bare (unled n)) ∷ []) at
@@ -126,10 +131,12 @@ document_pieces_events (bare n) at =
 document_pieces_events (explicit x) at = append-nil (document_events (explicit x) at)
 document_pieces_events (directed blank first_version comments x) at = append-nil (document_events (directed blank first_version comments x) at)
 
+-- and so do those of one that may be left out
 optional_pieces_events : (d : Option Document) (at : ℕ) → pieces_events (optional_pieces d) at ≡ optional_document_events d at
 optional_pieces_events None at = refl
 optional_pieces_events (Some d) at = document_pieces_events d at
 
+-- the pieces of a part mean what it means
 part_pieces_events : (p : Part) (at : ℕ) → pieces_events (part_pieces p) at ≡ part_events p at
 part_pieces_events (suffixes one more prefix d) at =
     let after : ℕ = at + byte_len (suffix_text one) in
@@ -140,6 +147,7 @@ part_pieces_events (suffixes one more prefix d) at =
 part_pieces_events (part_line e) at = refl
 part_pieces_events (further x) at = append-nil (document_events (explicit x) at)
 
+-- and so do those of parts
 parts_pieces_events : (ps : List Part) (at : ℕ) → pieces_events (parts_pieces ps) at ≡ parts_events ps at
 parts_pieces_events [] at = refl
 parts_pieces_events (p ∷ ps) at =

@@ -35,6 +35,7 @@ pieces_fit (p ∷ ps) opened bol = piece_fits p opened bol (pieces_text ps) && p
 
 -- ---- lines and documents before further pieces
 
+-- comment lines before pieces fit with them
 lines_before : (es : List LineEnd) (rest : List Piece) (opened bol : Bool) → comments_fit bol es (pieces_text rest) ≡ true
     → pieces_fit rest opened (starts_line bol (comments_text es)) ≡ true → pieces_fit (lines_pieces es ++ rest) opened bol ≡ true
 lines_before [] rest opened bol h r = r
@@ -46,10 +47,12 @@ lines_before (e ∷ es) rest opened bol h r =
     let more : pieces_fit rest opened (starts_line b (comments_text es)) ≡ true = rw (starts_joined bol (line_end_text e) (comments_text es)) at r in
     and_from _ _ (rw text p.0) (lines_before es rest opened b (comments_at b es after p.1 (line_starts bol e (comments_text es ++ after) p.0)) more)
 
+-- two texts, joined, aren't empty if the second isn't
 append_filled : (xs ys : List ℕ) → is_empty ys ≡ false → is_empty (xs ++ ys) ≡ false
 append_filled [] ys h = h
 append_filled (x ∷ xs) ys h = refl
 
+-- a document isn't empty
 document_filled : (d : Document) (after : List ℕ) → document_fits d true after ≡ true → is_empty (document_text d ++ after) ≡ false
 document_filled (bare n) after h =
     let p : Parted n 0 false after = node_parted n 0 false after h in
@@ -60,6 +63,7 @@ document_filled (explicit (content n)) after h = refl
 document_filled (explicit (nothing comments)) after h = refl
 document_filled (directed blank first_version comments x) after h = refl
 
+-- a document before pieces fits with them
 document_before : (d : Document) (rest : List Piece) → document_fits d true (pieces_text rest) ≡ true → pieces_fit rest false (starts_line true (document_text d)) ≡ true
     → pieces_fit (document_pieces d ++ rest) true true ≡ true
 document_before (bare n) rest h r =
@@ -76,6 +80,7 @@ document_before (bare n) rest h r =
 document_before (explicit x) rest h r = and_from _ _ h r
 document_before (directed blank first_version comments x) rest h r = and_from _ _ h r
 
+-- so does one that may be left out
 optional_before : (d : Option Document) (rest : List Piece) (bol : Bool) → optional_document_fits d true (pieces_text rest) ≡ true
     → line_or_end bol (optional document_text d ++ pieces_text rest) ≡ true → ((opened : Bool) → pieces_fit rest opened (starts_line bol (optional document_text d)) ≡ true)
     → pieces_fit (optional_pieces d ++ rest) true bol ≡ true
@@ -87,9 +92,11 @@ optional_before (Some d) rest bol h a r =
 
 -- ---- suffixes
 
+-- a line starts after a suffix, or the text ends
 suffix_starts : (bol : Bool) (comments : List LineEnd) (after : List ℕ) → comments_fit false comments after ≡ true → line_or_end (starts_line bol (suffix_text comments)) after ≡ true
 suffix_starts bol comments after h = comments_start false comments after h
 
+-- and after suffixes
 suffixes_start : (ss : List (List LineEnd)) (after : List ℕ) (bol : Bool) → suffixes_fit ss after ≡ true → line_or_end bol (flat_map suffix_text ss ++ after) ≡ true
     → line_or_end (starts_line bol (flat_map suffix_text ss)) after ≡ true
 suffixes_start [] after bol h a = a
@@ -98,6 +105,7 @@ suffixes_start (s ∷ ss) after bol h a =
     rw (starts_joined bol (suffix_text s) (flat_map suffix_text ss))
     (suffixes_start ss after (starts_line bol (suffix_text s)) p.1 (suffix_starts bol s (flat_map suffix_text ss ++ after) (and_parts _ _ p.0).1))
 
+-- suffixes before pieces fit with them
 suffixes_before : (ss : List (List LineEnd)) (rest : List Piece) (bol : Bool) → suffixes_fit ss (pieces_text rest) ≡ true → line_or_end bol (flat_map suffix_text ss ++ pieces_text rest) ≡ true
     → pieces_fit rest true (starts_line bol (flat_map suffix_text ss)) ≡ true → pieces_fit (suffixes_pieces ss ++ rest) true bol ≡ true
 suffixes_before [] rest bol h a r = r
@@ -113,6 +121,7 @@ suffixes_before (s ∷ ss) rest bol h a r =
 
 -- ---- parts and streams
 
+-- a part before pieces fits with them
 part_before : (p : Part) (rest : List Piece) (opened bol : Bool) → part_fits p bol (pieces_text rest) ≡ true
     → ((o : Bool) → pieces_fit rest o (starts_line bol (part_text p)) ≡ true) → pieces_fit (part_pieces p ++ rest) opened bol ≡ true
 part_before (suffixes one more prefix d) rest opened bol h r =
@@ -146,6 +155,7 @@ part_before (suffixes one more prefix d) rest opened bol h r =
 part_before (part_line e) rest opened bol h r = and_from _ _ h (r opened)
 part_before (further x) rest opened bol h r = and_from _ _ h (r false)
 
+-- the pieces of parts fit
 parts_pieces_fit : (ps : List Part) (opened bol : Bool) → parts_fit ps bol [] ≡ true → pieces_fit (parts_pieces ps) opened bol ≡ true
 parts_pieces_fit [] opened bol h = refl
 parts_pieces_fit (p ∷ ps) opened bol h =

@@ -36,12 +36,14 @@ past_lines (suffix comments ∷ ps) = suffix comments ∷ ps
 past_lines (line e ∷ ps) = past_lines ps
 past_lines (document d ∷ ps) = document d ∷ ps
 
+-- pieces are the comment lines at their start and the others
 split_text : (ps : List Piece) → pieces_text ps ≡ comments_text (prefix_lines ps) ++ pieces_text (past_lines ps)
 split_text [] = refl
 split_text (suffix comments ∷ ps) = refl
 split_text (line e ∷ ps) = ap (λ (t : List ℕ). line_end_text e ++ t) (split_text ps) ∙ sym (append_assoc (line_end_text e) (comments_text (prefix_lines ps)) (pieces_text (past_lines ps)))
 split_text (document d ∷ ps) = refl
 
+-- they mean what the others mean
 split_events : (ps : List Piece) (at : ℕ) → pieces_events ps at ≡ pieces_events (past_lines ps) (at + byte_len (comments_text (prefix_lines ps)))
 split_events [] at = refl
 split_events (suffix comments ∷ ps) at = rw add-zero
@@ -51,6 +53,7 @@ split_events (line e ∷ ps) at =
     split_events ps (at + byte_len (line_end_text e)) ∙ ap (λ (b : ℕ). pieces_events (past_lines ps) b) (sym place)
 split_events (document d ∷ ps) at = rw add-zero
 
+-- a comment that fits fits after whitespace
 comment_wider : (apart : Bool) (comment : Option (List ℕ)) → comment_fits apart comment ≡ true → comment_fits true comment ≡ true
 comment_wider apart None h = refl
 comment_wider apart (Some text) h = (and_parts _ _ h).1
@@ -67,11 +70,13 @@ record Split (ps : List Piece) (opened bol : Bool) : Type 0 where
   past : canonical_pieces (past_lines ps) opened (starts_line bol (comments_text (prefix_lines ps))) ≡ true
   stop : is_line_end (pieces_text (past_lines ps)) ≡ false
 
+-- a document starts with no comment line
 document_stop : (d : Document) (opened bol : Bool) (after : List ℕ) → canonical_document d opened bol after ≡ true → is_line_end (document_text d ++ after) ≡ false
 document_stop (bare n) opened bol after h = not-true _ (and_parts _ _ (and_parts _ _ h).0).1
 document_stop (explicit x) opened bol after h = explicit_stop x after
 document_stop (directed blank first_version comments x) opened bol after h = refl
 
+-- what the comment lines at the start and the others meet
 split : (ps : List Piece) (opened bol : Bool) → canonical_pieces ps opened bol ≡ true → Split ps opened bol
 split [] opened bol h = record { lines = refl; past = refl; stop = refl }
 split (suffix comments ∷ ps) opened bol h = record { lines = refl; past = h; stop = refl }
@@ -98,13 +103,16 @@ join (document d) ps =
 
 -- text and meaning
 
+-- a suffix with the comments taken in has both texts
 suffix_form_text : (comments ls : List LineEnd) → suffix_text (comments ++ ls) ≡ suffix_text comments ++ comments_text ls
 suffix_form_text comments ls = ap (λ (t : List ℕ). 46 ∷ (46 ∷ (46 ∷ t))) (comments_joined comments ls)
 
+-- the text with the comment lines taken in
 taken_text : (text taken : List ℕ) (ps : List Piece) → taken ≡ text ++ comments_text (prefix_lines ps) → taken ++ pieces_text (past_lines ps) ≡ text ++ pieces_text ps
 taken_text text taken ps e =
     rw e (append_assoc text (comments_text (prefix_lines ps)) (pieces_text (past_lines ps)) ∙ ap (λ (t : List ℕ). text ++ t) (sym (split_text ps)))
 
+-- and its events
 taken_events : (text taken : List ℕ) (ps : List Piece) (at : ℕ) → taken ≡ text ++ comments_text (prefix_lines ps)
     → pieces_events (past_lines ps) (at + byte_len taken) ≡ pieces_events ps (at + byte_len text)
 taken_events text taken ps at e =
@@ -112,9 +120,11 @@ taken_events text taken ps at e =
     rw (e, byte_len_joined text (comments_text (prefix_lines ps))) (sym (add_assoc at _ _)) in
     ap (λ (b : ℕ). pieces_events (past_lines ps) b) place ∙ sym (split_events ps (at + byte_len text))
 
+-- without comments to take in, a document has the same text
 alone_text : (d : Document) → document_text (document_form d []) ≡ document_text d
 alone_text d = document_form_text d [] ∙ append-nil (document_text d)
 
+-- a piece joined to the others has the same text
 join_text : (p : Piece) (ps : List Piece) → pieces_text (join p ps) ≡ piece_text p ++ pieces_text ps
 join_text (suffix comments) ps = taken_text (suffix_text comments) (suffix_text (comments ++ prefix_lines ps)) ps (suffix_form_text comments (prefix_lines ps))
 join_text (line e) ps = refl
@@ -124,6 +134,7 @@ join_text (document d) ps =
     (λ _. taken_text (document_text d) (document_text (document_form d (prefix_lines ps))) ps (document_form_text d (prefix_lines ps)))
     (λ _. rw (alone_text d))
 
+-- it means the same
 join_events : (p : Piece) (ps : List Piece) (at : ℕ) → pieces_events (join p ps) at ≡ piece_events p at ++ pieces_events ps (at + byte_len (piece_text p))
 join_events (suffix comments) ps at = taken_events (suffix_text comments) (suffix_text (comments ++ prefix_lines ps)) ps at (suffix_form_text comments (prefix_lines ps))
 join_events (line e) ps at = refl
@@ -136,6 +147,7 @@ join_events (document d) ps at =
 
 -- it fits
 
+-- it is canonical
 join_fits : (p : Piece) (ps : List Piece) (opened bol : Bool) → piece_fits p opened bol (pieces_text ps) ≡ true
     → canonical_pieces ps (opens opened p) (starts_line bol (piece_text p)) ≡ true → canonical_pieces (join p ps) opened bol ≡ true
 join_fits (suffix comments) ps opened bol h c =
@@ -170,15 +182,18 @@ abbrev pub pieces_form : List Piece → List Piece
 pieces_form [] = []
 pieces_form (p ∷ ps) = join p (pieces_form ps)
 
+-- the form of pieces has the same text
 pieces_form_text : (ps : List Piece) → pieces_text (pieces_form ps) ≡ pieces_text ps
 pieces_form_text [] = refl
 pieces_form_text (p ∷ ps) = join_text p (pieces_form ps) ∙ ap (λ (t : List ℕ). piece_text p ++ t) (pieces_form_text ps)
 
+-- it means the same
 pieces_form_events : (ps : List Piece) (at : ℕ) → pieces_events (pieces_form ps) at ≡ pieces_events ps at
 pieces_form_events [] at = refl
 pieces_form_events (p ∷ ps) at =
     join_events p (pieces_form ps) at ∙ ap (λ (es : List Event). piece_events p at ++ es) (pieces_form_events ps (at + byte_len (piece_text p)))
 
+-- it is canonical
 pieces_form_fit : (ps : List Piece) (opened bol : Bool) → pieces_fit ps opened bol ≡ true → canonical_pieces (pieces_form ps) opened bol ≡ true
 pieces_form_fit [] opened bol h = refl
 pieces_form_fit (p ∷ ps) opened bol h =

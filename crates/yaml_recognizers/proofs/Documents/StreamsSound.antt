@@ -38,15 +38,18 @@ DirectedOf text d rest = (text ≡ document_text d ++ rest) × (canonical_docume
 abbrev ClosedOf : List ℕ → List LineEnd × List ℕ → Type 0
 ClosedOf text c = (text ≡ comments_text c.0 ++ c.1) × (canonical_comments false c.0 c.1 ≡ true)
 
+-- comments that are read after something on its line fit
 closed_sound : (text : List ℕ) → closes_line (all_comments false text) ≡ true → ClosedOf text (all_comments false text)
 closed_sound text h =
     let c : List LineEnd × List ℕ = all_comments false text in
     let cs : CommentsOf false text c = all_sound false text in
     (cs.0, tail_fit c.0 c.1 cs.1 h)
 
+-- the version is at the start of the text
 abbrev VersionOf : List ℕ → Bool → List ℕ → Type 0
 VersionOf text first_version rest = text ≡ (if first_version then codes "1.1" else codes "1.2") ++ rest
 
+-- a version that is read is there
 version_sound : (text : List ℕ) → Sound (VersionOf text) (read_version text)
 version_sound text =
     cond_both (begins (codes "1.1") text) (Some (true, drop 3 text)) (if begins (codes "1.2") text then Some (false, drop 3 text) else None) (Sound (VersionOf text))

@@ -16,6 +16,7 @@ use Rattle.yaml_recognizers.specs.Recognizers.{flow_entries_at, flow_entry_at, f
 use Rattle.yaml_recognizers.proofs.Flow.FlowNodesDepth.{entries_step, entry_step, flow_step, value_step}
 use Rattle.yaml_recognizers.proofs.Scalars.ScalarsInNodes.{reads_scalars}
 
+-- two steps after what was read are one step of both
 on_on : {A B C : Type 0} (r : Read A) (f : A → List ℕ → Read B) (g : B → List ℕ → Read C) → on (on r f) g ≡ on r (λ a t. on (f a t) g)
 on_on None f g = refl
 on_on (Some r) f g = refl
@@ -51,6 +52,7 @@ is_scalar n c bol text h k = flow_step read_scalar reads_scalars n c bol text �
 
 -- ---- the start of an entry
 
+-- a bracket that closes here is closed with its entries
 closed_here : (b : Bracket) (text : List ℕ) → close_with b (Some (none, text)) ≡ read_closing (closer b.in_seq) (collection_of b.in_seq b.gap (entries_onto b.done none)) text
 closed_here b text = refl
 
@@ -80,6 +82,7 @@ entry_begins n d bol b text h a =
     ∙ (ap (λ r. close_with b (on r (λ e t. entries_of n d b.in_seq e t))) (entry_step read_scalar reads_scalars n d b.in_seq bol text ∙ rw a refl)
     ∙ through n d b (flow_node_at n d bol text) (λ key rest. entry_of n d b.in_seq (first_node bol) key rest))
 
+-- an entry after `?` goes on with its node
 asked_begins : (n : ℕ) (d : FlowContext) (in_seq : Bool) (gap : GapRead) (sep : Sep) → gap.0 ≡ Some sep
     → asked_entry (λ gap rest. flow_node_at n d (starts_line false (gap_text gap)) rest) (λ after_plain rest. flow_value_at n d after_plain rest) gap
     ≡ on (flow_node_at n d (starts_line false (gap_text (Some sep))) gap.1) (λ key rest. entry_of n d in_seq (asked_key sep) key rest)
@@ -99,6 +102,7 @@ entry_is_asked n d bol b text sep h a g =
 
 -- ---- after a node: no value, or one that begins after a `:`
 
+-- a value after `:` goes on with its node
 value_given : (n : ℕ) (d : FlowContext) (after_plain : Bool) (text : List ℕ) → is_colon d after_plain (read_gap n (one_line d) text).1 ≡ true
     → ends_entry (read_gap n (one_line d) (past (read_gap n (one_line d) text).1)).1 || (after_plain && not (is_some (read_gap n (one_line d) (past (read_gap n (one_line d) text).1)).0)) ≡ false
     → flow_value_at n d after_plain text

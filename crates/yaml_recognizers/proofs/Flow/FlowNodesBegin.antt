@@ -101,6 +101,7 @@ scalar_begins (double prefix more) n c bol after h = (refl, refl)
 abbrev pub bracket : ℕ → Bool
 bracket x = (x == 93) || (x == 125)
 
+-- a closing bracket is one of two
 bracket_cases : (x : ℕ) → bracket x ≡ true → (x ≡ 93) ⊎ (x ≡ 125)
 bracket_cases x h = elim (or_cases (x == 93) (x == 125) h) [ inl e ↦ inl (eqb-true x 93 e) | inr e ↦ inr (eqb-true x 125 e) ]
 
@@ -112,6 +113,7 @@ bracket_closing x h = elim (bracket_cases x h) [ inl e ↦ rw e | inr e ↦ rw e
 pub bracket_no_comma : (x : ℕ) → bracket x ≡ true → (x == 44) ≡ false
 bracket_no_comma x h = elim (bracket_cases x h) [ inl e ↦ rw e | inr e ↦ rw e ]
 
+-- where no entry ends, no bracket closes
 unclosed : (text : List ℕ) (close : ℕ) → closing close ≡ true → ends_entry text ≡ false → first (λ x. x == close) text ≡ false
 unclosed [] close k h = refl
 unclosed (c ∷ cs) close k h = elim (cases_eq c close) [
@@ -119,11 +121,13 @@ unclosed (c ∷ cs) close k h = elim (cases_eq c close) [
   | inr n ↦ ne_eqb c close n
 ]
 
+-- the key of an entry is canonical in one context or in the other
 either_key : (pair : Bool) (f : Flow) (n : ℕ) (c : FlowContext) (bol : Bool) (after : List ℕ) (short : Bool)
     → cond pair (canonical_flow f 0 flow_key bol after && short) (canonical_flow f n c bol after) ≡ true → (first solid (flow_text f ++ after) ≡ true) × (ends_entry (flow_text f ++ after) ≡ false)
 either_key true f n c bol after short h = let b = flow_begins f 0 flow_key bol after (and_parts _ _ h).0 in (b.0, b.1)
 either_key false f n c bol after short h = let b = flow_begins f n c bol after h in (b.0, b.1)
 
+-- an entry starts with something solid
 entry_begins : (e : Entry) (n : ℕ) (d : FlowContext) (in_seq bol : Bool) (after : List ℕ) → canonical_entry e n d in_seq bol after ≡ true
     → (first solid (entry_text e ++ after) ≡ true) × (ends_entry (entry_text e ++ after) ≡ false)
 entry_begins (entry None key value) n d in_seq bol after h =
@@ -153,6 +157,7 @@ entry_opens e n d in_seq bol close after k h = unclosed (entry_text e ++ after) 
 
 -- ---- nodes in a block
 
+-- outside brackets what is safe is ns
 wide_safe : (c : FlowContext) (xs : List ℕ) → in_flow c ≡ false → first (safe c) xs ≡ true → first ns xs ≡ true
 wide_safe outer [] w h = h
 wide_safe outer (x ∷ xs) w h = h
@@ -161,12 +166,14 @@ wide_safe block_key (x ∷ xs) w h = h
 wide_safe inner xs w h = absurd (false≢true (sym w))
 wide_safe flow_key xs w h = absurd (false≢true (sym w))
 
+-- a plain scalar starts with no indicator as a sign
 plain_unsigned : (c : FlowContext) (k x : ℕ) (xs : List ℕ) → in_flow c ≡ false → indicator k ≡ true → plain_first c x xs ≡ true → sign k (x ∷ xs) ≡ false
 plain_unsigned c k x xs w i h = elim (or_cases _ _ (and_parts _ _ h).1) [
   | inl n ↦ and_left (x == k) _ (no_indicator x k i (not-true _ n))
   | inr n ↦ not_both (x == k) _ (not_from_true _ (wide_safe c xs w (and_parts _ _ n).1))
 ]
 
+-- a plain scalar starts with no `|` and no `>`
 plain_no_bar : (c : FlowContext) (x : ℕ) (xs : List ℕ) → plain_first c x xs ≡ true → bar x ≡ false
 plain_no_bar c x xs h = elim (or_cases _ _ (and_parts _ _ h).1) [
   | inl n ↦ or_from _ _ (no_indicator x 124 refl (not-true _ n)) (no_indicator x 62 refl (not-true _ n))
@@ -177,6 +184,7 @@ plain_no_bar c x xs h = elim (or_cases _ _ (and_parts _ _ h).1) [
 abbrev pub reserved : ℕ → Bool
 reserved x = (x == 37) || (x == 0xfeff)
 
+-- a plain scalar starts with no reserved character
 plain_unreserved : (c : FlowContext) (x : ℕ) (xs : List ℕ) → plain_first c x xs ≡ true → reserved x ≡ false
 plain_unreserved c x xs h =
     or_from _ _
@@ -197,6 +205,7 @@ pub record Opens (text : List ℕ) : Type 0 where
   pub no_colon : sign 58 text ≡ false
   pub unreserved : first reserved text ≡ false
 
+-- a plain scalar may start a node
 plain_opens : (c : FlowContext) (prefix after : List ℕ) → in_flow c ≡ false → plain_line c prefix after ≡ true → Opens (prefix ++ after) × (first bar (prefix ++ after) ≡ false)
 plain_opens c [] after w h = absurd (false≢true h)
 plain_opens c (x ∷ xs) after w h =

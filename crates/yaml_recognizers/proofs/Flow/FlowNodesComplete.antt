@@ -66,10 +66,12 @@ pub closing_solid : (rest : List ℕ) → first closing rest ≡ true → first 
 closing_solid [] k = absurd (false≢true k)
 closing_solid (c ∷ cs) k = closing_is (λ x. solid x ≡ true) c k refl refl refl
 
+-- before a closing character an entry ends
 closing_ends : (rest : List ℕ) → first closing rest ≡ true → ends_entry rest ≡ true
 closing_ends [] k = refl
 closing_ends (c ∷ cs) k = k
 
+-- a closing character is no `:`
 closing_no_colon : (d : FlowContext) (after_plain : Bool) (rest : List ℕ) → first closing rest ≡ true → is_colon d after_plain rest ≡ false
 closing_no_colon d after_plain [] k = refl
 closing_no_colon d after_plain (c ∷ cs) k = and_left (c == 58) _ (closing_is (λ x. (x == 58) ≡ false) c k refl refl refl)
@@ -83,22 +85,26 @@ from_key f n inner bol after i h = flow_wider f 0 n flow_key inner bol after ref
 from_key f n block_key bol after i h = absurd (false≢true i)
 from_key f n flow_key bol after i h = flow_wider f 0 n flow_key flow_key bol after refl h
 
+-- a key that is canonical as that of a single pair or as another is canonical as another
 key_either : (pair : Bool) (f : Flow) (n : ℕ) (d : FlowContext) (bol : Bool) (after : List ℕ) (short : Bool) → in_flow d ≡ true
     → cond pair (canonical_flow f 0 flow_key bol after && short) (canonical_flow f n d bol after) ≡ true → canonical_flow f n d bol after ≡ true
 key_either true f n d bol after short i h = from_key f n d bol after i (and_parts _ _ h).0
 key_either false f n d bol after short i h = h
 
+-- the key and the value of a single pair fit together
 either_left : (b a x y : Bool) (v : Bool → Bool) (w : Bool) → cond b x y ≡ true → v (a || b) ≡ true → cond b (x && v true) true ≡ true
 either_left true true x y v w h k = and_from _ _ h k
 either_left true false x y v w h k = and_from _ _ h k
 either_left false a x y v w h k = refl
 
+-- a value after a plain key has whitespace before it
 given_goes_on : (a p : Bool) → a || not p ≡ true → p && not a ≡ false
 given_goes_on true true h = refl
 given_goes_on true false h = refl
 given_goes_on false true h = absurd (false≢true h)
 given_goes_on false false h = refl
 
+-- a gap in a key is a gap
 gap_either : (n : ℕ) (a b : Bool) (gap : Option Sep) (after : List ℕ) → canonical_gap n (a || b) gap after ≡ true → canonical_gap n a gap after ≡ true
 gap_either n true b gap after h = h
 gap_either n false true gap after h = gap_wider n n true false gap after refl h
@@ -114,6 +120,7 @@ value_either (given before gap_after f) n d a b after_plain after h =
     let r = and_parts _ _ q.0 in
     and_from _ _ (and_from _ _ (and_from _ _ (gap_either n a b before _ r.0) r.1) q.1) p.1
 
+-- what fails, fails together with others
 not_and : (x y : Bool) → y ≡ false → not (x && y) ≡ true
 not_and true y h = rw h
 not_and false y h = refl

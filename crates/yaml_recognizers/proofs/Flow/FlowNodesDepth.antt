@@ -16,12 +16,14 @@ use Rattle.yaml_recognizers.proofs.Basics.Prefixes.{head_is}
 use Rattle.yaml_recognizers.proofs.Separation.GapsSound.{gap_sound}
 use Rattle.yaml_recognizers.proofs.Basics.Reading.{cond_same, on_same}
 
+-- a gap leaves no more than the text
 gap_left : (n : ℕ) (key : Bool) (text : List ℕ) → length (read_gap n key text).1 ≤ length text
 gap_left n key text =
     let g : GapRead = read_gap n key text in
     let e : text ≡ gap_text g.0 ++ g.1 = (gap_sound n key text).0 in
     omega (arith, ap length e, length-append (gap_text g.0) g.1)
 
+-- one character takes one of the text
 one_past : (k : ℕ) (text : List ℕ) → text ≡ k ∷ past text → suc (length (past text)) ≡ length text
 one_past k text e = sym (ap length e)
 
@@ -29,6 +31,7 @@ one_past k text e = sym (ap length e)
 past_gap_left : (n : ℕ) (key : Bool) (k : ℕ) (text : List ℕ) → text ≡ k ∷ past text → suc (length (read_gap n key (past text)).1) ≤ length text
 past_gap_left n key k text e = let l : length (read_gap n key (past text)).1 ≤ length (past text) = gap_left n key (past text) in omega (arith, l, one_past k text e)
 
+-- recognizers that agree on what comes next read the same entry after `?`
 asked_same : (again again' : Option Sep → List ℕ → Read Flow) (value_at value_at' : Bool → List ℕ → Read Value) (gap : Option Sep) (text : List ℕ) → again gap text ≡ again' gap text
     → ((key : Flow) (rest : List ℕ) → again' gap text ≡ Some (key, rest) → value_at (is_plain key) rest ≡ value_at' (is_plain key) rest)
     → asked_with again value_at gap text ≡ asked_with again' value_at' gap text

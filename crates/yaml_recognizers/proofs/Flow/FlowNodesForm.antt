@@ -36,6 +36,7 @@ abbrev mutual
 
 -- ---- the text
 
+-- the text of a `?` with its gap stays
 asked_text_same : (ask : Option Sep) → asked_text (gap_form ask) ≡ asked_text ask
 asked_text_same None = refl
 asked_text_same (Some sep) = rw (sep_form_text sep)
@@ -65,6 +66,7 @@ mutual
 
 -- ---- the meaning
 
+-- a pair stays a pair
 is_pair_same : (ask : Option Sep) (value : Value) → is_pair (gap_form ask) (value_form value) ≡ is_pair ask value
 is_pair_same None absent = refl
 is_pair_same None (empty gap) = refl
@@ -98,26 +100,31 @@ mutual
 
 -- ---- it fits
 
+-- a plain scalar stays one
 is_plain_same : (f : Flow) → is_plain (flow_form f) ≡ is_plain f
 is_plain_same (scalar s) = refl
 is_plain_same (seq gap es) = refl
 is_plain_same (map gap es) = refl
 
+-- a gap that is there stays there
 is_some_same : (gap : Option Sep) → is_some (gap_form gap) ≡ is_some gap
 is_some_same None = refl
 is_some_same (Some sep) = refl
 
+-- a single pair stays one
 single_pair_same : (in_seq : Bool) (ask : Option Sep) (value : Value) → single_pair in_seq (gap_form ask) (value_form value) ≡ single_pair in_seq ask value
 single_pair_same in_seq None absent = refl
 single_pair_same in_seq None (empty gap) = refl
 single_pair_same in_seq None (given before after f) = refl
 single_pair_same in_seq (Some sep) value = refl
 
+-- the text before a `:` stays
 before_colon_same : (value : Value) → before_colon (value_form value) ≡ before_colon value
 before_colon_same absent = refl
 before_colon_same (empty gap) = gap_form_text gap
 before_colon_same (given before after f) = gap_form_text before
 
+-- what leads from each part leads from the choice
 either : (pair a a' short b b' : Bool) → (a ≡ true → a' ≡ true) → (b ≡ true → b' ≡ true) → cond pair (a && short) b ≡ true → cond pair (a' && short) b' ≡ true
 either true a a' short b b' f g h = let p : (a ≡ true) × (short ≡ true) = and_parts _ _ h in and_from _ _ (f p.0) p.1
 either false a a' short b b' f g h = g h
@@ -126,11 +133,13 @@ either false a a' short b b' f g h = g h
 pub form_solid : (f : Flow) (n : ℕ) (c : FlowContext) (bol : Bool) (after : List ℕ) → canonical_flow (flow_form f) n c bol after ≡ true → first solid (flow_text f ++ after) ≡ true
 form_solid f n c bol after h = rw (flow_form_text f) at (flow_begins (flow_form f) n c bol after h).0
 
+-- the key of an entry starts with something solid
 either_solid : (pair : Bool) (f : Flow) (n : ℕ) (d : FlowContext) (b b' : Bool) (after : List ℕ) (short : Bool)
     → cond pair (canonical_flow (flow_form f) 0 flow_key b after && short) (canonical_flow (flow_form f) n d b' after) ≡ true → first solid (flow_text f ++ after) ≡ true
 either_solid true f n d b b' after short h = form_solid f 0 flow_key b after (and_parts _ _ h).0
 either_solid false f n d b b' after short h = form_solid f n d b' after h
 
+-- a closing bracket is solid
 close_solid : (close : ℕ) (after : List ℕ) → bracket close ≡ true → first solid (close ∷ after) ≡ true
 close_solid close after k = entries_begin none 0 flow_key true true close after k refl
 

@@ -28,15 +28,18 @@ pub colon_parts : (d : FlowContext) (after_plain : Bool) (text : List ℕ) → i
 colon_parts d after_plain [] h = absurd (false≢true h)
 colon_parts d after_plain (c ∷ cs) h = let p : (c == 58 ≡ true) × (not (after_plain && first (safe d) cs) ≡ true) = and_parts _ _ h in (ap (λ x. x ∷ cs) (eqb-true c 58 p.0), p.1)
 
+-- nothing more is no change
 or_false : (b : Bool) → b ≡ b || false
 or_false true = refl
 or_false false = refl
 
+-- the tests of an entry hold, whether it is a single pair or not
 pair_fits_all : (pair o a b : Bool) (v : Bool → Bool) → cond pair (a && v true) true ≡ true → b ≡ true → v o ≡ true → cond pair a b && v (o || pair) ≡ true
 pair_fits_all true true a b v h k l = and_from _ _ (and_parts _ _ h).0 l
 pair_fits_all true false a b v h k l = h
 pair_fits_all false o a b v h k l = and_from _ _ k (subst (λ (x : Bool). v x ≡ true) (or_false o) l)
 
+-- after a plain key comes whitespace, if a value does
 has_white : (a p : Bool) → p && not a ≡ false → a || not p ≡ true
 has_white true p h = refl
 has_white false true h = absurd (false≢true (sym h))

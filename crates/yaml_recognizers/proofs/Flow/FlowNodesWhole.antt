@@ -19,6 +19,7 @@ use Rattle.yaml_recognizers.proofs.Basics.Reading.{Sound, sound_of}
 mutual
   unfolding flow_size
 
+  -- a node is no larger than its text
   flow_small : (f : Flow) → flow_size f ≤ 4 * length (flow_text f) + 1
   flow_small (scalar s) = omega arith
   flow_small (seq gap es) =
@@ -26,6 +27,7 @@ mutual
   flow_small (map gap es) =
       omega (arith, entries_small es, length-append (codes "{" ++ gap_text gap ++ entries_text es) (codes "}"), length-append (codes "{" ++ gap_text gap) (entries_text es), length-append (codes "{") (gap_text gap))
 
+  -- nor are entries
   entries_small : (es : Entries) → entries_size es ≤ 4 * length (entries_text es) + 4
   entries_small none = omega arith
   entries_small (last e gap) = omega (arith, entry_small e, length-append (entry_text e) (gap_text gap))
@@ -40,10 +42,12 @@ mutual
         length-append (entry_text e) (gap_text before),
       )
 
+  -- nor is an entry
   entry_small : (e : Entry) → entry_size e ≤ 4 * length (entry_text e) + 3
   entry_small (entry ask key value) =
       omega (arith, flow_small key, value_small value, length-append (asked_text ask ++ flow_text key) (value_text value), length-append (asked_text ask) (flow_text key))
 
+  -- nor is a value
   value_small : (v : Value) → value_size v ≤ 4 * length (value_text v) + 1
   value_small absent = omega arith
   value_small (empty gap) = omega arith

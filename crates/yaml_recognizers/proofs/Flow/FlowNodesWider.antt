@@ -49,6 +49,7 @@ safe_same c d w x = widens_cases (λ a b. safe a x ≡ safe b x) c d w refl refl
 pub first_safe : (c d : FlowContext) (xs : List ℕ) → widens c d ≡ true → first (safe c) xs ≡ first (safe d) xs
 first_safe c d xs w = first_same c d (safe_same c d w) xs
 
+-- a scalar fits in the wider context
 scalar_wider : (s : Scalar) (n m : ℕ) (c d : FlowContext) (bol : Bool) (after : List ℕ) → widens c d ≡ true → scalar_fits n c bol s after ≡ true → scalar_fits m d bol s after ≡ true
 scalar_wider s n m c d bol after w h = fits_same c d (safe_same c d w) s n m bol after (key_on_one_line s n c bol after (key_line c d w) h) h
 
@@ -59,6 +60,7 @@ pub either : (b a x y : Bool) → (x ≡ true → y ≡ true) → cond b a x ≡
 either true a x y f h = h
 either false a x y f h = f h
 
+-- one of two is enough
 or_true : (a b : Bool) → a ≡ true → a || b ≡ true
 or_true true b h = refl
 or_true false b h = absurd (false≢true h)
@@ -74,6 +76,7 @@ mutual
       let p = and_parts _ _ h in
       and_from _ _ (gap_wider n m (one_line c) (one_line d) gap _ (key_line c d w) p.0) (entries_wider es n m (inside c) (inside d) false _ _ (wider_inside c d w) p.1)
 
+  -- so do entries
   entries_wider : (es : Entries) (n m : ℕ) (c d : FlowContext) (in_seq bol : Bool) (after : List ℕ) → widens c d ≡ true → canonical_entries es n c in_seq bol after ≡ true → canonical_entries es m d in_seq bol after ≡ true
   entries_wider none n m c d in_seq bol after w h = refl
   entries_wider (last e gap) n m c d in_seq bol after w h =
@@ -87,6 +90,7 @@ mutual
       and_from _ _ (and_from _ _ (and_from _ _ (entry_wider e n m c d in_seq bol _ w r.0) (gap_wider n m (one_line c) (one_line d) before _ k r.1)) (gap_wider n m (one_line c) (one_line d) gap_after _ k q.1))
       (entries_wider es n m c d in_seq _ _ w p.1)
 
+  -- and an entry
   entry_wider : (e : Entry) (n m : ℕ) (c d : FlowContext) (in_seq bol : Bool) (after : List ℕ) → widens c d ≡ true → canonical_entry e n c in_seq bol after ≡ true → canonical_entry e m d in_seq bol after ≡ true
   entry_wider (entry ask key value) n m c d in_seq bol after w h =
       let k : one_line c ≡ true = key_line c d w in
@@ -95,6 +99,7 @@ mutual
       and_from _ _ (and_from _ _ (gap_wider n m (one_line c) (one_line d) ask _ k q.0) (either (single_pair in_seq ask value) _ _ _ (flow_wider key n m c d _ _ w) q.1))
       (value_wider value n m c d _ _ _ _ w (or_true (one_line c) (single_pair in_seq ask value) k) p.1)
 
+  -- and a value
   value_wider : (v : Value) (n m : ℕ) (c d : FlowContext) (key key' after_plain : Bool) (after : List ℕ) → widens c d ≡ true → key ≡ true
       → canonical_value v n c key after_plain after ≡ true → canonical_value v m d key' after_plain after ≡ true
   value_wider absent n m c d key key' after_plain after w k h = refl

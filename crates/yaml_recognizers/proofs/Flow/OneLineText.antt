@@ -28,12 +28,15 @@ unbroken_joined (x ∷ xs) ys = by_cases (not (line_break x)) (unbroken xs) (unb
     by_cases true b c e = e
     by_cases false b c e = refl
 
+-- two texts without a break, joined, have none
 both_unbroken : (xs ys : List ℕ) → unbroken xs ≡ true → unbroken ys ≡ true → unbroken (xs ++ ys) ≡ true
 both_unbroken xs ys h k = unbroken_joined xs ys ∙ and_from _ _ h k
 
+-- a break in the first of two is one in both, joined
 left_broken : (xs ys : List ℕ) → unbroken xs ≡ false → unbroken (xs ++ ys) ≡ false
 left_broken xs ys h = unbroken_joined xs ys ∙ rw h refl
 
+-- and so is a break in the second
 right_broken : (xs ys : List ℕ) → unbroken ys ≡ false → unbroken (xs ++ ys) ≡ false
 right_broken xs ys h = unbroken_joined xs ys ∙ rw h (and_false (unbroken xs))
   where
@@ -41,6 +44,7 @@ right_broken xs ys h = unbroken_joined xs ys ∙ rw h (and_false (unbroken xs))
     and_false true = refl
     and_false false = refl
 
+-- a break has a break
 break_broken : (b : Break) → unbroken (break_text b) ≡ false
 break_broken lf = refl
 break_broken cr = refl
@@ -48,16 +52,20 @@ break_broken cr_lf = refl
 
 -- ---- scalars
 
+-- things that are spelled without a break have none, one after another
 all_unbroken : {A : Type 0} (spell : A → List ℕ) (p : A → Bool) (xs : List A) → ((x : A) → p x ≡ true → unbroken (spell x) ≡ true) → list_all p xs ≡ true → unbroken (flat_map spell xs) ≡ true
 all_unbroken spell p [] f h = refl
 all_unbroken spell p (x ∷ xs) f h = let q = and_parts _ _ h in both_unbroken (spell x) (flat_map spell xs) (f x q.0) (all_unbroken spell p xs f q.1)
 
+-- a character that is no break has none
 one_unbroken : (x : ℕ) → line_break x ≡ false → unbroken (x ∷ []) ≡ true
 one_unbroken x h = rw h refl
 
+-- a character between single quotes has no break
 single_unbroken : (x : ℕ) → nb_json x ≡ true → unbroken (single_text x) ≡ true
 single_unbroken x h = cond_both (x == 39) (codes "''") (x ∷ []) (λ (t : List ℕ). unbroken t ≡ true) (λ _. refl) (λ _. one_unbroken x (grind (arith, nat_tests)))
 
+-- hexadecimal digits have no break
 digits_unbroken : (ds : List ℕ) → list_all hex_digit ds ≡ true → unbroken ds ≡ true
 digits_unbroken [] h = refl
 digits_unbroken (d ∷ ds) h = let q = and_parts _ _ h in and_from _ _ (digit d q.0) (digits_unbroken ds q.1)
@@ -65,6 +73,7 @@ digits_unbroken (d ∷ ds) h = let q = and_parts _ _ h in and_from _ _ (digit d 
     digit : (d : ℕ) → hex_digit d ≡ true → not (line_break d) ≡ true
     digit d h = grind (arith, nat_tests)
 
+-- one thing between double quotes has no break
 item_unbroken : (i : QuotedChar) → quoted_char_fits i ≡ true → unbroken (quoted_char_text i) ≡ true
 item_unbroken (raw c) h = one_unbroken c (json c (and_parts _ _ h).0)
   where
@@ -83,6 +92,7 @@ item_unbroken (number c digits) h =
     sign : (c : ℕ) → is_in c (codes "xuU") ≡ true → not (line_break c) ≡ true
     sign c h = grind (arith, nat_tests)
 
+-- ns is no break
 ns_unbroken : (x : ℕ) → ns x ≡ true → not (line_break x) ≡ true
 ns_unbroken x h = grind (arith, nat_tests)
 
@@ -98,6 +108,7 @@ run_unbroken c prev (x ∷ xs) after h =
     one block_key prev x t h = grind (arith, nat_tests)
     one flow_key prev x t h = grind (arith, nat_tests)
 
+-- a further line has a break
 line_broken : {A : Type 0} (spell : A → List ℕ) (l : Line A) → unbroken (line_text spell l) ≡ false
 line_broken spell l =
     left_broken (((l.blank ++ (if l.escaped then codes "\\" else []) ++ break_text l.stop) ++ flat_map (λ e. e.blank ++ break_text e.stop) l.empties) ++ l.lead) (flat_map spell l.held)
@@ -111,6 +122,7 @@ lines_one_line spell prefix [] h = both_unbroken (flat_map spell prefix) [] h re
 lines_one_line spell prefix (l ∷ ls) h =
     right_broken (flat_map spell prefix) (line_text spell l ++ flat_map (line_text spell) ls) (left_broken (line_text spell l) (flat_map (line_text spell) ls) (line_broken spell l))
 
+-- quotes have no break
 between_quotes : (q : ℕ) (xs : List ℕ) → line_break q ≡ false → unbroken ((q ∷ []) ++ xs ++ (q ∷ [])) ≡ unbroken xs
 between_quotes q xs h =
     unbroken_joined ((q ∷ []) ++ xs) (q ∷ []) ∙ rw h (and_true (unbroken xs))
@@ -119,6 +131,7 @@ between_quotes q xs h =
     and_true true = refl
     and_true false = refl
 
+-- the first line of a plain scalar has no break
 plain_prefix : (c : FlowContext) (prefix after : List ℕ) → plain_line c prefix after ≡ true → unbroken (flat_map plain_text prefix) ≡ true
 plain_prefix c [] after h = refl
 plain_prefix c (x ∷ xs) after h =
@@ -142,10 +155,12 @@ scalar_one_line (double prefix more) n c bol after h =
 
 -- ---- gaps
 
+-- two texts, joined, aren't empty if the second isn't
 nonempty_after : (xs ys : List ℕ) → is_empty ys ≡ false → is_empty (xs ++ ys) ≡ false
 nonempty_after [] ys h = h
 nonempty_after (x ∷ xs) ys h = refl
 
+-- whitespace has no break
 white_unbroken : (xs : List ℕ) → list_all white xs ≡ true → unbroken xs ≡ true
 white_unbroken [] h = refl
 white_unbroken (x ∷ xs) h = let q = and_parts _ _ h in and_from _ _ (one x q.0) (white_unbroken xs q.1)
@@ -153,6 +168,7 @@ white_unbroken (x ∷ xs) h = let q = and_parts _ _ h in and_from _ _ (one x q.0
     one : (x : ℕ) → white x ≡ true → not (line_break x) ≡ true
     one x h = grind (arith, nat_tests)
 
+-- a line's end that isn't at the end of the text has a break
 stop_broken : (stop : Option Break) (after : List ℕ) → stop_fits stop after ≡ true → is_empty after ≡ false → unbroken (optional break_text stop) ≡ false
 stop_broken None after h k = absurd (false≢true (sym k ∙ h))
 stop_broken (Some b) after h k = break_broken b
@@ -179,6 +195,7 @@ gap_one_line n key (Some (lines (e ∷ es) lead)) after h k =
 
 -- ---- nodes
 
+-- brackets have no break
 bracketed : (a b : ℕ) (g es : List ℕ) → line_break a ≡ false → line_break b ≡ false → unbroken ((a ∷ []) ++ g ++ es ++ (b ∷ [])) ≡ unbroken g && unbroken es
 bracketed a b g es h k =
     unbroken_joined ((a ∷ []) ++ g ++ es) (b ∷ []) ∙ (ap (λ t. t && unbroken (b ∷ [])) (unbroken_joined ((a ∷ []) ++ g) es) ∙ rw (h, k) (and_true (unbroken g && unbroken es)))
@@ -187,6 +204,7 @@ bracketed a b g es h k =
     and_true true = refl
     and_true false = refl
 
+-- a break in three texts, joined, is one in one of them
 three : (xs ys zs : List ℕ) → unbroken (xs ++ ys ++ zs) ≡ (unbroken xs && unbroken ys) && unbroken zs
 three xs ys zs = unbroken_joined (xs ++ ys) zs ∙ ap (λ t. t && unbroken zs) (unbroken_joined xs ys)
 
@@ -198,6 +216,7 @@ apart_by x xs ys h = three xs (x ∷ []) ys ∙ rw h (ap (λ t. t && unbroken ys
     and_true true = refl
     and_true false = refl
 
+-- `?` has no break
 asked_same : (ask : Option Sep) → unbroken (asked_text ask) ≡ unbroken (gap_text ask)
 asked_same None = refl
 asked_same (Some sep) = refl
@@ -207,6 +226,7 @@ of_either : (P : Type 0) (b x y z : Bool) → cond b (x && y) z ≡ true → (x 
 of_either P true x y z h f g = f (and_parts x y h).0
 of_either P false x y z h f g = g h
 
+-- what holds together with true
 and_true : (b : Bool) → b && true ≡ b
 and_true true = refl
 and_true false = refl
@@ -224,6 +244,7 @@ mutual
       rw (gap_one_line n (one_line c) gap (entries_text es ++ (125 ∷ after)) p.0 (nonempty_after (entries_text es) (125 ∷ after) refl), entries_one_line es n (inside c) false _ (125 ∷ after) p.1 refl)
       (sym (bracketed 123 125 (gap_text gap) (entries_text es) refl refl))
 
+  -- entries are on one line just where their text has no break
   entries_one_line : (es : Entries) (n : ℕ) (d : FlowContext) (in_seq bol : Bool) (after : List ℕ) → canonical_entries es n d in_seq bol after ≡ true → is_empty after ≡ false
       → entries_on_one_line es ≡ unbroken (entries_text es)
   entries_one_line none n d in_seq bol after h k = refl
@@ -246,6 +267,7 @@ mutual
       ∙ ap (λ t. (t && unbroken (gap_text gap_after)) && unbroken (entries_text es))
       (unbroken_joined (entry_text e ++ gap_text before) (44 ∷ []) ∙ (and_true (unbroken (entry_text e ++ gap_text before)) ∙ unbroken_joined (entry_text e) (gap_text before)))))
 
+  -- and so is an entry
   entry_one_line : (e : Entry) (n : ℕ) (d : FlowContext) (in_seq bol : Bool) (after : List ℕ) → canonical_entry e n d in_seq bol after ≡ true → is_empty after ≡ false
       → entry_on_one_line e ≡ unbroken (entry_text e)
   entry_one_line (entry ask key value) n d in_seq bol after h k =
@@ -263,6 +285,7 @@ mutual
       )
       (sym (three (asked_text ask) (flow_text key) (value_text value) ∙ ap (λ t. (t && unbroken (flow_text key)) && unbroken (value_text value)) (asked_same ask)))
 
+  -- and a value
   value_one_line : (v : Value) (n : ℕ) (d : FlowContext) (key after_plain : Bool) (after : List ℕ) → canonical_value v n d key after_plain after ≡ true → is_empty after ≡ false
       → value_on_one_line v ≡ unbroken (value_text v)
   value_one_line absent n d key after_plain after h k = refl

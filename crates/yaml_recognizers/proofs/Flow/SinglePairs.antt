@@ -31,6 +31,7 @@ gap_in_key n key None after h = refl
 gap_in_key n key (Some (inline blank)) after h = h
 gap_in_key n key (Some (lines comments lead)) after h = refl
 
+-- a canonical value is so in a key just where the gap before its `:` is on one line
 value_in_key : (v : Value) (n : ℕ) (d : FlowContext) (key after_plain : Bool) (after : List ℕ) → canonical_value v n d key after_plain after ≡ true
     → canonical_value v n d true after_plain after ≡ gap_on_one_line (gap_before v)
 value_in_key absent n d key after_plain after h = refl

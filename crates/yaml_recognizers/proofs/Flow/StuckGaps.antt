@@ -35,10 +35,12 @@ no_colon d after_plain x xs h = rw ((no_sign x h).5) refl
 pub no_end : (x : ℕ) (xs : List ℕ) → blank x ≡ true → ends_entry (x ∷ xs) ≡ false
 no_end x xs h = let s = no_sign x h in rw (s.4, s.2, s.3) refl
 
+-- what does not hold together with false
 and_false : (b : Bool) → b && false ≡ false
 and_false true = refl
 and_false false = refl
 
+-- before whitespace or a break no scalar is read
 no_scalar : (n : ℕ) (c : FlowContext) (bol : Bool) (x : ℕ) (xs : List ℕ) → blank x ≡ true → read_scalar n c bol (x ∷ xs) ≡ None
 unfolding read_scalar read_plain
 no_scalar n c bol x xs h = let s = no_sign x h in rw (s.6, s.7, s.9) (rw (and_false (no_marker bol (x ∷ xs))) refl)

@@ -37,6 +37,7 @@ gap_fits_too n key (Some sep) after h = sep_fits_too n key false sep after h
 
 -- ---- flow nodes
 
+-- what leads from each part leads from the choice
 either : (b x y x' y' : Bool) → (x ≡ true → x' ≡ true) → (y ≡ true → y' ≡ true) → cond b x y ≡ true → cond b x' y' ≡ true
 either true x y x' y' f g h = f h
 either false x y x' y' f g h = g h
@@ -52,6 +53,7 @@ mutual
       let p = and_parts _ _ h in
       and_from _ _ (gap_fits_too n (one_line c) gap _ p.0) (entries_fit_too es n (inside c) false _ _ p.1)
 
+  -- so do canonical entries
   entries_fit_too : (es : Entries) (n : ℕ) (d : FlowContext) (in_seq bol : Bool) (after : List ℕ) → canonical_entries es n d in_seq bol after ≡ true → entries_fit es n d in_seq bol after ≡ true
   entries_fit_too none n d in_seq bol after h = refl
   entries_fit_too (last e gap) n d in_seq bol after h =
@@ -64,6 +66,7 @@ mutual
       and_from _ _ (and_from _ _ (and_from _ _ (entry_fits_too e n d in_seq bol _ r.0) (gap_fits_too n (one_line d) before _ r.1)) (gap_fits_too n (one_line d) gap_after _ q.1))
       (entries_fit_too es n d in_seq _ _ p.1)
 
+  -- and a canonical entry
   entry_fits_too : (e : Entry) (n : ℕ) (d : FlowContext) (in_seq bol : Bool) (after : List ℕ) → canonical_entry e n d in_seq bol after ≡ true → entry_fits e n d in_seq bol after ≡ true
   entry_fits_too (entry ask key value) n d in_seq bol after h =
       let p = and_parts _ _ h in
@@ -73,6 +76,7 @@ mutual
       (either (single_pair in_seq ask value) _ _ _ _ (λ k. let r = and_parts _ _ k in and_from _ _ (flow_fits_too key 0 flow_key bol _ r.0) r.1) (λ k. flow_fits_too key n d _ _ k) q.1))
       (value_fits_too value n d _ _ after p.1)
 
+  -- and a canonical value
   value_fits_too : (v : Value) (n : ℕ) (d : FlowContext) (key after_plain : Bool) (after : List ℕ) → canonical_value v n d key after_plain after ≡ true → value_fits v n d key after_plain after ≡ true
   value_fits_too absent n d key after_plain after h = refl
   value_fits_too (empty gap) n d key after_plain after h = let p = and_parts _ _ h in and_from _ _ (gap_fits_too n key gap _ p.0) p.1
@@ -107,6 +111,7 @@ mutual
       let q = and_parts _ _ p.0 in
       and_from _ _ (and_from _ _ (comments_fit_too bol comments _ q.0) q.1) (pairs_fit_too ps k (k == 0) after p.1)
 
+  -- so do canonical items
   items_fit_too : (is : Items) (k : ℕ) (after : List ℕ) → canonical_items is k after ≡ true → items_fit is k after ≡ true
   items_fit_too (item i) k after h = let p = and_parts _ _ h in and_from _ _ p.0 (indented_fits_too i k false after p.1)
   items_fit_too (item_and i is) k after h =
@@ -114,10 +119,12 @@ mutual
       let q = and_parts _ _ p.0 in
       and_from _ _ (and_from _ _ q.0 (indented_fits_too i k false _ q.1)) (items_fit_too is k after p.1)
 
+  -- and canonical pairs
   pairs_fit_too : (ps : Pairs) (k : ℕ) (bol : Bool) (after : List ℕ) → canonical_pairs ps k bol after ≡ true → pairs_fit ps k bol after ≡ true
   pairs_fit_too (pair p) k bol after h = pair_fits_too p k bol after h
   pairs_fit_too (pair_and p ps) k bol after h = let q = and_parts _ _ h in and_from _ _ (pair_fits_too p k bol _ q.0) (pairs_fit_too ps k (k == 0) after q.1)
 
+  -- and a canonical pair
   pair_fits_too : (p : Pair) (k : ℕ) (bol : Bool) (after : List ℕ) → canonical_pair p k bol after ≡ true → pair_fits p k bol after ≡ true
   pair_fits_too (asked key value) k bol after h =
       let p = and_parts _ _ h in
@@ -135,6 +142,7 @@ mutual
       let r = and_parts _ _ q.0 in
       and_from _ _ (and_from _ _ (and_from _ _ (flow_fits_too key 0 block_key bol _ r.0) r.1) q.1) (comments_fit_too false comments after p.1)
 
+  -- and what comes after a sign, in its canonical form
   indented_fits_too : (i : Indented) (k : ℕ) (shallow : Bool) (after : List ℕ) → canonical_indented i k shallow after ≡ true → indented_fits i k shallow after ≡ true
   indented_fits_too (compact_items s is) k shallow after h = let p = and_parts _ _ h in and_from _ _ p.0 (items_fit_too is (k + 1 + s) after p.1)
   indented_fits_too (compact_pairs s ps) k shallow after h = let p = and_parts _ _ h in and_from _ _ p.0 (pairs_fit_too ps (k + 1 + s) false after p.1)

@@ -34,15 +34,19 @@ use Rattle.yaml_recognizers.proofs.Basics.Prefixes.{every_space, spaces_passed}
 use Rattle.yaml_recognizers.proofs.Separation.LineEnds.{comments_no_ns}
 use Rattle.yaml_recognizers.proofs.Basics.Solid.{dash_solid, solid_space}
 
+-- each of the nodes stands at its place
 abbrev Each : List NodePlace → Type 0
 Each places = All NodeStands places
 
+-- nodes of two lists stand
 both : (xs ys : List NodePlace) → Each xs → Each ys → Each (xs ++ ys)
 both xs ys h k = All-append NodeStands xs ys h k
 
+-- a node and others stand
 first_and : (x : NodePlace) (xs : List NodePlace) → NodeStands x → Each xs → Each (x ∷ xs)
 first_and x xs h k = All-cons NodeStands x xs h k
 
+-- a node stands
 alone : (x : NodePlace) → NodeStands x → Each (x ∷ [])
 alone x h = first_and x [] h (All-nil NodeStands)
 
@@ -55,6 +59,7 @@ between_key inner after_plain after b = record { within = refl; gap = b.gap; res
 between_key block_key after_plain after b = absurd (false≢true b.within)
 between_key flow_key after_plain after b = b
 
+-- what comes after a value ends it
 value_ends : (v : Value) (n : ℕ) (d : FlowContext) (alike after_plain : Bool) (gap : Option Sep) (rest : List ℕ) → in_flow d ≡ true → first closing rest ≡ true
     → gap_fits n (one_line d) gap rest ≡ true → value_fits v n d (one_line d || alike) after_plain (gap_text gap ++ rest) ≡ true
     → BetweenBrackets d after_plain (value_text v ++ (gap_text gap ++ rest))
@@ -68,6 +73,7 @@ value_ends v n d alike after_plain gap rest i k g h =
     subst (λ (t : List ℕ). BetweenBrackets d after_plain (t ++ (gap_text gap ++ rest))) (value_form_text v)
     (subst (λ (t : List ℕ). BetweenBrackets d after_plain (value_text (value_form v) ++ (t ++ rest))) (gap_form_text gap) s)
 
+-- what comes after an entry ends it
 entry_ends : (n : ℕ) (d : FlowContext) (after_plain : Bool) (gap : Option Sep) (rest : List ℕ) → in_flow d ≡ true → first closing rest ≡ true
     → gap_fits n (one_line d) gap rest ≡ true → BetweenBrackets d after_plain (gap_text gap ++ rest)
 entry_ends n d after_plain gap rest i k g =
@@ -95,6 +101,7 @@ mutual
       first_and (flow_at n c bol at (map gap es) after) (entries_places es n (inside c) false line place (125 ∷ after)) (record { spells = refl; fits = h; ends = e })
       (entries_stand es n (inside c) false line place 125 after (inside_flow c) refl (and_parts _ _ h).1)
 
+  -- the nodes of entries stand
   entries_stand : (es : Entries) (n : ℕ) (d : FlowContext) (in_seq bol : Bool) (at close : ℕ) (after : List ℕ) → in_flow d ≡ true → first closing (close ∷ after) ≡ true
       → entries_fit es n d in_seq bol (close ∷ after) ≡ true → Each (entries_places es n d in_seq bol at (close ∷ after))
   entries_stand none n d in_seq bol at close after i k h = All-nil NodeStands
@@ -113,6 +120,7 @@ mutual
       both (entry_places e n d in_seq bol at (gap_text before ++ (44 ∷ rest))) (entries_places es n d in_seq line later (close ∷ after))
       (entry_stand e n d in_seq bol at before (44 ∷ rest) i refl r.1 r.0) (entries_stand es n d in_seq line later close after i k p.1)
 
+  -- the nodes of an entry stand
   entry_stand : (e : Entry) (n : ℕ) (d : FlowContext) (in_seq bol : Bool) (at : ℕ) (gap : Option Sep) (rest : List ℕ) → in_flow d ≡ true → first closing rest ≡ true
       → gap_fits n (one_line d) gap rest ≡ true → entry_fits e n d in_seq bol (gap_text gap ++ rest) ≡ true → Each (entry_places e n d in_seq bol at (gap_text gap ++ rest))
   entry_stand (entry ask key value) n d in_seq bol at gap rest i k g h =
@@ -132,6 +140,7 @@ mutual
       (λ f. flow_stand key n d b place after f (ends_here n d key after (inl ends))) q.1)
       (value_stand value n d (one_line d || pair) (is_plain key) after_key gap rest i k g p.1)
 
+  -- the nodes of a value stand
   value_stand : (v : Value) (n : ℕ) (d : FlowContext) (key after_plain : Bool) (at : ℕ) (gap : Option Sep) (rest : List ℕ) → in_flow d ≡ true → first closing rest ≡ true
       → gap_fits n (one_line d) gap rest ≡ true → value_fits v n d key after_plain (gap_text gap ++ rest) ≡ true → Each (value_places v n d at (gap_text gap ++ rest))
   value_stand absent n d key after_plain at gap rest i k g h = All-nil NodeStands
@@ -142,6 +151,7 @@ mutual
 
 -- ---- what ends a part of a block node
 
+-- what ends a node ends one that ends before the same texts
 ends_as : (m m' : ℕ) (shallow shallow' : Bool) (after : List ℕ) → ((text : List ℕ) → block_node_stops m shallow text ≡ true → block_node_stops m' shallow' text ≡ true) → EndsNode m shallow after
     → EndsNode m' shallow' after
 ends_as m m' shallow shallow' after f e = record { lines = e.lines; after = e.after; is = e.is; fit = e.fit; whole = e.whole; ends = f e.after e.ends }
@@ -166,12 +176,14 @@ record Taken (o : Option ℕ) (after : List ℕ) : Type 0 where
   fit : comments_fit true ls left ≡ true
   takes : takes o ls left ≡ true
 
+-- the lines after a node may be taken in, or not
 taken : (o : Option ℕ) (m : ℕ) (shallow : Bool) (after : List ℕ) → EndsNode m shallow after → Taken o after
 taken o m shallow after e = elim (cases_Bool (takes o e.lines e.after)) [
   | inl t ↦ record { ls = e.lines; left = e.after; is = e.is; fit = e.fit; takes = t }
   | inr t ↦ record { ls = []; left = comments_text e.lines ++ e.after; is = e.is; fit = refl; takes = takes_not o e.lines e.after e.fit e.whole t }
 ]
 
+-- pairs may start where they are
 pairs_begin : (ps : Pairs) (k : ℕ) (bol : Bool) (m : ℕ) (shallow : Bool) (after : List ℕ) → pairs_fit ps k bol after ≡ true → EndsNode m shallow after
     → Prefix bol (pairs_text ps k ++ after)
 pairs_begin ps k bol m shallow after h e =
@@ -181,6 +193,7 @@ pairs_begin ps k bol m shallow after h e =
     ap (λ x. x ++ t.left) (pairs_form_text ps k t.ls) ∙ (append_assoc (pairs_text ps k) (comments_text t.ls) t.left ∙ ap (λ x. pairs_text ps k ++ x) (sym t.is)) in
     subst (λ (x : List ℕ). Prefix bol x) same (pairs_prefix (pairs_form ps t.ls) k bol t.left c)
 
+-- after the `:` of a key comes no ns
 value_apart : (v : Node) (k m : ℕ) (shallow : Bool) (after : List ℕ) → node_fits v (suc k) true false after ≡ true → EndsNode m shallow after → first ns (node_text v ++ after) ≡ false
 value_apart v k m shallow after h e =
     let t : Taken (node_open v) after = taken (node_open v) m shallow after e in
@@ -195,10 +208,12 @@ comments_more : (comments : List LineEnd) (m : ℕ) (shallow : Bool) (after : Li
 comments_more comments m shallow after h e =
     comments_form_fit false comments e.lines e.after (subst (λ (x : List ℕ). comments_fit false comments x ≡ true) e.is h) e.fit (not_from_false _ e.whole)
 
+-- the comments of a node and the lines after it, regrouped
 comments_spelled : (comments : List LineEnd) (m : ℕ) (shallow : Bool) (after : List ℕ) (e : EndsNode m shallow after)
     → comments_text comments ++ after ≡ comments_text (comments ++ e.lines) ++ e.after
 comments_spelled comments m shallow after e = ap (λ x. comments_text comments ++ x) e.is ∙ sym (joined_before comments e.lines e.after)
 
+-- what comes after a flow node in a block ends it
 leaf_stops : (f : Flow) (comments : List LineEnd) (m : ℕ) (shallow : Bool) (after : List ℕ) → comments_fit false comments after ≡ true → EndsNode m shallow after
     → Stops m outer (is_plain f) (comments_text comments ++ after)
 leaf_stops f comments m shallow after h e =
@@ -211,13 +226,16 @@ leaf_stops f comments m shallow after h e =
       shallow = block_node_stops_shallow m shallow e.after e.whole e.ends;
     }))
 
+-- what comes after a key ends it
 key_stops : (key : Flow) (gap rest : List ℕ) → list_all white gap ≡ true → first ns rest ≡ false → Stops 0 block_key (is_plain key) (gap ++ (58 ∷ rest))
 key_stops key gap rest w a = inr (inl (record { outside = refl; gap = gap; rest = rest; is = refl; gap_white = w; apart = a }))
 
+-- items start with something solid
 items_dash : (is : Items) (k : ℕ) (after : List ℕ) → first solid (items_text is k ++ after) ≡ true
 items_dash (item i) k after = refl
 items_dash (item_and i is) k after = refl
 
+-- a compact collection is deeper than its parent
 compact_deep : (k s : ℕ) (shallow : Bool) → nat_le (suc k) (cond shallow (suc (k + 1 + s)) (k + 1 + s)) ≡ true
 compact_deep k s true = le-leb (suc k) (suc (k + 1 + s)) (omega arith)
 compact_deep k s false = le-leb (suc k) (k + 1 + s) (omega arith)
@@ -247,6 +265,7 @@ mutual
       first_and (block_at m shallow bol at (pairs comments k ps) after) (pairs_places ps k (k == 0) place after) (record { spells = refl; fits = h; after = e })
       (pairs_stand ps k (k == 0) place after p.1 (ends_as m k shallow false after (λ t. block_node_stops_pairs m k shallow t (and_parts _ _ p.0).1) e))
 
+  -- the nodes of items stand
   items_stand : (is : Items) (k at : ℕ) (after : List ℕ) → items_fit is k after ≡ true → EndsNode (suc k) true after → Each (items_places is k at after)
   items_stand (item i) k at after h e = indented_stand i k false (at + 1) after (and_parts _ _ h).1 (ends_as (suc k) (suc k) true false after (λ t. block_node_stops_last k t) e)
   items_stand (item_and i is) k at after h e =
@@ -256,6 +275,7 @@ mutual
       both (indented_places i k false (at + 1) rest) (items_places is k later after)
       (indented_stand i k false (at + 1) rest (and_parts _ _ p.0).1 (ends_at k false (items_text is k ++ after) (items_dash is k after) refl)) (items_stand is k later after p.1 e)
 
+  -- the nodes of pairs stand
   pairs_stand : (ps : Pairs) (k : ℕ) (bol : Bool) (at : ℕ) (after : List ℕ) → pairs_fit ps k bol after ≡ true → EndsNode k false after → Each (pairs_places ps k bol at after)
   pairs_stand (pair p) k bol at after h e = pair_stand p k bol at after h (ends_as k (suc k) false true after (λ t. block_node_stops_value k t) e)
   pairs_stand (pair_and p ps) k bol at after h e =
@@ -266,6 +286,7 @@ mutual
       both (pair_places p k bol at rest) (pairs_places ps k (k == 0) later after)
       (pair_stand p k bol at rest q.0 (ends_at k true (pairs_text ps k ++ after) f.solid_first f.no_dash)) (pairs_stand ps k (k == 0) later after q.1 e)
 
+  -- the nodes of a pair stand
   pair_stand : (p : Pair) (k : ℕ) (bol : Bool) (at : ℕ) (after : List ℕ) → pair_fits p k bol after ≡ true → EndsNode (suc k) true after → Each (pair_places p k bol at after)
   pair_stand (asked key value) k bol at after h e =
       let rest : List ℕ = spaces k ++ (58 ∷ (indented_text value k ++ after)) in
@@ -292,6 +313,7 @@ mutual
       subst (λ (t : List ℕ). first ns t ≡ false) (sym (comments_spelled comments (suc k) true after e)) (comments_no_ns (comments ++ e.lines) e.after (comments_more comments (suc k) true after p.1 e)) in
       flow_stand key 0 block_key bol at (gap ++ (58 ∷ rest)) r.0 (ends_here 0 block_key key (gap ++ (58 ∷ rest)) (key_stops key gap rest r.1 apart))
 
+  -- the nodes of what comes after a sign stand
   indented_stand : (i : Indented) (k : ℕ) (shallow : Bool) (at : ℕ) (after : List ℕ) → indented_fits i k shallow after ≡ true → EndsNode (suc k) shallow after
       → Each (indented_places i k shallow at after)
   indented_stand (compact_items s is) k shallow at after h e =
@@ -303,25 +325,30 @@ mutual
 
 -- ---- streams
 
+-- the nodes after `---` stand
 explicit_stand : (x : Explicit) (bol : Bool) (at : ℕ) (after : List ℕ) → explicit_fits x bol after ≡ true → EndsNode 0 false after → Each (explicit_places x at after)
 explicit_stand (content n) bol at after h e = node_stand n 0 false false (at + 3) after (and_parts _ _ h).1 e
 explicit_stand (nothing comments) bol at after h e = All-nil NodeStands
 
+-- the nodes of a document stand
 document_stand : (d : Document) (bol : Bool) (at : ℕ) (after : List ℕ) → document_fits d bol after ≡ true → EndsNode 0 false after → Each (document_places d bol at after)
 document_stand (bare n) bol at after h e = node_stand n 0 false bol at after h e
 document_stand (explicit x) bol at after h e = explicit_stand x bol at after h e
 document_stand (directed blank first_version comments x) bol at after h e = explicit_stand x true (at + byte_len (directive_text blank first_version comments)) after (and_parts _ _ h).1 e
 
+-- the nodes of a document that may be left out stand
 optional_stand : (d : Option Document) (at : ℕ) (after : List ℕ) → optional_document_fits d true after ≡ true → EndsNode 0 false after → Each (optional_document_places d at after)
 optional_stand None at after h e = All-nil NodeStands
 optional_stand (Some d) at after h e = document_stand d true at after h e
 
+-- the nodes of a part stand
 part_stand : (p : Part) (bol : Bool) (at : ℕ) (after : List ℕ) → part_fits p bol after ≡ true → EndsNode 0 false after → Each (part_places p at after)
 part_stand (suffixes one more prefix d) bol at after h e =
     optional_stand d (at + byte_len (suffix_text one) + byte_len (flat_map suffix_text more) + byte_len (comments_text prefix)) after (and_parts _ _ h).1 e
 part_stand (line l) bol at after h e = All-nil NodeStands
 part_stand (further x) bol at after h e = explicit_stand x bol at after h e
 
+-- the nodes of parts stand
 parts_stand : (ps : List Part) (bol : Bool) (at : ℕ) → parts_fit ps bol [] ≡ true → Each (parts_places ps at)
 parts_stand [] bol at h = All-nil NodeStands
 parts_stand (p ∷ ps) bol at h =

@@ -238,6 +238,7 @@ module _ (text : List ℕ) where
       (part_spelled p at (parts_text ps) (subst (λ (t : List ℕ). SpelledAt text at (part_text p) t) (append-nil (parts_text ps)) (prefix at (part_text p) (parts_text ps) [] s)))
       (parts_spelled ps later (back at (part_text p) (parts_text ps) [] s))
 
+-- a text is spelled at its start
 whole : (text : List ℕ) → SpelledAt text 0 text []
 whole text = record { before = []; is = sym (append-nil text); place = refl }
 

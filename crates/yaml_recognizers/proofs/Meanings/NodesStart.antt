@@ -22,6 +22,7 @@ use Rattle.yaml_recognizers.proofs.Documents.StreamsForm.{line_wider}
 
 -- ---- the last character says whether a line starts after a text
 
+-- whether a line starts after a text is decided by its last character
 after_last : (bol : Bool) (xs : List ℕ) (x : ℕ) → starts_line bol (xs ++ x ∷ []) ≡ line_break x
 after_last bol [] x = refl
 after_last bol (y ∷ ys) x = after_last (line_break y) ys x
@@ -30,10 +31,12 @@ after_last bol (y ∷ ys) x = after_last (line_break y) ys x
 after_sign : (bol : Bool) (xs : List ℕ) (x : ℕ) (ys : List ℕ) → line_break x ≡ false → starts_line bol (xs ++ x ∷ [] ++ ys) ≡ starts_line false ys
 after_sign bol xs x ys h = starts_joined bol (xs ++ x ∷ []) ys ∙ ap (λ b. starts_line b ys) (after_last bol xs x ∙ h)
 
+-- no line starts after spaces within a line
 no_start : (j : ℕ) → starts_line false (spaces j) ≡ false
 no_start zero = refl
 no_start (suc j) = no_start j
 
+-- after spaces at the start of a line one starts if there are none
 spaces_start : (k : ℕ) → starts_line true (spaces k) ≡ (k == 0)
 spaces_start zero = refl
 spaces_start (suc k) = no_start k ∙ sym (no_zero k)
@@ -41,14 +44,17 @@ spaces_start (suc k) = no_start k ∙ sym (no_zero k)
     no_zero : (j : ℕ) → (suc j == 0) ≡ false
     no_zero j = grind (arith, nat_tests)
 
+-- what has a character isn't empty
 long_filled : (xs : List ℕ) → 1 ≤ length xs → is_empty xs ≡ false
 long_filled [] h = absurd (omega arith)
 long_filled (x ∷ xs) h = refl
 
+-- two texts, joined, aren't empty if the first isn't
 filled_left : (xs ys : List ℕ) → is_empty xs ≡ false → is_empty (xs ++ ys) ≡ false
 filled_left [] ys h = absurd (false≢true (sym h))
 filled_left (x ∷ xs) ys h = refl
 
+-- nor if the second isn't
 filled_right : (xs ys : List ℕ) → is_empty ys ≡ false → is_empty (xs ++ ys) ≡ false
 filled_right [] ys h = h
 filled_right (x ∷ xs) ys h = refl
@@ -59,6 +65,7 @@ filled_right (x ∷ xs) ys h = refl
 abbrev Ends : Bool → List ℕ → List ℕ → Type 0
 Ends bol text after = line_or_end (starts_line bol text) after ≡ true
 
+-- two texts, joined, end as the second does
 joined : (bol : Bool) (xs ys after : List ℕ) → Ends (starts_line bol xs) ys after → Ends bol (xs ++ ys) after
 joined bol xs ys after h = subst (λ (b : Bool). line_or_end b after ≡ true) (sym (starts_joined bol xs ys)) h
 
@@ -66,23 +73,28 @@ joined bol xs ys after h = subst (λ (b : Bool). line_or_end b after ≡ true) (
 comments_end : (es : List LineEnd) (bol : Bool) (after : List ℕ) → comments_fit true es after ≡ true → line_or_end bol (comments_text es ++ after) ≡ true → Ends bol (comments_text es) after
 comments_end es bol after h l = comments_start bol es after (comments_at bol es after h l)
 
+-- comments that fit within a line fit at the start of one
 fit_wider : (es : List LineEnd) (bol : Bool) (after : List ℕ) → comments_fit false es after ≡ true → comments_fit bol es after ≡ true
 fit_wider es false after h = h
 fit_wider [] true after h = refl
 fit_wider (e ∷ es) true after h = let p = and_parts _ _ h in and_from _ _ (line_wider false e (comments_text es ++ after) p.0) p.1
 
+-- comments end at the end of a line, or of the text
 line_comments_end : (es : List LineEnd) (bol : Bool) (after : List ℕ) → comments_fit false es after ≡ true → Ends bol (comments_text es) after
 line_comments_end es bol after h = comments_start bol es after (fit_wider es bol after h)
 
+-- so does a line's end
 line_end_ends : (e : LineEnd) (bol : Bool) (after : List ℕ) → stop_fits e.stop after ≡ true → Ends bol (line_end_text e) after
 line_end_ends e bol after h = joined bol (e.blank ++ optional comment_text e.comment) (optional break_text e.stop) after (stop_starts _ e.stop after h)
 
+-- so do empty lines
 gaps_end : (gs : List Gap) (bol : Bool) (after : List ℕ) → line_or_end bol (gaps_text gs ++ after) ≡ true → Ends bol (gaps_text gs) after
 gaps_end [] bol after h = h
 gaps_end (g ∷ gs) bol after h =
     let start : starts_line bol (gap_line_text g) ≡ true = starts_joined bol (spaces g.width) (break_text g.stop) ∙ break_starts (starts_line bol (spaces g.width)) g.stop in
     joined bol (gap_line_text g) (gaps_text gs) after (gaps_end gs (starts_line bol (gap_line_text g)) after (or_left _ _ start))
 
+-- so do text lines
 text_lines_end : (q : ℕ) (ls : List TextLine) (bol : Bool) (after : List ℕ) → text_lines_fit q ls after ≡ true → line_or_end bol (text_lines_text q ls ++ after) ≡ true
     → Ends bol (text_lines_text q ls) after
 text_lines_end q [] bol after f h = h
@@ -95,16 +107,19 @@ text_lines_end q (l ∷ ls) bol after f h =
     let two : Ends bol (text_line_text q l) later = joined bol (words ++ optional break_text l.stop) (gaps_text l.gaps) later (gaps_end l.gaps _ later one) in
     joined bol (text_line_text q l) (text_lines_text q ls) after (text_lines_end q ls (starts_line bol (text_line_text q l)) after p.1 two)
 
+-- so do the comments after a block scalar
 trail_end : (q : ℕ) (es : List LineEnd) (bol : Bool) (after : List ℕ) → trail_fits q es after ≡ true → line_or_end bol (comments_text es ++ after) ≡ true → Ends bol (comments_text es) after
 trail_end q [] bol after f h = h
 trail_end q (e ∷ es) bol after f h = comments_end (e ∷ es) bol after (and_parts _ _ f).1 h
 
+-- so does a header
 header_end : (h : Header) (bol : Bool) (after : List ℕ) → stop_fits (h.line_end).stop after ≡ true → Ends bol (header_text h) after
 header_end h bol after f =
     let words : List ℕ = (if h.folded then codes ">" else codes "|")
     ++ (if h.digit_last then chomping_text h.chomping ++ optional digit_text h.digit else optional digit_text h.digit ++ chomping_text h.chomping) in
     joined bol words (line_end_text h.line_end) after (line_end_ends h.line_end (starts_line bol words) after f)
 
+-- so does a body
 body_end : (digit : Option ℕ) (m : ℕ) (b : Body) (bol : Bool) (after : List ℕ) → body_fits digit m b after ≡ true → line_or_end bol (body_text b ++ after) ≡ true → Ends bol (body_text b) after
 body_end digit m b bol after f h =
     let texts : List ℕ = text_lines_text b.indent b.texts in
@@ -113,6 +128,7 @@ body_end digit m b bol after f h =
     gaps_end b.gaps bol (texts ++ after) (subst (λ (t : List ℕ). line_or_end bol t ≡ true) (append_assoc (gaps_text b.gaps) texts after) h) in
     joined bol (gaps_text b.gaps) texts after (text_lines_end b.indent b.texts _ after lines gaps)
 
+-- so does a block scalar
 block_end : (m : ℕ) (b : BlockScalar) (bol : Bool) (after : List ℕ) → block_fits m b after ≡ true → Ends bol (block_text b) after
 block_end m b bol after h =
     let rest : List ℕ = comments_text b.trail ++ after in
@@ -124,6 +140,7 @@ block_end m b bol after h =
     joined bol (bare_block_text b) (comments_text b.trail) after (trail_end (b.body).indent b.trail _ after p.1 two)
 
 mutual
+  -- so does a node
   node_ends : (n : Node) (m : ℕ) (shallow bol start : Bool) (after : List ℕ) → node_fits n m shallow bol after ≡ true → Ends start (node_text n) after
   node_ends (block sep b) m shallow bol start after h = joined start (sep_text sep) (block_text b) after (block_end m b _ after (and_parts _ _ h).1)
   node_ends (flow sep f comments) m shallow bol start after h =
@@ -133,15 +150,18 @@ mutual
   node_ends (pairs comments k ps) m shallow bol start after h =
       joined start (comments_text comments ++ spaces k) (pairs_text ps k) after (pairs_ends ps k (k == 0) _ after (and_parts _ _ h).1)
 
+  -- so do items
   items_ends : (is : Items) (k : ℕ) (start : Bool) (after : List ℕ) → items_fit is k after ≡ true → Ends start (items_text is k) after
   items_ends (item i) k start after h = indented_ends i k false false after (and_parts _ _ h).1
   items_ends (item_and i is) k start after h =
       joined start (codes "-" ++ indented_text i k ++ spaces k) (items_text is k) after (items_ends is k _ after (and_parts _ _ h).1)
 
+  -- so do pairs
   pairs_ends : (ps : Pairs) (k : ℕ) (bol start : Bool) (after : List ℕ) → pairs_fit ps k bol after ≡ true → Ends start (pairs_text ps k) after
   pairs_ends (pair p) k bol start after h = pair_ends p k bol start after h
   pairs_ends (pair_and p ps) k bol start after h = joined start (pair_text p k ++ spaces k) (pairs_text ps k) after (pairs_ends ps k (k == 0) _ after (and_parts _ _ h).1)
 
+  -- so does a pair
   pair_ends : (p : Pair) (k : ℕ) (bol start : Bool) (after : List ℕ) → pair_fits p k bol after ≡ true → Ends start (pair_text p k) after
   pair_ends (asked key value) k bol start after h =
       joined start (codes "?" ++ indented_text key k ++ spaces k ++ codes ":") (indented_text value k) after (indented_ends value k true _ after (and_parts _ _ h).1)
@@ -151,12 +171,14 @@ mutual
   pair_ends (keyed_alone key gap comments) k bol start after h =
       joined start (flow_text key ++ gap ++ codes ":") (comments_text comments) after (line_comments_end comments _ after (and_parts _ _ h).1)
 
+  -- so does what comes after a sign
   indented_ends : (i : Indented) (k : ℕ) (shallow start : Bool) (after : List ℕ) → indented_fits i k shallow after ≡ true → Ends start (indented_text i k) after
   indented_ends (compact_items s is) k shallow start after h = joined start (spaces s) (items_text is (k + 1 + s)) after (items_ends is (k + 1 + s) _ after (and_parts _ _ h).1)
   indented_ends (compact_pairs s ps) k shallow start after h = joined start (spaces s) (pairs_text ps (k + 1 + s)) after (pairs_ends ps (k + 1 + s) false _ after (and_parts _ _ h).1)
   indented_ends (node n) k shallow start after h = node_ends n (suc k) shallow false start after h
   indented_ends (omitted comments) k shallow start after h = line_comments_end comments start after h
 
+-- a node has a character
 node_filled : (n : Node) (m : ℕ) (shallow bol : Bool) (after : List ℕ) → node_fits n m shallow bol after ≡ true → 1 ≤ length (node_text n)
 node_filled (block sep b) m shallow bol after h = omega (arith, block_long b, length-append (sep_text sep) (block_text b))
 node_filled (flow sep f comments) m shallow bol after h =

@@ -47,15 +47,19 @@ ranges_to from (map_start ∷ es) to high l h = ranges_to from es to high l h
 ranges_to from (map_end ∷ es) to high l h = ranges_to from es to high l h
 ranges_to from (scalar_event style start end value ∷ es) to high l h = (h.0, h.1, ranges_to end es to high l h.2)
 
+-- ranges in order between two places are so between wider ones
 wider : (low from : ℕ) (es : List Event) (to high : ℕ) → low ≤ from → to ≤ high → RangesInOrder from es to → RangesInOrder low es high
 wider low from es to high l u h = ranges_from low from es high l (ranges_to from es to high u h)
 
+-- the ranges of a sequence are those of its elements
 seq_ranges : (from : ℕ) (es : List Event) (to : ℕ) → RangesInOrder from es to → RangesInOrder from (as_seq es) to
 seq_ranges from es to h = ranges_joined from es to (seq_end ∷ []) to h (omega arith)
 
+-- the ranges of a mapping are those of its members
 map_ranges : (from : ℕ) (es : List Event) (to : ℕ) → RangesInOrder from es to → RangesInOrder from (as_map es) to
 map_ranges from es to h = ranges_joined from es to (map_end ∷ []) to h (omega arith)
 
+-- the ranges of a document are those of its node
 document_ranges : (from : ℕ) (es : List Event) (to : ℕ) → RangesInOrder from es to → RangesInOrder from (as_document es) to
 document_ranges from es to h = ranges_joined from es to (document_end ∷ []) to h (omega arith)
 
@@ -63,6 +67,7 @@ document_ranges from es to h = ranges_joined from es to (document_end ∷ []) to
 abbrev Within : ℕ → List Event → List ℕ → Type 0
 Within at es text = RangesInOrder at es (at + byte_len text)
 
+-- ranges within a text are in order between wider places
 within : (low at : ℕ) (es : List Event) (text : List ℕ) (high : ℕ) → low ≤ at → at + byte_len text ≤ high → Within at es text → RangesInOrder low es high
 within low at es text high l u h = wider low at es (at + byte_len text) high l u h
 
@@ -111,6 +116,7 @@ mutual
       within at place (entries_events es false place) (entries_text es) high (omega arith) (omega (arith, l)) (entries_ranges es false place) in
       map_ranges at (entries_events es false place) high inner
 
+  -- the ranges of entries are within their text
   entries_ranges : (es : Entries) (in_seq : Bool) (at : ℕ) → Within at (entries_events es in_seq at) (entries_text es)
   entries_ranges none in_seq at = omega arith
   entries_ranges (last e gap) in_seq at =
@@ -126,6 +132,7 @@ mutual
       within middle place (entries_events es in_seq place) (entries_text es) high (omega arith) (omega (arith, l)) (entries_ranges es in_seq place) in
       ranges_joined at (entry_events e in_seq at) middle (entries_events es in_seq place) high (entry_ranges e in_seq at) more
 
+  -- so are those of an entry
   entry_ranges : (e : Entry) (in_seq : Bool) (at : ℕ) → Within at (entry_events e in_seq at) (entry_text e)
   entry_ranges (entry ask key value) in_seq at =
       let l = len3 (asked_text ask) (flow_text key) (value_text value) in
@@ -140,6 +147,7 @@ mutual
       let alone : RangesInOrder at (flow_events key place) high = ranges_to at (flow_events key place) after high (omega (arith, l)) k in
       chosen in_seq (is_pair ask value) at (flow_events key place ++ value_events value after) (flow_events key place) high both alone
 
+  -- and those of a value
   value_ranges : (v : Value) (at : ℕ) → Within at (value_events v at) (value_text v)
   value_ranges absent at = (omega arith, omega arith, omega arith)
   value_ranges (empty gap) at = let l = byte_len_joined (gap_text gap) (codes ":") in (omega arith, omega arith, omega (arith, l))
@@ -151,12 +159,14 @@ mutual
 
 -- ---- block nodes: the ranges end where the node does, and this is not after its text
 
+-- the ranges are in order up to the end, which is not after the text
 record Ranged (at : ℕ) (events : List Event) (end : ℕ) (text : List ℕ) : Type 0 where
   ranges : RangesInOrder at events end
   inside : end ≤ at + byte_len text
   onward : at ≤ end
 
 mutual
+  -- those of a node are
   node_ranged : (n : Node) (at : ℕ) → Ranged at (node_events n at) (node_end n at) (node_text n)
   node_ranged (block sep b) at =
       let l = byte_len_joined (sep_text sep) (block_text b) in
@@ -192,6 +202,7 @@ mutual
         onward = omega (arith, r.onward);
       }
 
+  -- those of items are
   items_ranged : (is : Items) (k at : ℕ) → Ranged at (items_events is k at) (items_end is k at) (items_text is k)
   items_ranged (item i) k at =
       let l = byte_len_joined (codes "-") (indented_text i k) in
@@ -215,6 +226,7 @@ mutual
         onward = omega (arith, more.onward);
       }
 
+  -- those of pairs are
   pairs_ranged : (ps : Pairs) (k at : ℕ) → Ranged at (pairs_events ps k at) (pairs_end ps k at) (pairs_text ps k)
   pairs_ranged (pair p) k at = pair_ranged p k at
   pairs_ranged (pair_and p ps) k at =
@@ -230,6 +242,7 @@ mutual
         onward = omega (arith, more.onward);
       }
 
+  -- those of a pair are
   pair_ranged : (p : Pair) (k at : ℕ) → Ranged at (pair_events p k at) (pair_end p k at) (pair_text p k)
   pair_ranged (asked key value) k at =
       let l = len5 (codes "?") (indented_text key k) (spaces k) (codes ":") (indented_text value k) in
@@ -275,6 +288,7 @@ mutual
         onward = omega arith;
       }
 
+  -- those of what comes after a sign are
   indented_ranged : (i : Indented) (k at : ℕ) → Ranged at (indented_events i k at) (indented_end i k at) (indented_text i k)
   indented_ranged (compact_items s is) k at =
       let l = byte_len_joined (spaces s) (items_text is (k + 1 + s)) in
@@ -295,11 +309,13 @@ mutual
 
 -- ---- streams
 
+-- the ranges of a document's node are in order
 node_ranges : (n : Node) (low at high : ℕ) → low ≤ at → at + byte_len (node_text n) ≤ high → RangesInOrder low (as_document (node_events n at)) high
 node_ranges n low at high l u =
     let r = node_ranged n at in
     document_ranges low (node_events n at) high (wider low at (node_events n at) (node_end n at) high l (omega (arith, r.inside)) r.ranges)
 
+-- the ranges after `---` are within the text
 explicit_ranges : (x : Explicit) (at : ℕ) → Within at (explicit_events x at) (explicit_text x)
 explicit_ranges (content n) at =
     let l = byte_len_joined (codes "---") (node_text n) in node_ranges n at (at + 3) (at + byte_len (explicit_text (content n))) (omega arith) (omega (arith, l))
@@ -308,6 +324,7 @@ explicit_ranges (nothing comments) at =
     let high : ℕ = at + byte_len (explicit_text (nothing comments)) in
     document_ranges at (omitted_at (at + 3)) high (omega arith, omega arith, omega (arith, l))
 
+-- so are those of a document
 one_document_ranges : (d : Document) (at : ℕ) → Within at (document_events d at) (document_text d)
 one_document_ranges (bare n) at = node_ranges n at at (at + byte_len (node_text n)) (omega arith) (omega arith)
 one_document_ranges (explicit x) at = explicit_ranges x at
@@ -317,10 +334,12 @@ one_document_ranges (directed blank first_version comments x) at =
     within at (at + byte_len prefix) (explicit_events x (at + byte_len prefix)) (explicit_text x) (at + byte_len (document_text (directed blank first_version comments x)))
     (omega arith) (omega (arith, l)) (explicit_ranges x (at + byte_len prefix))
 
+-- and of a document that may be left out
 optional_ranges : (d : Option Document) (at : ℕ) → Within at (optional_document_events d at) (optional document_text d)
 optional_ranges None at = omega arith
 optional_ranges (Some d) at = one_document_ranges d at
 
+-- and of a part
 part_ranges : (p : Part) (at : ℕ) → Within at (part_events p at) (part_text p)
 part_ranges (suffixes one more prefix d) at =
     let l = len4 (suffix_text one) (flat_map suffix_text more) (comments_text prefix) (optional document_text d) in
@@ -329,6 +348,7 @@ part_ranges (suffixes one more prefix d) at =
 part_ranges (line e) at = omega arith
 part_ranges (further x) at = explicit_ranges x at
 
+-- and of parts
 parts_ranges : (ps : List Part) (at : ℕ) → Within at (parts_events ps at) (parts_text ps)
 parts_ranges [] at = omega arith
 parts_ranges (p ∷ ps) at =

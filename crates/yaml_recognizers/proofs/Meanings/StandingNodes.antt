@@ -36,6 +36,7 @@ form_stops (scalar s) n c rest h = h
 form_stops (seq gap es) n c rest h = refl
 form_stops (map gap es) n c rest h = refl
 
+-- the canonical form of a flow node that stands there is found
 form_found : (n : ℕ) (c : FlowContext) (bol : Bool) (text : List ℕ) (f : Flow) (rest : List ℕ) → FlowNodeStands n c bol text f rest → flow_node_at n c bol text ≡ Some (flow_form f, rest)
 form_found n c bol text f rest h =
     found n c bol text (flow_form f) rest
@@ -45,6 +46,7 @@ form_found n c bol text f rest h =
       ends = form_stops f n c rest h.ends;
     })
 
+-- it is the same flow node
 form_same : (f : Flow) → SameFlowNode (flow_form f) f
 form_same f = record { spells = flow_form_text f; means = flow_form_events f }
 
@@ -78,11 +80,13 @@ lines_end m shallow e es after h =
     let regrouped : text ≡ line_end_text e ++ (comments_text es ++ after) = append_assoc (line_end_text e) (comments_text es) after in
     or_left _ _ (or_right (is_empty text || marker text) _ (subst (λ (t : List ℕ). is_line_end t ≡ true) (sym regrouped) line))
 
+-- where a node ends, it ends before comment lines too
 left_ended : (m : ℕ) (shallow : Bool) (ls : List LineEnd) (after : List ℕ) → comments_fit true ls after ≡ true → block_node_stops m shallow after ≡ true
     → block_node_stops m shallow (comments_text ls ++ after) ≡ true
 left_ended m shallow [] after l e = e
 left_ended m shallow (l' ∷ ls) after l e = lines_end m shallow l' ls after l
 
+-- a canonical node that ends there is read
 read_at : (g : Node) (m : ℕ) (shallow bol : Bool) (left : List ℕ) → canonical_node g m shallow bol left ≡ true → block_node_stops m shallow left ≡ true
     → block_node_at m shallow bol (node_text g ++ left) ≡ Some (g, left)
 read_at = whole_node_read read_scalar reads_scalars read_block blocks_read
@@ -94,6 +98,7 @@ record FoundFor (m : ℕ) (shallow bol : Bool) (text : List ℕ) (node : Node) (
   is : block_node_at m shallow bol text ≡ Some (node_form node lines, left)
   leaves : (left ≡ after) ⊎ (left ≡ rest)
 
+-- the canonical form of a block node that stands there is found
 node_found : (m : ℕ) (shallow bol : Bool) (text : List ℕ) (node : Node) (rest : List ℕ) (h : BlockNodeStands m shallow bol text node rest)
     → FoundFor m shallow bol text node h.after.after rest
 node_found m shallow bol text node rest h =
@@ -119,6 +124,7 @@ node_found m shallow bol text node rest h =
           })
     ]
 
+-- it is the same block node
 form_means : (node : Node) (ls : List LineEnd) → SameBlockNode (node_form node ls) node
 form_means node ls = record { means = node_form_events node ls; ends = node_form_end node ls }
 

@@ -24,14 +24,17 @@ use Rattle.yaml_recognizers.proofs.Basics.Reading.{Sound, sound_of, sound_to}
 use Rattle.yaml_recognizers.proofs.Scalars.ScalarsInNodes.{reads_scalars}
 use Rattle.yaml_recognizers.proofs.Documents.StreamsDepth.{pieces_step, stream_step}
 
+-- a key that is read fits
 key_parts_of : (bol : Bool) (text : List ℕ) → Sound (KeyOf bol text) (block_key_in bol text)
 key_parts_of bol text =
     sound_to (WholeKey bol text) (KeyOf bol text) (block_key_in bol text)
     (whole_key flow_node_at (whole_flow_read read_scalar reads_scalars) (whole_flow_sound read_scalar reads_scalars) bol text) (λ key rest w. w.0)
 
+-- a flow node in a block that is read fits
 leaf_parts : (m : ℕ) (bol : Bool) (text : List ℕ) → Sound (FlowOf m bol text) (flow_leaf_at m bol text)
 leaf_parts m bol text = whole_flow_sound read_scalar reads_scalars m outer bol text
 
+-- a block scalar that is read is canonical
 block_parts_of : (m : ℕ) (text : List ℕ) → Sound (BlockOf m text) (read_block m text)
 block_parts_of m text = sound_of (BlockOf m text) (read_block m text) (λ y e. blocks_read.sound m text y.0 y.1 e)
 
@@ -67,6 +70,7 @@ indented_steps k shallow text = indented_step block_key_in flow_leaf_at read_blo
 
 -- ---- streams
 
+-- a document's node that is read is canonical
 document_sound : (bol : Bool) (text : List ℕ) → Sound (NodeOf 0 false bol text) (document_node_at bol text)
 document_sound bol text = whole_node_sound read_scalar reads_scalars read_block blocks_read 0 false bol text
 

@@ -12,6 +12,7 @@ use Rattle.yaml_recognizers.specs.QuotedScalars.{read_held, read_quoted_line, re
 use Rattle.yaml_recognizers.specs.PlainScalars.{read_run, read_plain_line, read_plain}
 use Rattle.yaml_recognizers.specs.FlowScalars.{read_scalar}
 
+-- the value that is read, and the rest
 abbrev value_of : Read Scalar → Option (List ℕ × List ℕ)
 value_of None = None
 value_of (Some r) = Some (scalar_value r.0, r.1)
@@ -24,9 +25,11 @@ record Example : Type 0 where
   value : List ℕ
   left : List ℕ
 
+-- what is read there is this
 abbrev Holds : Example → Type 0
 Holds e = value_of (read_scalar e.n e.c true e.text) ≡ Some (e.value, e.left)
 
+-- a text at n in a context, with the value and the rest that are read
 abbrev at : ℕ → FlowContext → List ℕ → List ℕ → List ℕ → Example
 at n c text value left = record { n = n; c = c; text = text; value = value; left = left }
 
@@ -36,6 +39,7 @@ Refused n c text = value_of (read_scalar n c true text) ≡ None
 
 -- ---- single-quoted
 
+-- single-quoted scalars
 single_examples :
     Holds (at 0 outer (codes "'it''s'") (codes "it's") [])
     × Holds (at 0 outer (codes "''") [] [])
@@ -52,6 +56,7 @@ single_examples = (refl, refl, refl, refl, refl, refl, refl, refl, refl, refl)
 
 -- ---- double-quoted
 
+-- double-quoted scalars
 double_examples :
     Holds (at 0 outer (codes "\"example\"\n") (codes "example") (codes "\n"))
     × Holds (at 0 outer (codes "\"\n\n\"") (codes "\n") [])
@@ -73,6 +78,7 @@ double_examples = (refl, refl, refl, refl, refl, refl, refl, refl, refl, refl, r
 
 -- ---- plain
 
+-- plain scalars
 plain_examples :
     Holds (at 0 outer (codes "a #") (codes "a") (codes " #"))
     × Holds (at 0 outer (codes "a#b") (codes "a#b") [])

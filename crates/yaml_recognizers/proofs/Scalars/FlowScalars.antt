@@ -26,10 +26,12 @@ no_indicator c x k xs i s h = elim (cases_eq x k) [
     neither true false f i s h = false≢true h
     neither false s f i e h = false≢true i
 
+-- where a plain scalar may start, one is looked for
 plain_dispatch : (n : ℕ) (c : FlowContext) (bol : Bool) (x : ℕ) (xs : List ℕ) → plain_first c x xs ≡ true → read_scalar n c bol (x ∷ xs) ≡ read_plain n c bol (x ∷ xs)
 unfolding read_scalar
 plain_dispatch n c bol x xs h = cond-false _ _ _ (no_indicator c x 39 xs refl refl h) ∙ cond-false _ _ _ (no_indicator c x 34 xs refl refl h)
 
+-- before a plain scalar that fits, one is looked for
 begins_plain : (n : ℕ) (c : FlowContext) (bol : Bool) (prefix : List ℕ) (more : List (Line ℕ)) (after : List ℕ) → scalar_fits n c bol (plain prefix more) after ≡ true
     → read_scalar n c bol (scalar_text (plain prefix more) ++ after) ≡ read_plain n c bol (scalar_text (plain prefix more) ++ after)
 begins_plain n c bol [] more after h = absurd (false≢true (and_parts _ _ (and_parts _ _ (and_parts _ _ h).0).0).1)

@@ -86,6 +86,7 @@ empties_long (e ∷ es) =
 abbrev pub EmptiesOf : ℕ → List ℕ → List Empty → List ℕ → Type 0
 EmptiesOf n text es rest = (text ≡ empties_text es ++ rest) × (empties_fit n es rest ≡ true)
 
+-- an empty line before others
 empties_step : (n : ℕ) (text : List ℕ) (e : Empty) (t : List ℕ) (es : List Empty) (rest : List ℕ) → read_empty n text ≡ Some (e, t) → EmptiesOf n t es rest
     → EmptiesOf n text (e ∷ es) rest
 empties_step n text e t es rest h s =
@@ -125,16 +126,19 @@ after_blank_read escaped n blank stop empties lead rest i b e l m =
     (omega (arith, empties_long empties, length-append (empties_text empties) (lead ++ rest))) (empties_each n empties (lead ++ rest) e no_break) in
     rw (break_read stop after b, found, take_while_all white lead rest w f, drop_while_all white lead rest w f, l, m)
 
+-- whitespace is no backslash
 white_no_backslash : (x : ℕ) → white x ≡ true → (x == 92) ≡ false
 white_no_backslash x h = elim (or_cases (x == 32) (x == 9) h) [
   | inl e ↦ ap (λ y. y == 92) (eqb-true x 32 e)
   | inr e ↦ ap (λ y. y == 92) (eqb-true x 9 e)
 ]
 
+-- a break after whitespace alone has no backslash before it
 no_backslash : (blank : List ℕ) (b : Break) (rest : List ℕ) → list_all white blank ≡ true → first (λ x. x == 92) (blank ++ (break_text b ++ rest)) ≡ false
 no_backslash [] b rest h = break_first (λ x. x == 92) b rest refl refl
 no_backslash (x ∷ xs) b rest h = white_no_backslash x (and_parts _ _ h).0
 
+-- the text of a join without a backslash, regrouped
 prefix_grouped : (blank : List ℕ) (b : Break) (rest : List ℕ) → (blank ++ [] ++ break_text b) ++ rest ≡ blank ++ (break_text b ++ rest)
 prefix_grouped blank b rest = ap (λ t. (t ++ break_text b) ++ rest) (append-nil blank) ∙ append_assoc blank (break_text b) rest
 
@@ -151,6 +155,7 @@ unescaped_read escapes n blank b rest h =
     right true y h = h
     right false y h = refl
 
+-- a join of parts that fit is read
 join_parts_read : (escapes : Bool) (n : ℕ) (escaped : Bool) (blank : List ℕ) (stop : Break) (empties : List Empty) (lead rest : List ℕ) → inked rest ≡ true
     → escapes || not escaped ≡ true → cond escaped (is_empty blank) (list_all white blank) ≡ true
     → break_fits stop (empties_text empties ++ (lead ++ rest)) ≡ true → empties_fit n empties (lead ++ rest) ≡ true → indents n lead ≡ true
@@ -179,6 +184,7 @@ pub record JoinOf (escapes : Bool) (n : ℕ) (text : List ℕ) (j : Join) (rest 
   pub prefix : first white rest ≡ false
   pub allowed : escapes || not j.escaped ≡ true
 
+-- a join that is read fits, from its empty lines on
 lead_sound : (escapes escaped : Bool) (n : ℕ) (blank : List ℕ) (stop : Break) (text : List ℕ) (empties : List Empty × List ℕ)
     → escapes || not escaped ≡ true → cond escaped (is_empty blank) (list_all white blank) ≡ true → EmptiesOf n text empties.0 empties.1
     → break_fits stop text ≡ true
@@ -206,6 +212,7 @@ lead_sound escapes escaped n blank stop text empties a f s b =
     })
     (λ _. tt)
 
+-- a join that is read fits, after its whitespace
 blank_sound : (escapes escaped : Bool) (n : ℕ) (blank text : List ℕ) → escapes || not escaped ≡ true → cond escaped (is_empty blank) (list_all white blank) ≡ true
     → Sound (JoinOf escapes n (blank ++ ((if escaped then codes "\\" else []) ++ text))) (after_blank escaped n blank text)
 unfolding after_blank
@@ -219,12 +226,14 @@ blank_sound escapes escaped n blank text a f =
     subst (λ (t : List ℕ). Sound (JoinOf escapes n t) (with_lead escaped n blank stop (repeated (read_empty n) (length rest) rest))) same
     (lead_sound escapes escaped n blank stop rest (repeated (read_empty n) (length rest) rest) a f (empties_sound n (length rest) rest) b.1))
 
+-- a join after a backslash fits
 escaped_sound : (escapes : Bool) (n : ℕ) (text : List ℕ) → escapes && first (λ x. x == 92) text ≡ true → Sound (JoinOf escapes n text) (after_blank true n [] (past text))
 escaped_sound false n text h = absurd (false≢true h)
 escaped_sound true n [] h = absurd (false≢true h)
 escaped_sound true n (x ∷ xs) h =
     subst (λ (y : ℕ). Sound (JoinOf true n (y ∷ xs)) (after_blank true n [] xs)) (sym (eqb-true x 92 h)) (blank_sound true true n [] xs refl refl)
 
+-- where no backslash is there, it doesn't matter whether one may be
 not_needed : (escapes : Bool) → escapes || true ≡ true
 not_needed true = refl
 not_needed false = refl

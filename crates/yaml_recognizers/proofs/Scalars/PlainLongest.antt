@@ -23,6 +23,7 @@ before_line n c prev before l ls after h =
     let j = line_joins plain_kind n before l (lines_after plain_kind ls after) r.1 in
     ap (read_run c prev) (lines_spelled l ls after) ∙ join_stops c prev (join_of l) (l.held ++ lines_after plain_kind ls after) r.0 j.0.prefix
 
+-- a list without its first elements is no longer
 drop_shorter : (k : ℕ) (text : List ℕ) → length (drop k text) ≤ length text
 drop_shorter k text = omega (arith, length-drop k text)
 
@@ -51,6 +52,7 @@ lines_reach n c (suc fuel) prev before (l ∷ ls) after m h =
 abbrev pub Reaches : List ℕ → Read Scalar → Type 0
 Reaches after r = (prefix : List ℕ) × (more : List (Line ℕ)) × (rest : List ℕ) × (r ≡ Some (plain prefix more, rest)) × (length rest ≤ length after)
 
+-- the lines that are read go at least as far as lines that fit
 lines_at_reach : (n : ℕ) (c : FlowContext) (prev : ℕ) (before : List ℕ) (ls : List (Line ℕ)) (after : List ℕ) → plain_lines n c before ls after ≡ true
     → is_empty ls || not (one_line c) ≡ true
     → let rest = lines_after plain_kind ls after in length (plain_lines_at n c (drop (length (read_run c prev rest)) rest)).1 ≤ length after

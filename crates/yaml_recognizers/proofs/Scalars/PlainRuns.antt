@@ -76,12 +76,14 @@ white_stops c prev (x ∷ xs) tail w f g =
 
 -- ---- complete
 
+-- whitespace or a plain character is one of a run, if the run does not end in that whitespace
 pick : (b w e : Bool) → w || b ≡ true → (e ≡ true → w ≡ false) → b || (w && not e) ≡ true
 pick true w e h k = refl
 pick false true false h k = refl
 pick false true true h k = absurd (false≢true (sym (k refl)))
 pick false false e h k = absurd (false≢true h)
 
+-- the last character of a run is no whitespace
 last_plain : (c : FlowContext) (x : ℕ) (xs after : List ℕ) → plain_run c x xs after ≡ true → is_empty xs ≡ true → white x ≡ false
 last_plain c x [] after h e = not-true _ h
 last_plain c x (y ∷ ys) after h e = absurd (false≢true e)
@@ -117,6 +119,7 @@ run_prefix c prev (x ∷ xs) =
     cond_both (plain_next c prev x xs || (white x && not (is_empty more))) (x ∷ more) [] (λ (r : List ℕ). x ∷ xs ≡ r ++ drop (length r) (x ∷ xs))
     (λ _. ap (λ ys. x ∷ ys) (run_prefix c x xs)) (λ _. refl)
 
+-- and what is one of a run is whitespace or a plain character
 from_test : (b w e : Bool) → (w ≡ true → b ≡ false) → b || (w && not e) ≡ true → (w || b ≡ true) × (e ≡ true → w ≡ false)
 from_test true true e k h = absurd (false≢true (sym (k refl)))
 from_test true false e k h = (refl, λ _. refl)

@@ -30,6 +30,7 @@ plain_texts (x ∷ xs) = ap (λ ys. x ∷ ys) (plain_texts xs)
 pub plain_regrouped : (prefix : List ℕ) (more : List (Line ℕ)) (after : List ℕ) → lines_text plain_text prefix more ++ after ≡ prefix ++ lines_after plain_kind more after
 plain_regrouped prefix more after = ap (λ (t : List ℕ). (t ++ flat_map (line_text plain_text) more) ++ after) (plain_texts prefix) ∙ append_assoc prefix _ after
 
+-- a further line is its join and what it holds
 line_spelled : (l : Line ℕ) (after : List ℕ) → line_text plain_text l ++ after ≡ join_text_then (join_of l) (l.held ++ after)
 line_spelled l after = line_regrouped plain_text l after ∙ ap (λ t. join_text_then (join_of l) (t ++ after)) (plain_texts l.held)
 
@@ -40,6 +41,7 @@ lines_spelled l ls after = append_assoc (line_text plain_text l) (flat_map (line
 
 -- ---- complete
 
+-- where a plain scalar ends, no run goes on
 ends_run : (n : ℕ) (c : FlowContext) (last : ℕ) (after : List ℕ) → plain_ends n c last after ≡ true → read_run c last after ≡ []
 unfolding plain_ends
 ends_run n c last after h = none (read_run c last after) (and_parts _ _ h).0
@@ -48,6 +50,7 @@ ends_run n c last after h = none (read_run c last after) (and_parts _ _ h).0
     none [] h = refl
     none (x ∷ xs) h = absurd (false≢true h)
 
+-- nor does a further line
 ends_lines : (n : ℕ) (c : FlowContext) (last : ℕ) (after : List ℕ) → plain_ends n c last after ≡ true → one_line c ≡ false → read_plain_line n c after ≡ None
 unfolding plain_ends
 ends_lines n c last after h k = none (one_line c) (read_plain_line n c after) (and_parts _ _ h).1 k
@@ -85,6 +88,7 @@ lines_stop n c before (l ∷ ls) after h e =
     ap (read_run c (last_of 32 before)) (lines_spelled l ls after)
     ∙ join_stops c (last_of 32 before) (join_of l) (l.held ++ lines_after plain_kind ls after) r.0 j.0.prefix
 
+-- a further line holds something that is no whitespace and no break
 more_inked : (c : FlowContext) (held after : List ℕ) → plain_more c held after ≡ true → inked (held ++ after) ≡ true
 more_inked c [] after h = absurd (false≢true h)
 more_inked c (x ∷ xs) after h =
@@ -97,6 +101,7 @@ more_inked c (x ∷ xs) after h =
     other true b e h = absurd (false≢true (sym e))
     other false b e h = h
 
+-- a further line is a run that isn't empty
 more_run : (c : FlowContext) (held after : List ℕ) → plain_more c held after ≡ true → (plain_run c 32 held after ≡ true) × (is_empty held ≡ false)
 more_run c [] after h = absurd (false≢true h)
 more_run c (x ∷ xs) after h = ((and_parts _ _ h).1, refl)
@@ -105,6 +110,7 @@ more_run c (x ∷ xs) after h = ((and_parts _ _ h).1, refl)
 pub run_past : (held extra rest : List ℕ) → drop (length (held ++ extra)) (held ++ rest) ≡ drop (length extra) rest
 run_past held extra rest = ap (λ k. drop k (held ++ rest)) (length-append held extra) ∙ drop-append-add held rest (length extra)
 
+-- a line of a run is read, if the run isn't empty
 with_run_read : (j : Join) (held extra rest : List ℕ) → is_empty held ≡ false
     → with_run j (held ++ rest) (held ++ extra) ≡ Some (line_of j (held ++ extra), drop (length extra) rest)
 with_run_read j [] extra rest h = absurd (false≢true (sym h))
@@ -132,6 +138,7 @@ plain_line_goes_on n c before l ls after h =
     ∙ (ap (with_run (join_of l) (l.held ++ rest)) run
     ∙ with_run_read (join_of l) l.held extra rest m.1))
 
+-- a further line that fits is read
 plain_line_read : (n : ℕ) (c : FlowContext) (before : List ℕ) (l : Line ℕ) (ls : List (Line ℕ)) (after : List ℕ) → plain_lines n c before (l ∷ ls) after ≡ true
     → plain_ends n c (last_char l.held ls) after ≡ true
     → read_plain_line n c (line_text plain_text l ++ lines_after plain_kind ls after) ≡ Some (l, lines_after plain_kind ls after)
@@ -142,12 +149,14 @@ plain_line_read n c before l ls after h e =
     ∙ (ap (λ (t : List ℕ). Some (line_of (join_of l) (l.held ++ t), drop (length t) rest)) none
     ∙ ap (λ (t : List ℕ). Some (line_of (join_of l) t, rest)) (append-nil l.held))
 
+-- so is each of them, one after another
 lines_each : (n : ℕ) (c : FlowContext) (before : List ℕ) (ls : List (Line ℕ)) (after : List ℕ) → plain_lines n c before ls after ≡ true
     → plain_ends n c (last_char before ls) after ≡ true → one_line c ≡ false → Each (read_plain_line n c) (line_text plain_text) ls after
 unfolding last_char
 lines_each n c before [] after h e k = ends_lines n c (last_of 32 before) after e k
 lines_each n c before (l ∷ ls) after h e k = (plain_line_read n c before l ls after h e, lines_each n c l.held ls after (and_parts _ _ h).1 e k)
 
+-- a further line has a character
 line_long : (l : Line ℕ) → 1 ≤ length (line_text plain_text l)
 line_long l = parts l.blank (if l.escaped then codes "\\" else []) (empties_text l.empties) l.lead (flat_map plain_text l.held)
   where
@@ -160,6 +169,7 @@ pub lines_long : (ls : List (Line ℕ)) → length ls ≤ length (flat_map (line
 lines_long [] = omega arith
 lines_long (l ∷ ls) = omega (arith, lines_long ls, line_long l, length-append (line_text plain_text l) (flat_map (line_text plain_text) ls))
 
+-- all further lines that fit are read
 lines_read : (n : ℕ) (c : FlowContext) (before : List ℕ) (ls : List (Line ℕ)) (after : List ℕ) → plain_lines n c before ls after ≡ true
     → plain_ends n c (last_char before ls) after ≡ true → is_empty ls || not (one_line c) ≡ true
     → plain_lines_at n c (lines_after plain_kind ls after) ≡ (ls, after)
@@ -210,6 +220,7 @@ pub record RunOf (c : FlowContext) (text run : List ℕ) : Type 0 where
   pub fits : is_empty run ≡ false → plain_run c 32 run (drop (length run) text) ≡ true
   pub end : read_run c (last_of 32 run) (drop (length run) text) ≡ []
 
+-- the run that is read is one
 run_of : (c : FlowContext) (text : List ℕ) → RunOf c text (read_run c 32 text)
 run_of c text = record {
   spells = run_prefix c 32 text;
@@ -217,10 +228,12 @@ run_of c text = record {
   end = run_end c 32 text;
 }
 
+-- a run that starts with no whitespace is a further line
 run_more : (c : FlowContext) (text run : List ℕ) → RunOf c text run → first white text ≡ false → is_empty run ≡ false → plain_more c run (drop (length run) text) ≡ true
 run_more c text [] r f i = absurd (false≢true (sym i))
 run_more c text (x ∷ xs) r f i = and_from _ _ (not_from_false _ (ap (first white) (sym r.spells) ∙ f)) (r.fits i)
 
+-- a line that is read fits, once its join does
 with_run_sound : (n : ℕ) (c : FlowContext) (text : List ℕ) (j : Join) (rest run : List ℕ) → JoinOf false n text j rest → RunOf c rest run
     → Sound (PlainLineOf n c text) (with_run j rest run)
 with_run_sound n c text j rest run o r =
@@ -243,6 +256,7 @@ plain_line_sound n c text =
     sound_on (JoinOf false n text) (PlainLineOf n c text) (read_join false n text) (λ j rest. with_run j rest (read_run c 32 rest)) (join_sound false n text)
     (λ j rest o. with_run_sound n c text j rest (read_run c 32 rest) o (run_of c rest))
 
+-- a further line that is read fits
 line_at : (n : ℕ) (c : FlowContext) (text : List ℕ) (l : Line ℕ) (rest : List ℕ) → read_plain_line n c text ≡ Some (l, rest) → PlainLineOf n c text l rest
 line_at n c text l rest h = sound_is (PlainLineOf n c text) (read_plain_line n c text) (l, rest) (plain_line_sound n c text) h
 
@@ -258,14 +272,17 @@ pub record PlainLinesOf (n : ℕ) (c : FlowContext) (text : List ℕ) (ls : List
   pub fit : (before : List ℕ) → ends white before ≡ false → plain_lines n c before ls rest ≡ true
   pub end : (before : List ℕ) → read_run c (last_of 32 before) text ≡ [] → read_run c (last_char before ls) rest ≡ []
 
+-- no further lines fit everywhere
 no_lines : (n : ℕ) (c : FlowContext) (text : List ℕ) → PlainLinesOf n c text [] text
 unfolding last_char
 no_lines n c text = record { spells = refl; fit = λ before f. refl; end = λ before e. e }
 
+-- a further line starts with no whitespace
 more_starts : (c : FlowContext) (held after : List ℕ) → plain_more c held after ≡ true → first white held ≡ false
 more_starts c [] after h = refl
 more_starts c (x ∷ xs) after h = not-true _ (and_parts _ _ h).0
 
+-- a further line before others
 lines_step : (n : ℕ) (c : FlowContext) (text : List ℕ) (l : Line ℕ) (t : List ℕ) (ls : List (Line ℕ)) (rest : List ℕ) → read_plain_line n c text ≡ Some (l, t)
     → PlainLinesOf n c t ls rest → PlainLinesOf n c text (l ∷ ls) rest
 unfolding last_char
@@ -301,13 +318,16 @@ lines_at_sound n c text = by_line (one_line c)
       ap (λ (r : Read (Line ℕ)). not (is_some r)) (repeated_end (read_plain_line n c) (line_shrinks n c) (length text) text (omega arith)),
     )
 
+-- a run ends in no whitespace
 prefix_ends : (c : FlowContext) (x : ℕ) (xs after : List ℕ) → plain_run c x xs after ≡ true → ends white (x ∷ xs) ≡ false
 prefix_ends c x [] after h = not-true _ h
 prefix_ends c x (y ∷ ys) after h = run_ends c x (y ∷ ys) after h
 
+-- the first character of a plain scalar is no whitespace
 plain_first_solid : (c : FlowContext) (x : ℕ) (xs : List ℕ) → plain_first c x xs ≡ true → white x ≡ false
 plain_first_solid c x xs h = not-true _ (and_parts _ _ (and_parts _ _ h).0).1
 
+-- a plain scalar that is read stands there
 plain_at : (n : ℕ) (c : FlowContext) (bol : Bool) (x : ℕ) (xs : List ℕ) → no_marker bol (x ∷ xs) && plain_first c x xs ≡ true
     → let run = read_run c x xs in let more = plain_lines_at n c (drop (length run) xs) in Stands n c bol (x ∷ xs) (plain (x ∷ run) more.0) more.1
 unfolding scalar_ends plain_ends last_of

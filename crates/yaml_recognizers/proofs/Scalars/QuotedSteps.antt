@@ -23,6 +23,7 @@ pub value_of_thing : {A : Type 0} (value : A → ℕ) (a : A) (r : Read (List A 
 value_of_thing value a None = refl
 value_of_thing value a (Some r) = refl
 
+-- the values of two lists, joined, are those of each, joined
 values-append : {A : Type 0} (value : A → ℕ) (xs ys : List A) → values value (xs ++ ys) ≡ values value xs ++ values value ys
 values-append value [] ys = refl
 values-append value (x ∷ xs) ys = ap (λ v. value x ∷ v) (values-append value xs ys)

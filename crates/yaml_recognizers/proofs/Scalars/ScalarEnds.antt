@@ -75,6 +75,7 @@ no_line_after n c text b rest e h =
 
 -- ---- white, and then what is neither white nor a break
 
+-- a test that fails on whitespace and on what comes after it fails on the first character
 white_first : (p : ℕ → Bool) (blank tail : List ℕ) → list_all white blank ≡ true → p 32 ≡ false → p 9 ≡ false → first p tail ≡ false → first p (blank ++ tail) ≡ false
 white_first p [] tail w s t h = h
 white_first p (x ∷ xs) tail w s t h = white_is (λ y. p y ≡ false) x (and_parts _ _ w).0 s t
@@ -90,6 +91,7 @@ blank_ends n c blank tail w r b q = record {
 
 -- ---- a key's colon, a comma, a closing bracket
 
+-- a `:` before no safe character is no plain character
 colon_unplain : (c : FlowContext) (prev : ℕ) (rest : List ℕ) → first (safe c) rest ≡ false → plain_next c prev 58 rest ≡ false
 colon_unplain c prev rest h = rw h (none (safe c 58))
   where
@@ -101,6 +103,7 @@ colon_unplain c prev rest h = rw h (none (safe c 58))
 pub colon_ends : (n : ℕ) (c : FlowContext) (gap rest : List ℕ) → list_all white gap ≡ true → first (safe c) rest ≡ false → Ends n c (gap ++ (58 ∷ rest))
 colon_ends n c gap rest g h = blank_ends n c gap (58 ∷ rest) g (λ prev. no_run c prev 58 rest (colon_unplain c prev rest h) refl) refl refl
 
+-- a closing character is a comma or a closing bracket
 closing_is : (P : ℕ → Type 0) (x : ℕ) → closing x ≡ true → P 44 → P 93 → P 125 → P x
 closing_is P x h a b d = elim (or_cases (x == 44) _ h) [
   | inl e ↦ subst P (sym (eqb-true x 44 e)) a
@@ -110,6 +113,7 @@ closing_is P x h a b d = elim (or_cases (x == 44) _ h) [
   ]
 ]
 
+-- between brackets a closing character is not safe
 closing_unsafe : (d : FlowContext) (x : ℕ) → in_flow d ≡ true → closing x ≡ true → safe d x ≡ false
 closing_unsafe outer x i h = absurd (false≢true i)
 closing_unsafe block_key x i h = absurd (false≢true i)
@@ -123,6 +127,7 @@ record Barrier (d : FlowContext) (tail : List ℕ) : Type 0 where
   unblank : first white tail ≡ false
   unquoted : first quote tail ≡ false
 
+-- a closing character ends a plain scalar between brackets
 closing_barrier : (d : FlowContext) (tail : List ℕ) → in_flow d ≡ true → first closing tail ≡ true → Barrier d tail
 closing_barrier d [] i h = absurd (false≢true h)
 closing_barrier d (x ∷ xs) i h =
@@ -136,6 +141,7 @@ closing_barrier d (x ∷ xs) i h =
       unquoted = closing_is (λ y. quote y ≡ false) x h refl refl refl;
     }
 
+-- a `:` before no safe character ends a plain scalar
 colon_barrier : (d : FlowContext) (rest : List ℕ) → first (safe d) rest ≡ false → Barrier d (58 ∷ rest)
 colon_barrier d rest h = record {
   run = λ prev. no_run d prev 58 rest (colon_unplain d prev rest h) refl;
@@ -159,6 +165,7 @@ tail_runs c x None None [] h w = no_run_at_end c x
 tail_runs c x None None (y ∷ ys) h w = absurd (false≢true h)
 tail_runs c x None (Some b) rest h w = no_run_at_break c x b rest
 
+-- no run goes on into a line's end without whitespace
 tail_bare : (c : FlowContext) (prev : ℕ) (blank : List ℕ) (comment : Option (List ℕ)) (stop : Option Break) (rest : List ℕ)
     → comment_fits (false || not (is_empty blank)) comment ≡ true → stop_fits stop rest ≡ true → is_empty blank ≡ true
     → read_run c prev (optional comment_text comment ++ (optional break_text stop ++ rest)) ≡ []
@@ -168,6 +175,7 @@ tail_bare c prev [] None None [] k h e = no_run_at_end c prev
 tail_bare c prev [] None None (y ∷ ys) k h e = absurd (false≢true h)
 tail_bare c prev [] None (Some b) rest k h e = no_run_at_break c prev b rest
 
+-- a line's end after its whitespace starts with no break, or a break is read there
 tail_break : (comment : Option (List ℕ)) (stop : Option Break) (rest : List ℕ) → stop_fits stop rest ≡ true
     → (first line_break (optional comment_text comment ++ (optional break_text stop ++ rest)) ≡ false)
     ⊎ ((b : Break) × (read_break (optional comment_text comment ++ (optional break_text stop ++ rest)) ≡ Some (b, rest)))
@@ -176,6 +184,7 @@ tail_break None None [] f = inl refl
 tail_break None None (x ∷ xs) f = absurd (false≢true f)
 tail_break None (Some b) rest f = inr (b, break_read b rest f)
 
+-- a test that fails on `#` and on breaks fails on the start of a line's end
 tail_first : (p : ℕ → Bool) (comment : Option (List ℕ)) (stop : Option Break) (rest : List ℕ) → stop_fits stop rest ≡ true → p 35 ≡ false → p 10 ≡ false → p 13 ≡ false
     → first p (optional comment_text comment ++ (optional break_text stop ++ rest)) ≡ false
 tail_first p (Some text) stop rest f h a b = h
@@ -183,6 +192,7 @@ tail_first p None None [] f h a b = refl
 tail_first p None None (x ∷ xs) f h a b = absurd (false≢true f)
 tail_first p None (Some s) rest f h a b = break_first p s rest a b
 
+-- what comes after the whitespace of a line's end is its comment and its stop
 after_white : (bol : Bool) (e : LineEnd) (rest : List ℕ) → LineParts bol e rest
     → drop_while white (line_end_text e ++ rest) ≡ optional comment_text e.comment ++ (optional break_text e.stop ++ rest)
 after_white bol e rest p =
@@ -235,10 +245,12 @@ comments_stuck n c (suc fuel) (e ∷ es) after h b g =
       | inr i ↦ ap (λ (r : Read Empty). goes_on n c (and_more text again r).1) i.1 ∙ comments_stuck n c fuel es after p.1 b g
     ]
 
+-- at the end of the text a scalar ends
 nothing_after : (n : ℕ) (c : FlowContext) (after : List ℕ) → is_empty after ≡ true → Ends n c after
 nothing_after n c [] h = record { run = no_run_at_end c; line = no_line_here n c [] refl; quote = refl }
 nothing_after n c (x ∷ xs) h = absurd (false≢true h)
 
+-- no quote comes after comments, if none comes after them all
 comments_unquoted : (es : List LineEnd) (after : List ℕ) → comments_fit false es after ≡ true → first quote after ≡ false → first quote (comments_text es ++ after) ≡ false
 comments_unquoted [] after h q = q
 comments_unquoted (e ∷ es) after h q =
@@ -283,6 +295,7 @@ gap_ends n m d (Some (lines es lead)) tail h b =
     subst (Ends n d) (sym (append_assoc (comments_text es) lead tail))
     (comments_end n d es (lead ++ tail) p.0 (white_at_break lead tail w ∙ b.bare) stuck)
 
+-- no quote comes after a gap, if none comes at its end
 gap_unquoted : (m : ℕ) (gap : Option Sep) (tail : List ℕ) → gap_fits m false gap tail ≡ true → first quote tail ≡ false → first quote (gap_text gap ++ tail) ≡ false
 gap_unquoted m None tail h q = q
 gap_unquoted m (Some (inline blank)) tail h q = white_first quote blank tail (and_parts _ _ h).0 refl refl q
@@ -291,6 +304,7 @@ gap_unquoted m (Some (lines es lead)) tail h q =
     ap (first quote) (append_assoc (comments_text es) lead tail)
     ∙ comments_unquoted es (lead ++ tail) p.0 (white_first quote lead tail (and_parts _ _ p.1).0 refl refl q)
 
+-- before a gap and the `:` of a value a scalar ends
 colon_after : (n m : ℕ) (d : FlowContext) (s : Scalar) (gap : Option Sep) (rest : List ℕ) → gap_fits m false gap (58 ∷ rest) ≡ true
     → not (is_plain (scalar s) && first (safe d) rest) ≡ true → scalar_ends n d s (gap_text gap ++ (58 ∷ rest)) ≡ true
 unfolding scalar_ends
@@ -313,12 +327,14 @@ ends_in_flow n m d s gap (x ∷ xs) i g h = elim (or_cases (closing x) _ h) [
 
 -- ---- in blocks
 
+-- outside brackets a character is safe if it is ns
 wide_safe : (c : FlowContext) (x : ℕ) → in_flow c ≡ false → safe c x ≡ ns x
 wide_safe outer x h = refl
 wide_safe block_key x h = refl
 wide_safe inner x h = absurd (false≢true (sym h))
 wide_safe flow_key x h = absurd (false≢true (sym h))
 
+-- so a text starts with a safe character if it starts with an ns
 wide_first : (c : FlowContext) (rest : List ℕ) → in_flow c ≡ false → first (safe c) rest ≡ first ns rest
 wide_first c [] h = refl
 wide_first c (x ∷ xs) h = wide_safe c x h
@@ -328,6 +344,7 @@ pub ends_before_colon : (n : ℕ) (c : FlowContext) (s : Scalar) (gap rest : Lis
     → scalar_ends n c s (gap ++ (58 ∷ rest)) ≡ true
 ends_before_colon n c s gap rest i g h = ends_scalar n c s (gap ++ (58 ∷ rest)) (colon_ends n c gap rest g (wide_first c rest i ∙ h))
 
+-- a line of fewer than n spaces isn't indented by n
 narrow : (n : ℕ) (text : List ℕ) → nat_lt (spaces_before text) n ≡ true → begins (spaces n) (take_while white text) ≡ false
 narrow zero text h = absurd (omega (arith, ltb-true (spaces_before text) 0 h))
 narrow (suc n) [] h = refl

@@ -91,10 +91,12 @@ key_read_wider c d same n m bol text s rest k h e =
 
 -- ---- a scalar whose text has no break is on one line
 
+-- a test that passes two lists, joined, passes each
 every_parts : (p : ℕ → Bool) (xs ys : List ℕ) → list_all p (xs ++ ys) ≡ true → (list_all p xs ≡ true) × (list_all p ys ≡ true)
 every_parts p [] ys h = (refl, h)
 every_parts p (x ∷ xs) ys h = let q = and_parts _ _ h in let more = every_parts p xs ys q.1 in (and_from _ _ q.0 more.0, more.1)
 
+-- a scalar of several lines has a break
 lines_broken : {A : Type 0} (spell : A → List ℕ) (prefix : List A) (l : Line A) (ls : List (Line A)) → list_all (λ x. not (line_break x)) (lines_text spell prefix (l ∷ ls)) ≡ true → ⊥
 lines_broken spell prefix l ls h =
     let sign : List ℕ = if l.escaped then codes "\\" else [] in

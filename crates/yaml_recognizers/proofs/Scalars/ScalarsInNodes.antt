@@ -26,15 +26,18 @@ no_blank_line (c ∷ cs) h = unbroken (drop_while white (c ∷ cs)) (or_parts _ 
     unbroken [] h = refl
     unbroken (x ∷ xs) h = h
 
+-- a scalar ends before what may follow it between brackets
 between_brackets : (n : ℕ) (c : FlowContext) (s : Scalar) (after : List ℕ) → BetweenBrackets c (is_plain (scalar s)) after → scalar_ends n c s after ≡ true
 between_brackets n c s after b =
     subst (λ (t : List ℕ). scalar_ends n c s t ≡ true) (sym b.is)
     (ends_in_flow n b.fits.0 c s b.gap b.rest b.within (gap_fits_too b.fits.0 false b.gap b.rest b.fits.1) b.stop)
 
+-- and before the `:` of a key
 before_colon : (n : ℕ) (c : FlowContext) (s : Scalar) (after : List ℕ) → BeforeColon c after → scalar_ends n c s after ≡ true
 before_colon n c s after b =
     subst (λ (t : List ℕ). scalar_ends n c s t ≡ true) (sym b.is) (ends_before_colon n c s b.gap b.rest b.outside b.gap_white b.apart)
 
+-- and before comments in a block
 before_comments : (n : ℕ) (c : FlowContext) (s : Scalar) (after : List ℕ) → BeforeComments n c after → scalar_ends n c s after ≡ true
 before_comments n c s after b =
     let p = and_parts _ _ b.fits in

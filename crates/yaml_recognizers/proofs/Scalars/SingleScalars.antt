@@ -31,6 +31,7 @@ white_is P c h a b = elim (or_cases (c == 32) (c == 9) h) [
   | inr i ↦ subst P (sym (eqb-true c 9 i)) b
 ]
 
+-- a character between single quotes is read
 one_read : (c : ℕ) (rest : List ℕ) → nb_json c ≡ true → read_single_one (single_text c ++ rest) ≡ Some (c, rest)
 unfolding read_single_one
 one_read c rest h = elim (cases_Bool (c == 39)) [
@@ -38,10 +39,12 @@ one_read c rest h = elim (cases_Bool (c == 39)) [
   | inr e ↦ ap (λ (t : List ℕ). read_single_one (t ++ rest)) (cond-false (c == 39) (codes "''") (c ∷ []) e) ∙ rw (e, h) refl
 ]
 
+-- a text that starts with a quote is a quote and the rest
 quote_ahead : (cs : List ℕ) → first quote cs ≡ true → cs ≡ 39 ∷ past cs
 quote_ahead [] h = absurd (false≢true h)
 quote_ahead (c ∷ cs) h = ap (λ x. x ∷ cs) (eqb-true c 39 h)
 
+-- a character between single quotes that is read fits
 one_sound : (text : List ℕ) → Sound (OneOf single_kind nb_json text) (read_single_one text)
 unfolding read_single_one
 one_sound [] = tt
@@ -54,13 +57,16 @@ one_sound (c ∷ cs) =
     (λ h. (ap (λ (t : List ℕ). t ++ cs) (sym (cond-false (c == 39) (codes "''") (c ∷ []) e)), h))
     (λ _. tt))
 
+-- a character between single quotes is written with one character or two
 one_long : (c : ℕ) → 1 ≤ length (single_text c)
 one_long c = cond_both (c == 39) (codes "''") (c ∷ []) (λ (t : List ℕ). 1 ≤ length t) (λ _. omega arith) (λ _. omega arith)
 
+-- one that is no whitespace starts with no whitespace and no break
 one_solid : (c : ℕ) (rest : List ℕ) → nb_json c ≡ true → white c ≡ false → inked (single_text c ++ rest) ≡ true
 one_solid c rest h w = cond_both (c == 39) (codes "''") (c ∷ []) (λ (t : List ℕ). inked (t ++ rest) ≡ true) (λ _. refl)
     (λ _. not_from_false _ (or_from _ _ w (nb_json_unbroken c h)))
 
+-- one that is whitespace starts with whitespace, and a break comes as after it
 one_white : (c : ℕ) (rest : List ℕ) → white c ≡ true
     → (first white (single_text c ++ rest) ≡ true) × (at_break (single_text c ++ rest) ≡ at_break rest)
 one_white c rest w = white_is (λ x. (first white (single_text x ++ rest) ≡ true) × (at_break (single_text x ++ rest) ≡ at_break rest)) c w (refl, refl) (refl, refl)
@@ -76,14 +82,17 @@ single_readable = record {
   joins = λ b rest h. absurd (false≢true h);
 }
 
+-- the closing quote ends the lines
 quote_ends : (n : ℕ) (rest : List ℕ) → first quote rest ≡ false → EndsLines single_kind nb_json false read_single_one single_readable n (39 ∷ rest)
 unfolding read_held read_single_one read_join after_blank
 quote_ends n rest h = record { held = cond-false (first quote rest) (Some (39, past rest)) None h; inked = refl; join = refl }
 
+-- a quote that no quote follows closes
 closes_at : (rest : List ℕ) → first quote rest ≡ false → single_closes (39 ∷ rest) ≡ true
 unfolding single_closes
 closes_at rest h = not_from_false _ h
 
+-- what closes starts with such a quote
 closed_at : (text : List ℕ) → single_closes text ≡ true → (text ≡ 39 ∷ past text) × (first quote (past text) ≡ false)
 unfolding single_closes
 closed_at text h = let p = and_parts _ _ h in (quote_ahead text p.0, not-true _ p.1)
@@ -98,6 +107,7 @@ single_read n c bol prefix more after h f =
     ap (λ (r : Read (List ℕ × List (Line ℕ))). on r (λ found rest. Some (single found.0 found.1, rest)))
     (quoted_read single_kind nb_json false read_single_one single_readable single_closes n c prefix more (39 ∷ after) (quote_ends n after f) (closes_at after f) q.0 q.1 p.1)
 
+-- a single-quoted scalar that is found stands there
 found_stands : (n : ℕ) (c : FlowContext) (bol : Bool) (text : List ℕ) (found : List ℕ × List (Line ℕ)) (rest : List ℕ)
     → QuotedOf single_kind nb_json false read_single_one single_readable single_closes n c text found rest → Stands n c bol (39 ∷ text) (single found.0 found.1) rest
 unfolding scalar_ends

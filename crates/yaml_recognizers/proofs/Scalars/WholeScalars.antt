@@ -16,6 +16,7 @@ use Rattle.yaml_recognizers.proofs.Scalars.FlowScalars.{sound, once, none_stands
 
 -- ---- the last character of a plain scalar is that of its text
 
+-- the last character of two texts, joined, is that of the second, if it has one
 last-append : (p q : ℕ) (xs : List ℕ) (y : ℕ) (ys : List ℕ) → last_of p (xs ++ (y ∷ ys)) ≡ last_of q (y ∷ ys)
 unfolding last_of
 last-append p q [] y ys = refl
@@ -26,16 +27,19 @@ abbrev some_held : List (Line ℕ) → Type 0
 some_held [] = Unit {0}
 some_held (l ∷ ls) = ((y : ℕ) × (ys : List ℕ) × (l.held ≡ y ∷ ys)) × some_held ls
 
+-- a further line holds a character
 held_some : (c : FlowContext) (held after : List ℕ) → plain_more c held after ≡ true → (y : ℕ) × (ys : List ℕ) × (held ≡ y ∷ ys)
 held_some c [] after h = absurd (false≢true h)
 held_some c (y ∷ ys) after h = (y, ys, refl)
 
+-- so do all further lines
 lines_some : (n : ℕ) (c : FlowContext) (before : List ℕ) (ls : List (Line ℕ)) (after : List ℕ) → plain_lines n c before ls after ≡ true → some_held ls
 lines_some n c before [] after h = tt
 lines_some n c before (l ∷ ls) after h =
     let p = and_parts _ _ h in
     (held_some c l.held (lines_after plain_kind ls after) (and_parts _ _ p.0).1, lines_some n c l.held ls after p.1)
 
+-- the last character of a text of lines is that of the last line
 last_in_text : (prefix : List ℕ) (ls : List (Line ℕ)) → some_held ls → last_of 32 (prefix ++ flat_map (line_text plain_text) ls) ≡ last_char prefix ls
 unfolding last_char
 last_in_text prefix [] s = ap (last_of 32) (append-nil prefix)
@@ -49,6 +53,7 @@ last_in_text prefix (l ∷ ls) s =
     ∙ (ap (λ t. last_of 32 (t ++ more)) (sym s.0.2)
     ∙ last_in_text l.held ls s.1))
 
+-- the last character of a plain scalar is that of its last line
 last_is : (n : ℕ) (c : FlowContext) (bol : Bool) (prefix : List ℕ) (more : List (Line ℕ)) (after : List ℕ) → scalar_fits n c bol (plain prefix more) after ≡ true
     → last_of 32 (scalar_text (plain prefix more)) ≡ last_char prefix more
 last_is n c bol prefix more after h =
@@ -58,6 +63,7 @@ last_is n c bol prefix more after h =
 
 -- ---- of two ends of one text, as long as one another
 
+-- two ways to cut a text before ends of one length are one
 same_ends : (xs ys as' bs : List ℕ) → xs ++ as' ≡ ys ++ bs → length as' ≡ length bs → (xs ≡ ys) × (as' ≡ bs)
 same_ends xs ys as' bs e m =
     let long : length xs ≡ length ys = omega (arith, ap length e, length-append xs as', length-append ys bs) in
@@ -66,15 +72,18 @@ same_ends xs ys as' bs e m =
 
 -- ---- plain
 
+-- a plain scalar that stands there is read
 plain_found : (n : ℕ) (c : FlowContext) (bol : Bool) (text : List ℕ) (prefix : List ℕ) (more : List (Line ℕ)) (rest : List ℕ) → Stands n c bol text (plain prefix more) rest
     → read_plain n c bol text ≡ Some (plain prefix more, rest)
 unfolding scalar_ends
 plain_found n c bol text prefix more rest h = ap (read_plain n c bol) h.spells ∙ plain_read n c bol prefix more rest h.fits h.ends
 
+-- what is read goes at least as far as a plain scalar that fits
 reaches_at : (n : ℕ) (c : FlowContext) (bol : Bool) (text : List ℕ) (prefix : List ℕ) (more : List (Line ℕ)) (after : List ℕ) → text ≡ scalar_text (plain prefix more) ++ after
     → scalar_fits n c bol (plain prefix more) after ≡ true → Reaches after (read_plain n c bol text)
 reaches_at n c bol text prefix more after e h = subst (λ (t : List ℕ). Reaches after (read_plain n c bol t)) (sym e) (plain_reaches n c bol prefix more after h)
 
+-- a plain scalar that stands there is the longest
 plain_longest : (n : ℕ) (c : FlowContext) (bol : Bool) (text : List ℕ) (prefix : List ℕ) (more : List (Line ℕ)) (rest : List ℕ) → Stands n c bol text (plain prefix more) rest
     → Longest n c bol text rest
 plain_longest n c bol text prefix more rest h prefix' more' after e f =
@@ -82,6 +91,7 @@ plain_longest n c bol text prefix more rest h prefix' more' after e f =
     let same : rest ≡ r.2 = (some_parts (plain prefix more) (plain r.0 r.1) rest r.2 (sym (plain_found n c bol text prefix more rest h) ∙ r.3)).1 in
     omega (arith, ap length same, r.4)
 
+-- and the longest that fits stands there
 longest_stands : (n : ℕ) (c : FlowContext) (bol : Bool) (text : List ℕ) (prefix : List ℕ) (more : List (Line ℕ)) (rest : List ℕ) → text ≡ scalar_text (plain prefix more) ++ rest
     → scalar_fits n c bol (plain prefix more) rest ≡ true → Longest n c bol text rest → Stands n c bol text (plain prefix more) rest
 unfolding scalar_ends

@@ -17,6 +17,7 @@ use Rattle.yaml_recognizers.proofs.Basics.Solid.{solid_parts}
 
 -- ---- breaks
 
+-- what does not hold together with true does not hold
 not_one : (b : Bool) → not (b && true) ≡ true → b ≡ false
 not_one true h = sym h
 not_one false h = refl
@@ -41,6 +42,7 @@ stop_unread bol blank (Some lf) after h = refl
 stop_unread bol blank (Some cr) after h = refl
 stop_unread bol blank (Some cr_lf) after h = refl
 
+-- a line's end that isn't empty is made of its parts
 stopped_at : (e : LineEnd) (after : List ℕ) → not (is_empty (line_end_text e)) ≡ true → line_end_with_stop e.blank e.comment (Some (e.stop, after)) ≡ Some (e, after)
 stopped_at e after h = rw (not-true _ h)
 
@@ -68,10 +70,12 @@ line_end_read bol e after h =
 
 -- ---- where no line ends
 
+-- where no break comes and the text doesn't end, no stop is read
 stop_none : (text : List ℕ) → stops text ≡ false → read_stop text ≡ None
 stop_none [] h = absurd (false≢true (sym h))
 stop_none (c ∷ cs) h = let q : (c == 10 ≡ false) × (c == 13 ≡ false) = or_parts _ _ h in rw (q.0, q.1)
 
+-- where no comment and no stop comes after whitespace, no line's end is read
 none_after : (bol : Bool) (blank rest : List ℕ) → stops rest || (first hash rest && stops (drop_while nb (past rest))) ≡ false
     → read_after_blank bol blank rest ≡ None
 none_after bol blank [] h = absurd (false≢true (sym h))

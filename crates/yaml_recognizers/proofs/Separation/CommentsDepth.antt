@@ -10,9 +10,11 @@ use Rattle.yaml_recognizers.specs.Reading.{Read}
 use Rattle.yaml_recognizers.proofs.Separation.CommentsSound.{LineOf, line_sound, shorter}
 use Rattle.yaml_recognizers.proofs.Basics.Reading.{sound_is}
 
+-- a line's end takes something of the text
 line_left : (bol : Bool) (text : List ℕ) (e : LineEnd) (rest : List ℕ) → read_line_end bol text ≡ Some (e, rest) → length rest < length text
 line_left bol text e rest h = shorter bol text rest e (sound_is (LineOf bol text) (read_line_end bol text) (e, rest) (line_sound bol text) h)
 
+-- two recognizers that agree on what is left read the same lines
 more_same : (text : List ℕ) (again again' : List ℕ → List LineEnd × List ℕ) (r : Read LineEnd) → ((e : LineEnd) (rest : List ℕ) → r ≡ Some (e, rest) → again rest ≡ again' rest)
     → more_comments text again r ≡ more_comments text again' r
 more_same text again again' None f = refl
@@ -32,6 +34,7 @@ comments_step bol text =
     more_same text (λ rest. read_comments (length text) true rest) (λ rest. all_comments true rest) (read_line_end bol text)
     (λ e rest q. let r : length rest < length text = line_left bol text e rest q in comments_same (length text) (suc (length rest)) true rest (omega arith) (omega arith))
 
+-- once a line's end is read, the gap goes on after the comments
 gap_by : (n : ℕ) (text : List ℕ) (r : Read LineEnd) (e : LineEnd) (rest : List ℕ) → r ≡ Some (e, rest) → gap_from n text r ≡ gap_after n text e (read_comments (length text) true rest)
 gap_by n text r e rest q = ap (gap_from n text) q
 

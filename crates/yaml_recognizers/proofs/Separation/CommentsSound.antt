@@ -36,6 +36,7 @@ stop_sound (c ∷ cs) =
 abbrev pub LineOf : Bool → List ℕ → LineEnd → List ℕ → Type 0
 LineOf bol text e rest = (text ≡ line_end_text e ++ rest) × (comment_line_fits bol e rest ≡ true)
 
+-- a line's end of parts that fit, fits
 stopped_sound : (bol : Bool) (blank : List ℕ) (comment : Option (List ℕ)) (tail : List ℕ) (r : Read (Option Break)) → list_all white blank ≡ true
     → comment_fits (bol || not (is_empty blank)) comment ≡ true → Sound (StopOf tail) r
     → Sound (LineOf bol (blank ++ (optional comment_text comment ++ tail))) (line_end_with_stop blank comment r)
@@ -50,6 +51,7 @@ stopped_sound bol blank comment tail (Some r) w c s =
       and_from _ _ (not_from_false _ n) (and_from _ _ (and_from _ _ w c) s.1),
     ))
 
+-- a line's end that is read after whitespace fits
 after_sound : (bol : Bool) (blank rest : List ℕ) → list_all white blank ≡ true → Sound (LineOf bol (blank ++ rest)) (read_after_blank bol blank rest)
 after_sound bol blank [] w = stopped_sound bol blank None [] (read_stop []) w refl (stop_sound [])
 after_sound bol blank (c ∷ cs) w =
@@ -73,10 +75,12 @@ line_sound bol text =
 abbrev pub CommentsOf : Bool → List ℕ → List LineEnd × List ℕ → Type 0
 CommentsOf bol text c = (text ≡ comments_text c.0 ++ c.1) × (bol || not (is_empty c.0) ≡ true → is_line_end c.1 ≡ false → canonical_comments bol c.0 c.1 ≡ true)
 
+-- where no comment line starts, no comments are canonical
 none_fit : (bol : Bool) (text : List ℕ) → bol || false ≡ true → is_line_end text ≡ false → canonical_comments bol [] text ≡ true
 none_fit true text b h = not_from_false _ h
 none_fit false text b h = absurd (false≢true b)
 
+-- a first comment line and those that are read after it are canonical
 more_sound : (bol : Bool) (text : List ℕ) (again : List ℕ → List LineEnd × List ℕ) (r : Read LineEnd) → ((rest : List ℕ) → CommentsOf true rest (again rest)) → Sound (LineOf bol text) r
     → CommentsOf bol text (more_comments text again r)
 more_sound bol text again None f s = (refl, none_fit bol text)
@@ -99,11 +103,13 @@ all_sound bol text = comments_sound (suc (length text)) bol text
 
 -- ---- where a line ends it is read
 
+-- a line's end with a comment isn't empty
 stopped_hash : (blank t : List ℕ) (r : Read (Option Break)) → is_some r ≡ true → is_some (line_end_with_stop blank (Some t) r) ≡ true
 stopped_hash blank t None h = absurd (false≢true h)
 stopped_hash [] t (Some r) h = refl
 stopped_hash (b ∷ bs) t (Some r) h = refl
 
+-- nor is one with a break
 stopped_break : (blank : List ℕ) (b : Break) (rest : List ℕ) → is_some (line_end_with_stop blank None (Some (Some b, rest))) ≡ true
 stopped_break [] lf rest = refl
 stopped_break [] cr rest = refl
@@ -112,6 +118,7 @@ stopped_break (x ∷ xs) lf rest = refl
 stopped_break (x ∷ xs) cr rest = refl
 stopped_break (x ∷ xs) cr_lf rest = refl
 
+-- where a break comes or the text ends, a stop is read
 stop_some : (text : List ℕ) → stops text ≡ true → is_some (read_stop text) ≡ true
 stop_some [] h = refl
 stop_some (c ∷ cs) h = elim (cases_Bool (c == 10)) [
@@ -119,15 +126,18 @@ stop_some (c ∷ cs) h = elim (cases_Bool (c == 10)) [
   | inr e ↦ (let i : c == 13 ≡ true = subst (λ (b : Bool). b || (c == 13) ≡ true) e h in rw (e, i))
 ]
 
+-- where a `#` comes after whitespace, a comment line is read
 hash_there : (blank cs : List ℕ) → stops (drop_while nb cs) ≡ true → is_some (read_after_blank true blank (35 ∷ cs)) ≡ true
 hash_there blank cs h = stopped_hash blank (take_while nb cs) (read_stop (drop_while nb cs)) (stop_some (drop_while nb cs) h)
 
+-- where a break comes after whitespace, a line of whitespace is read
 break_there : (blank : List ℕ) (c : ℕ) (cs : List ℕ) → c == 35 ≡ false → line_break c ≡ true → is_some (read_after_blank true blank (c ∷ cs)) ≡ true
 break_there blank c cs n h = elim (cases_Bool (c == 10)) [
   | inl e ↦ rw (n, e) (stopped_break blank lf cs)
   | inr e ↦ (let i : c == 13 ≡ true = subst (λ (b : Bool). b || (c == 13) ≡ true) e h in rw (n, e, i) (stopped_break blank (read_cr cs).0 (read_cr cs).1))
 ]
 
+-- where a comment or a stop comes after whitespace, a comment line is read
 after_there : (blank rest : List ℕ) → is_empty blank && is_empty rest ≡ false → stops rest || (first hash rest && stops (drop_while nb (past rest))) ≡ true
     → is_some (read_after_blank true blank rest) ≡ true
 after_there [] [] e h = absurd (false≢true (sym e))
@@ -142,11 +152,13 @@ after_there blank (c ∷ cs) e h = elim (cases_Bool (c == 35)) [
   ])
 ]
 
+-- if two parts make a text with a character, they are not both empty
 both_empty : (blank rest : List ℕ) (c : ℕ) (cs : List ℕ) → c ∷ cs ≡ blank ++ rest → is_empty blank && is_empty rest ≡ false
 both_empty [] [] c cs h = cc
 both_empty [] (x ∷ xs) c cs h = refl
 both_empty (x ∷ xs) rest c cs h = refl
 
+-- where a comment line starts, one is read
 line_there : (text : List ℕ) → is_line_end text ≡ true → is_some (read_line_end true text) ≡ true
 line_there [] h = absurd (false≢true h)
 line_there (c ∷ cs) h =
@@ -168,6 +180,7 @@ line_is_end bol e rest h = elim (cases_Bool (is_line_end (line_end_text e ++ res
 
 -- ---- comments end where there is none
 
+-- after the comment lines that are read no further one starts
 more_end : (text : List ℕ) (again : List ℕ → List LineEnd × List ℕ) (r : Read LineEnd) → (r ≡ None → is_line_end text ≡ false)
     → Sound (λ (e : LineEnd) (rest : List ℕ). is_line_end (again rest).1 ≡ false) r → is_line_end (more_comments text again r).1 ≡ false
 more_end text again None n s = n refl

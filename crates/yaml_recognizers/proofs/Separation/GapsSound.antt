@@ -19,10 +19,12 @@ use Rattle.yaml_recognizers.proofs.Basics.Reading.{Sound}
 abbrev pub GapOf : ℕ → Bool → List ℕ → GapRead → Type 0
 GapOf n key text g = (text ≡ gap_text g.0 ++ g.1) × (canonical_gap n key g.0 g.1 ≡ true)
 
+-- whitespace on the line is a gap that fits
 inline_sound : (n : ℕ) (key : Bool) (blank rest : List ℕ) → list_all white blank ≡ true → GapOf n key (blank ++ rest) (inline_gap blank rest)
 inline_sound n key [] rest w = (refl, refl)
 inline_sound n key (c ∷ cs) rest w = (refl, and_from _ _ w refl)
 
+-- a gap after a line's end fits
 from_sound : (n : ℕ) (text : List ℕ) (r : Read LineEnd) → Sound (LineOf false text) r → GapOf n false text (gap_from n text r)
 from_sound n text None s = subst (λ (t : List ℕ). GapOf n false t (inline_gap (take_while white text) (drop_while white text))) (sym (take_while_split white text)) (inline_sound n false (take_while white text) (drop_while white text) (take_while_every white text))
 from_sound n text (Some r) s =

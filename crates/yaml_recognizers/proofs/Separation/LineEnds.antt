@@ -79,6 +79,7 @@ pub tail_not_white : (comment : Option (List ℕ)) (stop : Option Break) (after 
 tail_not_white None stop after f = stop_not_white stop after f
 tail_not_white (Some text) stop after f = refl
 
+-- a line's end after its whitespace starts with nothing solid
 tail_unsolid : (comment : Option (List ℕ)) (stop : Option Break) (rest : List ℕ) → stop_fits stop rest ≡ true
     → first solid (optional comment_text comment ++ (optional break_text stop ++ rest)) ≡ false
 tail_unsolid (Some text) stop rest h = refl
@@ -88,10 +89,12 @@ tail_unsolid None (Some lf) rest h = refl
 tail_unsolid None (Some cr) rest h = refl
 tail_unsolid None (Some cr_lf) rest h = refl
 
+-- what is no whitespace is no space
 white_space : (tail : List ℕ) → first white tail ≡ false → first space tail ≡ false
 white_space [] h = refl
 white_space (c ∷ cs) h = (or_parts (c == 32) (c == 9) h).0
 
+-- nor does it, once its spaces are passed
 blank_unsolid : (blank tail : List ℕ) → list_all white blank ≡ true → first solid tail ≡ false → first white tail ≡ false → first solid (past_spaces (blank ++ tail)) ≡ false
 blank_unsolid [] tail w h f = rw (spaces_passed 0 tail (white_space tail f)) h
 blank_unsolid (c ∷ cs) tail w h f = elim (cases_Bool (c == 32)) [
@@ -112,6 +115,7 @@ comments_unsolid bol e es rest h =
     let regrouped : comments_text (e ∷ es) ++ rest ≡ line_end_text e ++ (comments_text es ++ rest) = simp append_assoc in
     subst (λ (t : List ℕ). first solid (past_spaces t) ≡ false) (sym regrouped) (line_unsolid bol e _ (comments_parts bol e es rest h).0)
 
+-- a line's end starts with no ns
 line_first : (blank : List ℕ) (comment : Option (List ℕ)) (stop : Option Break) (rest : List ℕ) → list_all white blank ≡ true → comment_fits (not (is_empty blank)) comment ≡ true
     → not (is_empty ((blank ++ optional comment_text comment) ++ optional break_text stop)) ≡ true → first ns (blank ++ (optional comment_text comment ++ (optional break_text stop ++ rest))) ≡ false
 line_first (c ∷ cs) comment stop rest w f s = white_no_ns c (and_parts _ _ w).0
@@ -135,6 +139,7 @@ comments_no_ns (e ∷ es) rest h =
     let regrouped : comments_text (e ∷ es) ++ rest ≡ line_end_text e ++ (comments_text es ++ rest) = simp append_assoc in
     subst (λ (t : List ℕ). first ns t ≡ false) (sym regrouped) (line_no_ns e _ (comments_parts false e es rest h).0)
 
+-- whitespace and breaks are not safe
 blank_unsafe : (c : FlowContext) → (safe c 32 ≡ false) × (safe c 9 ≡ false) × (safe c 10 ≡ false) × (safe c 13 ≡ false)
 blank_unsafe outer = (refl, refl, refl, refl)
 blank_unsafe inner = (refl, refl, refl, refl)
@@ -148,6 +153,7 @@ white_unsafe d x h = elim (or_cases (x == 32) (x == 9) h) [
   | inr e ↦ subst (λ (y : ℕ). safe d y ≡ false) (sym (eqb-true x 9 e)) (blank_unsafe d).1
 ]
 
+-- a line's end that isn't empty starts with no safe character
 parts_unsafe : (d : FlowContext) (blank : List ℕ) (comment : Option (List ℕ)) (stop : Option Break) (after : List ℕ) → list_all white blank ≡ true
     → comment_fits (false || not (is_empty blank)) comment ≡ true → not (is_empty (blank ++ optional comment_text comment ++ optional break_text stop)) ≡ true
     → first (safe d) (blank ++ optional comment_text comment ++ optional break_text stop ++ after) ≡ false
@@ -166,6 +172,7 @@ line_unsafe d e after h =
 
 -- ---- how long they are
 
+-- what isn't empty has an element
 not_empty_long : (xs : List ℕ) → not (is_empty xs) ≡ true → 1 ≤ length xs
 not_empty_long [] h = absurd (false≢true h)
 not_empty_long (x ∷ xs) h = omega arith
