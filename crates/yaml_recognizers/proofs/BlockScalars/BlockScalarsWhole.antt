@@ -1,8 +1,8 @@
 -- Block scalars: what fits in its canonical form is read, and what is read fits in its canonical form. So a text has at
 -- most one canonical block scalar at its start.
-use Rattle.std.proofs.Common.{◌≡◌, refl, sym, ◌∙◌, ap, subst, append_assoc}
-use Rattle.std.specs.Prelude.{ℕ, true, false, not, ◌&&◌, List, ◌++◌, Option, Some, None}
-use Rattle.std.proofs.lemmas.Bool.{and_parts, and_from, not_from_false}
+use Rattle.std.proofs.Common.{◌≡◌, sym, ◌∙◌, ap, subst, append_assoc}
+use Rattle.std.specs.Prelude.{ℕ, true, ◌&&◌, List, ◌++◌, Some}
+use Rattle.std.proofs.lemmas.Bool.{and_parts, and_from}
 use Rattle.yaml_grammar.specs.Separation.{LineEnd, comments_text}
 use Rattle.yaml_grammar.specs.BlockScalars.{Header, Body, BlockScalar, header_text, body_text, block_text, header_fits, body_fits, trail_fits, block_fits}
 use Rattle.yaml_recognizers.proofs.Basics.Reading.{Sound, sound_on}
