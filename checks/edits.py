@@ -17,7 +17,9 @@ import sys
 TOP = os.path.dirname(os.path.dirname(os.path.abspath(__file__)))
 IMPORT = re.compile(r"\buse\s+Rattle\.(\w+)\.(specs|proofs)\.([\w.]+?)(?:\.\{([^}]*)\}|\s+as\s|;|\s*$)", re.M)
 EXPORT = re.compile(r"\bpub use\s+[\w.]+(?:\.\{([^}]*)\})?")
-DECLARED = re.compile(r"^\s*(?:(?:pub|abbrev)\s+)*(?:(?:data|record)\s+(\S+)|([^:={}()]+?)\s*(?:\{[^}]*\}\s*)*:\s)", re.M)
+DECLARED = re.compile(
+    r"^\s*(?:(?:pub|abbrev)\s+)*(?:(?:data|record)\s+(\S+)|([^:={}()]+?)\s*(?:(?:\{[^}]*\}|\([^)]*\))\s*)*:\s)", re.M
+)
 
 
 def read(path):
