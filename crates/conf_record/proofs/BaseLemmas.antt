@@ -5,7 +5,7 @@ use Rattle.std.proofs.lemmas.Fmt.{decimal_is_IsNumeral_wide}
 use Rattle.std.proofs.lemmas.Str.Parse.{tells_digits}
 use Rattle.std.specs.Char.{len_utf8}
 use Rattle.std.specs.Str.Parse.{AllDigits}
-use Rattle.yaml_chars.specs.Classes.{between, is_in}
+use Rattle.yaml_chars.specs.Classes.{in_range, is_in}
 use Rattle.yaml_grammar.specs.Texts.{byte_len, spaces}
 use Rattle.yaml_grammar.specs.Trees.{Tree, mapping}
 use Rattle.yaml_grammar.specs.Style.{letter, plain_in_style, literal_in_style, quoted_char, quoted_chars, in_double_quotes, scalar_lines, literal_mark, literal_lines, feeds_at_end, key_lines, value_at, members_after, style_text}
@@ -15,19 +15,19 @@ use Rattle.conf_record.specs.BaseTexts.{members, base_tree, base_text, base_leng
 
 -- ---- in double quotes each digit means itself
 
-digit : (c : ℕ) (cs : List ℕ) → AllDigits 10 (c ∷ cs) → between 48 57 c ≡ true
+digit : (c : ℕ) (cs : List ℕ) → AllDigits 10 (c ∷ cs) → in_range 48 57 c ≡ true
 digit c cs all = let here = (tells_digits.parts c cs all).0 in grind (arith, nat_tests, here)
 
-no_letter : (c : ℕ) → between 48 57 c ≡ true → letter c ≡ false
+no_letter : (c : ℕ) → in_range 48 57 c ≡ true → letter c ≡ false
 no_letter c e = grind (arith, nat_tests)
 
-no_feed : (c : ℕ) → between 48 57 c ≡ true → (10 == c) ≡ false
+no_feed : (c : ℕ) → in_range 48 57 c ≡ true → (10 == c) ≡ false
 no_feed c e = grind (arith, nat_tests)
 
-for_itself : (c : ℕ) → between 48 57 c ≡ true → quoted_char c ≡ c ∷ []
+for_itself : (c : ℕ) → in_range 48 57 c ≡ true → quoted_char c ≡ c ∷ []
 for_itself c e = grind (arith, nat_tests)
 
-one_byte : (c : ℕ) → between 48 57 c ≡ true → len_utf8 c ≡ 1
+one_byte : (c : ℕ) → in_range 48 57 c ≡ true → len_utf8 c ≡ 1
 one_byte c e = grind (arith, nat_tests)
 
 digits_not_plain : (ds : List ℕ) → AllDigits 10 ds → plain_in_style ds ≡ false

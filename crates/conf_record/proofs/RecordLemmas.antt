@@ -6,7 +6,7 @@ use Rattle.std.proofs.lemmas.Fmt.{decimal_is_IsNumeral, length-decimal-le}
 use Rattle.std.proofs.lemmas.Str.Parse.{tells_digits}
 use Rattle.std.specs.Char.{len_utf8}
 use Rattle.std.specs.Str.Parse.{AllDigits, digits_value}
-use Rattle.yaml_chars.specs.Classes.{code_point, between}
+use Rattle.yaml_chars.specs.Classes.{code_point, in_range}
 use Rattle.std.specs.List.{list_all}
 use Rattle.yaml_grammar.specs.Texts.{IsText, byte_len, first, same_text}
 use Rattle.yaml_grammar.specs.Trees.{Tree, text, Members, no_member, member, members_depth, distinct, members_distinct, has_key, AreTextMembers}
@@ -29,10 +29,10 @@ use Rattle.conf_record.proofs.SizeLemmas.{size, scalar_most, value_size}
 
 -- ---- numbers and names
 
-digit_is_text : (c : ℕ) → between 48 57 c ≡ true → code_point c ≡ true
+digit_is_text : (c : ℕ) → in_range 48 57 c ≡ true → code_point c ≡ true
 digit_is_text c e = grind (arith, nat_tests)
 
-digit : (c : ℕ) (cs : List ℕ) → AllDigits 10 (c ∷ cs) → between 48 57 c ≡ true
+digit : (c : ℕ) (cs : List ℕ) → AllDigits 10 (c ∷ cs) → in_range 48 57 c ≡ true
 digit c cs all = let here = (tells_digits.parts c cs all).0 in grind (arith, nat_tests, here)
 
 digits_are_text : (ds : List ℕ) → AllDigits 10 ds → IsText ds

@@ -3,7 +3,7 @@ use Rattle.std.proofs.Common.{◌≡◌, ℕ, zero, suc, ◌+◌, ◌*◌, ◌/�
 use Rattle.std.proofs.lemmas.Bool.Decides.{nat_tests}
 use Rattle.std.proofs.lemmas.Str.{len_utf8_bounds}
 use Rattle.std.specs.Char.{len_utf8}
-use Rattle.yaml_chars.specs.Classes.{between}
+use Rattle.yaml_chars.specs.Classes.{in_range}
 use Rattle.yaml_grammar.specs.Texts.{byte_len, spaces}
 use Rattle.yaml_grammar.specs.Trees.{Tree, text, sequence, mapping, Elements, no_element, element, Members, no_member, member}
 use Rattle.yaml_grammar.specs.Style.{shown, plain_in_style, literal_in_style, hex, letter_escape, quoted_char, quoted_chars, in_double_quotes, literal_mark, literal_lines, feeds_at_end, scalar_lines, key_text, long_key, key_lines, elements_at, elements_after, element_at, members_at, members_after, value_at, style_text}
@@ -97,15 +97,15 @@ record Escapes (c spelled : ℕ) : Type 0 where
   esc_less : c ≤ spelled
   esc_most : spelled ≤ 18 * c
 
-named_is_ascii : (c : ℕ) → ((c == 0) || between 7 13 c || (c == 27)) ≡ true → len_utf8 c ≡ 1
+named_is_ascii : (c : ℕ) → ((c == 0) || in_range 7 13 c || (c == 27)) ≡ true → len_utf8 c ≡ 1
 named_is_ascii c e = grind (arith, nat_tests)
 
 char_bytes : (c : ℕ) → Escapes (len_utf8 c) (byte_len (quoted_char c))
 char_bytes c =
-    by ((c == 34) || (c == 92)) (shown c) ((c == 0) || between 7 13 c || (c == 27)) (nat_le c 0xff) (letter_escape c)
+    by ((c == 34) || (c == 92)) (shown c) ((c == 0) || in_range 7 13 c || (c == 27)) (nat_le c 0xff) (letter_escape c)
     (hex (c / 16)) (hex (c % 16)) (hex (c / 4096)) (hex (c / 256 % 16)) (hex (c / 16 % 16)) refl
   where
-    by : (sign itself named short : Bool) (letter d0 d1 d2 d3 d4 : ℕ) → ((c == 0) || between 7 13 c || (c == 27)) ≡ named
+    by : (sign itself named short : Bool) (letter d0 d1 d2 d3 d4 : ℕ) → ((c == 0) || in_range 7 13 c || (c == 27)) ≡ named
         → Escapes (len_utf8 c)
         (byte_len (if sign then 92 ∷ c ∷ [] else if itself then c ∷ [] else if named then 92 ∷ letter ∷ []
         else if short then codes "\\x" ++ d0 ∷ d1 ∷ [] else codes "\\u" ++ d2 ∷ d3 ∷ d4 ∷ d1 ∷ []))

@@ -1,14 +1,14 @@
 -- Names of configurations.
 use Rattle.std.specs.Prelude.{ℕ, Bool, ◌&&◌, ◌||◌, nat_le, List, length, codes}
-use Rattle.yaml_chars.specs.Classes.{between, is_in}
+use Rattle.yaml_chars.specs.Classes.{in_range, is_in}
 use Rattle.std.specs.List.{list_all}
 use Rattle.yaml_grammar.specs.Texts.{first}
 
 abbrev pub small_letter : ℕ → Bool
-small_letter c = between 97 122 c
+small_letter c = in_range 97 122 c
 
 abbrev pub name_char : ℕ → Bool
-name_char c = small_letter c || between 48 57 c || is_in c (codes "_-")
+name_char c = small_letter c || in_range 48 57 c || is_in c (codes "_-")
 
 -- 1 to 64 small letters, digits, `_` and `-`, a letter first
 abbrev pub good_name : List ℕ → Bool

@@ -1,7 +1,7 @@
 -- What paths do in trees: the value at a place, and the trees after a `set` and a `delete`. Each is a tree, or the
 -- first refusal on the way; steps count from 1.
 use Rattle.std.specs.Prelude.{ℕ, zero, suc, ◌+◌, ◌-◌, ◌*◌, Bool, false, ◌==◌, if◌then◌else◌, List, [], ◌∷◌, codes, Option, Some, None, option_map, Result, Ok, Err}
-use Rattle.yaml_chars.specs.Classes.{between}
+use Rattle.yaml_chars.specs.Classes.{in_range}
 use Rattle.std.specs.List.{list_all}
 use Rattle.yaml_grammar.specs.Texts.{is_empty, same_text}
 use Rattle.yaml_grammar.specs.Trees.{Tree, text, sequence, mapping, Elements, no_element, element, Members, no_member, member}
@@ -14,7 +14,7 @@ use Rattle.tree_path.specs.declared.place.Miss.TheVariants.{Absent, NoIndex}
 
 -- an ASCII digit
 abbrev pub digit : ℕ → Bool
-digit c = between 48 57 c
+digit c = in_range 48 57 c
 
 -- `0`, or digits without a leading zero
 abbrev pub is_number : List ℕ → Bool

@@ -3,12 +3,12 @@ use Rattle.std.proofs.Common.{ap, append_assoc, arith, inl, inr, refl, subst, sy
 use Rattle.std.specs.Prelude.{Bool, List, None, Option, Some, [], false, if◌then◌else◌, nat_lt, true, ℕ, ◌&&◌, ◌++◌, ◌+◌, ◌∷◌}
 use Rattle.std.proofs.lemmas.Bool.{and_from, and_parts, cases_eq, cases_lt, eq-eqb, eqb-true, false≢true, lt-ltb, not-true, not_from_false}
 use Rattle.yaml_chars.specs.Classes.{nb}
-use Rattle.yaml_grammar.specs.BlockScalars.{BlockScalar, Chomping, Header, block_body_text, block_events, block_text, block_value, goes_on, past_spaces, spaces_before}
+use Rattle.yaml_grammar.specs.BlockScalars.{BlockScalar, Body, Chomping, Header, bare_block_text, block_events, block_text, block_value, digit_fits, goes_on, past_spaces, spaces_before}
 use Rattle.yaml_grammar.specs.Events.{folded_style, literal_style, scalar_event}
 use Rattle.yaml_grammar.specs.Separation.{LineEnd, comments_text}
 use Rattle.yaml_grammar.specs.Texts.{byte_len, first, marker, no_marker}
 use Rattle.yaml_recognizers.specs.BlockScalarFacts.{IsBody, IsHeader, NoBody, NoHeader}
-use Rattle.yaml_recognizers.specs.BlockScalars.{Body, block_of, digit_fits, read_block, read_body, read_header, read_trail, trail_here}
+use Rattle.yaml_recognizers.specs.BlockScalars.{block_of, read_block, read_body, read_header, read_trail, trail_here}
 use Rattle.yaml_recognizers.specs.CanonicalComments.{hash, is_line_end}
 use Rattle.yaml_recognizers.specs.Comments.{all_comments}
 use Rattle.yaml_recognizers.specs.Reading.{Read}
@@ -25,13 +25,13 @@ pub record BlockReads (m : ℕ) (text after value : List ℕ) (folded : Bool) : 
   pub indent : ℕ
   pub stops : goes_on indent after ≡ false
   pub reads : read_block m text ≡ Some (scalar (read_trail indent after).0, (read_trail indent after).1)
-  pub text_is : (comments : List LineEnd) → block_text (scalar comments) ≡ block_body_text (scalar [])
+  pub text_is : (comments : List LineEnd) → block_text (scalar comments) ≡ bare_block_text (scalar [])
       ++ comments_text comments
-  pub body_is : (comments : List LineEnd) → block_body_text (scalar comments) ≡ block_body_text (scalar [])
+  pub body_is : (comments : List LineEnd) → bare_block_text (scalar comments) ≡ bare_block_text (scalar [])
   pub means : (comments : List LineEnd) (at : ℕ)
       → block_events at (scalar comments) ≡ scalar_event (if folded then folded_style else literal_style) at
-      (at + byte_len (block_body_text (scalar []))) value ∷ []
-  pub spells : text ≡ block_body_text (scalar []) ++ after
+      (at + byte_len (bare_block_text (scalar []))) value ∷ []
+  pub spells : text ≡ bare_block_text (scalar []) ++ after
 
 -- its header, body and comments make the whole scalar
 pub block_reads : (m : ℕ) (text lines after value : List ℕ) (folded : Bool) (digit : Option ℕ) (chomping : Chomping)
@@ -53,16 +53,16 @@ block_reads m text lines after value folded digit chomping h b =
       body_is = λ comments. refl;
       means = λ comments at.
           ap (λ f. scalar_event (if f then folded_style else literal_style) at
-          (at + byte_len (block_body_text (block_of header b.body [])))
+          (at + byte_len (bare_block_text (block_of header b.body [])))
           (block_value f (h.header).chomping (b.body).gaps (b.body).texts) ∷ []) (h.means).style
           ∙ (ap (λ c. scalar_event (if folded then folded_style else literal_style) at
-          (at + byte_len (block_body_text (block_of header b.body [])))
+          (at + byte_len (bare_block_text (block_of header b.body [])))
           (block_value folded c (b.body).gaps (b.body).texts) ∷ []) (h.means).chomps
           ∙ ap (λ v. scalar_event (if folded then folded_style else literal_style) at
-          (at + byte_len (block_body_text (block_of header b.body []))) v ∷ []) (sym b.means));
+          (at + byte_len (bare_block_text (block_of header b.body []))) v ∷ []) (sym b.means));
       spells = (blocks_read.sound m text (block_of header b.body trail.0) trail.1 reads).0
-          ∙ (append_assoc (block_body_text (block_of header b.body [])) (comments_text trail.0) trail.1
-          ∙ ap (λ t. block_body_text (block_of header b.body []) ++ t) (sym (trail_sound (b.body).indent after).0));
+          ∙ (append_assoc (bare_block_text (block_of header b.body [])) (comments_text trail.0) trail.1
+          ∙ ap (λ t. bare_block_text (block_of header b.body []) ++ t) (sym (trail_sound (b.body).indent after).0));
     }
 
 -- without a header there is none

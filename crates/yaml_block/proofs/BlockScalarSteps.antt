@@ -6,7 +6,7 @@ use Rattle.std.specs.declared.borrow.CowStr.{CowStr}
 use Rattle.std.specs.Str.{IsCharBoundary, IsUtf8, chars}
 use Rattle.std.proofs.lemmas.Bool.{and_from, and_left, and_right}
 use Rattle.yaml_chars.specs.Places.{rest}
-use Rattle.yaml_grammar.specs.BlockScalars.{BlockScalar, block_body_text, block_events, block_text, past_spaces}
+use Rattle.yaml_grammar.specs.BlockScalars.{BlockScalar, bare_block_text, block_events, block_text, past_spaces}
 use Rattle.yaml_grammar.specs.Events as grammar
 use Rattle.yaml_grammar.specs.BlockScalars as grammar_scalars
 use Rattle.yaml_grammar.specs.Separation.{LineEnd, line_end_text}
@@ -185,15 +185,15 @@ module _ (text : List ℕ) (u : IsUtf8 text) where
       (blocks_read.sound leaf.least (rest text at) b (rest text start) reads).0 in
       let long : at + byte_len (block_text b) ≡ start = spelled text at start (block_text b) u at_boundary
       ((line.next).line).boundary spells in
-      let body_end : at + byte_len (block_body_text (r.scalar [])) ≡ end =
-      spelled text at end (block_body_text (r.scalar [])) u at_boundary body.boundary r.spells in
+      let body_end : at + byte_len (bare_block_text (r.scalar [])) ≡ end =
+      spelled text at end (bare_block_text (r.scalar [])) u at_boundary body.boundary r.spells in
       let here_events : block_events at b ≡ event_of e ∷ [] =
       r.means trail.0 at
       ∙ (ap (λ x. grammar.scalar_event (if header.folded then grammar.folded_style else grammar.literal_style) at x
       (chars bytes) ∷ []) body_end ∙ ap (λ x. x ∷ []) (sym means)) in
-      let read : AtLine W text from fs (evs ++ block_events at b) start (at + byte_len (block_body_text b)) =
+      let read : AtLine W text from fs (evs ++ block_events at b) start (at + byte_len (bare_block_text b)) =
       block_read W text from fs evs leaf.least leaf.pairs at b start here bars reads long in
-      let end_is : at + byte_len (block_body_text b) ≡ new.end = ap (λ t. at + byte_len t) (r.body_is trail.0)
+      let end_is : at + byte_len (bare_block_text b) ≡ new.end = ap (λ t. at + byte_len t) (r.body_is trail.0)
       ∙ (body_end ∙ sym ends) in
       record {
         fs = fs;
@@ -204,5 +204,5 @@ module _ (text : List ℕ) (u : IsUtf8 text) where
         };
         stands = subst (λ (x : ℕ). AtLine W text from fs (evs ++ event_of e ∷ []) start x) end_is
             (subst (λ (es : List grammar.Event). AtLine W text from fs (evs ++ es) start
-            (at + byte_len (block_body_text b))) here_events read);
+            (at + byte_len (bare_block_text b))) here_events read);
       }

@@ -5,7 +5,7 @@ use Rattle.std.proofs.lemmas.Bool.{and_from, and_right}
 use Rattle.yaml_chars.specs.Classes.{white}
 use Rattle.yaml_chars.specs.Places.{rest}
 use Rattle.yaml_grammar.specs.BlockNodes.{Indented, Node, Pair, block, flow, node}
-use Rattle.yaml_grammar.specs.BlockScalars.{BlockScalar, block_body_text, block_events, block_text}
+use Rattle.yaml_grammar.specs.BlockScalars.{BlockScalar, bare_block_text, block_events, block_text}
 use Rattle.yaml_grammar.specs.Events.{Event, map_start}
 use Rattle.yaml_grammar.specs.FlowNodes.{Flow, flow_events, flow_text, short_key}
 use Rattle.yaml_grammar.specs.FlowScalars.{block_key}
@@ -200,7 +200,7 @@ module _ (W : Read Indented) (text : List ℕ) (from : ℕ) where
       (start : ℕ) → AtLeaf W text from fs evs m pairs at
       → first bar (rest text at) ≡ true → read_block m (rest text at) ≡ Some (b, rest text start)
       → at + byte_len (block_text b) ≡ start
-      → AtLine W text from fs (evs ++ block_events at b) start (at + byte_len (block_body_text b))
+      → AtLine W text from fs (evs ++ block_events at b) start (at + byte_len (bare_block_text b))
   block_read fs evs m pairs at b start h bars e len =
       let spelled : byte_len (sep_text h.sep ++ block_text b) ≡ byte_len (sep_text h.sep) + byte_len (block_text b) =
       byte_len_joined (sep_text h.sep) (block_text b) in
@@ -212,7 +212,7 @@ module _ (W : Read Indented) (text : List ℕ) (from : ℕ) where
         nested = h.nested;
         fits = node_fits_frames fs (block h.sep b);
         place = omega (arith, spelled, h.place, len);
-        ends = ap (λ x. x + byte_len (block_body_text b)) h.place;
+        ends = ap (λ x. x + byte_len (bare_block_text b)) h.place;
         wrote = ap (λ es. es ++ block_events at b) h.wrote
             ∙ ap (λ x. events_in fs from ++ block_events x b) (sym h.place);
       }

@@ -4,7 +4,7 @@ ghost use Rattle.yaml_chars.specs.Places.{rest};
 ghost use Rattle.yaml_recognizers.specs.CanonicalComments.{is_line_end};
 ghost use Rattle.yaml_recognizers.specs.Prefixes.{sign};
 ghost use Rattle.yaml_events.specs.EventPlaces.{Refuses};
-ghost use Rattle.yaml_recognizers.specs.Signs.{dash};
+ghost use Rattle.yaml_chars.specs.Signs.{dash};
 ghost use Rattle.yaml_block.specs.States.{is_deep, IsOpened, Grown, IsLine, Onward, Leads, FailsBy, BeforeNodeLine};
 
 use crate::frame::{Indentation, Leaf, Next, Sign, Waits};

@@ -6,13 +6,13 @@ use Rattle.std.proofs.lemmas.Bool.{and_right, false≢true}
 use Rattle.std.proofs.lemmas.Str.{chars-nil}
 use Rattle.yaml_chars.specs.Places.{between, rest}
 use Rattle.yaml_chars.proofs.Places.{between-append}
-use Rattle.yaml_grammar.specs.BlockScalars.{Chomping, strip, clip, keep, Gap, TextLine, block_value, trailing_line_feeds, goes_on, value_without_lines, text_value}
+use Rattle.yaml_grammar.specs.BlockScalars.{Chomping, strip, clip, keep, Gap, TextLine, block_value, trailing_line_feeds, goes_on, value_without_lines, text_value, Body, digit_fits}
 use Rattle.yaml_grammar.specs.FlowScalars.{line_feeds}
 use Rattle.yaml_grammar.specs.Texts.{begins, is_empty}
 use Rattle.yaml_recognizers.proofs.BlockScalars.BlockScalarFacts.{body_found, body_is, no_body}
 use Rattle.yaml_recognizers.proofs.BlockScalars.BlockScalarSteps.{lines_step}
 use Rattle.yaml_recognizers.proofs.Basics.Reading.{on_parts, some_parts}
-use Rattle.yaml_recognizers.specs.BlockScalars.{Body, body_at, digit_fits, find_indent, gaps_at, lines_at, read_body, read_text_line}
+use Rattle.yaml_recognizers.specs.BlockScalars.{body_at, find_indent, gaps_at, lines_at, read_body, read_text_line}
 use Rattle.yaml_recognizers.specs.BlockScalarFacts.{BodyStands, IsBody, NoBody}
 use Rattle.yaml_recognizers.specs.Reading.{Read, on}
 use Rattle.yaml_block_scalars.specs.declared.line.Line.{Line}

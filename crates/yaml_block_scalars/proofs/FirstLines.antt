@@ -5,9 +5,9 @@ use Rattle.std.specs.Char.{len_utf8}
 use Rattle.std.specs.Str.{IsUtf8, IsCharBoundary}
 use Rattle.std.proofs.lemmas.Bool.{and_from, and_right, cases_Bool, cond-true, cond-false, ne_eqb, le-leb, false≢true}
 use Rattle.std.proofs.lemmas.Bool.Decides.{nat_tests}
-use Rattle.yaml_chars.specs.Classes.{between, nb, white}
+use Rattle.yaml_chars.specs.Classes.{in_range, nb, white}
 use Rattle.yaml_chars.specs.Places.{rest}
-use Rattle.yaml_chars.specs.Places.{between as span}
+use Rattle.yaml_chars.specs.Places.{between}
 use Rattle.yaml_chars.proofs.Places.{char_at, rest-end}
 use Rattle.yaml_chars.proofs.Runs.{IsBlind}
 use Rattle.yaml_grammar.specs.BlockScalars.{Chomping, strip, clip, keep, Header}
@@ -28,7 +28,7 @@ use Rattle.yaml_scan.proofs.ByteRuns.{ascii_prefix, first_at_end, first_there}
 -- ---- the digit
 
 digit_char : ℕ → Bool
-digit_char c = between 49 57 c
+digit_char c = in_range 49 57 c
 
 blind-digit : IsBlind digit_char
 unfolding digit_char
@@ -37,7 +37,7 @@ blind-digit c h l = grind (arith, nat_tests)
 no_digit : (text : List ℕ) → first digit_char text ≡ false → read_digit text ≡ (None, text)
 unfolding digit_char
 no_digit [] h = refl
-no_digit (c ∷ cs) h = cond-false (between 49 57 c) (Some (c - 48), cs) (None, c ∷ cs) h
+no_digit (c ∷ cs) h = cond-false (in_range 49 57 c) (Some (c - 48), cs) (None, c ∷ cs) h
 
 digit_missing : (bs : List ℕ) (i : ℕ) → IsCharBoundary bs i → first digit_char (rest bs i) ≡ false → IsDigit bs i None i
 digit_missing bs i b h = record { above = omega arith; boundary = b; reads = no_digit (rest bs i) h; fits = refl }
@@ -60,11 +60,11 @@ digit_above bs i u b l h = digit_missing bs i b (first_there digit_char bs i bli
 pub digit_there : (bs : List ℕ) (i d : ℕ) → IsUtf8 bs → i < length bs → get_or bs i 0 ≡ d → 49 ≤ d → d ≤ 57 → IsDigit bs i (Some (d - 48)) (i + 1)
 digit_there bs i d u l e low high =
     let there = ascii_prefix bs i d u l (omega arith) e in
-    let test : between 49 57 d ≡ true = and_from _ _ (le-leb 49 d low) (le-leb d 57 high) in
+    let test : in_range 49 57 d ≡ true = and_from _ _ (le-leb 49 d low) (le-leb d 57 high) in
     record {
       above = omega arith;
       boundary = there.1;
-      reads = ap read_digit there.0 ∙ cond-true (between 49 57 d) (Some (d - 48), rest bs (i + 1)) (None, d ∷ rest bs (i + 1)) test;
+      reads = ap read_digit there.0 ∙ cond-true (in_range 49 57 d) (Some (d - 48), rest bs (i + 1)) (None, d ∷ rest bs (i + 1)) test;
       fits = and_from _ _ (le-leb 1 (d - 48) (omega arith)) (le-leb (d - 48) 9 (omega arith));
     }
 

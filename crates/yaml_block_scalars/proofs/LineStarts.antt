@@ -9,10 +9,9 @@ use Rattle.yaml_chars.specs.Classes.{line_break}
 use Rattle.yaml_chars.specs.Places.{rest, between}
 use Rattle.yaml_chars.proofs.Places.{between-append, rest-between}
 use Rattle.yaml_events.specs.EventPlaces.{line_starts, without_mark}
-use Rattle.yaml_grammar.specs.BlockScalars.{Chomping, Gap, Header, TextLine, chomping_text, digit_text, gap_line_text, gaps_text, goes_on, header_text, text_line_fits, text_line_text, text_lines_fit, text_lines_text}
+use Rattle.yaml_grammar.specs.BlockScalars.{Body, Chomping, Gap, Header, TextLine, body_text, chomping_text, digit_text, gap_line_text, gaps_text, goes_on, header_text, text_line_fits, text_line_text, text_lines_fit, text_lines_text}
 use Rattle.yaml_grammar.specs.Separation.{Break, LineEnd, break_text, comment_text, cr, cr_lf, lf, line_end_text, stop_fits}
 use Rattle.yaml_grammar.specs.Texts.{is_empty, optional, spaces, starts_line}
-use Rattle.yaml_recognizers.specs.BlockScalars.{Body, body_text}
 use Rattle.yaml_recognizers.specs.BlockScalarFacts.{BodyStands, HeaderStands, IsBody}
 use Rattle.yaml_recognizers.proofs.Basics.LineStarts.{starts_joined}
 use Rattle.yaml_block_scalars.specs.declared.parts.Header.{Header as ScannedHeader}

@@ -2,9 +2,9 @@
 use Rattle.std.specs.Prelude.{◌≡◌, ℕ, ◌≤◌, Bool, true, List, Some}
 use Rattle.std.specs.Str.{IsCharBoundary, chars}
 use Rattle.yaml_chars.specs.Places.{rest}
-use Rattle.yaml_grammar.specs.BlockScalars.{Gap, TextLine, block_value}
+use Rattle.yaml_grammar.specs.BlockScalars.{Body, Gap, TextLine, block_value}
 use Rattle.yaml_grammar.specs.BlockScalars as grammar
-use Rattle.yaml_recognizers.specs.BlockScalars.{Body, gaps_at, lines_at}
+use Rattle.yaml_recognizers.specs.BlockScalars.{gaps_at, lines_at}
 use Rattle.yaml_recognizers.specs.BlockScalarFacts.{IsHeader, IsBody, BodyStands}
 use Rattle.yaml_recognizers.specs.Reading.{on}
 use Rattle.yaml_block_scalars.specs.Meant.{chomping_of}

@@ -3,8 +3,8 @@ use Rattle.std.specs.Prelude.{◌≡◌, ℕ, ◌≤◌, Bool, true, List, Optio
 use Rattle.std.specs.Str.{IsCharBoundary}
 use Rattle.yaml_chars.specs.Places.{rest}
 use Rattle.yaml_grammar.specs.Separation.{LineEnd}
-use Rattle.yaml_grammar.specs.BlockScalars.{Chomping}
-use Rattle.yaml_recognizers.specs.BlockScalars.{digit_fits, read_digit, read_mark, after_digit, header_at, read_header_end}
+use Rattle.yaml_grammar.specs.BlockScalars.{Chomping, digit_fits}
+use Rattle.yaml_recognizers.specs.BlockScalars.{read_digit, read_mark, after_digit, header_at, read_header_end}
 use Rattle.yaml_scan.specs.Lines.{IsLineStart}
 
 -- a header's digit, which may be missing

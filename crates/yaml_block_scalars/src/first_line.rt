@@ -3,7 +3,8 @@ ghost use Rattle.std.specs.Prelude.{◌≡◌, ◌≢◌, ◌≤◌, None, IsTru
 ghost use Rattle.std.specs.Str.{IsCharBoundary};
 ghost use Rattle.yaml_chars.specs.Places.{rest};
 ghost use Rattle.yaml_events.specs.EventPlaces.{Refuses};
-ghost use Rattle.yaml_recognizers.specs.BlockScalars.{digit_fits, read_digit, read_mark, read_header_end};
+ghost use Rattle.yaml_grammar.specs.BlockScalars.{digit_fits};
+ghost use Rattle.yaml_recognizers.specs.BlockScalars.{read_digit, read_mark, read_header_end};
 ghost use Rattle.yaml_recognizers.specs.BlockScalarFacts.{NoHeader};
 ghost use Rattle.yaml_block_scalars.specs.Found.{IsHeaderAt};
 ghost use Rattle.yaml_block_scalars.specs.Meant.{chomping_of};

@@ -14,7 +14,7 @@ use Rattle.yaml_recognizers.specs.CanonicalStreams.{FlatStream, piece_events, pi
 use Rattle.yaml_recognizers.specs.Comments.{all_comments}
 use Rattle.yaml_recognizers.specs.Reading.{Read, on}
 use Rattle.yaml_recognizers.specs.Recognizers.{document_node_at, piece_at, pieces_at, stream_at}
-use Rattle.yaml_recognizers.specs.Signs.{dash, dot}
+use Rattle.yaml_chars.specs.Signs.{dash, dot}
 use Rattle.yaml_recognizers.specs.Streams.{mark_at, order_mark, read_directed, read_explicit, suffix_with}
 use Rattle.yaml_scan.specs.Lines.{IsLineStart}
 use Rattle.yaml_flow.specs.FlowNodes.{Appended}

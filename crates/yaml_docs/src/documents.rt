@@ -9,7 +9,7 @@ ghost use Rattle.yaml_recognizers.specs.BlockNodes.{omits};
 ghost use Rattle.yaml_recognizers.specs.CanonicalComments.{is_line_end};
 ghost use Rattle.yaml_recognizers.specs.Comments.{all_comments};
 ghost use Rattle.yaml_recognizers.specs.Recognizers.{piece_at};
-ghost use Rattle.yaml_recognizers.specs.Signs.{dash, dot};
+ghost use Rattle.yaml_chars.specs.Signs.{dash, dot};
 ghost use Rattle.yaml_recognizers.specs.Streams.{mark_at};
 ghost use Rattle.yaml_docs.specs.Documents.{ExplicitRead, NoExplicit, DocumentRead, NoDirected};
 ghost use Rattle.yaml_docs.specs.Documents.{IsMarkEnd, IsOmitted, SuffixRead, NoSuffix, ExplicitNodeRead, NoExplicitNode};

@@ -25,7 +25,7 @@ use Rattle.yaml_grammar.specs.Texts.{first}
 use Rattle.yaml_recognizers.specs.FlowNodes.{is_asked}
 use Rattle.yaml_flow.specs.FlowNodes.{Appended}
 use Rattle.yaml_scan.specs.ScanPlaces.{unbroken_between}
-use Rattle.yaml_recognizers.specs.Signs.{question, open_bracket, open_brace}
+use Rattle.yaml_chars.specs.Signs.{question, open_bracket, open_brace}
 use Rattle.yaml_scan.proofs.ByteSigns.{IsSign}
 use Rattle.yaml_flow.specs.declared.collection.NodeEnd.{NodeEnd}
 use Rattle.yaml_flow.specs.declared.collection.NodeEnd.TheVariants.{Plain, Delimited}

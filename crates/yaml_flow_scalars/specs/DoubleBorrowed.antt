@@ -4,7 +4,7 @@ use Rattle.std.specs.List.{AllPass}
 use Rattle.std.specs.Cow.{cow_str_bytes, IsBorrowedStr}
 use Rattle.std.specs.declared.borrow.CowStr.{CowStr}
 use Rattle.yaml_chars.specs.Classes.{line_break}
-use Rattle.yaml_recognizers.specs.Signs.{backslash}
+use Rattle.yaml_chars.specs.Signs.{backslash}
 
 -- what is between the quotes of a scalar from one place to another
 abbrev pub between_quotes : List ℕ → ℕ → ℕ → List ℕ

@@ -3,7 +3,7 @@
 use Rattle.std.specs.Prelude.{◌≡◌, ℕ, ◌<◌, ◌≤◌, Bool, true, false, ◌&&◌, ◌||◌, List, [], ◌∷◌, ◌++◌, flat_map, slice_index}
 use Rattle.std.specs.Str.{IsCharBoundary, chars}
 use Rattle.yaml_chars.specs.Classes.{line_break, ns}
-use Rattle.yaml_chars.specs.Classes.{between as within}
+use Rattle.yaml_chars.specs.Classes.{in_range}
 use Rattle.yaml_chars.specs.Places.{rest, between}
 use Rattle.yaml_grammar.specs.Texts.{no_marker}
 use Rattle.yaml_grammar.specs.FlowScalars.{FlowContext, Line, plain_first, plain_next, line_value, char_value, folded_break}
@@ -21,7 +21,7 @@ is_content Blank = false
 
 -- each plain scalar may begin with these
 abbrev pub letter_or_digit : ℕ → Bool
-letter_or_digit x = within 48 57 x || within 65 90 x || within 97 122 x
+letter_or_digit x = in_range 48 57 x || in_range 65 90 x || in_range 97 122 x
 
 -- where bol says whether a line starts there, the text begins with the first character of a plain scalar
 abbrev pub begins_plain : FlowContext → Bool → List ℕ → Bool

@@ -2,7 +2,7 @@
 use Rattle.std.specs.Prelude.{◌≡◌, ℕ, ◌<◌, ◌≤◌, Bool, true, not, ◌&&◌, ◌||◌, ◌==◌, nat_lt, List, length, slice_index, codes}
 use Rattle.yaml_chars.specs.Classes.{is_in, nb, nb_json, white}
 use Rattle.yaml_grammar.specs.FlowScalars.{FlowContext, outer, inner, safe}
-use Rattle.yaml_recognizers.specs.Signs.{single_quote}
+use Rattle.yaml_chars.specs.Signs.{single_quote}
 use Rattle.yaml_scan.specs.declared.classes.Class.{Class}
 use Rattle.yaml_scan.specs.declared.classes.Class.TheVariants.{Words, WordsInside, SingleQuoted, DoubleQuoted, Line}
 

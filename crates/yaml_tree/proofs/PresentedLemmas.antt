@@ -113,7 +113,7 @@ mutual
 
 abbrev mutual
   node_value : Node → Nested
-  node_value (blocks.block sep b) = text (block_value (b.header).folded (b.header).chomping b.gaps b.texts)
+  node_value (blocks.block sep b) = text (block_value (b.header).folded (b.header).chomping (b.body).gaps (b.body).texts)
   node_value (blocks.flow sep f comments) = flow_value f
   node_value (blocks.items comments k is) = sequence (items_values is)
   node_value (blocks.pairs comments k ps) = mapping (pairs_values ps)

@@ -6,7 +6,7 @@ use Rattle.std.proofs.lemmas.Bool.Decides.{nat_tests}
 use Rattle.std.proofs.lemmas.Str.{encode_ascii, chars-append, encodes-chars, encodes-append, IsUtf8-take, IsCharBoundary-before_ascii}
 use Rattle.std.specs.Char.{to_ascii_lowercase}
 use Rattle.std.specs.Str.{chars}
-use Rattle.yaml_chars.specs.Classes.{between}
+use Rattle.yaml_chars.specs.Classes.{in_range}
 use Rattle.std.specs.List.{list_all}
 use Rattle.yaml_grammar.specs.Style.{word_char, lower, feeds_at_end}
 use Rattle.yaml_tree.proofs.CharacterLemmas.{every-push}
@@ -15,7 +15,7 @@ use Rattle.yaml_tree.proofs.CharacterLemmas.{every-push}
 pub word_char-below : (c : ℕ) → word_char c ≡ true → c < 128
 word_char-below c e = grind (arith, nat_tests)
 
-same_lower : (c : ℕ) → to_ascii_lowercase c ≡ (if between 65 90 c then c + 32 else c)
+same_lower : (c : ℕ) → to_ascii_lowercase c ≡ (if in_range 65 90 c then c + 32 else c)
 same_lower c = grind (arith, nat_tests)
 
 -- std's lowercase letters are those of the definition

@@ -3,7 +3,7 @@
 use Rattle.std.proofs.Common.{◌≡◌, ℕ, zero, suc, ◌+◌, ◌*◌, ◌/◌, ◌%◌, ◌≤◌, ◌==◌, ◌||◌, nat_le, nat_lt, Bool, true, false, length, length-append, if◌then◌else◌, List, [], ◌∷◌, ◌++◌, codes, arith}
 use Rattle.std.proofs.lemmas.Bool.Decides.{nat_tests}
 use Rattle.std.proofs.lemmas.Str.{len_utf8_bounds}
-use Rattle.yaml_chars.specs.Classes.{between}
+use Rattle.yaml_chars.specs.Classes.{in_range}
 use Rattle.yaml_grammar.specs.Texts.{byte_len, spaces}
 use Rattle.yaml_grammar.specs.Trees.{Tree, text, sequence, mapping, Elements, no_element, element, Members, no_member, member}
 use Rattle.yaml_grammar.specs.Style.{shown as is_shown, hex, letter_escape, quoted_char, quoted_chars, plain_in_style, literal_in_style, in_double_quotes, literal_mark, literal_lines, feeds_at_end, scalar_lines, key_text, long_key, key_lines, elements_at, elements_after, element_at, members_at, members_after, value_at, style_text}
@@ -57,7 +57,7 @@ key_lines_bound key = by (long_key key)
 -- a key has at most 24 bytes for each byte of its text, and six more
 quoted_char_short : (c : ℕ) → length (quoted_char c) ≤ 6
 quoted_char_short c =
-    by ((c == 34) || (c == 92)) (is_shown c) ((c == 0) || between 7 13 c || (c == 27)) (nat_le c 0xff)
+    by ((c == 34) || (c == 92)) (is_shown c) ((c == 0) || in_range 7 13 c || (c == 27)) (nat_le c 0xff)
   where
     by : (sign itself named short : Bool) → length (if sign then 92 ∷ c ∷ [] else if itself then c ∷ [] else if named then 92 ∷ letter_escape c ∷ []
         else if short then codes "\\x" ++ hex (c / 16) ∷ hex (c % 16) ∷ []

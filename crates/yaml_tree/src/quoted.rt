@@ -1,7 +1,7 @@
 // Texts in double quotes (YAML 1.2.2, 7.3.1).
 ghost use Rattle.std.specs.Prelude.{◌≡◌, ◌≤◌, ◌<◌, ◌/◌, ◌%◌, ◌^◌, ◌∷◌, [], true, false, ◌==◌, ◌||◌, length, take, OnOk, MatchOption};
 ghost use Rattle.std.specs.Str.{chars};
-ghost use Rattle.yaml_chars.specs.Classes.{between};
+ghost use Rattle.yaml_chars.specs.Classes.{in_range};
 ghost use Rattle.std.specs.List.{list_all};
 ghost use Rattle.yaml_grammar.specs.Style.{hex, letter_escape, quoted_char, quoted_chars, in_double_quotes};
 ghost use Rattle.yaml_tree.specs.Runs.{stands_alone, number_escape};
@@ -81,8 +81,8 @@ fn write_escape<S: Sink>(c: char, sink: &mut S) -> Result<(), S::Fault>
 /// The letter that means a control character after a backslash, if there is one.
 fn escape_letter(c: char) -> Option<char>
     ensures { MatchOption result
-        ((c == 0) || between 7 13 c || (c == 27) ≡ false)
-        (λ letter. ((c == 0) || between 7 13 c || (c == 27) ≡ true) × (letter ≡ letter_escape c)) }
+        ((c == 0) || in_range 7 13 c || (c == 27) ≡ false)
+        (λ letter. ((c == 0) || in_range 7 13 c || (c == 27) ≡ true) × (letter ≡ letter_escape c)) }
 {
     match c {
         '\0' => Some('0'),
