@@ -1,20 +1,20 @@
 -- Each node of a presentation that fits is whole at its place: what comes after it ends it.
-use Rattle.std.proofs.Common.{ap, append-nil, append_assoc, arith, inl, inr, refl, subst, sym, ◌∙◌, ◌≡◌, ◌≤◌}
-use Rattle.std.specs.Prelude.{All, Bool, List, None, Option, Some, [], codes, cond, false, flat_map, if◌then◌else◌, is_some, nat_le, not, suc, true, zero, ℕ, ◌&&◌, ◌++◌, ◌+◌, ◌==◌, ◌||◌, ◌∷◌}
-use Rattle.std.proofs.lemmas.Bool.{and_from, and_parts, cases_Bool, false≢true, le-leb, not_from_false, or_left}
+use Rattle.std.proofs.Common.{ap, append-nil, append_assoc, arith, inl, inr, refl, subst, sym, ◌∙◌, ◌≡◌}
+use Rattle.std.specs.Prelude.{All, Bool, List, None, Option, Some, [], cond, false, flat_map, if◌then◌else◌, is_some, nat_le, not, suc, true, ℕ, ◌&&◌, ◌++◌, ◌+◌, ◌==◌, ◌||◌, ◌∷◌}
+use Rattle.std.proofs.lemmas.Bool.{and_parts, cases_Bool, false≢true, le-leb, not_from_false}
 use Rattle.std.proofs.lemmas.List.Elements.{All-append, All-cons, All-nil}
-use Rattle.yaml_chars.specs.Classes.{ns, space, white}
+use Rattle.yaml_chars.specs.Classes.{ns, white}
 use Rattle.yaml_grammar.specs.BlockNodes.{Indented, Items, Node, Pair, Pairs, asked, asked_alone, block, compact_items, compact_pairs, flow, indented_fits, indented_text, is_omitted, item, item_and, items, items_fit, items_text, keyed, keyed_alone, node, node_fits, node_text, omitted, pair, pair_and, pair_fits, pair_text, pairs, pairs_fit, pairs_text}
 use Rattle.yaml_grammar.specs.FlowNodes.{Entries, Entry, Flow, Value, absent, before_colon, empty, entries_fit, entries_text, entry, entry_fits, entry_text, flow_fits, flow_text, given, is_plain, last, map, next, none, scalar, seq, short_key, single_pair, value_fits, value_text, asked_text}
 use Rattle.yaml_grammar.specs.FlowScalars.{FlowContext, block_key, flow_key, inner, inside, one_line, outer}
 use Rattle.yaml_grammar.specs.Separation.{LineEnd, Sep, comments_fit, comments_text, gap_fits, gap_text, sep_fits, sep_text}
-use Rattle.yaml_grammar.specs.Streams.{Document, Explicit, Part, Stream, bare, content, directed, directive_text, document_fits, document_text, explicit, explicit_fits, explicit_text, fits, further, line, nothing, optional_document_fits, part_fits, part_text, parts_fit, parts_text, suffix_text, suffixes}
+use Rattle.yaml_grammar.specs.Streams.{Document, Explicit, Part, Stream, bare, content, directed, directive_text, document_fits, document_text, explicit, explicit_fits, fits, further, line, nothing, optional_document_fits, part_fits, part_text, parts_fit, parts_text, suffix_text, suffixes}
 use Rattle.std.specs.List.{list_all}
 use Rattle.yaml_grammar.specs.Texts.{byte_len, first, optional, spaces, starts_line}
 use Rattle.yaml_recognizers.specs.CanonicalBlockNodes.{canonical_node, canonical_pairs}
 use Rattle.yaml_recognizers.specs.CanonicalFlowNodes.{canonical_value}
-use Rattle.yaml_recognizers.specs.CanonicalComments.{canonical_comments, is_line_end}
-use Rattle.yaml_recognizers.specs.Ends.{BeforeColon, BeforeComments, BetweenBrackets, Stops, closing, block_node_stops, in_flow, solid}
+use Rattle.yaml_recognizers.specs.CanonicalComments.{canonical_comments}
+use Rattle.yaml_recognizers.specs.Ends.{BetweenBrackets, Stops, closing, block_node_stops, in_flow, solid}
 use Rattle.yaml_recognizers.specs.Prefixes.{sign}
 use Rattle.yaml_recognizers.specs.NodePlaces.{NodePlace, NodeStands, block_at, document_places, entries_places, entry_places, explicit_places, flow_at, flow_places, indented_places, items_places, node_places, optional_document_places, pair_places, pairs_places, part_places, parts_places, stream_places, value_places}
 use Rattle.yaml_recognizers.specs.Recognizers.{flow_node_stops}
@@ -22,17 +22,16 @@ use Rattle.yaml_recognizers.specs.StandingNodes.{EndsNode}
 use Rattle.yaml_recognizers.proofs.Block.BlockNodesBegin.{Prefix, node_apart, pairs_prefix}
 use Rattle.yaml_recognizers.proofs.Block.BlockNodesEnd.{block_node_stops_at, block_node_stops_items, block_node_stops_last, block_node_stops_pairs, block_node_stops_shallow, block_node_stops_value}
 use Rattle.yaml_recognizers.proofs.Block.BlockNodesForm.{node_before, node_form, node_form_fits, node_open, pairs_form, pairs_form_fit, pairs_form_text, pairs_open}
-use Rattle.yaml_recognizers.proofs.BlockScalars.BlockScalarsForm.{takes, takes_none, takes_not}
+use Rattle.yaml_recognizers.proofs.BlockScalars.BlockScalarsForm.{takes, takes_not}
 use Rattle.yaml_recognizers.proofs.Separation.CommentsComplete.{not_line_end}
 use Rattle.yaml_recognizers.proofs.Separation.CommentsForm.{comments_form_fit, gap_form, gap_form_fits, gap_form_text, joined_before}
 use Rattle.yaml_recognizers.proofs.Documents.DocumentEnds.{parts_end}
-use Rattle.yaml_recognizers.proofs.Flow.FlowNodesBegin.{bracket_closing, entries_begin}
 use Rattle.yaml_recognizers.proofs.Flow.FlowNodesComplete.{closing_solid, closing_stop, inside_flow, value_either, value_stop}
 use Rattle.yaml_recognizers.proofs.Flow.FlowNodesForm.{value_form, value_form_fits, value_form_text}
 use Rattle.yaml_recognizers.proofs.Flow.FlowNodesFound.{ends_here}
-use Rattle.yaml_recognizers.proofs.Basics.Prefixes.{every_space, spaces_passed}
+use Rattle.yaml_recognizers.proofs.Basics.Prefixes.{every_space}
 use Rattle.yaml_recognizers.proofs.Separation.LineEnds.{comments_no_ns}
-use Rattle.yaml_recognizers.proofs.Basics.Solid.{dash_solid, solid_space}
+use Rattle.yaml_recognizers.proofs.Basics.Solid.{solid_space}
 
 -- each of the nodes stands at its place
 abbrev Each : List NodePlace → Type 0

@@ -5,7 +5,7 @@ use Rattle.std.proofs.lemmas.List.Elements.{All-append, All-cons, All-nil}
 use Rattle.yaml_grammar.specs.BlockNodes.{Indented, Items, Node, Pair, Pairs, asked, asked_alone, block, compact_items, compact_pairs, flow, indented_text, item, item_and, items, items_text, keyed, keyed_alone, node, node_text, omitted, pair, pair_and, pair_text, pairs, pairs_text}
 use Rattle.yaml_grammar.specs.FlowNodes.{Entries, Entry, Flow, Value, absent, asked_text, empty, entries_text, entry, entry_text, flow_text, given, last, map, next, none, scalar, seq, single_pair, value_text}
 use Rattle.yaml_grammar.specs.FlowScalars.{FlowContext, block_key, flow_key, inside, outer}
-use Rattle.yaml_grammar.specs.Separation.{LineEnd, Sep, comments_text, gap_text, sep_text}
+use Rattle.yaml_grammar.specs.Separation.{comments_text, gap_text, sep_text}
 use Rattle.yaml_grammar.specs.Streams.{Document, Explicit, Part, Stream, bare, content, directed, directive_text, document_text, explicit, explicit_text, further, line, mark_text, nothing, part_text, parts_text, stream_text, suffix_text, suffixes}
 use Rattle.yaml_grammar.specs.Texts.{byte_len, optional, spaces, starts_line}
 use Rattle.yaml_recognizers.specs.NodePlaces.{NodePlace, NodeSpelled, SpelledAt, block_at, document_places, entries_places, entry_places, explicit_places, flow_at, flow_places, indented_places, items_places, node_places, optional_document_places, pair_places, pairs_places, part_places, parts_places, stream_places, value_places}

@@ -1,20 +1,18 @@
 -- Whether a line starts at each node of a presentation that fits.
-use Rattle.std.proofs.Common.{ap, append-nil, append_assoc, arith, inl, inr, length, length-append, refl, subst, sym, ◌∙◌, ◌≡◌, ◌≤◌}
-use Rattle.std.specs.Prelude.{All, Bool, List, None, Option, Some, [], codes, cond, false, flat_map, if◌then◌else◌, is_some, nat_le, not, suc, true, zero, ℕ, ◌&&◌, ◌++◌, ◌+◌, ◌==◌, ◌||◌, ◌∷◌}
-use Rattle.std.proofs.lemmas.Bool.{and_from, and_parts, false≢true, or_left, or_right}
+use Rattle.std.proofs.Common.{ap, append-nil, append_assoc, arith, length, length-append, refl, subst, sym, ◌∙◌, ◌≡◌, ◌≤◌}
+use Rattle.std.specs.Prelude.{All, Bool, List, None, Option, Some, [], codes, cond, false, flat_map, if◌then◌else◌, nat_le, not, suc, true, zero, ℕ, ◌&&◌, ◌++◌, ◌+◌, ◌==◌, ◌∷◌}
+use Rattle.std.proofs.lemmas.Bool.{and_from, and_parts, false≢true, or_left}
 use Rattle.std.proofs.lemmas.Bool.Decides.{nat_tests}
 use Rattle.std.proofs.lemmas.List.Elements.{All-append, All-cons, All-nil}
-use Rattle.yaml_chars.specs.Classes.{line_break, ns, white}
+use Rattle.yaml_chars.specs.Classes.{line_break, ns}
 use Rattle.yaml_grammar.specs.BlockNodes.{Indented, Items, Node, Pair, Pairs, asked, asked_alone, block, compact_items, compact_pairs, flow, indented_fits, indented_text, is_omitted, item, item_and, items, items_fit, items_text, keyed, keyed_alone, node, node_fits, node_text, omitted, pair, pair_and, pair_fits, pair_text, pairs, pairs_fit, pairs_text}
 use Rattle.yaml_grammar.specs.BlockScalars.{BlockScalar, Body, Gap, Header, TextLine, bare_block_text, block_fits, block_text, body_fits, body_text, chomping_text, digit_text, gap_line_text, gaps_text, header_text, text_line_fits, text_line_text, text_lines_fit, text_lines_text, trail_fits}
-use Rattle.yaml_grammar.specs.FlowNodes.{Entries, Entry, Flow, Value, absent, asked_text, empty, entries_text, entry, entry_text, flow_fits, flow_text, given, last, map, next, none, scalar, seq, short_key, single_pair, value_text}
+use Rattle.yaml_grammar.specs.FlowNodes.{Entries, Entry, Flow, Value, absent, empty, entries_text, entry, entry_text, flow_text, given, last, map, next, none, scalar, seq, single_pair, value_text}
 use Rattle.yaml_grammar.specs.FlowScalars.{FlowContext, block_key, flow_key, inside, outer}
-use Rattle.yaml_grammar.specs.Separation.{Break, LineEnd, Sep, break_text, comments_fit, comments_text, gap_text, line_end_fits, line_end_text, sep_fits, sep_text, stop_fits, comment_text}
+use Rattle.yaml_grammar.specs.Separation.{LineEnd, break_text, comments_fit, comments_text, gap_text, line_end_text, sep_text, stop_fits, comment_text}
 use Rattle.yaml_grammar.specs.Streams.{Document, Explicit, Part, Stream, bare, content, directed, directive_text, document_fits, document_text, explicit, explicit_fits, explicit_text, fits, further, line, mark_text, nothing, optional_document_fits, part_fits, part_text, parts_fit, parts_text, stream_text, suffix_fits, suffix_text, suffixes, suffixes_fit}
-use Rattle.std.specs.List.{list_all}
 use Rattle.yaml_grammar.specs.Texts.{byte_len, first, is_empty, optional, spaces, starts_line}
 use Rattle.yaml_recognizers.specs.NodePlaces.{NodePlace, NodeStarts, StartsAt, block_at, document_places, entries_places, entry_places, explicit_places, flow_at, flow_places, indented_places, items_places, node_places, optional_document_places, pair_places, pairs_places, part_places, parts_places, stream_places, value_places}
-use Rattle.yaml_recognizers.proofs.Block.BlockNodesBegin.{pair_long}
 use Rattle.yaml_recognizers.proofs.Flow.FlowNodesForm.{flow_form, flow_form_fits, flow_form_text}
 use Rattle.yaml_recognizers.proofs.Basics.LineStarts.{break_starts, comments_at, comments_start, line_not_end, line_or_end, starts_joined, stop_starts}
 use Rattle.yaml_recognizers.proofs.Documents.StreamsBegin.{block_long, flow_long, items_long, pairs_long}

@@ -5,8 +5,7 @@ use Rattle.yaml_grammar.specs.BlockNodes.{Indented, Items, Node, Pair, Pairs, as
 use Rattle.yaml_grammar.specs.BlockScalars.{bare_block_text, block_text}
 use Rattle.yaml_grammar.specs.Events.{Event, as_document, as_map, as_seq, document_end, document_start, map_end, map_start, omitted_at, scalar_event, seq_end, seq_start}
 use Rattle.yaml_grammar.specs.FlowNodes.{Entries, Entry, Flow, Value, absent, asked_text, empty, entries_events, entries_text, entry, entry_events, entry_text, flow_events, flow_text, given, is_pair, last, map, next, none, scalar, seq, value_events, value_text}
-use Rattle.yaml_grammar.specs.FlowScalars.{scalar_text}
-use Rattle.yaml_grammar.specs.Separation.{LineEnd, Sep, comments_text, gap_text, line_end_text, sep_text}
+use Rattle.yaml_grammar.specs.Separation.{comments_text, gap_text, sep_text}
 use Rattle.yaml_grammar.specs.Streams.{Document, Explicit, Part, Stream, bare, content, directed, directive_text, document_events, document_text, explicit, explicit_events, explicit_text, further, line, mark_text, stream_events, nothing, optional_document_events, part_events, part_text, parts_events, parts_text, stream_text, suffix_text, suffixes}
 use Rattle.yaml_grammar.specs.Texts.{byte_len, optional, spaces}
 use Rattle.yaml_recognizers.specs.Ranges.{RangesInOrder}
