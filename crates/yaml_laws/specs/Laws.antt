@@ -1,5 +1,5 @@
 -- The laws of the one style, as statements.
-use Rattle.std.specs.Prelude.{◌≡◌, ◌≤◌, List, ℕ}
+use Rattle.std.specs.Prelude.{◌≤◌, List, ℕ}
 use Rattle.yaml_grammar.specs.Texts.{IsText, byte_len}
 use Rattle.yaml_grammar.specs.Events.{Event}
 use Rattle.yaml_grammar.specs.Trees.{Tree, IsTextTree, IsTreeOf}
