@@ -65,8 +65,8 @@ pub fn run_end(text: &str, at: usize, class: Class) -> usize
     passed_end(text.as_bytes(), at, class)
 }
 
-/// Returns the end of the ASCII characters at `at` that a line may hold. Lines are long, so it looks at sixteen bytes at
-/// once as far as it can.
+/// Returns the end of the ASCII characters at `at` that a line may hold. Lines are long, so it looks at sixteen bytes
+/// at once as far as it can.
 pub(crate) fn line_run_end(text: &str, at: usize) -> usize
     requires { IsCharBoundary text.now at }
     ensures { IsRun line_ascii text.now at result }
@@ -124,8 +124,8 @@ fn last_passed_end(bytes: &[u8], at: usize, class: Class) -> usize
     end
 }
 
-/// Returns the end of as many bytes from `at` on as can be taken sixteen by sixteen, where each is by itself a character
-/// that a line may hold.
+/// Returns the end of as many bytes from `at` on as can be taken sixteen by sixteen, where each is by itself a
+/// character that a line may hold.
 fn sixteens_end(bytes: &[u8], at: usize) -> usize
     requires { at ≤ length bytes.now }
     ensures { ArePassed line_ascii bytes.now at result }
