@@ -1,7 +1,6 @@
-use Rattle.std.proofs.Common.{rules, ◌∙◌}
+use Rattle.std.proofs.Common.{rules}
 use Rattle.std.proofs.lemmas.Iterator.{YieldsList-from_chars}
 use Rattle.std.proofs.lemmas.Iterator.Search.{all_from_yields_List}
-use Rattle.std.specs.Str.{chars}
 use borrow.Author.Tests.{tests}
 use Rattle.yaml_grammar.specs.Style.{shown_or_feed}
 use Rattle.yaml_tree.proofs.scalar.is_shown_in_lines.Goals as goal
