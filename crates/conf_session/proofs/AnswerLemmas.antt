@@ -1,6 +1,6 @@
 -- The texts of answers, and what they answer.
 use Rattle.std.proofs.Common.{◌≡◌, refl, sym, ◌∙◌, ap, arith, ◌≤◌, append_assoc}
-use Rattle.std.specs.Prelude.{ℕ, suc, List, [], ◌∷◌, ◌++◌, codes, Result, Ok, Err, String, Vec, string_bytes}
+use Rattle.std.specs.Prelude.{ℕ, suc, List, [], ◌∷◌, ◌++◌, codes, Result, Ok, Err, Vec}
 use Rattle.std.specs.Str.{chars}
 use Rattle.std.specs.declared.alloc.Global.{Global}
 use Rattle.std.proofs.lemmas.List.{append-nil}
@@ -8,6 +8,8 @@ use Rattle.yaml_grammar.specs.Trees.{Tree, text, sequence, Elements, no_element,
 use Rattle.yaml_grammar.specs.Style.{key_lines, value_at}
 use Rattle.yaml_laws.specs.Closed.{framed_text}
 use Rattle.yaml_tree.specs.Seen.{tree_of, elements_of}
+use Rattle.yaml_tree.specs.TextBytes.{text_bytes}
+use Rattle.yaml_tree.specs.declared.text.Text.{Text}
 use Rattle.yaml_tree.specs.declared.tree.Tree as code
 use Rattle.yaml_tree.proofs.SeenLemmas.{tree_of-Text, tree_of-Seq, join_elements, elements_of-append}
 use Rattle.tree_path.specs.Paths.{at, at_from, at_step, child, refusal}
@@ -57,13 +59,13 @@ join-none no_element = refl
 join-none (element u us) = ap (element u) (join-none us)
 
 -- one name more is in the list, and one less is left
-pub names-more : (was now : List code.Tree) (left later : List (List ℕ)) (s : String Global) (name : List ℕ) → now ≡ was ++ code.Text s ∷ [] → left ≡ chars name ∷ later → string_bytes s ≡ name
+pub names-more : (was now : List code.Tree) (left later : List (List ℕ)) (t : Text) (name : List ℕ) → now ≡ was ++ code.Text t ∷ [] → left ≡ chars name ∷ later → text_bytes t ≡ name
     → join_elements (elements_of now) (text_elements later) ≡ join_elements (elements_of was) (text_elements left)
-names-more was now left later s name pushed first bytes =
+names-more was now left later t name pushed first bytes =
     ap (λ ts. join_elements (elements_of ts) (text_elements later)) pushed
-    ∙ ap (λ es. join_elements es (text_elements later)) (elements_of-append was (code.Text s ∷ []))
-    ∙ join-one (elements_of was) (text_elements later) (tree_of (code.Text s))
-    ∙ ap (λ t. join_elements (elements_of was) (element t (text_elements later))) (tree_of-Text s ∙ ap (λ b. text (chars b)) bytes)
+    ∙ ap (λ es. join_elements es (text_elements later)) (elements_of-append was (code.Text t ∷ []))
+    ∙ join-one (elements_of was) (text_elements later) (tree_of (code.Text t))
+    ∙ ap (λ u. join_elements (elements_of was) (element u (text_elements later))) (tree_of-Text t ∙ ap (λ b. text (chars b)) bytes)
     ∙ ap (λ l. join_elements (elements_of was) (text_elements l)) (sym first)
 
 -- none is left

@@ -16,7 +16,7 @@ use conf_store::Store;
 use itoa::Buffer;
 use std::alloc::{AllocError, Global};
 use tree_path::{Path, PathFault, at};
-use yaml_tree::{Sink, Tree, write_key, write_value};
+use yaml_tree::{Sink, Text, Tree, write_key, write_value};
 
 /// The document of a mapping with one key: a line of `---`, the mapping in the one style, and a line
 /// of `...`.
@@ -48,7 +48,7 @@ pub fn count_answer(alloc: Global, count: u64) -> Result<String, AllocError>
         string_bytes reply ≡ framed_text_bytes (one (codes "ok") (text (decimal count)))) }
 {
     let mut digits = Buffer::new();
-    let count = Tree::Text(String::from_str(alloc, digits.format(count))?);
+    let count = Tree::Text(Text::new(alloc, digits.format(count))?);
     answer(alloc, "ok", &count)
 }
 
@@ -86,7 +86,10 @@ pub fn export_answer<D: Disk>(
     ensures { IfOk result (Replies (stored_of store.now) (exporting (chars name.now))) }
 {
     match store.export(name) {
-        Ok(text) => Ok(Reply::Done(answer(alloc, "text", &Tree::Text(text))?)),
+        Ok(text) => {
+            let text = Tree::Text(Text::from_string(text));
+            Ok(Reply::Done(answer(alloc, "text", &text)?))
+        }
         Err(StoreFault::OutOfMemory) => Err(AllocError),
         Err(fault) => Ok(Reply::Refused(fault)),
     }
@@ -98,7 +101,7 @@ pub fn names_answer<D: Disk>(alloc: Global, store: &Store<D>) -> Result<Reply, A
 {
     let mut names = Vec::new(alloc);
     for name in store.names() {
-        names.push(Tree::Text(String::from_str(alloc, name)?))?;
+        names.push(Tree::Text(Text::new(alloc, name)?))?;
     }
     Ok(Reply::Done(answer(alloc, "names", &Tree::Seq(names))?))
 }

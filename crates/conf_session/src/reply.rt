@@ -1,7 +1,8 @@
 // What is answered to one piece, and what is done for it.
 ghost use Rattle.std.specs.Prelude.{◌≡◌, ◌≤◌, IsErrOf, false};
 ghost use Rattle.std.specs.Str.{chars};
-ghost use Rattle.conf_record.specs.Commands.{command_of, text_of};
+ghost use Rattle.yaml_tree.specs.TextBytes.{text_bytes};
+ghost use Rattle.conf_record.specs.Commands.{command_of};
 ghost use Rattle.conf_store.specs.Calls.{HasFailed};
 ghost use Rattle.conf_store.specs.Durable.{AllImagesMean};
 ghost use Rattle.conf_session.specs.Requests.{changing, checkpointing, import_text};
@@ -15,7 +16,7 @@ use conf_disk::Disk;
 use conf_record::{Command, StoreFault, good_name};
 use conf_store::Store;
 use std::alloc::Global;
-use yaml_tree::{Limits, ReadFault, read_one};
+use yaml_tree::{Limits, ReadFault, Text, read_one};
 
 /// The limits of a configuration: bytes of its text, depth, and bytes in the one style.
 const CONFIGURATION: Limits = Limits {
@@ -101,14 +102,14 @@ fn checkpoint<D: Disk>(alloc: Global, store: &mut Store<D>) -> Result<Reply, Ses
 fn import<D: Disk>(
     alloc: Global,
     store: &mut Store<D>,
-    name: String,
+    name: Text,
     source: &str,
 ) -> Result<Reply, SessionFault>
     requires means { D.honest → store.old.reopen ≡ false →
         AllImagesMean (D.folder store.old.disk) store.old.state }
     ensures did { store.old.reopen ≡ false →
         DidSaid D.honest D.folder D.moment D.left store.old store.new
-        (import_text (text_of name) (chars source.now)) result }
+        (import_text (chars (text_bytes name)) (chars source.now)) result }
     ensures cause { IsErrOf result SessionFault.Device →
         HasFailed (D.failure_count store.old.disk) (D.failure_count store.new.disk) }
     ensures risen { D.failure_count store.old.disk ≤ D.failure_count store.new.disk }
@@ -116,7 +117,10 @@ fn import<D: Disk>(
         AllImagesMean (D.folder store.new.disk) store.new.state }
 {
     match read_one(alloc, source.as_bytes(), &CONFIGURATION) {
-        Ok(tree) => change(alloc, store, Command::Import { name, tree }),
+        Ok(tree) => {
+            let name = name.into_string(alloc)?;
+            change(alloc, store, Command::Import { name, tree })
+        }
         Err(ReadFault::OutOfMemory) => Err(SessionFault::OutOfMemory),
         Err(fault) => Ok(Reply::Refused(unread_fault(&name, fault))),
     }

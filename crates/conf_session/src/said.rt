@@ -11,7 +11,7 @@ ghost use Rattle.conf_session.specs.Replies.{said_of};
 use conf_pieces::{is_same, keys_are, next_text, next_value, part};
 use conf_record::Command;
 use std::alloc::{AllocError, Global};
-use yaml_tree::{Limits, ReadFault, Tree, read_one};
+use yaml_tree::{Limits, ReadFault, Text, Tree, read_one};
 
 /// The limits of a command document: its bytes, its depth, and its bytes in the one style.
 const COMMAND_LIMITS: Limits = Limits {
@@ -24,13 +24,13 @@ const COMMAND_LIMITS: Limits = Limits {
 #[derive(Debug, Drop)]
 pub enum Said {
     /// `import`, with the text that is not read yet.
-    Import { name: String, text: String },
+    Import { name: Text, text: Text },
     /// `set` or `delete`.
     Change(Command),
     /// `get`.
-    Get { name: String, path: String },
+    Get { name: Text, path: Text },
     /// `export`.
-    Export(String),
+    Export(Text),
     /// `names`.
     Names,
     /// `checkpoint`.
@@ -45,42 +45,42 @@ pub fn read_said(alloc: Global, piece: &[u8]) -> Result<Said, AllocError>
     ensures { IfOk result (λ said. Says piece.now (said_of said)) }
 {
     match read_one(alloc, piece, &COMMAND_LIMITS) {
-        Ok(config) => Ok(said_by(config.into_tree())),
+        Ok(config) => said_by(alloc, config.into_tree()),
         Err(ReadFault::OutOfMemory) => Err(AllocError),
         Err(_) => Ok(Said::Nothing),
     }
 }
 
 /// What a document's tree says.
-fn said_by(tree: Tree) -> Said
+fn said_by(alloc: Global, tree: Tree) -> Result<Said, AllocError>
     requires { IsKept (tree_of tree) }
-    ensures { said_of result ≡ said_by (tree_of tree) }
+    ensures { IfOk result (λ said. said_of said ≡ said_by (tree_of tree)) }
 {
     let pairs = match tree {
-        Tree::Text(_) => return Said::Nothing,
-        Tree::Seq(_) => return Said::Nothing,
+        Tree::Text(_) => return Ok(Said::Nothing),
+        Tree::Seq(_) => return Ok(Said::Nothing),
         Tree::Map(pairs) => pairs,
     };
     if keys_are(&["import", "text"], &pairs) {
-        import_said(pairs)
+        Ok(import_said(pairs))
     } else if keys_are(&["set", "path", "value"], &pairs) {
-        set_said(pairs)
+        set_said(alloc, pairs)
     } else if keys_are(&["delete", "path"], &pairs) {
-        delete_said(pairs)
+        delete_said(alloc, pairs)
     } else if keys_are(&["get", "path"], &pairs) {
-        get_said(pairs)
+        Ok(get_said(pairs))
     } else if keys_are(&["export"], &pairs) {
-        export_said(pairs)
+        Ok(export_said(pairs))
     } else if keys_are(&["names"], &pairs) {
-        names_said(pairs)
+        Ok(names_said(pairs))
     } else if keys_are(&["checkpoint"], &pairs) {
-        checkpoint_said(pairs)
+        Ok(checkpoint_said(pairs))
     } else {
-        Said::Nothing
+        Ok(Said::Nothing)
     }
 }
 
-fn import_said(pairs: Vec<(String, Tree)>) -> Said
+fn import_said(pairs: Vec<(Text, Tree)>) -> Said
     ensures { said_of result ≡ import_said (values (members_of pairs.items)) }
 {
     let mut values = pairs.into_iter();
@@ -96,44 +96,50 @@ fn import_said(pairs: Vec<(String, Tree)>) -> Said
     Said::Import { name, text }
 }
 
-fn set_said(pairs: Vec<(String, Tree)>) -> Said
+fn set_said(alloc: Global, pairs: Vec<(Text, Tree)>) -> Result<Said, AllocError>
     requires { AreKept (values (members_of pairs.items)) }
-    ensures { said_of result ≡ set_said (values (members_of pairs.items)) }
+    ensures { IfOk result (λ said. said_of said
+        ≡ set_said (values (members_of pairs.items))) }
 {
     let mut values = pairs.into_iter();
     let Some(name) = next_text(&mut values) else {
-        return Said::Nothing;
+        return Ok(Said::Nothing);
     };
     let Some(path) = next_text(&mut values) else {
-        return Said::Nothing;
+        return Ok(Said::Nothing);
     };
     let Some(value) = next_value(&mut values) else {
-        return Said::Nothing;
+        return Ok(Said::Nothing);
     };
     if next_value(&mut values).is_some() {
-        return Said::Nothing;
+        return Ok(Said::Nothing);
     }
+    let name = name.into_string(alloc)?;
+    let path = path.into_string(alloc)?;
     let value = part(value);
-    Said::Change(Command::Set { name, path, value })
+    Ok(Said::Change(Command::Set { name, path, value }))
 }
 
-fn delete_said(pairs: Vec<(String, Tree)>) -> Said
-    ensures { said_of result ≡ delete_said (values (members_of pairs.items)) }
+fn delete_said(alloc: Global, pairs: Vec<(Text, Tree)>) -> Result<Said, AllocError>
+    ensures { IfOk result (λ said. said_of said
+        ≡ delete_said (values (members_of pairs.items))) }
 {
     let mut values = pairs.into_iter();
     let Some(name) = next_text(&mut values) else {
-        return Said::Nothing;
+        return Ok(Said::Nothing);
     };
     let Some(path) = next_text(&mut values) else {
-        return Said::Nothing;
+        return Ok(Said::Nothing);
     };
     if next_value(&mut values).is_some() {
-        return Said::Nothing;
+        return Ok(Said::Nothing);
     }
-    Said::Change(Command::Delete { name, path })
+    let name = name.into_string(alloc)?;
+    let path = path.into_string(alloc)?;
+    Ok(Said::Change(Command::Delete { name, path }))
 }
 
-fn get_said(pairs: Vec<(String, Tree)>) -> Said
+fn get_said(pairs: Vec<(Text, Tree)>) -> Said
     ensures { said_of result ≡ get_said (values (members_of pairs.items)) }
 {
     let mut values = pairs.into_iter();
@@ -149,7 +155,7 @@ fn get_said(pairs: Vec<(String, Tree)>) -> Said
     Said::Get { name, path }
 }
 
-fn export_said(pairs: Vec<(String, Tree)>) -> Said
+fn export_said(pairs: Vec<(Text, Tree)>) -> Said
     ensures { said_of result ≡ export_said (values (members_of pairs.items)) }
 {
     let mut values = pairs.into_iter();
@@ -162,7 +168,7 @@ fn export_said(pairs: Vec<(String, Tree)>) -> Said
     Said::Export(name)
 }
 
-fn names_said(pairs: Vec<(String, Tree)>) -> Said
+fn names_said(pairs: Vec<(Text, Tree)>) -> Said
     ensures { said_of result ≡ names_said (values (members_of pairs.items)) }
 {
     if is_empty_text(pairs) {
@@ -172,7 +178,7 @@ fn names_said(pairs: Vec<(String, Tree)>) -> Said
     }
 }
 
-fn checkpoint_said(pairs: Vec<(String, Tree)>) -> Said
+fn checkpoint_said(pairs: Vec<(Text, Tree)>) -> Said
     ensures { said_of result ≡ checkpoint_said (values (members_of pairs.items)) }
 {
     if is_empty_text(pairs) {
@@ -183,7 +189,7 @@ fn checkpoint_said(pairs: Vec<(String, Tree)>) -> Said
 }
 
 /// Whether the one value of the pairs is the empty text.
-fn is_empty_text(pairs: Vec<(String, Tree)>) -> bool
+fn is_empty_text(pairs: Vec<(Text, Tree)>) -> bool
     ensures { result ≡ is_empty_text (values (members_of pairs.items)) }
 {
     let mut values = pairs.into_iter();

@@ -13,9 +13,9 @@ use Rattle.conf_session.proofs.answer.count_answer.Goals as goal
 
 pub returns : goal.returns
 returns c =
-    let digits = c.in_ok-from_str.field-0 in
+    let digits = c.in_ok-new.field-0 in
     let spelled : tree_of (Text digits) ≡ text (decimal c.args.count) =
-    tree_of-Text digits ∙ ap (λ b. text (chars b)) c.in_ok-from_str.ensures.ok ∙ ap text (chars-IsAscii c.format.result.now c.format.ensures.ascii ∙ c.format.ensures.text) in
+    tree_of-Text digits ∙ ap (λ b. text (chars b)) c.in_ok-new.ensures ∙ ap text (chars-IsAscii c.format.result.now c.format.ensures.ascii ∙ c.format.ensures.text) in
     IfOk-weaker c.answer.result _ _
     (λ reply e. e ∙ ap (λ k. framed_text_bytes (one k (tree_of (Text digits)))) (ascii (codes "ok") refl) ∙ ap (λ t. framed_text_bytes (one (codes "ok") t)) spelled)
     c.answer.ensures

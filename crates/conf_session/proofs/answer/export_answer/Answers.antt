@@ -16,9 +16,9 @@ use Rattle.conf_session.proofs.answer.export_answer.Goals as goal
 
 pub returns-in_ok-answer-in-Ok : goal.returns-in_ok-answer-in-Ok
 returns-in_ok-answer-in-Ok g c =
-    let written = c.in-Ok.text in
+    let written = c.from_string.result in
     let exports = c.in-Ok.ensures.ok in
-    let spelled : tree_of (Text written) ≡ text (style_text exports.tree) = tree_of-Text written ∙ ap text exports.style in
+    let spelled : tree_of (Text written) ≡ text (style_text exports.tree) = tree_of-Text written ∙ ap (λ b. text (chars b)) c.from_string.ensures ∙ ap text exports.style in
     export-text (stored_of c.args.store.now) (chars c.args.name.now) exports.tree c.in_ok-answer-in-Ok.field-0 exports.is
     (c.in_ok-answer-in-Ok.ensures ∙ ap (λ k. framed_text_bytes (one k (tree_of (Text written)))) (ascii (codes "text") refl) ∙ ap (λ t. framed_text_bytes (one (codes "text") t)) spelled) c.in-Ok.ensures.limits
 

@@ -15,8 +15,8 @@ use Rattle.conf_session.proofs.answer.names_answer.Goals as goal
 
 pub loop-name-preserved : goal.loop-name-preserved
 loop-name-preserved g c =
-    names-more c.loop-name.names.items c.push.new.self.items c.loop-name.name-iterator c.next.new.self c.in_ok-from_str.field-0 c.in-Some.name.now
-    c.in_ok-push.ensures.items c.in-Some.ensures.steps c.in_ok-from_str.ensures.ok
+    names-more c.loop-name.names.items c.push.new.self.items c.loop-name.name-iterator c.next.new.self c.in_ok-new.field-0 c.in-Some.name.now
+    c.in_ok-push.ensures.items c.in-Some.ensures.steps c.in_ok-new.ensures
     ∙ c.loop-name.invariant
 
 pub answer-requires : goal.answer-requires

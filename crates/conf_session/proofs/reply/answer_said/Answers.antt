@@ -1,7 +1,7 @@
 -- Each document is the request that it says.
 use Rattle.std.proofs.Common.{◌≡◌, refl, sym, ap, ◌∙◌, subst}
 use Rattle.std.specs.Str.{chars}
-use Rattle.conf_record.specs.Commands.{text_of}
+use Rattle.yaml_tree.specs.TextBytes.{text_bytes}
 use Rattle.conf_session.specs.Requests.{import_text, get_at, export_of, MeansRequest, getting, exporting, bad}
 use Rattle.conf_session.specs.Replies.{DidSaid, said_of}
 use Rattle.conf_session.specs.declared.reply.Reply.TheVariants.{NoCommand}
@@ -12,8 +12,8 @@ use Rattle.conf_session.proofs.reply.answer_said.Goals as goal
 pub returns-in-Import-clause-did : goal.returns-in-Import-clause-did
 returns-in-Import-clause-did g c off =
     let d = g.D.Disk in
-    let same : import_text (text_of c.in-Import.name) (chars c.deref.result.now) ≡ said_of c.args.said =
-    ap (λ b. import_text (text_of c.in-Import.name) (chars b)) c.deref.ensures ∙ sym (ap said_of c.in-Import.is) in
+    let same : import_text (chars (text_bytes c.in-Import.name)) (chars c.deref.result.now) ≡ said_of c.args.said =
+    ap (λ b. import_text (chars (text_bytes c.in-Import.name)) (chars b)) c.deref.ensures ∙ sym (ap said_of c.in-Import.is) in
     subst (λ s. DidSaid d.honest d.folder d.moment d.left c.args.store.now c.import.new.store s c.import.result) same (c.import.ensures.did off)
 
 pub returns-in_ok-get_answer-in-Get-clause-did : goal.returns-in_ok-get_answer-in-Get-clause-did
@@ -22,7 +22,7 @@ returns-in_ok-get_answer-in-Get-clause-did g c off =
     let name = chars c.deref-in-Get.result.now in
     let path = chars c.deref-in-Get-2.result.now in
     let same : get_at name path ≡ said_of c.args.said =
-    ap (λ b. get_at (chars b) path) c.deref-in-Get.ensures ∙ ap (λ b. get_at (text_of c.in-Get.name) (chars b)) c.deref-in-Get-2.ensures ∙ sym (ap said_of c.in-Get.is) in
+    ap (λ b. get_at (chars b) path) c.deref-in-Get.ensures ∙ ap (λ b. get_at (chars (text_bytes c.in-Get.name)) (chars b)) c.deref-in-Get-2.ensures ∙ sym (ap said_of c.in-Get.is) in
     said-read d.honest d.folder d.moment d.left c.args.store.now off (λ image h is. g.met.D.Disk.only_now c.args.store.now.disk image h is) c.requires.means
     (said_of c.args.said) (getting name path) (subst (λ s. MeansRequest s (getting name path)) same refl) tt c.in_ok-get_answer-in-Get.field-0 c.in_ok-get_answer-in-Get.ensures
 

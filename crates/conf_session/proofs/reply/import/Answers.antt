@@ -2,7 +2,7 @@
 use Rattle.std.proofs.Common.{rules, ◌≢◌, refl, ap, ◌∙◌, subst}
 use Rattle.yaml_docs.specs.declared.fault.ReadFault.TheVariants as read
 use Rattle.yaml_tree.specs.Reading.{Refuses}
-use Rattle.conf_record.specs.Commands.{text_of}
+use Rattle.yaml_tree.specs.TextBytes.{text_bytes}
 use Rattle.conf_record.specs.States.{config_limits}
 use Rattle.std.specs.Str.{chars}
 use Rattle.yaml_laws.specs.Closed.{framed_text_bytes}
@@ -15,7 +15,7 @@ use Rattle.conf_session.proofs.reply.import.Goals as goal
 pub returns-clause-did : goal.returns-clause-did
 returns-clause-did g c off =
     let d = g.D.Disk in
-    let name = text_of c.args.name in
+    let name = chars (text_bytes c.args.name) in
     let f = c.in-Err.fault in
     let some : f ≢ read.OutOfMemory = search rules in
     said-read d.honest d.folder d.moment d.left c.args.store.now off (λ image h is. g.met.D.Disk.only_now c.args.store.now.disk image h is) c.requires.means

@@ -4,13 +4,13 @@ use Rattle.std.specs.Str.{chars}
 use Rattle.yaml_grammar.specs.Texts.{same_text}
 use Rattle.yaml_grammar.specs.Trees.{text}
 use Rattle.yaml_tree.specs.Seen.{members_of}
-use Rattle.conf_record.specs.Commands.{text_of}
+use Rattle.yaml_tree.specs.TextBytes.{text_bytes}
 use Rattle.conf_record.specs.RecordsRead.{values}
 use Rattle.conf_session.specs.Requests.{is_empty_text}
 use Rattle.conf_session.proofs.said.is_empty_text.Goals as goal
 
 pub returns : goal.returns
 returns c =
-    let all : values (members_of c.args.pairs.items) ≡ text (text_of c.in-Some.text) ∷ [] = search rules in
-    c.is_same.ensures ∙ ap (λ b. same_text (chars b) (chars [])) c.deref.ensures ∙ ap (same_text (text_of c.in-Some.text)) chars-nil
+    let all : values (members_of c.args.pairs.items) ≡ text (chars (text_bytes c.in-Some.text)) ∷ [] = search rules in
+    c.is_same.ensures ∙ ap (λ b. same_text (chars b) (chars [])) c.deref.ensures ∙ ap (same_text (chars (text_bytes c.in-Some.text))) chars-nil
     ∙ sym (ap is_empty_text all)

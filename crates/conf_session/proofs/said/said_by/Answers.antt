@@ -1,5 +1,6 @@
 -- The keys are asked for in the order of the definition.
 use Rattle.std.proofs.Common.{◌≡◌, false, true, sym, ap, subst, ◌∙◌}
+use Rattle.std.proofs.lemmas.Result.{IfOk-weaker}
 use Rattle.yaml_tree.specs.Kept.{IsKept}
 use Rattle.yaml_tree.specs.Seen.{tree_of, members_of}
 use Rattle.yaml_tree.proofs.SeenLemmas.{tree_of-Text, tree_of-Seq, tree_of-Map}
@@ -32,7 +33,7 @@ returns-then-keys_are-2 c =
     let seen = ap said_by (ap tree_of c.in-Map.is ∙ tree_of-Map c.in-Map.pairs) in
     let e0 : keys_are import_keys ms ≡ false = asked _ import_keys c.deref.result.now _ _ false c.keys_are.ensures import_texts c.deref.ensures.value c.if-keys_are.false in
     let e1 : keys_are set_keys ms ≡ true = asked _ set_keys c.deref-else-keys_are.result.now _ _ true c.keys_are-else-keys_are.ensures set_texts c.deref-else-keys_are.ensures.value c.if-keys_are-2.true in
-    c.set_said.ensures ∙ sym (seen ∙ said-set ms e0 e1)
+    IfOk-weaker c.set_said.result _ _ (λ said e. e ∙ sym (seen ∙ said-set ms e0 e1)) c.set_said.ensures
 
 pub returns-then-keys_are-3 : goal.returns-then-keys_are-3
 returns-then-keys_are-3 c =
@@ -41,7 +42,7 @@ returns-then-keys_are-3 c =
     let e0 : keys_are import_keys ms ≡ false = asked _ import_keys c.deref.result.now _ _ false c.keys_are.ensures import_texts c.deref.ensures.value c.if-keys_are.false in
     let e1 : keys_are set_keys ms ≡ false = asked _ set_keys c.deref-else-keys_are.result.now _ _ false c.keys_are-else-keys_are.ensures set_texts c.deref-else-keys_are.ensures.value c.if-keys_are-2.false in
     let e2 : keys_are delete_keys ms ≡ true = asked _ delete_keys c.deref-else-keys_are-2.result.now _ _ true c.keys_are-else-keys_are-2.ensures delete_texts c.deref-else-keys_are-2.ensures.value c.if-keys_are-3.true in
-    c.delete_said.ensures ∙ sym (seen ∙ said-delete ms e0 e1 e2)
+    IfOk-weaker c.delete_said.result _ _ (λ said e. e ∙ sym (seen ∙ said-delete ms e0 e1 e2)) c.delete_said.ensures
 
 pub returns-then-keys_are-4 : goal.returns-then-keys_are-4
 returns-then-keys_are-4 c =
