@@ -5,7 +5,7 @@ use std::alloc::{AllocError, Global};
 use std::io;
 use thiserror::Error;
 use tree_path::{Path, PathFault, delete, set};
-use yaml_tree::{Config, ReadFault, Tree, style_len};
+use yaml_tree::{Config, ReadFault, Text, Tree, style_len};
 
 /// The greatest depth of a tree whose length is printed.
 const DEEPEST: u8 = 66;
@@ -55,7 +55,7 @@ fn edit_tree(alloc: Global, mut tree: Tree, pointer: &str, rounds: u32) -> Resul
 }
 
 fn set_and_delete(alloc: Global, tree: &mut Tree, path: &Path) -> Result<(), Refused> {
-    let value = Tree::Text(String::from_str(alloc, "set")?);
+    let value = Tree::Text(Text::new(alloc, "set")?);
     set(alloc, tree, path, value).map_err(|(_, fault)| fault)?;
     // The pointer to the end has steps; of an empty one nothing could be deleted.
     if path.steps() > 0 {
@@ -75,7 +75,7 @@ fn edit_state(alloc: Global, tree: Tree, pointer: &str, rounds: u32) -> Result<(
         let set = Command::Set {
             name: String::from_str(alloc, "c")?,
             path: String::from_str(alloc, pointer)?,
-            value: config(alloc, Tree::Text(String::from_str(alloc, "set")?))?,
+            value: config(alloc, Tree::Text(Text::new(alloc, "set")?))?,
         };
         step(alloc, &mut state, set, true)?;
         let delete = Command::Delete {

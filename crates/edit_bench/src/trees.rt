@@ -1,7 +1,7 @@
 // The trees that are edited, and the pointers to their ends.
 use crate::order::Shape;
 use std::alloc::{AllocError, Global};
-use yaml_tree::Tree;
+use yaml_tree::{Text, Tree};
 
 impl Shape {
     /// The tree, without the pair at its end.
@@ -31,14 +31,14 @@ fn wide(alloc: Global, pairs: u32) -> Result<Tree, AllocError> {
     for number in 0..pairs {
         let key = format!(in alloc; "key-{number:05}")?;
         let value = format!(in alloc; "value-{number:05}")?;
-        all.push((key, Tree::Text(value)))?;
+        all.push((Text::from_string(key), Tree::Text(Text::from_string(value))))?;
     }
     Ok(Tree::Map(all))
 }
 
 /// Mappings in mappings, the last of them with a text in it.
 fn deep(alloc: Global, depth: u32) -> Result<Tree, AllocError> {
-    let mut whole = one_pair(alloc, "text", Tree::Text(String::from_str(alloc, "x")?))?;
+    let mut whole = one_pair(alloc, "text", Tree::Text(Text::new(alloc, "x")?))?;
     for _ in 2..depth {
         whole = one_pair(alloc, "in", whole)?;
     }
@@ -46,5 +46,5 @@ fn deep(alloc: Global, depth: u32) -> Result<Tree, AllocError> {
 }
 
 fn one_pair(alloc: Global, key: &str, value: Tree) -> Result<Tree, AllocError> {
-    Ok(Tree::Map(vec![in alloc; (String::from_str(alloc, key)?, value)]?))
+    Ok(Tree::Map(vec![in alloc; (Text::new(alloc, key)?, value)]?))
 }
