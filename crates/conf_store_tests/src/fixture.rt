@@ -6,7 +6,7 @@ use conf_store::{Opened, Store};
 use std::alloc::{AllocError, Global};
 use std::process::Abort;
 use std::test::Fail;
-use yaml_tree::{Config, Tree};
+use yaml_tree::{Config, Text, Tree};
 
 /// The base of an empty state: 47 bytes.
 pub const EMPTY: &str = "---\nstore: confstore-1\nat: \"0\"\nconfigs: {}\n...\n";
@@ -69,7 +69,7 @@ pub fn has_texts<D: Disk>(
 }
 
 pub fn text(alloc: Global, value: &str) -> Result<Config, Fail> {
-    match Config::new(alloc, Tree::Text(String::from_str(alloc, value)?)) {
+    match Config::new(alloc, Tree::Text(Text::new(alloc, value)?)) {
         Ok(config) => Ok(config),
         Err((_, fault)) => Err(Fail::from(fault)),
     }

@@ -1,7 +1,7 @@
 // The commands that are performed.
 use conf_record::{Command, StoreFault};
 use std::alloc::Global;
-use yaml_tree::{Config, ReadFault, Tree};
+use yaml_tree::{Config, ReadFault, Text, Tree};
 
 /// A command that sets a text at a path of a configuration.
 pub(crate) fn set(
@@ -10,7 +10,7 @@ pub(crate) fn set(
     path: &str,
     value: String,
 ) -> Result<Command, StoreFault> {
-    let value = match Config::new(alloc, Tree::Text(value)) {
+    let value = match Config::new(alloc, Tree::Text(Text::from_string(value))) {
         Ok(value) => value,
         Err((_, ReadFault::OutOfMemory)) => return Err(StoreFault::OutOfMemory),
         Err((_, fault)) => return Err(StoreFault::Read(fault)),

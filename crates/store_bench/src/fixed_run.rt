@@ -128,7 +128,10 @@ fn print_state(
     let count = store.count();
     match store.config("a") {
         Ok(config) => match config.tree() {
-            Tree::Text(text) => println!(rt; "{call}: {answer}, count {count}, a is {text}")?,
+            Tree::Text(text) => {
+                let text = text.as_str();
+                println!(rt; "{call}: {answer}, count {count}, a is {text}")?;
+            }
             _ => println!(rt; "{call}: {answer}, count {count}, a is no text")?,
         },
         Err(_) => println!(rt; "{call}: {answer}, count {count}, a is not there")?,
