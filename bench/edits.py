@@ -10,11 +10,11 @@ machine is. After each shape it prints how many times as much an edit takes by a
 Instructions of an edit, counted on 2026-11-23:
 
     shape           in the tree     by a command    times
-    100 pairs             1,011            2,921     2.89
-    1,000 pairs           6,411            8,320     1.30
-    10,000 pairs         60,411           62,320     1.03
-    8 deep                2,081            4,928     2.37
-    64 deep              17,537           29,279     1.67
+    100 pairs             1,376            3,303     2.40
+    1,000 pairs          11,276           13,204     1.17
+    10,000 pairs        110,276          112,203     1.02
+    8 deep                1,999            4,888     2.45
+    64 deep              17,903           29,911     1.67
 
 `rt run`, in crates/edit_bench, builds the program:
 
