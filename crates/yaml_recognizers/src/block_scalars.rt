@@ -1,7 +1,7 @@
 //! Laws of block scalars (YAML 1.2.2, 8.1).
 
 ghost use Rattle.std.specs.Prelude.{◌≡◌, ℕ, Bool, true, List, ◌++◌, Option, Some, None};
-ghost use Rattle.yaml_grammar.specs.BlockScalars.{Chomping, Header, Body, BlockScalar, digit_fits, block_text, block_value};
+ghost use Rattle.yaml_grammar.specs.BlockScalars.{Chomping, Header, Body, BlockScalar, block_text, block_value};
 ghost use Rattle.yaml_recognizers.specs.CanonicalBlockScalars.{canonical_block};
 ghost use Rattle.yaml_recognizers.specs.BlockScalars.{read_header, read_body, read_block};
 ghost use Rattle.yaml_recognizers.specs.BlockScalarFacts.{IsHeader, NoHeader, IsBody, NoBody, BlockStands, SameBlock, NoBlock};
@@ -45,8 +45,7 @@ pub fn header_missing()
 /// The body that is found after a header is the only one, and its value is that of each presentation.
 pub fn body_found()
     ensures { (digit : Option ℕ) (m : ℕ) (folded : Bool) (chomping : Chomping) (text : List ℕ)
-        (b : Body) (rest : List ℕ) → digit_fits digit ≡ true
-        → read_body digit m text ≡ Some (b, rest)
+        (b : Body) (rest : List ℕ) → read_body digit m text ≡ Some (b, rest)
         → IsBody digit m folded chomping text (block_value folded chomping b.gaps b.texts) rest }
 {}
 

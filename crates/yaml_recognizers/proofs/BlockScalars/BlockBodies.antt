@@ -2,7 +2,7 @@
 use Rattle.std.proofs.Common.{◌≡◌, refl, sym, ◌∙◌, ap, subst, append_assoc, ◌<◌}
 use Rattle.std.specs.Prelude.{ℕ, suc, ◌+◌, ◌-◌, true, false, not, ◌&&◌, List, ◌++◌, length, Option, Some, None}
 use Rattle.std.proofs.lemmas.Bool.{and_parts, and_from, eq-eqb, not-true, not_from_false}
-use Rattle.yaml_grammar.specs.BlockScalars.{Gap, gaps_text, TextLine, text_lines_text, Body, body_text, gaps_fit, text_lines_fit, goes_on, indent_fits, digit_fits, body_fits}
+use Rattle.yaml_grammar.specs.BlockScalars.{Gap, gaps_text, TextLine, text_lines_text, Body, body_text, gaps_fit, text_lines_fit, goes_on, indent_fits, body_fits}
 use Rattle.yaml_recognizers.proofs.Basics.Reading.{Sound, sound_on}
 use Rattle.yaml_recognizers.specs.Reading.{on}
 use Rattle.yaml_recognizers.proofs.BlockScalars.EmptyLines.{fit_meet, GapsOf, gaps_at_read, gaps_of_sound}
@@ -70,6 +70,6 @@ found_sound m text None f = tt
 found_sound m text (Some q) f = let g : Found m q text (all_gaps text) = f in at_sound None m q text (all_gaps text) g.read g.fits
 
 -- a body that is read fits
-pub body_sound : (digit : Option ℕ) (m : ℕ) (text : List ℕ) → digit_fits digit ≡ true → Sound (BodyOf digit m text) (read_body digit m text)
-body_sound None m text h = found_sound m text (find_indent None m text) (indent_sound m text)
-body_sound (Some d) m text h = at_sound (Some d) m ((m - 1) + d) text (gaps_at ((m - 1) + d) text) refl (λ texts rest l. eq-eqb ((m - 1) + d) ((m - 1) + d) refl)
+pub body_sound : (digit : Option ℕ) (m : ℕ) (text : List ℕ) → Sound (BodyOf digit m text) (read_body digit m text)
+body_sound None m text = found_sound m text (find_indent None m text) (indent_sound m text)
+body_sound (Some d) m text = at_sound (Some d) m ((m - 1) + d) text (gaps_at ((m - 1) + d) text) refl (λ texts rest l. eq-eqb ((m - 1) + d) ((m - 1) + d) refl)

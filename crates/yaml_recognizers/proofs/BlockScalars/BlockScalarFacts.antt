@@ -5,7 +5,7 @@ use Rattle.std.specs.Prelude.{ℕ, ◌+◌, Bool, true, false, not, ◌&&◌, �
 use Rattle.std.proofs.lemmas.Bool.{and_parts}
 use Rattle.yaml_grammar.specs.Texts.{is_empty, byte_len}
 use Rattle.yaml_grammar.specs.Separation.{LineEnd, line_end_text, comments_text}
-use Rattle.yaml_grammar.specs.BlockScalars.{Chomping, strip, clip, keep, Header, Body, BlockScalar, chomping_text, header_text, body_text, bare_block_text, block_value, digit_fits}
+use Rattle.yaml_grammar.specs.BlockScalars.{Chomping, strip, clip, keep, Header, Body, BlockScalar, chomping_text, header_text, body_text, bare_block_text, block_value}
 use Rattle.yaml_grammar.specs.Events.{Event, scalar_event, literal_style, folded_style}
 use Rattle.yaml_recognizers.specs.Scalars.{ReadsBlocks}
 use Rattle.yaml_recognizers.proofs.Basics.Reading.{none_some, some_parts, sound_is}
@@ -97,10 +97,10 @@ body_stands digit m folded chomping text b rest s =
     }
 
 -- a body that is read is there, and no other
-pub body_is : (digit : Option ℕ) (m : ℕ) (folded : Bool) (chomping : Chomping) (text : List ℕ) (b : Body) (rest : List ℕ) → digit_fits digit ≡ true → read_body digit m text ≡ Some (b, rest)
+pub body_is : (digit : Option ℕ) (m : ℕ) (folded : Bool) (chomping : Chomping) (text : List ℕ) (b : Body) (rest : List ℕ) → read_body digit m text ≡ Some (b, rest)
     → IsBody digit m folded chomping text (block_value folded chomping b.gaps b.texts) rest
-body_is digit m folded chomping text b rest d e =
-    let s : BodyOf digit m text b rest = sound_is (BodyOf digit m text) (read_body digit m text) (b, rest) (body_sound digit m text d) e in
+body_is digit m folded chomping text b rest e =
+    let s : BodyOf digit m text b rest = sound_is (BodyOf digit m text) (read_body digit m text) (b, rest) (body_sound digit m text) e in
     body_stands digit m folded chomping text b rest (record { spells = s.0; fits = s.1 })
 
 -- if none is read, none is there

@@ -70,5 +70,5 @@ block_sound m text =
     sound_on (HeaderOf text) (BlockOf m text) (read_header text)
     (λ h rest. on (read_body h.digit m rest) (λ b after. let t = read_trail b.indent after in Some (block_of h b t.0, t.1))) (header_sound text)
     (λ h after s. sound_on (BodyOf h.digit m after) (BlockOf m text) (read_body h.digit m after)
-    (λ b rest. let t = read_trail b.indent rest in Some (block_of h b t.0, t.1)) (body_sound h.digit m after (and_parts _ _ s.1).0)
+    (λ b rest. let t = read_trail b.indent rest in Some (block_of h b t.0, t.1)) (body_sound h.digit m after)
     (λ b rest t. joined m text after rest h b s t))
