@@ -3,7 +3,7 @@ use Rattle.std.proofs.Common.{ap, append_assoc, arith, inl, inr, refl, subst, sy
 use Rattle.std.specs.Prelude.{Bool, List, None, Option, Some, [], false, if◌then◌else◌, nat_lt, true, ℕ, ◌&&◌, ◌++◌, ◌+◌, ◌∷◌}
 use Rattle.std.proofs.lemmas.Bool.{and_from, and_parts, cases_eq, cases_lt, eq-eqb, eqb-true, false≢true, lt-ltb, not-true, not_from_false}
 use Rattle.yaml_chars.specs.Classes.{nb}
-use Rattle.yaml_grammar.specs.BlockScalars.{BlockScalar, Body, Chomping, Header, bare_block_text, block_events, block_text, block_value, digit_fits, goes_on, past_spaces, spaces_before}
+use Rattle.yaml_grammar.specs.BlockScalars.{BlockScalar, Body, Chomping, Header, bare_block_text, block_events, block_text, block_value, goes_on, past_spaces, spaces_before}
 use Rattle.yaml_grammar.specs.Events.{folded_style, literal_style, scalar_event}
 use Rattle.yaml_grammar.specs.Separation.{LineEnd, comments_text}
 use Rattle.yaml_grammar.specs.Texts.{byte_len, first, marker, no_marker}
@@ -83,14 +83,11 @@ block_no_body m text lines folded digit chomping h n =
     ∙ by_cases (read_body digit m lines) refl in
     rw (found, none) refl
   where
-    fits : digit_fits digit ≡ true
-    fits = ap digit_fits (sym (h.means).indentation) ∙ (and_parts _ _ (h.stands).fits).0
-
     by_cases : (r : Read Body) → read_body digit m lines ≡ r → r ≡ None
     by_cases None e = refl
     by_cases (Some r) e = absurd (let i : IsBody digit m folded chomping lines
         (block_value folded chomping (r.0).gaps (r.0).texts) r.1 =
-        body_is digit m folded chomping lines r.0 r.1 fits e in n i.body r.1 i.stands)
+        body_is digit m folded chomping lines r.0 r.1 e in n i.body r.1 i.stands)
 
 -- ---- B3: the comments after it
 

@@ -1,11 +1,10 @@
 // A block scalar in a block node (YAML 1.2.2, 8.1 and 8.2.3).
-ghost use Rattle.std.specs.Prelude.{◌≡◌, ◌*◌, ◌-◌, ◌^◌, ◌≤◌, ◌≤ℤ◌, negsuc, true, IfOk, IfErr, IsTrue, length};
+ghost use Rattle.std.specs.Prelude.{◌≡◌, ◌*◌, ◌-◌, ◌^◌, ◌≤◌, ◌≤ℤ◌, negsuc, true, IfOk, IfErr, length};
 ghost use Rattle.std.specs.Cow.{cow_str_bytes};
 ghost use Rattle.std.specs.Str.{IsCharBoundary};
 ghost use Rattle.yaml_chars.specs.Places.{rest};
 ghost use Rattle.yaml_grammar.specs.Texts.{first};
 ghost use Rattle.yaml_recognizers.specs.BlockNodes.{bar};
-ghost use Rattle.yaml_grammar.specs.BlockScalars.{digit_fits};
 ghost use Rattle.yaml_recognizers.specs.BlockScalarFacts.{NoBody};
 ghost use Rattle.yaml_events.specs.EventPlaces.{Refuses};
 ghost use Rattle.yaml_block_scalars.specs.Found.{IsBodyAt};
@@ -78,7 +77,6 @@ fn body_at<'a>(
     requires at { IsCharBoundary text.now at }
     requires fits { least ≤ 2 ^ 63 }
     requires starts { IsLineStart text.now at }
-    requires digit { IsTrue (digit_fits head.now.digit) }
     ensures found { IfOk result (λ body.
         IsBodyAt least head.now.folded head.now text.now at (cow_str_bytes body.value) body.end) }
     ensures style { IfOk result (λ body. IsBlockStyle head.now.folded body.style) }

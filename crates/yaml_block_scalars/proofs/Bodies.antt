@@ -6,7 +6,7 @@ use Rattle.std.proofs.lemmas.Bool.{and_right, false≢true}
 use Rattle.std.proofs.lemmas.Str.{chars-nil}
 use Rattle.yaml_chars.specs.Places.{between, rest}
 use Rattle.yaml_chars.proofs.Places.{between-append}
-use Rattle.yaml_grammar.specs.BlockScalars.{Chomping, strip, clip, keep, Gap, TextLine, block_value, trailing_line_feeds, goes_on, value_without_lines, text_value, Body, digit_fits}
+use Rattle.yaml_grammar.specs.BlockScalars.{Chomping, strip, clip, keep, Gap, TextLine, block_value, trailing_line_feeds, goes_on, value_without_lines, text_value, Body}
 use Rattle.yaml_grammar.specs.FlowScalars.{line_feeds}
 use Rattle.yaml_grammar.specs.Texts.{begins, is_empty}
 use Rattle.yaml_recognizers.proofs.BlockScalars.BlockScalarFacts.{body_found, body_is, no_body}
@@ -151,14 +151,14 @@ module _ (digit : Option ℕ) (m : ℕ) (folded : Bool) (chomping : Chomping) (q
   no_body_lines e = no_body digit m (rest bs i) (body_read_as ∙ ap (λ (r : Read (List TextLine)). on r (λ ls after. Some (with_lines ls, after))) e)
 
   -- with them there is one
-  pub body_there : (value : List ℕ) (end : ℕ) → digit_fits digit ≡ true → AreLines q folded chomping bs i value end → IsBody digit m folded chomping (rest bs i) (chars value) (rest bs end)
+  pub body_there : (value : List ℕ) (end : ℕ) → AreLines q folded chomping bs i value end → IsBody digit m folded chomping (rest bs i) (chars value) (rest bs end)
   unfolding with_lines
-  body_there value end d h =
+  body_there value end h =
       let found = on_parts (lines_at q (gaps_at q (rest bs i)).1) (λ ls after. Some (block_value folded chomping (gaps_at q (rest bs i)).0 ls, after)) (chars value, rest bs end) h.reads in
       let same = some_parts (block_value folded chomping (gaps_at q (rest bs i)).0 found.0) (chars value) found.1 (rest bs end) found.3 in
       let reads : read_body digit m (rest bs i) ≡ Some (with_lines found.0, rest bs end) =
       body_read_as ∙ ap (λ (r : Read (List TextLine)). on r (λ ls after. Some (with_lines ls, after))) found.2 ∙ ap (λ x. Some (with_lines found.0, x)) same.1 in
-      subst (λ x. IsBody digit m folded chomping (rest bs i) x (rest bs end)) same.0 (body_is digit m folded chomping (rest bs i) (with_lines found.0) (rest bs end) d reads)
+      subst (λ x. IsBody digit m folded chomping (rest bs i) x (rest bs end)) same.0 (body_is digit m folded chomping (rest bs i) (with_lines found.0) (rest bs end) reads)
 
   -- a body with its value in one piece is one here
   pub piece_there : (body : Body) (after : List ℕ) → BodyStands digit m (rest bs i) body after → is_one_piece chomping body.gaps body.texts ≡ true → ArePiece q chomping (rest bs i)

@@ -1,12 +1,11 @@
 // Block scalars after their headers.
-ghost use Rattle.std.specs.Prelude.{◌≡◌, ◌≤◌, ◌^◌, ◌≤ℤ◌, negsuc, true, false, [], None, Some, IsTrue, IfOk, IfErr, MatchOption, length, string_bytes};
+ghost use Rattle.std.specs.Prelude.{◌≡◌, ◌≤◌, ◌^◌, ◌≤ℤ◌, negsuc, true, false, [], None, Some, IfOk, IfErr, MatchOption, length, string_bytes};
 ghost use Rattle.std.specs.Cow.{cow_str_bytes, IsBorrowedStr};
 ghost use Rattle.std.specs.Str.{IsCharBoundary, chars};
 ghost use Rattle.yaml_chars.specs.Places.{rest};
 ghost use Rattle.yaml_events.specs.EventPlaces.{Refuses};
 ghost use Rattle.yaml_grammar.specs.FlowScalars.{line_feeds};
 ghost use Rattle.yaml_grammar.specs.Texts.{begins};
-ghost use Rattle.yaml_grammar.specs.BlockScalars.{digit_fits};
 ghost use Rattle.yaml_recognizers.specs.BlockScalars.{find_indent, gaps_at, lines_at};
 ghost use Rattle.yaml_recognizers.specs.BlockScalarFacts.{NoBody};
 ghost use Rattle.yaml_block_scalars.specs.Found.{IsBodyAt, IsPieceAt, AreLines, ArePiece};
@@ -196,7 +195,6 @@ fn body<'a>(
 ) -> Result<(CowStr<'a>, usize), ScanFault>
     requires boundary { IsCharBoundary text.now at }
     requires below { negsuc 0 ≤ℤ n }
-    requires digit { IsTrue (digit_fits header.now.digit) }
     ensures found { IfOk result (λ found.
         IsBodyAt (least_indent n) (is_folded form) header.now text.now at
         (cow_str_bytes found.0) found.1) }
@@ -237,7 +235,6 @@ pub fn literal<'a>(
 ) -> Result<(CowStr<'a>, usize), ScanFault>
     requires boundary { IsCharBoundary text.now at }
     requires below { negsuc 0 ≤ℤ n }
-    requires digit { IsTrue (digit_fits header.now.digit) }
     ensures found { IfOk result (λ found.
         IsBodyAt (least_indent n) false header.now text.now at (cow_str_bytes found.0) found.1) }
     ensures line { IsLineStart text.now at → IfOk result (λ found. IsLineStart text.now found.1) }
@@ -263,7 +260,6 @@ pub fn folded<'a>(
 ) -> Result<(CowStr<'a>, usize), ScanFault>
     requires boundary { IsCharBoundary text.now at }
     requires below { negsuc 0 ≤ℤ n }
-    requires digit { IsTrue (digit_fits header.now.digit) }
     ensures found { IfOk result (λ found.
         IsBodyAt (least_indent n) true header.now text.now at (cow_str_bytes found.0) found.1) }
     ensures line { IsLineStart text.now at → IfOk result (λ found. IsLineStart text.now found.1) }

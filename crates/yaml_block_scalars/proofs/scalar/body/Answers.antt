@@ -37,7 +37,7 @@ returns-clause-found c =
     (λ found h. record {
       above = h.above;
       boundary = h.boundary;
-      means = body_there header.digit c.least_indent.result c.is_folded.result (chomping_of header.chomping) c.in_ok-indent.indent text c.args.at c.in_ok-indent.ensures.found (cow_str_bytes found.0) found.1 c.requires.digit h;
+      means = body_there header.digit c.least_indent.result c.is_folded.result (chomping_of header.chomping) c.in_ok-indent.indent text c.args.at c.in_ok-indent.ensures.found (cow_str_bytes found.0) found.1 h;
     })
     c.lines.ensures.found))
 
