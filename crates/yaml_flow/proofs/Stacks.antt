@@ -39,6 +39,10 @@ inside_widens inner e = refl
 inside_widens block_key e = absurd (let h : flow_key ≡ block_key = e in cc)
 inside_widens flow_key e = refl
 
+-- the collection that is read, before these events
+abbrev pub outermost : ℕ → FlowContext → List ℕ → ℕ → EventList → Collection
+outermost n c text at kept = record { reads = flow_node_at n c (line_starts text at) (rest text at); start = at; kept = kept }
+
 -- ---- the events at the start
 
 -- the list is the other and more
@@ -85,11 +89,6 @@ module _ (n : ℕ) (d : FlowContext) (text : List ℕ) where
   stack_none whole (c ∷ cs) opens w s e =
       stack_none whole cs s.0 c s.4
       (s.3.waits.reads ∙ ap (λ r. on r (λ f t. plug n d s.3.waits.frame f t)) (sym s.3.node ∙ e))
-
-  -- the whole is none where the inner collection is
-  pub refused_whole : (whole : Collection) (opens : List Open) (top : Open) (next : Next) (events : EventList) (w : Waits n d text whole opens top next events)
-      → w.inner.reads ≡ None → whole.reads ≡ None
-  refused_whole whole opens top next events w e = stack_none whole w.around opens w.inner w.stack e
 
   -- ---- a bracket that is closed
 
@@ -191,30 +190,52 @@ pub record Reading (n : ℕ) (d : FlowContext) (text : List ℕ) (from : ℕ) (w
   pub within : line ≤ place_of next
   pub starts : All (Started text line (place_of next)) opens
 
-module _ (n : ℕ) (d : FlowContext) (text : List ℕ) (from : ℕ) (whole : Collection) where
-  -- a step of the loop
-  pub turn : (opens more : List Open) (top top' : Open) (here next : Next) (events new : EventList) (line line' : ℕ)
-      → (Waits n d text whole opens top here events → Waits n d text whole more top' next new) → (All (Started text line (place_of here)) opens → All (Started text line (place_of here)) more)
-      → Onward text (place_of here) next → LineMoves text line (place_of here) line' (place_of next)
-      → Reading n d text from whole opens top here events line → Reading n d text from whole more top' next new line'
-  turn opens more top top' here next events new line line' w s o m r = record {
-    waits = w r.waits;
-    onward = onward_from text (from + 1) (place_of here) next r.onward.above o;
-    within = m.within r.within;
-    starts = starts_move text line (place_of here) line' (place_of next) more o.above m (s r.starts);
-  }
-
-  -- a step of the innermost bracket
-  pub step : (opens : List Open) (top top' : Open) (here next : Next) (events new : EventList) → ((w : Collection) → Stands n d text w top here events → Stands n d text w top' next new)
-      → Waits n d text whole opens top here events → Waits n d text whole opens top' next new
-  step opens top top' here next events new h w = record { inner = w.inner; around = w.around; stack = w.stack; stands = h w.inner w.stands }
-
+module _ {n : ℕ} {d : FlowContext} {text : List ℕ} {from : ℕ} {whole : Collection} {opens : List Open} {top : Open} {next : Next} {events : EventList} {line : ℕ}
+    (r : Reading n d text from whole opens top next events line) where
   -- the state before the next step
-  pub at_next : (opens : List Open) (top : Open) (next here : Next) (events : EventList) (line : ℕ) → next ≡ here → Reading n d text from whole opens top next events line
-      → Reading n d text from whole opens top here events line
-  at_next opens top next here events line e r = subst (λ x. Reading n d text from whole opens top x events line) e r
+  pub before : (here : Next) → next ≡ here → Reading n d text from whole opens top here events line
+  before here e = subst (λ x. Reading n d text from whole opens top x events line) e r
+
+  -- a step that goes on
+  pub turned : (here : Next) → next ≡ here → {more : List Open} {top' : Open} {to : Next} {new : EventList} {line' : ℕ}
+      → (Waits n d text whole opens top here events → Waits n d text whole more top' to new) → (All (Started text line (place_of here)) opens → All (Started text line (place_of here)) more)
+      → Onward text (place_of here) to → LineMoves text line (place_of here) line' (place_of to) → Reading n d text from whole more top' to new line'
+  turned here e {more} {top'} {to} {new} {line'} w s o m =
+      let b : Reading n d text from whole opens top here events line = before here e in
+      record {
+        waits = w b.waits;
+        onward = onward_from text (from + 1) (place_of here) to b.onward.above o;
+        within = m.within b.within;
+        starts = starts_move text line (place_of here) line' (place_of to) more o.above m (s b.starts);
+      }
+
+  -- a step of the innermost bracket alone
+  pub stepped : (here : Next) → next ≡ here → {top' : Open} {to : Next} {new : EventList} {line' : ℕ}
+      → ((w : Collection) → Stands n d text w top here events → Stands n d text w top' to new) → Onward text (place_of here) to
+      → LineMoves text line (place_of here) line' (place_of to) → Reading n d text from whole opens top' to new line'
+  stepped here e h o m =
+      turned here e (λ w. record { inner = w.inner; around = w.around; stack = w.stack; stands = h w.inner w.stands })
+      (λ s. s) o m
 
   -- a step that refuses shows that there is no node
-  pub refused : (opens : List Open) (top : Open) (here : Next) (events : EventList) (line : ℕ) → ((w : Collection) → Stands n d text w top here events → w.reads ≡ None)
-      → Reading n d text from whole opens top here events line → whole.reads ≡ None
-  refused opens top here events line h r = refused_whole n d text whole opens top here events r.waits (h r.waits.inner r.waits.stands)
+  pub refused : (here : Next) → next ≡ here → ((w : Collection) → Stands n d text w top here events → w.reads ≡ None) → whole.reads ≡ None
+  refused here e h =
+      let w : Waits n d text whole opens top here events = (before here e).waits in
+      stack_none n d text whole w.around opens w.inner w.stack (h w.inner w.stands)
+
+  -- a step keeps the events before the whole collection
+  pub kept_once : (new : EventList) (k : ℕ) → Kept k events new → Kept k whole.kept new
+  kept_once new k h = prefix_stays n d text whole opens top next events new k r.waits h
+
+  -- as many as there are
+  pub kept_on : (new : EventList) → ((k : ℕ) → Kept k events new) → (k : ℕ) → Kept k whole.kept new
+  kept_on new h k = kept_once new k (h k)
+
+  -- the innermost bracket is closed, and the one around it goes on
+  pub closed : (prefix : List Open) (frame : Open) (end : ℕ) → next ≡ Closed end → opens ≡ prefix ++ frame ∷ [] → Popped n d text whole prefix frame end events
+  closed prefix frame end e p = popped n d text whole opens prefix top frame next end events r.waits e p
+
+  -- how the frames of the brackets that stay open, and of the one that goes on, started
+  pub started : (prefix : List Open) (frame : Open) → opens ≡ prefix ++ frame ∷ []
+      → All (Started text line (place_of next)) prefix × Started text line (place_of next) frame
+  started prefix frame p = starts_pop text line (place_of next) opens prefix frame p r.starts
