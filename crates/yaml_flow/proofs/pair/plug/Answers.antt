@@ -6,7 +6,7 @@ use Rattle.yaml_recognizers.specs.Ends.{is_colon}
 use Rattle.yaml_scan.specs.Gaps.{NoGap}
 use Rattle.yaml_scan.proofs.Outcomes.{fault_passed, faults_so, ok_so}
 use Rattle.yaml_flow.specs.declared.collection.Part.TheVariants.{Value}
-use Rattle.yaml_flow.specs.Frames.{NoPair, SameLine, Stands, ends_plain}
+use Rattle.yaml_flow.specs.Frames.{AtColon, Collection, NodeRead, NoPair, SameLine, Stands, ends_plain}
 use Rattle.yaml_flow.proofs.ColonSteps.{colon_read, colon_refused, node_dead}
 use Rattle.yaml_flow.proofs.NodeSteps.{entry_alone, not_value, the_value, value_read}
 use Rattle.yaml_flow.proofs.Results.{ok_two}
@@ -62,32 +62,23 @@ returns-in_err-begin_pair-clause-none c =
     (inside_widens d c.requires.inside) c.in_ok-after.ensures.found sign same stop here) c.in_err-begin_pair.ensures.none
     (err_from_is_err_and c.from_residual-in_err-begin_pair.result c.from_residual-in_err-begin_pair.ensures.1)
 
-pub returns-clause-stands : goal.returns-clause-stands
-returns-clause-stands c =
-    let n = c.args.setting.n in
-    let d = context_of c.args.setting.context in
+-- with its key read, the pair is at its `:`
+pair_begun : (c : goal.After-value) → (w : Collection)
+    → NodeRead c.args.setting.n (context_of c.args.setting.context) c.args.text.now w c.args.top.now c.args.node_end c.args.end c.args.events.now
+    → AtColon c.args.setting.n (context_of c.args.setting.context) c.args.text.now w c.args.top.now.in_seq c.args.node_end c.in_ok-after.after c.begin_pair.new.events
+pair_begun c =
     let text = c.args.text.now in
     let top = c.args.top.now in
     let colon = c.in_ok-after.after in
     let line = c.pass_gap.new.line in
     let p : top.part ≡ Value → ⊥ = not_value top.part (sym c.is_value.ensures ∙ c.if-is_value.false) in
-    let sign : is_colon d (ends_plain c.args.node_end) (rest text colon) ≡ true = sym c.colon_at.ensures ∙ c.if-not-colon_at.false in
+    let sign : is_colon (context_of c.args.setting.context) (ends_plain c.args.node_end) (rest text colon) ≡ true = sym c.colon_at.ensures ∙ c.if-not-colon_at.false in
     let same : SameLine text line top.start colon = c.in_ok-after.ensures.line.tells top.start c.requires.start c.requires.order c.requires.line in
-    ok_so c.value.result _ _
-    (λ next h. λ w here. h w (colon_read n d text w top c.args.node_end line c.args.end colon c.args.events.now c.begin_pair.new.events c.utf8.text c.requires.start c.requires.end c.requires.order
-    (inside_widens d c.requires.inside) p c.in_ok-after.ensures.found sign same c.in_ok-begin_pair.ensures.begun here)) c.value.ensures.stands
+    λ w. colon_read c.args.setting.n (context_of c.args.setting.context) text w top c.args.node_end line c.args.end colon c.args.events.now c.begin_pair.new.events c.utf8.text c.requires.start c.requires.end c.requires.order
+    (inside_widens (context_of c.args.setting.context) c.requires.inside) p c.in_ok-after.ensures.found sign same c.in_ok-begin_pair.ensures.begun
+
+pub returns-clause-stands : goal.returns-clause-stands
+returns-clause-stands c = ok_so c.value.result _ _ (λ next h w here. h w (pair_begun c w here)) c.value.ensures.stands
 
 pub returns-clause-none : goal.returns-clause-none
-returns-clause-none c =
-    let n = c.args.setting.n in
-    let d = context_of c.args.setting.context in
-    let text = c.args.text.now in
-    let top = c.args.top.now in
-    let colon = c.in_ok-after.after in
-    let line = c.pass_gap.new.line in
-    let p : top.part ≡ Value → ⊥ = not_value top.part (sym c.is_value.ensures ∙ c.if-is_value.false) in
-    let sign : is_colon d (ends_plain c.args.node_end) (rest text colon) ≡ true = sym c.colon_at.ensures ∙ c.if-not-colon_at.false in
-    let same : SameLine text line top.start colon = c.in_ok-after.ensures.line.tells top.start c.requires.start c.requires.order c.requires.line in
-    faults_so c.value.result _ _
-    (λ h. λ w here. h w (colon_read n d text w top c.args.node_end line c.args.end colon c.args.events.now c.begin_pair.new.events c.utf8.text c.requires.start c.requires.end c.requires.order
-    (inside_widens d c.requires.inside) p c.in_ok-after.ensures.found sign same c.in_ok-begin_pair.ensures.begun here)) c.value.ensures.none
+returns-clause-none c = faults_so c.value.result _ _ (λ h w here. h w (pair_begun c w here)) c.value.ensures.none
