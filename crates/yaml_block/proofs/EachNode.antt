@@ -1,18 +1,14 @@
 -- What is read is each block node that is there.
-use Rattle.std.proofs.Common.{◌≡◌, refl, sym, ◌∙◌, ap, subst, ℕ, inl, inr}
+use Rattle.std.proofs.Common.{◌≡◌, sym, ◌∙◌, ap, ℕ, inl, inr}
 use Rattle.std.specs.Prelude.{Bool, List, ◌++◌, ◌⊎◌}
 use Rattle.std.proofs.lemmas.List.{map-append}
 use Rattle.yaml_chars.specs.Places.{rest}
-use Rattle.yaml_grammar.specs.Events as grammar
 use Rattle.yaml_grammar.specs.BlockNodes.{Node, node_events}
-use Rattle.yaml_recognizers.specs.Recognizers.{block_node_at}
-use Rattle.yaml_recognizers.specs.StandingNodes.{BlockNodeStands}
 use Rattle.yaml_recognizers.proofs.Basics.Reading.{some_parts}
 use Rattle.yaml_recognizers.proofs.Meanings.StandingNodes.{block_found}
 use Rattle.yaml_events.specs.Meant.{event_of, events_of}
 use Rattle.yaml_events.specs.EventPlaces.{line_starts}
 use Rattle.yaml_events.specs.declared.event.Event.{Event}
-use Rattle.yaml_flow.specs.FlowNodes.{Appended}
 use Rattle.yaml_block.specs.Found.{BlockNodeRead, IsEachBlockNode}
 
 -- a node that is read is each node there

@@ -1,10 +1,9 @@
 -- The loop over what is read next, and the whole node.
-use Rattle.std.proofs.Common.{◌≡◌, refl, sym, ◌∙◌, ap, subst, arith, ℕ, ◌≤◌, length}
-use Rattle.std.specs.Prelude.{Bool, List, [], ◌∷◌, Option, Some, None}
-use Rattle.std.specs.Str.{IsCharBoundary}
+use Rattle.std.proofs.Common.{◌≡◌, refl, subst, ℕ, ◌≤◌}
+use Rattle.std.specs.Prelude.{Bool, List, [], Option, Some, None}
 use Rattle.yaml_chars.specs.Places.{rest}
 use Rattle.yaml_grammar.specs.Events as grammar
-use Rattle.yaml_grammar.specs.BlockNodes.{Node, Indented, node_events}
+use Rattle.yaml_grammar.specs.BlockNodes.{Node, Indented}
 use Rattle.yaml_recognizers.specs.Reading.{Read}
 use Rattle.yaml_recognizers.specs.Recognizers.{block_node_at}
 use Rattle.yaml_events.specs.EventPlaces.{line_starts}
@@ -12,8 +11,7 @@ use Rattle.yaml_events.specs.declared.event.Event.{Event}
 use Rattle.yaml_block.specs.BlockParts.{as_part}
 use Rattle.yaml_flow.specs.FlowNodes.{Appended}
 use Rattle.yaml_block.specs.Found.{BlockNodeRead}
-use Rattle.yaml_block.specs.Frames.{AtLine}
-use Rattle.yaml_block.specs.States.{Before, BeforeNode, BeforePair, BeforePart, Fails, GoesOn, Holds, IsLine, Leads}
+use Rattle.yaml_block.specs.States.{BeforeNode, BeforePair, BeforePart, Fails, GoesOn, Holds, IsLine, Leads}
 use Rattle.yaml_block.specs.Turns.{IsPart, Unwinds}
 use Rattle.yaml_block.specs.declared.frame.Next.{Next}
 use Rattle.yaml_block.specs.declared.frame.Next.TheVariants as next

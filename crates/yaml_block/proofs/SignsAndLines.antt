@@ -1,10 +1,10 @@
 -- The part after a sign, and a node at the start of a line: what each step of the code leads to.
 use Rattle.std.proofs.Common.{◌≡◌, refl, sym, ◌∙◌, ap, subst, arith, ℕ, ◌+◌, ◌-◌, ◌*◌, ◌<◌, ◌≤◌, length, Ok, Err, inl, inr, add-one}
-use Rattle.std.specs.Prelude.{Bool, true, false, not, suc, ◌&&◌, ◌||◌, ◌==◌, ◌⊎◌, List, [], ◌∷◌, ◌++◌, Option, Some, None, Result, IfOk, OnOk, nat_le, if◌then◌else◌, slice_index}
+use Rattle.std.specs.Prelude.{Bool, true, false, not, suc, ◌&&◌, ◌||◌, ◌⊎◌, List, [], ◌∷◌, ◌++◌, Option, Some, None, Result, IfErr, IfOk, OnOk, nat_le, if◌then◌else◌, slice_index}
 use Rattle.std.specs.Str.{IsUtf8, IsCharBoundary}
 use Rattle.std.proofs.lemmas.Bool.{cases_lt, false≢true, cases_Bool, and_left, and_right}
 use Rattle.std.proofs.lemmas.Bool.Decides.{nat_tests}
-use Rattle.yaml_chars.specs.Classes.{white, line_break}
+use Rattle.yaml_chars.specs.Classes.{white}
 use Rattle.yaml_chars.specs.Places.{rest, IsRun}
 use Rattle.yaml_grammar.specs.BlockScalars.{past_spaces, spaces_before}
 use Rattle.yaml_grammar.specs.Events as grammar
@@ -20,10 +20,10 @@ use Rattle.yaml_recognizers.proofs.Separation.CommentsDepth.{comments_step}
 use Rattle.yaml_recognizers.proofs.Meanings.Steps.{node_steps}
 use Rattle.yaml_chars.proofs.Places.{rest-end}
 use Rattle.yaml_recognizers.specs.Ends.{block_node_stops}
-use Rattle.yaml_recognizers.specs.Prefixes.{drop_while, past, sign, take_while}
+use Rattle.yaml_recognizers.specs.Prefixes.{drop_while, sign, take_while}
 use Rattle.yaml_recognizers.specs.Reading.{Read, on}
 use Rattle.yaml_grammar.specs.BlockNodes.{Indented}
-use Rattle.yaml_recognizers.specs.BlockFrames.{Sits, on_sign_line, BlockFrame, waits_item, waits_key, waits_value, unwind}
+use Rattle.yaml_recognizers.specs.BlockFrames.{Sits, on_sign_line, BlockFrame, waits_item, waits_key, unwind}
 use Rattle.yaml_events.specs.Borrowed.{BorrowsPlain}
 use Rattle.yaml_events.specs.Meant.{event_of}
 use Rattle.yaml_events.specs.EventPlaces.{line_starts}
@@ -31,28 +31,25 @@ use Rattle.yaml_events.specs.declared.context.BlockContext.{BlockContext}
 use Rattle.yaml_events.specs.declared.event.Event.{Event}
 use Rattle.yaml_events.specs.declared.event.Event.TheVariants.{SeqStart, MapStart}
 use Rattle.yaml_events.specs.declared.fault.ScanFault.{ScanFault}
+use Rattle.yaml_scan.proofs.Outcomes.{faults_so, ok_so}
 use Rattle.yaml_scan.specs.ScanPlaces.{AreSpaces, AreTaken}
-use Rattle.yaml_scan.specs.Lines.{IsLineEnd, IsLineStart, IsSolidLine}
+use Rattle.yaml_scan.specs.Lines.{IsLineEnd, IsSolidLine}
 use Rattle.yaml_scan.specs.declared.lines.Line.{Line}
 use Rattle.yaml_block.specs.BlockParts.{as_part}
-use Rattle.yaml_flow.specs.FlowNodes.{Appended}
-use Rattle.yaml_block.specs.Frames.{AfterSign, AtLeaf, AtLine, AtNodeLine, AtNode, is_colon, waits_of, indent_of}
+use Rattle.yaml_block.specs.Frames.{AfterSign, AtLeaf, AtLine, AtNodeLine, AtNode, is_colon, waits_of}
 use Rattle.yaml_block.specs.Frames.{is_shallow as is_shallow_after}
-use Rattle.yaml_block.specs.States.{Before, BeforePart, BeforeLeaf, BeforeNodeLine, BeforeNode, Leads, Fails, Holds, Stack, Keeps, GoesOn, IsLine, IsNextLine, IsAfterSign, Onward, is_shallow}
-use Rattle.yaml_block.specs.declared.frame.Collection.{Collection}
+use Rattle.yaml_block.specs.States.{Before, BeforePart, BeforeLeaf, BeforeNodeLine, BeforeNode, Leads, Fails, FailsBy, Holds, Stack, GoesOn, IsLine, IsAfterSign, Onward, is_shallow}
 use Rattle.yaml_block.specs.declared.frame.Indentation.{Indentation}
 use Rattle.yaml_block.specs.declared.frame.Leaf.{Leaf}
-use Rattle.yaml_block.specs.declared.frame.NextLine.{NextLine}
 use Rattle.yaml_block.specs.declared.frame.Next.{Next}
 use Rattle.yaml_block.specs.declared.frame.Next.TheVariants as next
 use Rattle.yaml_block.specs.declared.frame.Sign.{Sign}
-use Rattle.yaml_block.specs.declared.frame.Sign.TheVariants.{Dash, Asked, Colon}
-use Rattle.yaml_block.specs.declared.frame.Waits.{Waits}
-use Rattle.yaml_block.specs.declared.frame.Waits.TheVariants.{Item, Key, Value}
+use Rattle.yaml_block.specs.declared.frame.Sign.TheVariants.{Dash, Asked}
+use Rattle.yaml_block.specs.declared.frame.Waits.TheVariants.{Item, Key}
 use Rattle.yaml_block.specs.declared.reader.Reader.{Reader}
 use Rattle.yaml_block.proofs.Stacks.{appended_one, opened}
-use Rattle.yaml_block.proofs.PlaceSteps.{WhiteTo, white_to, comments_to, no_tab, tab}
-use Rattle.yaml_block.proofs.TextPlaces.{IsPastSign, past_sign, white_spelled}
+use Rattle.yaml_block.proofs.PlaceSteps.{WhiteTo, white_to, comments_to}
+use Rattle.yaml_block.proofs.TextPlaces.{IsPastSign, white_spelled}
 use Rattle.yaml_block.proofs.BlockLeaves.{no_leaf_unsolid}
 use Rattle.yaml_block.proofs.BlockLines.{no_comments}
 use Rattle.yaml_block.proofs.BlockSigns.{no_pair_there, white_after_spaces}
@@ -63,19 +60,24 @@ use Rattle.yaml_block.proofs.NodeSteps.{line_leaf, line_leaf_after_tab, line_lea
 
 -- ---- what a callee leads to, from another state
 
--- a step that leads on from a state leads on from an equal one
-pub leads_so : (text : List ℕ) (A B : Before) (old new : Reader) (to : Next)
-    → ((W : Read Indented) (from : ℕ) (fs : List BlockFrame) (evs : List grammar.Event) → B W from fs evs
-    → A W from fs evs)
-    → Leads text A old new to → Leads text B old new to
-leads_so text A B old new to f l W from base fs evs h b = l W from base fs evs h (f W from fs evs b)
+-- whatever the call reads, the one state is the other
+abbrev pub Becomes : Before → Before → Type 0
+Becomes A B = (W : Read Indented) (from : ℕ) (fs : List BlockFrame) (evs : List grammar.Event) → A W from fs evs
+    → B W from fs evs
 
--- a step that fails from a state fails from an equal one
-pub fails_so : (text : List ℕ) (A B : Before) (old : Reader)
-    → ((W : Read Indented) (from : ℕ) (fs : List BlockFrame) (evs : List grammar.Event) → B W from fs evs
-    → A W from fs evs)
-    → Fails text A old → Fails text B old
-fails_so text A B old f l W from base fs evs h b = l W from base fs evs h (f W from fs evs b)
+-- a step that leads on from a state leads on from one that is the same
+pub leads_so : (text : List ℕ) (r : Result Next ScanFault) (A B : Before) (old new : Reader) → Becomes B A
+    → IfOk r (Leads text A old new) → IfOk r (Leads text B old new)
+leads_so text r A B old new f h =
+    ok_so r (Leads text A old new) (Leads text B old new)
+    (λ to l W from base fs evs held b. l W from base fs evs held (f W from fs evs b)) h
+
+-- a step that fails from a state fails from one that is the same
+pub fails_so : (text : List ℕ) (r : Result Next ScanFault) (A B : Before) (old : Reader) → Becomes B A
+    → IfErr r (FailsBy text A old) → IfErr r (FailsBy text B old)
+fails_so text r A B old f h =
+    faults_so r (Fails text A old) (Fails text B old)
+    (λ l W from base fs evs held b. l W from base fs evs held (f W from fs evs b)) h
 
 -- a result that is Ok leads on
 pub ok_opens : {E : Type 0} (r : Result Next E) (to : Next) (A B : Type 0) (P : Next → Type 0)

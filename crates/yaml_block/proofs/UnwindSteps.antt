@@ -1,24 +1,22 @@
 -- The steps of `unwind`: a collection goes on at the line after its part, or it ends.
-use Rattle.std.proofs.Common.{◌≡◌, refl, sym, ◌∙◌, ap, subst, arith, ℕ, ◌+◌, ◌-◌, ◌*◌, ◌<◌, ◌≤◌, length, inl, inr, eq-eqb}
+use Rattle.std.proofs.Common.{◌≡◌, refl, sym, ◌∙◌, ap, subst, arith, ℕ, ◌+◌, ◌-◌, ◌*◌, ◌<◌, ◌≤◌, length, eq-eqb}
 use Rattle.std.specs.Prelude.{Bool, true, false, not, ◌&&◌, ◌||◌, ◌==◌, List, [], ◌∷◌, ◌++◌, Option, Some, None}
 use Rattle.std.specs.Str.{IsUtf8, IsCharBoundary}
 use Rattle.std.proofs.lemmas.Bool.{and_parts, and_left, and_right, ne_eqb, eqb-true, false≢true, or_right}
-use Rattle.std.specs.Prelude.{◌⊎◌}
 use Rattle.yaml_chars.proofs.Places.{rest-end, char_at}
 use Rattle.yaml_grammar.specs.Texts.{is_empty, marker}
 use Rattle.yaml_recognizers.specs.CanonicalComments.{is_line_end}
-use Rattle.yaml_block.specs.States.{IsPairPlace}
 use Rattle.yaml_block.proofs.LineTests.{stops_all, pair_test}
 use Rattle.yaml_block.proofs.TextPlaces.{pair_starts}
 use Rattle.yaml_chars.specs.Classes.{line_break}
 use Rattle.yaml_chars.specs.Places.{rest}
 use Rattle.yaml_grammar.specs.BlockScalars.{past_spaces, spaces_before}
 use Rattle.yaml_grammar.specs.Events as grammar
-use Rattle.yaml_grammar.specs.BlockNodes.{Indented, Pair}
+use Rattle.yaml_grammar.specs.BlockNodes.{Indented}
 use Rattle.yaml_recognizers.specs.Ends.{block_node_stops}
-use Rattle.yaml_recognizers.specs.Prefixes.{past, sign}
+use Rattle.yaml_recognizers.specs.Prefixes.{sign}
 use Rattle.yaml_recognizers.specs.Reading.{Read}
-use Rattle.yaml_recognizers.specs.BlockFrames.{Sits, BlockFrame, waits_item, waits_key, waits_value, PairKey, key_asked}
+use Rattle.yaml_recognizers.specs.BlockFrames.{BlockFrame, waits_item, waits_key, waits_value, key_asked}
 use Rattle.yaml_events.specs.Meant.{event_of}
 use Rattle.yaml_events.specs.EventPlaces.{line_starts}
 use Rattle.yaml_events.specs.Borrowed.{BorrowsPlain}
@@ -26,15 +24,15 @@ use Rattle.yaml_events.specs.declared.event.Event.{Event}
 use Rattle.yaml_events.specs.declared.event.Event.TheVariants.{SeqEnd, MapEnd}
 use Rattle.yaml_scan.specs.declared.lines.Line.{Line}
 use Rattle.yaml_flow.specs.FlowNodes.{Appended}
-use Rattle.yaml_block.specs.Frames.{AfterSign, AtLine, AtPair, AfterPair, waits_of, indent_of}
-use Rattle.yaml_block.specs.States.{Holds, Stack, Keeps, GoesOn, IsLine, IsNextLine, IsAfterSign, Onward}
+use Rattle.yaml_block.specs.Frames.{AfterSign, AtLine, AfterPair, waits_of, indent_of}
+use Rattle.yaml_block.specs.States.{Holds, Stack, GoesOn, IsLine, Onward}
 use Rattle.yaml_block.specs.Turns.{IsPart, ItemRead, KeyRead, PairRead, PartRead, Turns, StillPart, Unwound}
 use Rattle.yaml_block.specs.declared.frame.Next.{Next}
 use Rattle.yaml_block.specs.declared.frame.Collection.{Collection}
 use Rattle.yaml_block.specs.declared.frame.NextLine.{NextLine}
 use Rattle.yaml_block.specs.declared.frame.Next.TheVariants as next
 use Rattle.yaml_block.specs.declared.frame.Sign.{Sign}
-use Rattle.yaml_block.specs.declared.frame.Sign.TheVariants.{Dash, Asked, Colon}
+use Rattle.yaml_block.specs.declared.frame.Sign.TheVariants.{Dash, Asked}
 use Rattle.yaml_block.specs.declared.frame.Waits.{Waits}
 use Rattle.yaml_block.specs.declared.frame.Waits.TheVariants.{Item, Key, Value}
 use Rattle.yaml_block.specs.declared.reader.Reader.{Reader}

@@ -1,6 +1,5 @@
-use Rattle.std.proofs.Common.{◌≡◌, sym, ◌∙◌, arith, ℕ, ◌<◌, length}
+use Rattle.std.proofs.Common.{sym, ◌∙◌, arith, ◌<◌, length}
 use Rattle.yaml_chars.specs.Places.{rest}
-use Rattle.yaml_grammar.specs.BlockScalars.{spaces_before}
 use Rattle.yaml_recognizers.specs.Ends.{block_node_stops}
 use Rattle.std.specs.Prelude.{not, false}
 use Rattle.yaml_block.proofs.UnwindSteps.{not_as_deep, no_pair_at_line_end, no_pair_at_end, pair_by_marker, filled_there}

@@ -1,5 +1,4 @@
-use Rattle.std.proofs.Common.{◌≡◌, refl, sym, ◌∙◌, ap, subst, arith, ℕ, ◌+◌, ◌<◌, ◌≤◌, length}
-use Rattle.std.specs.Prelude.{true, false, List}
+use Rattle.std.proofs.Common.{refl, sym, ◌∙◌, arith}
 use Rattle.yaml_block.proofs.UnwindSteps.{sign_here, sign_onward, item_next, item_ends}
 use Rattle.yaml_block.specs.declared.frame.Sign.TheVariants.{Dash}
 use Rattle.yaml_block.proofs.reader.Reader.after_item.Goals as goal

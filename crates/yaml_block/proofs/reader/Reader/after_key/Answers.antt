@@ -1,5 +1,5 @@
-use Rattle.std.proofs.Common.{◌≡◌, refl, sym, ◌∙◌, ap, subst, arith, ℕ, ◌+◌, ◌<◌, ◌≤◌, length}
-use Rattle.std.specs.Prelude.{true, false, List, ◌++◌}
+use Rattle.std.proofs.Common.{refl, sym, ◌∙◌, subst, arith}
+use Rattle.std.specs.Prelude.{◌++◌}
 use Rattle.yaml_grammar.specs.Events.{omitted_at}
 use Rattle.yaml_scan.proofs.Outcomes.{ok_so}
 use Rattle.yaml_block.specs.Frames.{AfterPair}

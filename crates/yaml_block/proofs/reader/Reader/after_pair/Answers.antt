@@ -1,5 +1,4 @@
-use Rattle.std.proofs.Common.{◌≡◌, refl, sym, ◌∙◌, ap, subst, arith, ℕ, ◌+◌, ◌<◌, ◌≤◌, length}
-use Rattle.std.specs.Prelude.{true, false, List}
+use Rattle.std.proofs.Common.{sym, ◌∙◌}
 use Rattle.yaml_block.proofs.UnwindSteps.{pair_here, pair_onward, pair_next, pair_ends}
 use Rattle.yaml_block.proofs.reader.Reader.after_pair.Goals as goal
 

@@ -1,5 +1,3 @@
-use Rattle.std.proofs.Common.{◌≡◌, refl, sym, ◌∙◌, ap, subst, arith, ℕ, ◌+◌, ◌<◌, ◌≤◌, length}
-use Rattle.std.specs.Prelude.{true, false, List}
 use Rattle.yaml_scan.proofs.Outcomes.{ok_so}
 use Rattle.yaml_block.proofs.UnwindSteps.{item_of, key_of, pair_of}
 use Rattle.yaml_block.proofs.reader.Reader.after_part.Goals as goal

@@ -1,16 +1,10 @@
-use Rattle.std.proofs.Common.{◌≡◌, refl, sym, ◌∙◌, ap, subst, arith, ℕ, ◌+◌, ◌-◌, ◌*◌, ◌<◌, ◌≤◌, length, inl, inr}
-use Rattle.std.specs.Prelude.{Option, IfSome, true, false, not, suc, ◌&&◌, ◌⊎◌, List, Some, None, if◌then◌else◌, nat_le}
-use Rattle.std.proofs.lemmas.Bool.{and_parts, not_from_true, not_from_false}
-use Rattle.yaml_chars.specs.Places.{rest}
-use Rattle.yaml_recognizers.specs.Prefixes.{sign}
-use Rattle.yaml_scan.proofs.Outcomes.{ok_so, err_so, faults_so, refuses}
-use Rattle.yaml_block.specs.States.{Before, BeforePart, BeforeLeaf, BeforeNode, BeforeNodeLine, Onward, Leads, Fails, is_shallow}
-use Rattle.yaml_block.specs.Frames.{is_colon}
-use Rattle.yaml_block.specs.declared.frame.Leaf.{Leaf}
-use Rattle.yaml_block.specs.declared.frame.Indentation.{Indentation}
+use Rattle.std.proofs.Common.{refl, sym, ◌∙◌, subst, arith, ℕ, ◌+◌, ◌-◌, ◌*◌, ◌≤◌, length}
+use Rattle.std.specs.Prelude.{Option, IfSome}
+use Rattle.yaml_scan.proofs.Outcomes.{ok_so}
+use Rattle.yaml_block.specs.States.{BeforeLeaf, Onward, Leads}
 use Rattle.yaml_block.specs.declared.frame.Next.{Next}
 use Rattle.yaml_block.specs.declared.frame.Next.TheVariants as next
-use Rattle.yaml_block.specs.declared.frame.Sign.TheVariants.{Dash, Asked}
+use Rattle.yaml_block.specs.declared.frame.Sign.TheVariants.{Asked}
 use Rattle.yaml_block.proofs.TextPlaces.{IsPastSign, past_sign}
 use Rattle.yaml_block.proofs.SignsAndLines.{ok_opens, asked_onward, asked_first}
 use Rattle.yaml_block.proofs.reader.Reader.leaf.Goals as goal

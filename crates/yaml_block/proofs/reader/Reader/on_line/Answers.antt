@@ -1,18 +1,14 @@
-use Rattle.std.proofs.Common.{◌≡◌, refl, sym, ◌∙◌, ap, subst, arith, ℕ, ◌+◌, ◌-◌, ◌*◌, ◌<◌, ◌≤◌, length, inl, inr}
-use Rattle.std.specs.Prelude.{true, false, not, suc, ◌&&◌, ◌⊎◌, List, Some, None, if◌then◌else◌, nat_le}
-use Rattle.std.proofs.lemmas.Bool.{and_parts, not_from_true, not_from_false}
-use Rattle.yaml_chars.specs.Places.{rest}
-use Rattle.yaml_recognizers.specs.Prefixes.{sign}
-use Rattle.yaml_scan.proofs.Outcomes.{ok_so, err_so, faults_so, refuses}
-use Rattle.yaml_block.specs.States.{Before, BeforePart, BeforeLeaf, BeforeNode, BeforeNodeLine, Onward, Leads, Fails, is_shallow}
-use Rattle.yaml_block.specs.Frames.{is_colon}
+use Rattle.std.proofs.Common.{◌≡◌, refl, sym, ◌∙◌, subst, arith, ◌+◌, ◌-◌, ◌*◌, ◌≤◌, length}
+use Rattle.std.specs.Prelude.{Some, None}
+use Rattle.std.proofs.lemmas.Bool.{and_parts}
+use Rattle.yaml_scan.proofs.Outcomes.{ok_so, refuses}
+use Rattle.yaml_block.specs.States.{BeforeLeaf, BeforeNodeLine, Onward, Leads}
 use Rattle.yaml_block.specs.declared.frame.Leaf.{Leaf}
-use Rattle.yaml_block.specs.declared.frame.Indentation.{Indentation}
 use Rattle.yaml_block.specs.declared.frame.Next.{Next}
 use Rattle.yaml_block.specs.declared.frame.Next.TheVariants as next
-use Rattle.yaml_block.specs.declared.frame.Sign.TheVariants.{Dash, Asked}
+use Rattle.yaml_block.specs.declared.frame.Sign.TheVariants.{Dash}
 use Rattle.yaml_block.proofs.TextPlaces.{IsPastSign, past_sign}
-use Rattle.yaml_block.proofs.SignsAndLines.{either, ok_opens, leads_so, fails_so, dash_onward, line_sequence, line_refused, line_leaf_only, line_leaf_or_pairs}
+use Rattle.yaml_block.proofs.SignsAndLines.{either, ok_opens, Becomes, leads_so, fails_so, dash_onward, line_sequence, line_refused, line_leaf_only, line_leaf_or_pairs}
 use Rattle.yaml_block.proofs.reader.Reader.on_line.Goals as goal
 
 pub returns-then-begins_sequence-clause-onward : goal.returns-then-begins_sequence-clause-onward
@@ -48,62 +44,56 @@ returns-then-spaces-node-clause-none c =
     (line_refused c.args.text.now c.args.node c.args.line c.utf8.text c.requires.line (sym c.begins_sequence.ensures
     ∙ c.if-begins_sequence.false) c.if-spaces-node.true c.args.self.now)
 
+only_leaf : goal.After-leaf → Leaf
+only_leaf c = record { at = c.white_end-first.result; least = c.args.node.least; pairs = None }
+
+-- no pair may be on the line
+leaf_here : (c : goal.After-leaf)
+    → Becomes (BeforeNodeLine c.args.text.now c.args.node c.args.line.start) (BeforeLeaf c.args.text.now (only_leaf c))
+unfolding only_leaf
+leaf_here c =
+    line_leaf_only c.args.text.now c.args.node c.args.line c.utf8.text c.requires.line (sym c.begins_sequence.ensures
+    ∙ c.if-begins_sequence.false) c.white_end-first.result c.white_end-first.ensures.taken
+    (either c.then-spaces-node-2.either) c.if-spaces-node.false
+
 pub returns-then-spaces-node-2-clause-leads : goal.returns-then-spaces-node-2-clause-leads
+unfolding only_leaf
 returns-then-spaces-node-2-clause-leads c =
-    let text = c.args.text.now in
-    let line = c.args.line in
-    let node = c.args.node in
-    let lead = c.white_end-first.result in
-    let leaf : Leaf = record { at = lead; least = node.least; pairs = None } in
-    ok_so c.leaf.result _ _
-    (λ to. leads_so text (BeforeLeaf text leaf) (BeforeNodeLine text node line.start) c.args.self.now c.leaf.new.self
-    to
-    (line_leaf_only text node line c.utf8.text c.requires.line (sym c.begins_sequence.ensures
-    ∙ c.if-begins_sequence.false) lead c.white_end-first.ensures.taken (either c.then-spaces-node-2.either)
-    c.if-spaces-node.false))
-    c.leaf.ensures.leads
+    leads_so c.args.text.now c.leaf.result (BeforeLeaf c.args.text.now (only_leaf c)) _ c.args.self.now
+    c.leaf.new.self (leaf_here c) c.leaf.ensures.leads
 
 pub returns-then-spaces-node-2-clause-none : goal.returns-then-spaces-node-2-clause-none
+unfolding only_leaf
 returns-then-spaces-node-2-clause-none c =
-    let text = c.args.text.now in
-    let line = c.args.line in
-    let node = c.args.node in
-    let lead = c.white_end-first.result in
-    let leaf : Leaf = record { at = lead; least = node.least; pairs = None } in
-    faults_so c.leaf.result _ _
-    (fails_so text (BeforeLeaf text leaf) (BeforeNodeLine text node line.start) c.args.self.now
-    (line_leaf_only text node line c.utf8.text c.requires.line (sym c.begins_sequence.ensures
-    ∙ c.if-begins_sequence.false) lead c.white_end-first.ensures.taken (either c.then-spaces-node-2.either)
-    c.if-spaces-node.false))
+    fails_so c.args.text.now c.leaf.result (BeforeLeaf c.args.text.now (only_leaf c)) _ c.args.self.now (leaf_here c)
     c.leaf.ensures.none
 
-pub returns-clause-leads : goal.returns-clause-leads
-returns-clause-leads c =
-    let text = c.args.text.now in
+leaf_or_pairs : goal.After-leaf-2 → Leaf
+leaf_or_pairs c =
     let line = c.args.line in
-    let node = c.args.node in
+    record { at = c.white_end-first.result; least = c.args.node.least; pairs = Some (line.first - line.start) }
+
+-- a leaf or a mapping is on the line
+pairs_here : (c : goal.After-leaf-2)
+    → Becomes (BeforeNodeLine c.args.text.now c.args.node c.args.line.start)
+    (BeforeLeaf c.args.text.now (leaf_or_pairs c))
+unfolding leaf_or_pairs
+pairs_here c =
+    let line = c.args.line in
     let lead = c.white_end-first.result in
     let above : line.first ≤ lead = c.white_end-first.ensures.taken.above in
     let same : lead ≡ line.first = omega (arith, above, c.if-line-first.false) in
-    let leaf : Leaf = record { at = lead; least = node.least; pairs = Some (line.first - line.start) } in
-    ok_so c.leaf-2.result _ _
-    (λ to. leads_so text (BeforeLeaf text leaf) (BeforeNodeLine text node line.start) c.args.self.now
-    c.leaf-2.new.self to
-    (line_leaf_or_pairs text node line c.utf8.text c.requires.line (sym c.begins_sequence.ensures
-    ∙ c.if-begins_sequence.false) lead c.white_end-first.ensures.taken c.if-spaces-node-2.false same))
-    c.leaf-2.ensures.leads
+    line_leaf_or_pairs c.args.text.now c.args.node line c.utf8.text c.requires.line (sym c.begins_sequence.ensures
+    ∙ c.if-begins_sequence.false) lead c.white_end-first.ensures.taken c.if-spaces-node-2.false same
+
+pub returns-clause-leads : goal.returns-clause-leads
+unfolding leaf_or_pairs
+returns-clause-leads c =
+    leads_so c.args.text.now c.leaf-2.result (BeforeLeaf c.args.text.now (leaf_or_pairs c)) _ c.args.self.now
+    c.leaf-2.new.self (pairs_here c) c.leaf-2.ensures.leads
 
 pub returns-clause-none : goal.returns-clause-none
+unfolding leaf_or_pairs
 returns-clause-none c =
-    let text = c.args.text.now in
-    let line = c.args.line in
-    let node = c.args.node in
-    let lead = c.white_end-first.result in
-    let above : line.first ≤ lead = c.white_end-first.ensures.taken.above in
-    let same : lead ≡ line.first = omega (arith, above, c.if-line-first.false) in
-    let leaf : Leaf = record { at = lead; least = node.least; pairs = Some (line.first - line.start) } in
-    faults_so c.leaf-2.result _ _
-    (fails_so text (BeforeLeaf text leaf) (BeforeNodeLine text node line.start) c.args.self.now
-    (line_leaf_or_pairs text node line c.utf8.text c.requires.line (sym c.begins_sequence.ensures
-    ∙ c.if-begins_sequence.false) lead c.white_end-first.ensures.taken c.if-spaces-node-2.false same))
-    c.leaf-2.ensures.none
+    fails_so c.args.text.now c.leaf-2.result (BeforeLeaf c.args.text.now (leaf_or_pairs c)) _ c.args.self.now
+    (pairs_here c) c.leaf-2.ensures.none

@@ -1,21 +1,18 @@
-use Rattle.std.proofs.Common.{◌≡◌, refl, sym, ◌∙◌, ap, subst, arith, ℕ, ◌+◌, ◌-◌, ◌*◌, ◌<◌, ◌≤◌, length, inl, inr}
-use Rattle.std.specs.Prelude.{true, false, not, suc, ◌&&◌, ◌⊎◌, List, Some, None, if◌then◌else◌, nat_le}
-use Rattle.std.proofs.lemmas.Bool.{and_parts, not_from_true, not_from_false}
+use Rattle.std.proofs.Common.{◌≡◌, refl, sym, ◌∙◌, ap, subst, arith, ◌+◌, ◌-◌, ◌*◌, ◌<◌, ◌≤◌, length, inl, inr}
+use Rattle.std.specs.Prelude.{true, false, ◌⊎◌, Some, None}
 use Rattle.yaml_chars.specs.Places.{rest}
-use Rattle.yaml_recognizers.specs.Prefixes.{sign}
-use Rattle.yaml_scan.proofs.Outcomes.{ok_so, err_so, faults_so, refuses}
-use Rattle.yaml_block.specs.States.{Before, BeforePart, BeforeLeaf, BeforeNode, BeforeNodeLine, Onward, Leads, Fails, is_shallow}
+use Rattle.yaml_scan.proofs.Outcomes.{ok_so, refuses}
+use Rattle.yaml_block.specs.States.{BeforePart, BeforeLeaf, Onward, Leads}
 use Rattle.yaml_block.specs.Frames.{is_colon}
 use Rattle.yaml_block.specs.declared.frame.Leaf.{Leaf}
-use Rattle.yaml_block.specs.declared.frame.Indentation.{Indentation}
 use Rattle.yaml_block.specs.declared.frame.Next.{Next}
 use Rattle.yaml_block.specs.declared.frame.Next.TheVariants as next
-use Rattle.yaml_block.specs.declared.frame.Sign.TheVariants.{Dash, Asked}
+use Rattle.yaml_block.specs.declared.frame.Sign.TheVariants.{Dash}
 use Rattle.yaml_block.proofs.TextPlaces.{IsPastSign, past_sign}
 use Rattle.yaml_chars.specs.Classes.{white}
 use Rattle.yaml_grammar.specs.Texts.{first}
 use Rattle.yaml_grammar.specs.BlockScalars.{past_spaces}
-use Rattle.yaml_block.proofs.SignsAndLines.{ok_opens, leads_so, fails_so, onward_from, dash_onward, nothing_there, leaf_there, compact_leaf_there, compact_sequence_there, spaces_below, allowed, not_allowed}
+use Rattle.yaml_block.proofs.SignsAndLines.{ok_opens, Becomes, leads_so, fails_so, onward_from, dash_onward, nothing_there, leaf_there, compact_leaf_there, compact_sequence_there, spaces_below, allowed, not_allowed}
 use Rattle.yaml_block.proofs.PlaceSteps.{tab}
 use Rattle.yaml_block.proofs.reader.Reader.on_sign_line.Goals as goal
 use Rattle.yaml_block.proofs.reader.Reader.on_sign_line.Goals.{then-not-allows_compact-via-then-not-allows_compact, then-not-allows_compact-via-else-not-allows_compact+then-spaces_end-first}
@@ -27,8 +24,14 @@ returns-then-first-at-clause-none c =
     c.requires.goes_on c.white_end-first.result c.white_end-first.ensures.taken c.if-first-at.true
     c.args.self.now)
 
-pub returns-then-not-allows_compact-clause-leads : goal.returns-then-not-allows_compact-clause-leads
-returns-then-not-allows_compact-clause-leads c =
+-- before a leaf that is no pair
+alone : goal.After-leaf → Leaf
+alone c = record { at = c.white_end-first.result; least = c.args.indent + 1; pairs = None }
+
+leaf_alone : (c : goal.After-leaf)
+    → Becomes (BeforePart c.args.text.now c.args.sign c.args.indent c.args.at) (BeforeLeaf c.args.text.now (alone c))
+unfolding alone
+leaf_alone c =
     let text = c.args.text.now in
     let at = c.args.at in
     let lead = c.white_end-first.result in
@@ -44,36 +47,19 @@ returns-then-not-allows_compact-clause-leads c =
           ∙ tab text at w.spaces_end.result lead c.utf8.text (c.requires.placed).boundary w.spaces_end.ensures
           c.white_end-first.ensures.taken w.if-spaces_end-first.true)
     ] in
-    let leaf : Leaf = record { at = lead; least = c.args.indent + 1; pairs = None } in
-    ok_so c.leaf.result _ _
-    (λ to. leads_so text (BeforeLeaf text leaf) (BeforePart text c.args.sign c.args.indent at) c.args.self.now
-    c.leaf.new.self to
-    (leaf_there text c.args.sign c.args.indent at c.utf8.text c.requires.placed c.requires.goes_on lead
-    c.white_end-first.ensures.taken far why))
-    c.leaf.ensures.leads
+    leaf_there text c.args.sign c.args.indent at c.utf8.text c.requires.placed c.requires.goes_on lead
+    c.white_end-first.ensures.taken far why
+
+pub returns-then-not-allows_compact-clause-leads : goal.returns-then-not-allows_compact-clause-leads
+unfolding alone
+returns-then-not-allows_compact-clause-leads c =
+    leads_so c.args.text.now c.leaf.result (BeforeLeaf c.args.text.now (alone c)) _ c.args.self.now c.leaf.new.self
+    (leaf_alone c) c.leaf.ensures.leads
 
 pub returns-then-not-allows_compact-clause-none : goal.returns-then-not-allows_compact-clause-none
+unfolding alone
 returns-then-not-allows_compact-clause-none c =
-    let text = c.args.text.now in
-    let at = c.args.at in
-    let lead = c.white_end-first.result in
-    let above : at ≤ lead = c.white_end-first.ensures.taken.above in
-    let far : at < lead = omega (arith, above, c.if-first-at.false) in
-    let why : (is_colon c.args.sign ≡ true) ⊎ (first white (past_spaces (rest text at)) ≡ true) =
-    elim c.then-not-allows_compact.branch [
-      | then-not-allows_compact-via-then-not-allows_compact
-          w ↦ inl (not_allowed c.allows_compact.result (is_colon c.args.sign) c.allows_compact.ensures
-          w.if-not-allows_compact.true)
-      | then-not-allows_compact-via-else-not-allows_compact+then-spaces_end-first
-          w ↦ inr (ap (first white) (w.spaces_end.ensures).leaves
-          ∙ tab text at w.spaces_end.result lead c.utf8.text (c.requires.placed).boundary w.spaces_end.ensures
-          c.white_end-first.ensures.taken w.if-spaces_end-first.true)
-    ] in
-    let leaf : Leaf = record { at = lead; least = c.args.indent + 1; pairs = None } in
-    faults_so c.leaf.result _ _
-    (fails_so text (BeforeLeaf text leaf) (BeforePart text c.args.sign c.args.indent at) c.args.self.now
-    (leaf_there text c.args.sign c.args.indent at c.utf8.text c.requires.placed c.requires.goes_on lead
-    c.white_end-first.ensures.taken far why))
+    fails_so c.args.text.now c.leaf.result (BeforeLeaf c.args.text.now (alone c)) _ c.args.self.now (leaf_alone c)
     c.leaf.ensures.none
 
 pub returns-then-sign_at-clause-onward : goal.returns-then-sign_at-clause-onward
@@ -116,11 +102,19 @@ returns-then-sign_at-clause-leads c =
     c.white_end-first.ensures.taken c.spaces_end.result c.spaces_end.ensures same colon far
     (sym c.sign_at.ensures ∙ c.if-sign_at.true) past c.args.self.now c.open_items.new.self p e)
 
-pub returns-clause-leads : goal.returns-clause-leads
-returns-clause-leads c =
+-- before a leaf that may be the first key of a compact mapping
+compact : goal.After-leaf-2 → Leaf
+compact c =
+    let lead = c.white_end-first.result in
+    let k = c.args.indent in
+    record { at = lead; least = k + 1; pairs = Some (k + 1 + (lead - c.args.at)) }
+
+leaf_compact : (c : goal.After-leaf-2)
+    → Becomes (BeforePart c.args.text.now c.args.sign c.args.indent c.args.at) (BeforeLeaf c.args.text.now (compact c))
+unfolding compact
+leaf_compact c =
     let text = c.args.text.now in
     let at = c.args.at in
-    let k = c.args.indent in
     let lead = c.white_end-first.result in
     let above : at ≤ lead = c.white_end-first.ensures.taken.above in
     let far : at < lead = omega (arith, above, c.if-first-at.false) in
@@ -129,32 +123,18 @@ returns-clause-leads c =
     let same : c.spaces_end.result ≡ lead = omega (arith, below, c.if-spaces_end-first.false) in
     let colon : is_colon c.args.sign ≡ false = allowed c.allows_compact.result (is_colon c.args.sign)
     c.allows_compact.ensures c.if-not-allows_compact.false in
-    let leaf : Leaf = record { at = lead; least = k + 1; pairs = Some (k + 1 + (lead - at)) } in
-    ok_so c.leaf-2.result _ _
-    (λ to. leads_so text (BeforeLeaf text leaf) (BeforePart text c.args.sign k at) c.args.self.now c.leaf-2.new.self
-    to
-    (compact_leaf_there text c.args.sign k at c.utf8.text c.requires.placed c.requires.goes_on lead
+    compact_leaf_there text c.args.sign c.args.indent at c.utf8.text c.requires.placed c.requires.goes_on lead
     c.white_end-first.ensures.taken c.spaces_end.result c.spaces_end.ensures same colon far
-    (sym c.sign_at.ensures ∙ c.if-sign_at.false)))
-    c.leaf-2.ensures.leads
+    (sym c.sign_at.ensures ∙ c.if-sign_at.false)
+
+pub returns-clause-leads : goal.returns-clause-leads
+unfolding compact
+returns-clause-leads c =
+    leads_so c.args.text.now c.leaf-2.result (BeforeLeaf c.args.text.now (compact c)) _ c.args.self.now
+    c.leaf-2.new.self (leaf_compact c) c.leaf-2.ensures.leads
 
 pub returns-clause-none : goal.returns-clause-none
+unfolding compact
 returns-clause-none c =
-    let text = c.args.text.now in
-    let at = c.args.at in
-    let k = c.args.indent in
-    let lead = c.white_end-first.result in
-    let above : at ≤ lead = c.white_end-first.ensures.taken.above in
-    let far : at < lead = omega (arith, above, c.if-first-at.false) in
-    let below : c.spaces_end.result ≤ lead = spaces_below text at c.spaces_end.result lead c.spaces_end.ensures
-    c.white_end-first.ensures.run in
-    let same : c.spaces_end.result ≡ lead = omega (arith, below, c.if-spaces_end-first.false) in
-    let colon : is_colon c.args.sign ≡ false = allowed c.allows_compact.result (is_colon c.args.sign)
-    c.allows_compact.ensures c.if-not-allows_compact.false in
-    let leaf : Leaf = record { at = lead; least = k + 1; pairs = Some (k + 1 + (lead - at)) } in
-    faults_so c.leaf-2.result _ _
-    (fails_so text (BeforeLeaf text leaf) (BeforePart text c.args.sign k at) c.args.self.now
-    (compact_leaf_there text c.args.sign k at c.utf8.text c.requires.placed c.requires.goes_on lead
-    c.white_end-first.ensures.taken c.spaces_end.result c.spaces_end.ensures same colon far
-    (sym c.sign_at.ensures ∙ c.if-sign_at.false)))
+    fails_so c.args.text.now c.leaf-2.result (BeforeLeaf c.args.text.now (compact c)) _ c.args.self.now (leaf_compact c)
     c.leaf-2.ensures.none

@@ -1,6 +1,4 @@
 use Rattle.std.proofs.Common.{arith, inl, inr, refl, sym, ◌∙◌}
-use Rattle.std.specs.Prelude.{ℕ, ◌&&◌}
-use Rattle.yaml_chars.specs.Places.{rest}
 use Rattle.yaml_grammar.specs.FlowScalars.{block_key}
 use Rattle.yaml_scan.proofs.Outcomes.{refuses}
 use Rattle.yaml_flow.specs.FlowNodes.{NoFlowNodeFound}

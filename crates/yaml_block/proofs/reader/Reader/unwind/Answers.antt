@@ -1,5 +1,5 @@
-use Rattle.std.proofs.Common.{◌≡◌, refl, sym, ◌∙◌, ap, subst, arith, ℕ, ◌+◌, ◌<◌, ◌≤◌, length}
-use Rattle.std.specs.Prelude.{List, [], Some, None, Option, MatchOption}
+use Rattle.std.proofs.Common.{◌≡◌, refl, sym, ap, subst, arith, length}
+use Rattle.std.specs.Prelude.{[], Option, MatchOption}
 use Rattle.yaml_block.specs.declared.frame.Next.{Next}
 use Rattle.std.proofs.lemmas.List.{append-nil}
 use Rattle.yaml_block.proofs.Stacks.{grown_grown}
