@@ -6,7 +6,7 @@ ghost use Rattle.yaml_recognizers.specs.Prefixes as prefixes;
 ghost use Rattle.yaml_recognizers.specs.Ends.{block_node_stops};
 ghost use Rattle.yaml_events.specs.EventPlaces.{Refuses};
 ghost use Rattle.yaml_block.specs.States.{Grown, IsLine, IsNextLine};
-ghost use Rattle.yaml_block.specs.Turns.{MayGoOn, EndsAlone, Unwinds, Turns, ItemRead, KeyRead, PairRead, PartRead};
+ghost use Rattle.yaml_block.specs.Turns.{MayGoOn, Unwinds, IsTurn, PairRead, PartRead};
 
 use crate::frame::{Collection, Next, NextLine, Sign, Waits};
 use crate::reader::Reader;
@@ -32,7 +32,8 @@ impl<'a> Reader<'a> {
         Ok(None)
     }
 
-    /// Returns what is read next in this collection, whose part has been read, or closes it and returns None.
+    /// Returns what is read next in this collection, whose part has been read: its next item, the value of its key, or
+    /// its next pair. Where it has none, closes it and returns None.
     fn after_part(
         &mut self,
         text: &str,
@@ -40,71 +41,39 @@ impl<'a> Reader<'a> {
         collection: Collection,
     ) -> Result<Option<Next>, ScanFault>
         requires line { IsNextLine text.now after }
-        ensures onward { IfOk result (MayGoOn text.now after.line.start) }
-        ensures turns { IfOk result (Turns (PartRead collection) text.now after self.old self.new) }
-        ensures ended { IfOk result (EndsAlone self.old self.new) }
+        ensures turn { IfOk result (IsTurn (PartRead collection) text.now after self.old self.new) }
         ensures grown { Grown self.old.events self.new.events }
         ensures none { IfErr result (λ fault. Refuses fault ⊥) }
     {
+        let line = after.line;
+        let indent = collection.indent;
         match collection.waits {
-            Waits::Item => self.after_item(text, after, collection.indent),
-            Waits::Key => self.after_key(text, after, collection.indent),
-            Waits::Value => self.after_pair(text, after, collection.indent),
+            Waits::Item => {
+                if goes_on_with(text, line, indent, b'-') {
+                    self.wait(Waits::Item, indent)?;
+                    return Ok(Some(Next::After {
+                        at: line.first + 1,
+                        indent,
+                        sign: Sign::Dash,
+                    }));
+                }
+                self.put(Event::SeqEnd)?;
+                Ok(None)
+            }
+            Waits::Key => {
+                if goes_on_with(text, line, indent, b':') {
+                    self.wait(Waits::Value, indent)?;
+                    return Ok(Some(Next::After {
+                        at: line.first + 1,
+                        indent,
+                        sign: Sign::Asked,
+                    }));
+                }
+                self.put(omitted(self.end))?;
+                self.after_pair(text, after, indent)
+            }
+            Waits::Value => self.after_pair(text, after, indent),
         }
-    }
-
-    /// Goes on with the next item of a sequence, or closes it.
-    fn after_item(
-        &mut self,
-        text: &str,
-        after: NextLine,
-        indent: usize,
-    ) -> Result<Option<Next>, ScanFault>
-        requires line { IsNextLine text.now after }
-        ensures onward { IfOk result (MayGoOn text.now after.line.start) }
-        ensures turns { IfOk result (Turns (ItemRead indent) text.now after self.old self.new) }
-        ensures ended { IfOk result (EndsAlone self.old self.new) }
-        ensures grown { Grown self.old.events self.new.events }
-        ensures none { IfErr result (λ fault. Refuses fault ⊥) }
-    {
-        let line = after.line;
-        if goes_on_with(text, line, indent, b'-') {
-            self.wait(Waits::Item, indent)?;
-            return Ok(Some(Next::After {
-                at: line.first + 1,
-                indent,
-                sign: Sign::Dash,
-            }));
-        }
-        self.put(Event::SeqEnd)?;
-        Ok(None)
-    }
-
-    /// Goes on with the value of a key after `?`, or adds that it is left out.
-    fn after_key(
-        &mut self,
-        text: &str,
-        after: NextLine,
-        indent: usize,
-    ) -> Result<Option<Next>, ScanFault>
-        requires line { IsNextLine text.now after }
-        ensures onward { IfOk result (MayGoOn text.now after.line.start) }
-        ensures turns { IfOk result (Turns (KeyRead indent) text.now after self.old self.new) }
-        ensures ended { IfOk result (EndsAlone self.old self.new) }
-        ensures grown { Grown self.old.events self.new.events }
-        ensures none { IfErr result (λ fault. Refuses fault ⊥) }
-    {
-        let line = after.line;
-        if goes_on_with(text, line, indent, b':') {
-            self.wait(Waits::Value, indent)?;
-            return Ok(Some(Next::After {
-                at: line.first + 1,
-                indent,
-                sign: Sign::Asked,
-            }));
-        }
-        self.put(omitted(self.end))?;
-        self.after_pair(text, after, indent)
     }
 
     /// Goes on with the next pair of a mapping, or closes it.
@@ -115,16 +84,13 @@ impl<'a> Reader<'a> {
         indent: usize,
     ) -> Result<Option<Next>, ScanFault>
         requires line { IsNextLine text.now after }
-        ensures onward { IfOk result (MayGoOn text.now after.line.start) }
-        ensures turns { IfOk result (Turns (PairRead indent) text.now after self.old self.new) }
-        ensures ended { IfOk result (EndsAlone self.old self.new) }
+        ensures turn { IfOk result (IsTurn (PairRead indent) text.now after self.old self.new) }
         ensures grown { Grown self.old.events self.new.events }
         ensures none { IfErr result (λ fault. Refuses fault ⊥) }
     {
-        let line = after.line;
         if goes_on_with_pair(text, after, indent) {
             return Ok(Some(Next::Pair {
-                at: line.first,
+                at: after.line.first,
                 indent,
             }));
         }

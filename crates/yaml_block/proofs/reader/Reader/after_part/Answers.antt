@@ -1,27 +1,92 @@
+use Rattle.std.proofs.Common.{◌≡◌, refl, sym, ◌∙◌, ap, subst, arith}
+use Rattle.std.specs.Prelude.{◌++◌, MatchOption}
+use Rattle.yaml_grammar.specs.Events.{omitted_at}
 use Rattle.yaml_scan.proofs.Outcomes.{ok_so}
-use Rattle.yaml_block.proofs.UnwindSteps.{item_of, key_of, pair_of}
+use Rattle.yaml_block.specs.Frames.{AfterPair}
+use Rattle.yaml_block.proofs.UnwindSteps.{SignHere, alone_key, item_ends, item_next, item_of, key_of, left_out, pair_of, sign_here, sign_onward, value_next}
+use Rattle.yaml_block.specs.declared.frame.Sign.TheVariants.{Asked, Dash}
 use Rattle.yaml_block.proofs.reader.Reader.after_part.Goals as goal
 
-pub returns-in-Item-clause-turns : goal.returns-in-Item-clause-turns
-returns-in-Item-clause-turns c =
-    ok_so c.after_item.result _ _
-    (λ next t. λ W from base fs evs h p.
-    t W from base fs evs h (item_of W c.args.text.now from fs evs c.args.collection c.args.after.line.start
-    c.args.self.now.end c.in-Item.is p))
-    c.after_item.ensures.turns
+pub returns-then-goes_on_with-clause-turn : goal.returns-then-goes_on_with-clause-turn
+returns-then-goes_on_with-clause-turn c =
+    let text = c.args.text.now in
+    let line = c.args.after.line in
+    let k = c.args.collection.indent in
+    let here : SignHere text line k 45 = sign_here text line k 45 c.utf8.text (c.requires.line).line (omega arith) refl
+    (sym c.goes_on_with.ensures ∙ c.if-goes_on_with.true) in
+    record {
+      onward = sign_onward text line k 45 Dash here;
+      turns = λ W from base fs evs h p.
+          item_next W text from base fs evs c.args.self.now c.wait.new.self h k line c.args.self.now.end
+          (item_of W text from fs evs c.args.collection line.start c.args.self.now.end c.in-Item.is p) here
+          c.in_ok-wait-in-Item.ensures.collections c.in_ok-wait-in-Item.ensures.events;
+      ended = tt;
+    }
 
-pub returns-in-Key-clause-turns : goal.returns-in-Key-clause-turns
-returns-in-Key-clause-turns c =
-    ok_so c.after_key.result _ _
-    (λ next t. λ W from base fs evs h p.
-    t W from base fs evs h (key_of W c.args.text.now from fs evs c.args.collection c.args.after.line.start
-    c.args.self.now.end c.in-Key.is p))
-    c.after_key.ensures.turns
+pub returns-in_ok-put-in-Item-clause-turn : goal.returns-in_ok-put-in-Item-clause-turn
+returns-in_ok-put-in-Item-clause-turn c =
+    let text = c.args.text.now in
+    let start = c.args.after.line.start in
+    let put = c.in_ok-put-in-Item.ensures in
+    record {
+      onward = tt;
+      turns = λ W from base fs evs h p.
+          item_ends W text from base fs evs c.args.self.now c.put.new.self h c.args.collection.indent start
+          c.args.self.now.end
+          (item_of W text from fs evs c.args.collection start c.args.self.now.end c.in-Item.is p)
+          (sym c.goes_on_with.ensures ∙ c.if-goes_on_with.false) put.collections put.events put.end;
+      ended = ap (λ v. v.items) put.collections;
+    }
 
-pub returns-in-Value-clause-turns : goal.returns-in-Value-clause-turns
-returns-in-Value-clause-turns c =
+pub returns-then-goes_on_with-2-clause-turn : goal.returns-then-goes_on_with-2-clause-turn
+returns-then-goes_on_with-2-clause-turn c =
+    let text = c.args.text.now in
+    let line = c.args.after.line in
+    let k = c.args.collection.indent in
+    let here : SignHere text line k 58 = sign_here text line k 58 c.utf8.text (c.requires.line).line (omega arith) refl
+    (sym c.goes_on_with-in-Key.ensures ∙ c.if-goes_on_with-2.true) in
+    record {
+      onward = sign_onward text line k 58 Asked here;
+      turns = λ W from base fs evs h p.
+          value_next W text from base fs evs c.args.self.now c.wait-then-goes_on_with-2.new.self h k line
+          c.args.self.now.end
+          (key_of W text from fs evs c.args.collection line.start c.args.self.now.end c.in-Key.is p) here
+          c.in_ok-wait-in-Key.ensures.collections c.in_ok-wait-in-Key.ensures.events;
+      ended = tt;
+    }
+
+pub returns-in_ok-put-in-Key-clause-turn : goal.returns-in_ok-put-in-Key-clause-turn
+returns-in_ok-put-in-Key-clause-turn c =
+    let text = c.args.text.now in
+    let start = c.args.after.line.start in
+    let k = c.args.collection.indent in
+    let end = c.args.self.now.end in
+    let put = c.in_ok-put-in-Key.ensures in
     ok_so c.after_pair.result _ _
-    (λ next t. λ W from base fs evs h p.
-    t W from base fs evs h (pair_of W c.args.text.now from fs evs c.args.collection c.args.after.line.start
-    c.args.self.now.end c.in-Value.is p))
-    c.after_pair.ensures.turns
+    (λ next t. record {
+      onward = t.onward;
+      turns = λ W from base fs evs h p.
+          t.turns W from base fs (evs ++ omitted_at end)
+          (left_out text base fs evs c.args.self.now c.put-in-Key.new.self c.omitted.result end h put.collections
+          put.events c.omitted.ensures.event (c.omitted.ensures.borrowed text))
+          (subst (λ e. AfterPair W text from fs (evs ++ omitted_at end) k start e) (sym put.end)
+          (alone_key W text from fs evs k start end
+          (key_of W text from fs evs c.args.collection start end c.in-Key.is p)
+          (sym c.goes_on_with-in-Key.ensures ∙ c.if-goes_on_with-2.false)));
+      ended = subst (λ v. MatchOption next (c.after_pair.new.self.collections.items ≡ v.items) (λ _. Unit {0}))
+          put.collections t.ended;
+    })
+    c.after_pair.ensures.turn
+
+pub returns-in-Value-clause-turn : goal.returns-in-Value-clause-turn
+returns-in-Value-clause-turn c =
+    ok_so c.after_pair-in-Value.result _ _
+    (λ next t. record {
+      onward = t.onward;
+      turns = λ W from base fs evs h p.
+          t.turns W from base fs evs h
+          (pair_of W c.args.text.now from fs evs c.args.collection c.args.after.line.start c.args.self.now.end
+          c.in-Value.is p);
+      ended = t.ended;
+    })
+    c.after_pair-in-Value.ensures.turn

@@ -21,7 +21,7 @@ returns-in-Some-2-clause-turns c =
     unwinds_on c.args.text.now c.args.after c.args.self.now c.collections.self
     (record c.collections.self { collections = c.pop.new.self }) c.after_part.new.self c.in-Some.collection
     c.in_ok-next.field-0 c.in-Some-2.next c.collections.invariant.part c.in-Some.ensures.items refl refl
-    c.in_ok-next.ensures.turns c.in-Some-2.is
+    c.in_ok-next.ensures.turn.turns c.in-Some-2.is
 
 pub returns-in-Some-2-clause-grown : goal.returns-in-Some-2-clause-grown
 returns-in-Some-2-clause-grown c = grown_grown c.args.self.now.events c.collections.self.events
@@ -31,14 +31,14 @@ pub collections-smaller : goal.collections-smaller
 collections-smaller c =
     let e : c.after_part.new.self.collections.items ≡ c.pop.new.self.items =
     subst (λ (n : Option Next). MatchOption n (c.after_part.new.self.collections.items ≡ c.pop.new.self.items)
-    (λ _. Unit {0})) c.in_default-2.is c.in_ok-next.ensures.ended in
+    (λ _. Unit {0})) c.in_default-2.is c.in_ok-next.ensures.turn.ended in
     omega (arith, ap length e, c.in-Some.ensures.cases, c.pop.new.self.ok.0, c.after_part.new.self.collections.ok.0)
 
 pub collections-preserved : goal.collections-preserved
 collections-preserved c = record {
   part = unwinds_more c.args.text.now c.args.after c.args.self.now c.collections.self
       (record c.collections.self { collections = c.pop.new.self }) c.after_part.new.self c.in-Some.collection
-      c.in_ok-next.field-0 c.collections.invariant.part c.in-Some.ensures.items refl refl c.in_ok-next.ensures.turns
+      c.in_ok-next.field-0 c.collections.invariant.part c.in-Some.ensures.items refl refl c.in_ok-next.ensures.turn.turns
       c.in_default-2.is;
   grown = grown_grown c.args.self.now.events c.collections.self.events c.after_part.new.self.events
       c.collections.invariant.grown c.in_ok-next.ensures.grown;
