@@ -117,6 +117,34 @@ module _ (W : Read Indented) (text : List ℕ) (from : ℕ) where
         wrote = h.wrote;
       }
 
+  -- a leaf, where no pair may be
+  leaf_only : (fs : List BlockFrame) (evs : List Event) (m : ℕ) (shallow alone : Bool)
+      (start s prefix lead : ℕ) (h : AtNodeLine W text from fs evs m shallow alone start)
+      → spaces_before (rest text start) ≡ s → past_spaces (rest text start) ≡ rest text prefix
+      → sign 45 (rest text prefix) && nat_le m (if shallow then suc s else s) ≡ false
+      → nat_le m (spaces_before (rest text start)) && not (first white (past_spaces (rest text start))) ≡ false
+      → is_empty h.comments || nat_le m (spaces_before (rest text start)) ≡ true
+      → drop_while white (rest text start) ≡ rest text lead → start + byte_len (take_while white (rest text start)) ≡ lead
+      → starts_line (line_starts text start) (take_while white (rest text start)) ≡ line_starts text lead
+      → AtLeaf W text from fs evs m None lead
+  leaf_only fs evs m shallow alone start s prefix lead h c e d unpaired fits drops p b =
+      let t : List ℕ = rest text start in
+      let blank : List ℕ = take_while white t in
+      record {
+        sep = sep_after h.comments blank;
+        mapping = None;
+        reads = h.reads ∙ ap (unwind fs)
+            (leaf_alone_after m shallow h.bol (line_starts text start) (line_starts text lead) h.comments t h.starts
+            (ap (λ u. sign 45 u && is_deep m shallow (spaces_before t)) e
+            ∙ (ap (λ j. sign 45 (rest text prefix) && is_deep m shallow j) c ∙ d)) unpaired fits h.lines b
+            ∙ ap (part_at None m (line_starts text lead) (sep_after h.comments blank)) drops);
+        nested = h.nested;
+        pairs_is = refl;
+        may_sit = tt;
+        place = sep_end (place_in fs from) start lead h.comments blank h.place p;
+        wrote = h.wrote;
+      }
+
   -- after a TAB only a leaf may come
   pub line_leaf_after_tab : (fs : List BlockFrame) (evs : List Event) (m : ℕ) (shallow alone : Bool)
       (start s prefix lead : ℕ) → AtNodeLine W text from fs evs m shallow alone start
@@ -127,24 +155,8 @@ module _ (W : Read Indented) (text : List ℕ) (from : ℕ) where
       → starts_line (line_starts text start) (take_while white (rest text start)) ≡ line_starts text lead
       → AtLeaf W text from fs evs m None lead
   line_leaf_after_tab fs evs m shallow alone start s prefix lead h c e d l w drops p b =
-      let t : List ℕ = rest text start in
-      let deep : nat_le m (spaces_before t) ≡ true = ap (nat_le m) c ∙ l in
-      let blank : List ℕ = take_while white t in
-      record {
-        sep = sep_after h.comments blank;
-        mapping = None;
-        reads = h.reads ∙ ap (unwind fs)
-            (leaf_alone_after m shallow h.bol (line_starts text start) (line_starts text lead) h.comments t h.starts
-            (ap (λ u. sign 45 u && is_deep m shallow (spaces_before t)) e
-            ∙ (ap (λ j. sign 45 (rest text prefix) && is_deep m shallow j) c ∙ d))
-            (and_right _ _ (not_from_true _ (ap (first white) e ∙ w))) (or_right _ _ deep) h.lines b
-            ∙ ap (part_at None m (line_starts text lead) (sep_after h.comments blank)) drops);
-        nested = h.nested;
-        pairs_is = refl;
-        may_sit = tt;
-        place = sep_end (place_in fs from) start lead h.comments blank h.place p;
-        wrote = h.wrote;
-      }
+      leaf_only fs evs m shallow alone start s prefix lead h c e d
+      (and_right _ _ (not_from_true _ (ap (first white) e ∙ w))) (or_right _ _ (ap (nat_le m) c ∙ l)) drops p b
 
   -- on a line that is less deep only a leaf may come
   pub line_leaf_alone : (fs : List BlockFrame) (evs : List Event) (m : ℕ) (shallow alone : Bool)
@@ -156,24 +168,8 @@ module _ (W : Read Indented) (text : List ℕ) (from : ℕ) where
       → starts_line (line_starts text start) (take_while white (rest text start)) ≡ line_starts text lead
       → AtLeaf W text from fs evs m None lead
   line_leaf_alone fs evs m shallow alone start s prefix lead h c e d l a drops p b =
-      let t : List ℕ = rest text start in
-      let deep : nat_le m (spaces_before t) ≡ false = ap (nat_le m) c ∙ l in
-      let blank : List ℕ = take_while white t in
-      record {
-        sep = sep_after h.comments blank;
-        mapping = None;
-        reads = h.reads ∙ ap (unwind fs)
-            (leaf_alone_after m shallow h.bol (line_starts text start) (line_starts text lead) h.comments t h.starts
-            (ap (λ u. sign 45 u && is_deep m shallow (spaces_before t)) e
-            ∙ (ap (λ j. sign 45 (rest text prefix) && is_deep m shallow j) c ∙ d))
-            (and_left _ _ deep) (or_left _ _ (h.alone_is ∙ a)) h.lines b
-            ∙ ap (part_at None m (line_starts text lead) (sep_after h.comments blank)) drops);
-        nested = h.nested;
-        pairs_is = refl;
-        may_sit = tt;
-        place = sep_end (place_in fs from) start lead h.comments blank h.place p;
-        wrote = h.wrote;
-      }
+      leaf_only fs evs m shallow alone start s prefix lead h c e d (and_left _ _ (ap (nat_le m) c ∙ l))
+      (or_left _ _ (h.alone_is ∙ a)) drops p b
 
   -- a line with too few spaces has no node
   pub line_too_shallow : (fs : List BlockFrame) (evs : List Event) (m : ℕ) (shallow alone : Bool) (start s prefix : ℕ)

@@ -86,19 +86,22 @@ sign_onward bs line k x sg s =
 
 module _ (W : Read Indented) (text : List ℕ) (from : ℕ) (base : List Event) (fs : List BlockFrame)
     (evs : List grammar.Event) (old new : Reader) (h : Holds text base fs evs old) where
-  -- a step that goes on with the same events
-  goes_on_with : (f : BlockFrame) (waits : Waits) (indent at : ℕ) (sg : Sign)
+  -- a step that goes on after a sign of its collection, with the same events
+  after_sign : (f : BlockFrame) (waits : Waits) (indent : ℕ) (line : Line) (x : ℕ) (sg : Sign)
       → new.collections.items ≡ old.collections.items ++ (record { waits = waits; indent = indent }) ∷ []
       → new.events ≡ old.events
-      → waits_of f ≡ waits → indent_of f ≡ indent → AfterSign W text from (f ∷ fs) evs sg indent at
-      → GoesOn W text from base new (next.After at indent sg)
-  goes_on_with f waits indent at sg c e w i a = record {
+      → waits_of f ≡ waits → indent_of f ≡ indent → SignHere text line indent x
+      → (SignHere text line (indent_of f) x
+      → AfterSign W text from (f ∷ fs) evs sg (indent_of f) (line.first + 1))
+      → GoesOn W text from base new (next.After (line.first + 1) indent sg)
+  after_sign f waits indent line x sg c e w i s a = record {
     fs = f ∷ fs;
     evs = evs;
     holds = opened text base fs evs evs old new f (record { waits = waits; indent = indent }) h c
         (record { waits = w; indent = i }) (subst (λ (es : List Event). Appended text base es evs)
         (sym e) h.appended);
-    stands = a;
+    stands = subst (λ j. AfterSign W text from (f ∷ fs) evs sg j (line.first + 1)) i
+        (a (subst (λ j. SignHere text line j x) (sym i) s));
   }
 
   -- a sequence goes on with a `-`
@@ -113,14 +116,9 @@ module _ (W : Read Indented) (text : List ℕ) (from : ℕ) (base : List Event) 
           → AtLine W text from (f ∷ fs) evs line.start end
           → GoesOn W text from base new (next.After (line.first + 1) indent Dash)
       by_frame (waits_item sits k done) w i a =
-          let t : SignHere text line k 45 = subst (λ j. SignHere text line j 45) (sym i) s in
-          let after : AfterSign W text from (waits_item sits k (done ++ a.part ∷ []) ∷ fs) evs Dash k
-          (line.first + 1) =
-          item_goes_on W text from fs evs sits k done line.start end line.first a t.count t.place t.spaces t.here
-          (t.past_it).past_is in
-          goes_on_with (waits_item sits k (done ++ a.part ∷ [])) Item indent (line.first + 1) Dash c e refl i
-          (subst (λ j. AfterSign W text from (waits_item sits k (done ++ a.part ∷ []) ∷ fs) evs Dash j
-          (line.first + 1)) i after)
+          after_sign (waits_item sits k (done ++ a.part ∷ [])) Item indent line 45 Dash c e refl i s
+          (λ t. item_goes_on W text from fs evs sits k done line.start end line.first a t.count t.place t.spaces t.here
+          (t.past_it).past_is)
       by_frame (waits_key sits k done) w i a = absurd (let e : ⊥ = cc in e)
       by_frame (waits_value sits k done key) w i a = absurd (let e : ⊥ = cc in e)
 
@@ -136,14 +134,9 @@ module _ (W : Read Indented) (text : List ℕ) (from : ℕ) (base : List Event) 
           → AtLine W text from (f ∷ fs) evs line.start end
           → GoesOn W text from base new (next.After (line.first + 1) indent Asked)
       by_frame (waits_key sits k done) w i a =
-          let t : SignHere text line k 58 = subst (λ j. SignHere text line j 58) (sym i) s in
-          let after : AfterSign W text from (waits_value sits k done (key_asked a.part) ∷ fs) evs Asked k
-          (line.first + 1) =
-          value_opens W text from fs evs sits k done line.start end line.first a t.count t.place t.spaces t.here
-          (t.past_it).past_is in
-          goes_on_with (waits_value sits k done (key_asked a.part)) Value indent (line.first + 1) Asked c e refl i
-          (subst (λ j. AfterSign W text from (waits_value sits k done (key_asked a.part) ∷ fs) evs Asked j
-          (line.first + 1)) i after)
+          after_sign (waits_value sits k done (key_asked a.part)) Value indent line 58 Asked c e refl i s
+          (λ t. value_opens W text from fs evs sits k done line.start end line.first a t.count t.place t.spaces t.here
+          (t.past_it).past_is)
       by_frame (waits_item sits k done) w i a = absurd (let e : ⊥ = cc in e)
       by_frame (waits_value sits k done key) w i a = absurd (let e : ⊥ = cc in e)
 

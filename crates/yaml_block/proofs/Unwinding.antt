@@ -1,6 +1,6 @@
 -- The steps of the scanner at a line after a part: a collection goes on, or it ends and is the part
 -- of the collection around it.
-use Rattle.std.proofs.Common.{ap, append-nil, append_assoc, arith, refl, sym, ◌∙◌, ◌≡◌}
+use Rattle.std.proofs.Common.{ap, append-nil, append_assoc, arith, refl, subst, sym, ◌∙◌, ◌≡◌}
 use Rattle.std.specs.Prelude.{Bool, List, Some, [], codes, false, not, true, ℕ, ◌&&◌, ◌++◌, ◌+◌, ◌==◌, ◌∷◌}
 use Rattle.std.proofs.lemmas.Bool.{eq-eqb, false≢true, not-true}
 use Rattle.yaml_chars.specs.Places.{rest}
@@ -8,7 +8,7 @@ use Rattle.yaml_grammar.specs.BlockNodes.{Indented, Items, Node, Pair, Pairs, as
 use Rattle.yaml_grammar.specs.BlockScalars.{past_spaces, spaces_before}
 use Rattle.yaml_grammar.specs.Events.{Event, as_map, as_seq, map_end, map_start, omitted_at, seq_end, seq_start}
 use Rattle.yaml_grammar.specs.FlowNodes.{flow_text}
-use Rattle.yaml_grammar.specs.Separation.{comments_text}
+use Rattle.yaml_grammar.specs.Separation.{LineEnd, comments_text}
 use Rattle.yaml_grammar.specs.Texts.{byte_len, spaces}
 use Rattle.yaml_recognizers.specs.BlockFrames.{BlockFrame, PairKey, Sits, close_pairs, items_part, joined_items, joined_pairs, key_asked, key_on_line, on_lines, on_sign_line, pair_with, pairs_after, pairs_part, plug, unwind, waits_item, waits_key, waits_value}
 use Rattle.yaml_recognizers.specs.Ends.{block_node_stops}
@@ -22,7 +22,7 @@ use Rattle.yaml_recognizers.proofs.Basics.Reading.{on_parts, some_parts}
 use Rattle.yaml_events.specs.EventPlaces.{line_starts}
 use Rattle.yaml_block.specs.declared.frame.Sign.TheVariants.{Asked, Dash}
 use Rattle.yaml_block.specs.BlockParts.{as_part}
-use Rattle.yaml_block.specs.Frames.{AfterPair, AfterSign, AtLine, AtPair, Seated, events_in, fits_frame, fits_frames, indent_of, inner_indent, key_events, place_in, sits_place, value_place}
+use Rattle.yaml_block.specs.Frames.{AfterPair, AfterSign, AtLine, AtPair, Seated, events_in, fits_frame, fits_frames, inner_indent, key_events, place_in, sits_place, value_place}
 use Rattle.yaml_block.proofs.LeafSteps.{node_fits_frames}
 use Rattle.yaml_block.proofs.SignSteps.{byte_len_spaces}
 
@@ -98,72 +98,71 @@ seated_fits (on_sign_line s) k (waits_key sits j done ∷ fs) h = (λ is. refl, 
 seated_fits (on_sign_line s) k (waits_value sits j done (key_asked key) ∷ fs) h = (λ is. refl, λ ps. refl)
 seated_fits (on_sign_line s) k (waits_value sits j done (key_on_line key gap) ∷ fs) h = absurd (false≢true (sym h.0))
 
--- its text, its end and its events, by the place of its first sign or key
-record SeatedItems (sits : Sits) (k : ℕ) (fs : List BlockFrame) (is : Items) (at : ℕ) : Type 0 where
-  text : at + byte_len (indented_text (items_part sits is) (inner_indent fs)) ≡ sits_place sits at + byte_len
-      (items_text is k)
-  end : indented_end (items_part sits is) (inner_indent fs) at ≡ items_end is k (sits_place sits at)
-  events : indented_events (items_part sits is) (inner_indent fs) at ≡ as_seq (items_events is k (sits_place sits at))
+-- its own indentation, below one of n
+own_indent : Sits → ℕ → ℕ
+own_indent (on_lines comments j) n = j
+own_indent (on_sign_line s) n = n + 1 + s
+
+own_is : (sits : Sits) (k : ℕ) (fs : List BlockFrame) → Seated sits k fs → own_indent sits (inner_indent fs) ≡ k
+unfolding own_indent
+own_is (on_lines comments j) k fs h = h
+own_is (on_sign_line s) k [] h = absurd h
+own_is (on_sign_line s) k (g ∷ gs) h = sym h.1
+
+-- The text, the end and the events of the part, below an indentation of n, by the place of its first sign or key:
+-- those of the collection itself are `spelled`, `ends` and `means`.
+record SeatedPart (sits : Sits) (n k : ℕ) (part : Indented) (spelled : ℕ → List ℕ) (ends : ℕ → ℕ → ℕ)
+    (means : ℕ → ℕ → List Event) (at : ℕ) : Type 0 where
+  text : at + byte_len (indented_text part n) ≡ sits_place sits at + byte_len (spelled k)
+  end : indented_end part n at ≡ ends k (sits_place sits at)
+  events : indented_events part n at ≡ means k (sits_place sits at)
+
+lines_long : (comments : List LineEnd) (j : ℕ) (lines : List ℕ) (at : ℕ)
+    → at + byte_len (comments_text comments ++ spaces j ++ lines) ≡ at + byte_len (comments_text comments) + j + byte_len
+    lines
+lines_long comments j lines at =
+    let a : byte_len (comments_text comments ++ spaces j ++ lines) ≡ byte_len (comments_text comments ++ spaces j)
+    + byte_len lines = byte_len_joined (comments_text comments ++ spaces j) lines in
+    let b : byte_len (comments_text comments ++ spaces j) ≡ byte_len (comments_text comments) + byte_len (spaces j) =
+    byte_len_joined (comments_text comments) (spaces j) in
+    omega (arith, a, b, byte_len_spaces j)
+
+line_long : (s : ℕ) (lines : List ℕ) (at : ℕ) → at + byte_len (spaces s ++ lines) ≡ at + s + byte_len lines
+line_long s lines at =
+    let a : byte_len (spaces s ++ lines) ≡ byte_len (spaces s) + byte_len lines = byte_len_joined (spaces s) lines in
+    omega (arith, a, byte_len_spaces s)
+
+-- of a sequence
+abbrev SeatedItems : Sits → ℕ → ℕ → Items → ℕ → Type 0
+SeatedItems sits n k is at = SeatedPart sits n k (items_part sits is) (items_text is) (items_end is)
+    (λ j x. as_seq (items_events is j x)) at
 
 seated_items : (sits : Sits) (k : ℕ) (fs : List BlockFrame) (is : Items) (at : ℕ) → Seated sits k fs
-    → SeatedItems sits k fs is at
-seated_items (on_lines comments j) k fs is at h =
-    let a : byte_len (comments_text comments ++ spaces j ++ items_text is j) ≡ byte_len
-    (comments_text comments ++ spaces j) + byte_len (items_text is j) =
-    byte_len_joined (comments_text comments ++ spaces j) (items_text is j) in
-    let b : byte_len (comments_text comments ++ spaces j) ≡ byte_len (comments_text comments) + byte_len (spaces j) =
-    byte_len_joined (comments_text comments) (spaces j) in
-    let c : byte_len (items_text is j) ≡ byte_len (items_text is k) = ap (λ x. byte_len (items_text is x)) h in
-    record {
-      text = omega (arith, a, b, c, byte_len_spaces j);
-      end = ap (λ x. items_end is x (at + byte_len (comments_text comments) + j)) h;
-      events = ap (λ x. as_seq (items_events is x (at + byte_len (comments_text comments) + j))) h;
-    }
-seated_items (on_sign_line s) k [] is at h = absurd h
-seated_items (on_sign_line s) k (g ∷ gs) is at h =
-    let j : ℕ = indent_of g + 1 + s in
-    let a : byte_len (spaces s ++ items_text is j) ≡ byte_len (spaces s) + byte_len (items_text is j) =
-    byte_len_joined (spaces s) (items_text is j) in
-    let c : byte_len (items_text is j) ≡ byte_len (items_text is k) =
-    ap (λ x. byte_len (items_text is x)) (sym h.1) in
-    record {
-      text = omega (arith, a, c, byte_len_spaces s);
-      end = ap (λ x. items_end is x (at + s)) (sym h.1);
-      events = ap (λ x. as_seq (items_events is x (at + s))) (sym h.1);
-    }
+    → SeatedItems sits (inner_indent fs) k is at
+unfolding own_indent
+seated_items sits k fs is at h = subst (λ j. SeatedItems sits (inner_indent fs) j is at) (own_is sits k fs h)
+    (own sits (inner_indent fs))
+  where
+    own : (sits : Sits) (n : ℕ) → SeatedItems sits n (own_indent sits n) is at
+    own (on_lines comments j) n =
+        record { text = lines_long comments j (items_text is j) at; end = refl; events = refl }
+    own (on_sign_line s) n = record { text = line_long s (items_text is (n + 1 + s)) at; end = refl; events = refl }
 
-record SeatedPairs (sits : Sits) (k : ℕ) (fs : List BlockFrame) (ps : Pairs) (at : ℕ) : Type 0 where
-  text : at + byte_len (indented_text (pairs_part sits ps) (inner_indent fs)) ≡ sits_place sits at + byte_len
-      (pairs_text ps k)
-  end : indented_end (pairs_part sits ps) (inner_indent fs) at ≡ pairs_end ps k (sits_place sits at)
-  events : indented_events (pairs_part sits ps) (inner_indent fs) at ≡ as_map (pairs_events ps k (sits_place sits at))
+-- of a mapping
+abbrev SeatedPairs : Sits → ℕ → ℕ → Pairs → ℕ → Type 0
+SeatedPairs sits n k ps at = SeatedPart sits n k (pairs_part sits ps) (pairs_text ps) (pairs_end ps)
+    (λ j x. as_map (pairs_events ps j x)) at
 
 seated_pairs : (sits : Sits) (k : ℕ) (fs : List BlockFrame) (ps : Pairs) (at : ℕ) → Seated sits k fs
-    → SeatedPairs sits k fs ps at
-seated_pairs (on_lines comments j) k fs ps at h =
-    let a : byte_len (comments_text comments ++ spaces j ++ pairs_text ps j) ≡ byte_len
-    (comments_text comments ++ spaces j) + byte_len (pairs_text ps j) =
-    byte_len_joined (comments_text comments ++ spaces j) (pairs_text ps j) in
-    let b : byte_len (comments_text comments ++ spaces j) ≡ byte_len (comments_text comments) + byte_len (spaces j) =
-    byte_len_joined (comments_text comments) (spaces j) in
-    let c : byte_len (pairs_text ps j) ≡ byte_len (pairs_text ps k) = ap (λ x. byte_len (pairs_text ps x)) h in
-    record {
-      text = omega (arith, a, b, c, byte_len_spaces j);
-      end = ap (λ x. pairs_end ps x (at + byte_len (comments_text comments) + j)) h;
-      events = ap (λ x. as_map (pairs_events ps x (at + byte_len (comments_text comments) + j))) h;
-    }
-seated_pairs (on_sign_line s) k [] ps at h = absurd h
-seated_pairs (on_sign_line s) k (g ∷ gs) ps at h =
-    let j : ℕ = indent_of g + 1 + s in
-    let a : byte_len (spaces s ++ pairs_text ps j) ≡ byte_len (spaces s) + byte_len (pairs_text ps j) =
-    byte_len_joined (spaces s) (pairs_text ps j) in
-    let c : byte_len (pairs_text ps j) ≡ byte_len (pairs_text ps k) =
-    ap (λ x. byte_len (pairs_text ps x)) (sym h.1) in
-    record {
-      text = omega (arith, a, c, byte_len_spaces s);
-      end = ap (λ x. pairs_end ps x (at + s)) (sym h.1);
-      events = ap (λ x. as_map (pairs_events ps x (at + s))) (sym h.1);
-    }
+    → SeatedPairs sits (inner_indent fs) k ps at
+unfolding own_indent
+seated_pairs sits k fs ps at h = subst (λ j. SeatedPairs sits (inner_indent fs) j ps at) (own_is sits k fs h)
+    (own sits (inner_indent fs))
+  where
+    own : (sits : Sits) (n : ℕ) → SeatedPairs sits n (own_indent sits n) ps at
+    own (on_lines comments j) n =
+        record { text = lines_long comments j (pairs_text ps j) at; end = refl; events = refl }
+    own (on_sign_line s) n = record { text = line_long s (pairs_text ps (n + 1 + s)) at; end = refl; events = refl }
 
 -- ---- a pair, from its key and its value
 
@@ -266,7 +265,7 @@ module _ (W : Read Indented) (text : List ℕ) (from : ℕ) where
       let at : ℕ = sits_place sits outer in
       let E : ℕ = done_items_end k done at in
       let is : Items = joined_items done (item i) in
-      let s : SeatedItems sits k fs is outer = seated_items sits k fs is outer h.nested.0 in
+      let s : SeatedItems sits (inner_indent fs) k is outer = seated_items sits k fs is outer h.nested.0 in
       let long : at + byte_len (items_text is k) ≡ E + byte_len (items_text (item i) k) =
       items_long k done (item i) at in
       let one : byte_len (items_text (item i) k) ≡ 1 + byte_len (indented_text i k) = refl in
@@ -400,7 +399,7 @@ module _ (W : Read Indented) (text : List ℕ) (from : ℕ) where
       let at : ℕ = sits_place h.sits outer in
       let P : ℕ = done_pairs_end k h.done at in
       let ps : Pairs = joined_pairs h.done (pair h.last) in
-      let s : SeatedPairs h.sits k fs ps outer = seated_pairs h.sits k fs ps outer h.seated in
+      let s : SeatedPairs h.sits (inner_indent fs) k ps outer = seated_pairs h.sits k fs ps outer h.seated in
       let long : at + byte_len (pairs_text ps k) ≡ P + byte_len (pair_text h.last k) =
       pairs_long k h.done (pair h.last) at in
       record {
