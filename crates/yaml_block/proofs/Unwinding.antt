@@ -137,32 +137,24 @@ abbrev SeatedItems : Sits → ℕ → ℕ → Items → ℕ → Type 0
 SeatedItems sits n k is at = SeatedPart sits n k (items_part sits is) (items_text is) (items_end is)
     (λ j x. as_seq (items_events is j x)) at
 
-seated_items : (sits : Sits) (k : ℕ) (fs : List BlockFrame) (is : Items) (at : ℕ) → Seated sits k fs
-    → SeatedItems sits (inner_indent fs) k is at
+items_sit : (sits : Sits) (n : ℕ) (is : Items) (at : ℕ) → SeatedItems sits n (own_indent sits n) is at
 unfolding own_indent
-seated_items sits k fs is at h = subst (λ j. SeatedItems sits (inner_indent fs) j is at) (own_is sits k fs h)
-    (own sits (inner_indent fs))
-  where
-    own : (sits : Sits) (n : ℕ) → SeatedItems sits n (own_indent sits n) is at
-    own (on_lines comments j) n =
-        record { text = lines_long comments j (items_text is j) at; end = refl; events = refl }
-    own (on_sign_line s) n = record { text = line_long s (items_text is (n + 1 + s)) at; end = refl; events = refl }
+items_sit (on_lines comments j) n is at =
+    record { text = lines_long comments j (items_text is j) at; end = refl; events = refl }
+items_sit (on_sign_line s) n is at =
+    record { text = line_long s (items_text is (n + 1 + s)) at; end = refl; events = refl }
 
 -- of a mapping
 abbrev SeatedPairs : Sits → ℕ → ℕ → Pairs → ℕ → Type 0
 SeatedPairs sits n k ps at = SeatedPart sits n k (pairs_part sits ps) (pairs_text ps) (pairs_end ps)
     (λ j x. as_map (pairs_events ps j x)) at
 
-seated_pairs : (sits : Sits) (k : ℕ) (fs : List BlockFrame) (ps : Pairs) (at : ℕ) → Seated sits k fs
-    → SeatedPairs sits (inner_indent fs) k ps at
+pairs_sit : (sits : Sits) (n : ℕ) (ps : Pairs) (at : ℕ) → SeatedPairs sits n (own_indent sits n) ps at
 unfolding own_indent
-seated_pairs sits k fs ps at h = subst (λ j. SeatedPairs sits (inner_indent fs) j ps at) (own_is sits k fs h)
-    (own sits (inner_indent fs))
-  where
-    own : (sits : Sits) (n : ℕ) → SeatedPairs sits n (own_indent sits n) ps at
-    own (on_lines comments j) n =
-        record { text = lines_long comments j (pairs_text ps j) at; end = refl; events = refl }
-    own (on_sign_line s) n = record { text = line_long s (pairs_text ps (n + 1 + s)) at; end = refl; events = refl }
+pairs_sit (on_lines comments j) n ps at =
+    record { text = lines_long comments j (pairs_text ps j) at; end = refl; events = refl }
+pairs_sit (on_sign_line s) n ps at =
+    record { text = line_long s (pairs_text ps (n + 1 + s)) at; end = refl; events = refl }
 
 -- ---- a pair, from its key and its value
 
@@ -265,7 +257,9 @@ module _ (W : Read Indented) (text : List ℕ) (from : ℕ) where
       let at : ℕ = sits_place sits outer in
       let E : ℕ = done_items_end k done at in
       let is : Items = joined_items done (item i) in
-      let s : SeatedItems sits (inner_indent fs) k is outer = seated_items sits k fs is outer h.nested.0 in
+      let s : SeatedItems sits (inner_indent fs) k is outer =
+      subst (λ j. SeatedItems sits (inner_indent fs) j is outer) (own_is sits k fs h.nested.0)
+      (items_sit sits (inner_indent fs) is outer) in
       let long : at + byte_len (items_text is k) ≡ E + byte_len (items_text (item i) k) =
       items_long k done (item i) at in
       let one : byte_len (items_text (item i) k) ≡ 1 + byte_len (indented_text i k) = refl in
@@ -399,7 +393,9 @@ module _ (W : Read Indented) (text : List ℕ) (from : ℕ) where
       let at : ℕ = sits_place h.sits outer in
       let P : ℕ = done_pairs_end k h.done at in
       let ps : Pairs = joined_pairs h.done (pair h.last) in
-      let s : SeatedPairs h.sits (inner_indent fs) k ps outer = seated_pairs h.sits k fs ps outer h.seated in
+      let s : SeatedPairs h.sits (inner_indent fs) k ps outer =
+      subst (λ j. SeatedPairs h.sits (inner_indent fs) j ps outer) (own_is h.sits k fs h.seated)
+      (pairs_sit h.sits (inner_indent fs) ps outer) in
       let long : at + byte_len (pairs_text ps k) ≡ P + byte_len (pair_text h.last k) =
       pairs_long k h.done (pair h.last) at in
       record {
