@@ -124,7 +124,8 @@ module _ (W : Read Indented) (text : List ℕ) (from : ℕ) where
       → sign 45 (rest text prefix) && nat_le m (if shallow then suc s else s) ≡ false
       → nat_le m (spaces_before (rest text start)) && not (first white (past_spaces (rest text start))) ≡ false
       → is_empty h.comments || nat_le m (spaces_before (rest text start)) ≡ true
-      → drop_while white (rest text start) ≡ rest text lead → start + byte_len (take_while white (rest text start)) ≡ lead
+      → drop_while white (rest text start) ≡ rest text lead → start + byte_len (take_while white (rest text start))
+      ≡ lead
       → starts_line (line_starts text start) (take_while white (rest text start)) ≡ line_starts text lead
       → AtLeaf W text from fs evs m None lead
   leaf_only fs evs m shallow alone start s prefix lead h c e d unpaired fits drops p b =
@@ -151,7 +152,8 @@ module _ (W : Read Indented) (text : List ℕ) (from : ℕ) where
       → spaces_before (rest text start) ≡ s → past_spaces (rest text start) ≡ rest text prefix
       → sign 45 (rest text prefix) && nat_le m (if shallow then suc s else s) ≡ false → nat_le m s ≡ true
       → first white (rest text prefix) ≡ true
-      → drop_while white (rest text start) ≡ rest text lead → start + byte_len (take_while white (rest text start)) ≡ lead
+      → drop_while white (rest text start) ≡ rest text lead → start + byte_len (take_while white (rest text start))
+      ≡ lead
       → starts_line (line_starts text start) (take_while white (rest text start)) ≡ line_starts text lead
       → AtLeaf W text from fs evs m None lead
   line_leaf_after_tab fs evs m shallow alone start s prefix lead h c e d l w drops p b =
@@ -164,7 +166,8 @@ module _ (W : Read Indented) (text : List ℕ) (from : ℕ) where
       → spaces_before (rest text start) ≡ s → past_spaces (rest text start) ≡ rest text prefix
       → sign 45 (rest text prefix) && nat_le m (if shallow then suc s else s) ≡ false → nat_le m s ≡ false
       → alone ≡ true
-      → drop_while white (rest text start) ≡ rest text lead → start + byte_len (take_while white (rest text start)) ≡ lead
+      → drop_while white (rest text start) ≡ rest text lead → start + byte_len (take_while white (rest text start))
+      ≡ lead
       → starts_line (line_starts text start) (take_while white (rest text start)) ≡ line_starts text lead
       → AtLeaf W text from fs evs m None lead
   line_leaf_alone fs evs m shallow alone start s prefix lead h c e d l a drops p b =

@@ -118,8 +118,8 @@ record SeatedPart (sits : Sits) (n k : ℕ) (part : Indented) (spelled : ℕ →
   events : indented_events part n at ≡ means k (sits_place sits at)
 
 lines_long : (comments : List LineEnd) (j : ℕ) (lines : List ℕ) (at : ℕ)
-    → at + byte_len (comments_text comments ++ spaces j ++ lines) ≡ at + byte_len (comments_text comments) + j + byte_len
-    lines
+    → at + byte_len (comments_text comments ++ spaces j ++ lines) ≡ at + byte_len (comments_text comments) + j
+    + byte_len lines
 lines_long comments j lines at =
     let a : byte_len (comments_text comments ++ spaces j ++ lines) ≡ byte_len (comments_text comments ++ spaces j)
     + byte_len lines = byte_len_joined (comments_text comments ++ spaces j) lines in

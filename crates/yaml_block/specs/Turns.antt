@@ -80,7 +80,8 @@ abbrev pub EndsAlone : Reader → Reader → Option Next → Type 0
 EndsAlone old new next = MatchOption next (new.collections.items ≡ old.collections.items) (λ _. Unit {0})
 
 -- what a step makes of the line after a part of a collection: it goes on, or it ends
-pub record IsTurn (PartIs : Part) (text : List ℕ) (after : NextLine) (old new : Reader) (next : Option Next) : Type 0 where
-  pub onward : MayGoOn text after.line.start next
-  pub turns : Turns PartIs text after old new next
-  pub ended : EndsAlone old new next
+pub record IsTurn (PartIs : Part) (text : List ℕ) (after : NextLine) (old new : Reader) (next : Option Next) : Type 0
+  where
+    pub onward : MayGoOn text after.line.start next
+    pub turns : Turns PartIs text after old new next
+    pub ended : EndsAlone old new next

@@ -41,7 +41,8 @@ inside_widens flow_key e = refl
 
 -- the collection that is read, before these events
 abbrev pub outermost : ℕ → FlowContext → List ℕ → ℕ → EventList → Collection
-outermost n c text at kept = record { reads = flow_node_at n c (line_starts text at) (rest text at); start = at; kept = kept }
+outermost n c text at kept =
+    record { reads = flow_node_at n c (line_starts text at) (rest text at); start = at; kept = kept }
 
 -- ---- the events at the start
 
@@ -190,7 +191,8 @@ pub record Reading (n : ℕ) (d : FlowContext) (text : List ℕ) (from : ℕ) (w
   pub within : line ≤ place_of next
   pub starts : All (Started text line (place_of next)) opens
 
-module _ {n : ℕ} {d : FlowContext} {text : List ℕ} {from : ℕ} {whole : Collection} {opens : List Open} {top : Open} {next : Next} {events : EventList} {line : ℕ}
+module _ {n : ℕ} {d : FlowContext} {text : List ℕ} {from : ℕ} {whole : Collection} {opens : List Open} {top : Open}
+    {next : Next} {events : EventList} {line : ℕ}
     (r : Reading n d text from whole opens top next events line) where
   -- the state before the next step
   pub before : (here : Next) → next ≡ here → Reading n d text from whole opens top here events line
@@ -198,8 +200,10 @@ module _ {n : ℕ} {d : FlowContext} {text : List ℕ} {from : ℕ} {whole : Col
 
   -- a step that goes on
   pub turned : (here : Next) → next ≡ here → {more : List Open} {top' : Open} {to : Next} {new : EventList} {line' : ℕ}
-      → (Waits n d text whole opens top here events → Waits n d text whole more top' to new) → (All (Started text line (place_of here)) opens → All (Started text line (place_of here)) more)
-      → Onward text (place_of here) to → LineMoves text line (place_of here) line' (place_of to) → Reading n d text from whole more top' to new line'
+      → (Waits n d text whole opens top here events → Waits n d text whole more top' to new)
+      → (All (Started text line (place_of here)) opens → All (Started text line (place_of here)) more)
+      → Onward text (place_of here) to → LineMoves text line (place_of here) line' (place_of to)
+      → Reading n d text from whole more top' to new line'
   turned here e {more} {top'} {to} {new} {line'} w s o m =
       let b : Reading n d text from whole opens top here events line = before here e in
       record {
@@ -211,14 +215,16 @@ module _ {n : ℕ} {d : FlowContext} {text : List ℕ} {from : ℕ} {whole : Col
 
   -- a step of the innermost bracket alone
   pub stepped : (here : Next) → next ≡ here → {top' : Open} {to : Next} {new : EventList} {line' : ℕ}
-      → ((w : Collection) → Stands n d text w top here events → Stands n d text w top' to new) → Onward text (place_of here) to
+      → ((w : Collection) → Stands n d text w top here events → Stands n d text w top' to new)
+      → Onward text (place_of here) to
       → LineMoves text line (place_of here) line' (place_of to) → Reading n d text from whole opens top' to new line'
   stepped here e h o m =
       turned here e (λ w. record { inner = w.inner; around = w.around; stack = w.stack; stands = h w.inner w.stands })
       (λ s. s) o m
 
   -- a step that refuses shows that there is no node
-  pub refused : (here : Next) → next ≡ here → ((w : Collection) → Stands n d text w top here events → w.reads ≡ None) → whole.reads ≡ None
+  pub refused : (here : Next) → next ≡ here → ((w : Collection) → Stands n d text w top here events → w.reads ≡ None)
+      → whole.reads ≡ None
   refused here e h =
       let w : Waits n d text whole opens top here events = (before here e).waits in
       stack_none n d text whole w.around opens w.inner w.stack (h w.inner w.stands)
@@ -232,7 +238,8 @@ module _ {n : ℕ} {d : FlowContext} {text : List ℕ} {from : ℕ} {whole : Col
   kept_on new h k = kept_once new k (h k)
 
   -- the innermost bracket is closed, and the one around it goes on
-  pub closed : (prefix : List Open) (frame : Open) (end : ℕ) → next ≡ Closed end → opens ≡ prefix ++ frame ∷ [] → Popped n d text whole prefix frame end events
+  pub closed : (prefix : List Open) (frame : Open) (end : ℕ) → next ≡ Closed end → opens ≡ prefix ++ frame ∷ []
+      → Popped n d text whole prefix frame end events
   closed prefix frame end e p = popped n d text whole opens prefix top frame next end events r.waits e p
 
   -- how the frames of the brackets that stay open, and of the one that goes on, started

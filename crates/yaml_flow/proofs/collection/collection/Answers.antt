@@ -23,7 +23,8 @@ returns-in_err-next-clause-none c =
     let at = c.args.at in
     fault_passed c.from_residual-in_err-next.result c.in_err-next.field-0.0 _ _
     (λ f. f (outermost n outside text at c.args.events.now) c.args.in_seq c.begin.new.events
-    (opened n outside (context_of c.inside.result) text at c.args.in_seq c.args.events.now c.begin.new.events c.inside.ensures c.requires.bracket (c.in_ok-top.ensures.written text)))
+    (opened n outside (context_of c.inside.result) text at c.args.in_seq c.args.events.now c.begin.new.events
+    c.inside.ensures c.requires.bracket (c.in_ok-top.ensures.written text)))
     c.in_err-next.ensures.none (err_from_is_err_and c.from_residual-in_err-next.result c.from_residual-in_err-next.ensures.1)
 
 pub nodes-init : goal.nodes-init
@@ -45,11 +46,14 @@ nodes-init c =
           inner = whole;
           around = [];
           stack = (c.new-outer.ensures.items, refl);
-          stands = c.in_ok-next.ensures.stands whole top c.begin.new.events (subst (λ s. BeforeGap n d text whole s (at + 1) c.begin.new.events) (sym c.in_ok-top.ensures.kind) before);
+          stands = c.in_ok-next.ensures.stands whole top c.begin.new.events
+              (subst (λ s. BeforeGap n d text whole s (at + 1) c.begin.new.events) (sym c.in_ok-top.ensures.kind)
+              before);
         };
         onward = c.in_ok-next.ensures.onward;
         within = moves.within (omega arith);
-        starts = All-same (Started text c.pass.new.line (place_of next)) c.new-outer.result.items [] c.new-outer.ensures.items (All-nil (Started text c.pass.new.line (place_of next)));
+        starts = All-same (Started text c.pass.new.line (place_of next)) c.new-outer.result.items []
+            c.new-outer.ensures.items (All-nil (Started text c.pass.new.line (place_of next)));
       };
       inner = ap inside c.inside.ensures ∙ (inside_twice outside ∙ sym c.inside.ensures);
     }
@@ -75,11 +79,14 @@ returns-in_err-next-in-Node-clause-kept c = kept_on c.nodes.invariant.reading c.
 pub returns-in_err-next-in-AfterEntry-clause-none : goal.returns-in_err-next-in-AfterEntry-clause-none
 returns-in_err-next-in-AfterEntry-clause-none c =
     fault_passed c.from_residual-in_err-next-in-AfterEntry.result c.in_err-next-in-AfterEntry.field-0.0 _ _
-    (refused c.nodes.invariant.reading (AfterEntry c.in-AfterEntry.at) c.in-AfterEntry.is) c.in_err-next-in-AfterEntry.ensures.none
-    (err_from_is_err_and c.from_residual-in_err-next-in-AfterEntry.result c.from_residual-in_err-next-in-AfterEntry.ensures.1)
+    (refused c.nodes.invariant.reading (AfterEntry c.in-AfterEntry.at) c.in-AfterEntry.is)
+    c.in_err-next-in-AfterEntry.ensures.none
+    (err_from_is_err_and c.from_residual-in_err-next-in-AfterEntry.result
+    c.from_residual-in_err-next-in-AfterEntry.ensures.1)
 
 pub returns-in_err-next-in-AfterEntry-clause-kept : goal.returns-in_err-next-in-AfterEntry-clause-kept
-returns-in_err-next-in-AfterEntry-clause-kept c = kept_on c.nodes.invariant.reading c.after_entry.new.events c.after_entry.ensures.kept
+returns-in_err-next-in-AfterEntry-clause-kept c =
+    kept_on c.nodes.invariant.reading c.after_entry.new.events c.after_entry.ensures.kept
 
 pub returns-in-None-clause-found : goal.returns-in-None-clause-found
 returns-in-None-clause-found c =
@@ -88,9 +95,11 @@ returns-in-None-clause-found c =
     let at = c.args.at in
     let whole : Collection = outermost n (context_of c.args.c) text at c.args.events.now in
     let reading = c.nodes.invariant.reading in
-    let on : Onward text (at + 1) (Closed c.in-Closed.end) = subst (λ x. Onward text (at + 1) x) c.in-Closed.is reading.onward in
+    let on : Onward text (at + 1) (Closed c.in-Closed.end) = subst (λ x. Onward text (at + 1) x) c.in-Closed.is
+    reading.onward in
     let all : WholeRead n (context_of c.inside.result) text whole c.in-Closed.end c.nodes.events =
-    whole_read n (context_of c.inside.result) text whole c.nodes.outer.items c.nodes.top c.nodes.next c.in-Closed.end c.nodes.events reading.waits c.in-Closed.is
+    whole_read n (context_of c.inside.result) text whole c.nodes.outer.items c.nodes.top c.nodes.next c.in-Closed.end
+    c.nodes.events reading.waits c.in-Closed.is
     (omega (arith, c.in-None.ensures.cases.0, c.nodes.outer.ok.0)) in
     let above = on.above in
     record {
@@ -107,11 +116,13 @@ pub returns-in-None-clause-kept : goal.returns-in-None-clause-kept
 returns-in-None-clause-kept c = kept_on c.nodes.invariant.reading c.nodes.events (λ k l. (l, refl))
 
 pub plug-requires-clause-start : goal.plug-requires-clause-start
-plug-requires-clause-start c = (started c.nodes.invariant.reading c.pop.new.self.items c.in-Some.frame c.in-Some.ensures.items).1.boundary
+plug-requires-clause-start c =
+    (started c.nodes.invariant.reading c.pop.new.self.items c.in-Some.frame c.in-Some.ensures.items).1.boundary
 
 pub plug-requires-clause-count : goal.plug-requires-clause-count
 plug-requires-clause-count c =
-    (closed c.nodes.invariant.reading c.pop.new.self.items c.in-Some.frame c.in-Closed.end c.in-Closed.is c.in-Some.ensures.items).count
+    (closed c.nodes.invariant.reading c.pop.new.self.items c.in-Some.frame c.in-Closed.end c.in-Closed.is
+    c.in-Some.ensures.items).count
 
 pub plug-requires-clause-line : goal.plug-requires-clause-line
 plug-requires-clause-line c =
@@ -120,15 +131,18 @@ plug-requires-clause-line c =
 
 pub returns-in_err-next-in-Some-clause-none : goal.returns-in_err-next-in-Some-clause-none
 returns-in_err-next-in-Some-clause-none c =
-    let p = closed c.nodes.invariant.reading c.pop.new.self.items c.in-Some.frame c.in-Closed.end c.in-Closed.is c.in-Some.ensures.items in
+    let p = closed c.nodes.invariant.reading c.pop.new.self.items c.in-Some.frame c.in-Closed.end c.in-Closed.is
+    c.in-Some.ensures.items in
     fault_passed c.from_residual-in_err-next-in-Some.result c.in_err-next-in-Some.field-0.0 _ _
-    (λ f. stack_none c.args.n (context_of c.inside.result) c.args.text.now (outermost c.args.n (context_of c.args.c) c.args.text.now c.args.at c.args.events.now) p.around
+    (λ f. stack_none c.args.n (context_of c.inside.result) c.args.text.now
+    (outermost c.args.n (context_of c.args.c) c.args.text.now c.args.at c.args.events.now) p.around
     c.pop.new.self.items p.outer p.stack (f p.outer p.node))
     c.in_err-next-in-Some.ensures.none (err_from_is_err_and c.from_residual-in_err-next-in-Some.result c.from_residual-in_err-next-in-Some.ensures.1)
 
 pub returns-in_err-next-in-Some-clause-kept : goal.returns-in_err-next-in-Some-clause-kept
 returns-in_err-next-in-Some-clause-kept c =
-    let p = closed c.nodes.invariant.reading c.pop.new.self.items c.in-Some.frame c.in-Closed.end c.in-Closed.is c.in-Some.ensures.items in
+    let p = closed c.nodes.invariant.reading c.pop.new.self.items c.in-Some.frame c.in-Closed.end c.in-Closed.is
+    c.in-Some.ensures.items in
     let room = p.kept in
     λ k l. kept_once c.nodes.invariant.reading c.plug.new.events k (c.plug.ensures.kept k (omega (arith, l, room))) l
 
@@ -136,7 +150,8 @@ pub nodes-preserved-in_ok-next-in-Entry : goal.nodes-preserved-in_ok-next-in-Ent
 nodes-preserved-in_ok-next-in-Entry c =
     let done = c.in_ok-next-in-Entry in
     record {
-      reading = stepped c.nodes.invariant.reading (Entry c.in-Entry.at) c.in-Entry.is done.ensures.stands done.ensures.onward done.ensures.line;
+      reading = stepped c.nodes.invariant.reading (Entry c.in-Entry.at) c.in-Entry.is done.ensures.stands
+          done.ensures.onward done.ensures.line;
       inner = c.nodes.invariant.inner;
     }
 
@@ -144,7 +159,8 @@ pub nodes-preserved-in_ok-next-in-AfterEntry : goal.nodes-preserved-in_ok-next-i
 nodes-preserved-in_ok-next-in-AfterEntry c =
     let done = c.in_ok-next-in-AfterEntry in
     record {
-      reading = stepped c.nodes.invariant.reading (AfterEntry c.in-AfterEntry.at) c.in-AfterEntry.is done.ensures.stands done.ensures.onward done.ensures.line;
+      reading = stepped c.nodes.invariant.reading (AfterEntry c.in-AfterEntry.at) c.in-AfterEntry.is
+          done.ensures.stands done.ensures.onward done.ensures.line;
       inner = c.nodes.invariant.inner;
     }
 
@@ -154,8 +170,10 @@ nodes-preserved-in_ok-next-in-Node c =
     let here = before c.nodes.invariant.reading (Node c.in-Node.at) c.in-Node.is in
     record {
       reading = turned c.nodes.invariant.reading (Node c.in-Node.at) c.in-Node.is
-          (λ w. done.ensures.stands (outermost c.args.n (context_of c.args.c) c.args.text.now c.args.at c.args.events.now) w.inner w.around w.stack w.stands)
-          (starts_push c.args.text.now c.nodes.line c.in-Node.at c.nodes.outer.items c.node.new.outer.items here.onward.boundary here.within done.ensures.opened)
+          (λ w. done.ensures.stands (outermost c.args.n (context_of c.args.c) c.args.text.now c.args.at
+          c.args.events.now) w.inner w.around w.stack w.stands)
+          (starts_push c.args.text.now c.nodes.line c.in-Node.at c.nodes.outer.items c.node.new.outer.items
+          here.onward.boundary here.within done.ensures.opened)
           done.ensures.onward done.ensures.line;
       inner = c.nodes.invariant.inner;
     }
@@ -163,11 +181,18 @@ nodes-preserved-in_ok-next-in-Node c =
 pub nodes-preserved : goal.nodes-preserved
 nodes-preserved c =
     let done = c.in_ok-next-in-Some in
-    let p = closed c.nodes.invariant.reading c.pop.new.self.items c.in-Some.frame c.in-Closed.end c.in-Closed.is c.in-Some.ensures.items in
+    let p = closed c.nodes.invariant.reading c.pop.new.self.items c.in-Some.frame c.in-Closed.end c.in-Closed.is
+    c.in-Some.ensures.items in
     record {
       reading = turned c.nodes.invariant.reading (Closed c.in-Closed.end) c.in-Closed.is
-          (λ w. record { inner = p.outer; around = p.around; stack = p.stack; stands = done.ensures.stands p.outer p.node })
-          (λ s. (starts_pop c.args.text.now c.nodes.line c.in-Closed.end c.nodes.outer.items c.pop.new.self.items c.in-Some.frame c.in-Some.ensures.items s).0)
+          (λ w. record {
+            inner = p.outer;
+            around = p.around;
+            stack = p.stack;
+            stands = done.ensures.stands p.outer p.node;
+          })
+          (λ s. (starts_pop c.args.text.now c.nodes.line c.in-Closed.end c.nodes.outer.items c.pop.new.self.items
+          c.in-Some.frame c.in-Some.ensures.items s).0)
           done.ensures.onward done.ensures.line;
       inner = c.nodes.invariant.inner;
     }

@@ -7,7 +7,8 @@ use Rattle.yaml_flow.proofs.collection.collection.Given as goal
 
 abbrev pub invariant-nodes : goal.invariant-nodes
 invariant-nodes l = record {
-  reading : Reading l.setting.n (context_of l.setting.context) l.text l.fn.at (outermost l.fn.n (context_of l.fn.c) l.text l.fn.at l.fn.events) l.outer.items l.top l.next l.events l.line;
+  reading : Reading l.setting.n (context_of l.setting.context) l.text l.fn.at
+      (outermost l.fn.n (context_of l.fn.c) l.text l.fn.at l.fn.events) l.outer.items l.top l.next l.events l.line;
   inner : inside (context_of l.setting.context) ≡ context_of l.setting.context;
 }
 

@@ -64,18 +64,23 @@ returns-in_err-begin_pair-clause-none c =
 
 -- with its key read, the pair is at its `:`
 pair_begun : (c : goal.After-value) → (w : Collection)
-    → NodeRead c.args.setting.n (context_of c.args.setting.context) c.args.text.now w c.args.top.now c.args.node_end c.args.end c.args.events.now
-    → AtColon c.args.setting.n (context_of c.args.setting.context) c.args.text.now w c.args.top.now.in_seq c.args.node_end c.in_ok-after.after c.begin_pair.new.events
+    → NodeRead c.args.setting.n (context_of c.args.setting.context) c.args.text.now w c.args.top.now c.args.node_end
+    c.args.end c.args.events.now
+    → AtColon c.args.setting.n (context_of c.args.setting.context) c.args.text.now w c.args.top.now.in_seq
+    c.args.node_end c.in_ok-after.after c.begin_pair.new.events
 pair_begun c =
     let text = c.args.text.now in
     let top = c.args.top.now in
     let colon = c.in_ok-after.after in
     let line = c.pass_gap.new.line in
     let p : top.part ≡ Value → ⊥ = not_value top.part (sym c.is_value.ensures ∙ c.if-is_value.false) in
-    let sign : is_colon (context_of c.args.setting.context) (ends_plain c.args.node_end) (rest text colon) ≡ true = sym c.colon_at.ensures ∙ c.if-not-colon_at.false in
+    let sign : is_colon (context_of c.args.setting.context) (ends_plain c.args.node_end) (rest text colon) ≡ true =
+    sym c.colon_at.ensures ∙ c.if-not-colon_at.false in
     let same : SameLine text line top.start colon = c.in_ok-after.ensures.line.tells top.start c.requires.start c.requires.order c.requires.line in
-    λ w. colon_read c.args.setting.n (context_of c.args.setting.context) text w top c.args.node_end line c.args.end colon c.args.events.now c.begin_pair.new.events c.utf8.text c.requires.start c.requires.end c.requires.order
-    (inside_widens (context_of c.args.setting.context) c.requires.inside) p c.in_ok-after.ensures.found sign same c.in_ok-begin_pair.ensures.begun
+    λ w. colon_read c.args.setting.n (context_of c.args.setting.context) text w top c.args.node_end line c.args.end
+    colon c.args.events.now c.begin_pair.new.events c.utf8.text c.requires.start c.requires.end c.requires.order
+    (inside_widens (context_of c.args.setting.context) c.requires.inside) p c.in_ok-after.ensures.found sign same
+    c.in_ok-begin_pair.ensures.begun
 
 pub returns-clause-stands : goal.returns-clause-stands
 returns-clause-stands c = ok_so c.value.result _ _ (λ next h w here. h w (pair_begun c w here)) c.value.ensures.stands

@@ -38,7 +38,8 @@ pub collections-preserved : goal.collections-preserved
 collections-preserved c = record {
   part = unwinds_more c.args.text.now c.args.after c.args.self.now c.collections.self
       (record c.collections.self { collections = c.pop.new.self }) c.after_part.new.self c.in-Some.collection
-      c.in_ok-next.field-0 c.collections.invariant.part c.in-Some.ensures.items refl refl c.in_ok-next.ensures.turn.turns
+      c.in_ok-next.field-0 c.collections.invariant.part c.in-Some.ensures.items refl refl
+      c.in_ok-next.ensures.turn.turns
       c.in_default-2.is;
   grown = grown_grown c.args.self.now.events c.collections.self.events c.after_part.new.self.events
       c.collections.invariant.grown c.in_ok-next.ensures.grown;
