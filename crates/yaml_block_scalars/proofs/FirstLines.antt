@@ -1,25 +1,21 @@
 -- The first line of a block scalar, by what is at its places.
-use Rattle.std.proofs.Common.{◌≡◌, ℕ, ◌+◌, ◌-◌, ◌<◌, ◌≤◌, ◌⊎◌, Bool, true, false, List, [], ◌∷◌, ◌++◌, Option, Some, None, refl, ap, sym, ◌∙◌, subst, arith, length, inl, inr, get_or}
-use Rattle.std.specs.Prelude.{◌&&◌, ◌||◌, ◌==◌, cond, IfNone, IfSome, MatchOption}
+use Rattle.std.proofs.Common.{◌≡◌, ℕ, ◌+◌, ◌-◌, ◌<◌, ◌≤◌, ◌⊎◌, Bool, true, false, List, [], ◌∷◌, Option, Some, None, refl, ap, sym, ◌∙◌, arith, length, inl, inr, get_or}
+use Rattle.std.specs.Prelude.{◌||◌, ◌==◌, cond, IfNone, IfSome, MatchOption}
 use Rattle.std.specs.Char.{len_utf8}
 use Rattle.std.specs.Str.{IsUtf8, IsCharBoundary}
-use Rattle.std.proofs.lemmas.Bool.{and_from, and_right, cases_Bool, cond-true, cond-false, ne_eqb, le-leb, false≢true}
+use Rattle.std.proofs.lemmas.Bool.{and_from, cond-true, cond-false, le-leb, false≢true}
 use Rattle.std.proofs.lemmas.Bool.Decides.{nat_tests}
-use Rattle.yaml_chars.specs.Classes.{in_range, nb, white}
+use Rattle.yaml_chars.specs.Classes.{in_range}
 use Rattle.yaml_chars.specs.Places.{rest}
-use Rattle.yaml_chars.specs.Places.{between}
 use Rattle.yaml_chars.proofs.Places.{char_at, rest-end}
 use Rattle.yaml_chars.proofs.Runs.{IsBlind}
 use Rattle.yaml_grammar.specs.BlockScalars.{Chomping, strip, clip, keep, Header}
-use Rattle.yaml_grammar.specs.Separation.{Break, lf, cr, cr_lf, LineEnd}
+use Rattle.yaml_grammar.specs.Separation.{LineEnd}
 use Rattle.yaml_grammar.specs.Texts.{first}
 use Rattle.yaml_recognizers.proofs.BlockScalars.BlockScalarFacts.{header_is, no_header}
-use Rattle.yaml_recognizers.proofs.Basics.Prefixes.{take_while_split}
 use Rattle.yaml_recognizers.specs.BlockScalarFacts.{IsHeader, NoHeader}
 use Rattle.yaml_recognizers.specs.BlockScalars.{read_digit, read_mark, after_digit, read_header, read_header_end}
-use Rattle.yaml_recognizers.specs.CanonicalComments.{hash}
 use Rattle.yaml_recognizers.specs.Comments.{read_line_end}
-use Rattle.yaml_recognizers.specs.Prefixes.{take_while, drop_while}
 use Rattle.yaml_recognizers.specs.Reading.{Read, on}
 use Rattle.yaml_block_scalars.specs.HeaderPlaces.{AreSigns, IsDigit, IsHeaderEnd, IsMark}
 use Rattle.yaml_scan.specs.Lines.{IsLineEnd}

@@ -1,6 +1,6 @@
 -- A line starts after a header, and after the body of a scalar, or the text ends there.
-use Rattle.std.proofs.Common.{◌≡◌, refl, sym, ◌∙◌, ap, append_assoc, arith, inl, inr}
-use Rattle.std.specs.Prelude.{ℕ, ◌≤◌, Bool, true, false, ◌&&◌, ◌⊎◌, ◌==◌, List, [], ◌∷◌, ◌++◌, Option, Some, None, codes, flat_map, if◌then◌else◌}
+use Rattle.std.proofs.Common.{◌≡◌, refl, sym, ◌∙◌, ap, arith, inl, inr}
+use Rattle.std.specs.Prelude.{ℕ, ◌≤◌, Bool, true, false, ◌⊎◌, ◌==◌, List, [], ◌∷◌, ◌++◌, Option, Some, None}
 use Rattle.std.specs.Str.{IsUtf8, IsCharBoundary}
 use Rattle.std.proofs.lemmas.Bool.{and_parts, cond_both, false≢true, not-true}
 use Rattle.std.proofs.lemmas.List.{append_cancel_right}
@@ -9,13 +9,13 @@ use Rattle.yaml_chars.specs.Classes.{line_break}
 use Rattle.yaml_chars.specs.Places.{rest, between}
 use Rattle.yaml_chars.proofs.Places.{between-append, rest-between}
 use Rattle.yaml_events.specs.EventPlaces.{line_starts, without_mark}
-use Rattle.yaml_grammar.specs.BlockScalars.{Body, Chomping, Gap, Header, TextLine, body_text, chomping_text, digit_text, gap_line_text, gaps_text, goes_on, header_text, text_line_fits, text_line_text, text_lines_fit, text_lines_text}
-use Rattle.yaml_grammar.specs.Separation.{Break, LineEnd, break_text, comment_text, cr, cr_lf, lf, line_end_text, stop_fits}
+use Rattle.yaml_grammar.specs.BlockScalars.{Body, Gap, TextLine, body_text, gap_line_text, gaps_text, goes_on, text_line_fits, text_line_text, text_lines_fit, text_lines_text}
+use Rattle.yaml_grammar.specs.Separation.{Break, break_text, cr, cr_lf, lf, stop_fits}
 use Rattle.yaml_grammar.specs.Texts.{is_empty, optional, spaces, starts_line}
-use Rattle.yaml_recognizers.specs.BlockScalarFacts.{BodyStands, HeaderStands, IsBody}
+use Rattle.yaml_recognizers.specs.BlockScalarFacts.{BodyStands}
 use Rattle.yaml_recognizers.proofs.Basics.LineStarts.{starts_joined}
 use Rattle.yaml_block_scalars.specs.declared.parts.Header.{Header as ScannedHeader}
-use Rattle.yaml_block_scalars.specs.Found.{IsBodyAt, IsHeaderAt}
+use Rattle.yaml_block_scalars.specs.Found.{IsBodyAt}
 use Rattle.yaml_scan.specs.Lines.{IsLineStart}
 
 -- ---- texts: a line starts after xs, or nothing comes after it

@@ -1,4 +1,4 @@
-use Rattle.std.proofs.Common.{◌<◌, ap, arith, get_or, length}
+use Rattle.std.proofs.Common.{◌<◌, arith, length}
 use Rattle.yaml_block_scalars.proofs.Feeds.{feeds_all, feeds_cut, feeds_more, feeds_none, feeds_stopped}
 use Rattle.yaml_block_scalars.proofs.scalar.feeds_end.Goals as goal
 
