@@ -3,7 +3,7 @@ use Rattle.std.specs.Prelude.{◌≡◌, ℕ, List, get_or, All, Option, Some, N
 use Rattle.conf_disk.specs.Folder.{File, empty_file, Stage, Folder, stages, bytes_under, Reads}
 use Rattle.conf_disk.specs.Image.{Image, IsImage, IsTorn, synced_file}
 use Rattle.conf_disk.specs.declared.disk.Content.TheVariants.{Missing}
-use Rattle.conf_disk.specs.declared.disk.Name.TheVariants.{Store}
+use Rattle.conf_disk.specs.declared.disk.Name.TheVariants.{Store, Next}
 use Rattle.conf_journal.specs.Store.{IsStoreOf}
 
 abbrev pub file_at : List File → Option ℕ → Option File
@@ -14,6 +14,10 @@ file_at files (Some id) = Some (get_or files id empty_file)
 pub record HoldsStore (folder : Folder) (file : Option File) : Type 0 where
   pub same : All (λ (stage : Stage). stage.store ≡ folder.now.store) (stages folder)
   pub is : file_at folder.files folder.now.store ≡ file
+
+-- the store holds the bytes that were staged, and nothing of them is pending
+abbrev pub HoldsStaged : Folder → Folder → Type 0
+HoldsStaged old new = (bytes : List ℕ) → bytes_under old Next ≡ Some bytes → HoldsStore new (Some (synced_file bytes))
 
 -- what a stop leaves of a file, where there is one
 abbrev pub IsLeftOf : Option File → Option (List ℕ) → Type 0

@@ -1,9 +1,10 @@
 -- What a stop may leave under `store.yaml`, in plain words.
 use Rattle.std.specs.Prelude.{◌≡◌, ◌⊎◌, ℕ, ◌+◌, ◌≤◌, List, [], ◌++◌, length, get_or, take, replicate, Option, Some, None, option_map}
-use Rattle.conf_disk.specs.Folder.{File, empty_file, Folder, under}
+use Rattle.conf_disk.specs.Folder.{File, empty_file, Folder, under, bytes_under}
 use Rattle.conf_disk.specs.Image.{Image, IsImage, image_now}
 use Rattle.conf_disk.specs.Moments.{LeavesOnly}
 use Rattle.conf_disk.specs.declared.disk.Name.{Name}
+use Rattle.conf_disk.specs.declared.disk.Name.TheVariants.{Store, Next}
 
 -- the most bytes of `store.yaml`
 abbrev pub store_limit : ℕ
@@ -22,6 +23,10 @@ LeavesOldStore folder moment left old new = LeavesOnly moment left old new (λ i
 -- an old store, or this one
 abbrev pub LeavesStoreOr : {D : Type 0} → (D → Folder) → (D → ℕ) → (D → ℕ → Image → Type 0) → Option (List ℕ) → D → D → Type 0
 LeavesStoreOr folder moment left other old new = LeavesOnly moment left old new (λ image. IsStoreOf (folder old) image.store ⊎ (image.store ≡ other))
+
+-- an old store, or the staged file
+abbrev pub LeavesStoreOrStaged : {D : Type 0} → (D → Folder) → (D → ℕ) → (D → ℕ → Image → Type 0) → D → D → Type 0
+LeavesStoreOrStaged folder moment left old new = LeavesStoreOr folder moment left (bytes_under (folder old) Next) old new
 
 -- the old bytes, a prefix of the new, and zeros, together no more than the old and the new
 pub record IsTail (old : Option (List ℕ)) (bytes : List ℕ) (store : Option (List ℕ)) : Type 0 where
@@ -47,3 +52,7 @@ file_with_bytes old bytes = option_map (λ (start : List ℕ). start ++ bytes) o
 -- the folder reads so under the two names
 abbrev pub ReadsAs : Folder → Option (List ℕ) → Option (List ℕ) → Type 0
 ReadsAs folder store next = image_now folder ≡ record { store = store; next = next }
+
+-- the new folder reads as the old one does with more bytes in the store
+abbrev pub ReadsAppended : List ℕ → Folder → Folder → Type 0
+ReadsAppended bytes old new = ReadsAs new (file_with_bytes (bytes_under old Store) bytes) (bytes_under old Next)

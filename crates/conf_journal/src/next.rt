@@ -1,11 +1,11 @@
 // The procedures that replace the live file by a new one.
-ghost use Rattle.std.specs.Prelude.{◌≡◌, ◌≢◌, ◌⊎◌, ℕ, List, [], ◌∷◌, Option, IsSome, OnOk, Some, None, Err};
+ghost use Rattle.std.specs.Prelude.{◌≡◌, ◌≢◌, ◌⊎◌, [], ◌∷◌, Option, IsSome, OnOk, Some, None, Err};
 ghost use Rattle.conf_disk.specs.Folder.{File, CreateNext, Append, Sync, RenameNext, RemoveNext, SyncFolder, after, bytes_under};
-ghost use Rattle.conf_disk.specs.Image.{IsImage, synced_file};
+ghost use Rattle.conf_disk.specs.Image.{IsImage};
 ghost use Rattle.conf_disk.specs.Log.{folder_after};
 ghost use Rattle.conf_disk.specs.Moments.{CountsFailures, LeavesOnly};
-ghost use Rattle.conf_journal.specs.Store.{IsSynced, LeavesOldStore, LeavesStoreOr, ReadsAs, file_with_bytes};
-ghost use Rattle.conf_journal.specs.Held.{HoldsStore};
+ghost use Rattle.conf_journal.specs.Store.{IsSynced, LeavesOldStore, LeavesStoreOrStaged, ReadsAs, file_with_bytes};
+ghost use Rattle.conf_journal.specs.Held.{HoldsStaged, HoldsStore};
 
 use conf_disk::{Disk, DiskFault, Name};
 
@@ -130,11 +130,9 @@ pub fn swap_next<D: Disk>(disk: &mut D) -> Result<(), DiskFault>
         OnOk result (ReadsAs (D.folder disk.new) (bytes_under (D.folder disk.old) Name.Next) None) }
     // A crash leaves an old store, or the whole staged file.
     ensures store { D.honest →
-        LeavesStoreOr D.folder D.moment D.left (bytes_under
-        (D.folder disk.old) Name.Next) disk.old disk.new }
-    ensures holds { D.honest → (bytes : List ℕ) → bytes_under (D.folder disk.old) Name.Next
-        ≡ Some bytes →
-        OnOk result (HoldsStore (D.folder disk.new) (Some (synced_file bytes))) }
+        LeavesStoreOrStaged D.folder D.moment D.left disk.old disk.new }
+    ensures holds { D.honest →
+        OnOk result (HoldsStaged (D.folder disk.old) (D.folder disk.new)) }
 {
     disk.rename_next()?;
     disk.sync_folder()
@@ -164,11 +162,9 @@ pub fn finish_next<D: Disk>(disk: &mut D) -> Result<(), DiskFault>
         OnOk result (ReadsAs (D.folder disk.new) (bytes_under (D.folder disk.old) Name.Next) None) }
     // A crash leaves an old store, or the whole staged file.
     ensures store { D.honest →
-        LeavesStoreOr D.folder D.moment D.left (bytes_under
-        (D.folder disk.old) Name.Next) disk.old disk.new }
-    ensures holds { D.honest → (bytes : List ℕ) → bytes_under (D.folder disk.old) Name.Next
-        ≡ Some bytes →
-        OnOk result (HoldsStore (D.folder disk.new) (Some (synced_file bytes))) }
+        LeavesStoreOrStaged D.folder D.moment D.left disk.old disk.new }
+    ensures holds { D.honest →
+        OnOk result (HoldsStaged (D.folder disk.old) (D.folder disk.new)) }
 {
     disk.sync(Name::Next)?;
     swap_next(disk)

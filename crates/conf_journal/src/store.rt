@@ -1,11 +1,11 @@
 // The procedures that append to the live file.
 ghost use Rattle.std.specs.Prelude.{◌≡◌, ◌≢◌, [], ◌∷◌, Option, IsSome, OnOk, Err, option_map};
-ghost use Rattle.conf_disk.specs.Folder.{File, Append, Sync, after, with_pending, synced_whole, bytes_under};
+ghost use Rattle.conf_disk.specs.Folder.{File, Append, Sync, after, with_pending, synced_whole};
 ghost use Rattle.conf_disk.specs.Image.{IsImage, image_now};
 ghost use Rattle.conf_disk.specs.Log.{folder_after};
 ghost use Rattle.conf_disk.specs.Moments.{CountsFailures, LeavesOnly};
 ghost use Rattle.conf_journal.specs.Appends.{LeavesAppended};
-ghost use Rattle.conf_journal.specs.Store.{ReadsAs, file_with_bytes};
+ghost use Rattle.conf_journal.specs.Store.{ReadsAppended};
 ghost use Rattle.conf_journal.specs.Held.{HoldsStore};
 
 use conf_disk::{Disk, DiskFault, Name};
@@ -27,10 +27,7 @@ pub fn append_store<D: Disk>(disk: &mut D, bytes: &[u8]) -> Result<(), DiskFault
     ensures fault { result ≢ Err DiskFault.OutOfMemory }
 
     ensures reads { D.honest →
-        OnOk result
-        (ReadsAs (D.folder disk.new)
-        (file_with_bytes (bytes_under (D.folder disk.old) Name.Store) bytes.now)
-        (bytes_under (D.folder disk.old) Name.Next)) }
+        OnOk result (ReadsAppended bytes.now (D.folder disk.old) (D.folder disk.new)) }
     ensures holds { D.honest → (file : Option File) → HoldsStore (D.folder disk.old) file →
         OnOk result (HoldsStore (D.folder disk.new) (option_map (with_pending bytes.now) file)) }
 {
@@ -77,10 +74,7 @@ pub fn append_closed<D: Disk>(disk: &mut D, bytes: &[u8]) -> Result<(), DiskFaul
     ensures fault { result ≢ Err DiskFault.OutOfMemory }
 
     ensures reads { D.honest →
-        OnOk result
-        (ReadsAs (D.folder disk.new)
-        (file_with_bytes (bytes_under (D.folder disk.old) Name.Store) bytes.now)
-        (bytes_under (D.folder disk.old) Name.Next)) }
+        OnOk result (ReadsAppended bytes.now (D.folder disk.old) (D.folder disk.new)) }
     ensures holds { D.honest → (file : Option File) → HoldsStore (D.folder disk.old) file →
         OnOk result
         (HoldsStore (D.folder disk.new)
