@@ -6,6 +6,7 @@ pub mod Located
 pub mod Measured
 pub mod Numbers
 pub mod Places
+pub mod Planned
 pub mod Pointers
 pub mod StepLaws
 pub mod Steps

@@ -14,5 +14,5 @@ pub use change::Change;
 pub use edit::{at, delete, delete_planned, set, set_planned};
 pub use fault::PathFault;
 pub use laws::{keys_stay_distinct, set_is_found, text_is_read_back};
-pub use measure::{Plan, delete_change, delete_len, plan_delete, plan_set, set_change, set_len};
+pub use measure::{Plan, delete_len, plan_delete, plan_set, set_len};
 pub use path::Path;

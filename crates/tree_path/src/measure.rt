@@ -1,5 +1,5 @@
 // Lengths after edits, found without making the edits.
-ghost use Rattle.std.specs.Prelude.{◌≡◌, ◌<◌, ◌≤◌, ◌^◌, Ok, Err, IfOk, IfErr, IfSome, None, length};
+ghost use Rattle.std.specs.Prelude.{◌≡◌, ◌<◌, ◌≤◌, Ok, Err, IfOk, IfErr, length};
 ghost use Rattle.std.specs.Str.{chars};
 ghost use Rattle.yaml_grammar.specs.Texts.{byte_len};
 ghost use Rattle.yaml_grammar.specs.Trees.{Tree as Meant, depth};
@@ -69,32 +69,6 @@ pub fn plan_delete(config: &Config, path: &Path) -> Result<Plan, PathFault>
     plan_delete_at(tree, &path.tokens)
 }
 
-/// What [`set`](crate::set) changes in the length of a configuration, as [`plan_set`] returns it.
-pub fn set_change(config: &Config, path: &Path, value: &Tree) -> Result<Change, PathFault>
-    requires steps { 0 < length path.now }
-    requires kept { IsKept (tree_of value.now) }
-    ensures ok { IfOk result (λ change. (new : Meant)
-        × (set (tree_of config.now) path.now (tree_of value.now) ≡ Ok new)
-        × Changes change (tree_of config.now) new) }
-    ensures refused { IfErr result (λ fault. set (tree_of config.now) path.now (tree_of value.now)
-        ≡ Err fault) }
-{
-    let plan = plan_set(config, path, value)?;
-    Ok(plan.change)
-}
-
-/// What [`delete`](crate::delete) changes in the length of a configuration, as [`plan_delete`] returns it.
-pub fn delete_change(config: &Config, path: &Path) -> Result<Change, PathFault>
-    requires { 0 < length path.now }
-    ensures ok { IfOk result (λ change. (new : Meant)
-        × (delete (tree_of config.now) path.now ≡ Ok new)
-        × Changes change (tree_of config.now) new) }
-    ensures refused { IfErr result (λ fault. delete (tree_of config.now) path.now ≡ Err fault) }
-{
-    let plan = plan_delete(config, path)?;
-    Ok(plan.change)
-}
-
 /// How many bytes a configuration has in the one style after [`set`](crate::set), without setting anything. The
 /// value is the tree of a configuration. It takes no memory; what it costs is said at [`plan_set`]. The faults are
 /// those of `set`.
@@ -109,8 +83,8 @@ pub fn set_len(config: &Config, path: &Path, value: &Tree) -> Result<u128, PathF
     if path.steps() == 0 {
         return Ok(u128::from(style_len(value, u64::MAX).unwrap()));
     }
-    let change = set_change(config, path, value)?;
-    Ok(change.length_after(config.style_length(), 0))
+    let plan = plan_set(config, path, value)?;
+    Ok(plan.change.length_after(config.style_length(), 0))
 }
 
 /// How many bytes a configuration has in the one style after [`delete`](crate::delete), without deleting anything.
@@ -122,8 +96,8 @@ pub fn delete_len(config: &Config, path: &Path) -> Result<u128, PathFault>
         × (delete (tree_of config.now) path.now ≡ Ok new) × (bytes ≡ byte_len (style_text new))) }
     ensures refused { IfErr result (λ fault. delete (tree_of config.now) path.now ≡ Err fault) }
 {
-    let change = delete_change(config, path)?;
-    Ok(change.length_after(config.style_length(), 0))
+    let plan = plan_delete(config, path)?;
+    Ok(plan.change.length_after(config.style_length(), 0))
 }
 
 fn plan_set_at(tree: &Tree, tokens: &[CowStr<'_>], value: &Tree) -> Result<Plan, PathFault>
