@@ -1,4 +1,4 @@
-use Rattle.std.proofs.Common.{◌≡◌, ◌+◌, Ok, Some, string_bytes, bytes_eq, inr, refl, ap, subst, ◌∙◌, sym, arith, rules}
+use Rattle.std.proofs.Common.{◌≡◌, ◌+◌, List, Ok, Some, string_bytes, bytes_eq, inr, refl, ap, subst, ◌∙◌, sym, arith, rules}
 use Rattle.std.proofs.lemmas.Result.{err_from_is_err_and}
 use Rattle.std.specs.Map.{lookup}
 use Rattle.std.specs.Str.{chars}
@@ -6,13 +6,15 @@ use Rattle.yaml_tree.specs.Seen.{tree_of}
 use Rattle.tree_path.proofs.StepLaws.{none-other}
 use Rattle.tree_path.specs.Paths.{last_key}
 use Rattle.conf_record.specs.BaseTexts.{entries_length}
-use Rattle.conf_record.specs.Edits.{tree_after_edit}
-use Rattle.conf_record.specs.States.{config_named, put_config}
+use Rattle.conf_record.specs.Edits.{tree_after_edit, configs_with_edit}
+use Rattle.conf_record.specs.Kept.{entries_of}
+use Rattle.conf_record.specs.States.{Entry, config_named, put_config}
 use Rattle.conf_record.specs.Steps.{and_then, next_state}
 use Rattle.conf_record.proofs.EditLemmas.{found-named, present-named, absent-named, same_value, same_edit, parsed-Ok, parsed-Err, pointer-steps, edited-unread, edited-refused, tree_after_edit-nothing, edited-at, tree_after_edit-new}
 use Rattle.conf_record.proofs.EntryLemmas.{set_value_at-named}
 use Rattle.conf_record.proofs.StateLemmas.{kept_edit, kept_same, entries_same}
 use Rattle.conf_record.proofs.state.State.edit.Goals as goal
+use Rattle.conf_record.proofs.state.State.edit.Goals.{In_ok-perform}
 
 pub returns-in_default-clause-refused : goal.returns-in_default-clause-refused
 returns-in_default-clause-refused c =
@@ -112,46 +114,58 @@ returns-in_err-perform-clause-unchanged c =
     (there ∙ ap Some (sym c.in_err-perform.ensures.unchanged)) c.in-Some.ensures.index)
     ∙ c.self.view_is)
 
-pub invariant_of-self-2 : goal.invariant_of-self-2
-invariant_of-self-2 c =
+-- the configurations after the edit
+abbrev edited : In_ok-perform → List Entry
+edited c = put_config c.args.self.now.configs (chars c.args.name.now) (tree_of c.perform.new.config)
+
+-- what holds once the edit is made: it makes what was planned, and the store has room for it
+record IsMade (c : In_ok-perform) : Type 0 where
+  there : config_named (entries_of c.self.inside.configs.entries) (chars c.args.name.now) ≡ Some (tree_of c.index.result.now)
+  made : configs_with_edit c.args.self.now.configs (chars c.args.name.now) c.args.edit (tree_of c.index.result.now) c.in_ok-path.path ≡ Ok (edited c)
+  counts : c.in_ok-plan.plan.entries ≡ entries_length (edited c)
+  room : next_state c.args.self.now c.args.fits (edited c) ≡ Ok (record { configs = edited c; count = c.args.self.now.count + 1 })
+
+is_made : (c : In_ok-perform) → IsMade c
+is_made c =
     let es = c.self.inside.configs.entries in
     let name = chars c.args.name.now in
-    let t = c.perform.new.config in
     let there = found-named c.args.name.now c.utf8.name es c.self.invariant.plain c.index.result.now (sym c.in-Some.ensures.value ∙ c.index.ensures) in
-    let seen = ap (λ s. config_named s.configs name) (sym c.self.view_is) ∙ there in
-    let l = c.in_ok-plan.ensures.ok name seen in
+    let l = c.in_ok-plan.ensures.ok name (ap (λ s. config_named s.configs name) (sym c.self.view_is) ∙ there) in
     let same = same_value (lookup (λ k. bytes_eq c.args.name.now (string_bytes k)) es) c.index.result.now c.index_mut-config.result.now
     (sym c.in-Some.ensures.value ∙ c.index.ensures) (sym c.in-Some.ensures.value ∙ c.index_mut-config.ensures.value) in
-    let made = subst (λ u. tree_after_edit c.args.edit (tree_of u) c.in_ok-path.path ≡ Ok (tree_of t)) (sym same) c.in_ok-perform.ensures.ok in
-    let new = same_edit (tree_after_edit c.args.edit (tree_of c.index.result.now) c.in_ok-path.path) l.new (tree_of t) l.made made in
+    let made = subst (λ u. tree_after_edit c.args.edit (tree_of u) c.in_ok-path.path ≡ Ok (tree_of c.perform.new.config)) (sym same) c.in_ok-perform.ensures.ok in
+    let new = same_edit (tree_after_edit c.args.edit (tree_of c.index.result.now) c.in_ok-path.path) l.new (tree_of c.perform.new.config) l.made made in
     let counts = l.entries ∙ ap (λ u. entries_length (put_config c.args.self.now.configs name u)) new in
-    let room = c.in_ok-check_room.ensures.ok (put_config c.args.self.now.configs name (tree_of t)) (omega (arith, counts, c.in_ok-check_room.ensures.short)) in
-    kept_edit es c.self.inside.count c.self.inside.entries c.self.invariant
+    record {
+      there = there;
+      made = tree_after_edit-new c.args.self.now.configs name c.args.edit c.in_ok-path.path (tree_of c.index.result.now) l.new l.made l.deep l.long
+          ∙ ap (λ u. Ok (put_config c.args.self.now.configs name u)) new;
+      counts = counts;
+      room = c.in_ok-check_room.ensures.ok (edited c) (omega (arith, counts, c.in_ok-check_room.ensures.short));
+    }
+
+pub invariant_of-self-2 : goal.invariant_of-self-2
+invariant_of-self-2 c =
+    let name = chars c.args.name.now in
+    let t = c.perform.new.config in
+    let edit = is_made (goal.at.invariant_of-self-2 c).In_ok-perform in
+    kept_edit c.self.inside.configs.entries c.self.inside.count c.self.inside.entries c.self.invariant
     (omega (arith, ap (λ s. s.count) c.self.view_is, c.in_ok-check_room.ensures.counts))
-    c.args.name.now c.utf8.name c.requires.named (tree_of c.index.result.now) there c.in-Some.index c.in-Some.ensures.index t c.in_ok-perform.ensures.within c.args.fits _
+    c.args.name.now c.utf8.name c.requires.named (tree_of c.index.result.now) edit.there c.in-Some.index c.in-Some.ensures.index t c.in_ok-perform.ensures.within c.args.fits _
     (subst (λ s. next_state s c.args.fits (put_config s.configs name (tree_of t)) ≡ Ok (record { configs = put_config s.configs name (tree_of t); count = s.count + 1 }))
-    (sym c.self.view_is) room)
+    (sym c.self.view_is) edit.room)
     _ c.in_ok-plan.plan.entries refl
-    (counts ∙ ap (λ s. entries_length (put_config s.configs name (tree_of t))) (sym c.self.view_is))
+    (edit.counts ∙ ap (λ s. entries_length (put_config s.configs name (tree_of t))) (sym c.self.view_is))
 
 pub returns-clause-ok : goal.returns-clause-ok
 returns-clause-ok c =
-    let es = c.self.inside.configs.entries in
     let name = chars c.args.name.now in
     let t = c.perform.new.config in
-    let there = found-named c.args.name.now c.utf8.name es c.self.invariant.plain c.index.result.now (sym c.in-Some.ensures.value ∙ c.index.ensures) in
-    let seen = ap (λ s. config_named s.configs name) (sym c.self.view_is) ∙ there in
-    let l = c.in_ok-plan.ensures.ok name seen in
-    let same = same_value (lookup (λ k. bytes_eq c.args.name.now (string_bytes k)) es) c.index.result.now c.index_mut-config.result.now
-    (sym c.in-Some.ensures.value ∙ c.index.ensures) (sym c.in-Some.ensures.value ∙ c.index_mut-config.ensures.value) in
-    let made = subst (λ u. tree_after_edit c.args.edit (tree_of u) c.in_ok-path.path ≡ Ok (tree_of t)) (sym same) c.in_ok-perform.ensures.ok in
-    let new = same_edit (tree_after_edit c.args.edit (tree_of c.index.result.now) c.in_ok-path.path) l.new (tree_of t) l.made made in
-    let counts = l.entries ∙ ap (λ u. entries_length (put_config c.args.self.now.configs name u)) new in
-    let room = c.in_ok-check_room.ensures.ok (put_config c.args.self.now.configs name (tree_of t)) (omega (arith, counts, c.in_ok-check_room.ensures.short)) in
+    let edit = is_made (goal.at.returns-clause-ok c).In_ok-perform in
+    let seen = ap (λ s. config_named s.configs name) (sym c.self.view_is) ∙ edit.there in
     let parsed = parsed-Ok (chars c.args.pointer.now) c.in_ok-path.path c.in_ok-path.ensures.met in
-    let placed = set_value_at-named c.args.name.now c.utf8.name t es (tree_of c.index.result.now) c.in-Some.index c.self.invariant.plain there c.in-Some.ensures.index in
+    let placed = set_value_at-named c.args.name.now c.utf8.name t c.self.inside.configs.entries (tree_of c.index.result.now) c.in-Some.index c.self.invariant.plain edit.there c.in-Some.ensures.index in
     ap (λ r. and_then r (next_state c.args.self.now c.args.fits))
-    (edited-at c.args.self.now.configs name c.args.edit (chars c.args.pointer.now) (tree_of c.index.result.now) c.in_ok-path.path seen parsed
-    ∙ tree_after_edit-new c.args.self.now.configs name c.args.edit c.in_ok-path.path (tree_of c.index.result.now) l.new l.made l.deep l.long ∙ ap (λ u. Ok (put_config c.args.self.now.configs name u)) new)
-    ∙ room ∙ ap (λ s. Ok (record { configs = put_config s.configs name (tree_of t); count = s.count + 1 })) (sym c.self.view_is)
+    (edited-at c.args.self.now.configs name c.args.edit (chars c.args.pointer.now) (tree_of c.index.result.now) c.in_ok-path.path seen parsed ∙ edit.made)
+    ∙ edit.room ∙ ap (λ s. Ok (record { configs = put_config s.configs name (tree_of t); count = s.count + 1 })) (sym c.self.view_is)
     ∙ ap (λ cs. Ok (record { configs = cs; count = c.self.inside.count + 1 })) (sym placed)
