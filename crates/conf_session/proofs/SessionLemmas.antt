@@ -1,6 +1,6 @@
 -- The loop over the pieces of an input, and each of its exits.
 use Rattle.std.proofs.Common.{◌≡◌, refl, sym, ◌∙◌, ap, subst, arith, ◌≤◌, ◌<◌, append_assoc, length-append}
-use Rattle.std.specs.Prelude.{ℕ, ◌+◌, ◌*◌, false, true, List, [], ◌∷◌, ◌++◌, length, take, Option, Ok, Err}
+use Rattle.std.specs.Prelude.{ℕ, ◌+◌, ◌*◌, false, true, List, [], ◌∷◌, ◌++◌, length, take, Option, Result, Ok, Err}
 use Rattle.std.specs.List.{concat}
 use Rattle.std.specs.Io.KnownBytes.{Appends, Keeps, Consumes}
 use Rattle.std.proofs.KnownBytes.{Appends-nil, Appends-trans, Appends-kept, Consumes-nil, Consumes-trans, Keeps-refl}
@@ -16,7 +16,7 @@ use Rattle.conf_store.specs.View.{StoreView}
 use Rattle.conf_session.specs.Input.{piece_limit, session_limit, ahead, piece_or_rest as piece_of, AdvancesToPiece, AdvancesToEnd, FailsToRead, FindsTooLong, FindsSessionLong, RunsOutOfMemory, Advances}
 use Rattle.conf_session.specs.Requests.{Request, Asks}
 use Rattle.conf_session.specs.Answers.{Stored, answer, answer_limit, output, stored_after_all, accepted_commands, accepted_command, refused_of}
-use Rattle.conf_session.specs.Runs.{stored_of, ArePieces, Runs, BeginsWith}
+use Rattle.conf_session.specs.Runs.{stored_of, ArePieces, Ends, Runs, BeginsWith}
 use Rattle.conf_session.specs.Replies.{Performs}
 use Rattle.conf_session.specs.Progress.{AreCounted, Passed, Answered, Fails}
 use Rattle.conf_session.specs.declared.fault.SessionFault.{SessionFault}
@@ -61,82 +61,70 @@ module _ {D : Type 0} (honest : Type 0) (folder : D → Folder) (moment : D → 
 
   module _ (given mid left held between : Option (List ℕ)) (old now : StoreView D) (was then : Input) (counts : Counts)
       (s : SoFar honest folder moment since given mid held between old now (ahead was) counts was.total) where
+    -- a run that ends when all requests so far are performed and answered
+    stopped : (written : Option (List ℕ)) (result : Result Tally SessionFault) → (honest → now.reopen ≡ false → AllImagesMean (folder now.disk) now.state)
+        → Ends given left held written (stored_of old) s.requests s.requests result
+        → Runs honest folder moment since given left held written old now result
+    stopped written result means ends = record {
+      answered = s.requests;
+      performed = s.requests;
+      ends = ends;
+      state = ap (λ (t : Stored). t.state) s.passed.stored;
+      size = λ on. ap (λ (t : Stored). t.size) s.passed.stored;
+      reads = λ h on. s.passed.reads h;
+      any_moment = λ h on. s.passed.any_moment h;
+      kept = λ h on. kept-all honest folder moment since old now s.requests (length (accepted_commands (stored_of old) s.requests)) (omega arith) s.passed.stored s.passed.sound means h;
+    }
+
     -- ---- the exits that the input makes
 
     pub ends-well : (tally : Tally) → AdvancesToEnd mid left was then
         → (honest → now.reopen ≡ false → AllImagesMean (folder now.disk) now.state)
         → tally.documents ≡ counts.tally.documents → tally.accepted ≡ counts.tally.accepted → tally.refused ≡ counts.tally.refused → tally.rest ≡ length (piece_of then)
         → Runs honest folder moment since given left held between old now (Ok tally)
-    ends-well tally end means d a r rest = record {
-      answered = s.requests;
-      performed = s.requests;
-      ends = record {
-        bytes = concat s.pieces ++ (ahead was ++ end.more);
-        rest = piece_of then;
-        taken = taken-more given mid left (concat s.pieces) (ahead was) end.more s.taken end.taken;
-        at_end = end.at_end;
-        within = (let total = s.read in let size = length-append (concat s.pieces) (ahead was ++ end.more) in let prefix = length-append (concat s.pieces) (ahead was) in
-            let back = length-append (ahead was) end.more in let few = end.total in omega (arith, total, size, prefix, back, few));
-        input = record {
-          pieces = s.pieces;
-          cut = record { joined = ap (λ l. concat s.pieces ++ l) end.joined; closed = s.are.closed; unclosed = end.unclosed };
-          are = s.are;
-          short = end.short;
-        };
-        all = refl;
-        out = s.passed.out;
-        documents = d ∙ s.counted.documents;
-        accepted = a ∙ s.counted.accepted;
-        refused = r ∙ s.counted.refused;
-        unclosed = rest;
+    ends-well tally end means d a r rest = stopped between (Ok tally) means (record {
+      bytes = concat s.pieces ++ (ahead was ++ end.more);
+      rest = piece_of then;
+      taken = taken-more given mid left (concat s.pieces) (ahead was) end.more s.taken end.taken;
+      at_end = end.at_end;
+      within = (let total = s.read in let size = length-append (concat s.pieces) (ahead was ++ end.more) in let prefix = length-append (concat s.pieces) (ahead was) in
+          let back = length-append (ahead was) end.more in let few = end.total in omega (arith, total, size, prefix, back, few));
+      input = record {
+        pieces = s.pieces;
+        cut = record { joined = ap (λ l. concat s.pieces ++ l) end.joined; closed = s.are.closed; unclosed = end.unclosed };
+        are = s.are;
+        short = end.short;
       };
-      state = ap (λ (t : Stored). t.state) s.passed.stored;
-      size = λ on. ap (λ (t : Stored). t.size) s.passed.stored;
-      reads = λ h on. s.passed.reads h;
-      any_moment = λ h on. s.passed.any_moment h;
-      kept = λ h on. kept-all honest folder moment since old now s.requests (length (accepted_commands (stored_of old) s.requests)) (omega arith) s.passed.stored s.passed.sound means h;
-    }
+      all = refl;
+      out = s.passed.out;
+      documents = d ∙ s.counted.documents;
+      accepted = a ∙ s.counted.accepted;
+      refused = r ∙ s.counted.refused;
+      unclosed = rest;
+    })
 
     ends-reading : FailsToRead mid left was → (honest → now.reopen ≡ false → AllImagesMean (folder now.disk) now.state)
         → Runs honest folder moment since given left held between old now (Err fault.Read)
-    ends-reading fails means = record {
-      answered = s.requests;
-      performed = s.requests;
-      ends = record {
-        bytes = concat s.pieces ++ (ahead was ++ fails.more);
-        taken = taken-more given mid left (concat s.pieces) (ahead was) fails.more s.taken fails.taken;
-        shows = record {
-          rest = ahead was ++ fails.more;
-          input = record { pieces = s.pieces; cut = record { joined = refl; closed = s.are.closed; unclosed = fails.unclosed }; are = s.are; short = fails.short };
-        };
-        all = refl;
-        out = s.passed.out;
+    ends-reading fails means = stopped between (Err fault.Read) means (record {
+      bytes = concat s.pieces ++ (ahead was ++ fails.more);
+      taken = taken-more given mid left (concat s.pieces) (ahead was) fails.more s.taken fails.taken;
+      shows = record {
+        rest = ahead was ++ fails.more;
+        input = record { pieces = s.pieces; cut = record { joined = refl; closed = s.are.closed; unclosed = fails.unclosed }; are = s.are; short = fails.short };
       };
-      state = ap (λ (t : Stored). t.state) s.passed.stored;
-      size = λ on. ap (λ (t : Stored). t.size) s.passed.stored;
-      reads = λ h on. s.passed.reads h;
-      any_moment = λ h on. s.passed.any_moment h;
-      kept = λ h on. kept-all honest folder moment since old now s.requests (length (accepted_commands (stored_of old) s.requests)) (omega arith) s.passed.stored s.passed.sound means h;
-    }
+      all = refl;
+      out = s.passed.out;
+    })
 
     ends-too_long : FindsTooLong mid left was → (honest → now.reopen ≡ false → AllImagesMean (folder now.disk) now.state)
         → Runs honest folder moment since given left held between old now (Err fault.TooLong)
-    ends-too_long finds means = record {
-      answered = s.requests;
-      performed = s.requests;
-      ends = record {
-        bytes = concat s.pieces ++ (ahead was ++ finds.more);
-        taken = taken-more given mid left (concat s.pieces) (ahead was) finds.more s.taken finds.taken;
-        shows = record { pieces = s.pieces; further = ahead was ++ finds.more; is = refl; are = s.are; overlong = finds.overlong };
-        all = refl;
-        out = s.passed.out;
-      };
-      state = ap (λ (t : Stored). t.state) s.passed.stored;
-      size = λ on. ap (λ (t : Stored). t.size) s.passed.stored;
-      reads = λ h on. s.passed.reads h;
-      any_moment = λ h on. s.passed.any_moment h;
-      kept = λ h on. kept-all honest folder moment since old now s.requests (length (accepted_commands (stored_of old) s.requests)) (omega arith) s.passed.stored s.passed.sound means h;
-    }
+    ends-too_long finds means = stopped between (Err fault.TooLong) means (record {
+      bytes = concat s.pieces ++ (ahead was ++ finds.more);
+      taken = taken-more given mid left (concat s.pieces) (ahead was) finds.more s.taken finds.taken;
+      shows = record { pieces = s.pieces; further = ahead was ++ finds.more; is = refl; are = s.are; overlong = finds.overlong };
+      all = refl;
+      out = s.passed.out;
+    })
 
     ends-session_long : FindsSessionLong mid left was → (honest → now.reopen ≡ false → AllImagesMean (folder now.disk) now.state)
         → Runs honest folder moment since given left held between old now (Err fault.SessionLong)
@@ -149,47 +137,29 @@ module _ {D : Type 0} (honest : Type 0) (folder : D → Folder) (moment : D → 
         let three = length-append (ahead was) finds.more in omega (arith, total, full, one, two, three)) in
         let within : take session_limit bytes ≡ prefix =
         ap (take session_limit) split ∙ take-append-le session_limit prefix finds.beyond (omega (arith, size)) ∙ take_all session_limit prefix (omega (arith, size)) in
-        record {
-          answered = s.requests;
-          performed = s.requests;
-          ends = record {
-            bytes = bytes;
-            taken = taken-more given mid left (concat s.pieces) (ahead was) (finds.more ++ finds.beyond) s.taken finds.taken;
-            shows = record {
-              input = record {
-                rest = rest;
-                input = record { pieces = s.pieces; cut = record { joined = within; closed = s.are.closed; unclosed = finds.unclosed }; are = s.are; short = finds.short };
-              };
-              long = (let all = ap length split in let more = length-append prefix finds.beyond in let some = finds.some in omega (arith, all, more, size, some));
+        stopped between (Err fault.SessionLong) means (record {
+          bytes = bytes;
+          taken = taken-more given mid left (concat s.pieces) (ahead was) (finds.more ++ finds.beyond) s.taken finds.taken;
+          shows = record {
+            input = record {
+              rest = rest;
+              input = record { pieces = s.pieces; cut = record { joined = within; closed = s.are.closed; unclosed = finds.unclosed }; are = s.are; short = finds.short };
             };
-            all = refl;
-            out = s.passed.out;
+            long = (let all = ap length split in let more = length-append prefix finds.beyond in let some = finds.some in omega (arith, all, more, size, some));
           };
-          state = ap (λ (t : Stored). t.state) s.passed.stored;
-          size = λ on. ap (λ (t : Stored). t.size) s.passed.stored;
-          reads = λ h on. s.passed.reads h;
-          any_moment = λ h on. s.passed.any_moment h;
-          kept = λ h on. kept-all honest folder moment since old now s.requests (length (accepted_commands (stored_of old) s.requests)) (omega arith) s.passed.stored s.passed.sound means h;
-        }
+          all = refl;
+          out = s.passed.out;
+        })
 
     ends-starved : RunsOutOfMemory mid left → (honest → now.reopen ≡ false → AllImagesMean (folder now.disk) now.state)
         → Runs honest folder moment since given left held between old now (Err fault.OutOfMemory)
-    ends-starved out means = record {
-      answered = s.requests;
-      performed = s.requests;
-      ends = record {
-        bytes = concat s.pieces ++ (ahead was ++ out.more);
-        taken = taken-more given mid left (concat s.pieces) (ahead was) out.more s.taken out.taken;
-        begins = record { pieces = s.pieces; further = ahead was ++ out.more; is = refl; are = subst (ArePieces s.pieces) (sym (append-nil s.requests)) s.are };
-        all = sym (append-nil s.requests);
-        out = s.passed.out;
-      };
-      state = ap (λ (t : Stored). t.state) s.passed.stored;
-      size = λ on. ap (λ (t : Stored). t.size) s.passed.stored;
-      reads = λ h on. s.passed.reads h;
-      any_moment = λ h on. s.passed.any_moment h;
-      kept = λ h on. kept-all honest folder moment since old now s.requests (length (accepted_commands (stored_of old) s.requests)) (omega arith) s.passed.stored s.passed.sound means h;
-    }
+    ends-starved out means = stopped between (Err fault.OutOfMemory) means (record {
+      bytes = concat s.pieces ++ (ahead was ++ out.more);
+      taken = taken-more given mid left (concat s.pieces) (ahead was) out.more s.taken out.taken;
+      begins = record { pieces = s.pieces; further = ahead was ++ out.more; is = refl; are = subst (ArePieces s.pieces) (sym (append-nil s.requests)) s.are };
+      all = sym (append-nil s.requests);
+      out = s.passed.out;
+    })
 
     -- the input has no further piece for a reason
     pub ends-in_input : (f : SessionFault) → Advances mid left was then (Err f) → (honest → now.reopen ≡ false → AllImagesMean (folder now.disk) now.state)
@@ -256,22 +226,13 @@ module _ {D : Type 0} (honest : Type 0) (folder : D → Folder) (moment : D → 
           → Runs honest folder moment since given left held written old new (Err fault.OutOfMemory)
       ends-memory written new same keeps means =
           subst (λ (t : StoreView D). (honest → t.reopen ≡ false → AllImagesMean (folder t.disk) t.state) → Runs honest folder moment since given left held written old t (Err fault.OutOfMemory)) (sym same)
-          (λ there. record {
-            answered = s.requests;
-            performed = s.requests;
-            ends = record {
-              bytes = concat s.pieces ++ (ahead was ++ advances.more);
-              taken = taken-more given mid left (concat s.pieces) (ahead was) advances.more s.taken advances.taken;
-              begins = record { pieces = s.pieces; further = ahead was ++ advances.more; is = refl; are = subst (ArePieces s.pieces) (sym (append-nil s.requests)) s.are };
-              all = sym (append-nil s.requests);
-              out = Appends-kept held between written (output (stored_of old) s.requests) s.passed.out keeps;
-            };
-            state = ap (λ (t : Stored). t.state) s.passed.stored;
-            size = λ on. ap (λ (t : Stored). t.size) s.passed.stored;
-            reads = λ h on. s.passed.reads h;
-            any_moment = λ h on. s.passed.any_moment h;
-            kept = λ h on. kept-all honest folder moment since old now s.requests (length (accepted_commands (stored_of old) s.requests)) (omega arith) s.passed.stored s.passed.sound there h;
-          })
+          (λ there. stopped written (Err fault.OutOfMemory) there (record {
+            bytes = concat s.pieces ++ (ahead was ++ advances.more);
+            taken = taken-more given mid left (concat s.pieces) (ahead was) advances.more s.taken advances.taken;
+            begins = record { pieces = s.pieces; further = ahead was ++ advances.more; is = refl; are = subst (ArePieces s.pieces) (sym (append-nil s.requests)) s.are };
+            all = sym (append-nil s.requests);
+            out = Appends-kept held between written (output (stored_of old) s.requests) s.passed.out keeps;
+          }))
           means
 
       ends-device : (written : Option (List ℕ)) (new : StoreView D) (r : Request) → Asks (piece_of then) r → new.reopen ≡ true → Performs honest folder moment since now new r → Keeps between written
