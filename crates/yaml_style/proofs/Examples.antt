@@ -1,5 +1,6 @@
 -- Texts, and what is found in each. The second text is that of its tree in the one style.
 use Rattle.std.proofs.Common.{◌≡◌, ℕ, [], ◌∷◌, ◌++◌, codes, replicate, refl}
+use Rattle.yaml_chars.specs.Signs.{next_line, line_separator, paragraph_separator, byte_order_mark}
 use Rattle.yaml_style.specs.declared.finding.Finding.{Finding}
 use Rattle.yaml_style.specs.declared.finding.Rule.{Rule}
 use Rattle.yaml_style.specs.declared.finding.Rule.TheVariants.{TrailingWhitespace, LineEnd, LongLine, NotInStyle}
@@ -43,11 +44,11 @@ cr_before_cr_lf = refl
 no_text : lines [] ≡ []
 no_text = refl
 
--- x85, x2028 and x2029 are no breaks
-other_separators : lines (codes "# a" ++ 0x85 ∷ 0x2028 ∷ 0x2029 ∷ codes "b\n") ≡ (codes "# a" ++ 0x85 ∷ 0x2028 ∷ 0x2029 ∷ codes "b\n") ∷ []
+-- NEL, LS and PS are no breaks
+other_separators : lines (codes "# a" ++ next_line ∷ line_separator ∷ paragraph_separator ∷ codes "b\n") ≡ (codes "# a" ++ next_line ∷ line_separator ∷ paragraph_separator ∷ codes "b\n") ∷ []
 other_separators = refl
 
-separator_at_the_end : findings (codes "# a" ++ 0x85 ∷ codes "\na: b\n") (codes "a: b\n") ≡ on NotInStyle 1 ∷ []
+separator_at_the_end : findings (codes "# a" ++ next_line ∷ codes "\na: b\n") (codes "a: b\n") ≡ on NotInStyle 1 ∷ []
 separator_at_the_end = refl
 
 -- ---- S3: 120 code points, and one more, of two bytes each
@@ -63,7 +64,7 @@ longest_line_with_cr_lf : findings (codes "# " ++ replicate 118 233 ++ codes "\r
 longest_line_with_cr_lf = refl
 
 -- a byte order mark is a character of its line
-mark_in_a_long_line : findings (0xfeff ∷ codes "# " ++ replicate 118 233 ++ codes "\na: b\n") (codes "a: b\n") ≡ on LongLine 1 ∷ on NotInStyle 1 ∷ []
+mark_in_a_long_line : findings (byte_order_mark ∷ codes "# " ++ replicate 118 233 ++ codes "\na: b\n") (codes "a: b\n") ≡ on LongLine 1 ∷ on NotInStyle 1 ∷ []
 mark_in_a_long_line = refl
 
 -- ---- S4
@@ -71,8 +72,8 @@ mark_in_a_long_line = refl
 second_line : findings (codes "a: b\nc:  d\n") (codes "a: b\nc: d\n") ≡ on NotInStyle 2 ∷ []
 second_line = refl
 
-byte_order_mark : findings (0xfeff ∷ codes "a: b\n") (codes "a: b\n") ≡ on NotInStyle 1 ∷ []
-byte_order_mark = refl
+mark_at_the_start : findings (byte_order_mark ∷ codes "a: b\n") (codes "a: b\n") ≡ on NotInStyle 1 ∷ []
+mark_at_the_start = refl
 
 -- the one style's text and more, and all of it but the last character
 more_than_the_style : findings (codes "a: b\n\n") (codes "a: b\n") ≡ on NotInStyle 2 ∷ []

@@ -5,6 +5,7 @@ use Rattle.std.proofs.lemmas.Bool.{and_parts, eqb-true, cases_Bool}
 use Rattle.std.proofs.lemmas.List.Sums.{list_all-from_AllPass}
 use Rattle.yaml_chars.specs.Classes.{line_break}
 use Rattle.yaml_chars.specs.Breaks.{StartsWithBreak, cr_lf, lf, cr, no_break, NoBreak}
+use Rattle.yaml_chars.specs.Signs.{line_feed, carriage_return}
 use Rattle.yaml_grammar.specs.Texts.{first}
 use Rattle.yaml_style.specs.Lines.{ends_break, lines, content, line_end, breaks}
 
@@ -16,7 +17,7 @@ no_break_ends false true x h = cc
 no_break_ends false false x h = refl
 
 ends_no_break : (c : ℕ) (cs : List ℕ) → no_break c ≡ true → ends_break c cs ≡ false
-ends_no_break c cs h = no_break_ends (c == 10) (c == 13) (not (first (λ d. d == 10) cs)) h
+ends_no_break c cs h = no_break_ends (c == line_feed) (c == carriage_return) (not (first (λ d. d == line_feed) cs)) h
 
 is_no_break : (c : ℕ) → no_break c ≡ true → line_break c ≡ false
 is_no_break c h = elim (cases_Bool (line_break c)) [ inl e ↦ (let f : not (line_break c) ≡ false = ap not e in cc) | inr e ↦ e ]
@@ -24,9 +25,9 @@ is_no_break c h = elim (cases_Bool (line_break c)) [ inl e ↦ (let f : not (lin
 -- ---- a break before it
 
 -- LF doesn't come next
-no_feed : (cs : List ℕ) → slice_get cs 0 ≢ Some 10 → first (λ d. d == 10) cs ≡ false
+no_feed : (cs : List ℕ) → slice_get cs 0 ≢ Some line_feed → first (λ d. d == line_feed) cs ≡ false
 no_feed [] h = refl
-no_feed (c ∷ cs) h = elim (cases_Bool (c == 10)) [ inl e ↦ absurd (h (ap (λ x. Some x) (eqb-true c 10 e))) | inr e ↦ e ]
+no_feed (c ∷ cs) h = elim (cases_Bool (c == line_feed)) [ inl e ↦ absurd (h (ap (λ x. Some x) (eqb-true c line_feed e))) | inr e ↦ e ]
 
 -- the break before a text, and what its lines are
 pub record HasBreak (tail brk after : List ℕ) : Type 0 where
@@ -39,14 +40,14 @@ pub record HasBreak (tail brk after : List ℕ) : Type 0 where
 -- a break, as characters
 pub has_break : (tail : List ℕ) (len : ℕ) (after : List ℕ) → StartsWithBreak tail len after → (brk : List ℕ) × HasBreak tail brk after
 has_break tail len after (cr_lf e size) =
-    (13 ∷ 10 ∷ [], record { text = e; lines = ap lines e; breaks = ap breaks e; content = refl; whole = refl })
+    (carriage_return ∷ line_feed ∷ [], record { text = e; lines = ap lines e; breaks = ap breaks e; content = refl; whole = refl })
 has_break tail len after (lf e size) =
-    (10 ∷ [], record { text = e; lines = ap lines e; breaks = ap breaks e; content = refl; whole = refl })
+    (line_feed ∷ [], record { text = e; lines = ap lines e; breaks = ap breaks e; content = refl; whole = refl })
 has_break tail len after (cr e alone size) =
-    let ends : ends_break 13 after ≡ true = ap not (no_feed after alone) in
-    let cut : lines (13 ∷ after) ≡ (13 ∷ []) ∷ lines after = rw ends refl in
-    let count : breaks (13 ∷ after) ≡ suc (breaks after) = rw ends refl in
-    (13 ∷ [], record { text = e; lines = ap lines e ∙ cut; breaks = ap breaks e ∙ count; content = refl; whole = refl })
+    let ends : ends_break carriage_return after ≡ true = ap not (no_feed after alone) in
+    let cut : lines (carriage_return ∷ after) ≡ (carriage_return ∷ []) ∷ lines after = rw ends refl in
+    let count : breaks (carriage_return ∷ after) ≡ suc (breaks after) = rw ends refl in
+    (carriage_return ∷ [], record { text = e; lines = ap lines e ∙ cut; breaks = ap breaks e ∙ count; content = refl; whole = refl })
 
 -- ---- a line without a break before it
 

@@ -8,6 +8,7 @@ use Rattle.std.proofs.lemmas.Bool.{cases_Bool, eqb-true, or_from, lt-ltb, le-ltb
 use Rattle.std.proofs.lemmas.List.{drop_all}
 use Rattle.std.proofs.lemmas.Str.{chars-append, IsUtf8-take, encode_ascii, encodes-chars, length-le-encodes}
 use Rattle.yaml_chars.specs.Classes.{white}
+use Rattle.yaml_chars.specs.Signs.{tab, line_feed, space_char}
 use Rattle.yaml_grammar.specs.Texts.{same_text}
 use Rattle.yaml_style.specs.declared.finding.Finding.{Finding}
 use Rattle.yaml_style.specs.declared.finding.Rule.{Rule}
@@ -35,22 +36,22 @@ white_at_end bs n c u low is b split =
     ap ends_in_white parts ∙ last-white (chars (take i bs)) c ∙ is
 
 -- neither ends the bytes of these characters
-no_white : (cs : List ℕ) → ((prefix : List ℕ) → encodes cs ≢ prefix ++ encode 32) → ((prefix : List ℕ) → encodes cs ≢ prefix ++ encode 9) → ends_in_white cs ≡ false
+no_white : (cs : List ℕ) → ((prefix : List ℕ) → encodes cs ≢ prefix ++ encode space_char) → ((prefix : List ℕ) → encodes cs ≢ prefix ++ encode tab) → ends_in_white cs ≡ false
 unfolding encode
-no_white [] space tab = refl
-no_white (c ∷ []) space tab =
-    or_from (c == 32) (c == 9)
-    (elim (cases_Bool (c == 32)) [ inl e ↦ absurd (space [] (ap (λ x. encodes (x ∷ [])) (eqb-true c 32 e))) | inr e ↦ e ])
-    (elim (cases_Bool (c == 9)) [ inl e ↦ absurd (tab [] (ap (λ x. encodes (x ∷ [])) (eqb-true c 9 e))) | inr e ↦ e ])
-no_white (c ∷ d ∷ ds) space tab =
-    no_white (d ∷ ds) (λ prefix e. space (encode c ++ prefix) (ap (λ x. encode c ++ x) e ∙ sym (append_assoc (encode c) prefix (encode 32))))
-    (λ prefix e. tab (encode c ++ prefix) (ap (λ x. encode c ++ x) e ∙ sym (append_assoc (encode c) prefix (encode 9))))
+no_white [] no_space no_tab = refl
+no_white (c ∷ []) no_space no_tab =
+    or_from (c == space_char) (c == tab)
+    (elim (cases_Bool (c == space_char)) [ inl e ↦ absurd (no_space [] (ap (λ x. encodes (x ∷ [])) (eqb-true c space_char e))) | inr e ↦ e ])
+    (elim (cases_Bool (c == tab)) [ inl e ↦ absurd (no_tab [] (ap (λ x. encodes (x ∷ [])) (eqb-true c tab e))) | inr e ↦ e ])
+no_white (c ∷ d ∷ ds) no_space no_tab =
+    no_white (d ∷ ds) (λ prefix e. no_space (encode c ++ prefix) (ap (λ x. encode c ++ x) e ∙ sym (append_assoc (encode c) prefix (encode space_char))))
+    (λ prefix e. no_tab (encode c ++ prefix) (ap (λ x. encode c ++ x) e ∙ sym (append_assoc (encode c) prefix (encode tab))))
 
 -- without one the line doesn't end in whitespace
-pub no_white_at_end : (bs : List ℕ) → IsUtf8 bs → ((prefix : List ℕ) → bs ≢ prefix ++ encode 32) → ((prefix : List ℕ) → bs ≢ prefix ++ encode 9) → ends_in_white (chars bs) ≡ false
-no_white_at_end bs u space tab =
+pub no_white_at_end : (bs : List ℕ) → IsUtf8 bs → ((prefix : List ℕ) → bs ≢ prefix ++ encode space_char) → ((prefix : List ℕ) → bs ≢ prefix ++ encode tab) → ends_in_white (chars bs) ≡ false
+no_white_at_end bs u no_space no_tab =
     let e = encodes-chars bs u in
-    no_white (chars bs) (λ prefix h. space prefix (sym e ∙ h)) (λ prefix h. tab prefix (sym e ∙ h))
+    no_white (chars bs) (λ prefix h. no_space prefix (sym e ∙ h)) (λ prefix h. no_tab prefix (sym e ∙ h))
 
 -- ---- another break than LF
 
@@ -59,22 +60,22 @@ same_one [] d h = cc
 same_one (c ∷ []) d h = let both = and_parts (c == d) true h in ap (λ x. x ∷ []) (eqb-true c d both.0)
 same_one (c ∷ e ∷ cs) d h = let both = and_parts (c == d) false h in cc
 
-feed_is_feed : (bs : List ℕ) → IsUtf8 bs → same_text (chars bs) (10 ∷ []) ≡ same_text bs (10 ∷ [])
+feed_is_feed : (bs : List ℕ) → IsUtf8 bs → same_text (chars bs) (line_feed ∷ []) ≡ same_text bs (line_feed ∷ [])
 unfolding encode
-feed_is_feed bs u = elim (cases_Bool (same_text bs (10 ∷ []))) [
-  | inl same ↦ ap (λ x. same_text x (10 ∷ [])) (ap chars (same_one bs 10 same) ∙ chars-one_ascii 10 (lit< tt) ∙ sym (same_one bs 10 same))
-  | inr other ↦ elim (cases_Bool (same_text (chars bs) (10 ∷ []))) [
-    | inl same ↦ (let is : bs ≡ 10 ∷ [] = sym (encodes-chars bs u) ∙ ap encodes (same_one (chars bs) 10 same) in
-        let also : same_text bs (10 ∷ []) ≡ true = ap (λ x. same_text x (10 ∷ [])) is in cc)
+feed_is_feed bs u = elim (cases_Bool (same_text bs (line_feed ∷ []))) [
+  | inl same ↦ ap (λ x. same_text x (line_feed ∷ [])) (ap chars (same_one bs line_feed same) ∙ chars-one_ascii line_feed (lit< tt) ∙ sym (same_one bs line_feed same))
+  | inr other ↦ elim (cases_Bool (same_text (chars bs) (line_feed ∷ []))) [
+    | inl same ↦ (let is : bs ≡ line_feed ∷ [] = sym (encodes-chars bs u) ∙ ap encodes (same_one (chars bs) line_feed same) in
+        let also : same_text bs (line_feed ∷ []) ≡ true = ap (λ x. same_text x (line_feed ∷ [])) is in cc)
     | inr also ↦ also ∙ sym other
   ]
 ]
 
 -- the end of a line is LF, or it isn't
-pub another_end : (bs : List ℕ) → IsUtf8 bs → not (pointwise eqb bs (10 ∷ [])) ≡ ends_otherwise (chars bs)
+pub another_end : (bs : List ℕ) → IsUtf8 bs → not (pointwise eqb bs (line_feed ∷ [])) ≡ ends_otherwise (chars bs)
 another_end bs u = ap not (alike bs ∙ sym (feed_is_feed bs u))
   where
-    alike : (cs : List ℕ) → pointwise eqb cs (10 ∷ []) ≡ same_text cs (10 ∷ [])
+    alike : (cs : List ℕ) → pointwise eqb cs (line_feed ∷ []) ≡ same_text cs (line_feed ∷ [])
     alike [] = refl
     alike (c ∷ []) = refl
     alike (c ∷ d ∷ cs) = refl

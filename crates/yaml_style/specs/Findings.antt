@@ -2,6 +2,7 @@
 use Rattle.std.specs.Prelude.{ℕ, suc, Bool, true, false, not, ◌==◌, nat_lt, List, [], ◌∷◌, ◌++◌, length, codes, if◌then◌else◌, Option, Some, None}
 use Rattle.std.specs.List.{insert, position_or_len}
 use Rattle.yaml_chars.specs.Classes.{white}
+use Rattle.yaml_chars.specs.Signs.{line_feed}
 use Rattle.yaml_grammar.specs.Texts.{same_text}
 use Rattle.yaml_style.specs.declared.finding.Finding.{Finding}
 use Rattle.yaml_style.specs.declared.finding.Rule.{Rule}
@@ -25,7 +26,7 @@ ends_in_white (c ∷ d ∷ cs) = ends_in_white (d ∷ cs)
 
 -- S2, of a line's break: it is not LF
 abbrev pub ends_otherwise : List ℕ → Bool
-ends_otherwise ending = not (same_text ending (10 ∷ []))
+ends_otherwise ending = not (same_text ending (line_feed ∷ []))
 
 -- S3, of a line without its break: it has more than 120 code points
 abbrev pub is_long : List ℕ → Bool

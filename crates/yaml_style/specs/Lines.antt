@@ -1,11 +1,12 @@
 -- The lines of a text (YAML 1.2.2, 5.4).
 use Rattle.std.specs.Prelude.{ℕ, suc, Bool, not, ◌&&◌, ◌||◌, ◌==◌, List, [], ◌∷◌, if◌then◌else◌}
 use Rattle.yaml_chars.specs.Classes.{line_break}
+use Rattle.yaml_chars.specs.Signs.{line_feed, carriage_return}
 use Rattle.yaml_grammar.specs.Texts.{first}
 
 -- A break ends with LF, or with a CR that no LF follows.
 abbrev pub ends_break : ℕ → List ℕ → Bool
-ends_break c after = (c == 10) || ((c == 13) && not (first (λ d. d == 10) after))
+ends_break c after = (c == line_feed) || ((c == carriage_return) && not (first (λ d. d == line_feed) after))
 
 -- the lines of a text, each with its break
 abbrev pub lines : List ℕ → List (List ℕ)

@@ -1,6 +1,7 @@
 use Rattle.std.proofs.Common.{ap, ◌∙◌, ◌∷◌, []}
 use Rattle.std.specs.Str.{chars}
 use Rattle.std.proofs.lemmas.List.{replicate-append-replicate}
+use Rattle.yaml_chars.specs.Signs.{space_char}
 use Rattle.yaml_grammar.specs.Texts.{spaces}
 use Rattle.yaml_style.specs.Comparing.{comparison_after}
 use Rattle.yaml_style.specs.ComparingLaws.{comparison_after-both}
@@ -11,5 +12,5 @@ loop-preserved c =
     let a = c.args.self.now in
     let b = c.loop.self in
     let d = c.put_char.new.self in
-    comparison_after-both (chars a.rest.now) a.agrees (chars b.rest.now) b.agrees (chars d.rest.now, d.agrees) (spaces c.loop.counter) (32 ∷ []) c.loop.invariant c.in_ok-put_char.ensures
-    ∙ ap (comparison_after (chars a.rest.now) a.agrees) (replicate-append-replicate c.loop.counter 1 32)
+    comparison_after-both (chars a.rest.now) a.agrees (chars b.rest.now) b.agrees (chars d.rest.now, d.agrees) (spaces c.loop.counter) (space_char ∷ []) c.loop.invariant c.in_ok-put_char.ensures
+    ∙ ap (comparison_after (chars a.rest.now) a.agrees) (replicate-append-replicate c.loop.counter 1 space_char)
