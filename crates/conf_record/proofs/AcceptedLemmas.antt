@@ -9,7 +9,8 @@ use Rattle.tree_path.specs.Pointers.{path_of}
 use Rattle.tree_path.specs.declared.fault.PathFault.{PathFault}
 use Rattle.conf_record.specs.Names.{good_name}
 use Rattle.conf_record.specs.Commands.{Command, import_as, set_at, delete_at, name_of}
-use Rattle.conf_record.specs.States.{Entry, Contents, config_named, put_config, config_limits}
+use Rattle.conf_record.specs.States.{Entry, Contents, config_named, put_config}
+use Rattle.yaml_tree.specs.Limits.{config_limits}
 use Rattle.conf_record.specs.Limits.{AreConfigs, IsState}
 use Rattle.conf_record.specs.Steps.{and_then, found, by_path, checked_tree, with_checked_config, configs_after_delete, configs_after, next_state, step}
 use Rattle.conf_record.specs.declared.fault.StoreFault.TheVariants.{BadName, Path, TooDeep, ConfigLarge}

@@ -26,7 +26,8 @@ use Rattle.conf_record.specs.Edits.{tree_after_edit, configs_with_edit, configs_
 use Rattle.conf_record.specs.Kept.{entries_of, ArePlain}
 use Rattle.conf_record.specs.Limits.{AreConfigs}
 use Rattle.conf_record.specs.PathFaults.{store_fault_of}
-use Rattle.conf_record.specs.States.{Entry, Contents, config_named, put_config, cut_config, config_limits}
+use Rattle.conf_record.specs.States.{Entry, Contents, config_named, put_config, cut_config}
+use Rattle.yaml_tree.specs.Limits.{config_limits}
 use Rattle.conf_record.specs.declared.edit.Edit.{Edit}
 use Rattle.conf_record.specs.declared.edit.Edit.TheVariants.{Delete}
 use Rattle.conf_record.specs.declared.fault.StoreFault.{StoreFault}

@@ -6,7 +6,8 @@ use Rattle.yaml_grammar.specs.Trees.{Tree}
 use Rattle.yaml_grammar.specs.Reads.{Good}
 use Rattle.yaml_tree.proofs.CharacterLemmas.{same_text-true, same_text-self}
 use Rattle.conf_record.specs.Names.{good_name}
-use Rattle.conf_record.specs.States.{Entry, names_of, config_named, put_config, cut_config, config_limits, has_name, names_differ}
+use Rattle.conf_record.specs.States.{Entry, names_of, config_named, put_config, cut_config, has_name, names_differ}
+use Rattle.yaml_tree.specs.Limits.{config_limits}
 use Rattle.conf_record.specs.BaseTexts.{entry_length, entries_length}
 use Rattle.conf_record.specs.Limits.{AreConfigs}
 

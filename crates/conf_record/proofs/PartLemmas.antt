@@ -9,7 +9,8 @@ use Rattle.yaml_grammar.specs.Style.{style_text}
 use Rattle.yaml_tree.specs.declared.tree.Tree.{Tree}
 use Rattle.yaml_tree.proofs.CharacterLemmas.{same_text-true, same_text-self}
 use Rattle.conf_record.specs.Names.{good_name}
-use Rattle.conf_record.specs.States.{Entry, Contents, names_of, config_named, put_config, config_limits, has_name, names_differ}
+use Rattle.conf_record.specs.States.{Entry, Contents, names_of, config_named, put_config, has_name, names_differ}
+use Rattle.yaml_tree.specs.Limits.{config_limits}
 use Rattle.conf_record.specs.BaseTexts.{base_length, entries_length, framed_length}
 use Rattle.conf_record.proofs.BaseLemmas.{base_length-framed, entries_length-short}
 use Rattle.std.proofs.lemmas.Bool.Decides.{nat_tests}

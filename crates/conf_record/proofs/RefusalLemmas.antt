@@ -9,7 +9,8 @@ use Rattle.tree_path.specs.declared.fault.PathFault.{PathFault}
 use Rattle.conf_record.specs.BaseTexts.{base_length}
 use Rattle.conf_record.specs.Commands.{Command, import_as, set_at, delete_at, name_of}
 use Rattle.conf_record.specs.Names.{good_name}
-use Rattle.conf_record.specs.States.{Entry, Contents, config_named, config_limits, base_limit, count_limit}
+use Rattle.conf_record.specs.States.{Entry, Contents, config_named, base_limit, count_limit}
+use Rattle.yaml_tree.specs.Limits.{config_limits}
 use Rattle.conf_record.specs.Steps.{IsRefusal, step, state_after_command, configs_after, next_state, and_then, checked_tree, with_checked_config, found, by_path, configs_after_delete}
 use Rattle.conf_record.specs.declared.fault.StoreFault.{StoreFault}
 use Rattle.conf_record.specs.declared.fault.StoreFault.TheVariants.{BadName, TooDeep, ConfigLarge, StoreFull, JournalLong, CountFull}

@@ -13,7 +13,8 @@ use Rattle.conf_record.specs.Names.{good_name}
 use Rattle.conf_record.specs.Kept.{entries_of, ArePlain, IsKept}
 use Rattle.conf_record.specs.Limits.{IsState}
 use Rattle.conf_record.specs.BaseTexts.{entries_length}
-use Rattle.conf_record.specs.States.{Entry, Contents, config_named, put_config, cut_config, config_limits, count_limit}
+use Rattle.conf_record.specs.States.{Entry, Contents, config_named, put_config, cut_config, count_limit}
+use Rattle.yaml_tree.specs.Limits.{config_limits}
 use Rattle.conf_record.specs.Steps.{next_state}
 use Rattle.conf_record.proofs.BaseLemmas.{base_length-framed}
 use Rattle.conf_record.proofs.CountLemmas.{next_state-short}

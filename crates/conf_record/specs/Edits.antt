@@ -7,7 +7,8 @@ use Rattle.yaml_tree.specs.Seen.{tree_of}
 use Rattle.tree_path.specs.Paths.{set, delete, last_key}
 use Rattle.tree_path.specs.Pointers.{path_of}
 use Rattle.tree_path.specs.declared.fault.PathFault.{PathFault}
-use Rattle.conf_record.specs.States.{Entry, config_named, put_config, config_limits}
+use Rattle.conf_record.specs.States.{Entry, config_named, put_config}
+use Rattle.yaml_tree.specs.Limits.{config_limits}
 use Rattle.conf_record.specs.BaseTexts.{entries_length}
 use Rattle.conf_record.specs.Steps.{and_then, found, by_path, with_checked_config}
 use Rattle.conf_record.specs.declared.fault.StoreFault.{StoreFault}

@@ -7,7 +7,8 @@ use Rattle.yaml_tree.specs.Seen.{tree_of}
 use Rattle.yaml_tree.specs.declared.tree.Tree.{Tree}
 use Rattle.conf_record.specs.Commands.{text_of}
 use Rattle.conf_record.specs.Names.{good_name}
-use Rattle.conf_record.specs.States.{Entry, config_named, put_config, config_limits}
+use Rattle.conf_record.specs.States.{Entry, config_named, put_config}
+use Rattle.yaml_tree.specs.Limits.{config_limits}
 use Rattle.conf_record.specs.Limits.{IsState}
 use Rattle.conf_record.specs.BaseTexts.{entry_length, entries_length}
 

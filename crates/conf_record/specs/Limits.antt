@@ -2,7 +2,8 @@
 use Rattle.std.specs.Prelude.{◌≡◌, ◌≤◌, true, List, [], ◌∷◌}
 use Rattle.yaml_grammar.specs.Reads.{Good}
 use Rattle.conf_record.specs.Names.{good_name}
-use Rattle.conf_record.specs.States.{Entry, Contents, names_of, names_differ, config_limits, base_limit, count_limit}
+use Rattle.conf_record.specs.States.{Entry, Contents, names_of, names_differ, base_limit, count_limit}
+use Rattle.yaml_tree.specs.Limits.{config_limits}
 use Rattle.conf_record.specs.BaseTexts.{base_length}
 
 -- each name is good, and each tree keeps to the limits of a configuration

@@ -2,7 +2,6 @@
 use Rattle.std.specs.Prelude.{ℕ, Bool, false, true, not, ◌&&◌, ◌||◌, if◌then◌else◌, List, [], ◌∷◌, Option, Some, None}
 use Rattle.yaml_grammar.specs.Texts.{same_text}
 use Rattle.yaml_grammar.specs.Trees.{Tree}
-use Rattle.yaml_grammar.specs.Reads.{Limits}
 
 -- a configuration: its name, and its tree
 abbrev pub Entry : Type 0
@@ -33,10 +32,6 @@ cut_config [] name = []
 cut_config (e ∷ es) name = if same_text name e.0 then es else e ∷ cut_config es name
 
 -- ---- limits
-
--- a configuration is at most 64 deep, and has at most 1,048,576 bytes as a text and in the one style
-abbrev pub config_limits : Limits
-config_limits = record { bytes = 1048576; depth = 64; style = 1048576 }
 
 -- the most bytes of a state's base text
 abbrev pub base_limit : ℕ

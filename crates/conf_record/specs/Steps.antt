@@ -9,7 +9,8 @@ use Rattle.tree_path.specs.Pointers.{path_of}
 use Rattle.tree_path.specs.declared.fault.PathFault.{PathFault}
 use Rattle.conf_record.specs.Names.{good_name}
 use Rattle.conf_record.specs.Commands.{Command, import_as, set_at, delete_at, name_of}
-use Rattle.conf_record.specs.States.{Entry, Contents, config_named, put_config, cut_config, config_limits, base_limit, count_limit}
+use Rattle.conf_record.specs.States.{Entry, Contents, config_named, put_config, cut_config, base_limit, count_limit}
+use Rattle.yaml_tree.specs.Limits.{config_limits}
 use Rattle.conf_record.specs.BaseTexts.{base_length}
 use Rattle.conf_record.specs.declared.fault.StoreFault.{StoreFault}
 use Rattle.conf_record.specs.declared.fault.StoreFault.TheVariants.{BadName, NoConfig, Path, Read, TooDeep, ConfigLarge, StoreFull, JournalLong, CountFull, Reopen, Device, OutOfMemory}

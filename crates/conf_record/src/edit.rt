@@ -8,20 +8,20 @@ ghost use Rattle.yaml_tree.specs.Seen.{tree_of};
 ghost use Rattle.tree_path.specs.Changes.{Changes};
 ghost use Rattle.tree_path.specs.Paths.{last_key};
 ghost use Rattle.conf_record.specs.Edits.{tree_after_edit};
-ghost use Rattle.conf_record.specs.States.{config_limits};
+ghost use Rattle.yaml_tree.specs.Limits.{config_limits};
 ghost use Rattle.conf_record.specs.Steps.{by_path};
 
 use crate::StoreFault;
 use std::alloc::Global;
 use std::mem;
 use tree_path::{Path, PathFault, Plan, delete_planned, plan_delete, plan_set, set_planned};
-use yaml_tree::{Config, Tree};
+use yaml_tree::{Config, Limits, Tree};
 
 /// The greatest depth of a configuration.
-pub(crate) const DEPTH_LIMIT: u64 = 64;
+pub(crate) const DEPTH_LIMIT: u64 = Limits::CONFIGURATION.depth;
 
 /// The most bytes of a configuration in the one style.
-pub(crate) const STYLE_LIMIT: u128 = 1_048_576;
+pub(crate) const STYLE_LIMIT: u128 = Limits::CONFIGURATION.style as u128;
 
 /// An edit at a path inside a configuration. The path is not empty.
 #[derive(Drop)]

@@ -5,7 +5,7 @@ ghost use Rattle.yaml_grammar.specs.Reads.{Good};
 ghost use Rattle.yaml_tree.specs.Seen.{tree_of};
 ghost use Rattle.conf_record.specs.Names.{good_name};
 ghost use Rattle.conf_record.specs.Commands.{command_of, text_of, import_as, set_at, delete_at};
-ghost use Rattle.conf_record.specs.States.{config_limits};
+ghost use Rattle.yaml_tree.specs.Limits.{config_limits};
 ghost use Rattle.conf_record.specs.Steps.{checked_tree, state_after_command, step};
 
 use crate::edit::{DEPTH_LIMIT, Edit, STYLE_LIMIT};

@@ -18,7 +18,8 @@ use Rattle.conf_disk.proofs.Moments.{LeavesOnly-start, LeavesOnly-weaker}
 use Rattle.conf_record.specs.BaseTexts.{base_bytes}
 use Rattle.conf_record.specs.Commands.{Command, import_as}
 use Rattle.conf_record.specs.Limits.{IsState}
-use Rattle.conf_record.specs.States.{Contents, config_limits, count_limit}
+use Rattle.conf_record.specs.States.{Contents, count_limit}
+use Rattle.yaml_tree.specs.Limits.{config_limits}
 use Rattle.conf_record.specs.Steps.{step, after}
 use Rattle.conf_record.specs.declared.fault.StoreFault.{StoreFault}
 use Rattle.conf_store.specs.Calls.{outcome, has_room, next_record}

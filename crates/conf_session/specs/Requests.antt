@@ -8,7 +8,7 @@ use Rattle.yaml_docs.specs.declared.fault.ReadFault.{ReadFault}
 use Rattle.yaml_docs.specs.declared.fault.ReadFault.TheVariants.{OutOfMemory}
 use Rattle.conf_record.specs.Commands.{Command, import_as, set_at, delete_at}
 use Rattle.conf_record.specs.RecordsRead.{keys_are, values}
-use Rattle.conf_record.specs.States.{config_limits}
+use Rattle.yaml_tree.specs.Limits.{config_limits}
 
 -- the limits of a command document: its bytes, its depth, and its bytes in the one style
 abbrev pub command_limits : Limits

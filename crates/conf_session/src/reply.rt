@@ -18,13 +18,6 @@ use conf_store::Store;
 use std::alloc::Global;
 use yaml_tree::{Limits, ReadFault, Text, read_one};
 
-/// The limits of a configuration: bytes of its text, depth, and bytes in the one style.
-const CONFIGURATION: Limits = Limits {
-    bytes: 1_048_576,
-    depth: 64,
-    style: 1_048_576,
-};
-
 /// What is answered to a piece.
 #[derive(Debug, Drop)]
 pub enum Reply {
@@ -116,7 +109,7 @@ fn import<D: Disk>(
     ensures now { D.honest → store.new.reopen ≡ false →
         AllImagesMean (D.folder store.new.disk) store.new.state }
 {
-    match read_one(alloc, source.as_bytes(), &CONFIGURATION) {
+    match read_one(alloc, source.as_bytes(), &Limits::CONFIGURATION) {
         Ok(tree) => {
             let name = name.into_string(alloc)?;
             change(alloc, store, Command::Import { name, tree })

@@ -6,7 +6,7 @@ use Rattle.yaml_docs.specs.declared.fault.ReadFault.TheVariants as read_faults
 use Rattle.conf_journal.specs.Store.{file_with_bytes}
 use Rattle.conf_record.specs.Commands.{import_as}
 use Rattle.conf_record.specs.Names.{good_name}
-use Rattle.conf_record.specs.States.{config_limits}
+use Rattle.yaml_tree.specs.Limits.{config_limits}
 use Rattle.conf_record.specs.declared.fault.StoreFault.{StoreFault}
 use Rattle.conf_record.specs.declared.fault.StoreFault.TheVariants.{BadName, Read, Reopen, OutOfMemory}
 use Rattle.conf_store.specs.View.{StoreView}

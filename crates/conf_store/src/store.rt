@@ -32,13 +32,6 @@ use yaml_emit::style_text;
 use yaml_laws::one_list_of_pieces;
 use yaml_tree::{Config, Limits, ReadFault, Tree, read_one};
 
-/// The limits of a configuration.
-const CONFIG_LIMITS: Limits = Limits {
-    bytes: 1_048_576,
-    depth: 64,
-    style: 1_048_576,
-};
-
 /// Named configurations, kept in a folder.
 ///
 /// Contracts see the disk, the state, the length of `store.yaml` in bytes, and whether the store has to be opened
@@ -231,7 +224,7 @@ impl<D: Disk> Store<D> {
         if !good_name(name) {
             return Err(StoreFault::BadName);
         }
-        let config = match read_one(self.alloc, text, &CONFIG_LIMITS) {
+        let config = match read_one(self.alloc, text, &Limits::CONFIGURATION) {
             Ok(config) => config,
             Err(ReadFault::OutOfMemory) => return Err(StoreFault::OutOfMemory),
             Err(fault) => return Err(StoreFault::Read(fault)),

@@ -11,7 +11,8 @@ use Rattle.yaml_docs.specs.declared.fault.ReadFault.{ReadFault}
 use Rattle.yaml_docs.specs.declared.fault.ReadFault.TheVariants.{TooLong, NotUtf8, Syntax, Documents, KeyNotText, KeyTwice, TooDeep, LargeInStyle, OutOfMemory}
 use Rattle.yaml_tree.proofs.ByteLemmas.{byte_len-chars}
 use Rattle.confstore.specs.declared.tools.ToolFault.TheVariants.{Read}
-use Rattle.yaml_style.specs.Checking.{IsChecked, configuration}
+use Rattle.yaml_style.specs.Checking.{IsChecked}
+use Rattle.yaml_tree.specs.Limits.{config_limits}
 use Rattle.yaml_style.specs.declared.finding.Finding.{Finding}
 use Rattle.confstore.specs.Tools.{HasRead, Formats, Checks, report, RefusesInput, StopsInOutput, Stops}
 
@@ -19,12 +20,12 @@ keeps_itself : (held : Option (List ℕ)) → Keeps held held
 keeps_itself None = tt
 keeps_itself (Some bytes) = refl
 
-refused_input : (given left held : Option (List ℕ)) (bytes : List ℕ) (fault : ReadFault) → HasRead given left bytes 1048577 → Refuses bytes configuration fault
+refused_input : (given left held : Option (List ℕ)) (bytes : List ℕ) (fault : ReadFault) → HasRead given left bytes 1048577 → Refuses bytes config_limits fault
     → RefusesInput given left held held fault
 refused_input given left held bytes fault read refuses = record { bytes = bytes; read = read; refuses = refuses; keeps = keeps_itself held }
 
 -- a text that is refused is one that stops in the input
-pub refused : (given left held : Option (List ℕ)) (bytes : List ℕ) (fault : ReadFault) → HasRead given left bytes 1048577 → Refuses bytes configuration fault
+pub refused : (given left held : Option (List ℕ)) (bytes : List ℕ) (fault : ReadFault) → HasRead given left bytes 1048577 → Refuses bytes config_limits fault
     → Stops given left held held (Read fault)
 refused given left held bytes TooLong read refuses = refused_input given left held bytes _ read refuses
 refused given left held bytes (NotUtf8 at) read refuses = refused_input given left held bytes _ read refuses
@@ -37,11 +38,11 @@ refused given left held bytes LargeInStyle read refuses = refused_input given le
 refused given left held bytes OutOfMemory read refuses = keeps_itself held
 
 -- what is read as a tree is short, so the reader's end was reached
-short : (bytes : List ℕ) (t : Tree) → IsRead bytes configuration t → length bytes < 1048577
+short : (bytes : List ℕ) (t : Tree) → IsRead bytes config_limits t → length bytes < 1048577
 short bytes t is_read = omega (arith, is_read.gives.short, byte_len-chars bytes is_read.utf8)
 
 -- a text that is read but can't be written stops in the output
-pub stopped : (given left : Option (List ℕ)) (bytes : List ℕ) (t : Tree) → HasRead given left bytes 1048577 → IsRead bytes configuration t → StopsInOutput given left
+pub stopped : (given left : Option (List ℕ)) (bytes : List ℕ) (t : Tree) → HasRead given left bytes 1048577 → IsRead bytes config_limits t → StopsInOutput given left
 stopped given left bytes t read is_read =
     record { bytes = bytes; tree = t; taken = read.taken; at_end = read.at_end (short bytes t is_read); reads = is_read }
 
@@ -53,7 +54,7 @@ then_kept (Some xs) (Some ys) None text a k = absurd k
 then_kept (Some xs) (Some ys) (Some zs) text a k = k ∙ a
 
 -- the text of the tree that the input gives is what was written
-pub formatted : (given left held written : Option (List ℕ)) (bytes text : List ℕ) (t : Tree) → HasRead given left bytes 1048577 → IsRead bytes configuration t
+pub formatted : (given left held written : Option (List ℕ)) (bytes text : List ℕ) (t : Tree) → HasRead given left bytes 1048577 → IsRead bytes config_limits t
     → IsUtf8 text → chars text ≡ style_text t → Appends held written text → Formats given left held written
 formatted given left held written bytes text t read is_read utf8 style appends =
     let spelled : encode_utf8_all (style_text t) ≡ text = ap encode_utf8_all (sym style) ∙ encodes-chars text utf8 in

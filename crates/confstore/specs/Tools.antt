@@ -6,7 +6,8 @@ use Rattle.yaml_grammar.specs.Style.{style_text}
 use Rattle.yaml_grammar.specs.Trees.{Tree}
 use Rattle.yaml_tree.specs.Reading.{IsRead, Refuses}
 use Rattle.yaml_docs.specs.declared.fault.ReadFault.{ReadFault}
-use Rattle.yaml_style.specs.Checking.{IsChecked, configuration}
+use Rattle.yaml_style.specs.Checking.{IsChecked}
+use Rattle.yaml_tree.specs.Limits.{config_limits}
 use Rattle.yaml_style.specs.Findings.{name_of}
 use Rattle.yaml_style.specs.declared.finding.Finding.{Finding}
 use Rattle.confstore.specs.declared.tools.ToolFault.{ToolFault}
@@ -24,7 +25,7 @@ pub record Formats (given left held written : Option (List ℕ)) : Type 0 where
   pub tree : Tree
   pub taken : Consumes given left bytes
   pub at_end : IsAtEnd left
-  pub reads : IsRead bytes configuration tree
+  pub reads : IsRead bytes config_limits tree
   pub writes : Appends held written (encode_utf8_all (style_text tree))
 
 -- the line for a finding: the rule's name, a space, and the number of the line
@@ -50,7 +51,7 @@ pub record Checks (given left held written : Option (List ℕ)) (count : ℕ) : 
 pub record RefusesInput (given left held written : Option (List ℕ)) (fault : ReadFault) : Type 0 where
   pub bytes : List ℕ
   pub read : HasRead given left bytes 1048577
-  pub refuses : Refuses bytes configuration fault
+  pub refuses : Refuses bytes config_limits fault
   pub keeps : Keeps held written
 
 -- the reader's bytes give a tree, and what was to be written could not be written whole
@@ -59,7 +60,7 @@ pub record StopsInOutput (given left : Option (List ℕ)) : Type 0 where
   pub tree : Tree
   pub taken : Consumes given left bytes
   pub at_end : IsAtEnd left
-  pub reads : IsRead bytes configuration tree
+  pub reads : IsRead bytes config_limits tree
 
 -- what holds where a tool ends with a fault; it may run out of memory before everything is read
 abbrev pub Stops : Option (List ℕ) → Option (List ℕ) → Option (List ℕ) → Option (List ℕ) → ToolFault → Type 0

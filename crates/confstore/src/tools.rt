@@ -9,11 +9,11 @@ use std::alloc::{AllocError, Global};
 use std::io::{Read, Write};
 use thiserror::Error;
 use yaml_emit::style_text;
-use yaml_style::{CONFIGURATION, check};
-use yaml_tree::{ReadFault, read_one};
+use yaml_style::check;
+use yaml_tree::{Limits, ReadFault, read_one};
 
 /// One byte more than a text may have: who has read as many knows that there are too many.
-const MOST_INPUT: usize = 1_048_577;
+const MOST_INPUT: usize = Limits::CONFIGURATION.bytes as usize + 1;
 
 /// Why a tool stopped.
 #[derive(Clone, Copy, Debug, PartialEq, Eq, Error)]
@@ -56,7 +56,7 @@ pub fn format_text<R: Read, W: Write>(
         (W.contents writer.old) (W.contents writer.new)) }
 {
     let bytes = read_up_to(alloc, reader, MOST_INPUT)?;
-    let config = match read_one(alloc, &bytes, &CONFIGURATION) {
+    let config = match read_one(alloc, &bytes, &Limits::CONFIGURATION) {
         Ok(config) => config,
         Err(fault) => return Err(ToolFault::Read(fault)),
     };

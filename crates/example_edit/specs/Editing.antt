@@ -1,19 +1,16 @@
 -- What an edited text is.
 use Rattle.std.specs.Prelude.{◌≡◌, ℕ, List, Ok}
-use Rattle.yaml_grammar.specs.Reads.{Limits}
 use Rattle.yaml_grammar.specs.Style.{style_text}
 use Rattle.yaml_grammar.specs.Trees.{Tree, text}
+use Rattle.yaml_tree.specs.Limits.{config_limits}
 use Rattle.yaml_tree.specs.Reading.{IsRead}
 use Rattle.tree_path.specs.Paths.{set}
 use Rattle.tree_path.specs.Pointers.{path_of}
 
-abbrev pub limits : Limits
-limits = record { bytes = 1048576; depth = 64; style = 1048576 }
-
 -- the bytes give a tree, the pointer is a path, and the text is the one style of that tree with the value at the path
 pub record IsEdited (bytes pointer value edited : List ℕ) : Type 0 where
   pub before : Tree
-  pub read : IsRead bytes limits before
+  pub read : IsRead bytes config_limits before
   pub path : List (List ℕ)
   pub parsed : path_of pointer ≡ Ok path
   pub after : Tree

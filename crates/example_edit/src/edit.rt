@@ -9,13 +9,6 @@ use tree_path::{Path, PathFault, set};
 use yaml_emit::style_text;
 use yaml_tree::{Config, Limits, ReadFault, Text, Tree, read_one};
 
-/// How large a text and its tree may be.
-pub const LIMITS: Limits = Limits {
-    bytes: 1_048_576,
-    depth: 64,
-    style: 1_048_576,
-};
-
 /// Why there is no edited text.
 #[derive(Debug, Drop, Error)]
 pub enum EditFault {
@@ -38,7 +31,7 @@ pub fn edited(alloc: Global, bytes: &[u8], pointer: &str, value: &str) -> Result
     ensures { IfOk result (λ text.
         IsEdited bytes.now (chars pointer.now) (chars value.now) (chars (string_bytes text))) }
 {
-    let config = match read_one(alloc, bytes, &LIMITS) {
+    let config = match read_one(alloc, bytes, &Limits::CONFIGURATION) {
         Ok(config) => config,
         Err(fault) => return Err(EditFault::Text(fault)),
     };

@@ -7,10 +7,11 @@
 
 mod edit;
 
-use edit::{LIMITS, edited};
+use edit::edited;
 use std::io::Read;
 use std::process::ExitCode;
 use std::{env, io};
+use yaml_tree::Limits;
 
 fn main(rt: HostRuntime) -> ExitCode {
     let alloc = rt.alloc();
@@ -30,7 +31,9 @@ fn main(rt: HostRuntime) -> ExitCode {
 fn run(rt: &HostRuntime, pointer: &str, value: &str) -> io::Result<ExitCode> {
     let alloc = rt.alloc();
     let mut bytes = Vec::new(alloc);
-    rt.reader().take(LIMITS.bytes + 1).read_to_end(&mut bytes)?;
+    rt.reader()
+        .take(Limits::CONFIGURATION.bytes + 1)
+        .read_to_end(&mut bytes)?;
     match edited(alloc, &bytes, pointer, value) {
         Ok(text) => {
             print!(rt; "{text}")?;

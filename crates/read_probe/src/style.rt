@@ -7,13 +7,6 @@ use std::time::Instant;
 use yaml_emit::style_text;
 use yaml_tree::{Limits, read_one};
 
-/// The limits of a configuration.
-const LIMITS: Limits = Limits {
-    bytes: 1_048_576,
-    depth: 64,
-    style: 1_048_576,
-};
-
 /// Prints a line for each line of standard input, a text with escapes: how many nanoseconds reading it took, and its
 /// tree in the one style, or why it is refused.
 pub(crate) fn style_lines(rt: &HostRuntime) -> io::Result<()> {
@@ -32,7 +25,7 @@ pub(crate) fn style_lines(rt: &HostRuntime) -> io::Result<()> {
 fn style_one<W: Write>(rt: &HostRuntime, writer: &mut W, bytes: &[u8]) -> io::Result<()> {
     let alloc = rt.alloc();
     let begun = Instant::now(rt)?;
-    let read = read_one(alloc, bytes, &LIMITS);
+    let read = read_one(alloc, bytes, &Limits::CONFIGURATION);
     let time = begun.elapsed(rt)?.as_nanos();
     match read {
         Ok(config) => {

@@ -1,19 +1,15 @@
 -- What the findings of bytes are.
 use Rattle.std.specs.Prelude.{◌≡◌, ℕ, List}
 use Rattle.std.specs.Str.{chars}
-use Rattle.yaml_grammar.specs.Reads.{Limits}
 use Rattle.yaml_grammar.specs.Style.{style_text}
 use Rattle.yaml_grammar.specs.Trees.{Tree}
+use Rattle.yaml_tree.specs.Limits.{config_limits}
 use Rattle.yaml_tree.specs.Reading.{IsRead}
 use Rattle.yaml_style.specs.declared.finding.Finding.{Finding}
 use Rattle.yaml_style.specs.Findings.{findings}
 
--- the limits of a configuration
-abbrev pub configuration : Limits
-configuration = record { bytes = 1048576; depth = 64; style = 1048576 }
-
 -- the bytes give a tree, and these are the findings of their text
 pub record IsChecked (bytes : List ℕ) (all : List Finding) : Type 0 where
   pub tree : Tree
-  pub reads : IsRead bytes configuration tree
+  pub reads : IsRead bytes config_limits tree
   pub found : all ≡ findings (chars bytes) (style_text tree)

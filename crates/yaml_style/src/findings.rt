@@ -4,7 +4,8 @@ ghost use Rattle.std.specs.List.{position_or_len};
 ghost use Rattle.std.specs.Str.{chars};
 ghost use Rattle.yaml_grammar.specs.Style.{style_text};
 ghost use Rattle.yaml_grammar.specs.Texts.{is_empty};
-ghost use Rattle.yaml_style.specs.Checking.{IsChecked, configuration};
+ghost use Rattle.yaml_style.specs.Checking.{IsChecked};
+ghost use Rattle.yaml_tree.specs.Limits.{config_limits};
 ghost use Rattle.yaml_style.specs.Findings.{style_line, with_style};
 ghost use Rattle.yaml_tree.specs.Reading.{Refuses};
 ghost use Rattle.yaml_tree.specs.Seen.{tree_of};
@@ -16,16 +17,9 @@ use std::alloc::{AllocError, Global};
 use yaml_chars::checked;
 use yaml_tree::{Config, Limits, ReadFault, read_one, write_style};
 
-/// The limits of a configuration: bytes of its text, depth, and bytes in the one style.
-pub const CONFIGURATION: Limits = Limits {
-    bytes: 1_048_576,
-    depth: 64,
-    style: 1_048_576,
-};
-
 /// The findings of a text, ordered by line, and on one line by rule.
 ///
-/// The text is read as [`read_one`] reads it, within the limits of a configuration ([`CONFIGURATION`]). Its lines
+/// The text is read as [`read_one`] reads it, within the limits of a configuration ([`Limits::CONFIGURATION`]). Its lines
 /// are looked at once, and the text of its tree in the one style is compared with it as it is written, and never
 /// held. A byte order mark counts as a character of the first line. Breaks are LF, CR LF and CR (YAML 1.2.2, 5.4).
 ///
@@ -34,10 +28,10 @@ pub const CONFIGURATION: Limits = Limits {
 /// Those of [`read_one`], within those limits; a text that is refused has no findings.
 pub fn check(alloc: Global, bytes: &[u8]) -> Result<Vec<Finding>, ReadFault>
     ensures found { IfOk result (λ findings. IsChecked bytes.now findings.items) }
-    ensures too_long { (result ≡ Err ReadFault.TooLong) ↔ (1048576 < length bytes.now) }
-    ensures refused { IfErr result (Refuses bytes.now configuration) }
+    ensures too_long { (result ≡ Err ReadFault.TooLong) ↔ (config_limits.bytes < length bytes.now) }
+    ensures refused { IfErr result (Refuses bytes.now config_limits) }
 {
-    let config = read_one(alloc, bytes, &CONFIGURATION)?;
+    let config = read_one(alloc, bytes, &Limits::CONFIGURATION)?;
     let text = checked(bytes).unwrap();
     let mut findings = line_findings(alloc, text)?;
     insert_style(&mut findings, style_line(text, &config))?;
@@ -46,7 +40,7 @@ pub fn check(alloc: Global, bytes: &[u8]) -> Result<Vec<Finding>, ReadFault>
 
 /// The line on which a text first differs from its tree's in the one style; None where it doesn't.
 fn style_line(text: &str, config: &Config) -> Option<u64>
-    requires { length text.now ≤ 1048576 }
+    requires { length text.now ≤ config_limits.bytes }
     ensures { result ≡ style_line (chars text.now) (style_text (tree_of config.now)) }
 {
     let mut written = Comparison::new(text);

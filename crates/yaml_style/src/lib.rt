@@ -7,4 +7,4 @@ mod findings;
 mod lines;
 
 pub use finding::{Finding, Rule};
-pub use findings::{CONFIGURATION, check};
+pub use findings::check;

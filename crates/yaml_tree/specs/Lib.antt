@@ -6,6 +6,7 @@ pub mod Encoded
 pub mod Frames
 pub mod Keys
 pub mod Kept
+pub mod Limits
 pub mod Lines
 pub mod Runs
 pub mod ScalarStyles

@@ -29,7 +29,7 @@ mod tree;
 pub use config::Config;
 pub use count::{ByteCount, style_len};
 pub use laws::lengths_follow_indentation;
-pub use limits::Limits;
+pub use limits::{Limits, limits_of_a_configuration};
 pub use read::read_one;
 pub use read_laws::{bytes_give_one, refused_bytes_give_none};
 pub use scalar::{ScalarStyle, scalar_style};

@@ -1,4 +1,7 @@
 // How large a text, and the tree in it, may be.
+ghost use Rattle.std.specs.Prelude.{◌≡◌};
+ghost use Rattle.yaml_tree.specs.Kept.{limits_of};
+ghost use Rattle.yaml_tree.specs.Limits.{config_limits};
 
 /// How large a text, and the tree in it, may be.
 #[derive(Clone, Copy, Debug, PartialEq, Eq)]
@@ -10,3 +13,18 @@ pub struct Limits {
     /// The most bytes of the tree in the one style.
     pub style: u64,
 }
+
+impl Limits {
+    /// The limits of a configuration: as a text, and in the one style, it has at most 1,048,576 bytes, and it is at
+    /// most 64 deep.
+    pub const CONFIGURATION: Limits = Limits {
+        bytes: 1_048_576,
+        depth: 64,
+        style: 1_048_576,
+    };
+}
+
+/// [`Limits::CONFIGURATION`] are the limits that contracts call `config_limits`.
+pub fn limits_of_a_configuration()
+    ensures { limits_of Limits.CONFIGURATION ≡ config_limits }
+{}

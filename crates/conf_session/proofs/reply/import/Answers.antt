@@ -3,7 +3,7 @@ use Rattle.std.proofs.Common.{rules, ◌≢◌, refl, ap, ◌∙◌, subst}
 use Rattle.yaml_docs.specs.declared.fault.ReadFault.TheVariants as read
 use Rattle.yaml_tree.specs.Reading.{Refuses}
 use Rattle.yaml_tree.specs.TextBytes.{text_bytes}
-use Rattle.conf_record.specs.States.{config_limits}
+use Rattle.yaml_tree.specs.Limits.{config_limits}
 use Rattle.std.specs.Str.{chars}
 use Rattle.yaml_laws.specs.Closed.{framed_text_bytes}
 use Rattle.conf_session.specs.Answers.{refusal, word, unread_fault}
