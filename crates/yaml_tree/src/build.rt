@@ -8,6 +8,7 @@ ghost use Rattle.yaml_tree.specs.Frames.{in_seq, at_key, frame_with, frames_with
 ghost use Rattle.yaml_tree.specs.Seen.{tree_of, elements_of, members_of};
 ghost use Rattle.yaml_tree.specs.TextBytes.{text_bytes};
 
+use crate::sizes::Sizes;
 use crate::{ReadFault, Text, Tree};
 use std::alloc::{AllocError, Global};
 use std::borrow::CowStr;
@@ -37,14 +38,14 @@ pub(crate) struct OpenMap {
 }
 
 impl OpenMap {
-    /// A mapping of no pairs yet.
-    fn new(alloc: Global) -> Self
-        ensures { map_frame result ≡ at_key no_member }
+    /// A mapping of no pairs yet, with room for so many.
+    fn with_capacity(alloc: Global, pairs: usize) -> Result<Self, AllocError>
+        ensures { IfOk result (λ map. map_frame map ≡ at_key no_member) }
     {
-        OpenMap {
-            pairs: Vec::new(alloc),
+        Ok(OpenMap {
+            pairs: Vec::with_capacity(alloc, pairs)?,
             key: None,
-        }
+        })
     }
 
     /// Puts in a key or a value. Returns `KeyNotText` if a key is next and the tree is a collection.
@@ -99,15 +100,18 @@ impl Part {
 pub(crate) struct Builder {
     pub(crate) alloc: Global,
     pub(crate) parts: Vec<Part>,
+    sizes: Sizes,
 }
 
 impl Builder {
-    pub(crate) fn new(alloc: Global) -> Self
+    /// Nothing is open. `sizes` tells how many values the collections will have.
+    pub(crate) fn new(alloc: Global, sizes: Sizes) -> Self
         ensures { frames_of result.parts.items ≡ [] }
     {
         Builder {
             alloc,
             parts: Vec::new(alloc),
+            sizes,
         }
     }
 
@@ -200,16 +204,21 @@ impl Builder {
         match event {
             Event::DocStart => self.push(Part::Document),
             Event::DocEnd => self.end_document(),
-            Event::SeqStart => self.push(Part::Seq(Vec::new(self.alloc))),
+            Event::SeqStart => {
+                let items = Vec::with_capacity(self.alloc, self.sizes.next_size())?;
+                self.push(Part::Seq(items))
+            }
             Event::SeqEnd => {
-                let mut items = self.end_seq()?;
-                items.shrink_to_fit();
+                let items = self.end_seq()?;
                 self.put(Tree::Seq(items))
             }
-            Event::MapStart => self.push(Part::Map(OpenMap::new(self.alloc))),
+            Event::MapStart => {
+                // a key and a value each
+                let map = OpenMap::with_capacity(self.alloc, self.sizes.next_size() / 2)?;
+                self.push(Part::Map(map))
+            }
             Event::MapEnd => {
-                let mut pairs = self.end_map()?;
-                pairs.shrink_to_fit();
+                let pairs = self.end_map()?;
                 self.put(Tree::Map(pairs))
             }
             Event::Scalar { value, .. } => {
@@ -247,18 +256,22 @@ fn text_of(alloc: Global, value: CowStr<'_>) -> Result<Text, AllocError>
 }
 
 /// The tree of the one document whose events these are. The events are read by a loop with a stack: memory, and not the
-/// call stack, grows with the depth.
+/// call stack, grows with the depth. `sizes` tells how many values the collections have.
 ///
 /// # Errors
 ///
 /// - [`ReadFault::KeyNotText`] if some key is a collection.
 /// - [`ReadFault::OutOfMemory`] if there is no memory for the tree.
-pub(crate) fn document_tree(alloc: Global, events: Events<'_>) -> Result<Tree, ReadFault>
+pub(crate) fn document_tree(
+    alloc: Global,
+    events: Events<'_>,
+    sizes: Sizes,
+) -> Result<Tree, ReadFault>
     ensures { MatchResult result
         (λ tree. IsTreeOf (events_of events.entry) (tree_of tree))
         (HasNoTree (events_of events.entry)) }
 {
-    let mut builder = Builder::new(alloc);
+    let mut builder = Builder::new(alloc, sizes);
     for event in events.into_vec() {
         builder.take(event)?;
     }

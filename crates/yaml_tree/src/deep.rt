@@ -9,6 +9,7 @@ ghost use Rattle.yaml_tree.specs.Frames.{Frame, step, after_seq_end, after_map_e
 
 use crate::build::Builder;
 use crate::keys::keys_differ;
+use crate::sizes::Sizes;
 use crate::{ReadFault, Tree};
 use std::alloc::Global;
 use yaml_events::{Event, Events};
@@ -27,7 +28,7 @@ impl KeyCheck {
         ensures { Keeps result [] }
     {
         KeyCheck {
-            builder: Builder::new(alloc),
+            builder: Builder::new(alloc, Sizes::none(alloc)),
             keys_differ: true,
         }
     }

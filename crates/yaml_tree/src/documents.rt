@@ -1,46 +1,58 @@
-// How many documents a list of events has, and how deep it is.
-ghost use Rattle.std.specs.Prelude.{◌≡◌};
+// How many documents a list of events has, how deep it is, and how large its collections are.
+ghost use Rattle.std.specs.Prelude.{◌≡◌, IfOk};
 ghost use Rattle.yaml_events.specs.Meant.{events_of};
 ghost use Rattle.yaml_grammar.specs.Trees.{Tree, IsTreeOf, depth};
 ghost use Rattle.yaml_tree.specs.Reading.{document_count};
 
+use crate::sizes::{SizeCounter, Sizes};
+use std::alloc::{AllocError, Global};
 use yaml_events::Event;
 
-/// The number of documents.
-pub(crate) fn document_count(events: &[Event<'_>]) -> u64
-    ensures { result ≡ document_count (events_of events.now) }
-{
-    let mut count = 0u64;
-    for event in events {
-        if let Event::DocStart = event {
-            count += 1;
-        }
-    }
-    count
+/// What one pass over the events of a text tells before a tree is built.
+#[derive(Drop)]
+pub(crate) struct Outline {
+    /// The number of documents.
+    pub(crate) documents: u64,
+    /// The depth of the tree whose events these are. A key is no deeper than its value, so keys need no case of their
+    /// own.
+    pub(crate) depth: u64,
+    /// How many values each collection has.
+    pub(crate) sizes: Sizes,
 }
 
-/// The depth of the tree whose events these are. A key is no deeper than its value, so keys need no case of their own.
-pub(crate) fn document_depth(events: &[Event<'_>]) -> u64
-    ensures { (t : Tree) → IsTreeOf (events_of events.now) t → result ≡ depth t }
-{
-    let mut open = 0u64;
-    let mut deepest = 0u64;
-    for event in events {
-        match event {
-            Event::DocStart => {}
-            Event::DocEnd => {}
-            Event::SeqStart => {
-                open += 1;
-                deepest = deepest.max(open);
+impl Outline {
+    /// The outline of a list of events. It fails only if memory runs out.
+    pub(crate) fn of(alloc: Global, events: &[Event<'_>]) -> Result<Outline, AllocError>
+        ensures { IfOk result (λ outline. (outline.documents ≡ document_count (events_of events.now))
+            × ((t : Tree) → IsTreeOf (events_of events.now) t → outline.depth ≡ depth t)) }
+    {
+        let mut documents = 0u64;
+        let mut open = 0u64;
+        let mut depth = 0u64;
+        let mut counter = SizeCounter::new(alloc);
+        for event in events {
+            match event {
+                Event::DocStart => documents += 1,
+                Event::DocEnd => {}
+                Event::SeqStart | Event::MapStart => {
+                    open += 1;
+                    depth = depth.max(open);
+                    counter.start()?;
+                }
+                Event::SeqEnd | Event::MapEnd => {
+                    open = open.saturating_sub(1);
+                    counter.end();
+                }
+                Event::Scalar { .. } => {
+                    depth = depth.max(open + 1);
+                    counter.count();
+                }
             }
-            Event::SeqEnd => open = open.saturating_sub(1),
-            Event::MapStart => {
-                open += 1;
-                deepest = deepest.max(open);
-            }
-            Event::MapEnd => open = open.saturating_sub(1),
-            Event::Scalar { .. } => deepest = deepest.max(open + 1),
         }
+        Ok(Outline {
+            documents,
+            depth,
+            sizes: counter.sizes(),
+        })
     }
-    deepest
 }

@@ -21,6 +21,7 @@ mod scalar;
 mod short;
 mod sink;
 mod size;
+mod sizes;
 mod style;
 mod text;
 mod text_sink;

@@ -8,7 +8,7 @@ ghost use Rattle.yaml_tree.specs.Seen.{tree_of};
 
 use crate::build::document_tree;
 use crate::deep::document_keys_differ;
-use crate::documents::{document_count, document_depth};
+use crate::documents::Outline;
 use crate::{Config, Limits, ReadFault};
 use std::alloc::Global;
 use yaml_docs::events;
@@ -33,14 +33,16 @@ pub fn read_one(alloc: Global, bytes: &[u8], limits: &Limits) -> Result<Config, 
     ensures refused { IfErr result (Refuses bytes.now (limits_of limits.now)) }
 {
     let events = events(alloc, bytes, limits.bytes)?;
-    let count = document_count(events.as_slice());
-    if count != 1 {
-        return Err(ReadFault::Documents { count });
+    let outline = Outline::of(alloc, events.as_slice())?;
+    if outline.documents != 1 {
+        return Err(ReadFault::Documents {
+            count: outline.documents,
+        });
     }
-    if document_depth(events.as_slice()) > limits.depth {
+    if outline.depth > limits.depth {
         return Err(deep_fault(alloc, events));
     }
-    let tree = document_tree(alloc, events)?;
+    let tree = document_tree(alloc, events, outline.sizes)?;
     match Config::within(alloc, tree, limits) {
         Ok(config) => Ok(config),
         Err((_, fault)) => Err(fault),

@@ -16,22 +16,22 @@ returns-in-Ok-clause-given c =
     subst (λ (config : trees.Tree). IsRead c.args.bytes.now limits (tree_of config)) (sym good.0)
     (tree_read c.args.bytes.now limits c.in_ok-events.events (tree_of c.in_ok-tree.tree) c.in_ok-events.ensures.reads c.in_ok-tree.ensures good.1)
 
-pub returns-then-document_depth-limits-clause-refused :
-    goal.returns-then-document_depth-limits-clause-refused
-returns-then-document_depth-limits-clause-refused c =
+pub returns-then-outline-limits-clause-refused :
+    goal.returns-then-outline-limits-clause-refused
+returns-then-outline-limits-clause-refused c =
     let es = c.in_ok-events.events in
     let one : document_count (events_of es) ≡ 1 =
-    ap (λ xs. document_count (events_of xs)) (sym c.as_slice.ensures) ∙ sym c.document_count-count.ensures ∙ c.if-count-ne1.false in
+    ap (λ xs. document_count (events_of xs)) (sym c.as_slice.ensures) ∙ sym c.in_ok-outline.ensures.0 ∙ c.if-outline-ne1.false in
     let deep : (t : Tree) → IsTreeOf (events_of es) t → c.args.limits.now.depth < depth t = λ t is.
-    let e = c.document_depth.ensures t (subst (λ xs. IsTreeOf (events_of xs) t) (sym c.as_slice-2.ensures) is) in
-    omega (arith, e, c.if-document_depth-limits.true) in
+    let e = c.in_ok-outline.ensures.1 t (subst (λ xs. IsTreeOf (events_of xs) t) (sym c.as_slice.ensures) is) in
+    omega (arith, e, c.if-outline-limits.true) in
     deep_refused c.args.bytes.now (limits_of c.args.limits.now) es c.deep_fault.result c.in_ok-events.ensures.reads one deep c.deep_fault.ensures
 
 pub returns-in_err-tree-clause-refused : goal.returns-in_err-tree-clause-refused
 returns-in_err-tree-clause-refused c =
     let es = c.in_ok-events.events in
     let one : document_count (events_of es) ≡ 1 =
-    ap (λ xs. document_count (events_of xs)) (sym c.as_slice.ensures) ∙ sym c.document_count-count.ensures ∙ c.if-count-ne1.false in
+    ap (λ xs. document_count (events_of xs)) (sym c.as_slice.ensures) ∙ sym c.in_ok-outline.ensures.0 ∙ c.if-outline-ne1.false in
     let p = err_from_is_err_and c.from_residual-in_err-tree.result c.from_residual-in_err-tree.ensures.1 in
     rw (p.1, p.2)
     (shallow_refused c.args.bytes.now (limits_of c.args.limits.now) es _ c.in_ok-events.ensures.reads one c.in_err-tree.ensures)

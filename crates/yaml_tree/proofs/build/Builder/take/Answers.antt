@@ -12,9 +12,8 @@ pub returns-in_ok-pairs-in-MapEnd : goal.returns-in_ok-pairs-in-MapEnd
 returns-in_ok-pairs-in-MapEnd c =
     let before = frames_of c.args.self.now.parts.items in
     let outer = frames_of c.end_map.new.self.parts.items in
-    let pairs = c.shrink_to_fit-in-MapEnd.new.self in
+    let pairs = c.in_ok-pairs-in-MapEnd.pairs in
     let same : step before (shape (event_of c.args.event)) ≡ frames_with outer (tree_of (Map pairs)) =
     ap (λ event. step before (shape (event_of event))) c.in-MapEnd.is ∙ ap after_map_end c.in_ok-pairs-in-MapEnd.ensures
-    ∙ ap (λ ms. frames_with outer (mapping (members_of ms))) (sym c.shrink_to_fit-in-MapEnd.ensures.items)
     ∙ ap (frames_with outer) (sym (tree_of-Map pairs)) in
     subst (λ o. MatchResult c.put-in-MapEnd.result (λ _. o ≡ Some (frames_of c.put-in-MapEnd.new.self.parts.items)) (HasNone o)) (sym same) c.put-in-MapEnd.ensures
