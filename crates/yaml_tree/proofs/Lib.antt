@@ -1,3 +1,4 @@
+pub mod ByteTable
 pub mod ByteLemmas
 pub mod DepthTests
 pub mod KeyLemmas

@@ -1,8 +1,14 @@
 -- A literal's lines, cut at its line feeds.
-use Rattle.std.proofs.Common.{◌≡◌, ℕ, ◌+◌, ◌<◌, true, false, ◌==◌, List, [], ◌∷◌, ◌++◌, length, length-append, get_or, take, drop, codes, IsUtf8, refl, sym, ap, ◌∙◌, subst, append_assoc, arith}
+use Rattle.std.proofs.Common.{◌≡◌, ℕ, ◌+◌, ◌<◌, Bool, true, false, ◌==◌, ◌||◌, Bor, Option, Some, None, lit<, List, [], ◌∷◌, ◌++◌, length, length-append, get_or, take, drop, codes, IsUtf8, refl, sym, ap, ◌∙◌, subst, append_assoc, arith}
 use Rattle.std.proofs.Math.Seq.{take-append_seam, drop-append-add, get_or-append_seam}
 use Rattle.std.proofs.lemmas.Str.{IsUtf8-take, IsUtf8-drop, IsCharBoundary-before_ascii, IsCharBoundary-after_ascii, chars_from_encodes, chars-append}
+use Rattle.std.proofs.lemmas.Bool.{eq-eqb}
+use Rattle.std.proofs.lemmas.Str.Pattern.{IsSplitOnceResult, split_parts}
+use Rattle.std.specs.List.{list_any}
+use Rattle.std.specs.Option.{is_some}
 use Rattle.std.specs.Str.{chars, NoCharPasses, NonePass}
+use Rattle.yaml_chars.specs.Classes.{is_in}
+use Rattle.yaml_tree.proofs.CharacterLemmas.{list_any-is_in}
 use Rattle.yaml_grammar.specs.Texts.{spaces}
 use Rattle.yaml_grammar.specs.Style.{literal_lines}
 use Rattle.yaml_tree.specs.Lines.{line_text}
@@ -69,3 +75,27 @@ after_IsUtf8 bs prefix after utf8 e =
     let feed : get_or bs (length prefix) 0 ≡ 10 = rw e (get_or-append_seam prefix 10 after 0) in
     let cut = IsUtf8-drop bs (length prefix + 1) utf8 (IsCharBoundary-after_ascii bs (length prefix) utf8 within (omega (arith, feed))) in
     subst IsUtf8 (ap (drop (length prefix + 1)) e ∙ drop-append-add prefix (10 ∷ after) 1) cut
+
+-- ---- whether there is a line feed
+
+or_right : (a : Bool) → (a || true) ≡ true
+or_right true = refl
+or_right false = refl
+
+in_after : (c : ℕ) (xs ys : List ℕ) → is_in c (xs ++ c ∷ ys) ≡ true
+in_after c [] ys = rw (eq-eqb c c refl) refl
+in_after c (x ∷ xs) ys = ap (λ b. (c == x) || b) (in_after c xs ys) ∙ or_right (c == x)
+
+in_none : (cs : List ℕ) → IsOneLine cs → is_in 10 cs ≡ false
+in_none cs one = sym (list_any-is_in 10 cs) ∙ none_passes cs one
+  where
+    none_passes : (xs : List ℕ) → IsOneLine xs → list_any (λ d. d == 10) xs ≡ false
+    none_passes [] n = refl
+    none_passes (x ∷ xs) n = rw n.0 (none_passes xs n.1)
+
+-- a cut at the first line feed is found exactly where there is one
+pub feed_found : (bs : List ℕ) (r : Option (Bor (List ℕ) × Bor (List ℕ))) → IsUtf8 bs → IsSplitOnceResult 10 bs r → is_some r ≡ is_in 10 (chars bs)
+feed_found bs None utf8 none = sym (in_none (chars bs) (line_is_one bs utf8 none))
+feed_found bs (Some x) utf8 h =
+    let cut = (split_parts 10 bs (Some x) h (lit< tt)).0 in
+    sym (ap (is_in 10) (chars-lines bs x.0.now x.1.now utf8 cut) ∙ in_after 10 (chars x.0.now) (chars x.1.now))

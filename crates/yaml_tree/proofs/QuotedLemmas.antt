@@ -1,9 +1,11 @@
 -- What is between double quotes.
-use Rattle.std.proofs.Common.{◌≡◌, ℕ, ◌/◌, ◌%◌, ◌<◌, ◌≤◌, true, List, [], ◌∷◌, ◌++◌, codes, length, take, drop, IsUtf8, encode_utf8, refl, sym, ap, ap₂, ◌∙◌, append_assoc, arith}
+use Rattle.std.proofs.Common.{◌≡◌, ℕ, ◌+◌, ◌-◌, subst, ◌/◌, ◌%◌, ◌<◌, ◌≤◌, true, List, [], ◌∷◌, ◌++◌, codes, length, take, drop, IsUtf8, encode_utf8, refl, sym, ap, ap₂, ◌∙◌, append_assoc, arith}
+use Rattle.std.proofs.Math.Seq.{take-add}
+use Rattle.std.proofs.lemmas.List.Folds.{list_all-append}
 use Rattle.std.proofs.lemmas.List.{take-append-drop}
 use Rattle.std.proofs.lemmas.Str.{IsUtf8-from_ascii, IsCharBoundary-from_take, chars-IsAscii, chars-append, chars_past_char}
 use Rattle.std.specs.Str.{chars, IsCharBoundary}
-use Rattle.std.proofs.lemmas.Bool.{le-leb, lt-leb, and_parts}
+use Rattle.std.proofs.lemmas.Bool.{le-leb, lt-leb, and_from, and_parts}
 use Rattle.std.proofs.lemmas.Bool.Decides.{nat_tests}
 use Rattle.std.specs.List.{list_all}
 use Rattle.yaml_grammar.specs.Style.{hex, quoted_char, quoted_chars}
@@ -65,3 +67,11 @@ quoted_one bs rest c utf8 e = sym (ap quoted_chars (chars_past_char bs rest c ut
 -- the bytes may be cut after such a run
 pub run_boundary : (bs : List ℕ) (n : ℕ) → IsUtf8 bs → n ≤ length bs → list_all stands_alone (take n bs) ≡ true → IsCharBoundary bs n
 run_boundary bs n utf8 within alone = IsCharBoundary-from_take bs n utf8 within (run_IsUtf8 (take n bs) alone)
+
+-- a run and sixteen bytes more
+pub alone_more : (bs : List ℕ) (n : ℕ) → list_all stands_alone (take n bs) ≡ true → list_all stands_alone (take (n + 16 - n) (drop n bs)) ≡ true
+    → list_all stands_alone (take (n + 16) bs) ≡ true
+alone_more bs n first more =
+    let sixteen : n + 16 - n ≡ 16 = omega arith in
+    ap (list_all stands_alone) (take-add n 16 bs) ∙ list_all-append stands_alone (take n bs) (take 16 (drop n bs))
+    ∙ and_from (list_all stands_alone (take n bs)) _ first (subst (λ k. list_all stands_alone (take k (drop n bs)) ≡ true) sixteen more)

@@ -1,19 +1,41 @@
 -- The tests by which a scalar's style is chosen.
-use Rattle.std.proofs.Common.{◌≡◌, ℕ, suc, ◌+◌, ◌<◌, Bool, true, false, ◌==◌, if◌then◌else◌, List, [], ◌∷◌, ◌++◌, length, length-append, get_or, take, map, IsUtf8, encode_utf8_all, refl, sym, ap, ap₂, ◌∙◌, subst, lit<, arith}
+use Rattle.std.proofs.Common.{◌≡◌, ℕ, suc, ◌+◌, ◌<◌, Bool, true, false, ◌==◌, ◌&&◌, ◌||◌, not, nat_le, if◌then◌else◌, List, [], ◌∷◌, ◌++◌, length, length-append, get_or, take, map, IsUtf8, encode_utf8_all, refl, sym, ap, ap₂, ◌∙◌, subst, lit<, arith}
 use Rattle.std.proofs.Math.Seq.{take-append_seam, get_or-append_seam}
-use Rattle.std.proofs.lemmas.Bool.{and_parts, eqb-true}
+use Rattle.std.proofs.lemmas.Bool.{and_from, and_parts, eqb-true}
 use Rattle.std.proofs.lemmas.Bool.Decides.{nat_tests}
 use Rattle.std.proofs.lemmas.Str.{encode_ascii, chars-append, encodes-chars, encodes-append, IsUtf8-take, IsCharBoundary-before_ascii}
 use Rattle.std.specs.Char.{to_ascii_lowercase}
 use Rattle.std.specs.Str.{chars}
-use Rattle.yaml_chars.specs.Classes.{in_range}
+use Rattle.yaml_chars.specs.Classes.{in_range, is_in, printable}
+use Rattle.yaml_chars.specs.Signs.{line_feed}
 use Rattle.std.specs.List.{list_all}
-use Rattle.yaml_grammar.specs.Style.{word_char, lower, feeds_at_end}
-use Rattle.yaml_tree.proofs.CharacterLemmas.{every-push}
+use Rattle.yaml_grammar.specs.Style.{word_char, lower, feeds_at_end, shown_or_feed}
+use Rattle.yaml_tree.specs.Runs.{ascii_in_lines}
+use Rattle.yaml_tree.proofs.CharacterLemmas.{every-bytes, every-push}
 
 -- a character of a word is ASCII
 pub word_char-below : (c : ℕ) → word_char c ≡ true → c < 128
 word_char-below c e = grind (arith, nat_tests)
+
+ascii_in_lines-below : (c : ℕ) → ascii_in_lines c ≡ true → c < 128
+ascii_in_lines-below c e = grind (arith, nat_tests)
+
+either_shown : (a b x : Bool) → (a || b) ≡ true → ((a || x) || b) ≡ true
+either_shown true b x e = refl
+either_shown false true true e = refl
+either_shown false true false e = refl
+either_shown false false x e = cc
+
+all_shown : (cs : List ℕ) → list_all ascii_in_lines cs ≡ true → list_all shown_or_feed cs ≡ true
+all_shown [] e = refl
+all_shown (c ∷ cs) e =
+    let parts = and_parts (ascii_in_lines c) (list_all ascii_in_lines cs) e in
+    let beyond = nat_le 0xa0 c && printable c && not (is_in c (0x2028 ∷ 0x2029 ∷ 0xfeff ∷ [])) in
+    and_from (shown_or_feed c) (list_all shown_or_feed cs) (either_shown (in_range 0x20 0x7e c) (c == line_feed) beyond parts.0) (all_shown cs parts.1)
+
+-- ASCII characters that a literal shows, and line feeds, are shown characters and line feeds
+pub shown-lines : (bs : List ℕ) → IsUtf8 bs → list_all ascii_in_lines bs ≡ true → list_all shown_or_feed (chars bs) ≡ true
+shown-lines bs utf8 e = all_shown (chars bs) (sym (every-bytes ascii_in_lines ascii_in_lines-below bs utf8) ∙ e)
 
 same_lower : (c : ℕ) → to_ascii_lowercase c ≡ (if in_range 65 90 c then c + 32 else c)
 same_lower c = grind (arith, nat_tests)

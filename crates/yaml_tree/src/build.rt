@@ -2,7 +2,7 @@
 ghost use Rattle.std.specs.Prelude.{◌≡◌, List, [], ◌∷◌, Some, IfOk, MatchResult};
 ghost use Rattle.std.specs.Cow.{cow_str_bytes};
 ghost use Rattle.yaml_events.specs.Meant.{event_of, events_of};
-ghost use Rattle.yaml_grammar.specs.Trees.{IsTreeOf, no_member, shape};
+ghost use Rattle.yaml_grammar.specs.Trees.{IsTreeOf, no_element, no_member, shape};
 ghost use Rattle.yaml_tree.specs.Building.{frame_of, frames_of, map_frame, HasNone, HasNoTree};
 ghost use Rattle.yaml_tree.specs.Frames.{in_seq, at_key, frame_with, frames_with, step, after_document_end, after_seq_end, after_map_end, finished_tree};
 ghost use Rattle.yaml_tree.specs.Seen.{tree_of, elements_of, members_of};
@@ -49,6 +49,7 @@ impl OpenMap {
     }
 
     /// Puts in a key or a value. Returns `KeyNotText` if a key is next and the tree is a collection.
+    #[inline(always)]
     fn put(&mut self, tree: Tree) -> Result<(), ReadFault>
         ensures { MatchResult result
             (λ _. frame_with (map_frame self.old) (tree_of tree) ≡ Some (map_frame self.new))
@@ -74,6 +75,7 @@ impl OpenMap {
 impl Part {
     /// Puts in a further value. Returns `KeyNotText` if the value is a collection where a key is next, or if no value
     /// may follow.
+    #[inline(always)]
     fn put(&mut self, tree: Tree) -> Result<(), ReadFault>
         ensures { MatchResult result
             (λ _. frame_with (frame_of self.old) (tree_of tree) ≡ Some (frame_of self.new))
@@ -139,6 +141,7 @@ impl Builder {
     }
 
     /// Puts a value into the innermost part. Returns `KeyNotText` if it has no place there.
+    #[inline(always)]
     pub(crate) fn put(&mut self, tree: Tree) -> Result<(), ReadFault>
         ensures { MatchResult result
             (λ _. frames_with (frames_of self.old.parts.items) (tree_of tree)
@@ -193,8 +196,56 @@ impl Builder {
         }
     }
 
+    /// Opens a sequence.
+    fn open_seq(&mut self) -> Result<(), ReadFault>
+        ensures { MatchResult result
+            (λ _. frames_of self.new.parts.items
+            ≡ in_seq no_element ∷ frames_of self.old.parts.items)
+            (λ fault. fault ≡ ReadFault.OutOfMemory) }
+    {
+        let items = Vec::with_capacity(self.alloc, self.sizes.next_size())?;
+        self.push(Part::Seq(items))
+    }
+
+    /// Opens a mapping.
+    fn open_map(&mut self) -> Result<(), ReadFault>
+        ensures { MatchResult result
+            (λ _. frames_of self.new.parts.items
+            ≡ at_key no_member ∷ frames_of self.old.parts.items)
+            (λ fault. fault ≡ ReadFault.OutOfMemory) }
+    {
+        // a key and a value each
+        let map = OpenMap::with_capacity(self.alloc, self.sizes.next_size() / 2)?;
+        self.push(Part::Map(map))
+    }
+
+    /// Ends the innermost part and puts it as a sequence into the one around it. Returns `KeyNotText` if it is no
+    /// sequence, or has no place there.
+    fn close_seq(&mut self) -> Result<(), ReadFault>
+        ensures { MatchResult result
+            (λ _. after_seq_end (frames_of self.old.parts.items)
+            ≡ Some (frames_of self.new.parts.items))
+            (HasNone (after_seq_end (frames_of self.old.parts.items))) }
+    {
+        let items = self.end_seq()?;
+        self.put(Tree::Seq(items))
+    }
+
+    /// Ends the innermost part and puts it as a mapping into the one around it. Returns `KeyNotText` if it is no mapping
+    /// where a key is next, or has no place there.
+    fn close_map(&mut self) -> Result<(), ReadFault>
+        ensures { MatchResult result
+            (λ _. after_map_end (frames_of self.old.parts.items)
+            ≡ Some (frames_of self.new.parts.items))
+            (HasNone (after_map_end (frames_of self.old.parts.items))) }
+    {
+        let pairs = self.end_map()?;
+        self.put(Tree::Map(pairs))
+    }
+
     /// Takes the next event of the document. Returns `KeyNotText` if the event has no place there, as
     /// the end of a collection that is a key.
+    #[inline(always)]
     pub(crate) fn take(&mut self, event: Event<'_>) -> Result<(), ReadFault>
         ensures { MatchResult result
             (λ _. step (frames_of self.old.parts.items) (shape (event_of event.entry))
@@ -204,23 +255,10 @@ impl Builder {
         match event {
             Event::DocStart => self.push(Part::Document),
             Event::DocEnd => self.end_document(),
-            Event::SeqStart => {
-                let items = Vec::with_capacity(self.alloc, self.sizes.next_size())?;
-                self.push(Part::Seq(items))
-            }
-            Event::SeqEnd => {
-                let items = self.end_seq()?;
-                self.put(Tree::Seq(items))
-            }
-            Event::MapStart => {
-                // a key and a value each
-                let map = OpenMap::with_capacity(self.alloc, self.sizes.next_size() / 2)?;
-                self.push(Part::Map(map))
-            }
-            Event::MapEnd => {
-                let pairs = self.end_map()?;
-                self.put(Tree::Map(pairs))
-            }
+            Event::SeqStart => self.open_seq(),
+            Event::SeqEnd => self.close_seq(),
+            Event::MapStart => self.open_map(),
+            Event::MapEnd => self.close_map(),
             Event::Scalar { value, .. } => {
                 let text = text_of(self.alloc, value)?;
                 self.put(Tree::Text(text))
@@ -246,6 +284,7 @@ impl Builder {
 }
 
 /// The text of a scalar. One that owns its memory hands it over.
+#[inline(always)]
 fn text_of(alloc: Global, value: CowStr<'_>) -> Result<Text, AllocError>
     ensures { IfOk result (λ text. text_bytes text ≡ cow_str_bytes value.entry) }
 {

@@ -6,6 +6,7 @@
 #![tactic(auto)]
 
 mod build;
+mod bytes;
 mod config;
 mod count;
 mod deep;

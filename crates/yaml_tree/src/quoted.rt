@@ -7,6 +7,7 @@ ghost use Rattle.yaml_grammar.specs.Style.{hex, letter_escape, quoted_char, quot
 ghost use Rattle.yaml_tree.specs.Runs.{stands_alone, number_escape};
 
 use crate::Sink;
+use crate::bytes::{are_alone, is_alone};
 use crate::scalar::is_shown;
 
 /// Writes a text in double quotes, on one line.
@@ -42,18 +43,23 @@ fn run_len(text: &str) -> usize
     ensures alone { list_all stands_alone (take result text.now) ≡ true }
 {
     let bytes = text.as_bytes();
-    for (i, byte) in bytes.iter().enumerate() {
-        if !is_alone(*byte) {
-            return i;
-        }
+    let mut len = sixteens_len(bytes);
+    while len < bytes.len() && is_alone(bytes[len]) {
+        len += 1;
     }
-    bytes.len()
+    len
 }
 
-fn is_alone(byte: u8) -> bool
-    ensures { result ≡ stands_alone byte }
+/// How many bytes at the start are such characters, as far as they can be taken sixteen by sixteen.
+fn sixteens_len(bytes: &[u8]) -> usize
+    ensures within { result ≤ length bytes.now }
+    ensures alone { list_all stands_alone (take result bytes.now) ≡ true }
 {
-    matches!(byte, b' '..=b'~') && !matches!(byte, b'"' | b'\\')
+    let mut len = 0;
+    while bytes.len() - len >= 16 && are_alone(&bytes[len..len + 16]) {
+        len += 16;
+    }
+    len
 }
 
 fn write_quoted_char<S: Sink>(c: char, sink: &mut S) -> Result<(), S::Fault>

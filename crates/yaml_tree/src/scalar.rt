@@ -7,6 +7,7 @@ ghost use Rattle.yaml_grammar.specs.Texts.{first, same_text};
 ghost use Rattle.yaml_chars.specs.Classes.{is_in};
 ghost use Rattle.yaml_tree.specs.ScalarStyles.{value_style, key_style, literal_style};
 
+use crate::bytes::{are_in_lines, is_word_byte};
 use yaml_chars::printable;
 
 /// How the one style writes a scalar (YAML 1.2.2, 7.3 and 8.1).
@@ -43,15 +44,6 @@ fn is_letter(c: char) -> bool
     ensures { result ≡ letter c }
 {
     matches!(c, 'A'..='Z' | 'a'..='z')
-}
-
-/// Whether a byte is an ASCII letter or digit, or one of `_`, `-`, `.` and `/`.
-fn is_word_byte(byte: u8) -> bool
-    ensures { result ≡ word_char byte }
-{
-    // lowercase letters, which most are, take one test
-    matches!(byte, b'a'..=b'z')
-        || matches!(byte, b'A'..=b'Z' | b'0'..=b'9' | b'_' | b'-' | b'.' | b'/')
 }
 
 /// Whether a character is written as itself between double quotes and in a literal.
@@ -122,16 +114,17 @@ fn is_literal(text: &str) -> bool
     has_feed(text) && !starts_with_space_or_feed(text) && is_shown_in_lines(text)
 }
 
+/// Whether each character is shown in a literal or is a line feed. A text of ASCII needs no look at its characters.
 fn is_shown_in_lines(text: &str) -> bool
     ensures { result ≡ list_all shown_or_feed (chars text.now) }
 {
-    text.chars().all(is_shown_or_feed)
+    are_in_lines(text.as_bytes()) || text.chars().all(is_shown_or_feed)
 }
 
 fn has_feed(text: &str) -> bool
     ensures { result ≡ is_in 10 (chars text.now) }
 {
-    text.chars().any(|c| c == '\n')
+    text.split_once('\n').is_some()
 }
 
 fn is_shown_or_feed(c: char) -> bool
