@@ -1,5 +1,5 @@
 // A tree that is good to keep.
-ghost use Rattle.std.specs.Prelude.{◌≡◌, ◌≤◌, [], IfOk, OnOk, IfErr};
+ghost use Rattle.std.specs.Prelude.{◌≡◌, ◌<◌, ◌≤◌, [], IfOk, OnOk, IfErr};
 ghost use Rattle.yaml_grammar.specs.Reads.{Good};
 ghost use Rattle.yaml_grammar.specs.Style.{style_text};
 ghost use Rattle.yaml_grammar.specs.Texts.{byte_len};
@@ -59,15 +59,21 @@ impl Config {
         ensures refused { IfErr result (λ refused. (refused.0 ≡ tree)
             × IsFirstFault own_limits (tree_of tree) refused.1) }
     {
+        if tree.is_deeper_than(OWN_LIMITS.depth as u8) {
+            let fault = deep_fault(alloc, &tree);
+            return Err((tree, fault));
+        }
         Config::within(alloc, tree, &OWN_LIMITS)
     }
 
-    /// The same within limits that are at most a configuration's own.
+    /// The same within limits that are at most a configuration's own, of a tree that is known to keep to the limit of
+    /// depth.
     pub(crate) fn within(
         alloc: Global,
         tree: Tree,
         limits: &Limits,
     ) -> Result<Config, (Tree, ReadFault)>
+        requires shallow { depth (tree_of tree) ≤ limits.now.depth }
         requires depth { limits.now.depth ≤ 66 }
         requires style { limits.now.style ≤ 67108864 }
         ensures ok { IfOk result (λ config. (config ≡ tree)
@@ -145,18 +151,29 @@ impl Config {
     }
 }
 
-/// The length of a tree in the one style, where it keeps to limits of depth and style; else what it is refused for.
+/// What a tree is refused for that is too deep: keys are looked at first.
+fn deep_fault(alloc: Global, tree: &Tree) -> ReadFault
+    requires { 66 < depth (tree_of tree.now) }
+    ensures { IsFirstFault own_limits (tree_of tree.now) result }
+{
+    match has_distinct_keys(alloc, tree) {
+        Ok(true) => ReadFault::TooDeep,
+        Ok(false) => ReadFault::KeyTwice,
+        Err(_) => ReadFault::OutOfMemory,
+    }
+}
+
+/// The length in the one style of a tree that keeps to the limit of depth, where it keeps to that of style too; else
+/// what it is refused for.
 fn checked_length(alloc: Global, tree: &Tree, limits: &Limits) -> Result<u64, ReadFault>
-    requires { limits.now.depth ≤ 66 }
+    requires shallow { depth (tree_of tree.now) ≤ limits.now.depth }
+    requires depth { limits.now.depth ≤ 66 }
     ensures good { OnOk result (Good (tree_of tree.now) (limits_of limits.now)) }
     ensures length { IfOk result (λ length. length ≡ byte_len (style_text (tree_of tree.now))) }
     ensures refused { IfErr result (IsFirstFault (limits_of limits.now) (tree_of tree.now)) }
 {
     if !has_distinct_keys(alloc, tree)? {
         return Err(ReadFault::KeyTwice);
-    }
-    if tree.is_deeper_than(limits.depth as u8) {
-        return Err(ReadFault::TooDeep);
     }
     match style_len(tree, limits.style) {
         None => Err(ReadFault::LargeInStyle),

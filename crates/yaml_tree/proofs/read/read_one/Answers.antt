@@ -35,3 +35,8 @@ returns-in_err-tree-clause-refused c =
     let p = err_from_is_err_and c.from_residual-in_err-tree.result c.from_residual-in_err-tree.ensures.1 in
     rw (p.1, p.2)
     (shallow_refused c.args.bytes.now (limits_of c.args.limits.now) es _ c.in_ok-events.ensures.reads one c.in_err-tree.ensures)
+
+pub within-requires-clause-shallow : goal.within-requires-clause-shallow
+within-requires-clause-shallow c =
+    let deep = c.in_ok-outline.ensures.1 (tree_of c.in_ok-tree.tree) (subst (λ xs. IsTreeOf (events_of xs) (tree_of c.in_ok-tree.tree)) (sym c.as_slice.ensures) c.in_ok-tree.ensures) in
+    omega (arith, deep, c.if-outline-limits.false)
