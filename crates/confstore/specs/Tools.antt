@@ -1,6 +1,6 @@
 -- What a tool has read from its reader, and what it has written to its writer. Each knows its bytes, or says nothing of
 -- them.
-use Rattle.std.specs.Prelude.{◌≡◌, ℕ, ◌<◌, ◌≤◌, List, [], ◌∷◌, ◌++◌, Option, length, codes, decimal, encode_utf8_all}
+use Rattle.std.specs.Prelude.{◌≡◌, ℕ, ◌+◌, ◌<◌, ◌≤◌, List, [], ◌∷◌, ◌++◌, Option, length, codes, decimal, encode_utf8_all}
 use Rattle.std.specs.Io.KnownBytes.{Consumes, IsAtEnd, Keeps, Appends}
 use Rattle.yaml_grammar.specs.Style.{style_text}
 use Rattle.yaml_grammar.specs.Trees.{Tree}
@@ -50,7 +50,7 @@ pub record Checks (given left held written : Option (List ℕ)) (count : ℕ) : 
 -- the bytes that were read are refused, and nothing was written
 pub record RefusesInput (given left held written : Option (List ℕ)) (fault : ReadFault) : Type 0 where
   pub bytes : List ℕ
-  pub read : HasRead given left bytes 1048577
+  pub read : HasRead given left bytes (config_limits.bytes + 1)
   pub refuses : Refuses bytes config_limits fault
   pub keeps : Keeps held written
 
