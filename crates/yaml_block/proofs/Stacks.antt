@@ -12,6 +12,7 @@ use Rattle.yaml_events.specs.Borrowed.{BorrowsPlain}
 use Rattle.yaml_events.specs.Meant.{event_of, events_of}
 use Rattle.yaml_events.specs.declared.event.Event.{Event}
 use Rattle.yaml_events.specs.declared.event.Event.TheVariants.{MapStart}
+use Rattle.yaml_flow.proofs.Stacks.{snoc_same}
 use Rattle.yaml_flow.specs.FlowNodes.{Appended}
 use Rattle.yaml_block.specs.States.{Grown, Holds, Keeps, Stack}
 use Rattle.yaml_block.specs.declared.frame.Collection.{Collection}
@@ -107,16 +108,6 @@ pub opened : (text : List ℕ) (base : List Event) (fs : List BlockFrame) (evs e
     → Holds text base (f ∷ fs) evs' new
 opened text base fs evs evs' old new f c h e k a =
     record { stack = (old.collections.items, c, e, k, h.stack); appended = a }
-
-snoc_same : {A : Type 0} (xs ys : List A) (x y : A) → xs ++ x ∷ [] ≡ ys ++ y ∷ [] → (xs ≡ ys) × (x ≡ y)
-snoc_same [] [] x y e = (refl, cc)
-snoc_same [] (b ∷ bs) x y e = absurd (omega (arith, ap length e, length-append bs (y ∷ [])))
-snoc_same (a ∷ us) [] x y e = absurd (omega (arith, ap length e, length-append us (x ∷ [])))
-snoc_same (a ∷ us) (b ∷ vs) x y e =
-    let t : us ++ x ∷ [] ≡ vs ++ y ∷ [] = cc in
-    let h : a ≡ b = cc in
-    let r = snoc_same us vs x y t in
-    (ap (λ z. z ∷ us) h ∙ ap (λ zs. b ∷ zs) r.0, r.1)
 
 -- what is popped
 pub record Popped (fs : List BlockFrame) (around : List Collection) (innermost : Collection) : Type 0 where

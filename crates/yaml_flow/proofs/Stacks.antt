@@ -22,7 +22,8 @@ use Rattle.yaml_flow.specs.FlowNodes.{Appended}
 use Rattle.yaml_flow.specs.Frames.{Around, AtNode, Collection, EventList, Kept, LineMoves, NodeRead, Onward, Pushes, SameLine, Stack, Stands, Started, Waits, WholeRead, place_of}
 use Rattle.yaml_flow.proofs.SameLines.{same_line_here}
 
-snoc_same : {A : Type 0} (xs ys : List A) (x y : A) → xs ++ x ∷ [] ≡ ys ++ y ∷ [] → (xs ≡ ys) × (x ≡ y)
+-- equal lists have the same last element, and are equal before it
+pub snoc_same : {A : Type 0} (xs ys : List A) (x y : A) → xs ++ x ∷ [] ≡ ys ++ y ∷ [] → (xs ≡ ys) × (x ≡ y)
 snoc_same [] [] x y e = (refl, cc)
 snoc_same [] (b ∷ bs) x y e = absurd (omega (arith, ap length e, length-append bs (y ∷ [])))
 snoc_same (a ∷ us) [] x y e = absurd (omega (arith, ap length e, length-append us (x ∷ [])))
