@@ -19,9 +19,10 @@ use yaml_tree::{Config, Limits, ReadFault, read_one, write_style};
 
 /// The findings of a text, ordered by line, and on one line by rule.
 ///
-/// The text is read as [`read_one`] reads it, within the limits of a configuration ([`Limits::CONFIGURATION`]). Its lines
-/// are looked at once, and the text of its tree in the one style is compared with it as it is written, and never
-/// held. A byte order mark counts as a character of the first line. Breaks are LF, CR LF and CR (YAML 1.2.2, 5.4).
+/// The text is read as [`read_one`] reads it, within the limits of a configuration ([`Limits::CONFIGURATION`]). Its
+/// lines are looked at once, and the text of its tree in the one style is compared with it as it is written, and
+/// never held. A byte order mark counts as a character of the first line. Breaks are LF, CR LF and CR (YAML 1.2.2,
+/// 5.4).
 ///
 /// # Errors
 ///
