@@ -10,7 +10,7 @@ const ROOM: usize = 23;
 #[derive(Clone, Copy, Drop)]
 pub(crate) struct Short {
     len: u8,
-    bytes: [u8; 23],
+    bytes: [u8; ROOM],
     ghost fits: { len ≤ 23 },
     ghost utf8: { ∥ IsUtf8 (take len bytes) ∥₁ },
 }
@@ -25,7 +25,7 @@ impl Short {
     {
         Short {
             len: 0,
-            bytes: [0; 23],
+            bytes: [0; ROOM],
         }
     }
 
@@ -38,7 +38,7 @@ impl Short {
         if len > ROOM {
             return None;
         }
-        let mut bytes = [0; 23];
+        let mut bytes = [0; ROOM];
         bytes[..len].copy_from_slice(text.as_bytes());
         Some(Short {
             len: len as u8,
