@@ -3,6 +3,7 @@ use Rattle.std.proofs.Common.{◌≡◌, ℕ, List, [], ◌∷◌, ◌++◌, Opt
 use Rattle.std.proofs.lemmas.List.{append-nil}
 use Rattle.yaml_grammar.specs.Trees.{Tree, text, sequence, mapping, Elements, no_element, element, Members, no_member, member, Shape, document_from, document_to, seq_from, seq_to, map_from, map_to, scalar_of, tree_shapes, elements_shapes, members_shapes}
 use Rattle.yaml_tree.specs.Frames.{Frame, awaiting, root, whole, in_seq, at_key, at_value, elements_and, members_and, frames_with, step, finished_tree}
+use Rattle.yaml_tree.proofs.SeenLemmas.{join_elements, join_members}
 
 -- ---- several events
 
@@ -28,33 +29,26 @@ run-None (s ∷ ss) = run-None ss
 
 -- ---- more at the end
 
--- elements, and then others
-abbrev pub elements_join : Elements → Elements → Elements
-elements_join ts no_element = ts
-elements_join ts (element u us) = elements_join (elements_and ts u) us
+-- elements before no others
+pub join_elements-none : (ts : Elements) → join_elements ts no_element ≡ ts
+join_elements-none no_element = refl
+join_elements-none (element t ts) = ap (element t) (join_elements-none ts)
 
--- members, and then others
-abbrev pub members_join : Members → Members → Members
-members_join ms no_member = ms
-members_join ms (member key u ns) = members_join (members_and ms key u) ns
+-- members before no others
+pub join_members-none : (ms : Members) → join_members ms no_member ≡ ms
+join_members-none no_member = refl
+join_members-none (member key t ms) = ap (member key t) (join_members-none ms)
 
-elements_join-element : (t : Tree) (ts us : Elements) → elements_join (element t ts) us ≡ element t (elements_join ts us)
-elements_join-element t ts no_element = refl
-elements_join-element t ts (element u us) = elements_join-element t (elements_and ts u) us
+-- one more at the end, before others
+pub join_elements-one : (ts us : Elements) (u : Tree) → join_elements (elements_and ts u) us ≡ join_elements ts (element u us)
+join_elements-one no_element us u = refl
+join_elements-one (element t ts) us u = ap (element t) (join_elements-one ts us u)
 
-members_join-member : (key : List ℕ) (t : Tree) (ms ns : Members) → members_join (member key t ms) ns ≡ member key t (members_join ms ns)
-members_join-member key t ms no_member = refl
-members_join-member key t ms (member k u ns) = members_join-member key t (members_and ms k u) ns
-
--- no element before others adds nothing
-pub elements_join-none : (us : Elements) → elements_join no_element us ≡ us
-elements_join-none no_element = refl
-elements_join-none (element u us) = elements_join-element u no_element us ∙ ap (element u) (elements_join-none us)
-
--- no member before others adds nothing
-pub members_join-none : (ns : Members) → members_join no_member ns ≡ ns
-members_join-none no_member = refl
-members_join-none (member key u ns) = members_join-member key u no_member ns ∙ ap (member key u) (members_join-none ns)
+-- one member more at the end, before others
+pub join_members-one : (ms ns : Members) (name : List ℕ) (u : Tree)
+    → join_members (members_and ms name u) ns ≡ join_members ms (member name u ns)
+join_members-one no_member ns name u = refl
+join_members-one (member key t ms) ns name u = ap (member key t) (join_members-one ms ns name u)
 
 -- the shapes of elements with one more at the end
 pub elements_and-shapes : (ts : Elements) (u : Tree) → elements_shapes (elements_and ts u) ≡ elements_shapes ts ++ tree_shapes u
@@ -79,27 +73,27 @@ mutual
   tree_run (sequence ts) fs rest =
       ap (run (Some (in_seq no_element ∷ fs))) (append_assoc (elements_shapes ts) (seq_to ∷ []) rest)
       ∙ elements_run ts no_element fs (seq_to ∷ rest)
-      ∙ ap (λ us. run (frames_with fs (sequence us)) rest) (elements_join-none ts)
   tree_run (mapping ms) fs rest =
       ap (run (Some (at_key no_member ∷ fs))) (append_assoc (members_shapes ms) (map_to ∷ []) rest)
       ∙ members_run ms no_member fs (map_to ∷ rest)
-      ∙ ap (λ ns. run (frames_with fs (mapping ns)) rest) (members_join-none ms)
 
   elements_run : (ts us : Elements) (fs : List Frame) (rest : List Shape)
-      → run (Some (in_seq us ∷ fs)) (elements_shapes ts ++ rest) ≡ run (Some (in_seq (elements_join us ts) ∷ fs)) rest
-  elements_run no_element us fs rest = refl
+      → run (Some (in_seq us ∷ fs)) (elements_shapes ts ++ rest) ≡ run (Some (in_seq (join_elements us ts) ∷ fs)) rest
+  elements_run no_element us fs rest = ap (λ vs. run (Some (in_seq vs ∷ fs)) rest) (sym (join_elements-none us))
   elements_run (element t ts) us fs rest =
       ap (run (Some (in_seq us ∷ fs))) (append_assoc (tree_shapes t) (elements_shapes ts) rest)
       ∙ tree_run t (in_seq us ∷ fs) (elements_shapes ts ++ rest)
       ∙ elements_run ts (elements_and us t) fs rest
+      ∙ ap (λ vs. run (Some (in_seq vs ∷ fs)) rest) (join_elements-one us ts t)
 
   members_run : (ms ns : Members) (fs : List Frame) (rest : List Shape)
-      → run (Some (at_key ns ∷ fs)) (members_shapes ms ++ rest) ≡ run (Some (at_key (members_join ns ms) ∷ fs)) rest
-  members_run no_member ns fs rest = refl
+      → run (Some (at_key ns ∷ fs)) (members_shapes ms ++ rest) ≡ run (Some (at_key (join_members ns ms) ∷ fs)) rest
+  members_run no_member ns fs rest = ap (λ vs. run (Some (at_key vs ∷ fs)) rest) (sym (join_members-none ns))
   members_run (member key t ms) ns fs rest =
       ap (run (Some (at_value ns key ∷ fs))) (append_assoc (tree_shapes t) (members_shapes ms) rest)
       ∙ tree_run t (at_value ns key ∷ fs) (members_shapes ms ++ rest)
       ∙ members_run ms (members_and ns key t) fs rest
+      ∙ ap (λ vs. run (Some (at_key vs ∷ fs)) rest) (join_members-one ns ms key t)
 
 -- the events of a document build its tree
 pub document_run : (t : Tree) → run (Some []) (document_from ∷ (tree_shapes t ++ document_to ∷ [])) ≡ Some (whole t ∷ [])

@@ -6,7 +6,8 @@ use Rattle.yaml_grammar.specs.Trees.{Tree, Elements, no_element, element, Member
 use Rattle.yaml_tree.specs.Frames.{Frame, awaiting, whole, in_seq, at_key, at_value, elements_and, members_and, frames_with, step}
 use Rattle.yaml_tree.specs.Nested.{Nested, text, sequence, mapping, Values, no_value, value, Pairs, no_pair, pair, nested_shapes, values_shapes, pairs_shapes, has_collection_key, values_have_collection_key, pairs_have_collection_key, HasCollectionKey}
 use Rattle.yaml_tree.proofs.EventLemmas.{run_tree, none_stopped}
-use Rattle.yaml_tree.proofs.FrameLemmas.{run, run-None, elements_join, members_join, elements_join-none, members_join-none}
+use Rattle.yaml_tree.proofs.FrameLemmas.{run, run-None, join_elements-none, join_members-none, join_elements-one, join_members-one}
+use Rattle.yaml_tree.proofs.SeenLemmas.{join_elements, join_members}
 
 -- ---- the tree that a value is, where no key is a collection
 
@@ -53,33 +54,35 @@ mutual
   nested_run (sequence vs) fs rest =
       ap (run (Some (in_seq no_element ∷ fs))) (append_assoc (values_shapes vs) (seq_to ∷ []) rest)
       ∙ values_run vs no_element fs (seq_to ∷ rest)
-      ∙ at_step (values_have_collection_key vs) (in_seq (elements_join no_element (plain_elements vs)) ∷ fs) seq_to rest
-      ∙ ap (λ ts. run (unless (values_have_collection_key vs) (frames_with fs (trees.sequence ts))) rest) (elements_join-none (plain_elements vs))
+      ∙ at_step (values_have_collection_key vs) (in_seq (plain_elements vs) ∷ fs) seq_to rest
   nested_run (mapping ps) fs rest =
       ap (run (Some (at_key no_member ∷ fs))) (append_assoc (pairs_shapes ps) (map_to ∷ []) rest)
       ∙ pairs_run ps no_member fs (map_to ∷ rest)
-      ∙ at_step (pairs_have_collection_key ps) (at_key (members_join no_member (plain_members ps)) ∷ fs) map_to rest
-      ∙ ap (λ ms. run (unless (pairs_have_collection_key ps) (frames_with fs (trees.mapping ms))) rest) (members_join-none (plain_members ps))
+      ∙ at_step (pairs_have_collection_key ps) (at_key (plain_members ps) ∷ fs) map_to rest
 
   values_run : (vs : Values) (ts : Elements) (fs : List Frame) (rest : List Shape)
       → run (Some (in_seq ts ∷ fs)) (values_shapes vs ++ rest)
-      ≡ run (unless (values_have_collection_key vs) (Some (in_seq (elements_join ts (plain_elements vs)) ∷ fs))) rest
-  values_run no_value ts fs rest = refl
+      ≡ run (unless (values_have_collection_key vs) (Some (in_seq (join_elements ts (plain_elements vs)) ∷ fs))) rest
+  values_run no_value ts fs rest = ap (λ us. run (Some (in_seq us ∷ fs)) rest) (sym (join_elements-none ts))
   values_run (value v vs) ts fs rest =
       ap (run (Some (in_seq ts ∷ fs))) (append_assoc (nested_shapes v) (values_shapes vs) rest)
       ∙ nested_run v (in_seq ts ∷ fs) (values_shapes vs ++ rest)
       ∙ onward (has_collection_key v) (values_have_collection_key vs) _ _ (values_shapes vs ++ rest) rest
       (values_run vs (elements_and ts (plain_tree v)) fs rest)
+      ∙ ap (λ us. run (unless (has_collection_key v || values_have_collection_key vs) (Some (in_seq us ∷ fs))) rest)
+      (join_elements-one ts (plain_elements vs) (plain_tree v))
 
   pairs_run : (ps : Pairs) (ms : Members) (fs : List Frame) (rest : List Shape)
       → run (Some (at_key ms ∷ fs)) (pairs_shapes ps ++ rest)
-      ≡ run (unless (pairs_have_collection_key ps) (Some (at_key (members_join ms (plain_members ps)) ∷ fs))) rest
-  pairs_run no_pair ms fs rest = refl
+      ≡ run (unless (pairs_have_collection_key ps) (Some (at_key (join_members ms (plain_members ps)) ∷ fs))) rest
+  pairs_run no_pair ms fs rest = ap (λ ns. run (Some (at_key ns ∷ fs)) rest) (sym (join_members-none ms))
   pairs_run (pair (text key) v ps) ms fs rest =
       ap (run (Some (at_value ms key ∷ fs))) (append_assoc (nested_shapes v) (pairs_shapes ps) rest)
       ∙ nested_run v (at_value ms key ∷ fs) (pairs_shapes ps ++ rest)
       ∙ onward (has_collection_key v) (pairs_have_collection_key ps) _ _ (pairs_shapes ps ++ rest) rest
       (pairs_run ps (members_and ms key (plain_tree v)) fs rest)
+      ∙ ap (λ ns. run (unless (has_collection_key v || pairs_have_collection_key ps) (Some (at_key ns ∷ fs))) rest)
+      (join_members-one ms (plain_members ps) key (plain_tree v))
   pairs_run (pair (sequence us) v ps) ms fs rest =
       ap (run (Some (at_key ms ∷ fs))) (append_assoc (nested_shapes (sequence us)) (nested_shapes v ++ pairs_shapes ps) rest)
       ∙ nested_run (sequence us) (at_key ms ∷ fs) (nested_shapes v ++ pairs_shapes ps ++ rest)

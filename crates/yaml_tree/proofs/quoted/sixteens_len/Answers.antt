@@ -1,4 +1,4 @@
-use Rattle.std.proofs.Common.{◌+◌, length, sym, ◌∙◌, arith}
+use Rattle.std.proofs.Common.{sym, ◌∙◌, arith}
 use Rattle.yaml_tree.proofs.QuotedLemmas.{alone_more}
 use Rattle.yaml_tree.proofs.quoted.sixteens_len.Goals as goal
 

@@ -1,5 +1,4 @@
 use Rattle.std.proofs.Common.{◌≡◌, Some, MatchResult, sym, ap, subst, ◌∙◌}
-use Rattle.yaml_grammar.specs.Trees.{mapping}
 use Rattle.yaml_tree.specs.Building.{frames_of, HasNone}
 use Rattle.yaml_tree.specs.Frames.{frames_with, after_map_end}
 use Rattle.yaml_tree.specs.Seen.{tree_of}
