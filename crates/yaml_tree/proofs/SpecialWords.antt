@@ -1,7 +1,22 @@
--- A special word has as many characters as a text that it is, in any letter case.
-use Rattle.std.proofs.Common.{◌≡◌, ℕ, suc, ◌==◌, ◌&&◌, ◌||◌, Bool, true, false, List, [], ◌∷◌, length, codes, refl, sym, ap, ◌∙◌, arith}
+-- A text is a special word just where it is one of those of its length, in any letter case.
+use Rattle.std.proofs.Common.{◌≡◌, ℕ, suc, ◌==◌, ◌&&◌, ◌||◌, Bool, true, false, List, [], ◌∷◌, length, if◌then◌else◌, refl, sym, ap, ◌∙◌}
+use Rattle.std.proofs.lemmas.Bool.{ne_eqb, eqb-false}
 use Rattle.yaml_grammar.specs.Texts.{same_text}
 use Rattle.yaml_grammar.specs.Style.{lower, is_among, special_words}
+
+-- lowercase letters keep a text's length
+pub length-lower : (cs : List ℕ) → length (lower cs) ≡ length cs
+length-lower [] = refl
+length-lower (c ∷ cs) = ap suc (length-lower cs)
+
+-- a text that is its own characters has as many in lower case
+pub same_length : {cs bs : List ℕ} → cs ≡ bs → length (lower cs) ≡ length bs
+same_length {cs = cs} e = length-lower cs ∙ ap length e
+
+-- those of the words that have this length
+abbrev pub of_length : ℕ → List (List ℕ) → List (List ℕ)
+of_length n [] = []
+of_length n (w ∷ ws) = if n == length w then w ∷ of_length n ws else of_length n ws
 
 -- texts of two lengths differ
 other : (value word : List ℕ) → (length value ≡ length word → ⊥) → same_text value word ≡ false
@@ -14,106 +29,37 @@ other (c ∷ cs) (d ∷ ds) h = by (c == d) (other cs ds (λ e. h (ap suc e)))
     by true e = e
     by false e = refl
 
--- lowercase letters keep a text's length
-pub length-lower : (cs : List ℕ) → length (lower cs) ≡ length cs
-length-lower [] = refl
-length-lower (c ∷ cs) = ap suc (length-lower cs)
+among_same_length : (v : List ℕ) (ws : List (List ℕ)) → is_among v ws ≡ is_among v (of_length (length v) ws)
+among_same_length v [] = refl
+among_same_length v (w ∷ ws) =
+    by (length v == length w) refl (among_same_length v ws)
+  where
+    by : (same : Bool) → (length v == length w) ≡ same → is_among v ws ≡ is_among v (of_length (length v) ws)
+        → (same_text v w || is_among v ws)
+        ≡ is_among v (if same then w ∷ of_length (length v) ws else of_length (length v) ws)
+    by true test later = ap (λ b. same_text v w || b) later
+    by false test later =
+        rw (other v w (λ e. eqb-false (length v) (length w) test e)) later
+
+-- a text of n characters is special just where it is a special word of that length
+pub special_of_length : (v : List ℕ) (n : ℕ) → length v ≡ n → is_among v special_words ≡ is_among v (of_length n special_words)
+special_of_length v n e =
+    among_same_length v special_words ∙ ap (λ m. is_among v (of_length m special_words)) e
+
+-- no special word has another length
+pub none_of_length : (n : ℕ) → (n ≡ 1 → ⊥) → (n ≡ 2 → ⊥) → (n ≡ 3 → ⊥) → (n ≡ 4 → ⊥) → (n ≡ 5 → ⊥) → of_length n special_words ≡ []
+none_of_length n one two three four five =
+    rw (ne_eqb n 1 one, ne_eqb n 2 two, ne_eqb n 3 three, ne_eqb n 4 four, ne_eqb n 5 five) refl
 
 or-false : (b : Bool) → (b || false) ≡ b
 or-false true = refl
 or-false false = refl
 
--- the special words of one letter
-pub of_one : (v : List ℕ) → length v ≡ 1 → is_among v special_words ≡ (same_text v (codes "y") || same_text v (codes "n"))
-of_one v h =
-    rw (
-      other v (codes "null") (λ e. omega (arith, e, h)),
-      other v (codes "true") (λ e. omega (arith, e, h)),
-      other v (codes "false") (λ e. omega (arith, e, h)),
-      other v (codes "yes") (λ e. omega (arith, e, h)),
-      other v (codes "no") (λ e. omega (arith, e, h)),
-      other v (codes "on") (λ e. omega (arith, e, h)),
-      other v (codes "off") (λ e. omega (arith, e, h)),
-      or-false (same_text v (codes "n")),
-    ) refl
-
--- the special words of two letters
-pub of_two : (v : List ℕ) → length v ≡ 2 → is_among v special_words ≡ (same_text v (codes "no") || same_text v (codes "on"))
-of_two v h =
-    rw (
-      other v (codes "null") (λ e. omega (arith, e, h)),
-      other v (codes "true") (λ e. omega (arith, e, h)),
-      other v (codes "false") (λ e. omega (arith, e, h)),
-      other v (codes "yes") (λ e. omega (arith, e, h)),
-      other v (codes "off") (λ e. omega (arith, e, h)),
-      other v (codes "y") (λ e. omega (arith, e, h)),
-      other v (codes "n") (λ e. omega (arith, e, h)),
-      or-false (same_text v (codes "on")),
-    ) refl
-
--- the special words of three letters
-pub of_three : (v : List ℕ) → length v ≡ 3 → is_among v special_words ≡ (same_text v (codes "yes") || same_text v (codes "off"))
-of_three v h =
-    rw (
-      other v (codes "null") (λ e. omega (arith, e, h)),
-      other v (codes "true") (λ e. omega (arith, e, h)),
-      other v (codes "false") (λ e. omega (arith, e, h)),
-      other v (codes "no") (λ e. omega (arith, e, h)),
-      other v (codes "on") (λ e. omega (arith, e, h)),
-      other v (codes "y") (λ e. omega (arith, e, h)),
-      other v (codes "n") (λ e. omega (arith, e, h)),
-      or-false (same_text v (codes "off")),
-    ) refl
-
--- the special words of four letters
-pub of_four : (v : List ℕ) → length v ≡ 4 → is_among v special_words ≡ (same_text v (codes "null") || same_text v (codes "true"))
-of_four v h =
-    rw (
-      other v (codes "false") (λ e. omega (arith, e, h)),
-      other v (codes "yes") (λ e. omega (arith, e, h)),
-      other v (codes "no") (λ e. omega (arith, e, h)),
-      other v (codes "on") (λ e. omega (arith, e, h)),
-      other v (codes "off") (λ e. omega (arith, e, h)),
-      other v (codes "y") (λ e. omega (arith, e, h)),
-      other v (codes "n") (λ e. omega (arith, e, h)),
-      or-false (same_text v (codes "true")),
-    ) refl
-
--- the special word of five letters
-pub of_five : (v : List ℕ) → length v ≡ 5 → is_among v special_words ≡ same_text v (codes "false")
-of_five v h =
-    rw (
-      other v (codes "null") (λ e. omega (arith, e, h)),
-      other v (codes "true") (λ e. omega (arith, e, h)),
-      other v (codes "yes") (λ e. omega (arith, e, h)),
-      other v (codes "no") (λ e. omega (arith, e, h)),
-      other v (codes "on") (λ e. omega (arith, e, h)),
-      other v (codes "off") (λ e. omega (arith, e, h)),
-      other v (codes "y") (λ e. omega (arith, e, h)),
-      other v (codes "n") (λ e. omega (arith, e, h)),
-      or-false (same_text v (codes "false")),
-    ) refl
-
--- no special word has another length
-pub of_other : (v : List ℕ) → (length v ≡ 1 → ⊥) → (length v ≡ 2 → ⊥) → (length v ≡ 3 → ⊥) → (length v ≡ 4 → ⊥) → (length v ≡ 5 → ⊥)
-    → is_among v special_words ≡ false
-of_other v one two three four five =
-    rw (
-      other v (codes "null") four,
-      other v (codes "true") four,
-      other v (codes "false") five,
-      other v (codes "yes") three,
-      other v (codes "no") two,
-      other v (codes "on") two,
-      other v (codes "off") three,
-      other v (codes "y") one,
-      other v (codes "n") one,
-    ) refl
-
 -- the second of two words decides where the first is not the text
-pub second : {first word result whole : Bool} → whole ≡ (first || word) → false ≡ first → result ≡ word → result ≡ whole
-second {word = word} split never found = found ∙ ap (λ b. b || word) never ∙ sym split
+pub second : {first word result whole : Bool} → false ≡ first → result ≡ word → whole ≡ (first || (word || false)) → result ≡ whole
+second {word = word} never found split =
+    found ∙ sym (or-false word) ∙ ap (λ b. b || (word || false)) never ∙ sym split
 
--- a text that is its own characters has as many in lower case
-pub same_length : {cs bs : List ℕ} → cs ≡ bs → length (lower cs) ≡ length bs
-same_length {cs = cs} e = length-lower cs ∙ ap length e
+-- the only word decides
+pub only : {word result whole : Bool} → result ≡ word → whole ≡ (word || false) → result ≡ whole
+only {word = word} found split = found ∙ sym (or-false word) ∙ sym split
