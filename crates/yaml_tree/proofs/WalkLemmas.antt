@@ -1,5 +1,5 @@
 -- The lines of a collection, written from its start: here `lead` spaces come before the first line that is left.
-use Rattle.std.proofs.Common.{◌≡◌, ℕ, ◌+◌, List, [], ◌∷◌, ◌++◌, length, codes, refl, arith}
+use Rattle.std.proofs.Common.{◌≡◌, ℕ, ◌+◌, List, [], ◌∷◌, ◌++◌, length, codes, refl, sym, subst, arith}
 use Rattle.yaml_grammar.specs.Texts.{spaces}
 use Rattle.yaml_grammar.specs.Trees.{sequence, mapping, Elements, no_element, element, Members, no_member, member}
 use Rattle.yaml_grammar.specs.Style.{key_lines, elements_at, elements_after, element_at, members_at, members_after, value_at}
@@ -67,3 +67,20 @@ pub mapping_value : (ms : List Pair) (i : ℕ) → (length ms ≡ 0 → ⊥)
     → codes "\n" ++ spaces (i + 2) ++ members_at (members_of ms) (i + 2) ≡ value_at (mapping (members_of ms)) i
 mapping_value [] i some = absurd (some refl)
 mapping_value (m ∷ ms) i some = refl
+
+-- ---- lines taken by a sink
+
+-- a line of three parts, and then the lines after it
+pub line_taken : {S : Type 0} (Takes : S → List ℕ → S → Type 0)
+    → ((a b c : S) (xs ys : List ℕ) → Takes a xs b → Takes b ys c → Takes a (xs ++ ys) c)
+    → {a b c d : S} {lead first last after left all : List ℕ} → all ≡ lead ++ first ++ last ++ after → left ≡ after
+    → Takes a lead b → Takes b first c → Takes c last d → (e : S) → Takes d left e → Takes a all e
+line_taken Takes both {a = a} {d = d} whole same led begun ended e others =
+    subst (λ cs. Takes a cs e) (sym whole)
+    (both _ _ _ _ _ (both _ _ _ _ _ (both _ _ _ _ _ led begun) ended) (subst (λ cs. Takes d cs e) same others))
+
+-- no line is left
+pub none_taken : {S : Type 0} (Takes : S → List ℕ → S → Type 0) → ((s : S) → Takes s [] s)
+    → {a b : S} {left first all : List ℕ} → left ≡ [] → first ≡ all → (Takes b left b → Takes a first b) → Takes a all b
+none_taken Takes none {a = a} {b = b} empty whole before =
+    subst (λ cs. Takes a cs b) whole (before (subst (λ cs. Takes b cs b) (sym empty) (none b)))

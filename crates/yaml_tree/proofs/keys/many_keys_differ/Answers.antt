@@ -1,9 +1,9 @@
-use Rattle.std.proofs.Common.{◌≡◌, ◌+◌, ◌∷◌, ◌&&◌, drop, sym, ap, ◌∙◌, arith}
+use Rattle.std.proofs.Common.{◌+◌, ◌&&◌, drop, sym, ap, ◌∙◌, arith}
 use Rattle.std.proofs.lemmas.Bool.{not-false, not-true}
-use Rattle.std.proofs.lemmas.List.{drop_more}
 use Rattle.yaml_tree.specs.Keys.{keys_differ}
 use Rattle.yaml_tree.specs.Seen.{Pair, members_of}
 use Rattle.yaml_tree.proofs.KeyLemmas.{none_seen, contains-is_seen, clear_seen, clear_new, none_seen-nil}
+use Rattle.yaml_tree.proofs.ListLemmas.{drop_item}
 use Rattle.yaml_tree.proofs.keys.many_keys_differ.Goals as goal
 
 pub loop-key-init : goal.loop-key-init
@@ -19,8 +19,7 @@ returns-then-not-branch c =
     let k = c.as_str.result in
     let x : Pair = c.loop-key-item.result in
     let rest = drop (l.key-index + 1) pairs in
-    let here : drop l.key-index pairs ≡ x ∷ rest =
-    drop_more pairs l.key-index x (omega arith) ∙ ap (λ y. y ∷ rest) (sym c.loop-key-item.is) in
+    let here = drop_item pairs l.key-index x (omega arith) c.loop-key-item.is in
     let seen = sym (contains-is_seen k ks) ∙ not-false _ (sym c.in_ok-insert.ensures.added ∙ c.if-not-branch.true) in
     sym (clear_seen k ks x rest c.as_str.ensures seen)
     ∙ sym (ap (λ ms. none_seen ks ms && keys_differ (members_of ms)) here) ∙ l.invariant
@@ -33,8 +32,7 @@ loop-key-preserved c =
     let k = c.as_str.result in
     let x : Pair = c.loop-key-item.result in
     let rest = drop (l.key-index + 1) pairs in
-    let here : drop l.key-index pairs ≡ x ∷ rest =
-    drop_more pairs l.key-index x (omega arith) ∙ ap (λ y. y ∷ rest) (sym c.loop-key-item.is) in
+    let here = drop_item pairs l.key-index x (omega arith) c.loop-key-item.is in
     let new = sym (contains-is_seen k ks) ∙ not-true _ (sym c.in_ok-insert.ensures.added ∙ c.if-not-branch.false) in
     ap (λ ys. none_seen ys rest && keys_differ (members_of rest)) c.in_ok-insert.ensures.keys
     ∙ clear_new k ks x rest c.as_str.utf8 c.as_str.ensures new

@@ -1,6 +1,6 @@
-use Rattle.std.proofs.Common.{◌≡◌, ◌+◌, ◌*◌, ◌<◌, ◌∷◌, ◌++◌, drop, length, codes, subst, sym, ap, ◌∙◌, arith}
+use Rattle.std.proofs.Common.{◌≡◌, ◌+◌, ◌*◌, ◌<◌, ◌++◌, drop, length, codes, subst, sym, ap, ◌∙◌, arith}
 use Rattle.std.proofs.lemmas.Bool.{eqb-true, eqb-false}
-use Rattle.std.proofs.lemmas.List.{drop_more, drop_all}
+use Rattle.std.proofs.lemmas.List.{drop_all}
 use Rattle.std.proofs.lemmas.Result.{on_ok_weaker}
 use Rattle.std.specs.Str.{chars}
 use denote.Param.Weighed.{at_most}
@@ -9,9 +9,10 @@ use Rattle.yaml_grammar.specs.Trees as grammar
 use Rattle.yaml_grammar.specs.Trees.{depth, elements_depth, members_depth}
 use Rattle.yaml_grammar.specs.Style.{key_lines, elements_at, element_at, members_at, value_at}
 use Rattle.yaml_tree.specs.Seen.{tree_of, elements_of, members_of}
+use Rattle.yaml_tree.proofs.ListLemmas.{drop_item}
 use Rattle.yaml_tree.proofs.SeenLemmas.{tree_of-Text, tree_of-Seq, tree_of-Map}
 use Rattle.yaml_tree.proofs.StyleLemmas.{chars-dash, chars-no_element, chars-no_member, chars-no_element_value, chars-no_member_value}
-use Rattle.yaml_tree.proofs.WalkLemmas.{elements_led, members_led, elements_led-same, members_led-same, elements_led-first, members_led-first, elements_at-empty, members_at-empty, sequence_value-empty, mapping_value-empty, sequence_value, mapping_value}
+use Rattle.yaml_tree.proofs.WalkLemmas.{elements_led, members_led, elements_led-same, members_led-same, elements_led-first, members_led-first, elements_at-empty, members_at-empty, sequence_value-empty, mapping_value-empty, sequence_value, mapping_value, line_taken, none_taken}
 use Rattle.yaml_tree.proofs.style.+lines.Goals as goal
 
 -- ---- sequences
@@ -25,31 +26,23 @@ write_elements-returns-then-is_empty g t c =
 
 pub write_elements-loop-item-preserved : goal.write_elements-loop-item-preserved
 write_elements-loop-item-preserved g t c =
-    let both = g.met.S.Sink.takes_both in
     let l = c.loop-item in
     let items = c.args.items.now in
-    let x = c.item-item.result in
-    let here : drop l.item-index items ≡ x ∷ drop (l.item-index + 1) items =
-    drop_more items l.item-index x (omega arith) ∙ ap (λ y. y ∷ drop (l.item-index + 1) items) (sym c.item-item.is) in
+    let here = drop_item items l.item-index c.item-item.result (omega arith) c.item-item.is in
     let deep = ap (λ ts. elements_depth (elements_of ts)) here in
+    let rows = ap (λ ts. elements_led l.lead (elements_of ts) c.args.indent) here in
+    let same = elements_led-same (elements_of (drop (l.item-index + 1) items)) c.args.indent in
     let dash = subst (λ cs. g.S.Sink.Takes c.put_spaces.new.self cs c.put_text-in-loop-item.new.self) chars-dash c.in_ok-put_text.ensures in
-    let rest = elements_of (drop (l.item-index + 1) items) in (
-      omega (arith, deep, l.invariant.0),
-      λ end left. l.invariant.1 end
-          (subst (λ ts. g.S.Sink.Takes l.sink (elements_led l.lead (elements_of ts) c.args.indent) end) (sym here)
-          (both _ _ _ _ _ (both _ _ _ _ _ (both _ _ _ _ _ c.in_ok-put_spaces.ensures dash) c.in_ok-write_element.ensures)
-          (subst (λ cs. g.S.Sink.Takes c.write_element.new.sink cs end) (elements_led-same rest c.args.indent) left))),
-    )
+    let taken = line_taken g.S.Sink.Takes g.met.S.Sink.takes_both rows same c.in_ok-put_spaces.ensures dash c.in_ok-write_element.ensures in
+    (omega (arith, deep, l.invariant.0), λ end left. l.invariant.1 end (taken end left))
 
 pub write_elements-returns : goal.write_elements-returns
 write_elements-returns g t c =
     let l = c.loop-item in
     let items = c.args.items.now in
     let none = drop_all l.item-index items (omega arith) in
-    let some = eqb-false _ _ (sym c.if-is_empty.ensures) in
-    subst (λ cs. g.S.Sink.Takes c.args.sink.now cs l.sink) (elements_led-first items c.args.indent some)
-    (l.invariant.1 l.sink
-    (subst (λ ts. g.S.Sink.Takes l.sink (elements_led l.lead (elements_of ts) c.args.indent) l.sink) (sym none) (g.met.S.Sink.takes_none l.sink)))
+    let first = elements_led-first items c.args.indent (eqb-false _ _ (sym c.if-is_empty.ensures)) in
+    none_taken g.S.Sink.Takes g.met.S.Sink.takes_none (ap (λ ts. elements_led l.lead (elements_of ts) c.args.indent) none) first (l.invariant.1 l.sink)
 
 -- ---- mappings
 
@@ -63,10 +56,8 @@ write_members-returns-then-is_empty g t c =
 pub write_members-write_value_lines-requires : goal.write_members-write_value_lines-requires
 write_members-write_value_lines-requires g t c κs within =
     let l = c.loop-key in
-    let pairs = c.args.pairs.now in
     let x = c.loop-key-item.result in
-    let here : drop l.key-index pairs ≡ x ∷ drop (l.key-index + 1) pairs =
-    drop_more pairs l.key-index x (omega arith) ∙ ap (λ y. y ∷ drop (l.key-index + 1) pairs) (sym c.loop-key-item.is) in
+    let here = drop_item c.args.pairs.now l.key-index x (omega arith) c.loop-key-item.is in
     let deep = ap (λ ms. members_depth (members_of ms)) here in
     let room : c.args.indent + 2 * depth (tree_of x.1) < 18446744073709551616 = omega (arith, deep, l.invariant.0) in
     let falling = c.decreases in
@@ -74,31 +65,23 @@ write_members-write_value_lines-requires g t c κs within =
 
 pub write_members-loop-key-preserved : goal.write_members-loop-key-preserved
 write_members-loop-key-preserved g t c =
-    let both = g.met.S.Sink.takes_both in
     let l = c.loop-key in
     let pairs = c.args.pairs.now in
-    let x = c.loop-key-item.result in
-    let here : drop l.key-index pairs ≡ x ∷ drop (l.key-index + 1) pairs =
-    drop_more pairs l.key-index x (omega arith) ∙ ap (λ y. y ∷ drop (l.key-index + 1) pairs) (sym c.loop-key-item.is) in
+    let here = drop_item pairs l.key-index c.loop-key-item.result (omega arith) c.loop-key-item.is in
     let deep = ap (λ ms. members_depth (members_of ms)) here in
+    let rows = ap (λ ms. members_led l.lead (members_of ms) c.args.indent) here in
+    let same = members_led-same (members_of (drop (l.key-index + 1) pairs)) c.args.indent in
     let key = subst (λ bytes. g.S.Sink.Takes c.put_spaces.new.self (key_lines c.args.indent (chars bytes)) c.write_key.new.sink) c.deref.ensures c.in_ok-write_key.ensures in
-    let rest = members_of (drop (l.key-index + 1) pairs) in (
-      omega (arith, deep, l.invariant.0),
-      λ end left. l.invariant.1 end
-          (subst (λ ms. g.S.Sink.Takes l.sink (members_led l.lead (members_of ms) c.args.indent) end) (sym here)
-          (both _ _ _ _ _ (both _ _ _ _ _ (both _ _ _ _ _ c.in_ok-put_spaces.ensures key) c.in_ok-write_value_lines.ensures)
-          (subst (λ cs. g.S.Sink.Takes c.write_value_lines.new.sink cs end) (members_led-same rest c.args.indent) left))),
-    )
+    let taken = line_taken g.S.Sink.Takes g.met.S.Sink.takes_both rows same c.in_ok-put_spaces.ensures key c.in_ok-write_value_lines.ensures in
+    (omega (arith, deep, l.invariant.0), λ end left. l.invariant.1 end (taken end left))
 
 pub write_members-returns : goal.write_members-returns
 write_members-returns g t c =
     let l = c.loop-key in
     let pairs = c.args.pairs.now in
     let none = drop_all l.key-index pairs (omega arith) in
-    let some = eqb-false _ _ (sym c.if-is_empty.ensures) in
-    subst (λ cs. g.S.Sink.Takes c.args.sink.now cs l.sink) (members_led-first pairs c.args.indent some)
-    (l.invariant.1 l.sink
-    (subst (λ ms. g.S.Sink.Takes l.sink (members_led l.lead (members_of ms) c.args.indent) l.sink) (sym none) (g.met.S.Sink.takes_none l.sink)))
+    let first = members_led-first pairs c.args.indent (eqb-false _ _ (sym c.if-is_empty.ensures)) in
+    none_taken g.S.Sink.Takes g.met.S.Sink.takes_none (ap (λ ms. members_led l.lead (members_of ms) c.args.indent) none) first (l.invariant.1 l.sink)
 
 -- ---- an element, a value
 
