@@ -1,6 +1,6 @@
 -- Tests of a text's characters, and texts that are ASCII.
-use Rattle.std.proofs.Common.{◌≡◌, ℕ, zero, suc, ◌<◌, Bool, true, false, ◌&&◌, ◌||◌, ◌==◌, List, [], ◌∷◌, ◌++◌, length, drop, encode_utf8, encode_utf8_all, IsUtf8, IsAscii, zero-add, subst, refl, sym, ap, ap₂, ◌∙◌, arith}
-use Rattle.std.proofs.lemmas.Bool.{and_parts, and_from, eqb-true, eq-eqb}
+use Rattle.std.proofs.Common.{◌≡◌, ℕ, zero, suc, ◌<◌, nat_lt, Bool, true, false, ◌&&◌, ◌||◌, ◌==◌, List, [], ◌∷◌, ◌++◌, length, drop, encode_utf8, encode_utf8_all, IsUtf8, IsAscii, zero-add, subst, refl, sym, ap, ap₂, ◌∙◌, arith}
+use Rattle.std.proofs.lemmas.Bool.{and_parts, and_from, eqb-true, eq-eqb, ltb-true}
 use Rattle.std.proofs.lemmas.Bool.Decides.{nat_tests}
 use Rattle.std.proofs.lemmas.Str.{chars-IsAscii, chars-nil, encodes-chars, encodes-IsAscii, IsCharBoundary-past_char, drop_past_char}
 use Rattle.std.specs.Char.{len_utf8}
@@ -46,6 +46,10 @@ pub every-IsAscii : (p : ℕ → Bool) → ((c : ℕ) → p c ≡ true → c < 1
 every-IsAscii p below [] e i = omega arith
 every-IsAscii p below (c ∷ cs) e zero = below c (and_parts (p c) (list_all p cs) e).0
 every-IsAscii p below (c ∷ cs) e (suc i) = every-IsAscii p below cs (and_parts (p c) (list_all p cs) e).1 i
+
+-- a literal of ASCII is its own characters, which `refl` shows
+pub chars-literal : (bs : List ℕ) → list_all (λ b. nat_lt b 128) bs ≡ true → chars bs ≡ bs
+chars-literal bs e = chars-IsAscii bs (every-IsAscii (λ b. nat_lt b 128) (λ b below. ltb-true b 128 below) bs e)
 
 -- bytes whose characters are all ASCII are their own characters
 pub chars-same : (bs : List ℕ) → IsUtf8 bs → IsAscii (chars bs) → chars bs ≡ bs

@@ -40,7 +40,8 @@ join_members-none no_member = refl
 join_members-none (member key t ms) = ap (member key t) (join_members-none ms)
 
 -- one more at the end, before others
-pub join_elements-one : (ts us : Elements) (u : Tree) → join_elements (elements_and ts u) us ≡ join_elements ts (element u us)
+pub join_elements-one : (ts us : Elements) (u : Tree)
+    → join_elements (elements_and ts u) us ≡ join_elements ts (element u us)
 join_elements-one no_element us u = refl
 join_elements-one (element t ts) us u = ap (element t) (join_elements-one ts us u)
 

@@ -1,6 +1,6 @@
 -- A part has no more indented lines than bytes, so lengths at small indentations are small where the length in the one
 -- style is.
-use Rattle.std.proofs.Common.{◌≡◌, ℕ, zero, suc, ◌+◌, ◌*◌, ◌/◌, ◌%◌, ◌≤◌, ◌==◌, ◌||◌, nat_le, nat_lt, Bool, true, false, length, length-append, if◌then◌else◌, List, [], ◌∷◌, ◌++◌, codes, arith}
+use Rattle.std.proofs.Common.{◌≡◌, ℕ, zero, suc, ◌+◌, ◌*◌, ◌/◌, ◌%◌, ◌-◌, ◌<◌, ◌≤◌, ◌==◌, ◌||◌, nat_le, nat_lt, Bool, true, false, length, length-append, if◌then◌else◌, List, [], ◌∷◌, ◌++◌, codes, arith}
 use Rattle.std.proofs.lemmas.Bool.Decides.{nat_tests}
 use Rattle.std.proofs.lemmas.Str.{len_utf8_bounds}
 use Rattle.yaml_chars.specs.Classes.{in_range}
@@ -120,6 +120,15 @@ key_bytes_bound key = by (long_key key) (key_text key) (text_bound (plain_in_sty
         )
     by false shown h = omega (arith, h, byte_len-append shown (codes ":"))
 
+-- the lines of a collection after its key
+on_own_lines : (lines : ℕ → List ℕ) (n : ℕ) → n ≤ byte_len (lines 0)
+    → ((i : ℕ) → byte_len (lines i) ≡ byte_len (lines 0) + i * n)
+    → (1 + n ≤ byte_len (codes "\n" ++ spaces 2 ++ lines 2))
+    × (byte_len (codes "\n" ++ spaces 2 ++ lines 2) ≤ 3 + 3 * byte_len (lines 0))
+on_own_lines lines n bound law =
+    let whole = three (codes "\n") (spaces 2) (lines 2) in
+    (omega (arith, bound, law 2, whole), omega (arith, bound, law 2, whole))
+
 mutual
   -- an element has a byte at least for each line that is indented
   pub element_bound : (t : Tree) → indented t ≤ byte_len (element_at t 0)
@@ -168,20 +177,12 @@ mutual
   value_bound (text value) = omega (arith, scalar_bound value, scalar_law 2 value, byte_len-append (codes " ") (scalar_lines 2 value))
   value_bound (sequence no_element) = omega arith
   value_bound (sequence (element t ts)) =
-      omega (
-        arith,
-        elements_bound (element t ts),
-        elements_law (element t ts) 2,
-        three (codes "\n") (spaces 2) (elements_at (element t ts) 2),
-      )
+      (on_own_lines (elements_at (element t ts)) (elements_indented (element t ts))
+      (elements_bound (element t ts)) (elements_law (element t ts))).0
   value_bound (mapping no_member) = omega arith
   value_bound (mapping (member key t ms)) =
-      omega (
-        arith,
-        members_bound (member key t ms),
-        members_law (member key t ms) 2,
-        three (codes "\n") (spaces 2) (members_at (member key t ms) 2),
-      )
+      (on_own_lines (members_at (member key t ms)) (members_indented (member key t ms))
+      (members_bound (member key t ms)) (members_law (member key t ms))).0
 
 -- a number that is at most 1, times another
 pub times_at_most : (i n : ℕ) → i ≤ 1 → i * n ≤ n
@@ -202,17 +203,14 @@ pub value_small : (t : Tree) → byte_len (value_at t 0) ≤ 3 + 3 * byte_len (s
 value_small (text value) = omega (arith, byte_len-append (codes " ") (scalar_lines 2 value))
 value_small (sequence no_element) = omega arith
 value_small (sequence (element t ts)) =
-    omega (
-      arith,
-      elements_bound (element t ts),
-      elements_law (element t ts) 2,
-      three (codes "\n") (spaces 2) (elements_at (element t ts) 2),
-    )
+    (on_own_lines (elements_at (element t ts)) (elements_indented (element t ts))
+    (elements_bound (element t ts)) (elements_law (element t ts))).1
 value_small (mapping no_member) = omega arith
 value_small (mapping (member key t ms)) =
-    omega (
-      arith,
-      members_bound (member key t ms),
-      members_law (member key t ms) 2,
-      three (codes "\n") (spaces 2) (members_at (member key t ms) 2),
-    )
+    (on_own_lines (members_at (member key t ms)) (members_indented (member key t ms))
+    (members_bound (member key t ms)) (members_law (member key t ms))).1
+
+-- where a part's length at no indentation fits, so does its size
+pub small_size : {bytes more b n : ℕ} → bytes ≡ b → more ≡ b + 1 * n → n ≤ b → b < 4294967296
+    → (bytes < 4294967296) × (more - bytes < 4294967296)
+small_size p q bound small = (omega (arith, p, small), omega (arith, p, q, bound, small))

@@ -1,5 +1,5 @@
 -- The length of a part at any indentation, by its size.
-use Rattle.std.proofs.Common.{◌≡◌, ℕ, zero, suc, ◌+◌, ◌*◌, ◌==◌, Bool, true, false, if◌then◌else◌, List, [], ◌∷◌, ◌++◌, codes, refl, ap₂, arith}
+use Rattle.std.proofs.Common.{◌≡◌, ℕ, zero, suc, ◌+◌, ◌-◌, ◌*◌, ◌==◌, Bool, true, false, if◌then◌else◌, List, [], ◌∷◌, ◌++◌, codes, refl, ap₂, arith}
 use Rattle.yaml_grammar.specs.Texts.{byte_len, spaces}
 use Rattle.yaml_grammar.specs.Trees.{Tree, text, sequence, mapping, Elements, no_element, element, Members, no_member, member}
 use Rattle.yaml_grammar.specs.Style.{plain_in_style, literal_in_style, in_double_quotes, literal_mark, literal_lines, feeds_at_end, scalar_lines, key_text, long_key, key_lines, elements_at, elements_after, element_at, members_at, members_after, value_at}
@@ -27,6 +27,12 @@ made b l = record { bytes = b; lines = l }
 -- sizes of the same bytes and lines are the same
 pub sized : {b b' l l' : ℕ} → b ≡ b' → l ≡ l' → made b l ≡ made b' l'
 sized p q = ap₂ made p q
+
+-- the size of a part, by its lengths at the indentations 0 and 1
+pub size_from : {bytes more b n : ℕ} → bytes ≡ b → more ≡ b + 1 * n → made bytes (more - bytes) ≡ made b n
+size_from {bytes = bytes} {more = more} {n = n} p q =
+    let lines : more - bytes ≡ n = omega (arith, p, q) in
+    sized p lines
 
 -- ---- scalars and keys
 

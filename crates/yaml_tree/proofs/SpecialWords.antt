@@ -42,12 +42,14 @@ among_same_length v (w ∷ ws) =
         rw (other v w (λ e. eqb-false (length v) (length w) test e)) later
 
 -- a text of n characters is special just where it is a special word of that length
-pub special_of_length : (v : List ℕ) (n : ℕ) → length v ≡ n → is_among v special_words ≡ is_among v (of_length n special_words)
+pub special_of_length : (v : List ℕ) (n : ℕ) → length v ≡ n
+    → is_among v special_words ≡ is_among v (of_length n special_words)
 special_of_length v n e =
     among_same_length v special_words ∙ ap (λ m. is_among v (of_length m special_words)) e
 
 -- no special word has another length
-pub none_of_length : (n : ℕ) → (n ≡ 1 → ⊥) → (n ≡ 2 → ⊥) → (n ≡ 3 → ⊥) → (n ≡ 4 → ⊥) → (n ≡ 5 → ⊥) → of_length n special_words ≡ []
+pub none_of_length : (n : ℕ) → (n ≡ 1 → ⊥) → (n ≡ 2 → ⊥) → (n ≡ 3 → ⊥) → (n ≡ 4 → ⊥) → (n ≡ 5 → ⊥)
+    → of_length n special_words ≡ []
 none_of_length n one two three four five =
     rw (ne_eqb n 1 one, ne_eqb n 2 two, ne_eqb n 3 three, ne_eqb n 4 four, ne_eqb n 5 five) refl
 
@@ -56,7 +58,8 @@ or-false true = refl
 or-false false = refl
 
 -- the second of two words decides where the first is not the text
-pub second : {first word result whole : Bool} → false ≡ first → result ≡ word → whole ≡ (first || (word || false)) → result ≡ whole
+pub second : {first word result whole : Bool} → false ≡ first → result ≡ word
+    → whole ≡ (first || (word || false)) → result ≡ whole
 second {word = word} never found split =
     found ∙ sym (or-false word) ∙ ap (λ b. b || (word || false)) never ∙ sym split
 

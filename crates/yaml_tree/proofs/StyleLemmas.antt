@@ -1,6 +1,5 @@
 -- How a scalar's and a key's text follow from its style.
 use Rattle.std.proofs.Common.{◌≡◌, ℕ, zero, suc, Bool, true, false, if◌then◌else◌, List, ◌++◌, codes, refl, sym}
-use Rattle.std.specs.Str.{chars}
 use Rattle.yaml_grammar.specs.Style.{plain_in_style, literal_in_style, feeds_at_end, literal_mark, literal_lines, in_double_quotes, scalar_lines, key_text}
 use Rattle.yaml_tree.specs.ScalarStyles.{literal_style, key_style, value_style}
 use Rattle.yaml_tree.specs.declared.scalar.ScalarStyle.{ScalarStyle}
@@ -85,50 +84,3 @@ module _ (j : ℕ) (value : List ℕ) where
   -- the lines of a literal that ends in more line feeds
   pub value_keep : value_style value ≡ LiteralKeep → codes "|+\n" ++ literal_lines j true value ≡ scalar_lines j value
   value_keep e = sym (as_keep _ (literal_lines j true value) _ (plain_in_style value) (literal_in_style value) (feeds_at_end value) e)
-
--- ---- the characters of what is written as it is
-
--- the characters of `|-` and a line feed
-pub chars-strip : chars (codes "|-\n") ≡ codes "|-\n"
-unfolding chars
-chars-strip = refl
-
--- the characters of `|` and a line feed
-pub chars-clip : chars (codes "|\n") ≡ codes "|\n"
-unfolding chars
-chars-clip = refl
-
--- the characters of `|+` and a line feed
-pub chars-keep : chars (codes "|+\n") ≡ codes "|+\n"
-unfolding chars
-chars-keep = refl
-
--- the characters of `? `
-pub chars-question : chars (codes "? ") ≡ codes "? "
-unfolding chars
-chars-question = refl
-
--- the characters of `- `
-pub chars-dash : chars (codes "- ") ≡ codes "- "
-unfolding chars
-chars-dash = refl
-
--- the characters of an empty sequence
-pub chars-no_element : chars (codes "[]\n") ≡ codes "[]\n"
-unfolding chars
-chars-no_element = refl
-
--- the characters of an empty mapping
-pub chars-no_member : chars (codes "{}\n") ≡ codes "{}\n"
-unfolding chars
-chars-no_member = refl
-
--- the characters of an empty sequence after a key
-pub chars-no_element_value : chars (codes " []\n") ≡ codes " []\n"
-unfolding chars
-chars-no_element_value = refl
-
--- the characters of an empty mapping after a key
-pub chars-no_member_value : chars (codes " {}\n") ≡ codes " {}\n"
-unfolding chars
-chars-no_member_value = refl

@@ -9,21 +9,26 @@ use Rattle.yaml_tree.proofs.TextLemmas.{IsUtf8-text_bytes}
 use Rattle.yaml_tree.proofs.keys.has_key.Goals as goal
 
 -- the key is among the pairs that are left where the first of them has it, or one after it
-one_more : (key : List ℕ) (pairs : List Pair) (i : ℕ) (x : Pair) (found : Bool) → IsUtf8 key → i < length pairs → x ≡ get_or pairs i x
-    → found ≡ bytes_eq (text_bytes x.0) key
+one_more : (key : List ℕ) (pairs : List Pair) (i : ℕ) (x : Pair) (found : Bool) → IsUtf8 key
+    → i < length pairs → x ≡ get_or pairs i x → found ≡ bytes_eq (text_bytes x.0) key
     → (found || has_key (chars key) (members_of (drop (i + 1) pairs))) ≡ has_key (chars key) (members_of (drop i pairs))
 one_more key pairs i x found utf8 within is compared =
-    ap (λ b. b || has_key (chars key) (members_of (drop (i + 1) pairs))) (compared ∙ same_key key (text_bytes x.0) utf8 (IsUtf8-text_bytes x.0))
+    let same = same_key key (text_bytes x.0) utf8 (IsUtf8-text_bytes x.0) in
+    ap (λ b. b || has_key (chars key) (members_of (drop (i + 1) pairs))) (compared ∙ same)
     ∙ sym (ap (λ ms. has_key (chars key) (members_of ms)) (drop_item pairs i x within is))
 
 pub returns-then-eq : goal.returns-then-eq
 returns-then-eq c =
     let compared = sym c.if-eq.true ∙ c.eq.ensures ∙ ap (λ bytes. bytes_eq bytes c.args.key.now) c.as_str.ensures in
-    one_more c.args.key.now c.args.pairs.now c.loop-other.other-index c.loop-other-item.result true c.utf8.key (omega arith) c.loop-other-item.is compared
-    ∙ c.loop-other.invariant
+    let l = c.loop-other in
+    let x = c.loop-other-item in
+    one_more c.args.key.now c.args.pairs.now l.other-index x.result true c.utf8.key (omega arith) x.is compared
+    ∙ l.invariant
 
 pub loop-other-preserved : goal.loop-other-preserved
 loop-other-preserved c =
     let compared = sym c.if-eq.false ∙ c.eq.ensures ∙ ap (λ bytes. bytes_eq bytes c.args.key.now) c.as_str.ensures in
-    one_more c.args.key.now c.args.pairs.now c.loop-other.other-index c.loop-other-item.result false c.utf8.key (omega arith) c.loop-other-item.is compared
-    ∙ c.loop-other.invariant
+    let l = c.loop-other in
+    let x = c.loop-other-item in
+    one_more c.args.key.now c.args.pairs.now l.other-index x.result false c.utf8.key (omega arith) x.is compared
+    ∙ l.invariant

@@ -6,19 +6,23 @@ use Rattle.yaml_tree.proofs.scalar.is_special.Goals as goal
 
 pub returns-else-is_same_word : goal.returns-else-is_same_word
 returns-else-is_same_word c =
-    second c.if-is_same_word.ensures c.is_same_word-else-is_same_word.ensures (special_of_length _ 1 (same_length c.requires ∙ c.if-length-eq1.true))
+    let words = special_of_length _ 1 (same_length c.requires ∙ c.if-length-eq1.true) in
+    second c.if-is_same_word.ensures c.is_same_word-else-is_same_word.ensures words
 
 pub returns-else-is_same_word-2 : goal.returns-else-is_same_word-2
 returns-else-is_same_word-2 c =
-    second c.if-is_same_word-2.ensures c.is_same_word-else-is_same_word-2.ensures (special_of_length _ 2 (same_length c.requires ∙ c.if-length-eq2.true))
+    let words = special_of_length _ 2 (same_length c.requires ∙ c.if-length-eq2.true) in
+    second c.if-is_same_word-2.ensures c.is_same_word-else-is_same_word-2.ensures words
 
 pub returns-else-is_same_word-3 : goal.returns-else-is_same_word-3
 returns-else-is_same_word-3 c =
-    second c.if-is_same_word-3.ensures c.is_same_word-else-is_same_word-3.ensures (special_of_length _ 3 (same_length c.requires ∙ c.if-length-eq3.true))
+    let words = special_of_length _ 3 (same_length c.requires ∙ c.if-length-eq3.true) in
+    second c.if-is_same_word-3.ensures c.is_same_word-else-is_same_word-3.ensures words
 
 pub returns-else-is_same_word-4 : goal.returns-else-is_same_word-4
 returns-else-is_same_word-4 c =
-    second c.if-is_same_word-4.ensures c.is_same_word-else-is_same_word-4.ensures (special_of_length _ 4 (same_length c.requires ∙ c.if-length-eq4.true))
+    let words = special_of_length _ 4 (same_length c.requires ∙ c.if-length-eq4.true) in
+    second c.if-is_same_word-4.ensures c.is_same_word-else-is_same_word-4.ensures words
 
 pub returns-then-length-eq5 : goal.returns-then-length-eq5
 returns-then-length-eq5 c =
@@ -26,6 +30,7 @@ returns-then-length-eq5 c =
 
 pub returns-else-length-eq5 : goal.returns-else-length-eq5
 returns-else-length-eq5 c =
-    let none = none_of_length (length c.args.text.now) c.if-length-eq1.false c.if-length-eq2.false c.if-length-eq3.false c.if-length-eq4.false c.if-length-eq5.false in
-    ne_eqb (length c.args.text.now) 5 c.if-length-eq5.false
-    ∙ sym (special_of_length _ (length c.args.text.now) (same_length c.requires) ∙ ap (is_among _) none)
+    let n = length c.args.text.now in
+    let from_three = none_of_length n c.if-length-eq1.false c.if-length-eq2.false in
+    let none = from_three c.if-length-eq3.false c.if-length-eq4.false c.if-length-eq5.false in
+    ne_eqb n 5 c.if-length-eq5.false ∙ sym (special_of_length _ n (same_length c.requires) ∙ ap (is_among _) none)

@@ -1,4 +1,4 @@
-use Rattle.std.proofs.Common.{◌≡◌, ◌+◌, ◌*◌, ◌<◌, ◌++◌, drop, length, codes, subst, sym, ap, ◌∙◌, arith}
+use Rattle.std.proofs.Common.{◌≡◌, ◌+◌, ◌*◌, ◌<◌, ◌++◌, drop, length, codes, subst, refl, sym, ap, ◌∙◌, arith}
 use Rattle.std.proofs.lemmas.Bool.{eqb-true, eqb-false}
 use Rattle.std.proofs.lemmas.List.{drop_all}
 use Rattle.std.proofs.lemmas.Result.{on_ok_weaker}
@@ -11,7 +11,7 @@ use Rattle.yaml_grammar.specs.Style.{key_lines, elements_at, element_at, members
 use Rattle.yaml_tree.specs.Seen.{tree_of, elements_of, members_of}
 use Rattle.yaml_tree.proofs.ListLemmas.{drop_item}
 use Rattle.yaml_tree.proofs.SeenLemmas.{tree_of-Text, tree_of-Seq, tree_of-Map}
-use Rattle.yaml_tree.proofs.StyleLemmas.{chars-dash, chars-no_element, chars-no_member, chars-no_element_value, chars-no_member_value}
+use Rattle.yaml_tree.proofs.CharacterLemmas.{chars-literal}
 use Rattle.yaml_tree.proofs.WalkLemmas.{elements_led, members_led, elements_led-same, members_led-same, elements_led-first, members_led-first, elements_at-empty, members_at-empty, sequence_value-empty, mapping_value-empty, sequence_value, mapping_value, line_taken, none_taken}
 use Rattle.yaml_tree.proofs.style.+lines.Goals as goal
 
@@ -21,7 +21,7 @@ pub write_elements-returns-then-is_empty : goal.write_elements-returns-then-is_e
 write_elements-returns-then-is_empty g t c =
     let same = sym (elements_at-empty c.args.items.now c.args.indent (eqb-true _ _ (sym c.if-is_empty.ensures))) in
     on_ok_weaker c.put_text.result
-    (subst (λ cs. g.S.Sink.Takes c.args.sink.now cs c.put_text.new.self) (chars-no_element ∙ same))
+    (subst (λ cs. g.S.Sink.Takes c.args.sink.now cs c.put_text.new.self) (chars-literal (codes "[]\n") refl ∙ same))
     c.put_text.ensures
 
 pub write_elements-loop-item-preserved : goal.write_elements-loop-item-preserved
@@ -32,8 +32,11 @@ write_elements-loop-item-preserved g t c =
     let deep = ap (λ ts. elements_depth (elements_of ts)) here in
     let rows = ap (λ ts. elements_led l.lead (elements_of ts) c.args.indent) here in
     let same = elements_led-same (elements_of (drop (l.item-index + 1) items)) c.args.indent in
-    let dash = subst (λ cs. g.S.Sink.Takes c.put_spaces.new.self cs c.put_text-in-loop-item.new.self) chars-dash c.in_ok-put_text.ensures in
-    let taken = line_taken g.S.Sink.Takes g.met.S.Sink.takes_both rows same c.in_ok-put_spaces.ensures dash c.in_ok-write_element.ensures in
+    let mark = chars-literal (codes "- ") refl in
+    let Takes = g.S.Sink.Takes in
+    let dash = subst (λ cs. Takes c.put_spaces.new.self cs c.put_text-in-loop-item.new.self) mark c.in_ok-put_text.ensures in
+    let line = line_taken Takes g.met.S.Sink.takes_both rows same in
+    let taken = line c.in_ok-put_spaces.ensures dash c.in_ok-write_element.ensures in
     (omega (arith, deep, l.invariant.0), λ end left. l.invariant.1 end (taken end left))
 
 pub write_elements-returns : goal.write_elements-returns
@@ -42,7 +45,8 @@ write_elements-returns g t c =
     let items = c.args.items.now in
     let none = drop_all l.item-index items (omega arith) in
     let first = elements_led-first items c.args.indent (eqb-false _ _ (sym c.if-is_empty.ensures)) in
-    none_taken g.S.Sink.Takes g.met.S.Sink.takes_none (ap (λ ts. elements_led l.lead (elements_of ts) c.args.indent) none) first (l.invariant.1 l.sink)
+    let empty = ap (λ ts. elements_led l.lead (elements_of ts) c.args.indent) none in
+    none_taken g.S.Sink.Takes g.met.S.Sink.takes_none empty first (l.invariant.1 l.sink)
 
 -- ---- mappings
 
@@ -50,7 +54,7 @@ pub write_members-returns-then-is_empty : goal.write_members-returns-then-is_emp
 write_members-returns-then-is_empty g t c =
     let same = sym (members_at-empty c.args.pairs.now c.args.indent (eqb-true _ _ (sym c.if-is_empty.ensures))) in
     on_ok_weaker c.put_text.result
-    (subst (λ cs. g.S.Sink.Takes c.args.sink.now cs c.put_text.new.self) (chars-no_member ∙ same))
+    (subst (λ cs. g.S.Sink.Takes c.args.sink.now cs c.put_text.new.self) (chars-literal (codes "{}\n") refl ∙ same))
     c.put_text.ensures
 
 pub write_members-write_value_lines-requires : goal.write_members-write_value_lines-requires
@@ -71,8 +75,11 @@ write_members-loop-key-preserved g t c =
     let deep = ap (λ ms. members_depth (members_of ms)) here in
     let rows = ap (λ ms. members_led l.lead (members_of ms) c.args.indent) here in
     let same = members_led-same (members_of (drop (l.key-index + 1) pairs)) c.args.indent in
-    let key = subst (λ bytes. g.S.Sink.Takes c.put_spaces.new.self (key_lines c.args.indent (chars bytes)) c.write_key.new.sink) c.deref.ensures c.in_ok-write_key.ensures in
-    let taken = line_taken g.S.Sink.Takes g.met.S.Sink.takes_both rows same c.in_ok-put_spaces.ensures key c.in_ok-write_value_lines.ensures in
+    let own = ap (λ bytes. key_lines c.args.indent (chars bytes)) c.deref.ensures in
+    let Takes = g.S.Sink.Takes in
+    let key = subst (λ cs. Takes c.put_spaces.new.self cs c.write_key.new.sink) own c.in_ok-write_key.ensures in
+    let line = line_taken Takes g.met.S.Sink.takes_both rows same in
+    let taken = line c.in_ok-put_spaces.ensures key c.in_ok-write_value_lines.ensures in
     (omega (arith, deep, l.invariant.0), λ end left. l.invariant.1 end (taken end left))
 
 pub write_members-returns : goal.write_members-returns
@@ -81,7 +88,8 @@ write_members-returns g t c =
     let pairs = c.args.pairs.now in
     let none = drop_all l.key-index pairs (omega arith) in
     let first = members_led-first pairs c.args.indent (eqb-false _ _ (sym c.if-is_empty.ensures)) in
-    none_taken g.S.Sink.Takes g.met.S.Sink.takes_none (ap (λ ms. members_led l.lead (members_of ms) c.args.indent) none) first (l.invariant.1 l.sink)
+    let empty = ap (λ ms. members_led l.lead (members_of ms) c.args.indent) none in
+    none_taken g.S.Sink.Takes g.met.S.Sink.takes_none empty first (l.invariant.1 l.sink)
 
 -- ---- an element, a value
 
@@ -110,7 +118,7 @@ write_value_lines-returns-then-is_empty g t c =
     let seen = ap (λ tree. value_at tree c.args.indent) (ap tree_of c.in-Seq.is ∙ tree_of-Seq items) in
     on_ok_weaker c.put_text.result
     (subst (λ cs. g.S.Sink.Takes c.args.sink.now cs c.put_text.new.self)
-    (chars-no_element_value ∙ sym (sequence_value-empty items.items c.args.indent none) ∙ sym seen))
+    (chars-literal (codes " []\n") refl ∙ sym (sequence_value-empty items.items c.args.indent none) ∙ sym seen))
     c.put_text.ensures
 
 pub write_value_lines-returns-in_ok-put_spaces-in-Seq : goal.write_value_lines-returns-in_ok-put_spaces-in-Seq
@@ -135,7 +143,7 @@ write_value_lines-returns-then-is_empty-2 g t c =
     let seen = ap (λ tree. value_at tree c.args.indent) (ap tree_of c.in-Map.is ∙ tree_of-Map pairs) in
     on_ok_weaker c.put_text-then-is_empty-2.result
     (subst (λ cs. g.S.Sink.Takes c.args.sink.now cs c.put_text-then-is_empty-2.new.self)
-    (chars-no_member_value ∙ sym (mapping_value-empty pairs.items c.args.indent none) ∙ sym seen))
+    (chars-literal (codes " {}\n") refl ∙ sym (mapping_value-empty pairs.items c.args.indent none) ∙ sym seen))
     c.put_text-then-is_empty-2.ensures
 
 pub write_value_lines-returns-in_ok-put_spaces-in-Map : goal.write_value_lines-returns-in_ok-put_spaces-in-Map

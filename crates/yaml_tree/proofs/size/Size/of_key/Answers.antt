@@ -1,7 +1,6 @@
-use Rattle.std.proofs.Common.{◌≡◌, ◌-◌, arith}
+use Rattle.std.proofs.Common.{◌∙◌, arith}
 use Rattle.std.specs.Str.{chars}
-use Rattle.yaml_tree.specs.Sizes.{indented_key_lines}
-use Rattle.yaml_tree.proofs.SizeLaws.{key_law, sized}
+use Rattle.yaml_tree.proofs.SizeLaws.{key_law, size_from}
 use Rattle.yaml_tree.proofs.ByteLemmas.{byte_len-chars}
 use Rattle.yaml_tree.proofs.SizeBounds.{key_bytes_bound, key_lines_bound}
 use Rattle.yaml_tree.proofs.size.Size.of_key.Goals as goal
@@ -10,10 +9,7 @@ pub overflow_sub-result : goal.overflow_sub-result
 overflow_sub-result c = omega (arith, key_law 1 (chars c.args.key.now))
 
 pub returns-clause-size : goal.returns-clause-size
-returns-clause-size c =
-    let more = key_law 1 (chars c.args.key.now) in
-    let lines : c.key_length.result - c.key_length-bytes.result ≡ indented_key_lines (chars c.args.key.now) = omega (arith, more) in
-    sized c.key_length-bytes.ensures lines
+returns-clause-size c = size_from c.key_length-bytes.ensures (c.key_length.ensures ∙ key_law 1 (chars c.args.key.now))
 
 pub returns-clause-small : goal.returns-clause-small
 returns-clause-small c =
