@@ -7,7 +7,7 @@ use Rattle.std.proofs.lemmas.Str.{encode_ascii, chars-append, encodes-chars, enc
 use Rattle.std.specs.Char.{to_ascii_lowercase}
 use Rattle.std.specs.Str.{chars}
 use Rattle.yaml_chars.specs.Classes.{in_range, is_in, printable}
-use Rattle.yaml_chars.specs.Signs.{line_feed}
+use Rattle.yaml_chars.specs.Signs.{line_feed, no_break_space, line_separator, paragraph_separator, byte_order_mark}
 use Rattle.std.specs.List.{list_all}
 use Rattle.yaml_grammar.specs.Style.{word_char, lower, feeds_at_end, shown_or_feed}
 use Rattle.yaml_tree.specs.Runs.{ascii_in_lines}
@@ -30,7 +30,7 @@ all_shown : (cs : List ℕ) → list_all ascii_in_lines cs ≡ true → list_all
 all_shown [] e = refl
 all_shown (c ∷ cs) e =
     let parts = and_parts (ascii_in_lines c) (list_all ascii_in_lines cs) e in
-    let beyond = nat_le 0xa0 c && printable c && not (is_in c (0x2028 ∷ 0x2029 ∷ 0xfeff ∷ [])) in
+    let beyond = nat_le no_break_space c && printable c && not (is_in c (line_separator ∷ paragraph_separator ∷ byte_order_mark ∷ [])) in
     and_from (shown_or_feed c) (list_all shown_or_feed cs) (either_shown (in_range 0x20 0x7e c) (c == line_feed) beyond parts.0) (all_shown cs parts.1)
 
 -- ASCII characters that a literal shows, and line feeds, are shown characters and line feeds
@@ -48,27 +48,27 @@ map-lower (c ∷ cs) = ap₂ (λ d ds. d ∷ ds) (same_lower c) (map-lower cs)
 -- ---- line feeds at the end
 
 abbrev is_feed : ℕ → Bool
-is_feed c = c == 10
+is_feed c = c == line_feed
 
 -- one more at the end
-pub feeds_at_end-feed : (xs : List ℕ) → feeds_at_end (xs ++ 10 ∷ []) ≡ suc (feeds_at_end xs)
+pub feeds_at_end-feed : (xs : List ℕ) → feeds_at_end (xs ++ line_feed ∷ []) ≡ suc (feeds_at_end xs)
 feeds_at_end-feed [] = refl
 feeds_at_end-feed (x ∷ xs) =
-    rw (every-push is_feed (x ∷ xs) 10 refl)
-    (if-suc (list_all is_feed (x ∷ xs)) _ _ _ _ (ap suc (omega (arith, length-append xs (10 ∷ [])))) (feeds_at_end-feed xs))
+    rw (every-push is_feed (x ∷ xs) line_feed refl)
+    (if-suc (list_all is_feed (x ∷ xs)) _ _ _ _ (ap suc (omega (arith, length-append xs (line_feed ∷ [])))) (feeds_at_end-feed xs))
   where
     if-suc : (b : Bool) (m n p q : ℕ) → m ≡ suc p → n ≡ suc q → (if b then m else n) ≡ suc (if b then p else q)
     if-suc true m n p q e f = e
     if-suc false m n p q e f = f
 
-ends_in_feed : (x : ℕ) (xs : List ℕ) → list_all is_feed (x ∷ xs) ≡ true → (prefix : List ℕ) × (x ∷ xs ≡ prefix ++ 10 ∷ [])
-ends_in_feed x [] e = ([], ap (λ d. d ∷ []) (eqb-true x 10 (and_parts (x == 10) true e).0))
+ends_in_feed : (x : ℕ) (xs : List ℕ) → list_all is_feed (x ∷ xs) ≡ true → (prefix : List ℕ) × (x ∷ xs ≡ prefix ++ line_feed ∷ [])
+ends_in_feed x [] e = ([], ap (λ d. d ∷ []) (eqb-true x line_feed (and_parts (x == line_feed) true e).0))
 ends_in_feed x (y ∷ ys) e =
-    let after = ends_in_feed y ys (and_parts (x == 10) (list_all is_feed (y ∷ ys)) e).1 in
+    let after = ends_in_feed y ys (and_parts (x == line_feed) (list_all is_feed (y ∷ ys)) e).1 in
     (x ∷ after.0, ap (λ zs. x ∷ zs) after.1)
 
 -- none where the text doesn't end in one
-pub feeds_at_end-none : (xs : List ℕ) → ((prefix : List ℕ) → xs ≡ prefix ++ 10 ∷ [] → ⊥) → feeds_at_end xs ≡ 0
+pub feeds_at_end-none : (xs : List ℕ) → ((prefix : List ℕ) → xs ≡ prefix ++ line_feed ∷ [] → ⊥) → feeds_at_end xs ≡ 0
 feeds_at_end-none [] none = refl
 feeds_at_end-none (x ∷ xs) none =
     if-zero (list_all is_feed (x ∷ xs)) _ _
@@ -80,24 +80,24 @@ feeds_at_end-none (x ∷ xs) none =
     if-zero false m n never e = e
 
 -- the same of a text's bytes
-pub no_feed_at_end : (bs : List ℕ) → IsUtf8 bs → ((prefix : List ℕ) → bs ≡ prefix ++ 10 ∷ [] → ⊥) → feeds_at_end (chars bs) ≡ 0
+pub no_feed_at_end : (bs : List ℕ) → IsUtf8 bs → ((prefix : List ℕ) → bs ≡ prefix ++ line_feed ∷ [] → ⊥) → feeds_at_end (chars bs) ≡ 0
 no_feed_at_end bs utf8 none =
     feeds_at_end-none (chars bs)
-    (λ prefix e. none (encode_utf8_all prefix) (sym (encodes-chars bs utf8) ∙ ap encode_utf8_all e ∙ encodes-append prefix (10 ∷ [])
-    ∙ ap (λ bytes. encode_utf8_all prefix ++ (bytes ++ [])) (encode_ascii 10 (lit< tt))))
+    (λ prefix e. none (encode_utf8_all prefix) (sym (encodes-chars bs utf8) ∙ ap encode_utf8_all e ∙ encodes-append prefix (line_feed ∷ [])
+    ∙ ap (λ bytes. encode_utf8_all prefix ++ (bytes ++ [])) (encode_ascii line_feed (lit< tt))))
 
 -- what comes before a last line feed in UTF-8 is UTF-8
-pub prefix_IsUtf8 : (bs prefix : List ℕ) → IsUtf8 bs → bs ≡ prefix ++ 10 ∷ [] → IsUtf8 prefix
+pub prefix_IsUtf8 : (bs prefix : List ℕ) → IsUtf8 bs → bs ≡ prefix ++ line_feed ∷ [] → IsUtf8 prefix
 prefix_IsUtf8 bs prefix utf8 e =
-    let within : length prefix < length bs = omega (arith, ap length e, length-append prefix (10 ∷ [])) in
-    let feed : get_or bs (length prefix) 0 ≡ 10 = rw e (get_or-append_seam prefix 10 [] 0) in
-    subst IsUtf8 (ap (take (length prefix)) e ∙ take-append_seam prefix (10 ∷ []))
+    let within : length prefix < length bs = omega (arith, ap length e, length-append prefix (line_feed ∷ [])) in
+    let feed : get_or bs (length prefix) 0 ≡ line_feed = rw e (get_or-append_seam prefix line_feed [] 0) in
+    subst IsUtf8 (ap (take (length prefix)) e ∙ take-append_seam prefix (line_feed ∷ []))
     (IsUtf8-take bs (length prefix) utf8 (IsCharBoundary-before_ascii bs (length prefix) within (omega (arith, feed))))
 
 -- a line feed at the end counts one more
-pub feed_at_end : (bs prefix : List ℕ) → IsUtf8 bs → bs ≡ prefix ++ 10 ∷ [] → feeds_at_end (chars bs) ≡ suc (feeds_at_end (chars prefix))
+pub feed_at_end : (bs prefix : List ℕ) → IsUtf8 bs → bs ≡ prefix ++ line_feed ∷ [] → feeds_at_end (chars bs) ≡ suc (feeds_at_end (chars prefix))
 unfolding chars
 feed_at_end bs prefix utf8 e =
     ap (λ xs. feeds_at_end (chars xs)) e
-    ∙ ap feeds_at_end (chars-append prefix (10 ∷ []) (prefix_IsUtf8 bs prefix utf8 e))
+    ∙ ap feeds_at_end (chars-append prefix (line_feed ∷ []) (prefix_IsUtf8 bs prefix utf8 e))
     ∙ feeds_at_end-feed (chars prefix)

@@ -4,6 +4,7 @@ use Rattle.std.proofs.Common.{◌≡◌, ℕ, zero, suc, ◌+◌, ◌*◌, ◌/�
 use Rattle.std.proofs.lemmas.Bool.Decides.{nat_tests}
 use Rattle.std.proofs.lemmas.Str.{len_utf8_bounds}
 use Rattle.yaml_chars.specs.Classes.{in_range}
+use Rattle.yaml_chars.specs.Signs.{null, bell, line_feed, carriage_return, escape_char, double_quote, backslash}
 use Rattle.yaml_grammar.specs.Texts.{byte_len, spaces}
 use Rattle.yaml_grammar.specs.Trees.{Tree, text, sequence, mapping, Elements, no_element, element, Members, no_member, member}
 use Rattle.yaml_grammar.specs.Style.{shown as is_shown, hex, letter_escape, quoted_char, quoted_chars, plain_in_style, literal_in_style, in_double_quotes, literal_mark, literal_lines, feeds_at_end, scalar_lines, key_text, long_key, key_lines, elements_at, elements_after, element_at, members_at, members_after, value_at, style_text}
@@ -13,12 +14,12 @@ use Rattle.yaml_tree.proofs.SizeLaws.{three, four, scalar_law, elements_law, mem
 
 literal_bound : (fresh : Bool) (cs : List ℕ) → indented_literal_lines fresh cs ≤ byte_len (literal_lines 0 fresh cs)
 literal_bound fresh [] = omega arith
-literal_bound fresh (c ∷ cs) = by (c == 10) fresh (literal_bound true cs) (literal_bound false cs)
+literal_bound fresh (c ∷ cs) = by (c == line_feed) fresh (literal_bound true cs) (literal_bound false cs)
   where
     by : (feed starts : Bool) → indented_literal_lines true cs ≤ byte_len (literal_lines 0 true cs)
         → indented_literal_lines false cs ≤ byte_len (literal_lines 0 false cs)
         → (if feed then indented_literal_lines true cs else (if starts then 1 else 0) + indented_literal_lines false cs)
-        ≤ byte_len (if feed then 10 ∷ literal_lines 0 true cs else (if starts then spaces 0 else []) ++ c ∷ literal_lines 0 false cs)
+        ≤ byte_len (if feed then line_feed ∷ literal_lines 0 true cs else (if starts then spaces 0 else []) ++ c ∷ literal_lines 0 false cs)
     by true starts on off = omega (arith, on)
     by false true on off = omega (arith, off, len_utf8_bounds c)
     by false false on off = omega (arith, off)
@@ -57,9 +58,9 @@ key_lines_bound key = by (long_key key)
 -- a key has at most 24 bytes for each byte of its text, and six more
 quoted_char_short : (c : ℕ) → length (quoted_char c) ≤ 6
 quoted_char_short c =
-    by ((c == 34) || (c == 92)) (is_shown c) ((c == 0) || in_range 7 13 c || (c == 27)) (nat_le c 0xff)
+    by ((c == double_quote) || (c == backslash)) (is_shown c) ((c == null) || in_range bell carriage_return c || (c == escape_char)) (nat_le c 0xff)
   where
-    by : (sign itself named short : Bool) → length (if sign then 92 ∷ c ∷ [] else if itself then c ∷ [] else if named then 92 ∷ letter_escape c ∷ []
+    by : (sign itself named short : Bool) → length (if sign then backslash ∷ c ∷ [] else if itself then c ∷ [] else if named then backslash ∷ letter_escape c ∷ []
         else if short then codes "\\x" ++ hex (c / 16) ∷ hex (c % 16) ∷ []
         else codes "\\u" ++ hex (c / 4096) ∷ hex (c / 256 % 16) ∷ hex (c / 16 % 16) ∷ hex (c % 16) ∷ []) ≤ 6
     by true itself named short = omega arith

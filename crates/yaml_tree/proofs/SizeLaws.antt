@@ -1,5 +1,6 @@
 -- The length of a part at any indentation, by its size.
 use Rattle.std.proofs.Common.{◌≡◌, ℕ, zero, suc, ◌+◌, ◌-◌, ◌*◌, ◌==◌, Bool, true, false, if◌then◌else◌, List, [], ◌∷◌, ◌++◌, codes, refl, ap₂, arith}
+use Rattle.yaml_chars.specs.Signs.{line_feed}
 use Rattle.yaml_grammar.specs.Texts.{byte_len, spaces}
 use Rattle.yaml_grammar.specs.Trees.{Tree, text, sequence, mapping, Elements, no_element, element, Members, no_member, member}
 use Rattle.yaml_grammar.specs.Style.{plain_in_style, literal_in_style, in_double_quotes, literal_mark, literal_lines, feeds_at_end, scalar_lines, key_text, long_key, key_lines, elements_at, elements_after, element_at, members_at, members_after, value_at}
@@ -39,13 +40,13 @@ size_from {bytes = bytes} {more = more} {n = n} p q =
 literal_law : (j : ℕ) (fresh : Bool) (cs : List ℕ)
     → byte_len (literal_lines j fresh cs) ≡ byte_len (literal_lines 0 fresh cs) + j * indented_literal_lines fresh cs
 literal_law j fresh [] = omega arith
-literal_law j fresh (c ∷ cs) = by (c == 10) fresh (literal_law j true cs) (literal_law j false cs)
+literal_law j fresh (c ∷ cs) = by (c == line_feed) fresh (literal_law j true cs) (literal_law j false cs)
   where
     by : (feed starts : Bool)
         → byte_len (literal_lines j true cs) ≡ byte_len (literal_lines 0 true cs) + j * indented_literal_lines true cs
         → byte_len (literal_lines j false cs) ≡ byte_len (literal_lines 0 false cs) + j * indented_literal_lines false cs
-        → byte_len (if feed then 10 ∷ literal_lines j true cs else (if starts then spaces j else []) ++ c ∷ literal_lines j false cs)
-        ≡ byte_len (if feed then 10 ∷ literal_lines 0 true cs else (if starts then spaces 0 else []) ++ c ∷ literal_lines 0 false cs)
+        → byte_len (if feed then line_feed ∷ literal_lines j true cs else (if starts then spaces j else []) ++ c ∷ literal_lines j false cs)
+        ≡ byte_len (if feed then line_feed ∷ literal_lines 0 true cs else (if starts then spaces 0 else []) ++ c ∷ literal_lines 0 false cs)
         + j * (if feed then indented_literal_lines true cs else (if starts then 1 else 0) + indented_literal_lines false cs)
     by true starts on off = omega (arith, on)
     by false true on off =

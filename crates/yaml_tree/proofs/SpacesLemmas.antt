@@ -1,9 +1,10 @@
 -- Spaces in UTF-8.
 use Rattle.std.proofs.Common.{◌≡◌, ℕ, zero, suc, ◌++◌, encode_utf8_all, refl, ap₂, lit<}
 use Rattle.std.proofs.lemmas.Str.{encode_ascii}
+use Rattle.yaml_chars.specs.Signs.{space_char}
 use Rattle.yaml_grammar.specs.Texts.{spaces}
 
 -- spaces are their own bytes
 pub encoded_spaces : (n : ℕ) → encode_utf8_all (spaces n) ≡ spaces n
 encoded_spaces zero = refl
-encoded_spaces (suc n) = ap₂ (λ first rest. first ++ rest) (encode_ascii 32 (lit< tt)) (encoded_spaces n)
+encoded_spaces (suc n) = ap₂ (λ first rest. first ++ rest) (encode_ascii space_char (lit< tt)) (encoded_spaces n)

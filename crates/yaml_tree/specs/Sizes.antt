@@ -1,6 +1,7 @@
 -- How the length of a part grows with its indentation: at the indentation i it has as many bytes as at 0, and i more
 -- for each of its lines that is indented. The empty lines of a literal aren't, nor is a part's first line.
 use Rattle.std.specs.Prelude.{ℕ, ◌+◌, ◌*◌, ◌==◌, Bool, true, false, List, [], ◌∷◌, if◌then◌else◌}
+use Rattle.yaml_chars.specs.Signs.{line_feed}
 use Rattle.yaml_grammar.specs.Texts.{byte_len}
 use Rattle.yaml_grammar.specs.Trees.{Tree, text, sequence, mapping, Elements, no_element, element, Members, no_member, member}
 use Rattle.yaml_grammar.specs.Style.{plain_in_style, literal_in_style, long_key, key_lines, element_at, value_at}
@@ -16,7 +17,7 @@ length_at size i = size.bytes + i * size.lines
 abbrev pub indented_literal_lines : Bool → List ℕ → ℕ
 indented_literal_lines fresh [] = 0
 indented_literal_lines fresh (c ∷ cs) =
-    if c == 10 then indented_literal_lines true cs else (if fresh then 1 else 0) + indented_literal_lines false cs
+    if c == line_feed then indented_literal_lines true cs else (if fresh then 1 else 0) + indented_literal_lines false cs
 
 abbrev pub indented_scalar_lines : List ℕ → ℕ
 indented_scalar_lines value =

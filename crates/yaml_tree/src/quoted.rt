@@ -2,6 +2,7 @@
 ghost use Rattle.std.specs.Prelude.{◌≡◌, ◌≤◌, ◌<◌, ◌/◌, ◌%◌, ◌^◌, ◌∷◌, [], true, false, ◌==◌, ◌||◌, length, take, OnOk, MatchOption};
 ghost use Rattle.std.specs.Str.{chars};
 ghost use Rattle.yaml_chars.specs.Classes.{in_range};
+ghost use Rattle.yaml_chars.specs.Signs.{null, bell, carriage_return, escape_char, backslash};
 ghost use Rattle.std.specs.List.{list_all};
 ghost use Rattle.yaml_grammar.specs.Style.{hex, letter_escape, quoted_char, quoted_chars, in_double_quotes};
 ghost use Rattle.yaml_tree.specs.Runs.{stands_alone, number_escape};
@@ -78,7 +79,7 @@ fn write_quoted_char<S: Sink>(c: char, sink: &mut S) -> Result<(), S::Fault>
 
 /// Writes a backslash and a character.
 fn write_escape<S: Sink>(c: char, sink: &mut S) -> Result<(), S::Fault>
-    ensures { OnOk result (S.Takes sink.old (92 ∷ c ∷ []) sink.new) }
+    ensures { OnOk result (S.Takes sink.old (backslash ∷ c ∷ []) sink.new) }
 {
     sink.put_char('\\')?;
     sink.put_char(c)
@@ -87,8 +88,9 @@ fn write_escape<S: Sink>(c: char, sink: &mut S) -> Result<(), S::Fault>
 /// The letter that means a control character after a backslash, if there is one.
 fn escape_letter(c: char) -> Option<char>
     ensures { MatchOption result
-        ((c == 0) || in_range 7 13 c || (c == 27) ≡ false)
-        (λ letter. ((c == 0) || in_range 7 13 c || (c == 27) ≡ true) × (letter ≡ letter_escape c)) }
+        ((c == null) || in_range bell carriage_return c || (c == escape_char) ≡ false)
+        (λ letter. ((c == null) || in_range bell carriage_return c || (c == escape_char) ≡ true)
+        × (letter ≡ letter_escape c)) }
 {
     match c {
         '\0' => Some('0'),

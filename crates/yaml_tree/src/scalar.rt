@@ -5,6 +5,7 @@ ghost use Rattle.yaml_grammar.specs.Style.{letter, word_char, shown, plain_in_st
 ghost use Rattle.std.specs.List.{list_all};
 ghost use Rattle.yaml_grammar.specs.Texts.{first, same_text};
 ghost use Rattle.yaml_chars.specs.Classes.{is_in};
+ghost use Rattle.yaml_chars.specs.Signs.{line_feed};
 ghost use Rattle.yaml_tree.specs.ScalarStyles.{value_style, key_style, literal_style};
 
 use crate::bytes::{are_in_lines, is_word_byte};
@@ -122,7 +123,7 @@ fn is_shown_in_lines(text: &str) -> bool
 }
 
 fn has_feed(text: &str) -> bool
-    ensures { result ≡ is_in 10 (chars text.now) }
+    ensures { result ≡ is_in line_feed (chars text.now) }
 {
     text.split_once('\n').is_some()
 }

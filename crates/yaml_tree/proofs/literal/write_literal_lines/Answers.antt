@@ -3,6 +3,7 @@ use Rattle.std.proofs.lemmas.Bool.{eqb-true, eqb-false}
 use Rattle.std.proofs.lemmas.Result.{on_ok_weaker}
 use Rattle.std.proofs.lemmas.Str.Pattern.{split_parts}
 use Rattle.std.specs.Str.{chars, NoCharPasses}
+use Rattle.yaml_chars.specs.Signs.{line_feed}
 use Rattle.yaml_grammar.specs.Style.{literal_lines}
 use Rattle.yaml_tree.proofs.LiteralLemmas.{literal_line, literal_last, line_IsUtf8, after_IsUtf8, line_is_one, chars-lines}
 use Rattle.yaml_tree.proofs.CharacterLemmas.{chars_empty, chars_filled}
@@ -15,8 +16,8 @@ loop-line-preserved g c =
     let line = c.in-Some.line.now in
     let after = c.in-Some.after.now in
     let clause = c.in-Some.ensures.cases in
-    let cut = (split_parts 10 rest (Some (c.in-Some.line, c.in-Some.after)) clause (lit< tt)).0 in
-    let one = line_is_one line (line_IsUtf8 rest line after utf8 cut) (subst (NoCharPasses (λ d. d == 10)) (sym clause.3) clause.2.0) in (
+    let cut = (split_parts line_feed rest (Some (c.in-Some.line, c.in-Some.after)) clause (lit< tt)).0 in
+    let one = line_is_one line (line_IsUtf8 rest line after utf8 cut) (subst (NoCharPasses (λ d. d == line_feed)) (sym clause.3) clause.2.0) in (
       after_IsUtf8 rest line after utf8 cut,
       λ end left. c.loop-line.invariant.1 end
           (subst (λ cs. g.S.Sink.Takes c.loop-line.sink cs end)
