@@ -18,7 +18,8 @@ use Rattle.yaml_tree.specs.Lines.{line_text}
 abbrev pub IsOneLine : List ℕ → Type 0
 IsOneLine cs = NonePass (λ d. d == line_feed) cs
 
-within_line : (j : ℕ) (xs ys : List ℕ) → IsOneLine xs → literal_lines j false (xs ++ line_feed ∷ ys) ≡ xs ++ line_feed ∷ literal_lines j true ys
+within_line : (j : ℕ) (xs ys : List ℕ) → IsOneLine xs
+    → literal_lines j false (xs ++ line_feed ∷ ys) ≡ xs ++ line_feed ∷ literal_lines j true ys
 within_line j [] ys one = refl
 within_line j (x ∷ xs) ys one = rw one.0 (ap (λ cs. x ∷ cs) (within_line j xs ys one.1))
 
@@ -27,7 +28,8 @@ within_last j [] one = refl
 within_last j (x ∷ xs) one = rw one.0 (ap (λ cs. x ∷ cs) (within_last j xs one.1))
 
 -- a line and what comes after it
-pub literal_line : (j : ℕ) (xs ys : List ℕ) → IsOneLine xs → line_text j xs ++ literal_lines j true ys ≡ literal_lines j true (xs ++ line_feed ∷ ys)
+pub literal_line : (j : ℕ) (xs ys : List ℕ) → IsOneLine xs
+    → line_text j xs ++ literal_lines j true ys ≡ literal_lines j true (xs ++ line_feed ∷ ys)
 literal_line j [] ys one = refl
 literal_line j (x ∷ xs) ys one =
     rw one.0 (simp append_assoc (ap (λ cs. spaces j ++ x ∷ cs) (sym (within_line j xs ys one.1))))
@@ -59,7 +61,8 @@ pub line_is_one : (bs : List ℕ) → IsUtf8 bs → NoCharPasses (λ d. d == lin
 line_is_one bs utf8 none = subst IsOneLine (chars_from_encodes none.0 bs utf8 none.1) none.2
 
 -- the characters of a text are those before a line feed, the line feed, and those after it
-pub chars-lines : (bs prefix after : List ℕ) → IsUtf8 bs → bs ≡ prefix ++ line_feed ∷ after → chars bs ≡ chars prefix ++ line_feed ∷ chars after
+pub chars-lines : (bs prefix after : List ℕ) → IsUtf8 bs → bs ≡ prefix ++ line_feed ∷ after
+    → chars bs ≡ chars prefix ++ line_feed ∷ chars after
 chars-lines bs prefix after utf8 e =
     ap chars e ∙ chars-append prefix (line_feed ∷ after) (line_IsUtf8 bs prefix after utf8 e)
     ∙ ap (λ cs. chars prefix ++ cs) (chars-feed after)
@@ -95,8 +98,10 @@ in_none cs one = sym (list_any-is_in line_feed cs) ∙ none_passes cs one
     none_passes (x ∷ xs) n = rw n.0 (none_passes xs n.1)
 
 -- a cut at the first line feed is found exactly where there is one
-pub feed_found : (bs : List ℕ) (r : Option (Bor (List ℕ) × Bor (List ℕ))) → IsUtf8 bs → IsSplitOnceResult line_feed bs r → is_some r ≡ is_in line_feed (chars bs)
+pub feed_found : (bs : List ℕ) (r : Option (Bor (List ℕ) × Bor (List ℕ))) → IsUtf8 bs
+    → IsSplitOnceResult line_feed bs r → is_some r ≡ is_in line_feed (chars bs)
 feed_found bs None utf8 none = sym (in_none (chars bs) (line_is_one bs utf8 none))
 feed_found bs (Some x) utf8 h =
     let cut = (split_parts line_feed bs (Some x) h (lit< tt)).0 in
-    sym (ap (is_in line_feed) (chars-lines bs x.0.now x.1.now utf8 cut) ∙ in_after line_feed (chars x.0.now) (chars x.1.now))
+    sym (ap (is_in line_feed) (chars-lines bs x.0.now x.1.now utf8 cut)
+    ∙ in_after line_feed (chars x.0.now) (chars x.1.now))

@@ -30,7 +30,8 @@ all_shown : (cs : List ℕ) → list_all ascii_in_lines cs ≡ true → list_all
 all_shown [] e = refl
 all_shown (c ∷ cs) e =
     let parts = and_parts (ascii_in_lines c) (list_all ascii_in_lines cs) e in
-    let beyond = nat_le no_break_space c && printable c && not (is_in c (line_separator ∷ paragraph_separator ∷ byte_order_mark ∷ [])) in
+    let apart = line_separator ∷ paragraph_separator ∷ byte_order_mark ∷ [] in
+    let beyond = nat_le no_break_space c && printable c && not (is_in c apart) in
     and_from (shown_or_feed c) (list_all shown_or_feed cs) (either_shown (in_range 0x20 0x7e c) (c == line_feed) beyond parts.0) (all_shown cs parts.1)
 
 -- ASCII characters that a literal shows, and line feeds, are shown characters and line feeds
@@ -55,13 +56,15 @@ pub feeds_at_end-feed : (xs : List ℕ) → feeds_at_end (xs ++ line_feed ∷ []
 feeds_at_end-feed [] = refl
 feeds_at_end-feed (x ∷ xs) =
     rw (every-push is_feed (x ∷ xs) line_feed refl)
-    (if-suc (list_all is_feed (x ∷ xs)) _ _ _ _ (ap suc (omega (arith, length-append xs (line_feed ∷ [])))) (feeds_at_end-feed xs))
+    (if-suc (list_all is_feed (x ∷ xs)) _ _ _ _ (ap suc (omega (arith, length-append xs (line_feed ∷ []))))
+    (feeds_at_end-feed xs))
   where
     if-suc : (b : Bool) (m n p q : ℕ) → m ≡ suc p → n ≡ suc q → (if b then m else n) ≡ suc (if b then p else q)
     if-suc true m n p q e f = e
     if-suc false m n p q e f = f
 
-ends_in_feed : (x : ℕ) (xs : List ℕ) → list_all is_feed (x ∷ xs) ≡ true → (prefix : List ℕ) × (x ∷ xs ≡ prefix ++ line_feed ∷ [])
+ends_in_feed : (x : ℕ) (xs : List ℕ) → list_all is_feed (x ∷ xs) ≡ true
+    → (prefix : List ℕ) × (x ∷ xs ≡ prefix ++ line_feed ∷ [])
 ends_in_feed x [] e = ([], ap (λ d. d ∷ []) (eqb-true x line_feed (and_parts (x == line_feed) true e).0))
 ends_in_feed x (y ∷ ys) e =
     let after = ends_in_feed y ys (and_parts (x == line_feed) (list_all is_feed (y ∷ ys)) e).1 in
@@ -80,10 +83,12 @@ feeds_at_end-none (x ∷ xs) none =
     if-zero false m n never e = e
 
 -- the same of a text's bytes
-pub no_feed_at_end : (bs : List ℕ) → IsUtf8 bs → ((prefix : List ℕ) → bs ≡ prefix ++ line_feed ∷ [] → ⊥) → feeds_at_end (chars bs) ≡ 0
+pub no_feed_at_end : (bs : List ℕ) → IsUtf8 bs → ((prefix : List ℕ) → bs ≡ prefix ++ line_feed ∷ [] → ⊥)
+    → feeds_at_end (chars bs) ≡ 0
 no_feed_at_end bs utf8 none =
     feeds_at_end-none (chars bs)
-    (λ prefix e. none (encode_utf8_all prefix) (sym (encodes-chars bs utf8) ∙ ap encode_utf8_all e ∙ encodes-append prefix (line_feed ∷ [])
+    (λ prefix e. none (encode_utf8_all prefix) (sym (encodes-chars bs utf8) ∙ ap encode_utf8_all e
+    ∙ encodes-append prefix (line_feed ∷ [])
     ∙ ap (λ bytes. encode_utf8_all prefix ++ (bytes ++ [])) (encode_ascii line_feed (lit< tt))))
 
 -- what comes before a last line feed in UTF-8 is UTF-8
@@ -95,7 +100,8 @@ prefix_IsUtf8 bs prefix utf8 e =
     (IsUtf8-take bs (length prefix) utf8 (IsCharBoundary-before_ascii bs (length prefix) within (omega (arith, feed))))
 
 -- a line feed at the end counts one more
-pub feed_at_end : (bs prefix : List ℕ) → IsUtf8 bs → bs ≡ prefix ++ line_feed ∷ [] → feeds_at_end (chars bs) ≡ suc (feeds_at_end (chars prefix))
+pub feed_at_end : (bs prefix : List ℕ) → IsUtf8 bs → bs ≡ prefix ++ line_feed ∷ []
+    → feeds_at_end (chars bs) ≡ suc (feeds_at_end (chars prefix))
 unfolding chars
 feed_at_end bs prefix utf8 e =
     ap (λ xs. feeds_at_end (chars xs)) e

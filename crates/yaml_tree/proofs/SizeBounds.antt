@@ -19,7 +19,8 @@ literal_bound fresh (c ∷ cs) = by (c == line_feed) fresh (literal_bound true c
     by : (feed starts : Bool) → indented_literal_lines true cs ≤ byte_len (literal_lines 0 true cs)
         → indented_literal_lines false cs ≤ byte_len (literal_lines 0 false cs)
         → (if feed then indented_literal_lines true cs else (if starts then 1 else 0) + indented_literal_lines false cs)
-        ≤ byte_len (if feed then line_feed ∷ literal_lines 0 true cs else (if starts then spaces 0 else []) ++ c ∷ literal_lines 0 false cs)
+        ≤ byte_len (if feed then line_feed ∷ literal_lines 0 true cs
+        else (if starts then spaces 0 else []) ++ c ∷ literal_lines 0 false cs)
     by true starts on off = omega (arith, on)
     by false true on off = omega (arith, off, len_utf8_bounds c)
     by false false on off = omega (arith, off)
@@ -58,9 +59,12 @@ key_lines_bound key = by (long_key key)
 -- a key has at most 24 bytes for each byte of its text, and six more
 quoted_char_short : (c : ℕ) → length (quoted_char c) ≤ 6
 quoted_char_short c =
-    by ((c == double_quote) || (c == backslash)) (is_shown c) ((c == null) || in_range bell carriage_return c || (c == escape_char)) (nat_le c 0xff)
+    by ((c == double_quote) || (c == backslash)) (is_shown c)
+    ((c == null) || in_range bell carriage_return c || (c == escape_char)) (nat_le c 0xff)
   where
-    by : (sign itself named short : Bool) → length (if sign then backslash ∷ c ∷ [] else if itself then c ∷ [] else if named then backslash ∷ letter_escape c ∷ []
+    by : (sign itself named short : Bool) → length (if sign then backslash ∷ c ∷ []
+        else if itself then c ∷ []
+        else if named then backslash ∷ letter_escape c ∷ []
         else if short then codes "\\x" ++ hex (c / 16) ∷ hex (c % 16) ∷ []
         else codes "\\u" ++ hex (c / 4096) ∷ hex (c / 256 % 16) ∷ hex (c / 16 % 16) ∷ hex (c % 16) ∷ []) ≤ 6
     by true itself named short = omega arith

@@ -45,8 +45,10 @@ literal_law j fresh (c ∷ cs) = by (c == line_feed) fresh (literal_law j true c
     by : (feed starts : Bool)
         → byte_len (literal_lines j true cs) ≡ byte_len (literal_lines 0 true cs) + j * indented_literal_lines true cs
         → byte_len (literal_lines j false cs) ≡ byte_len (literal_lines 0 false cs) + j * indented_literal_lines false cs
-        → byte_len (if feed then line_feed ∷ literal_lines j true cs else (if starts then spaces j else []) ++ c ∷ literal_lines j false cs)
-        ≡ byte_len (if feed then line_feed ∷ literal_lines 0 true cs else (if starts then spaces 0 else []) ++ c ∷ literal_lines 0 false cs)
+        → byte_len (if feed then line_feed ∷ literal_lines j true cs
+        else (if starts then spaces j else []) ++ c ∷ literal_lines j false cs)
+        ≡ byte_len (if feed then line_feed ∷ literal_lines 0 true cs
+        else (if starts then spaces 0 else []) ++ c ∷ literal_lines 0 false cs)
         + j * (if feed then indented_literal_lines true cs else (if starts then 1 else 0) + indented_literal_lines false cs)
     by true starts on off = omega (arith, on)
     by false true on off =

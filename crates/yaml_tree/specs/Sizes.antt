@@ -17,7 +17,8 @@ length_at size i = size.bytes + i * size.lines
 abbrev pub indented_literal_lines : Bool → List ℕ → ℕ
 indented_literal_lines fresh [] = 0
 indented_literal_lines fresh (c ∷ cs) =
-    if c == line_feed then indented_literal_lines true cs else (if fresh then 1 else 0) + indented_literal_lines false cs
+    if c == line_feed then indented_literal_lines true cs
+    else (if fresh then 1 else 0) + indented_literal_lines false cs
 
 abbrev pub indented_scalar_lines : List ℕ → ℕ
 indented_scalar_lines value =

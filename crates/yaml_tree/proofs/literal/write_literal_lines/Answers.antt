@@ -17,7 +17,8 @@ loop-line-preserved g c =
     let after = c.in-Some.after.now in
     let clause = c.in-Some.ensures.cases in
     let cut = (split_parts line_feed rest (Some (c.in-Some.line, c.in-Some.after)) clause (lit< tt)).0 in
-    let one = line_is_one line (line_IsUtf8 rest line after utf8 cut) (subst (NoCharPasses (λ d. d == line_feed)) (sym clause.3) clause.2.0) in (
+    let no_feed = subst (NoCharPasses (λ d. d == line_feed)) (sym clause.3) clause.2.0 in
+    let one = line_is_one line (line_IsUtf8 rest line after utf8 cut) no_feed in (
       after_IsUtf8 rest line after utf8 cut,
       λ end left. c.loop-line.invariant.1 end
           (subst (λ cs. g.S.Sink.Takes c.loop-line.sink cs end)

@@ -9,7 +9,8 @@ use Rattle.yaml_tree.proofs.scalar.literal_style.Goals as goal
 pub returns-in-None : goal.returns-in-None
 returns-in-None c =
     let text = c.args.text.now in
-    sym (ap literal_style (no_feed_at_end text c.utf8.text (strip_suffix_char line_feed text None c.in-None.ensures.cases (lit< tt))))
+    let none = strip_suffix_char line_feed text None c.in-None.ensures.cases (lit< tt) in
+    sym (ap literal_style (no_feed_at_end text c.utf8.text none))
 
 pub returns-then-ends_with : goal.returns-then-ends_with
 returns-then-ends_with c =

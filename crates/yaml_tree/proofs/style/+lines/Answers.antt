@@ -34,7 +34,8 @@ write_elements-loop-item-preserved g t c =
     let same = elements_led-same (elements_of (drop (l.item-index + 1) items)) c.args.indent in
     let mark = chars-literal (codes "- ") refl in
     let Takes = g.S.Sink.Takes in
-    let dash = subst (λ cs. Takes c.put_spaces.new.self cs c.put_text-in-loop-item.new.self) mark c.in_ok-put_text.ensures in
+    let led = c.put_spaces.new.self in
+    let dash = subst (λ cs. Takes led cs c.put_text-in-loop-item.new.self) mark c.in_ok-put_text.ensures in
     let line = line_taken Takes g.met.S.Sink.takes_both rows same in
     let taken = line c.in_ok-put_spaces.ensures dash c.in_ok-write_element.ensures in
     (omega (arith, deep, l.invariant.0), λ end left. l.invariant.1 end (taken end left))
@@ -77,7 +78,8 @@ write_members-loop-key-preserved g t c =
     let same = members_led-same (members_of (drop (l.key-index + 1) pairs)) c.args.indent in
     let own = ap (λ bytes. key_lines c.args.indent (chars bytes)) c.deref.ensures in
     let Takes = g.S.Sink.Takes in
-    let key = subst (λ cs. Takes c.put_spaces.new.self cs c.write_key.new.sink) own c.in_ok-write_key.ensures in
+    let led = c.put_spaces.new.self in
+    let key = subst (λ cs. Takes led cs c.write_key.new.sink) own c.in_ok-write_key.ensures in
     let line = line_taken Takes g.met.S.Sink.takes_both rows same in
     let taken = line c.in_ok-put_spaces.ensures key c.in_ok-write_value_lines.ensures in
     (omega (arith, deep, l.invariant.0), λ end left. l.invariant.1 end (taken end left))

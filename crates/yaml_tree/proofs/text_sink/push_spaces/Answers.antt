@@ -15,8 +15,11 @@ loop-left-preserved c =
     ∙ c.loop-left.invariant
 
 pub range-requires-clause-end_boundary : goal.range-requires-clause-end_boundary
-range-requires-clause-end_boundary c =
-    (omega arith, λ within wide. let space = get_or-replicate {A = ℕ} 64 c.loop-left.left space_char 0 within in absurd (omega (arith, space, wide)))
+range-requires-clause-end_boundary c = (
+  omega arith,
+  λ within wide.
+      let space = get_or-replicate {A = ℕ} 64 c.loop-left.left space_char 0 within in absurd (omega (arith, space, wide)),
+)
 
 pub returns : goal.returns
 returns c =
