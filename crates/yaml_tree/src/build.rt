@@ -231,8 +231,8 @@ impl Builder {
         self.put(Tree::Seq(items))
     }
 
-    /// Ends the innermost part and puts it as a mapping into the one around it. Returns `KeyNotText` if it is no mapping
-    /// where a key is next, or has no place there.
+    /// Ends the innermost part and puts it as a mapping into the one around it. Returns `KeyNotText` if it is no
+    /// mapping where a key is next, or has no place there.
     fn close_map(&mut self) -> Result<(), ReadFault>
         ensures { MatchResult result
             (λ _. after_map_end (frames_of self.old.parts.items)
