@@ -1,3 +1,4 @@
 pub mod Meant
 pub mod EventPlaces
 pub mod Borrowed
+pub mod Parts

@@ -8,6 +8,8 @@ use Rattle.yaml_events.specs.declared.event.Style.{Style}
 use Rattle.yaml_events.specs.declared.event.Style.TheVariants.{Plain, Single, Double, Literal, Folded, Omitted}
 use Rattle.yaml_events.specs.declared.event.Event.{Event}
 use Rattle.yaml_events.specs.declared.event.Event.TheVariants.{DocStart, DocEnd, SeqStart, SeqEnd, MapStart, MapEnd, Scalar}
+use Rattle.yaml_events.specs.declared.event.EventRef.{EventRef}
+use Rattle.yaml_events.specs.declared.event.EventRef.TheVariants as ref
 use Rattle.yaml_events.specs.declared.context.FlowContext.{FlowContext}
 use Rattle.yaml_events.specs.declared.context.FlowContext.TheVariants.{Outer, Inner, BlockKey, FlowKey}
 
@@ -29,6 +31,16 @@ event_of SeqEnd = grammar.seq_end
 event_of MapStart = grammar.map_start
 event_of MapEnd = grammar.map_end
 event_of (Scalar style span value) = grammar.scalar_event (style_of style) span.start span.end (chars (cow_str_bytes value))
+
+-- the same of an event that is looked at
+abbrev pub event_ref_of : EventRef → grammar.Event
+event_ref_of ref.DocStart = grammar.document_start
+event_ref_of ref.DocEnd = grammar.document_end
+event_ref_of ref.SeqStart = grammar.seq_start
+event_ref_of ref.SeqEnd = grammar.seq_end
+event_ref_of ref.MapStart = grammar.map_start
+event_ref_of ref.MapEnd = grammar.map_end
+event_ref_of (ref.Scalar style span value) = grammar.scalar_event (style_of style) span.start span.end (chars value.now)
 
 -- the events that the code's values mean
 abbrev pub events_of : List Event → List grammar.Event

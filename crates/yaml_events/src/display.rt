@@ -1,5 +1,5 @@
 // Events in words, as tests and messages show them.
-use crate::{Event, Events, Style};
+use crate::{Event, EventRef, Events, Style};
 use std::fmt;
 
 /// A letter: `P` plain, `S` in single quotes, `D` in double quotes, `L` literal, `F` folded, `O` omitted.
@@ -18,22 +18,29 @@ impl fmt::Display for Style {
 
 /// `+` for a start and `-` for an end, of a document (`D`), a sequence (`S`) or a mapping (`M`). A scalar is `=`,
 /// its style, the range of its bytes and its value, as in `=P[0,1]"a"`.
-impl fmt::Display for Event<'_> {
+impl fmt::Display for EventRef<'_> {
     fn fmt<W: fmt::Write>(&self, f: &mut fmt::Formatter<W>) -> fmt::Result {
         match self {
-            Event::DocStart => f.write_str("+D"),
-            Event::DocEnd => f.write_str("-D"),
-            Event::SeqStart => f.write_str("+S"),
-            Event::SeqEnd => f.write_str("-S"),
-            Event::MapStart => f.write_str("+M"),
-            Event::MapEnd => f.write_str("-M"),
-            Event::Scalar { style, span, value } => {
+            EventRef::DocStart => f.write_str("+D"),
+            EventRef::DocEnd => f.write_str("-D"),
+            EventRef::SeqStart => f.write_str("+S"),
+            EventRef::SeqEnd => f.write_str("-S"),
+            EventRef::MapStart => f.write_str("+M"),
+            EventRef::MapEnd => f.write_str("-M"),
+            EventRef::Scalar { style, span, value } => {
                 let start = span.start;
                 let end = span.end;
-                let value = value.as_str();
                 write!(f, "={style}[{start},{end}]{value:?}")
             }
         }
+    }
+}
+
+/// As an [`EventRef`] of it.
+impl fmt::Display for Event<'_> {
+    fn fmt<W: fmt::Write>(&self, f: &mut fmt::Formatter<W>) -> fmt::Result {
+        let event = self.as_ref();
+        write!(f, "{event}")
     }
 }
 
@@ -41,7 +48,7 @@ impl fmt::Display for Event<'_> {
 impl fmt::Display for Events<'_> {
     fn fmt<W: fmt::Write>(&self, f: &mut fmt::Formatter<W>) -> fmt::Result {
         let mut is_first = true;
-        for event in self.as_slice() {
+        for event in self.iter() {
             if !is_first {
                 f.write_str(" ")?;
             }

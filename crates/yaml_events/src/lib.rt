@@ -8,9 +8,12 @@ mod context;
 mod display;
 mod event;
 mod fault;
+mod iter;
 mod list;
+mod parts;
 
 pub use context::{BlockContext, FlowContext};
-pub use event::{Event, Span, Style};
+pub use event::{Event, EventRef, Span, Style};
 pub use fault::{ScanFault, Why};
+pub use iter::{EventIntoIter, EventIter};
 pub use list::Events;

@@ -1,23 +1,34 @@
 // A list of events that grows.
-ghost use Rattle.std.specs.Prelude.{◌≡◌, ◌≤◌, List, [], ◌∷◌, ◌++◌, length, take, insert, OnOk, IfErr};
+ghost use Rattle.std.specs.Prelude.{◌≡◌, ◌≤◌, ◌<◌, ◌^◌, List, [], ◌∷◌, ◌++◌, length, take, insert, OnOk, OnErr, IfErr};
+ghost use Rattle.yaml_events.specs.declared.event.Event;
+ghost use Rattle.yaml_events.specs.Meant.{events_of};
 
-use crate::Event;
-use std::alloc::{AllocFailed, Global};
+use crate::parts::{BorrowedScalar, Kind, OwnedScalar, keep_value, value_counts};
+use crate::{Event, EventIntoIter, EventIter};
+use std::alloc::{AllocError, AllocFailed, Global};
 use std::marker::Model;
 
 /// The events of a text, or of a part of it, in order. Contracts see the list of the events.
+///
+/// The kinds of all events are in one list, with two bytes each. The values of the scalars are in lists of their own, in
+/// the same order, so an event without a value takes no room for one.
 #[derive(Debug, Drop)]
 pub struct Events<'a> {
-    items: Vec<Event<'a>>,
+    kinds: Vec<Kind>,
+    borrowed: Vec<BorrowedScalar<'a>>,
+    owned: Vec<OwnedScalar>,
 }
 
 impl<'a> Model for Events<'a> {
     ghost use Rattle.std.specs.Prelude.{List};
     ghost use Rattle.yaml_events.specs.declared.event.Event.{Event};
+    ghost use Rattle.yaml_events.specs.Parts.{events_in, Fits};
 
     ghost Value = { List Event };
 
-    ghost view = { λ e. e.items.items };
+    ghost view = { λ e. events_in e.kinds.items e.borrowed.items e.owned.items };
+
+    ghost invariant = { λ e. Fits e.kinds.items e.borrowed.items e.owned.items };
 }
 
 impl<'a> Events<'a> {
@@ -26,23 +37,31 @@ impl<'a> Events<'a> {
         ensures { result ≡ [] }
     {
         Events {
-            items: Vec::new(alloc),
+            kinds: Vec::new(alloc),
+            borrowed: Vec::new(alloc),
+            owned: Vec::new(alloc),
         }
     }
 
-    /// Returns the events, in order.
-    pub fn as_slice(&self) -> &[Event<'a>]
-        ensures { result.now ≡ self.now }
+    /// Returns the number of events.
+    #[inline(always)]
+    pub fn len(&self) -> usize
+        ensures { result ≡ length self.now }
     {
-        self.items.as_slice()
+        self.kinds.len()
     }
 
-    /// Returns the events, in order, as a vector that owns them.
-    pub fn into_vec(self) -> Vec<Event<'a>>
-        ensures { result.items ≡ self.entry }
+    /// Returns an iterator that looks at the events, in order.
+    #[inline(always)]
+    pub fn iter(&self) -> EventIter<'_>
+        ensures events { result ≡ events_of self.now }
+        ensures count { length self.now < 2 ^ 64 }
     {
-        let Events { items } = self;
-        items
+        EventIter::new(
+            self.kinds.as_slice(),
+            self.borrowed.as_slice(),
+            self.owned.as_slice(),
+        )
     }
 
     /// Appends an event. If there is no memory for it, it is handed back, and the list is unchanged.
@@ -51,17 +70,28 @@ impl<'a> Events<'a> {
         ensures ok { OnOk result (self.new ≡ self.old ++ event.entry ∷ []) }
         ensures back { IfErr result (λ e. (e.value ≡ event.entry) × (self.new ≡ self.old)) }
     {
-        self.items.push(event)
+        let kind = Kind::of(&event);
+        if self.kinds.push(kind).is_err() {
+            return Err(AllocFailed { value: event });
+        }
+        match keep_value(&mut self.borrowed, &mut self.owned, event) {
+            Ok(()) => Ok(()),
+            Err(refused) => {
+                let _ = self.kinds.pop();
+                Err(refused)
+            }
+        }
     }
 
-    /// Inserts an event before the one at `at`, counted from 0, or appends it where `at` is the length. If
-    /// there is no memory for it, it is handed back, and the list is unchanged.
-    pub fn insert(&mut self, at: usize, event: Event<'a>) -> Result<(), AllocFailed<Event<'a>>>
+    /// Inserts the start of a mapping before the event at `at`, counted from 0, or appends it where `at` is the
+    /// length. If there is no memory for it, the list is unchanged.
+    pub fn insert_map_start(&mut self, at: usize) -> Result<(), AllocError>
         requires { at ≤ length self.old }
-        ensures ok { OnOk result (self.new ≡ insert self.old at event.entry) }
-        ensures back { IfErr result (λ e. (e.value ≡ event.entry) × (self.new ≡ self.old)) }
+        ensures ok { OnOk result (self.new ≡ insert self.old at Event.MapStart) }
+        ensures back { OnErr result (self.new ≡ self.old) }
     {
-        self.items.insert(at, event)
+        self.kinds.insert(at, Kind::MapStart)?;
+        Ok(())
     }
 
     /// Keeps the first `len` events and drops those after them.
@@ -69,6 +99,27 @@ impl<'a> Events<'a> {
         requires { len ≤ length self.old }
         ensures { self.new ≡ take len self.old }
     {
-        self.items.truncate(len)
+        self.kinds.truncate(len);
+        let (borrowed, owned) = value_counts(self.kinds.as_slice());
+        self.borrowed.truncate(borrowed);
+        self.owned.truncate(owned);
+    }
+}
+
+impl<'a> IntoIterator for Events<'a> {
+    type Item = Event<'a>;
+
+    type IntoIter = EventIntoIter<'a>;
+
+    ghost into_iter_gives = { λ events iterator. iterator ≡ events };
+
+    #[inline(always)]
+    fn into_iter(self) -> EventIntoIter<'a> {
+        let Events {
+            kinds,
+            borrowed,
+            owned,
+        } = self;
+        EventIntoIter::new(kinds, borrowed, owned)
     }
 }

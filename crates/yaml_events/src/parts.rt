@@ -1,0 +1,128 @@
+// The parts that a list of events keeps: kinds, and the values of the scalars.
+ghost use Rattle.std.specs.Prelude.{◌≡◌, ◌++◌, OnOk, IfErr};
+ghost use Rattle.std.specs.List.{sum_by};
+ghost use Rattle.yaml_events.specs.Parts.{kind_of, borrowed_of, owned_of, borrows, owns};
+
+use crate::{Event, Span, Style};
+use std::alloc::AllocFailed;
+use std::borrow::CowStr;
+
+/// What an event is. A scalar's kind tells which list its value is in.
+#[derive(Clone, Copy, Debug)]
+pub(crate) enum Kind {
+    DocStart,
+    DocEnd,
+    SeqStart,
+    SeqEnd,
+    MapStart,
+    MapEnd,
+    /// A scalar whose value the text has in one piece.
+    Borrowed(Style),
+    /// A scalar whose value has memory of its own.
+    Owned(Style),
+}
+
+/// The place of a scalar, and its value in the text.
+#[derive(Clone, Copy, Debug)]
+pub(crate) struct BorrowedScalar<'a> {
+    pub(crate) span: Span,
+    pub(crate) value: &'a str,
+}
+
+/// The place of a scalar, and its value.
+#[derive(Debug, Drop)]
+pub(crate) struct OwnedScalar {
+    pub(crate) span: Span,
+    pub(crate) value: String,
+}
+
+const _: () = prove!(size_of::<Kind>() == 2);
+
+const _: () = prove!(size_of::<BorrowedScalar<'static>>() == 32);
+
+impl Kind {
+    /// Returns the kind of an event.
+    #[inline(always)]
+    pub(crate) fn of(event: &Event<'_>) -> Kind
+        ensures { result ≡ kind_of event.now }
+    {
+        match event {
+            Event::DocStart => Kind::DocStart,
+            Event::DocEnd => Kind::DocEnd,
+            Event::SeqStart => Kind::SeqStart,
+            Event::SeqEnd => Kind::SeqEnd,
+            Event::MapStart => Kind::MapStart,
+            Event::MapEnd => Kind::MapEnd,
+            Event::Scalar { style, value, .. } => match value {
+                CowStr::Borrowed(_) => Kind::Borrowed(*style),
+                CowStr::Owned(_) => Kind::Owned(*style),
+            },
+        }
+    }
+}
+
+/// Appends the value of a scalar to the list that its kind tells; other events have none. If there is no memory for
+/// it, the event is handed back, and the lists are unchanged.
+#[inline(always)]
+pub(crate) fn keep_value<'a>(
+    borrowed: &mut Vec<BorrowedScalar<'a>>,
+    owned: &mut Vec<OwnedScalar>,
+    event: Event<'a>,
+) -> Result<(), AllocFailed<Event<'a>>>
+    ensures borrowed { OnOk result
+        (borrowed.new.items ≡ borrowed.old.items ++ borrowed_of event.entry) }
+    ensures owned { OnOk result (owned.new.items ≡ owned.old.items ++ owned_of event.entry) }
+    ensures back { IfErr result (λ e. (e.value ≡ event.entry)
+        × (borrowed.new.items ≡ borrowed.old.items) × (owned.new.items ≡ owned.old.items)) }
+{
+    match event {
+        Event::Scalar { style, span, value } => match value {
+            CowStr::Borrowed(value) => match borrowed.push(BorrowedScalar { span, value }) {
+                Ok(()) => Ok(()),
+                Err(_) => Err(AllocFailed {
+                    value: Event::Scalar {
+                        style,
+                        span,
+                        value: CowStr::Borrowed(value),
+                    },
+                }),
+            },
+            CowStr::Owned(value) => match owned.push(OwnedScalar { span, value }) {
+                Ok(()) => Ok(()),
+                Err(refused) => {
+                    let OwnedScalar { span, value } = refused.value;
+                    Err(AllocFailed {
+                        value: Event::Scalar {
+                            style,
+                            span,
+                            value: CowStr::Owned(value),
+                        },
+                    })
+                }
+            },
+        },
+        Event::DocStart
+        | Event::DocEnd
+        | Event::SeqStart
+        | Event::SeqEnd
+        | Event::MapStart
+        | Event::MapEnd => Ok(()),
+    }
+}
+
+/// Returns how many of the kinds are of scalars whose values are borrowed, and of how many they are owned.
+pub(crate) fn value_counts(kinds: &[Kind]) -> (usize, usize)
+    ensures borrowed { result.0 ≡ sum_by borrows kinds.now }
+    ensures owned { result.1 ≡ sum_by owns kinds.now }
+{
+    let mut borrowed = 0;
+    let mut owned = 0;
+    for kind in kinds {
+        match kind {
+            Kind::Borrowed(_) => borrowed += 1,
+            Kind::Owned(_) => owned += 1,
+            _ => {}
+        }
+    }
+    (borrowed, owned)
+}
