@@ -283,7 +283,7 @@ fn begin(events: &mut Events<'_>, at: usize, in_seq: bool) -> Result<Open, ScanF
     ensures none { IfErr result (λ fault. Refuses fault ⊥) }
     ensures kept { (k : ℕ) → Kept k events.old events.new }
 {
-    let before = events.as_slice().len();
+    let before = events.len();
     push(events, start_event(in_seq))?;
     Ok(Open {
         in_seq,
@@ -335,7 +335,7 @@ fn node<'a>(
         return Err(fault(at, Why::Flow));
     }
     top.start = at;
-    top.before = events.as_slice().len();
+    top.before = events.len();
     let Some(in_seq) = bracket_at(text, at) else {
         return scalar(alloc, events, text, setting, top, line);
     };

@@ -42,7 +42,7 @@ pub fn flow_node<'a>(
     ensures unchanged { IfErr result (λ _. events.new ≡ events.old) }
 {
     flow_node_stands();
-    let kept = events.as_slice().len();
+    let kept = events.len();
     match read_node(alloc, events, text, at, n, c) {
         Ok(end) => Ok(end),
         Err(fault) => {

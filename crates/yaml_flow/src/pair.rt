@@ -14,7 +14,7 @@ ghost use Rattle.yaml_flow.specs.Frames.{Collection, Stands, NodeRead, AtColon, 
 ghost use Rattle.yaml_flow.specs.declared.collection.Next.TheVariants.{AfterEntry};
 
 use crate::collection::{Next, NodeEnd, Open, Part, Setting, fault, pass_gap};
-use crate::push::{insert, omitted, push};
+use crate::push::{insert_map_start, omitted, push};
 use yaml_events::{Event, Events, FlowContext, ScanFault, Why};
 use yaml_scan::{at_most_chars, safe_at, stands_at};
 
@@ -158,7 +158,7 @@ fn begin_pair(
     if line > top.start || !at_most_chars(text, top.start, colon, KEY_LIMIT) {
         return Err(fault(top.start, Why::Key));
     }
-    insert(events, top.before, Event::MapStart)
+    insert_map_start(events, top.before)
 }
 
 /// Reads what follows the `:` of a pair.

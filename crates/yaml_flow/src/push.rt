@@ -3,6 +3,7 @@ ghost use Rattle.std.specs.Prelude.{◌≡◌, ℕ, ◌≤◌, List, [], ◌∷�
 ghost use Rattle.yaml_grammar.specs.Events.{scalar_event, omitted_style};
 ghost use Rattle.yaml_events.specs.Meant.{event_of};
 ghost use Rattle.yaml_events.specs.EventPlaces.{Refuses};
+ghost use Rattle.yaml_events.specs.declared.event.Event.TheVariants.{MapStart};
 ghost use Rattle.yaml_flow.specs.Frames.{Kept};
 ghost use Rattle.yaml_events.specs.Borrowed.{BorrowsPlain};
 
@@ -22,18 +23,14 @@ pub(crate) fn push<'a>(events: &mut Events<'a>, event: Event<'a>) -> Result<(), 
     }
 }
 
-/// Puts an event before the one at `at`, counted from 0.
-pub(crate) fn insert<'a>(
-    events: &mut Events<'a>,
-    at: usize,
-    event: Event<'a>,
-) -> Result<(), ScanFault>
+/// Puts the start of a mapping before the event at `at`, counted from 0.
+pub(crate) fn insert_map_start(events: &mut Events<'_>, at: usize) -> Result<(), ScanFault>
     requires { at ≤ length events.old }
-    ensures ok { OnOk result (events.new ≡ insert events.old at event.entry) }
+    ensures ok { OnOk result (events.new ≡ insert events.old at MapStart) }
     ensures none { IfErr result (λ fault. Refuses fault ⊥) }
     ensures kept { (k : ℕ) → k ≤ at → Kept k events.old events.new }
 {
-    match events.insert(at, event) {
+    match events.insert_map_start(at) {
         Ok(()) => Ok(()),
         Err(_) => Err(ScanFault::OutOfMemory),
     }

@@ -25,7 +25,7 @@ returns-in_default-clause-none c =
     let d = context_of c.args.setting.context in
     let text = c.args.text.now in
     faults_so c.scalar.result _ _
-    (λ h. λ w here. h w (at_start n d text w c.args.top.now c.args.at (length c.as_slice.result.now) c.args.events.now here)) c.scalar.ensures.none
+    (λ h. λ w here. h w (at_start n d text w c.args.top.now c.args.at c.len-top.result c.args.events.now here)) c.scalar.ensures.none
 
 pub pass-requires-clause-inside_line : goal.pass-requires-clause-inside_line
 pass-requires-clause-inside_line c = opener_starts c.args.text.now c.args.at c.in-Some.in_seq c.utf8.text c.requires.at c.in-Some.ensures.found
@@ -51,9 +51,9 @@ returns-clause-stands c =
       around = inner ∷ around;
       stack = (
         c.args.outer.now.items,
-        record top { start = at; before = length c.as_slice.result.now },
+        record top { start = at; before = c.len-top.result },
         c.in_ok-push_open.ensures.ok,
-        record { waits = at_start n d text inner top at (length c.as_slice.result.now) events here; start = refl; count = ap length (sym c.as_slice.ensures); node = refl },
+        record { waits = at_start n d text inner top at c.len-top.result events here; start = refl; count = sym c.len-top.ensures; node = refl },
         stack,
       );
       stands = h opens c.in_ok-top.field-0 c.begin.new.events
