@@ -65,7 +65,7 @@ impl<'a> Reader<'a> {
         ensures grown { Grown self.old.events self.new.events }
         ensures none { IfErr result (FailsBy text.now (BeforeLeaf text.now leaf) self.old) }
     {
-        let before = self.events.as_slice().len();
+        let before = self.events.len();
         let end = match flow_node(
             self.alloc,
             &mut self.events,
@@ -80,7 +80,7 @@ impl<'a> Reader<'a> {
         let colon = white_end(text, end);
         if sign_at(text, colon, b':') {
             let indent = key_indent(text, leaf, end, colon)?;
-            self.put_before(before, Event::MapStart)?;
+            self.start_map_before(before)?;
             self.wait(Waits::Value, indent)?;
             return Ok(Next::After {
                 at: colon + 1,

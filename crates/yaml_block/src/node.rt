@@ -174,7 +174,7 @@ pub fn block_node<'a>(
         Refuses fault (NoBlockNodeAt (least_indent n) (is_shallow context) text.now at)) }
     ensures unchanged { IfErr result (λ _. events.new ≡ events.old) }
 {
-    let kept = events.as_slice().len();
+    let kept = events.len();
     let mut reader = Reader::new(alloc, at);
     mem::swap(events, &mut reader.events);
     let result = reader.node(text, at, least_indent(n), context);

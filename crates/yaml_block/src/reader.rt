@@ -1,5 +1,6 @@
 // A block node that is being read.
 ghost use Rattle.std.specs.Prelude.{◌≡◌, ◌≤◌, List, ◌++◌, [], ◌∷◌, length, insert, IfErr, OnErr, OnOk, MatchBool};
+ghost use Rattle.yaml_events.specs.declared.event.Event.TheVariants.{MapStart};
 ghost use Rattle.yaml_events.specs.EventPlaces.{Refuses};
 ghost use Rattle.yaml_recognizers.specs.BlockFrames.{BlockFrame};
 ghost use Rattle.yaml_block.specs.Frames.{waits_of};
@@ -50,16 +51,16 @@ impl<'a> Reader<'a> {
         }
     }
 
-    /// Puts an event before the one at `place`, counted from 0.
-    pub(crate) fn put_before(&mut self, place: usize, event: Event<'a>) -> Result<(), ScanFault>
+    /// Puts the start of a mapping before the event at `place`, counted from 0.
+    pub(crate) fn start_map_before(&mut self, place: usize) -> Result<(), ScanFault>
         requires place { place ≤ length self.old.events }
-        ensures events { OnOk result (self.new.events ≡ insert self.old.events place event.entry) }
+        ensures events { OnOk result (self.new.events ≡ insert self.old.events place MapStart) }
         ensures back { OnErr result (self.new.events ≡ self.old.events) }
         ensures collections { self.new.collections ≡ self.old.collections }
         ensures end { self.new.end ≡ self.old.end }
         ensures none { IfErr result (λ fault. Refuses fault ⊥) }
     {
-        match self.events.insert(place, event) {
+        match self.events.insert_map_start(place) {
             Ok(()) => Ok(()),
             Err(_) => Err(ScanFault::OutOfMemory),
         }

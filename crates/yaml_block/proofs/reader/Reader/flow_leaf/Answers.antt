@@ -55,9 +55,9 @@ returns-then-sign_at-clause-leads c =
     (c.in-Ok.ensures).reads (c.white_end-colon.ensures).taken (sym c.sign_at.ensures ∙ c.if-sign_at.true)
     (c.in_ok-indent.ensures).fits
     ((c.in_ok-wait.ensures).collections ∙ ap (λ v. v.items ++ (record { waits = Value; indent = k }) ∷ [])
-    (c.in_ok-put_before.ensures).collections)
-    ((c.in_ok-wait.ensures).events ∙ ((c.in_ok-put_before.ensures).events
-    ∙ ap (λ es. insert c.flow_node.new.events (length es) MapStart) c.as_slice-before.ensures))
+    (c.in_ok-start_map_before.ensures).collections)
+    ((c.in_ok-wait.ensures).events ∙ ((c.in_ok-start_map_before.ensures).events
+    ∙ ap (λ n. insert c.flow_node.new.events n MapStart) c.len-before.ensures))
 
 pub returns-in-Some-clause-leads : goal.returns-in-Some-clause-leads
 returns-in-Some-clause-leads c =
