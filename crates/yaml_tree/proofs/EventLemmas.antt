@@ -1,6 +1,5 @@
 -- What events that are taken one after another say of the tree.
-use Rattle.std.proofs.Common.{◌≡◌, ◌+◌, ◌<◌, List, [], ◌∷◌, ◌++◌, length, get_or, take, drop, Option, Some, None, refl, sym, ap, subst, ◌∙◌}
-use Rattle.std.proofs.lemmas.List.{take_more, take-append-drop}
+use Rattle.std.proofs.Common.{◌≡◌, List, [], ◌∷◌, Option, Some, None, refl, sym, ap, subst, ◌∙◌}
 use Rattle.yaml_docs.specs.declared.fault.ReadFault.{ReadFault}
 use Rattle.yaml_docs.specs.declared.fault.ReadFault.TheVariants.{TooLong, NotUtf8, Syntax, Documents, KeyNotText, KeyTwice, TooDeep, LargeInStyle, OutOfMemory}
 use Rattle.yaml_events.specs.Meant.{event_of, events_of}
@@ -9,37 +8,31 @@ use Rattle.yaml_grammar.specs.Events as grammar
 use Rattle.yaml_grammar.specs.Trees.{Tree, shape, shapes, IsTreeOf}
 use Rattle.yaml_tree.specs.Building.{HasNone, HasNoTree}
 use Rattle.yaml_tree.specs.Frames.{Frame, whole, step, finished_tree}
-use Rattle.yaml_tree.proofs.FrameLemmas.{after, run, run-append, run-None, document_run, run_written, finished_whole}
+use Rattle.yaml_tree.proofs.FrameLemmas.{run, run-None, document_run, run_written, finished_whole}
 
--- the list of which xs and x are the first items
-pub items_on : {X : Type 0} (xs all : List X) (x : X) → xs ≡ take (length xs) all → length xs < length all → x ≡ get_or all (length xs) x
-    → all ≡ xs ++ x ∷ [] ++ drop (length xs + 1) all
-items_on xs all x prefix within here =
-    sym (take-append-drop (length xs + 1) all) ∙ ap (λ ys. ys ++ drop (length xs + 1) all) (take_more all (length xs) x within)
-    ∙ ap (λ ys. ys ++ get_or all (length xs) x ∷ [] ++ drop (length xs + 1) all) (sym prefix)
-    ∙ ap (λ y. xs ++ y ∷ [] ++ drop (length xs + 1) all) (sym here)
+-- ---- an event more
 
--- the shapes of two lists of events, one after the other
-pub shapes_of-append : (xs ys : List Event) → shapes (events_of (xs ++ ys)) ≡ shapes (events_of xs) ++ shapes (events_of ys)
-shapes_of-append [] ys = refl
-shapes_of-append (x ∷ xs) ys = ap (λ ss. shape (event_of x) ∷ ss) (shapes_of-append xs ys)
+-- the frames so far, over the events that are left, become what no frames become over all events
+abbrev pub RunsOn : List Frame → List Event → List Event → Type 0
+RunsOn fs left all = run (Some fs) (shapes (events_of left)) ≡ run (Some []) (shapes (events_of all))
 
--- one event more
-pub run_more : (xs : List Event) (x : Event) (fs : List Frame) → run (Some []) (shapes (events_of xs)) ≡ Some fs
-    → run (Some []) (shapes (events_of (xs ++ x ∷ []))) ≡ step fs (shape (event_of x))
-run_more xs x fs e =
-    ap (run (Some [])) (shapes_of-append xs (x ∷ [])) ∙ run-append (Some []) (shapes (events_of xs)) (shape (event_of x) ∷ [])
-    ∙ ap (λ o. after o (shape (event_of x))) e
+-- the next of the events that are left is taken
+pub run_on : (before left all : List Event) (x : Event) (fs gs : List Frame) → before ≡ x ∷ left → RunsOn fs before all
+    → step fs (shape (event_of x)) ≡ Some gs → RunsOn gs left all
+run_on before left all x fs gs split runs e =
+    sym (ap (λ o. run o (shapes (events_of left))) e) ∙ sym (ap (λ es. run (Some fs) (shapes (events_of es))) split) ∙ runs
+
+-- no event is left
+pub run_ended : (left all : List Event) (fs : List Frame) → left ≡ [] → RunsOn fs left all → run (Some []) (shapes (events_of all)) ≡ Some fs
+run_ended left all fs end runs = sym runs ∙ ap (λ es. run (Some fs) (shapes (events_of es))) end
 
 -- an event that doesn't fit
-pub run_stopped : (xs more all : List Event) (x : Event) (fs : List Frame) → all ≡ xs ++ x ∷ [] ++ more
-    → run (Some []) (shapes (events_of xs)) ≡ Some fs → step fs (shape (event_of x)) ≡ None → run (Some []) (shapes (events_of all)) ≡ None
-run_stopped xs more all x fs split e none =
-    ap (λ es. run (Some []) (shapes (events_of es))) split
-    ∙ ap (run (Some [])) (shapes_of-append (xs ++ x ∷ []) more)
-    ∙ run-append (Some []) (shapes (events_of (xs ++ x ∷ []))) (shapes (events_of more))
-    ∙ ap (λ o. run o (shapes (events_of more))) (run_more xs x fs e ∙ none)
-    ∙ run-None (shapes (events_of more))
+run_stopped : (before left all : List Event) (x : Event) (fs : List Frame) → before ≡ x ∷ left → RunsOn fs before all
+    → step fs (shape (event_of x)) ≡ None → run (Some []) (shapes (events_of all)) ≡ None
+run_stopped before left all x fs split runs none =
+    sym runs ∙ ap (λ es. run (Some fs) (shapes (events_of es))) split
+    ∙ ap (λ o. run o (shapes (events_of left))) none
+    ∙ run-None (shapes (events_of left))
 
 -- ---- a tree, or none
 
@@ -75,10 +68,10 @@ no_tree o es none TooDeep h = absurd h
 no_tree o es none LargeInStyle h = absurd h
 
 -- where an event has no place, the fault is right: the events are those of no tree
-pub stopped_refuses : (xs more all : List Event) (x : Event) (fs : List Frame) (fault : ReadFault) → all ≡ xs ++ x ∷ [] ++ more
-    → run (Some []) (shapes (events_of xs)) ≡ Some fs → HasNone (step fs (shape (event_of x))) fault → HasNoTree (events_of all) fault
-stopped_refuses xs more all x fs fault split e =
-    no_tree (step fs (shape (event_of x))) (events_of all) (λ none. none_stopped (events_of all) (run_stopped xs more all x fs split e none)) fault
+pub stopped_refuses : (before left all : List Event) (x : Event) (fs : List Frame) (fault : ReadFault) → before ≡ x ∷ left
+    → RunsOn fs before all → HasNone (step fs (shape (event_of x))) fault → HasNoTree (events_of all) fault
+stopped_refuses before left all x fs fault split runs =
+    no_tree (step fs (shape (event_of x))) (events_of all) (λ none. none_stopped (events_of all) (run_stopped before left all x fs split runs none)) fault
 
 -- where no tree is whole at the end, the fault is right: the events are those of no tree
 pub unfinished_refuses : (es : List grammar.Event) (fs : List Frame) (fault : ReadFault) → run (Some []) (shapes es) ≡ Some fs

@@ -311,7 +311,7 @@ pub(crate) fn document_tree(
         (HasNoTree (events_of events.entry)) }
 {
     let mut builder = Builder::new(alloc, sizes);
-    for event in events.into_vec() {
+    for event in events {
         builder.take(event)?;
     }
     builder.finish()

@@ -84,7 +84,7 @@ pub(crate) fn document_keys_differ(alloc: Global, events: Events<'_>) -> Result<
         (HasNoTree (events_of events.entry)) }
 {
     let mut check = KeyCheck::new(alloc);
-    for event in events.into_vec() {
+    for event in events {
         check.take(event)?;
     }
     let KeyCheck {

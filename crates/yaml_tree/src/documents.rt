@@ -6,7 +6,7 @@ ghost use Rattle.yaml_tree.specs.Reading.{document_count};
 
 use crate::sizes::{SizeCounter, Sizes};
 use std::alloc::{AllocError, Global};
-use yaml_events::Event;
+use yaml_events::{EventRef, Events};
 
 /// What one pass over the events of a text tells before a tree is built.
 #[derive(Drop)]
@@ -22,7 +22,7 @@ pub(crate) struct Outline {
 
 impl Outline {
     /// The outline of a list of events. It fails only if memory runs out.
-    pub(crate) fn of(alloc: Global, events: &[Event<'_>]) -> Result<Outline, AllocError>
+    pub(crate) fn of(alloc: Global, events: &Events<'_>) -> Result<Outline, AllocError>
         ensures { IfOk result (λ outline. (outline.documents ≡ document_count (events_of events.now))
             × ((t : Tree) → IsTreeOf (events_of events.now) t → outline.depth ≡ depth t)) }
     {
@@ -30,20 +30,20 @@ impl Outline {
         let mut open = 0u64;
         let mut depth = 0u64;
         let mut counter = SizeCounter::new(alloc);
-        for event in events {
+        for event in events.iter() {
             match event {
-                Event::DocStart => documents += 1,
-                Event::DocEnd => {}
-                Event::SeqStart | Event::MapStart => {
+                EventRef::DocStart => documents += 1,
+                EventRef::DocEnd => {}
+                EventRef::SeqStart | EventRef::MapStart => {
                     open += 1;
                     depth = depth.max(open);
                     counter.start()?;
                 }
-                Event::SeqEnd | Event::MapEnd => {
+                EventRef::SeqEnd | EventRef::MapEnd => {
                     open = open.saturating_sub(1);
                     counter.end();
                 }
-                Event::Scalar { .. } => {
+                EventRef::Scalar { .. } => {
                     depth = depth.max(open + 1);
                     counter.count();
                 }

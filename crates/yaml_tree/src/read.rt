@@ -33,7 +33,7 @@ pub fn read_one(alloc: Global, bytes: &[u8], limits: &Limits) -> Result<Config, 
     ensures refused { IfErr result (Refuses bytes.now (limits_of limits.now)) }
 {
     let events = events(alloc, bytes, limits.bytes)?;
-    let outline = Outline::of(alloc, events.as_slice())?;
+    let outline = Outline::of(alloc, &events)?;
     if outline.documents != 1 {
         return Err(ReadFault::Documents {
             count: outline.documents,

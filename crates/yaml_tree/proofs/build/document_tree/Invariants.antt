@@ -1,10 +1,7 @@
-use Rattle.std.proofs.Common.{◌≡◌, [], Some}
-use Rattle.yaml_events.specs.Meant.{events_of}
-use Rattle.yaml_grammar.specs.Trees.{shapes}
 use Rattle.yaml_tree.specs.Building.{frames_of}
-use Rattle.yaml_tree.proofs.FrameLemmas.{run}
+use Rattle.yaml_tree.proofs.EventLemmas.{RunsOn}
 use Rattle.yaml_tree.proofs.build.document_tree.Given as goal
 
--- the events so far opened the parts that are open
+-- the parts that are open, over the events that are left, become what all events become
 abbrev pub invariant-loop-event : goal.invariant-loop-event
-invariant-loop-event l = run (Some []) (shapes (events_of l.yielded)) ≡ Some (frames_of l.builder.parts.items)
+invariant-loop-event l = RunsOn (frames_of l.builder.parts.items) l.event-iterator l.fn.events

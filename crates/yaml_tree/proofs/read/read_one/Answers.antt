@@ -21,9 +21,9 @@ pub returns-then-outline-limits-clause-refused :
 returns-then-outline-limits-clause-refused c =
     let es = c.in_ok-events.events in
     let one : document_count (events_of es) ≡ 1 =
-    ap (λ xs. document_count (events_of xs)) (sym c.as_slice.ensures) ∙ sym c.in_ok-outline.ensures.0 ∙ c.if-outline-ne1.false in
+    sym c.in_ok-outline.ensures.0 ∙ c.if-outline-ne1.false in
     let deep : (t : Tree) → IsTreeOf (events_of es) t → c.args.limits.now.depth < depth t = λ t is.
-    let e = c.in_ok-outline.ensures.1 t (subst (λ xs. IsTreeOf (events_of xs) t) (sym c.as_slice.ensures) is) in
+    let e = c.in_ok-outline.ensures.1 t is in
     omega (arith, e, c.if-outline-limits.true) in
     deep_refused c.args.bytes.now (limits_of c.args.limits.now) es c.deep_fault.result c.in_ok-events.ensures.reads one deep c.deep_fault.ensures
 
@@ -31,12 +31,12 @@ pub returns-in_err-tree-clause-refused : goal.returns-in_err-tree-clause-refused
 returns-in_err-tree-clause-refused c =
     let es = c.in_ok-events.events in
     let one : document_count (events_of es) ≡ 1 =
-    ap (λ xs. document_count (events_of xs)) (sym c.as_slice.ensures) ∙ sym c.in_ok-outline.ensures.0 ∙ c.if-outline-ne1.false in
+    sym c.in_ok-outline.ensures.0 ∙ c.if-outline-ne1.false in
     let p = err_from_is_err_and c.from_residual-in_err-tree.result c.from_residual-in_err-tree.ensures.1 in
     rw (p.1, p.2)
     (shallow_refused c.args.bytes.now (limits_of c.args.limits.now) es _ c.in_ok-events.ensures.reads one c.in_err-tree.ensures)
 
 pub within-requires-clause-shallow : goal.within-requires-clause-shallow
 within-requires-clause-shallow c =
-    let deep = c.in_ok-outline.ensures.1 (tree_of c.in_ok-tree.tree) (subst (λ xs. IsTreeOf (events_of xs) (tree_of c.in_ok-tree.tree)) (sym c.as_slice.ensures) c.in_ok-tree.ensures) in
+    let deep = c.in_ok-outline.ensures.1 (tree_of c.in_ok-tree.tree) c.in_ok-tree.ensures in
     omega (arith, deep, c.if-outline-limits.false)
