@@ -32,7 +32,7 @@ pub(crate) fn read_rounds(rt: &HostRuntime, what: What, file: &str, rounds: u32)
 /// Reads a text, and returns how many events it has, or how many bytes its tree has in the one style.
 fn size_of(alloc: Global, bytes: &[u8], what: What) -> Result<u64, ReadFault> {
     match what {
-        What::Events => Ok(events(alloc, bytes, u64::MAX)?.as_slice().len() as u64),
+        What::Events => Ok(events(alloc, bytes, u64::MAX)?.len() as u64),
         What::Tree => Ok(read_one(alloc, bytes, &LIMITS)?.style_length()),
     }
 }

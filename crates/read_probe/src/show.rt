@@ -23,7 +23,7 @@ fn show<W: Write>(alloc: Global, writer: &mut W, bytes: &[u8]) -> io::Result<()>
     match events(alloc, bytes, u64::MAX) {
         Ok(events) => {
             write!(writer, "events")?;
-            for event in events.as_slice() {
+            for event in events.iter() {
                 write!(writer, " {event}")?;
             }
             writeln!(writer)

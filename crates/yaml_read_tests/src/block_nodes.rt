@@ -229,6 +229,6 @@ fn many_open_collections(rt: HostRuntime) -> Result<(), Fail> {
     let mut events = Events::new(rt.alloc());
     let end = read(rt.alloc(), &mut events, text.as_str(), -1, Bin);
     assert_eq!(rt; end, Ok(40002));
-    assert_eq!(rt; events.as_slice().len(), 40001);
+    assert_eq!(rt; events.len(), 40001);
     Ok(())
 }

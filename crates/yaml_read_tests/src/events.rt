@@ -1,4 +1,5 @@
 // The list's calls, once each.
+use std::alloc::Global;
 use std::borrow::CowStr;
 use std::test::Fail;
 use yaml_events::{Event, Events, ScanFault, Span, Style, Why};
@@ -14,35 +15,45 @@ fn scalar(value: &str) -> Event<'_> {
     }
 }
 
-fn is_scalar(event: &Event<'_>, text: &str) -> bool {
-    match event {
-        Event::Scalar { value, .. } => value.as_str() == text,
-        _ => false,
-    }
+fn owned_scalar<'a>(alloc: Global, value: &str) -> Result<Event<'a>, Fail> {
+    Ok(Event::Scalar {
+        style: Style::Double,
+        span: Span {
+            start: 0,
+            end: value.len(),
+        },
+        value: CowStr::Owned(format!(in alloc; "{value}")?),
+    })
 }
 
 #[test]
 fn events_in_order(rt: HostRuntime) -> Result<(), Fail> {
-    let mut events = Events::new(rt.alloc());
-    assert_eq!(rt; events.as_slice().len(), 0);
+    let alloc = rt.alloc();
+    let mut events = Events::new(alloc);
+    assert_eq!(rt; events.len(), 0);
     events.push(Event::DocStart)?;
-    events.push(scalar("b"))?;
-    let len = events.as_slice().len();
-    assert_eq!(rt; len, 2);
-    events.insert(1, scalar("a"))?;
-    match events.as_slice() {
-        [Event::DocStart, first, second] => {
-            assert!(rt; is_scalar(first, "a"));
-            assert!(rt; is_scalar(second, "b"));
-        }
-        _ => assert!(rt; false, "three events"),
+    events.push(scalar("a"))?;
+    events.push(owned_scalar(alloc, "b")?)?;
+    events.push(scalar("c"))?;
+    events.push(owned_scalar(alloc, "d")?)?;
+    events.insert_map_start(1)?;
+    assert_eq!(rt; events.len(), 6);
+    let shown = format!(in alloc; "{events}")?;
+    assert_eq!(rt;
+        shown.as_str(),
+        "+D +M =P[0,1]\"a\" =D[0,1]\"b\" =P[0,1]\"c\" =D[0,1]\"d\""
+    );
+    events.truncate(3);
+    events.push(owned_scalar(alloc, "e")?)?;
+    events.push(scalar("f"))?;
+    let mut handed = String::new(alloc);
+    for event in events {
+        handed = format!(in alloc; "{handed}{event};")?;
     }
-    events.truncate(1);
-    let items = events.into_vec();
-    match items.as_slice() {
-        [Event::DocStart] => {}
-        _ => assert!(rt; false, "one event"),
-    }
+    assert_eq!(rt;
+        handed.as_str(),
+        "+D;+M;=P[0,1]\"a\";=D[0,1]\"e\";=P[0,1]\"f\";"
+    );
     Ok(())
 }
 

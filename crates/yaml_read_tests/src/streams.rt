@@ -1,7 +1,7 @@
 // What bytes are refused for, and events with their ranges. `crates/read_probe` has a table of texts with their events.
 use std::process::Abort;
 use yaml_docs::{ReadFault, events};
-use yaml_events::{Event, Span};
+use yaml_events::{EventRef, Events, Span};
 
 #[test]
 fn limits_come_first(rt: HostRuntime) {
@@ -18,9 +18,9 @@ fn limits_come_first(rt: HostRuntime) {
 }
 
 /// The range of the scalar at an index of a list of events.
-fn range_at(events: &[Event<'_>], index: usize) -> Option<Span> {
-    match events.get(index)? {
-        Event::Scalar { span, .. } => Some(*span),
+fn range_at(events: &Events<'_>, index: usize) -> Option<Span> {
+    match events.iter().nth(index)? {
+        EventRef::Scalar { span, .. } => Some(span),
         _ => None,
     }
 }
@@ -30,8 +30,7 @@ fn scalars_have_ranges(rt: HostRuntime) {
     let Ok(events) = events(rt.alloc(), b"a: \"x\"", 6) else {
         return assert!(rt; false);
     };
-    let events = events.as_slice();
     assert_eq!(rt; events.len(), 6);
-    assert_eq!(rt; range_at(events, 2), Some(Span { start: 0, end: 1 }));
-    assert_eq!(rt; range_at(events, 3), Some(Span { start: 3, end: 6 }));
+    assert_eq!(rt; range_at(&events, 2), Some(Span { start: 0, end: 1 }));
+    assert_eq!(rt; range_at(&events, 3), Some(Span { start: 3, end: 6 }));
 }
