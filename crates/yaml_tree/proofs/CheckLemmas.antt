@@ -43,15 +43,16 @@ empty_seq v e = tree_of-Seq v ∙ ap (λ ts. grammar.sequence (elements_of ts)) 
 pub empty_map : (v : Vec Pair Global) → v.items ≡ [] → tree_of (Map v) ≡ grammar.mapping grammar.no_member
 empty_map v e = tree_of-Map v ∙ ap (λ ms. grammar.mapping (members_of ms)) e
 
--- an event that ends no collection is an inner one
-pub inner_event : (e : Event) → (e ≡ SeqEnd → ⊥) → (e ≡ MapEnd → ⊥) → IsInner (shape (event_of e))
-inner_event DocStart h k = tt
-inner_event DocEnd h k = tt
-inner_event SeqStart h k = tt
-inner_event SeqEnd h k = absurd (h refl)
-inner_event MapStart h k = tt
-inner_event MapEnd h k = absurd (k refl)
-inner_event (Scalar style span value) h k = tt
+-- an event that ends no collection and is no scalar is an inner one
+pub inner_event : (e : Event) → (e ≡ SeqEnd → ⊥) → (e ≡ MapEnd → ⊥) → ((style : _) (span : _) (value : _) → e ≡ Scalar style span value → ⊥)
+    → IsInner (shape (event_of e))
+inner_event DocStart h k l = tt
+inner_event DocEnd h k l = tt
+inner_event SeqStart h k l = tt
+inner_event SeqEnd h k l = absurd (h refl)
+inner_event MapStart h k l = tt
+inner_event MapEnd h k l = absurd (k refl)
+inner_event (Scalar style span value) h k l = absurd (l style span value refl)
 
 -- a check that is not finished
 pub emptied_refuses : (es : List grammar_events.Event) (fs gs : List Frame) (fault : ReadFault) → run (Some []) (grammar.shapes es) ≡ Some fs

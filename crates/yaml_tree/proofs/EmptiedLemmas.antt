@@ -1,8 +1,8 @@
 -- A step of open parts whose collections are emptied is one of the parts themselves.
-use Rattle.std.proofs.Common.{◌≡◌, ℕ, Bool, true, false, ◌&&◌, ◌||◌, not, List, [], ◌∷◌, Option, Some, None, refl, sym, ap, ap₂, subst, ◌∙◌}
+use Rattle.std.proofs.Common.{◌≡◌, ℕ, Bool, true, false, if◌then◌else◌, ◌&&◌, ◌||◌, not, List, [], ◌∷◌, Option, Some, None, refl, sym, ap, ap₂, subst, ◌∙◌}
 use Rattle.yaml_grammar.specs.Texts.{same_text}
 use Rattle.yaml_grammar.specs.Trees.{Tree, text, sequence, mapping, Elements, no_element, element, Members, no_member, member, Shape, document_from, document_to, seq_from, seq_to, map_from, map_to, scalar_of, distinct, elements_distinct, members_distinct, has_key}
-use Rattle.yaml_tree.specs.Emptied.{emptied_tree, emptied_elements, emptied_members, emptied_frames, frames_distinct}
+use Rattle.yaml_tree.specs.Emptied.{emptied_tree, emptied_elements, emptied_members, emptied_frames, awaits_key, frames_distinct}
 use Rattle.yaml_tree.specs.Frames.{Frame, awaiting, root, whole, in_seq, at_key, at_value, elements_and, members_and, frames_with, step, after_document_end, after_seq_end, after_map_end, finished_tree}
 use Rattle.yaml_tree.specs.Keys.{keys_differ, values_distinct}
 use Rattle.yaml_tree.proofs.KeyLemmas.{members_distinct-parts}
@@ -22,17 +22,45 @@ members_and-emptied_tree : (ms : Members) (key : List ℕ) (t : Tree) → member
 members_and-emptied_tree no_member key t = refl
 members_and-emptied_tree (member k u ms) key t = ap (member k (emptied_tree u)) (members_and-emptied_tree ms key t)
 
--- emptying trees commutes with placing a value
-pub put_emptied : (fs : List Frame) (t : Tree) → frames_with (emptied_frames fs) (emptied_tree t) ≡ emptied_some (frames_with fs t)
-put_emptied [] t = refl
-put_emptied (awaiting ∷ fs) t = refl
-put_emptied (root u ∷ fs) t = refl
-put_emptied (whole u ∷ fs) t = refl
-put_emptied (in_seq ts ∷ fs) t = ap (λ us. Some (in_seq us ∷ emptied_frames fs)) (elements_and-emptied_tree ts t)
-put_emptied (at_key ms ∷ fs) (text key) = refl
-put_emptied (at_key ms ∷ fs) (sequence ts) = refl
-put_emptied (at_key ms ∷ fs) (mapping ns) = refl
-put_emptied (at_value ms key ∷ fs) t = ap (λ ns. Some (at_key ns ∷ emptied_frames fs)) (members_and-emptied_tree ms key t)
+-- the value is a text
+abbrev pub is_text : Tree → Bool
+is_text (text value) = true
+is_text (sequence ts) = false
+is_text (mapping ms) = false
+
+-- emptying trees commutes with placing a value that is no key
+pub put_emptied : (fs : List Frame) (t : Tree) → (is_text t && awaits_key fs) ≡ false
+    → frames_with (emptied_frames fs) (emptied_tree t) ≡ emptied_some (frames_with fs t)
+put_emptied [] t h = refl
+put_emptied (awaiting ∷ fs) t h = refl
+put_emptied (root u ∷ fs) t h = refl
+put_emptied (whole u ∷ fs) t h = refl
+put_emptied (in_seq ts ∷ fs) t h = ap (λ us. Some (in_seq us ∷ emptied_frames fs)) (elements_and-emptied_tree ts t)
+put_emptied (at_key ms ∷ fs) (text key) h = cc
+put_emptied (at_key ms ∷ fs) (sequence ts) h = refl
+put_emptied (at_key ms ∷ fs) (mapping ns) h = refl
+put_emptied (at_value ms key ∷ fs) t h = ap (λ ns. Some (at_key ns ∷ emptied_frames fs)) (members_and-emptied_tree ms key t)
+
+-- a key is kept as it is
+pub key_emptied : (fs : List Frame) (key : List ℕ) → awaits_key fs ≡ true
+    → frames_with (emptied_frames fs) (text key) ≡ emptied_some (frames_with fs (text key))
+key_emptied [] key h = cc
+key_emptied (awaiting ∷ fs) key h = cc
+key_emptied (root u ∷ fs) key h = cc
+key_emptied (whole u ∷ fs) key h = cc
+key_emptied (in_seq ts ∷ fs) key h = cc
+key_emptied (at_key ms ∷ fs) key h = refl
+key_emptied (at_value ms name ∷ fs) key h = cc
+
+-- emptied parts await a key where the parts do
+pub awaits_key-emptied : (fs : List Frame) → awaits_key (emptied_frames fs) ≡ awaits_key fs
+awaits_key-emptied [] = refl
+awaits_key-emptied (awaiting ∷ fs) = refl
+awaits_key-emptied (root u ∷ fs) = refl
+awaits_key-emptied (whole u ∷ fs) = refl
+awaits_key-emptied (in_seq ts ∷ fs) = refl
+awaits_key-emptied (at_key ms ∷ fs) = refl
+awaits_key-emptied (at_value ms key ∷ fs) = refl
 
 document_emptied : (fs : List Frame) → after_document_end (emptied_frames fs) ≡ emptied_some (after_document_end fs)
 document_emptied [] = refl
@@ -43,7 +71,7 @@ document_emptied (in_seq ts ∷ fs) = refl
 document_emptied (at_key ms ∷ fs) = refl
 document_emptied (at_value ms key ∷ fs) = refl
 
--- what neither ends a sequence nor a mapping
+-- what is no scalar, and ends neither a sequence nor a mapping
 abbrev pub IsInner : Shape → Type 0
 IsInner document_from = Unit {0}
 IsInner document_to = Unit {0}
@@ -51,7 +79,7 @@ IsInner seq_from = Unit {0}
 IsInner seq_to = ⊥
 IsInner map_from = Unit {0}
 IsInner map_to = ⊥
-IsInner (scalar_of value) = Unit {0}
+IsInner (scalar_of value) = ⊥
 
 step_emptied : (fs : List Frame) (s : Shape) → IsInner s → step (emptied_frames fs) s ≡ emptied_some (step fs s)
 step_emptied fs document_from h = refl
@@ -60,7 +88,7 @@ step_emptied fs seq_from h = refl
 step_emptied fs seq_to h = absurd h
 step_emptied fs map_from h = refl
 step_emptied fs map_to h = absurd h
-step_emptied fs (scalar_of value) h = put_emptied fs (text value)
+step_emptied fs (scalar_of value) h = absurd h
 
 -- ---- whether keys differ
 
@@ -133,7 +161,7 @@ step_differs fs seq_from h = refl
 step_differs fs seq_to h = absurd h
 step_differs fs map_from h = refl
 step_differs fs map_to h = absurd h
-step_differs fs (scalar_of value) h = put_differs fs (text value)
+step_differs fs (scalar_of value) h = absurd h
 
 -- ---- the parts that a step of emptied ones is a step of
 
@@ -158,6 +186,28 @@ inner_stepped fs new s h e = stepped (step fs s) new (frames_distinct fs) (sym (
 -- where emptied frames refuse an inner event, so do the frames themselves
 pub inner_none : (fs : List Frame) (s : Shape) → IsInner s → step (emptied_frames fs) s ≡ None → step fs s ≡ None
 inner_none fs s h e = none_emptied (step fs s) (sym (step_emptied fs s h) ∙ e)
+
+-- where emptied frames take what is kept of a scalar, the frames take the scalar: of a key all is kept, else nothing
+pub scalar_stepped : (fs new : List Frame) (kept value : List ℕ) (b : Bool) → awaits_key (emptied_frames fs) ≡ b → kept ≡ (if b then value else [])
+    → frames_with (emptied_frames fs) (text kept) ≡ Some new → Stepped new (frames_distinct fs) (frames_with fs (text value))
+scalar_stepped fs new kept value true awaits keeps e =
+    stepped (frames_with fs (text value)) new (frames_distinct fs)
+    (sym (key_emptied fs value (sym (awaits_key-emptied fs) ∙ awaits)) ∙ ap (λ cs. frames_with (emptied_frames fs) (text cs)) (sym keeps) ∙ e)
+    (put_differs fs (text value))
+scalar_stepped fs new kept value false awaits keeps e =
+    stepped (frames_with fs (text value)) new (frames_distinct fs)
+    (sym (put_emptied fs (text value) (sym (awaits_key-emptied fs) ∙ awaits)) ∙ ap (λ cs. frames_with (emptied_frames fs) (text cs)) (sym keeps) ∙ e)
+    (put_differs fs (text value))
+
+-- where emptied frames refuse it, the frames refuse the scalar
+pub scalar_refused : (fs : List Frame) (kept value : List ℕ) (b : Bool) → awaits_key (emptied_frames fs) ≡ b → kept ≡ (if b then value else [])
+    → frames_with (emptied_frames fs) (text kept) ≡ None → frames_with fs (text value) ≡ None
+scalar_refused fs kept value true awaits keeps e =
+    none_emptied (frames_with fs (text value))
+    (sym (key_emptied fs value (sym (awaits_key-emptied fs) ∙ awaits)) ∙ ap (λ cs. frames_with (emptied_frames fs) (text cs)) (sym keeps) ∙ e)
+scalar_refused fs kept value false awaits keeps e =
+    none_emptied (frames_with fs (text value))
+    (sym (put_emptied fs (text value) (sym (awaits_key-emptied fs) ∙ awaits)) ∙ ap (λ cs. frames_with (emptied_frames fs) (text cs)) (sym keeps) ∙ e)
 
 -- the sequence, the mapping that is innermost
 pub record InSeq (fs rest : List Frame) : Type 0 where
@@ -197,7 +247,7 @@ in_map_parts (at_value ms key ∷ fs) ns rest e = cc
 pub seq_stepped : (fs rest new : List Frame) → InSeq fs rest → frames_with rest (sequence no_element) ≡ Some new → Stepped new (frames_distinct fs) (after_seq_end fs)
 seq_stepped fs rest new i e =
     let found = stepped (frames_with i.outer (sequence i.elements)) new (elements_distinct i.elements && frames_distinct i.outer)
-    (sym (put_emptied i.outer (sequence i.elements)) ∙ ap (λ gs. frames_with gs (sequence no_element)) (sym i.after) ∙ e)
+    (sym (put_emptied i.outer (sequence i.elements) refl) ∙ ap (λ gs. frames_with gs (sequence no_element)) (sym i.after) ∙ e)
     (put_differs i.outer (sequence i.elements)) in
     subst (λ gs. Stepped new (frames_distinct gs) (after_seq_end gs)) (sym i.is) found
 
@@ -205,7 +255,7 @@ seq_stepped fs rest new i e =
 pub seq_put_none : (fs rest : List Frame) → InSeq fs rest → frames_with rest (sequence no_element) ≡ None → after_seq_end fs ≡ None
 seq_put_none fs rest i e =
     ap after_seq_end i.is
-    ∙ none_emptied (frames_with i.outer (sequence i.elements)) (sym (put_emptied i.outer (sequence i.elements)) ∙ ap (λ gs. frames_with gs (sequence no_element)) (sym i.after) ∙ e)
+    ∙ none_emptied (frames_with i.outer (sequence i.elements)) (sym (put_emptied i.outer (sequence i.elements) refl) ∙ ap (λ gs. frames_with gs (sequence no_element)) (sym i.after) ∙ e)
 
 keys_of_mapping : (ms : Members) (d : Bool) (fs : List Frame) → d ≡ (values_distinct ms && frames_distinct fs)
     → (d && keys_differ ms) ≡ (members_distinct ms && frames_distinct fs)
@@ -230,7 +280,7 @@ map_stepped fs rest new ns d i e was =
     let flag : (d && keys_differ ns) ≡ (members_distinct i.members && frames_distinct i.outer) =
     ap (λ b. d && b) keys ∙ keys_of_mapping i.members d i.outer (was ∙ ap frames_distinct i.is) in
     let found = stepped (frames_with i.outer (mapping i.members)) new (members_distinct i.members && frames_distinct i.outer)
-    (sym (put_emptied i.outer (mapping i.members)) ∙ ap (λ gs. frames_with gs (mapping no_member)) (sym i.after) ∙ e)
+    (sym (put_emptied i.outer (mapping i.members) refl) ∙ ap (λ gs. frames_with gs (mapping no_member)) (sym i.after) ∙ e)
     (put_differs i.outer (mapping i.members)) in
     let there : Stepped new (members_distinct i.members && frames_distinct i.outer) (after_map_end fs) =
     subst (λ gs. Stepped new (members_distinct i.members && frames_distinct i.outer) (after_map_end gs)) (sym i.is) found in
@@ -240,7 +290,7 @@ map_stepped fs rest new ns d i e was =
 pub map_put_none : (fs rest : List Frame) (ns : Members) → InMap fs ns rest → frames_with rest (mapping no_member) ≡ None → after_map_end fs ≡ None
 map_put_none fs rest ns i e =
     ap after_map_end i.is
-    ∙ none_emptied (frames_with i.outer (mapping i.members)) (sym (put_emptied i.outer (mapping i.members)) ∙ ap (λ gs. frames_with gs (mapping no_member)) (sym i.after) ∙ e)
+    ∙ none_emptied (frames_with i.outer (mapping i.members)) (sym (put_emptied i.outer (mapping i.members) refl) ∙ ap (λ gs. frames_with gs (mapping no_member)) (sym i.after) ∙ e)
 
 -- no sequence, no mapping is innermost, or its place is none for a collection
 

@@ -30,3 +30,6 @@ pub mod GivenLemmas
 pub mod NestedLemmas
 pub mod PresentedLemmas
 pub mod StartLemmas
+pub mod OpenTextLemmas
+pub mod OpenPartLemmas
+pub mod WriterLemmas

@@ -1,6 +1,5 @@
--- The open parts of a document whose collections are emptied once they end, and whether keys differ in those that have
--- ended.
-use Rattle.std.specs.Prelude.{◌≡◌, Bool, true, ◌&&◌, List, [], ◌∷◌, Option, Some}
+-- The open parts of a document whose values are emptied once they end, and whether keys differ in those that have ended.
+use Rattle.std.specs.Prelude.{◌≡◌, Bool, true, false, ◌&&◌, List, [], ◌∷◌, Option, Some}
 use Rattle.yaml_grammar.specs.Trees.{Tree, text, sequence, mapping, Elements, no_element, element, Members, no_member, member, distinct, elements_distinct}
 use Rattle.yaml_tree.specs.declared.deep.KeyCheck.{KeyCheck}
 use Rattle.yaml_tree.specs.Building.{frames_of}
@@ -8,7 +7,7 @@ use Rattle.yaml_tree.specs.Frames.{Frame, awaiting, root, whole, in_seq, at_key,
 use Rattle.yaml_tree.specs.Keys.{values_distinct}
 
 abbrev pub emptied_tree : Tree → Tree
-emptied_tree (text value) = text value
+emptied_tree (text value) = text []
 emptied_tree (sequence ts) = sequence no_element
 emptied_tree (mapping ms) = mapping no_member
 
@@ -31,6 +30,16 @@ emptied_frame (at_value ms key) = at_value (emptied_members ms) key
 abbrev pub emptied_frames : List Frame → List Frame
 emptied_frames [] = []
 emptied_frames (f ∷ fs) = emptied_frame f ∷ emptied_frames fs
+
+-- a key is next in the innermost part
+abbrev pub awaits_key : List Frame → Bool
+awaits_key [] = false
+awaits_key (awaiting ∷ fs) = false
+awaits_key (root t ∷ fs) = false
+awaits_key (whole t ∷ fs) = false
+awaits_key (in_seq ts ∷ fs) = false
+awaits_key (at_key ms ∷ fs) = true
+awaits_key (at_value ms key ∷ fs) = false
 
 -- in each mapping that has ended the keys differ
 abbrev pub frame_distinct : Frame → Bool

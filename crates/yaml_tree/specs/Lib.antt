@@ -15,3 +15,6 @@ pub mod TextBytes
 pub mod Nested
 pub mod Sizes
 pub mod Reading
+pub mod OpenText
+pub mod OpenTextLaws
+pub mod Formatting

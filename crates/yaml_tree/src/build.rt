@@ -4,7 +4,9 @@ ghost use Rattle.std.specs.Cow.{cow_str_bytes};
 ghost use Rattle.yaml_events.specs.Meant.{event_of, events_of};
 ghost use Rattle.yaml_grammar.specs.Trees.{IsTreeOf, no_element, no_member, shape};
 ghost use Rattle.yaml_tree.specs.Building.{frame_of, frames_of, map_frame, HasNone, HasNoTree};
-ghost use Rattle.yaml_tree.specs.Frames.{in_seq, at_key, frame_with, frames_with, step, after_document_end, after_seq_end, after_map_end, finished_tree};
+ghost use Rattle.yaml_tree.specs.Emptied.{awaits_key};
+ghost use Rattle.yaml_tree.specs.Frames.{Frame, in_seq, at_key, frame_with, frames_with, step, after_document_end, after_seq_end, after_map_end, finished_tree};
+ghost use Rattle.yaml_tree.specs.OpenText.{awaits_value};
 ghost use Rattle.yaml_tree.specs.Seen.{tree_of, elements_of, members_of};
 ghost use Rattle.yaml_tree.specs.TextBytes.{text_bytes};
 
@@ -32,9 +34,9 @@ pub(crate) enum Part {
 /// A mapping whose end is still to come.
 #[derive(Drop)]
 pub(crate) struct OpenMap {
-    pairs: Vec<(Text, Tree)>,
+    pub(crate) pairs: Vec<(Text, Tree)>,
     /// The key whose value is next. Where there is none, a key is next.
-    key: Option<Text>,
+    pub(crate) key: Option<Text>,
 }
 
 impl OpenMap {
@@ -73,6 +75,26 @@ impl OpenMap {
 }
 
 impl Part {
+    /// Whether a key is next in it.
+    fn awaits_key(&self) -> bool
+        ensures { (fs : List Frame) → result ≡ awaits_key (frame_of self.now ∷ fs) }
+    {
+        match self {
+            Part::Map(map) => map.key.is_none(),
+            Part::Document | Part::Root(_) | Part::Whole(_) | Part::Seq(_) => false,
+        }
+    }
+
+    /// Whether the value of a key is next in it.
+    pub(crate) fn awaits_value(&self) -> bool
+        ensures { (fs : List Frame) → result ≡ awaits_value (frame_of self.now ∷ fs) }
+    {
+        match self {
+            Part::Map(map) => map.key.is_some(),
+            Part::Document | Part::Root(_) | Part::Whole(_) | Part::Seq(_) => false,
+        }
+    }
+
     /// Puts in a further value. Returns `KeyNotText` if the value is a collection where a key is next, or if no value
     /// may follow.
     #[inline(always)]
@@ -151,6 +173,16 @@ impl Builder {
         match self.parts.last_mut() {
             Some(part) => part.put(tree),
             None => Err(ReadFault::KeyNotText),
+        }
+    }
+
+    /// Whether a key is next.
+    pub(crate) fn awaits_key(&self) -> bool
+        ensures { result ≡ awaits_key (frames_of self.now.parts.items) }
+    {
+        match self.parts.split_last() {
+            Some((innermost, _)) => innermost.awaits_key(),
+            None => false,
         }
     }
 
@@ -285,7 +317,7 @@ impl Builder {
 
 /// The text of a scalar. One that owns its memory hands it over.
 #[inline(always)]
-fn text_of(alloc: Global, value: CowStr<'_>) -> Result<Text, AllocError>
+pub(crate) fn text_of(alloc: Global, value: CowStr<'_>) -> Result<Text, AllocError>
     ensures { IfOk result (λ text. text_bytes text ≡ cow_str_bytes value.entry) }
 {
     match value {

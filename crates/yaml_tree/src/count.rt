@@ -1,5 +1,5 @@
 // Lengths in the one style, counted and not written.
-ghost use Rattle.std.specs.Prelude.{◌≡◌, ◌≤◌};
+ghost use Rattle.std.specs.Prelude.{◌≡◌, ◌≤◌, Some, is_some};
 ghost use Rattle.std.specs.Option.{SomeIff};
 ghost use Rattle.std.specs.Str.{chars};
 ghost use Rattle.yaml_grammar.specs.Texts.{byte_len};
@@ -117,12 +117,27 @@ impl Sink for ByteCount {
 
 /// How many bytes may still come; None once more came than might.
 #[derive(Drop)]
-struct ByteBudget {
+pub(crate) struct ByteBudget {
     left: Option<u64>,
 }
 
 impl ByteBudget {
-    fn spend(&mut self, bytes: u64)
+    /// So many bytes may come.
+    pub(crate) fn new(limit: u64) -> ByteBudget
+        ensures { result.left ≡ Some limit }
+    {
+        ByteBudget { left: Some(limit) }
+    }
+
+    /// Whether no more bytes came than might.
+    pub(crate) fn is_kept(&self) -> bool
+        ensures { result ≡ is_some self.now.left }
+    {
+        self.left.is_some()
+    }
+
+    /// Counts so many bytes.
+    pub(crate) fn spend(&mut self, bytes: u64)
         ensures { self.new.left ≡ left_after self.old.left bytes }
     {
         self.left = match self.left {
@@ -170,7 +185,7 @@ pub fn style_len(tree: &Tree, max: u64) -> Option<u64>
         (byte_len (style_text (tree_of tree.now)) ≤ max)
         (byte_len (style_text (tree_of tree.now))) }
 {
-    let mut budget = ByteBudget { left: Some(max) };
+    let mut budget = ByteBudget::new(max);
     match write_style(tree, &mut budget) {
         Ok(()) => Some(max - budget.left?),
         Err(never) => match never {},

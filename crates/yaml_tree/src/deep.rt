@@ -1,40 +1,45 @@
 // Whether keys differ in a document that is too deep to be built.
+ghost use Rattle.std.specs.Cow.{cow_str_bytes};
 ghost use Rattle.std.specs.Prelude.{◌≡◌, List, [], MatchResult};
+ghost use Rattle.std.specs.Str.{chars};
 ghost use Rattle.yaml_events.specs.Meant.{event_of, events_of};
 ghost use Rattle.yaml_grammar.specs.Trees as grammar;
-ghost use Rattle.yaml_grammar.specs.Trees.{IsTreeOf, distinct, shape};
+ghost use Rattle.yaml_grammar.specs.Trees.{IsTreeOf, distinct, shape, text};
 ghost use Rattle.yaml_tree.specs.Building.{HasNone, HasNoTree};
 ghost use Rattle.yaml_tree.specs.Emptied.{Keeps, Took};
-ghost use Rattle.yaml_tree.specs.Frames.{Frame, step, after_seq_end, after_map_end};
+ghost use Rattle.yaml_tree.specs.Frames.{Frame, frames_with, step, after_seq_end, after_map_end};
 
-use crate::build::Builder;
+use crate::build::{Builder, text_of};
 use crate::keys::keys_differ;
 use crate::sizes::Sizes;
-use crate::{ReadFault, Tree};
+use crate::{ReadFault, Text, Tree};
 use std::alloc::Global;
+use std::borrow::CowStr;
 use yaml_events::{Event, Events};
 
-/// A walk over a document that keeps the keys of the mappings that are open, and of a collection that has ended
-/// only its kind.
+/// A walk over a document that keeps the keys of the mappings that are open. Of a value that has ended it keeps only
+/// the kind.
 #[derive(Drop)]
 pub(crate) struct KeyCheck {
-    builder: Builder,
+    pub(crate) builder: Builder,
     /// Whether the keys differ in each mapping that has ended.
-    keys_differ: bool,
+    pub(crate) keys_differ: bool,
 }
 
 impl KeyCheck {
-    fn new(alloc: Global) -> Self
+    /// Nothing is open. `sizes` tells how many values the collections will have.
+    pub(crate) fn new(alloc: Global, sizes: Sizes) -> Self
         ensures { Keeps result [] }
     {
         KeyCheck {
-            builder: Builder::new(alloc, Sizes::none(alloc)),
+            builder: Builder::new(alloc, sizes),
             keys_differ: true,
         }
     }
 
     /// Takes the next event of the document. Returns `KeyNotText` if the event has no place there.
-    fn take(&mut self, event: Event<'_>) -> Result<(), ReadFault>
+    #[inline(always)]
+    pub(crate) fn take(&mut self, event: Event<'_>) -> Result<(), ReadFault>
         ensures { (fs : List Frame) → Keeps self.old fs → MatchResult result
             (λ _. Took self.new (step fs (shape (event_of event.entry))))
             (HasNone (step fs (shape (event_of event.entry)))) }
@@ -42,8 +47,23 @@ impl KeyCheck {
         match event {
             Event::SeqEnd => self.end_seq(),
             Event::MapEnd => self.end_map(),
+            Event::Scalar { value, .. } => self.scalar(value),
             event => self.builder.take(event),
         }
+    }
+
+    /// Takes a scalar, of which it keeps the text where it is a key. Returns `KeyNotText` if it has no place there.
+    fn scalar(&mut self, value: CowStr<'_>) -> Result<(), ReadFault>
+        ensures { (fs : List Frame) → Keeps self.old fs → MatchResult result
+            (λ _. Took self.new (frames_with fs (text (chars (cow_str_bytes value.entry)))))
+            (HasNone (frames_with fs (text (chars (cow_str_bytes value.entry))))) }
+    {
+        let kept = if self.builder.awaits_key() {
+            text_of(self.builder.alloc, value)?
+        } else {
+            Text::empty()
+        };
+        self.builder.put(Tree::Text(kept))
     }
 
     /// Ends the innermost part. Returns `KeyNotText` if it is no sequence, or if it is a key.
@@ -72,7 +92,7 @@ impl KeyCheck {
 }
 
 /// Whether in each mapping of a document the keys differ from one another. The document may be of any depth: of a
-/// collection that has ended only its kind is kept.
+/// value that has ended only its kind is kept.
 ///
 /// # Errors
 ///
@@ -83,7 +103,7 @@ pub(crate) fn document_keys_differ(alloc: Global, events: Events<'_>) -> Result<
         (λ differ. (t : grammar.Tree) × IsTreeOf (events_of events.entry) t × (differ ≡ distinct t))
         (HasNoTree (events_of events.entry)) }
 {
-    let mut check = KeyCheck::new(alloc);
+    let mut check = KeyCheck::new(alloc, Sizes::none(alloc));
     for event in events {
         check.take(event)?;
     }

@@ -36,7 +36,7 @@ pub fn write_text<S: Sink>(text: &str, indent: u64, sink: &mut S) -> Result<(), 
 }
 
 /// Writes a value with the end of its last line; a literal's lines come after `indent` spaces.
-fn write_scalar<S: Sink>(text: &str, indent: u64, sink: &mut S) -> Result<(), S::Fault>
+pub(crate) fn write_scalar<S: Sink>(text: &str, indent: u64, sink: &mut S) -> Result<(), S::Fault>
     ensures { OnOk result (S.Takes sink.old (scalar_lines indent (chars text.now)) sink.new) }
 {
     match scalar_style(text, false) {

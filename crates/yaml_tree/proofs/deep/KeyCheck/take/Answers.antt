@@ -12,7 +12,7 @@ use Rattle.yaml_tree.proofs.deep.KeyCheck.take.Goals as goal
 pub returns-in_default : goal.returns-in_default
 returns-in_default c = λ fs keeps.
     let s = shape (event_of c.args.event) in
-    let inner = inner_event c.args.event c.in_default.not-SeqEnd c.in_default.not-MapEnd in
+    let inner = inner_event c.args.event c.in_default.not-SeqEnd c.in_default.not-MapEnd c.in_default.not-Scalar in
     MatchResult-weaker c.take.result c.take.ensures
     (λ _ e. took _ (frames_distinct fs) (step fs s)
     (inner_stepped fs (frames_of c.take.new.self.parts.items) s inner (ap (λ gs. step gs s) (sym keeps.frames) ∙ e)) keeps.differ)

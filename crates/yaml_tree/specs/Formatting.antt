@@ -1,0 +1,59 @@
+-- A document that is written while its events come, and what is left of it at the end.
+use Rattle.std.specs.Prelude.{◌≡◌, ℕ, ◌<◌, List, Option, Some, ◌-◌, ◌+◌, encode_utf8_all, string_bytes}
+use Rattle.yaml_grammar.specs.Events.{Event}
+use Rattle.yaml_grammar.specs.Reads.{Limits}
+use Rattle.yaml_grammar.specs.Style.{style_text}
+use Rattle.yaml_grammar.specs.Trees.{Tree, IsTreeOf, IsTextTree, distinct, Shape, document_from, document_to, seq_from, seq_to, map_from, map_to, scalar_of}
+use Rattle.yaml_tree.specs.Emptied.{Keeps}
+use Rattle.yaml_tree.specs.Frames.{Frame, finished_tree}
+use Rattle.yaml_tree.specs.OpenText.{indent_in, text_of, AreTextFrames, TakesLimited}
+use Rattle.yaml_tree.specs.Reading.{IsRead}
+use Rattle.yaml_tree.specs.declared.format.DocumentWriter.{DocumentWriter}
+use Rattle.yaml_tree.specs.declared.format.WrittenDocument.{WrittenDocument}
+use Rattle.yaml_tree.specs.declared.limited.LimitedText.{LimitedText}
+
+-- the bytes give a tree within the limits, and this is its text in the one style
+pub record IsFormatted (bytes : List ℕ) (limits : Limits) (text : List ℕ) : Type 0 where
+  pub tree : Tree
+  pub reads : IsRead bytes limits tree
+  pub style : text ≡ encode_utf8_all (style_text tree)
+
+-- the indentation of what is opened after an event
+abbrev pub indent_after : ℕ → Shape → ℕ
+indent_after i document_from = i
+indent_after i document_to = i
+indent_after i seq_from = i + 2
+indent_after i seq_to = i - 2
+indent_after i map_from = i + 2
+indent_after i map_to = i - 2
+indent_after i (scalar_of value) = i
+
+-- a writer that began with a text and has come to these open parts
+pub record Writes (start : LimitedText) (writer : DocumentWriter) (fs : List Frame) : Type 0 where
+  pub keeps : Keeps writer.check fs
+  pub indent : writer.indent ≡ indent_in fs
+  pub room : writer.indent < 4294967296
+  pub texts : AreTextFrames fs
+  pub text : TakesLimited start (text_of fs) writer.text
+
+-- a writer that has come to the open parts which there are
+pub record Wrote (start : LimitedText) (writer : DocumentWriter) (o : Option (List Frame)) : Type 0 where
+  pub parts : List Frame
+  pub are : o ≡ Some parts
+  pub writes : Writes start writer parts
+
+-- the document is finished, and this is what was written of its tree
+pub record HasWritten (start : LimitedText) (o : Option Tree) (document : WrittenDocument) : Type 0 where
+  pub tree : Tree
+  pub is : o ≡ Some tree
+  pub texts : IsTextTree tree
+  pub differ : document.keys_differ ≡ distinct tree
+  pub text : TakesLimited start (style_text tree) document.text
+
+-- the events are those of one document, and this is what was written of its tree
+pub record IsWritten (start : LimitedText) (events : List Event) (document : WrittenDocument) : Type 0 where
+  pub tree : Tree
+  pub is_tree : IsTreeOf events tree
+  pub texts : IsTextTree tree
+  pub differ : document.keys_differ ≡ distinct tree
+  pub text : TakesLimited start (style_text tree) document.text
