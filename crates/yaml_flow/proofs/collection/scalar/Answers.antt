@@ -1,14 +1,14 @@
 use Rattle.std.proofs.lemmas.Result.{err_from_is_err_and}
-use Rattle.std.proofs.Common.{◌≡◌, sym, subst, ap, ◌∙◌, arith}
+use Rattle.std.proofs.Common.{◌≡◌, sym, subst, ap, ◌∙◌, arith, ◌-◌, ◌*◌, ◌<◌, length}
 use Rattle.std.specs.Prelude.{not, [], ◌∷◌, ◌++◌}
 use Rattle.yaml_events.specs.Meant.{context_of}
 use Rattle.yaml_scan.specs.ScanPlaces.{unbroken_between}
 use Rattle.yaml_scan.proofs.Outcomes.{fault_passed, faults_so, ok_so}
 use Rattle.yaml_flow.specs.FlowNodes.{NoFlowScalar}
-use Rattle.yaml_flow.specs.Frames.{LineMoves, place_of}
+use Rattle.yaml_flow.specs.Frames.{LineMoves, Onward, place_of, steps_left}
 use Rattle.yaml_flow.proofs.NodeSteps.{node_missing}
 use Rattle.yaml_flow.proofs.GapPlaces.{broken_by, unbroken_by}
-use Rattle.yaml_flow.proofs.SameLines.{line_follows, line_stays, line_then}
+use Rattle.yaml_flow.proofs.SameLines.{line_follows, line_stays, line_then, same_line_here}
 use Rattle.yaml_flow.proofs.ScalarSteps.{scalar_missing, scalar_node}
 use Rattle.yaml_flow.proofs.collection.scalar.Goals as goal
 use Rattle.yaml_flow.proofs.collection.scalar.Goals.{then-is_over_lines, else-is_over_lines}
@@ -60,3 +60,33 @@ returns-clause-none c =
     faults_so c.plug.result _ _
     (λ h. λ w here. h w (scalar_node n d text w top c.node_end-node_end.result c.in_ok-found.found events c.push.new.events c.utf8.text c.requires.at c.requires.no_seq c.requires.no_map c.requires.count
     c.in_ok-found.ensures.found c.node_end-node_end.ensures (c.in_ok-push.ensures.ok ∙ ap (λ e. events ++ e ∷ []) c.into_event.ensures) here)) c.plug.ensures.none
+
+pub plug-requires-clause-line : goal.plug-requires-clause-line
+plug-requires-clause-line c =
+    let text = c.args.text.now in
+    let start = c.args.top.now.start in
+    let read = c.in_ok-found.ensures.found in
+    let above = read.above in
+    let over : c.is_over_lines.result ≡ not (unbroken_between text start c.in_ok-found.found.end) = c.is_over_lines.ensures in
+    let moves : LineMoves text c.args.line.now start c.if-is_over_lines.line c.in_ok-found.found.end = elim c.if-is_over_lines.branch [
+      | then-is_over_lines w ↦ subst (λ k. LineMoves text c.args.line.now start k c.in_ok-found.found.end) (sym w.line-is)
+          (line_follows text c.args.line.now start c.in_ok-found.found.end c.utf8.text above c.requires.at read.boundary (broken_by _ _ over w.if-is_over_lines.true))
+      | else-is_over_lines w ↦ subst (λ k. LineMoves text c.args.line.now start k c.in_ok-found.found.end) (sym w.line-is)
+          (line_stays text c.args.line.now start c.in_ok-found.found.end c.utf8.text (omega (arith, above)) c.requires.at read.boundary (unbroken_by _ _ over w.if-is_over_lines.false))
+    ] in
+    moves.tells start c.requires.at (omega arith) (same_line_here text c.args.line.now start c.requires.line)
+
+pub returns-clause-onward : goal.returns-clause-onward
+returns-clause-onward c =
+    let above = c.in_ok-found.ensures.found.above in
+    ok_so c.plug.result _ (Onward c.args.text.now c.args.top.now.start)
+    (λ next h. let on = h.above in record { boundary = h.boundary; above = omega (arith, above, on); within = h.within })
+    c.plug.ensures.onward
+
+pub returns-clause-less : goal.returns-clause-less
+returns-clause-less c =
+    let text = c.args.text.now in
+    let above = c.in_ok-found.ensures.found.above in
+    let within = c.in_ok-found.ensures.found.within in
+    ok_so c.plug.result _ (λ next. steps_left text next < 2 * (length text - c.args.top.now.start))
+    (λ next h. omega (arith, above, within, h)) c.plug.ensures.less
