@@ -1,4 +1,4 @@
-use Rattle.std.proofs.Common.{arith, refl, sym, ◌∙◌, ap, subst, length, ◌≤◌}
+use Rattle.std.proofs.Common.{arith, refl, sym, ◌∙◌, ap, subst, length, ◌≤◌, ◌-◌, ◌*◌}
 use Rattle.std.specs.Prelude.{ℕ, [], ◌∷◌, ◌++◌, Option, IfSome, insert}
 use Rattle.std.proofs.lemmas.Result.{err_from_is_err_and}
 use Rattle.yaml_grammar.specs.FlowScalars.{outer}
@@ -74,3 +74,19 @@ returns-in-None-clause-none c =
     (leaf_unclosed text c.utf8.text leaf c.in-Ok.end c.white_end-colon.result c.args.self.now c.flow_node.new.events
     (c.in-Ok.ensures).reads (c.white_end-colon.ensures).taken
     (sym c.sign_at.ensures ∙ c.if-sign_at.false) (c.in-None.ensures).none)
+
+pub returns-in-Some-clause-onward : goal.returns-in-Some-clause-onward
+returns-in-Some-clause-onward c =
+    let read = (c.in-Ok.ensures).reads in
+    let found = (c.in-Some.ensures).found in
+    let above = read.above in
+    let within = read.within in
+    let further = found.above in
+    record {
+      above = omega (arith, above, further);
+      less = omega (arith, above, within, further);
+      placed = record {
+        line = record { boundary = found.boundary; spaces = found.spaces; starts = (c.in-Some.ensures).starts };
+        solid = found.solid;
+      };
+    }

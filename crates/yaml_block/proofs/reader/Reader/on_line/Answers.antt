@@ -1,5 +1,6 @@
 use Rattle.std.proofs.Common.{◌≡◌, refl, sym, ◌∙◌, subst, arith, ◌+◌, ◌-◌, ◌*◌, ◌≤◌, length}
-use Rattle.std.specs.Prelude.{Some, None}
+use Rattle.std.specs.Prelude.{Some, None, List, ℕ, Result, IfOk}
+use Rattle.yaml_events.specs.declared.fault.ScanFault.{ScanFault}
 use Rattle.std.proofs.lemmas.Bool.{and_parts}
 use Rattle.yaml_scan.proofs.Outcomes.{ok_so, refuses}
 use Rattle.yaml_block.specs.States.{BeforeLeaf, BeforeNodeLine, Onward, Leads}
@@ -8,7 +9,7 @@ use Rattle.yaml_block.specs.declared.frame.Next.{Next}
 use Rattle.yaml_block.specs.declared.frame.Next.TheVariants as next
 use Rattle.yaml_block.specs.declared.frame.Sign.TheVariants.{Dash}
 use Rattle.yaml_block.proofs.TextPlaces.{IsPastSign, past_sign}
-use Rattle.yaml_block.proofs.SignsAndLines.{either, ok_opens, Becomes, leads_so, fails_so, dash_onward, line_sequence, line_refused, line_leaf_only, line_leaf_or_pairs}
+use Rattle.yaml_block.proofs.SignsAndLines.{either, ok_opens, onward_from, Becomes, leads_so, fails_so, dash_onward, line_sequence, line_refused, line_leaf_only, line_leaf_or_pairs}
 use Rattle.yaml_block.proofs.reader.Reader.on_line.Goals as goal
 
 pub returns-then-begins_sequence-clause-onward : goal.returns-then-begins_sequence-clause-onward
@@ -97,3 +98,22 @@ unfolding leaf_or_pairs
 returns-clause-none c =
     fails_so c.args.text.now c.leaf-2.result (BeforeLeaf c.args.text.now (leaf_or_pairs c)) _ c.args.self.now
     (pairs_here c) c.leaf-2.ensures.none
+
+-- the next step after a leaf on the line is further on
+leaf_onward : (text : List ℕ) (start first lead : ℕ) (r : Result Next ScanFault) → start ≤ first → first ≤ lead
+    → IfOk r (Onward text lead (3 * (length text - lead)))
+    → IfOk r (Onward text start (3 * (length text - start)))
+leaf_onward text start first lead r l m h =
+    ok_so r _ _
+    (λ to o. onward_from text start lead (3 * (length text - lead)) (3 * (length text - start)) to (omega arith)
+    (omega arith) o) h
+
+pub returns-then-spaces-node-2-clause-onward : goal.returns-then-spaces-node-2-clause-onward
+returns-then-spaces-node-2-clause-onward c =
+    leaf_onward c.args.text.now c.args.line.start c.args.line.first c.white_end-first.result c.leaf.result
+    ((c.requires.line).spaces).above c.white_end-first.ensures.taken.above c.leaf.ensures.onward
+
+pub returns-clause-onward : goal.returns-clause-onward
+returns-clause-onward c =
+    leaf_onward c.args.text.now c.args.line.start c.args.line.first c.white_end-first.result c.leaf-2.result
+    ((c.requires.line).spaces).above c.white_end-first.ensures.taken.above c.leaf-2.ensures.onward
