@@ -29,6 +29,11 @@ returns-then-is_empty-clause-refused c = λ _ tokens is.
     (prefix-read c.args.text.now (chars_rest c.loop-c.rest) (chars_rest c.next.new.self) c.loop-c.tokens.items c.in-Some.c c.loop-c.invariant c.in-Some.ensures.steps.0 empty c.if-c-eq47.false)
     is
 
+pub returns-then-is_empty-clause-met : goal.returns-then-is_empty-clause-met
+returns-then-is_empty-clause-met c =
+    let empty : length c.loop-c.tokens.items ≡ 0 = search (rules, nat_tests) in
+    inr (sym (prefix-read c.args.text.now (chars_rest c.loop-c.rest) (chars_rest c.next.new.self) c.loop-c.tokens.items c.in-Some.c c.loop-c.invariant c.in-Some.ensures.steps.0 empty c.if-c-eq47.false))
+
 pub loop-c-preserved-then-c-ne126 : goal.loop-c-preserved-then-c-ne126
 loop-c-preserved-then-c-ne126 c =
     itself-read c.args.text.now (chars_rest c.loop-c.rest) (chars_rest c.next.new.self) (pointer_text (texts c.loop-c.tokens.items))
