@@ -104,6 +104,15 @@ write_element-returns-in-Map g t c =
     ∙ sym (ap (λ tree. element_at tree c.args.indent) seen)))
     c.write_members.ensures
 
+pub write_element-returns-in-Seq : goal.write_element-returns-in-Seq
+write_element-returns-in-Seq g t c =
+    let seen = ap tree_of c.in-Seq.is ∙ tree_of-Seq c.in-Seq.items in
+    on_ok_weaker c.write_elements.result
+    (subst (λ cs. g.S.Sink.Takes c.args.sink.now cs c.write_elements.new.sink)
+    (ap (λ items. elements_at (elements_of items) (c.args.indent + 2)) c.deref-in-Seq.ensures.value
+    ∙ sym (ap (λ tree. element_at tree c.args.indent) seen)))
+    c.write_elements.ensures
+
 pub write_value_lines-returns-in-Text : goal.write_value_lines-returns-in-Text
 write_value_lines-returns-in-Text g t c =
     let text = ap (λ bytes. value_at (grammar.text (chars bytes)) c.args.indent) c.deref.ensures in

@@ -1,7 +1,7 @@
 use Rattle.std.proofs.Common.{sym, ap, ◌∙◌, arith}
-use Rattle.yaml_grammar.specs.Trees.{mapping}
+use Rattle.yaml_grammar.specs.Trees.{mapping, sequence}
 use Rattle.yaml_tree.specs.Seen.{Pair, tree_of, elements_of, members_of}
-use Rattle.yaml_tree.proofs.SeenLemmas.{tree_of-Map, elements_of-step, members_of-step}
+use Rattle.yaml_tree.proofs.SeenLemmas.{tree_of-Map, tree_of-Seq, elements_of-step, members_of-step}
 use Rattle.yaml_tree.proofs.tree.+copy.Goals as goal
 
 pub copied-returns-in_ok-copied_pairs-in-Map :
@@ -25,3 +25,10 @@ copied_pairs-loop-key-preserved t c =
     ap members_of c.in_ok-push.ensures.items
     ∙ members_of-step c.args.pairs.now l.copies.items l.key-index c.loop-key-item.result copy
     (omega arith) c.loop-key-item.is l.invariant c.in_ok-try_copy.ensures c.in_ok-copied.ensures
+
+pub copied-returns-in_ok-copied_items-in-Seq :
+    goal.copied-returns-in_ok-copied_items-in-Seq
+copied-returns-in_ok-copied_items-in-Seq t c =
+    tree_of-Seq c.in_ok-copied_items-in-Seq.field-0
+    ∙ ap sequence (c.in_ok-copied_items-in-Seq.ensures ∙ ap elements_of c.deref.ensures.value)
+    ∙ sym (tree_of-Seq c.in-Seq.items) ∙ ap tree_of (sym c.in-Seq.is)
