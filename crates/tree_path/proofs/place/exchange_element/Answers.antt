@@ -1,4 +1,4 @@
-use Rattle.std.proofs.Common.{Ok, set, ap, ◌∙◌, sym}
+use Rattle.std.proofs.Common.{Ok, set, ap, ◌∙◌, sym, rules}
 use Rattle.std.proofs.lemmas.Result.{err_from_is_err_and}
 use Rattle.std.specs.Str.{chars}
 use Rattle.yaml_grammar.specs.Trees.{sequence}
@@ -12,6 +12,14 @@ returns-in_err-index-clause-missed c =
     let v = c.args.items.now in
     let token = chars c.args.token.now in
     rw (p.1, p.2) (child-Seq-missed v.items token c.in_err-index.field-0.0 (index-counted v token c.len.result _ c.len.ensures c.in_err-index.ensures))
+
+pub index_mut-requires : goal.index_mut-requires
+index_mut-requires c =
+    let v = c.args.items.now in
+    let token = chars c.args.token.now in
+    let counted = index-counted v token c.len.result _ c.len.ensures c.in_ok-index.ensures in
+    let within = (child-Seq v.items token c.in_ok-index.index c.args.other.now counted).0 in
+    search rules
 
 pub returns-clause-taken : goal.returns-clause-taken
 returns-clause-taken c =
