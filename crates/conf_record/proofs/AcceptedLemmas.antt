@@ -20,8 +20,8 @@ use Rattle.conf_record.proofs.PointerLemmas.{pointer_bytes}
 use Rattle.conf_record.proofs.RunLaws.{and_then-Ok}
 
 pub record IsSmall (t : Tree) : Type 0 where
-  pub deep : depth t ≤ 64
-  pub bytes : size t ≤ 1048576
+  pub deep : depth t ≤ config_limits.depth
+  pub bytes : size t ≤ config_limits.style
 
 pub record IsGoodPath (path : List ℕ) : Type 0 where
   pub parsed : is_ok (path_of path) ≡ true
@@ -56,11 +56,11 @@ by_path-Ok (Ok y) x is = cc
 by_path-Ok (Err fault) x is = let refused : Err (Path fault) ≡ Ok x = is in cc
 
 -- a configuration of a state is within its limits
-named_small : (es : List Entry) (name : List ℕ) (t : Tree) → AreConfigs es → config_named es name ≡ Some t → size t ≤ 1048576
+named_small : (es : List Entry) (name : List ℕ) (t : Tree) → AreConfigs es → config_named es name ≡ Some t → size t ≤ config_limits.style
 named_small [] name t all is = cc
 named_small (e ∷ es) name t all is = by (same_text name e.0) is (named_small es name t all.2)
   where
-    by : (b : Bool) → (if b then Some e.1 else config_named es name) ≡ Some t → (config_named es name ≡ Some t → size t ≤ 1048576) → size t ≤ 1048576
+    by : (b : Bool) → (if b then Some e.1 else config_named es name) ≡ Some t → (config_named es name ≡ Some t → size t ≤ config_limits.style) → size t ≤ config_limits.style
     by true here rest =
         let same : e.1 ≡ t = cc in
         let bytes = ap size same in
@@ -68,7 +68,7 @@ named_small (e ∷ es) name t all is = by (same_text name e.0) is (named_small e
         omega arith
     by false there rest = rest there
 
-good_path : (path : List ℕ) (tokens : List (List ℕ)) → path_of path ≡ Ok tokens → tokens_size tokens ≤ 1048576 → IsGoodPath path
+good_path : (path : List ℕ) (tokens : List (List ℕ)) → path_of path ≡ Ok tokens → tokens_size tokens ≤ config_limits.style → IsGoodPath path
 good_path path tokens is few =
     let bytes = pointer_bytes path tokens is in
     record { parsed = ap is_ok is; bytes = omega arith }
@@ -80,8 +80,8 @@ placed_small configs name t after is =
     let done = and_then-Ok (checked_tree t) (λ u. Ok (put_config configs name u)) after is in
     limited_small t done.0 done.1
 
-deleted_size : (configs : List Entry) (name : List ℕ) (t : Tree) (tokens : List (List ℕ)) (after : List Entry) → size t ≤ 1048576
-    → configs_after_delete configs name t tokens ≡ Ok after → tokens_size tokens ≤ 1048576
+deleted_size : (configs : List Entry) (name : List ℕ) (t : Tree) (tokens : List (List ℕ)) (after : List Entry) → size t ≤ config_limits.style
+    → configs_after_delete configs name t tokens ≡ Ok after → tokens_size tokens ≤ config_limits.style
 deleted_size configs name t [] after small is = omega arith
 deleted_size configs name t (token ∷ tokens) after small is =
     let done = and_then-Ok (by_path (delete t (token ∷ tokens))) (with_checked_config configs name) after is in

@@ -2,6 +2,7 @@
 use Rattle.std.proofs.Common.{◌≡◌, ℕ, zero, suc, ◌+◌, ◌<◌, ◌≤◌, max, min, nat_le, Bool, true, false, if◌then◌else◌, List, [], ◌∷◌, length, Some, option_map, Ok, Err, ap, arith}
 use Rattle.std.proofs.lemmas.Bool.Decides.{nat_tests}
 use Rattle.yaml_grammar.specs.Texts.{same_text}
+use Rattle.yaml_tree.specs.Limits.{config_limits}
 use Rattle.yaml_grammar.specs.Trees.{Tree, text, sequence, mapping, Elements, no_element, element, Members, no_member, member, depth, elements_depth, members_depth}
 use Rattle.tree_path.specs.Paths.{Index, number, after_last, no_index, index_of, at_index, element_at as child_at, put_element, cut_element, push_element, value_of, put_member, cut_member, child, put, cut, at_step, edit_from, set, delete}
 use Rattle.tree_path.specs.declared.place.Miss.TheVariants.{Absent}
@@ -200,7 +201,7 @@ delete-shallow t w (token ∷ tokens) is = delete_from-shallow tokens 1 t w toke
 -- ---- whether it is at most 64 deep
 
 -- the depth of the path and the value decides whether a set keeps the limit
-pub set-fits : (t v w : Tree) (path : List (List ℕ)) → depth t ≤ 64 → set t path v ≡ Ok w → nat_le (length path + depth v) 64 ≡ nat_le (depth w) 64
+pub set-fits : (t v w : Tree) (path : List (List ℕ)) → depth t ≤ config_limits.depth → set t path v ≡ Ok w → nat_le (length path + depth v) config_limits.depth ≡ nat_le (depth w) config_limits.depth
 set-fits t v w path deep is =
     let rest = set-deepens t v w path is in
     let most = rest.most in
@@ -208,9 +209,9 @@ set-fits t v w path deep is =
     grind (arith, nat_tests)
 
 -- a delete keeps the limit of depth
-pub delete-fits : (t w : Tree) (path : List (List ℕ)) → depth t ≤ 64 → delete t path ≡ Ok w → true ≡ nat_le (depth w) 64
+pub delete-fits : (t w : Tree) (path : List (List ℕ)) → depth t ≤ config_limits.depth → delete t path ≡ Ok w → true ≡ nat_le (depth w) config_limits.depth
 delete-fits t w path deep is = let shallow = delete-shallow t w path is in grind (arith, nat_tests)
 
 -- a sum that stops at the greatest number passes the same test
-pub capped_fits : (steps deep sum : ℕ) → sum ≡ min (steps + deep) 18446744073709551615 → nat_le sum 64 ≡ nat_le (steps + deep) 64
+pub capped_fits : (steps deep sum : ℕ) → sum ≡ min (steps + deep) 18446744073709551615 → nat_le sum config_limits.depth ≡ nat_le (steps + deep) config_limits.depth
 capped_fits steps deep sum is = grind (arith, nat_tests)

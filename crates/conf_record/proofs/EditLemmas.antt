@@ -26,7 +26,7 @@ use Rattle.conf_record.specs.Edits.{tree_after_edit, configs_with_edit, configs_
 use Rattle.conf_record.specs.Kept.{entries_of, ArePlain}
 use Rattle.conf_record.specs.Limits.{AreConfigs}
 use Rattle.conf_record.specs.PathFaults.{store_fault_of}
-use Rattle.conf_record.specs.States.{Entry, Contents, config_named, put_config, cut_config}
+use Rattle.conf_record.specs.States.{Entry, Contents, base_limit, config_named, put_config, cut_config}
 use Rattle.yaml_tree.specs.Limits.{config_limits}
 use Rattle.conf_record.specs.declared.edit.Edit.{Edit}
 use Rattle.conf_record.specs.declared.edit.Edit.TheVariants.{Delete}
@@ -102,12 +102,12 @@ edit-length es name old new change there is =
       entry_value name new,
     )
 
-value_fits : (t : grammar.Tree) → byte_len (style_text t) ≤ 1048576 → byte_len (value_at t 2) ≤ 10000000
+value_fits : (t : grammar.Tree) → byte_len (style_text t) ≤ config_limits.style → byte_len (value_at t 2) ≤ 10000000
 value_fits t short = omega (arith, value_law t 2, value_bound t, value_small t)
 
 -- these bytes stay within a 64-bit number
-pub edit-short : (es : List Entry) (name : List ℕ) (old new : grammar.Tree) → config_named es name ≡ Some old → entries_length es ≤ 67108864
-    → byte_len (style_text new) ≤ 1048576 → entries_length (put_config es name new) < 18446744073709551616
+pub edit-short : (es : List Entry) (name : List ℕ) (old new : grammar.Tree) → config_named es name ≡ Some old → entries_length es ≤ base_limit
+    → byte_len (style_text new) ≤ config_limits.style → entries_length (put_config es name new) < 18446744073709551616
 edit-short es name old new there short small =
     omega (
       arith,
@@ -207,18 +207,18 @@ module _ (es : List Entry) (name : List ℕ) (edit : Edit) where
         inr (ap (λ r. and_then r next) (edited-at pointer old path there parsed ∙ refused name))
 
   module _ (path : List (List ℕ)) (old new : grammar.Tree) (made : tree_after_edit edit old path ≡ Ok new) where
-    pub tree_after_edit-deep : nat_le (depth new) 64 ≡ false → configs_with_edit es name edit old path ≡ Err TooDeep
+    pub tree_after_edit-deep : nat_le (depth new) config_limits.depth ≡ false → configs_with_edit es name edit old path ≡ Err TooDeep
     tree_after_edit-deep deep =
         let more : nat_lt 64 (depth new) ≡ true = grind (arith, nat_tests, deep) in
         rw (made, more) refl
 
-    pub tree_after_edit-large : nat_le (depth new) 64 ≡ true → 1048576 < byte_len (style_text new) → configs_with_edit es name edit old path ≡ Err ConfigLarge
+    pub tree_after_edit-large : nat_le (depth new) config_limits.depth ≡ true → config_limits.style < byte_len (style_text new) → configs_with_edit es name edit old path ≡ Err ConfigLarge
     tree_after_edit-large deep long =
         let fits : nat_lt 64 (depth new) ≡ false = grind (arith, nat_tests, deep) in
         let more : nat_lt 1048576 (byte_len (style_text new)) ≡ true = grind (arith, nat_tests) in
         rw (made, fits, more) refl
 
-    pub tree_after_edit-new : depth new ≤ 64 → byte_len (style_text new) ≤ 1048576 → configs_with_edit es name edit old path ≡ Ok (put_config es name new)
+    pub tree_after_edit-new : depth new ≤ config_limits.depth → byte_len (style_text new) ≤ config_limits.style → configs_with_edit es name edit old path ≡ Ok (put_config es name new)
     tree_after_edit-new deep long =
         let fits : nat_lt 64 (depth new) ≡ false = grind (arith, nat_tests) in
         let short : nat_lt 1048576 (byte_len (style_text new)) ≡ false = grind (arith, nat_tests) in

@@ -9,7 +9,7 @@ use Rattle.yaml_grammar.specs.Style.{style_text}
 use Rattle.yaml_tree.specs.declared.tree.Tree.{Tree}
 use Rattle.yaml_tree.proofs.CharacterLemmas.{same_text-true, same_text-self}
 use Rattle.conf_record.specs.Names.{good_name}
-use Rattle.conf_record.specs.States.{Entry, Contents, names_of, config_named, put_config, has_name, names_differ}
+use Rattle.conf_record.specs.States.{Entry, Contents, base_limit, names_of, config_named, put_config, has_name, names_differ}
 use Rattle.yaml_tree.specs.Limits.{config_limits}
 use Rattle.conf_record.specs.BaseTexts.{base_length, entries_length, framed_length}
 use Rattle.conf_record.proofs.BaseLemmas.{base_length-framed, entries_length-short}
@@ -152,17 +152,17 @@ module _ (all : List Entry) (done : List (String Global × Tree)) (length count 
   framed : base_length (record { configs = entries_of done; count = count }) ≡ framed_length count (entries_length (entries_of done))
   framed = base_length-framed count (entries_of done) (omega (arith, small))
 
-  cut : (e l b : ℕ) → l ≡ min e 18446744073709551615 → b ≡ min (framed_length count l) 18446744073709551615 → b ≤ 67108864 → framed_length count e ≤ 67108864
+  cut : (e l b : ℕ) → l ≡ min e 18446744073709551615 → b ≡ min (framed_length count l) 18446744073709551615 → b ≤ base_limit → framed_length count e ≤ base_limit
   cut e l b h g f = grind (arith, nat_tests, h, g, f)
 
-  back : (e l b : ℕ) → l ≡ min e 18446744073709551615 → b ≡ min (framed_length count l) 18446744073709551615 → framed_length count e ≤ 67108864 → b ≤ 67108864
+  back : (e l b : ℕ) → l ≡ min e 18446744073709551615 → b ≡ min (framed_length count l) 18446744073709551615 → framed_length count e ≤ base_limit → b ≤ base_limit
   back e l b h g f = grind (arith, nat_tests, h, g, f)
 
-  short_base : base ≤ 67108864 → base_length (record { configs = entries_of done; count = count }) ≤ 67108864
+  short_base : base ≤ base_limit → base_length (record { configs = entries_of done; count = count }) ≤ base_limit
   short_base short = omega (arith, framed, cut (entries_length (entries_of done)) length base so.bytes is short)
 
   -- where the base text is short enough, the limits of a state are kept
-  pub parts_kept : base ≤ 67108864 → IsKept done count length
+  pub parts_kept : base ≤ base_limit → IsKept done count length
   parts_kept short =
       let few = entries_length-short count (entries_of done) (omega (arith, small)) (short_base short) in
       let bytes = so.bytes in
@@ -183,7 +183,7 @@ module _ (all : List Entry) (done : List (String Global × Tree)) (length count 
   pub parts_state : with (entries_of done) ≡ with all
   parts_state = ap with whole
 
-  pub parts_long : 67108864 < base → IsState (record { configs = all; count = count }) → ⊥
+  pub parts_long : base_limit < base → IsState (record { configs = all; count = count }) → ⊥
   parts_long long state =
       let short = subst IsState (sym parts_state) state in
       let few = short.short in

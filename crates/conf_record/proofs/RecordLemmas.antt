@@ -15,10 +15,11 @@ use Rattle.yaml_grammar.specs.Style.{scalar_lines, key_lines, value_at, members_
 use Rattle.yaml_laws.specs.Closed.{framed_text}
 use Rattle.yaml_tree.specs.BudgetLaws.{byte_len-append}
 use Rattle.yaml_tree.specs.Kept.{own_limits}
+use Rattle.yaml_tree.specs.Limits.{config_limits}
 use Rattle.yaml_tree.proofs.CharacterLemmas.{same_text-self}
 use Rattle.conf_record.specs.Names.{small_letter, name_char, good_name}
 use Rattle.conf_record.specs.Commands.{Command, import_as, set_at, delete_at}
-use Rattle.conf_record.specs.States.{Entry, Contents, count_limit, names_of, has_name, names_differ}
+use Rattle.conf_record.specs.States.{Entry, Contents, base_limit, count_limit, names_of, has_name, names_differ}
 use Rattle.conf_record.specs.Limits.{AreConfigs, IsState}
 use Rattle.conf_record.specs.BaseTexts.{members, base_tree, base_text, base_length, closed_document}
 use Rattle.conf_record.specs.Records.{command_members, record_tree}
@@ -108,7 +109,7 @@ framed_document t = sym (append_assoc (codes "---\n") (style_text t) (codes "...
 -- a tree within a Config's limits whose framed text is, too
 pub record FramedGood (t : Tree) : Type 0 where
   pub good : Good t own_limits
-  pub short : byte_len (framed_text t) ≤ 67108864
+  pub short : byte_len (framed_text t) ≤ own_limits.bytes
 
 framed_bytes : (t : Tree) → byte_len (framed_text t) ≡ 8 + size t
 framed_bytes t =
@@ -170,7 +171,7 @@ command_texts (import_as name tree) is ok = (refl, name_is_text name ok.0, (refl
 command_texts (set_at name path value) is ok = (refl, name_is_text name ok.0, (refl, is.0, (refl, is.1.texts, tt)))
 command_texts (delete_at name path) is ok = (refl, name_is_text name ok.0, (refl, is, tt))
 
-command_depth : (command : Command) → IsAccepted command → members_depth (command_members command) ≤ 64
+command_depth : (command : Command) → IsAccepted command → members_depth (command_members command) ≤ config_limits.depth
 command_depth (import_as name tree) ok = let deep = ok.1.deep in omega arith
 command_depth (set_at name path value) ok = let deep = ok.2.deep in omega arith
 command_depth (delete_at name path) ok = omega arith
@@ -210,7 +211,7 @@ config_texts : (es : List Entry) → AreConfigs es → AreTextMembers (members e
 config_texts [] all = tt
 config_texts (e ∷ es) all = (name_is_text e.0 all.0, all.1.texts, config_texts es all.2)
 
-config_depth : (es : List Entry) → AreConfigs es → members_depth (members es) ≤ 64
+config_depth : (es : List Entry) → AreConfigs es → members_depth (members es) ≤ config_limits.depth
 config_depth [] all = omega arith
 config_depth (e ∷ es) all = let deep = all.1.deep in let rest = config_depth es all.2 in omega arith
 
@@ -229,7 +230,7 @@ config_distinct (e ∷ es) all differ =
 base_distinct : (s : Contents) → IsState s → distinct (base_tree s) ≡ true
 base_distinct s kept = let keys = config_distinct s.configs kept.configs kept.distinct in rw keys refl
 
-base_bytes : (s : Contents) → IsState s → byte_len (framed_text (base_tree s)) ≤ 67108864
+base_bytes : (s : Contents) → IsState s → byte_len (framed_text (base_tree s)) ≤ base_limit
 unfolding base_length base_text
 base_bytes s kept =
     let short = kept.short in
