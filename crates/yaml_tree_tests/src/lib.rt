@@ -1,11 +1,7 @@
-//! Tests of trees: their depth, length and keys, how they are written, compared with the one style and edited at paths.
-//! Each expected text is written out in full.
+//! Tests of trees: their depth, length and keys, copies and texts, and what is refused. How trees are written, compared
+//! with the one style and edited at paths is tested by the run of `tree_probe`.
 #![tactic(auto)]
 
-#[cfg(test)]
-mod emit;
-#[cfg(test)]
-mod paths;
 #[cfg(test)]
 mod reading;
 #[cfg(test)]

@@ -1,7 +1,7 @@
-// Styles of scalars, what a configuration refuses, and lengths.
+// What a configuration refuses, and lengths.
 use std::alloc::{AllocError, Global};
 use std::test::Fail;
-use yaml_tree::{Config, ReadFault, ScalarStyle, Size, Text, Tree, scalar_style, style_len};
+use yaml_tree::{Config, ReadFault, Size, Text, Tree, style_len};
 
 fn text(alloc: Global, value: &str) -> Result<Tree, AllocError> {
     Ok(Tree::Text(Text::new(alloc, value)?))
@@ -34,44 +34,6 @@ fn fault(alloc: Global, tree: Tree) -> Option<ReadFault> {
         Ok(_) => None,
         Err((_, fault)) => Some(fault),
     }
-}
-
-#[test]
-fn styles_of_values(rt: HostRuntime) {
-    assert_eq!(rt; scalar_style("example", false), ScalarStyle::Plain);
-    assert_eq!(rt; scalar_style("a/b-c_d.9", false), ScalarStyle::Plain);
-    assert_eq!(rt; scalar_style("on", false), ScalarStyle::Double);
-    assert_eq!(rt; scalar_style("NULL", false), ScalarStyle::Double);
-    assert_eq!(rt; scalar_style("8080", false), ScalarStyle::Double);
-    assert_eq!(rt; scalar_style("", false), ScalarStyle::Double);
-    assert_eq!(rt; scalar_style("a ", false), ScalarStyle::Double);
-    assert_eq!(rt; scalar_style("é", false), ScalarStyle::Double);
-    assert_eq!(rt; scalar_style("a b\nc", false), ScalarStyle::LiteralStrip);
-    assert_eq!(rt; scalar_style("a b\nc\n", false), ScalarStyle::LiteralClip);
-    assert_eq!(rt; scalar_style("a\n\n", false), ScalarStyle::LiteralKeep);
-    assert_eq!(rt; scalar_style(" a\nb", false), ScalarStyle::Double);
-    assert_eq!(rt; scalar_style("\na", false), ScalarStyle::Double);
-    assert_eq!(rt; scalar_style("a\tb\nc", false), ScalarStyle::Double);
-}
-
-#[test]
-fn styles_of_keys(rt: HostRuntime) {
-    assert_eq!(rt; scalar_style("host", true), ScalarStyle::Plain);
-    assert_eq!(rt; scalar_style("y", true), ScalarStyle::Double);
-    assert_eq!(rt; scalar_style("a\nb", true), ScalarStyle::Double);
-}
-
-#[test]
-fn a_plain_text_has_at_most_128_characters(rt: HostRuntime) -> Result<(), Fail> {
-    let Tree::Text(most) = repeated(rt.alloc(), "k", 128)? else {
-        return Ok(());
-    };
-    assert_eq!(rt; scalar_style(&most, false), ScalarStyle::Plain);
-    let Tree::Text(more) = repeated(rt.alloc(), "k", 129)? else {
-        return Ok(());
-    };
-    assert_eq!(rt; scalar_style(&more, false), ScalarStyle::Double);
-    Ok(())
 }
 
 #[test]

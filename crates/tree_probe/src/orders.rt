@@ -1,0 +1,101 @@
+// Orders and their answers.
+use crate::edits::{at_path, delete_len_at, delete_path, set_len_at, set_path};
+use crate::texts::{config_of, meant};
+use std::alloc::{AllocError, Global};
+use tree_path::Path;
+use yaml_emit::style_text;
+use yaml_style::check;
+use yaml_tree::{Limits, Tree, read_one, scalar_style};
+
+/// The answer to an order.
+pub(crate) fn answer(alloc: Global, tree: &mut Tree, line: &str) -> Result<String, AllocError> {
+    let words: Vec<&str> = line.split(';').collect(alloc)?;
+    match words.as_slice() {
+        ["emit", text] => emitted(alloc, text),
+        ["format", text] => formatted(alloc, text),
+        ["read", depth, text] => reading_of(alloc, depth, text),
+        ["check", text] => findings_of(alloc, text),
+        ["value", text] => style_of(alloc, text, false),
+        ["key", text] => style_of(alloc, text, true),
+        ["path", text] => steps_of(alloc, text),
+        ["tree", text] => take(alloc, tree, text),
+        ["at", path] => at_path(alloc, tree, path),
+        ["set", path, value] => set_path(alloc, tree, path, value),
+        ["delete", path] => delete_path(alloc, tree, path),
+        ["set_len", whole, path, value] => set_len_at(alloc, whole, path, value),
+        ["delete_len", whole, path] => delete_len_at(alloc, whole, path),
+        _ => String::from_str(alloc, "no order"),
+    }
+}
+
+/// The length of a tree's text in the one style, and the text.
+fn emitted(alloc: Global, text: &str) -> Result<String, AllocError> {
+    match config_of(alloc, text) {
+        Ok(config) => {
+            let text = style_text(alloc, &config)?;
+            format!(in alloc; "{} {text:?}", text.len())
+        }
+        Err(fault) => format!(in alloc; "{fault:?}"),
+    }
+}
+
+/// The same for the text that is meant.
+fn formatted(alloc: Global, text: &str) -> Result<String, AllocError> {
+    let text = meant(alloc, text)?;
+    emitted(alloc, &text)
+}
+
+/// The style of a text as a value or as a key.
+fn style_of(alloc: Global, text: &str, is_key: bool) -> Result<String, AllocError> {
+    let text = meant(alloc, text)?;
+    let style = scalar_style(&text, is_key);
+    format!(in alloc; "{style:?}")
+}
+
+/// The length and the depth of the tree of a text, which is at most so deep.
+fn reading_of(alloc: Global, depth: &str, text: &str) -> Result<String, AllocError> {
+    let text = meant(alloc, text)?;
+    let depth = depth.parse::<u64>().unwrap_or(0);
+    let limits = Limits {
+        depth: depth.min(66),
+        ..Limits::CONFIGURATION
+    };
+    match read_one(alloc, text.as_bytes(), &limits) {
+        Ok(config) => format!(in alloc; "{} {}", config.style_length(), config.depth()),
+        Err(fault) => format!(in alloc; "{fault:?}"),
+    }
+}
+
+/// The findings of a text.
+fn findings_of(alloc: Global, text: &str) -> Result<String, AllocError> {
+    let text = meant(alloc, text)?;
+    match check(alloc, text.as_bytes()) {
+        Ok(findings) => {
+            let mut shown = String::new(alloc);
+            for finding in &findings {
+                shown = format!(in alloc; "{shown}{} {};", finding.rule.name(), finding.line)?;
+            }
+            Ok(shown)
+        }
+        Err(fault) => format!(in alloc; "{fault:?}"),
+    }
+}
+
+/// The number of a path's steps.
+fn steps_of(alloc: Global, text: &str) -> Result<String, AllocError> {
+    match Path::parse(alloc, text) {
+        Ok(path) => format!(in alloc; "{}", path.steps()),
+        Err(fault) => format!(in alloc; "{fault:?}"),
+    }
+}
+
+/// Takes the tree of a text.
+fn take(alloc: Global, tree: &mut Tree, text: &str) -> Result<String, AllocError> {
+    match config_of(alloc, text) {
+        Ok(config) => {
+            *tree = config.into_tree();
+            format!(in alloc; "{tree:?}")
+        }
+        Err(fault) => format!(in alloc; "{fault:?}"),
+    }
+}
