@@ -35,21 +35,6 @@ fn checks(rt: HostRuntime) -> Result<(), Fail> {
 }
 
 #[test]
-fn counts_code_points(rt: HostRuntime) -> Result<(), Fail> {
-    let alloc = rt.alloc();
-    for (letters, lines) in [(118, "S4 1\n"), (119, "S3 1\nS4 1\n")] {
-        let mut text = String::from_str(alloc, "# ")?;
-        for _ in 0..letters {
-            text.push('é')?;
-        }
-        text.push_str("\na: b\n")?;
-        let done = outcome_of(&rt, &WORDS, text.as_bytes())?;
-        assert_eq!(rt; done.output.as_slice(), lines.as_bytes());
-    }
-    Ok(())
-}
-
-#[test]
 fn refuses_what_format_refuses(rt: HostRuntime) -> Result<(), Fail> {
     let cases: [(&[u8], &str); 4] = [
         (b"", "confstore: Documents\n"),

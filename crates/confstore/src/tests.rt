@@ -33,72 +33,6 @@ pub(crate) fn outcome_of(rt: &HostRuntime, words: &[&str], input: &[u8]) -> Resu
 }
 
 #[test]
-fn formats(rt: HostRuntime) -> Result<(), Fail> {
-    let cases = [
-        (
-            "host: \"example\"\nport: 8080\n",
-            "host: example\nport: \"8080\"\n",
-        ),
-        (
-            "a: on\nb: \"x y\"\nc: \"x\"\n",
-            "a: \"on\"\nb: \"x y\"\nc: x\n",
-        ),
-        ("k: \"\"\n", "k: \"\"\n"),
-        (
-            "a: 1\nb: [x, \"y: z\"]\n",
-            "a: \"1\"\nb:\n  - x\n  - \"y: z\"\n",
-        ),
-        (
-            "a: 1\nb: [x, \"y: z\"]",
-            "a: \"1\"\nb:\n  - x\n  - \"y: z\"\n",
-        ),
-        ("k: a\n  b\n\n  c\n", "k: |-\n  a b\n  c\n"),
-        ("a\n- b\n", "\"a - b\"\n"),
-        ("a:\n- b\n", "a:\n  - b\n"),
-        (
-            ">\n  a\n  b\n\n  c\n   d\n  e\n",
-            "|\n  a b\n  c\n   d\n  e\n",
-        ),
-        ("k: |+\n  a\n\n...\n", "k: |+\n  a\n\n"),
-        ("\"a \\\n   b\"\n", "\"a b\"\n"),
-        ("{\"a\":1}\n", "a: \"1\"\n"),
-        ("a:b\n", "\"a:b\"\n"),
-        ("a: [\n  b\n ]\n", "a:\n  - b\n"),
-        (
-            "a:\n- b\n- c: 1\n  d: null\n",
-            "a:\n  - b\n  - c: \"1\"\n    d: \"null\"\n",
-        ),
-        ("\u{feff}%YAML 1.1\n---\na: yes\n", "a: \"yes\"\n"),
-        ("k: |2-\n   a\n", "k: \" a\"\n"),
-        ("k: |\n  a\n # c\n", "k: |\n  a\n"),
-        ("|1\n  x\n", "\" x\\n\"\n"),
-        ("--- |\nx\n", "|\n  x\n"),
-        ("---\n", "\"\"\n"),
-        ("- - a\n  - b\n- ? k\n  : v\n", "- - a\n  - b\n- k: v\n"),
-        ("[a: 1, b]\n", "- a: \"1\"\n- b\n"),
-        ("{a, b: }\n", "a: \"\"\nb: \"\"\n"),
-        ("[a,]\n", "- a\n"),
-        (
-            "[on, 12, \"\", é, \"\\0\", \"\\L\"]\n",
-            "- \"on\"\n- \"12\"\n- \"\"\n- \"é\"\n- \"\\0\"\n- \"\\u2028\"\n",
-        ),
-    ];
-    for (input, output) in cases {
-        let done = outcome_of(&rt, &["confstore", "format"], input.as_bytes())?;
-        assert_eq!(rt; done.output.as_slice(), output.as_bytes(), "of {input:?}");
-        assert_eq!(rt; done.status, 0, "of {input:?}");
-        assert_eq!(rt; done.errors.len(), 0, "of {input:?}");
-        let again = outcome_of(&rt, &["confstore", "format"], output.as_bytes())?;
-        assert_eq!(rt;
-            again.output.as_slice(),
-            output.as_bytes(),
-            "of {input:?} again"
-        );
-    }
-    Ok(())
-}
-
-#[test]
 fn refuses(rt: HostRuntime) -> Result<(), Fail> {
     let alloc = rt.alloc();
     let mut long = Vec::new(alloc);
@@ -184,27 +118,6 @@ fn length_is_limited(rt: HostRuntime) -> Result<(), Fail> {
         let done = outcome_of(&rt, &words, text.as_bytes())?;
         assert_eq!(rt; done.output.len(), length);
         assert_eq!(rt; done.errors.as_slice(), line.as_bytes());
-    }
-    Ok(())
-}
-
-#[test]
-fn keys_have_1024_characters(rt: HostRuntime) -> Result<(), Fail> {
-    let alloc = rt.alloc();
-    let words = ["confstore", "format"];
-    let cases: [(&str, u32, &str, usize); 3] = [
-        ("", 1_024, ": v\n", 1_033),
-        ("", 1_025, ": v\n", 0),
-        ("? ", 1_025, "\n: v\n", 1_034),
-    ];
-    for (prefix, letters, end, length) in cases {
-        let mut text = String::from_str(alloc, prefix)?;
-        for _ in 0..letters {
-            text.push('k')?;
-        }
-        text.push_str(end)?;
-        let done = outcome_of(&rt, &words, text.as_bytes())?;
-        assert_eq!(rt; done.output.len(), length);
     }
     Ok(())
 }
