@@ -192,33 +192,31 @@ fn refusals(rt: HostRuntime) {
 
 #[test]
 fn a_node_ends_before_a_line_that_is_less_deep(rt: HostRuntime) {
-    assert_eq!(rt; end_of(rt.alloc(), " a\n# c\nb\n", 0, Bin), Ok(7));
-    assert_eq!(rt; end_of(rt.alloc(), " - a\n - b\nc\n", 0, Bin), Ok(10));
-    assert_eq!(rt; end_of(rt.alloc(), "a: b\n...\n", -1, Bin), Ok(5));
+    for (text, n, end) in [
+        (" a\n# c\nb\n", 0, 7),
+        (" - a\n - b\nc\n", 0, 10),
+        ("a: b\n...\n", -1, 5),
+    ] {
+        assert_eq!(rt; end_of(rt.alloc(), text, n, Bin), Ok(end), "{text}");
+    }
 }
 
 #[test]
 fn a_sequence_in_a_mapping_may_be_as_deep_as_its_key(rt: HostRuntime) {
-    assert_eq!(rt; end_of(rt.alloc(), "- a\n", 0, Bout), Ok(4));
-    assert!(rt; end_of(rt.alloc(), "- a\n", 0, Bin).is_err());
-    assert!(rt; end_of(rt.alloc(), "- a\n", 1, Bout).is_err());
+    for (n, context, end) in [(0, Bout, Some(4)), (0, Bin, None), (1, Bout, None)] {
+        assert_eq!(rt; end_of(rt.alloc(), "- a\n", n, context).ok(), end);
+    }
 }
 
 #[test]
 fn keys_of_1024_characters(rt: HostRuntime) -> Result<(), Fail> {
-    let first = repeated(rt.alloc(), "é", 1024)?;
-    let text = format!(in rt.alloc(); "{first}: a\n{first}: b\n")?;
-    assert_eq!(rt; end_of(rt.alloc(), text.as_str(), -1, Bin), Ok(4104));
-    let long_first = format!(in rt.alloc(); "{first}k: a\n")?;
-    assert_eq!(rt;
-        refusal(rt.alloc(), long_first.as_str()),
-        Some((0, Why::Key))
-    );
-    let long_second = format!(in rt.alloc(); "a: b\n{first}k: a\n")?;
-    assert_eq!(rt;
-        refusal(rt.alloc(), long_second.as_str()),
-        Some((5, Why::Key))
-    );
+    let key = repeated(rt.alloc(), "é", 1024)?;
+    let text = format!(in rt.alloc(); "{key}: a\n{key}: b\n")?;
+    assert_eq!(rt; end_of(rt.alloc(), &text, -1, Bin), Ok(4104));
+    for (before, at) in [("", 0), ("a: b\n", 5)] {
+        let text = format!(in rt.alloc(); "{before}{key}k: a\n")?;
+        assert_eq!(rt; refusal(rt.alloc(), &text), Some((at, Why::Key)));
+    }
     Ok(())
 }
 

@@ -74,93 +74,100 @@ fn no_header(text: &str) -> bool {
 
 #[test]
 fn folds(rt: HostRuntime) -> Result<(), Fail> {
-    let alloc = rt.alloc();
-    assert!(rt;
-        reads(
-            alloc,
-            ">\n  a\n  b\n\n  c\n   d\n  e\n",
-            -1,
-            "a b\nc\n d\ne\n"
-        )?
-    );
-    assert!(rt; reads(alloc, ">2-\n  x\n", -1, "x")?);
-    assert!(rt; reads(alloc, ">\n# c\n", -1, "# c\n")?);
-    assert!(rt;
-        reads(
-            alloc,
+    for (text, value) in [
+        (">\n  a\n  b\n\n  c\n   d\n  e\n", "a b\nc\n d\ne\n"),
+        (">2-\n  x\n", "x"),
+        (">\n# c\n", "# c\n"),
+        (
             ">\n\n folded\n line\n\n next\n line\n   * bullet\n\n   * list\n   * lines\n\n last\n line\n",
-            -1,
-            "\nfolded line\nnext line\n  * bullet\n\n  * list\n  * lines\n\nlast line\n"
-        )?
-    );
-    assert!(rt; reads(alloc, ">\n a\n\n\n b\n \t\n c", -1, "a\n\nb\n\t\nc")?);
+            "\nfolded line\nnext line\n  * bullet\n\n  * list\n  * lines\n\nlast line\n",
+        ),
+        (">\n a\n\n\n b\n \t\n c", "a\n\nb\n\t\nc"),
+    ] {
+        assert!(rt; reads(rt.alloc(), text, -1, value)?, "{text:?}");
+    }
     Ok(())
 }
 
 #[test]
 fn keeps_lines(rt: HostRuntime) -> Result<(), Fail> {
-    let alloc = rt.alloc();
-    assert!(rt; reads(alloc, "|2-\n   a\n", 0, " a")?);
-    assert!(rt; reads_to(alloc, "|\n  a\n # c\n", 0, "a\n", 6)?);
-    assert!(rt; reads(alloc, "|1\n  x\n", -1, " x\n")?);
-    assert!(rt; reads(alloc, "|1\n x\n", -1, "x\n")?);
-    assert!(rt; reads(alloc, "|1\n  x\n", 0, " x\n")?);
-    assert!(rt; reads(alloc, "|1\n   x\n", 1, " x\n")?);
-    assert!(rt; reads_to(alloc, "|1\nx\n", -1, "", 3)?);
-    assert!(rt; reads(alloc, "|\na\n ", -1, "a\n ")?);
-    assert!(rt; reads(alloc, "|\n|\n ", -1, "|\n ")?);
-    assert!(rt; reads(alloc, "|\n#c", -1, "#c")?);
-    assert!(rt; reads(alloc, "|\n a\n  ", 0, "a\n ")?);
-    assert!(rt; reads_to(alloc, "|\n a\n\t\n", 0, "a\n", 5)?);
-    assert!(rt; reads_to(alloc, "|\n a\n...\nb\n", -1, "a\n", 5)?);
-    assert!(rt; reads_to(alloc, "|\na\n--- b\n", -1, "a\n", 4)?);
-    assert!(rt; reads(alloc, "|\na\n---b\n", -1, "a\n---b\n")?);
-    assert!(rt; reads(alloc, "|\r a\r\n b\r\r\n c\n", -1, "a\nb\n\nc\n")?);
-    assert!(rt; reads(alloc, "|\r\n a\r\n b\r", -1, "a\nb\n")?);
-    assert!(rt;
-        reads(
-            alloc,
+    for (text, n, value) in [
+        ("|2-\n   a\n", 0, " a"),
+        ("|1\n  x\n", -1, " x\n"),
+        ("|1\n x\n", -1, "x\n"),
+        ("|1\n  x\n", 0, " x\n"),
+        ("|1\n   x\n", 1, " x\n"),
+        ("|\na\n ", -1, "a\n "),
+        ("|\n|\n ", -1, "|\n "),
+        ("|\n#c", -1, "#c"),
+        ("|\n a\n  ", 0, "a\n "),
+        ("|\na\n---b\n", -1, "a\n---b\n"),
+        ("|\r a\r\n b\r\r\n c\n", -1, "a\nb\n\nc\n"),
+        ("|\r\n a\r\n b\r", -1, "a\nb\n"),
+        (
             "|\n é\u{85}\u{2028}\u{1F600}\n",
             0,
-            "é\u{85}\u{2028}\u{1F600}\n"
-        )?
-    );
+            "é\u{85}\u{2028}\u{1F600}\n",
+        ),
+    ] {
+        assert!(rt; reads(rt.alloc(), text, n, value)?, "{text:?}");
+    }
+    Ok(())
+}
+
+#[test]
+fn ends_before_other_lines(rt: HostRuntime) -> Result<(), Fail> {
+    for (text, n, value, end) in [
+        ("|\n  a\n # c\n", 0, "a\n", 6),
+        ("|1\nx\n", -1, "", 3),
+        ("|\n a\n\t\n", 0, "a\n", 5),
+        ("|\n a\n...\nb\n", -1, "a\n", 5),
+        ("|\na\n--- b\n", -1, "a\n", 4),
+        ("|\n  ", -1, "", 2),
+        ("|+\n \n  ", -1, "\n", 5),
+        ("|\n---\n", -1, "", 2),
+    ] {
+        assert!(rt; reads_to(rt.alloc(), text, n, value, end)?, "{text:?}");
+    }
     Ok(())
 }
 
 #[test]
 fn chomps(rt: HostRuntime) -> Result<(), Fail> {
-    let alloc = rt.alloc();
-    assert!(rt; reads(alloc, "|+\n  a\n\n", -1, "a\n\n")?);
-    assert!(rt; reads(alloc, "|\n  a\n\n", -1, "a\n")?);
-    assert!(rt; reads(alloc, "|-\n  a\n\n", -1, "a")?);
-    assert!(rt; reads(alloc, "|+\n a", 0, "a")?);
-    assert!(rt; reads(alloc, "|\n a", 0, "a")?);
-    assert!(rt; reads(alloc, "|", -1, "")?);
-    assert!(rt; reads(alloc, ">-", -1, "")?);
-    assert!(rt; reads(alloc, "|+\n\n\n", -1, "\n\n")?);
-    assert!(rt; reads(alloc, "|+\n\n\n", 3, "\n\n")?);
-    assert!(rt; reads(alloc, "|\n\n\n", -1, "")?);
-    assert!(rt; reads_to(alloc, "|\n  ", -1, "", 2)?);
-    assert!(rt; reads_to(alloc, "|+\n \n  ", -1, "\n", 5)?);
-    assert!(rt; reads_to(alloc, "|\n---\n", -1, "", 2)?);
+    for (text, n, value) in [
+        ("|+\n  a\n\n", -1, "a\n\n"),
+        ("|\n  a\n\n", -1, "a\n"),
+        ("|-\n  a\n\n", -1, "a"),
+        ("|+\n a", 0, "a"),
+        ("|\n a", 0, "a"),
+        ("|", -1, ""),
+        (">-", -1, ""),
+        ("|+\n\n\n", -1, "\n\n"),
+        ("|+\n\n\n", 3, "\n\n"),
+        ("|\n\n\n", -1, ""),
+        ("|-2 # c\n  a\n", -1, "a"),
+    ] {
+        assert!(rt; reads(rt.alloc(), text, n, value)?, "{text:?}");
+    }
     Ok(())
 }
 
 #[test]
 fn refuses(rt: HostRuntime) -> Result<(), Fail> {
-    let alloc = rt.alloc();
-    assert!(rt; refused(alloc, "|\n   \n  a\n", -1, Why::Indent)?);
-    assert!(rt; refused(alloc, "|\n \n#c\n", -1, Why::Indent)?);
-    assert!(rt; refused(alloc, "|\n \u{1}\n", 0, Why::Character)?);
-    assert!(rt; refused(alloc, "|\n a\u{7f}\n", 0, Why::Character)?);
-    assert!(rt; refused(alloc, "|\n a\u{feff}\n", 0, Why::Character)?);
+    for (text, n, why) in [
+        ("|\n   \n  a\n", -1, Why::Indent),
+        ("|\n \n#c\n", -1, Why::Indent),
+        ("|\n \u{1}\n", 0, Why::Character),
+        ("|\n a\u{7f}\n", 0, Why::Character),
+        ("|\n a\u{feff}\n", 0, Why::Character),
+    ] {
+        assert!(rt; refused(rt.alloc(), text, n, why)?, "{text:?}");
+    }
     Ok(())
 }
 
 #[test]
-fn headers(rt: HostRuntime) -> Result<(), Fail> {
-    let alloc = rt.alloc();
+fn headers(rt: HostRuntime) {
     for text in [
         "|0\n", "|10\n", "|a\n", "|-+\n", "|#\n", "-", "", "|1-1\n", "|--\n", "| a",
     ] {
@@ -180,8 +187,6 @@ fn headers(rt: HostRuntime) -> Result<(), Fail> {
         }
         Err(_) => assert!(rt; false, "a header"),
     }
-    assert!(rt; reads(alloc, "|-2 # c\n  a\n", -1, "a")?);
-    Ok(())
 }
 
 #[test]

@@ -7,35 +7,22 @@ use yaml_chars::{
 
 #[test]
 fn texts_are_utf8(rt: HostRuntime) {
-    assert_eq!(rt; checked(b""), Ok(""));
-    assert_eq!(rt; checked(b"a\0\x7f"), Ok("a\0\u{7f}"));
     // The first and the last sequence of each row of Unicode's table of well-formed UTF-8.
-    assert_eq!(rt; checked(b"\xc2\x80\xdf\xbf"), Ok("\u{80}\u{7ff}"));
-    assert_eq!(rt; checked(b"\xe0\xa0\x80\xe0\xbf\xbf"), Ok("\u{800}\u{fff}"));
-    assert_eq!(rt;
-        checked(b"\xe1\x80\x80\xec\xbf\xbf"),
-        Ok("\u{1000}\u{cfff}")
-    );
-    assert_eq!(rt;
-        checked(b"\xed\x80\x80\xed\x9f\xbf"),
-        Ok("\u{d000}\u{d7ff}")
-    );
-    assert_eq!(rt;
-        checked(b"\xee\x80\x80\xef\xbf\xbf"),
-        Ok("\u{e000}\u{ffff}")
-    );
-    assert_eq!(rt;
-        checked(b"\xf0\x90\x80\x80\xf0\xbf\xbf\xbf"),
-        Ok("\u{10000}\u{3ffff}")
-    );
-    assert_eq!(rt;
-        checked(b"\xf1\x80\x80\x80\xf3\xbf\xbf\xbf"),
-        Ok("\u{40000}\u{fffff}")
-    );
-    assert_eq!(rt;
-        checked(b"\xf4\x80\x80\x80\xf4\x8f\xbf\xbf"),
-        Ok("\u{100000}\u{10ffff}")
-    );
+    let rows: [(&[u8], &str); 10] = [
+        (b"", ""),
+        (b"a\0\x7f", "a\0\u{7f}"),
+        (b"\xc2\x80\xdf\xbf", "\u{80}\u{7ff}"),
+        (b"\xe0\xa0\x80\xe0\xbf\xbf", "\u{800}\u{fff}"),
+        (b"\xe1\x80\x80\xec\xbf\xbf", "\u{1000}\u{cfff}"),
+        (b"\xed\x80\x80\xed\x9f\xbf", "\u{d000}\u{d7ff}"),
+        (b"\xee\x80\x80\xef\xbf\xbf", "\u{e000}\u{ffff}"),
+        (b"\xf0\x90\x80\x80\xf0\xbf\xbf\xbf", "\u{10000}\u{3ffff}"),
+        (b"\xf1\x80\x80\x80\xf3\xbf\xbf\xbf", "\u{40000}\u{fffff}"),
+        (b"\xf4\x80\x80\x80\xf4\x8f\xbf\xbf", "\u{100000}\u{10ffff}"),
+    ];
+    for (bytes, text) in rows {
+        assert_eq!(rt; checked(bytes), Ok(text));
+    }
 }
 
 /// Where the bytes stop being a text, if they do.
@@ -47,27 +34,17 @@ fn fault_in(bytes: &[u8]) -> Option<CharFault> {
 fn faults_name_the_longest_prefix(rt: HostRuntime) {
     // Unicode's examples of malformed UTF-8: forms that are too long, surrogates, numbers past the last character,
     // and cut ones.
-    assert_eq!(rt; fault_in(b"\xff"), Some(CharFault::NotUtf8 { at: 0 }));
-    assert_eq!(rt;
-        fault_in(b"a\xc0\xaf\xe0\x80\xbf\xf0\x81\x82\x41"),
-        Some(CharFault::NotUtf8 { at: 1 })
-    );
-    assert_eq!(rt;
-        fault_in(b"ab\xed\xa0\x80\xed\xbf\xbf\xed\xaf\x41"),
-        Some(CharFault::NotUtf8 { at: 2 })
-    );
-    assert_eq!(rt;
-        fault_in(b"\xc3\xa9\xf4\x91\x92\x93\xff\x41\x80\xbf\x42"),
-        Some(CharFault::NotUtf8 { at: 2 })
-    );
-    assert_eq!(rt;
-        fault_in(b"\xe2\x82\xac\xe1\x80\xe2\xf0\x91\x92\xf1\xbf\x41"),
-        Some(CharFault::NotUtf8 { at: 3 })
-    );
-    assert_eq!(rt;
-        fault_in(b"\xf0\x9f\x98\x80\xf0\x9f\x98"),
-        Some(CharFault::NotUtf8 { at: 4 })
-    );
+    let rows: [(&[u8], usize); 6] = [
+        (b"\xff", 0),
+        (b"a\xc0\xaf\xe0\x80\xbf\xf0\x81\x82\x41", 1),
+        (b"ab\xed\xa0\x80\xed\xbf\xbf\xed\xaf\x41", 2),
+        (b"\xc3\xa9\xf4\x91\x92\x93\xff\x41\x80\xbf\x42", 2),
+        (b"\xe2\x82\xac\xe1\x80\xe2\xf0\x91\x92\xf1\xbf\x41", 3),
+        (b"\xf0\x9f\x98\x80\xf0\x9f\x98", 4),
+    ];
+    for (bytes, at) in rows {
+        assert_eq!(rt; fault_in(bytes), Some(CharFault::NotUtf8 { at }));
+    }
 }
 
 #[test]
@@ -172,21 +149,22 @@ fn break_from(rt: &impl Abort, text: &str, at: usize) -> Option<(usize, usize)> 
 
 #[test]
 fn breaks(rt: HostRuntime) {
-    assert_eq!(rt; break_from(&rt, "", 0), None);
-    assert_eq!(rt; break_from(&rt, "a\nb", 0), Some((1, 1)));
-    assert_eq!(rt; break_from(&rt, "a\nb", 1), Some((1, 1)));
-    assert_eq!(rt; break_from(&rt, "a\nb", 2), None);
-    assert_eq!(rt; break_from(&rt, "a\r\nb", 0), Some((1, 2)));
-    assert_eq!(rt; break_from(&rt, "a\r\nb", 2), Some((2, 1)));
-    assert_eq!(rt; break_from(&rt, "\u{e9}\rb\n", 0), Some((2, 1)));
-    assert_eq!(rt; break_from(&rt, "a\r", 0), Some((1, 1)));
-    assert_eq!(rt; break_from(&rt, "\r\r\n", 0), Some((0, 1)));
-    assert_eq!(rt; break_from(&rt, "\n\r", 0), Some((0, 1)));
-    // NEL and the separators of lines and paragraphs are no breaks in YAML 1.2.
-    assert_eq!(rt;
-        break_from(&rt, "\u{85}\u{2028}\u{2029}\u{b}\u{c}", 0),
-        None
-    );
+    for (text, at, found) in [
+        ("", 0, None),
+        ("a\nb", 0, Some((1, 1))),
+        ("a\nb", 1, Some((1, 1))),
+        ("a\nb", 2, None),
+        ("a\r\nb", 0, Some((1, 2))),
+        ("a\r\nb", 2, Some((2, 1))),
+        ("\u{e9}\rb\n", 0, Some((2, 1))),
+        ("a\r", 0, Some((1, 1))),
+        ("\r\r\n", 0, Some((0, 1))),
+        ("\n\r", 0, Some((0, 1))),
+        // NEL and the separators of lines and paragraphs are no breaks in YAML 1.2.
+        ("\u{85}\u{2028}\u{2029}\u{b}\u{c}", 0, None),
+    ] {
+        assert_eq!(rt; break_from(&rt, text, at), found, "{text:?}");
+    }
 }
 
 fn char_from(rt: &impl Abort, text: &str, at: usize) -> Option<(char, usize)> {
@@ -197,11 +175,15 @@ fn char_from(rt: &impl Abort, text: &str, at: usize) -> Option<(char, usize)> {
 #[test]
 fn characters(rt: HostRuntime) {
     let text = "\u{7f}\u{85}\u{d7ff}\u{e000}\u{10000}\u{10ffff}";
-    assert_eq!(rt; char_from(&rt, text, 0), Some(('\u{7f}', 1)));
-    assert_eq!(rt; char_from(&rt, text, 1), Some(('\u{85}', 2)));
-    assert_eq!(rt; char_from(&rt, text, 3), Some(('\u{d7ff}', 3)));
-    assert_eq!(rt; char_from(&rt, text, 6), Some(('\u{e000}', 3)));
-    assert_eq!(rt; char_from(&rt, text, 9), Some(('\u{10000}', 4)));
-    assert_eq!(rt; char_from(&rt, text, 13), Some(('\u{10ffff}', 4)));
-    assert_eq!(rt; char_from(&rt, text, 17), None);
+    for (at, found) in [
+        (0, Some(('\u{7f}', 1))),
+        (1, Some(('\u{85}', 2))),
+        (3, Some(('\u{d7ff}', 3))),
+        (6, Some(('\u{e000}', 3))),
+        (9, Some(('\u{10000}', 4))),
+        (13, Some(('\u{10ffff}', 4))),
+        (17, None),
+    ] {
+        assert_eq!(rt; char_from(&rt, text, at), found);
+    }
 }

@@ -108,8 +108,11 @@ fn double_refusals(rt: HostRuntime) -> Result<(), Fail> {
 
 #[test]
 fn double_takes_no_memory(rt: HostRuntime) {
-    let alloc = rt.alloc();
-    assert!(rt; double_borrowed(alloc, "\"a b\" "));
-    assert!(rt; !double_borrowed(alloc, "\"a\\tb\""));
-    assert!(rt; !double_borrowed(alloc, "\"a\nb\""));
+    for (text, borrowed) in [
+        ("\"a b\" ", true),
+        ("\"a\\tb\"", false),
+        ("\"a\nb\"", false),
+    ] {
+        assert_eq!(rt; double_borrowed(rt.alloc(), text), borrowed);
+    }
 }

@@ -71,33 +71,40 @@ fn faults_are_shown(rt: HostRuntime) -> Result<(), Fail> {
     Ok(())
 }
 
+fn numbered<'a>(number: u32) -> Event<'a> {
+    match number {
+        0 => Event::DocStart,
+        1 => Event::MapStart,
+        2 => scalar("a"),
+        3 => Event::SeqStart,
+        4 => Event::SeqEnd,
+        5 => Event::MapEnd,
+        _ => Event::DocEnd,
+    }
+}
+
 #[test]
 fn events_in_words(rt: HostRuntime) -> Result<(), Fail> {
     let alloc = rt.alloc();
     let mut events = Events::new(alloc);
-    for event in [
-        Event::DocStart,
-        Event::MapStart,
-        scalar("a"),
-        Event::SeqStart,
-        Event::SeqEnd,
-        Event::MapEnd,
-        Event::DocEnd,
-    ] {
-        events.push(event)?;
+    for number in 0..7u32 {
+        events.push(numbered(number))?;
     }
     let shown = format!(in alloc; "{events}")?;
     assert_eq!(rt; shown.as_str(), "+D +M =P[0,1]\"a\" +S -S -M -D");
-    let mut letters = String::new(alloc);
-    for style in [
-        Style::Single,
-        Style::Double,
-        Style::Literal,
-        Style::Folded,
-        Style::Omitted,
+    Ok(())
+}
+
+#[test]
+fn styles_in_letters(rt: HostRuntime) -> Result<(), Fail> {
+    for (style, letter) in [
+        (Style::Single, "S"),
+        (Style::Double, "D"),
+        (Style::Literal, "L"),
+        (Style::Folded, "F"),
+        (Style::Omitted, "O"),
     ] {
-        letters = format!(in alloc; "{letters}{style}")?;
+        assert_eq!(rt; format!(in rt.alloc(); "{style}")?.as_str(), letter);
     }
-    assert_eq!(rt; letters.as_str(), "SDLFO");
     Ok(())
 }

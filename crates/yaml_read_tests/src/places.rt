@@ -2,10 +2,10 @@
 use std::test::Fail;
 use yaml_events::{FlowContext, ScanFault, Why};
 use yaml_scan::{
-    Class, Gap, Line, Marker, Stop, at_most_chars, break_end, comment_line_end, gap_end, has_break,
-    is_marker, is_marker_of, is_safe, line_after, line_starts, nb_at, nb_end, ns_at,
-    push_line_feeds, rest_of_line_end, run_end, safe_at, sign_at, solid_at, solid_line, spaces_end,
-    stands_at, stop_at, white_at, white_end,
+    Class, Gap, Marker, at_most_chars, break_end, comment_line_end, gap_end, has_break, is_marker,
+    is_marker_of, is_safe, line_after, line_starts, nb_at, nb_end, ns_at, push_line_feeds,
+    rest_of_line_end, run_end, safe_at, sign_at, solid_at, solid_line, spaces_end, stands_at,
+    stop_at, white_at, white_end,
 };
 
 #[test]
@@ -22,25 +22,21 @@ fn runs_stop_at_other_characters(rt: HostRuntime) {
 
 #[test]
 fn breaks_of_each_kind(rt: HostRuntime) {
-    assert_eq!(rt; break_end("a\r\nb", 1), Some(3));
-    assert_eq!(rt; break_end("\r\r", 0), Some(1));
-    assert_eq!(rt; break_end("\n\r", 0), Some(1));
-    assert_eq!(rt; break_end("\u{85}", 0), None);
-    assert_eq!(rt;
-        stop_at("a", 1),
-        Some(Stop {
-            has_break: false,
-            next: 1
-        })
-    );
-    assert_eq!(rt;
-        stop_at("a\r", 1),
-        Some(Stop {
-            has_break: true,
-            next: 2
-        })
-    );
-    assert_eq!(rt; stop_at("a", 0), None);
+    for (end, wanted) in [
+        (break_end("a\r\nb", 1), Some(3)),
+        (break_end("\r\r", 0), Some(1)),
+        (break_end("\n\r", 0), Some(1)),
+        (break_end("\u{85}", 0), None),
+    ] {
+        assert_eq!(rt; end, wanted);
+    }
+    for (stop, wanted) in [
+        (stop_at("a", 1), Some((false, 1))),
+        (stop_at("a\r", 1), Some((true, 2))),
+        (stop_at("a", 0), None),
+    ] {
+        assert_eq!(rt; stop.map(|stop| (stop.has_break, stop.next)), wanted);
+    }
 }
 
 #[test]
@@ -91,79 +87,74 @@ fn markers_end_a_word(rt: HostRuntime) {
 #[test]
 fn comments_of_the_standard(rt: HostRuntime) {
     let separated = "key:    # Comment\n  value\n\n";
-    assert_eq!(rt;
-        line_after(separated, 4),
-        Some(Line {
-            start: 18,
-            first: 20
-        })
-    );
     let lines = "  # Comment\n   \n\n";
-    assert_eq!(rt;
-        solid_line(lines, 0),
-        Line {
-            start: 17,
-            first: 17
-        }
-    );
-    assert_eq!(rt; comment_line_end(lines, 0), Some(12));
     let multiple = "key:    # Comment\n        # lines\n  value\n\n";
-    assert_eq!(rt;
-        line_after(multiple, 4),
-        Some(Line {
-            start: 34,
-            first: 36
-        })
-    );
+    for (line, wanted) in [
+        (line_after(separated, 4), (18, 20)),
+        (Some(solid_line(lines, 0)), (17, 17)),
+        (line_after(multiple, 4), (34, 36)),
+    ] {
+        assert_eq!(rt; line.map(|line| (line.start, line.first)), Some(wanted));
+    }
+    assert_eq!(rt; comment_line_end(lines, 0), Some(12));
 }
 
 #[test]
 fn comments_stand_apart(rt: HostRuntime) {
-    assert_eq!(rt; line_after("\"a\"#c", 3), None);
-    assert_eq!(rt; rest_of_line_end("\"a\" #c", 3), Some(6));
-    assert_eq!(rt; rest_of_line_end("a", 1), None);
-    assert_eq!(rt;
-        line_after("k: a\n  #c", 4),
-        Some(Line { start: 9, first: 9 })
-    );
-    assert_eq!(rt; line_after("- a b", 3), None);
-    // A tab before a solid character is no space.
-    assert_eq!(rt; solid_line("\n \tb", 0), Line { start: 1, first: 2 });
+    for (line, wanted) in [
+        (line_after("\"a\"#c", 3), None),
+        (line_after("k: a\n  #c", 4), Some((9, 9))),
+        (line_after("- a b", 3), None),
+        // A tab before a solid character is no space.
+        (Some(solid_line("\n \tb", 0)), Some((1, 2))),
+    ] {
+        assert_eq!(rt; line.map(|line| (line.start, line.first)), wanted);
+    }
+    for (end, wanted) in [
+        (rest_of_line_end("\"a\" #c", 3), Some(6)),
+        (rest_of_line_end("a", 1), None),
+    ] {
+        assert_eq!(rt; end, wanted);
+    }
 }
 
 fn at(place: usize, why: Why) -> Result<Gap, ScanFault> {
     Err(ScanFault::At { at: place, why })
 }
 
-#[test]
-fn gaps_over_lines_are_indented(rt: HostRuntime) {
-    let over_lines = |end| Gap {
+fn over_lines(end: usize) -> Result<Gap, ScanFault> {
+    Ok(Gap {
         end,
         is_over_lines: true,
-    };
-    let inline = |end| Gap {
+    })
+}
+
+fn inline(end: usize) -> Result<Gap, ScanFault> {
+    Ok(Gap {
         end,
         is_over_lines: false,
-    };
-    assert_eq!(rt;
-        gap_end("{a\n: b}", 2, 0, FlowContext::Inner),
-        Ok(over_lines(3))
-    );
-    assert_eq!(rt;
-        gap_end("{a\n: b}", 2, 1, FlowContext::Inner),
-        at(3, Why::Indent)
-    );
-    assert_eq!(rt;
-        gap_end("[a # c\n\n \t, b]", 2, 1, FlowContext::Inner),
-        Ok(over_lines(10))
-    );
-    assert_eq!(rt; gap_end("[a #", 2, 0, FlowContext::Inner), at(4, Why::Flow));
-    assert_eq!(rt; gap_end("[a  ,b]", 2, 3, FlowContext::Inner), Ok(inline(4)));
-    assert_eq!(rt;
-        gap_end("[a\n: b]", 2, 0, FlowContext::FlowKey),
-        Ok(inline(2))
-    );
-    assert_eq!(rt; gap_end("[a#b]", 2, 0, FlowContext::Inner), Ok(inline(2)));
+    })
+}
+
+#[test]
+fn gaps_over_lines_are_indented(rt: HostRuntime) {
+    for (gap, wanted) in [
+        (gap_end("{a\n: b}", 2, 0, FlowContext::Inner), over_lines(3)),
+        (
+            gap_end("{a\n: b}", 2, 1, FlowContext::Inner),
+            at(3, Why::Indent),
+        ),
+        (
+            gap_end("[a # c\n\n \t, b]", 2, 1, FlowContext::Inner),
+            over_lines(10),
+        ),
+        (gap_end("[a #", 2, 0, FlowContext::Inner), at(4, Why::Flow)),
+        (gap_end("[a  ,b]", 2, 3, FlowContext::Inner), inline(4)),
+        (gap_end("[a\n: b]", 2, 0, FlowContext::FlowKey), inline(2)),
+        (gap_end("[a#b]", 2, 0, FlowContext::Inner), inline(2)),
+    ] {
+        assert_eq!(rt; gap, wanted);
+    }
 }
 
 #[test]
