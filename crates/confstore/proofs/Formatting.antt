@@ -6,6 +6,7 @@ use Rattle.std.specs.Str.{chars, IsUtf8}
 use Rattle.std.proofs.lemmas.Str.{encodes-chars}
 use Rattle.yaml_grammar.specs.Style.{style_text}
 use Rattle.yaml_grammar.specs.Trees.{Tree}
+use Rattle.yaml_tree.specs.Formatting.{IsFormatted}
 use Rattle.yaml_tree.specs.Reading.{IsRead, Refuses}
 use Rattle.yaml_docs.specs.declared.fault.ReadFault.{ReadFault}
 use Rattle.yaml_docs.specs.declared.fault.ReadFault.TheVariants.{TooLong, NotUtf8, Syntax, Documents, KeyNotText, KeyTwice, TooDeep, LargeInStyle, OutOfMemory}
@@ -54,18 +55,16 @@ then_kept (Some xs) (Some ys) None text a k = absurd k
 then_kept (Some xs) (Some ys) (Some zs) text a k = k ∙ a
 
 -- the text of the tree that the input gives is what was written
-pub formatted : (given left held written : Option (List ℕ)) (bytes text : List ℕ) (t : Tree) → HasRead given left bytes 1048577 → IsRead bytes config_limits t
-    → IsUtf8 text → chars text ≡ style_text t → Appends held written text → Formats given left held written
-formatted given left held written bytes text t read is_read utf8 style appends =
-    let spelled : encode_utf8_all (style_text t) ≡ text = ap encode_utf8_all (sym style) ∙ encodes-chars text utf8 in
-    record {
-      bytes = bytes;
-      tree = t;
-      taken = read.taken;
-      at_end = read.at_end (short bytes t is_read);
-      reads = is_read;
-      writes = subst (λ xs. Appends held written xs) (sym spelled) appends;
-    }
+pub formatted : (given left held written : Option (List ℕ)) (bytes text : List ℕ) → HasRead given left bytes 1048577 → IsFormatted bytes config_limits text
+    → Appends held written text → Formats given left held written
+formatted given left held written bytes text read is appends = record {
+  bytes = bytes;
+  tree = is.tree;
+  taken = read.taken;
+  at_end = read.at_end (short bytes is.tree is.reads);
+  reads = is.reads;
+  writes = subst (λ xs. Appends held written xs) is.style appends;
+}
 
 -- the lines of the findings of the input are what was written
 pub checks : (given left held written : Option (List ℕ)) (bytes lines : List ℕ) (found : List Finding) → HasRead given left bytes 1048577 → IsChecked bytes found

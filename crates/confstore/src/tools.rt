@@ -8,9 +8,8 @@ use crate::report::report;
 use std::alloc::{AllocError, Global};
 use std::io::{Read, Write};
 use thiserror::Error;
-use yaml_emit::style_text;
 use yaml_style::check;
-use yaml_tree::{Limits, ReadFault, read_one};
+use yaml_tree::{Limits, ReadFault, format_one};
 
 /// One byte more than a text may have: who has read as many knows that there are too many.
 const MOST_INPUT: usize = Limits::CONFIGURATION.bytes as usize + 1;
@@ -56,11 +55,10 @@ pub fn format_text<R: Read, W: Write>(
         (W.contents writer.old) (W.contents writer.new)) }
 {
     let bytes = read_up_to(alloc, reader, MOST_INPUT)?;
-    let config = match read_one(alloc, &bytes, &Limits::CONFIGURATION) {
-        Ok(config) => config,
+    let text = match format_one(alloc, &bytes, &Limits::CONFIGURATION) {
+        Ok(text) => text,
         Err(fault) => return Err(ToolFault::Read(fault)),
     };
-    let text = style_text(alloc, &config)?;
     write_whole(writer, text.as_bytes())?;
     Ok(())
 }
