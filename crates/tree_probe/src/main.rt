@@ -1,7 +1,8 @@
 //! Answers orders on trees, so that the gate can compare the answers with expected ones. Each line of standard input is
 //! an order, a word and what belongs to it, with `;` between them. It is answered in one line.
 //!
-//! - `emit;TREE` and `format;TEXT`: the length of the tree's text in the one style, and the text.
+//! - `emit;TREE`: the length of the tree's text in the one style, and the text. `format;TEXT` answers the same, and
+//!   builds no tree.
 //! - `read;DEPTH;TEXT`: the length of the tree's text, and the tree's depth, if it is at most so deep.
 //! - `check;TEXT`: where the text departs from the one style, as rules with their lines.
 //! - `value;TEXT` and `key;TEXT`: the style of a text as a value or as a key.

@@ -5,7 +5,7 @@ use std::alloc::{AllocError, Global};
 use tree_path::Path;
 use yaml_emit::style_text;
 use yaml_style::check;
-use yaml_tree::{Limits, Tree, read_one, scalar_style};
+use yaml_tree::{Limits, Tree, format_one, read_one, scalar_style};
 
 /// The answer to an order.
 pub(crate) fn answer(alloc: Global, tree: &mut Tree, line: &str) -> Result<String, AllocError> {
@@ -39,10 +39,13 @@ fn emitted(alloc: Global, text: &str) -> Result<String, AllocError> {
     }
 }
 
-/// The same for the text that is meant.
+/// The length of a text that is formatted, and the text.
 fn formatted(alloc: Global, text: &str) -> Result<String, AllocError> {
     let text = meant(alloc, text)?;
-    emitted(alloc, &text)
+    match format_one(alloc, text.as_bytes(), &Limits::CONFIGURATION) {
+        Ok(text) => format!(in alloc; "{} {text:?}", text.len()),
+        Err(fault) => format!(in alloc; "{fault:?}"),
+    }
 }
 
 /// The style of a text as a value or as a key.
