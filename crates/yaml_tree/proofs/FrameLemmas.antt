@@ -17,11 +17,6 @@ abbrev pub run : Option (List Frame) → List Shape → Option (List Frame)
 run o [] = o
 run o (s ∷ ss) = run (after o s) ss
 
--- a run over two lists is the run over the one and then over the other
-pub run-append : (o : Option (List Frame)) (xs ys : List Shape) → run o (xs ++ ys) ≡ run (run o xs) ys
-run-append o [] ys = refl
-run-append o (x ∷ xs) ys = run-append (after o x) xs ys
-
 -- a run that was stopped stays stopped
 pub run-None : (ss : List Shape) → run None ss ≡ None
 run-None [] = refl
