@@ -5,8 +5,8 @@ It makes six corpora of 1 MiB each, and reads them to events and to a tree in a 
 once by `confstore format` beside what libyaml takes to read and write the same text. It prints MB/s, the ratio to the best
 peer, the greatest memory, and with `-i` instructions a byte as valgrind counts them. Then it reads the corpora, and hostile
 texts, at 64 KiB, 1 MiB and 16 MiB, and says where the time a byte grew by more than a quarter. A text of signs alone has an event
-of 56 bytes for each byte or two, and above some 64 KiB half of its time goes into fresh memory; with `-i` the instructions
-a byte at 64 KiB and 1 MiB stand beside it.
+for each byte or two, and its time goes into fresh memory in part; with `-i` the instructions a byte at 64 KiB and 1 MiB
+stand beside it.
 
 A time is the least processor time of several runs, less that of a run with fewer rounds. Run it on a quiet machine from the
 repository's root, after the programs are built:
