@@ -57,7 +57,7 @@ has_written start writer document fs writes done same =
       texts = texts.0;
       differ = done.distinct;
       text = subst (λ text. TakesLimited start (text_of (whole done.tree ∷ [])) text) (sym same)
-      (subst (λ gs. TakesLimited start (text_of gs) writer.text) alone writes.text);
+          (subst (λ gs. TakesLimited start (text_of gs) writer.text) alone writes.text);
     }
 
 -- a budget that is kept was enough
@@ -79,7 +79,7 @@ formatted bytes limits es start document reads written differ deep limit empty k
       keys = sym written.differ ∙ differ;
       deep = deep;
       long = kept_within limits.style (byte_len (style_text written.tree)) document.text.budget.left
-        (written.text.0 ∙ ap (λ left. left_after left (byte_len (style_text written.tree))) limit) kept;
+          (written.text.0 ∙ ap (λ left. left_after left (byte_len (style_text written.tree))) limit) kept;
     } in
     record {
       tree = written.tree;

@@ -45,6 +45,6 @@ returns c =
       is_tree = run_tree (events_of all) fs has.tree done has.is;
       texts = has.texts;
       differ = has.differ;
-      text = has.text
+      text = has.text;
     })
     (λ fault h. unfinished_refuses (events_of all) fs fault done h)

@@ -22,9 +22,9 @@ returns c = λ fs keeps.
     let is : chars (text_bytes kept) ≡ (if b then value else []) =
     elim c.if-awaits_key.branch [
       | then-awaits_key+in_ok-kept w ↦ ap (λ text. chars (text_bytes text)) w.kept-is ∙ ap chars w.in_ok-kept.ensures
-        ∙ sym (ap (λ a. if a then value else []) w.if-awaits_key.true)
+          ∙ sym (ap (λ a. if a then value else []) w.if-awaits_key.true)
       | else-awaits_key w ↦ ap (λ text. chars (text_bytes text)) w.kept-is ∙ ap chars w.empty-kept.ensures ∙ chars-literal [] refl
-        ∙ sym (ap (λ a. if a then value else []) w.if-awaits_key.false)
+          ∙ sym (ap (λ a. if a then value else []) w.if-awaits_key.false)
     ] in
     let awaits = ap awaits_key (sym keeps.frames) ∙ sym c.awaits_key.ensures in
     let put = ap (λ gs. frames_with gs (grammar.text (chars (text_bytes kept)))) (sym keeps.frames)
