@@ -14,7 +14,7 @@ use crate::style::{write_key, write_scalar, write_text};
 use yaml_events::Event;
 
 /// Writes what an event adds to the text of a document whose open parts are these. `indent` is the indentation of a
-/// collection that is opened inside them. An event that has no place there adds anything.
+/// collection that is opened inside them. An event that has no place there may add anything.
 pub(crate) fn write_event<S: Sink>(
     parts: &[Part],
     indent: u64,
