@@ -1,26 +1,21 @@
 -- A check of keys after one event more.
-use Rattle.std.proofs.Common.{◌≡◌, Bool, List, [], Option, Some, None, Vec, Global, refl, ap, subst, ◌∙◌}
+use Rattle.std.proofs.Common.{◌≡◌, Bool, List, [], Option, Some, None, Result, MatchResult, sym, ap, subst, ◌∙◌}
+use Rattle.std.proofs.lemmas.Result.{MatchResult-weaker}
 use Rattle.yaml_docs.specs.declared.fault.ReadFault.{ReadFault}
 use Rattle.yaml_docs.specs.declared.fault.ReadFault.TheVariants.{TooLong, NotUtf8, Syntax, Documents, KeyNotText, KeyTwice, TooDeep, LargeInStyle, OutOfMemory}
-use Rattle.yaml_events.specs.Meant.{event_of}
-use Rattle.yaml_events.specs.declared.event.Event.{Event}
-use Rattle.yaml_events.specs.declared.event.Event.TheVariants.{DocStart, DocEnd, SeqStart, SeqEnd, MapStart, MapEnd, Scalar}
 use Rattle.yaml_grammar.specs.Events as grammar_events
 use Rattle.yaml_grammar.specs.Trees as grammar
-use Rattle.yaml_grammar.specs.Trees.{shape}
-use Rattle.yaml_tree.specs.Building.{frames_of, HasNone, HasNoTree}
-use Rattle.yaml_tree.specs.Emptied.{Took, emptied_frames}
-use Rattle.yaml_tree.specs.Frames.{Frame, finished_tree}
-use Rattle.yaml_tree.specs.Seen.{Pair, tree_of, elements_of, members_of}
+use Rattle.yaml_grammar.specs.Trees.{Shape}
+use Rattle.yaml_tree.specs.Building.{HasNone, HasNoTree}
+use Rattle.yaml_tree.specs.Emptied.{Keeps, Took, emptied_frames, open_frames, frames_distinct}
+use Rattle.yaml_tree.specs.Frames.{Frame, step, finished_tree}
 use Rattle.yaml_tree.specs.declared.deep.KeyCheck.{KeyCheck}
-use Rattle.yaml_tree.specs.declared.tree.Tree.{Tree, Seq, Map}
-use Rattle.yaml_tree.proofs.EmptiedLemmas.{Stepped, IsInner, finished_none}
+use Rattle.yaml_tree.proofs.EmptiedLemmas.{Stepped, IsInner, inner_stepped, inner_none, finished_none}
 use Rattle.yaml_tree.proofs.EventLemmas.{unfinished_refuses}
 use Rattle.yaml_tree.proofs.FrameLemmas.{run}
-use Rattle.yaml_tree.proofs.SeenLemmas.{tree_of-Seq, tree_of-Map}
 
 -- what a step of the check has done, from what the step does to its frames
-pub took : (check : KeyCheck) (b : Bool) (o : Option (List Frame)) → Stepped (frames_of check.builder.parts.items) b o → check.keys_differ ≡ b → Took check o
+pub took : (check : KeyCheck) (b : Bool) (o : Option (List Frame)) → Stepped (open_frames check.open.parts.items) b o → check.keys_differ ≡ b → Took check o
 took check b o s e = record { parts = s.parts; are = s.are; keeps = record { frames = s.frames; differ = e ∙ s.distinct } }
 
 -- a fault that is right where the first is `None` is right where the second is
@@ -35,24 +30,24 @@ has_none o p none KeyTwice h = absurd h
 has_none o p none TooDeep h = absurd h
 has_none o p none LargeInStyle h = absurd h
 
--- a vector without items is a sequence without elements
-pub empty_seq : (v : Vec Tree Global) → v.items ≡ [] → tree_of (Seq v) ≡ grammar.sequence grammar.no_element
-empty_seq v e = tree_of-Seq v ∙ ap (λ ts. grammar.sequence (elements_of ts)) e
+-- an event that neither is a scalar nor ends a collection does to the parts what it does to those without values
+pub took_inner : (check before : KeyCheck) (fs : List Frame) (event s : Shape) (r : Result (Unit {0}) ReadFault) → event ≡ s → IsInner s → Keeps before fs
+    → check.keys_differ ≡ before.keys_differ
+    → MatchResult r (λ _. step (open_frames before.open.parts.items) s ≡ Some (open_frames check.open.parts.items))
+    (HasNone (step (open_frames before.open.parts.items) s))
+    → MatchResult r (λ _. Took check (step fs event)) (HasNone (step fs event))
+took_inner check before fs event s r is inner keeps same made =
+    subst (λ x. MatchResult r (λ _. Took check (step fs x)) (HasNone (step fs x))) (sym is)
+    (MatchResult-weaker r made
+    (λ _ e. took check (frames_distinct fs) (step fs s)
+    (inner_stepped fs (open_frames check.open.parts.items) s inner (ap (λ gs. step gs s) (sym keeps.frames) ∙ e)) (same ∙ keeps.differ))
+    (λ fault h. has_none (step (emptied_frames fs) s) (step fs s) (inner_none fs s inner) fault
+    (subst (λ gs. HasNone (step gs s) fault) keeps.frames h)))
 
--- a vector without items is a mapping without members
-pub empty_map : (v : Vec Pair Global) → v.items ≡ [] → tree_of (Map v) ≡ grammar.mapping grammar.no_member
-empty_map v e = tree_of-Map v ∙ ap (λ ms. grammar.mapping (members_of ms)) e
-
--- an event that ends no collection and is no scalar is an inner one
-pub inner_event : (e : Event) → (e ≡ SeqEnd → ⊥) → (e ≡ MapEnd → ⊥) → ((style : _) (span : _) (value : _) → e ≡ Scalar style span value → ⊥)
-    → IsInner (shape (event_of e))
-inner_event DocStart h k l = tt
-inner_event DocEnd h k l = tt
-inner_event SeqStart h k l = tt
-inner_event SeqEnd h k l = absurd (h refl)
-inner_event MapStart h k l = tt
-inner_event MapEnd h k l = absurd (k refl)
-inner_event (Scalar style span value) h k l = absurd (l style span value refl)
+-- only want of memory stops what opens a part
+pub opened : (r : Result (Unit {0}) ReadFault) (gs new : List Frame) → MatchResult r (λ _. new ≡ gs) (λ fault. fault ≡ OutOfMemory)
+    → MatchResult r (λ _. Some gs ≡ Some new) (HasNone (Some gs))
+opened r gs new made = MatchResult-weaker r made (λ _ e. ap Some (sym e)) (λ fault e. subst (λ f. HasNone (Some gs) f) (sym e) tt)
 
 -- a check that is not finished
 pub emptied_refuses : (es : List grammar_events.Event) (fs gs : List Frame) (fault : ReadFault) → run (Some []) (grammar.shapes es) ≡ Some fs

@@ -1,66 +1,57 @@
--- A step of open parts whose collections are emptied is one of the parts themselves.
-use Rattle.std.proofs.Common.{◌≡◌, ℕ, Bool, true, false, if◌then◌else◌, ◌&&◌, ◌||◌, not, List, [], ◌∷◌, Option, Some, None, refl, sym, ap, ap₂, subst, ◌∙◌}
+-- A step of open parts without their values is one of the parts themselves.
+use Rattle.std.proofs.Common.{◌≡◌, ℕ, Bool, true, false, ◌&&◌, ◌||◌, not, List, [], ◌∷◌, Option, Some, None, refl, sym, ap, ap₂, subst, ◌∙◌}
 use Rattle.yaml_grammar.specs.Texts.{same_text}
 use Rattle.yaml_grammar.specs.Trees.{Tree, text, sequence, mapping, Elements, no_element, element, Members, no_member, member, Shape, document_from, document_to, seq_from, seq_to, map_from, map_to, scalar_of, distinct, elements_distinct, members_distinct, has_key}
-use Rattle.yaml_tree.specs.Emptied.{emptied_tree, emptied_elements, emptied_members, emptied_frames, awaits_key, frames_distinct}
-use Rattle.yaml_tree.specs.Frames.{Frame, awaiting, root, whole, in_seq, at_key, at_value, elements_and, members_and, frames_with, step, after_document_end, after_seq_end, after_map_end, finished_tree}
-use Rattle.yaml_tree.specs.Keys.{keys_differ, values_distinct}
+use Rattle.yaml_tree.specs.Emptied.{emptied_elements, emptied_members, emptied_frames, value_placed, scalar_placed, seq_ended, map_ended, frames_distinct}
+use Rattle.yaml_tree.specs.Frames.{Frame, awaiting, root, whole, in_seq, at_key, at_value, elements_and, members_and, innermost, frames_with, step, after_document_end, after_seq_end, after_map_end, finished_tree}
+use Rattle.yaml_tree.specs.Keys.{nothing, keys_differ, values_distinct}
 use Rattle.yaml_tree.proofs.KeyLemmas.{members_distinct-parts}
 
--- the frames with emptied trees, where there are frames
+-- the frames without values, where there are frames
 abbrev pub emptied_some : Option (List Frame) → Option (List Frame)
 emptied_some None = None
 emptied_some (Some fs) = Some (emptied_frames fs)
 
 -- ---- parts
 
-elements_and-emptied_tree : (ts : Elements) (t : Tree) → elements_and (emptied_elements ts) (emptied_tree t) ≡ emptied_elements (elements_and ts t)
-elements_and-emptied_tree no_element t = refl
-elements_and-emptied_tree (element u ts) t = ap (element (emptied_tree u)) (elements_and-emptied_tree ts t)
+-- a sequence with one more element has elements
+elements_and-emptied : (ts : Elements) (t : Tree) → element nothing no_element ≡ emptied_elements (elements_and ts t)
+elements_and-emptied no_element t = refl
+elements_and-emptied (element u ts) t = refl
 
-members_and-emptied_tree : (ms : Members) (key : List ℕ) (t : Tree) → members_and (emptied_members ms) key (emptied_tree t) ≡ emptied_members (members_and ms key t)
-members_and-emptied_tree no_member key t = refl
-members_and-emptied_tree (member k u ms) key t = ap (member k (emptied_tree u)) (members_and-emptied_tree ms key t)
+-- of one member more the key is kept
+members_and-emptied : (ms : Members) (key : List ℕ) (t : Tree) → members_and (emptied_members ms) key nothing ≡ emptied_members (members_and ms key t)
+members_and-emptied no_member key t = refl
+members_and-emptied (member k u ms) key t = ap (member k nothing) (members_and-emptied ms key t)
 
--- the value is a text
-abbrev pub is_text : Tree → Bool
-is_text (text value) = true
-is_text (sequence ts) = false
-is_text (mapping ms) = false
+-- a value that is no key
+placed_emptied : (fs : List Frame) (t : Tree) → ((value : List ℕ) → t ≡ text value → ⊥)
+    → innermost value_placed (emptied_frames fs) ≡ emptied_some (frames_with fs t)
+placed_emptied [] t h = refl
+placed_emptied (awaiting ∷ fs) t h = refl
+placed_emptied (root u ∷ fs) t h = refl
+placed_emptied (whole u ∷ fs) t h = refl
+placed_emptied (in_seq ts ∷ fs) t h = ap (λ us. Some (in_seq us ∷ emptied_frames fs)) (elements_and-emptied ts t)
+placed_emptied (at_key ms ∷ fs) (text value) h = absurd (h value refl)
+placed_emptied (at_key ms ∷ fs) (sequence ts) h = refl
+placed_emptied (at_key ms ∷ fs) (mapping ns) h = refl
+placed_emptied (at_value ms key ∷ fs) t h = ap (λ ns. Some (at_key ns ∷ emptied_frames fs)) (members_and-emptied ms key t)
 
--- emptying trees commutes with placing a value that is no key
-pub put_emptied : (fs : List Frame) (t : Tree) → (is_text t && awaits_key fs) ≡ false
-    → frames_with (emptied_frames fs) (emptied_tree t) ≡ emptied_some (frames_with fs t)
-put_emptied [] t h = refl
-put_emptied (awaiting ∷ fs) t h = refl
-put_emptied (root u ∷ fs) t h = refl
-put_emptied (whole u ∷ fs) t h = refl
-put_emptied (in_seq ts ∷ fs) t h = ap (λ us. Some (in_seq us ∷ emptied_frames fs)) (elements_and-emptied_tree ts t)
-put_emptied (at_key ms ∷ fs) (text key) h = cc
-put_emptied (at_key ms ∷ fs) (sequence ts) h = refl
-put_emptied (at_key ms ∷ fs) (mapping ns) h = refl
-put_emptied (at_value ms key ∷ fs) t h = ap (λ ns. Some (at_key ns ∷ emptied_frames fs)) (members_and-emptied_tree ms key t)
+seq_emptied : (fs : List Frame) (ts : Elements) → innermost value_placed (emptied_frames fs) ≡ emptied_some (frames_with fs (sequence ts))
+seq_emptied fs ts = placed_emptied fs (sequence ts) (λ value e. cc)
 
--- a key is kept as it is
-pub key_emptied : (fs : List Frame) (key : List ℕ) → awaits_key fs ≡ true
-    → frames_with (emptied_frames fs) (text key) ≡ emptied_some (frames_with fs (text key))
-key_emptied [] key h = cc
-key_emptied (awaiting ∷ fs) key h = cc
-key_emptied (root u ∷ fs) key h = cc
-key_emptied (whole u ∷ fs) key h = cc
-key_emptied (in_seq ts ∷ fs) key h = cc
-key_emptied (at_key ms ∷ fs) key h = refl
-key_emptied (at_value ms name ∷ fs) key h = cc
+map_emptied : (fs : List Frame) (ms : Members) → innermost value_placed (emptied_frames fs) ≡ emptied_some (frames_with fs (mapping ms))
+map_emptied fs ms = placed_emptied fs (mapping ms) (λ value e. cc)
 
--- emptied parts await a key where the parts do
-pub awaits_key-emptied : (fs : List Frame) → awaits_key (emptied_frames fs) ≡ awaits_key fs
-awaits_key-emptied [] = refl
-awaits_key-emptied (awaiting ∷ fs) = refl
-awaits_key-emptied (root u ∷ fs) = refl
-awaits_key-emptied (whole u ∷ fs) = refl
-awaits_key-emptied (in_seq ts ∷ fs) = refl
-awaits_key-emptied (at_key ms ∷ fs) = refl
-awaits_key-emptied (at_value ms key ∷ fs) = refl
+-- a scalar
+scalar_emptied : (fs : List Frame) (value : List ℕ) → innermost (scalar_placed value) (emptied_frames fs) ≡ emptied_some (frames_with fs (text value))
+scalar_emptied [] value = refl
+scalar_emptied (awaiting ∷ fs) value = refl
+scalar_emptied (root u ∷ fs) value = refl
+scalar_emptied (whole u ∷ fs) value = refl
+scalar_emptied (in_seq ts ∷ fs) value = ap (λ us. Some (in_seq us ∷ emptied_frames fs)) (elements_and-emptied ts (text value))
+scalar_emptied (at_key ms ∷ fs) value = refl
+scalar_emptied (at_value ms key ∷ fs) value = ap (λ ns. Some (at_key ns ∷ emptied_frames fs)) (members_and-emptied ms key (text value))
 
 document_emptied : (fs : List Frame) → after_document_end (emptied_frames fs) ≡ emptied_some (after_document_end fs)
 document_emptied [] = refl
@@ -187,27 +178,15 @@ inner_stepped fs new s h e = stepped (step fs s) new (frames_distinct fs) (sym (
 pub inner_none : (fs : List Frame) (s : Shape) → IsInner s → step (emptied_frames fs) s ≡ None → step fs s ≡ None
 inner_none fs s h e = none_emptied (step fs s) (sym (step_emptied fs s h) ∙ e)
 
--- where emptied frames take what is kept of a scalar, the frames take the scalar: of a key all is kept, else nothing
-pub scalar_stepped : (fs new : List Frame) (kept value : List ℕ) (b : Bool) → awaits_key (emptied_frames fs) ≡ b → kept ≡ (if b then value else [])
-    → frames_with (emptied_frames fs) (text kept) ≡ Some new → Stepped new (frames_distinct fs) (frames_with fs (text value))
-scalar_stepped fs new kept value true awaits keeps e =
-    stepped (frames_with fs (text value)) new (frames_distinct fs)
-    (sym (key_emptied fs value (sym (awaits_key-emptied fs) ∙ awaits)) ∙ ap (λ cs. frames_with (emptied_frames fs) (text cs)) (sym keeps) ∙ e)
-    (put_differs fs (text value))
-scalar_stepped fs new kept value false awaits keeps e =
-    stepped (frames_with fs (text value)) new (frames_distinct fs)
-    (sym (put_emptied fs (text value) (sym (awaits_key-emptied fs) ∙ awaits)) ∙ ap (λ cs. frames_with (emptied_frames fs) (text cs)) (sym keeps) ∙ e)
-    (put_differs fs (text value))
+-- where emptied frames take a scalar, so do the frames
+pub scalar_stepped : (fs new : List Frame) (value : List ℕ) → innermost (scalar_placed value) (emptied_frames fs) ≡ Some new
+    → Stepped new (frames_distinct fs) (frames_with fs (text value))
+scalar_stepped fs new value e =
+    stepped (frames_with fs (text value)) new (frames_distinct fs) (sym (scalar_emptied fs value) ∙ e) (put_differs fs (text value))
 
--- where emptied frames refuse it, the frames refuse the scalar
-pub scalar_refused : (fs : List Frame) (kept value : List ℕ) (b : Bool) → awaits_key (emptied_frames fs) ≡ b → kept ≡ (if b then value else [])
-    → frames_with (emptied_frames fs) (text kept) ≡ None → frames_with fs (text value) ≡ None
-scalar_refused fs kept value true awaits keeps e =
-    none_emptied (frames_with fs (text value))
-    (sym (key_emptied fs value (sym (awaits_key-emptied fs) ∙ awaits)) ∙ ap (λ cs. frames_with (emptied_frames fs) (text cs)) (sym keeps) ∙ e)
-scalar_refused fs kept value false awaits keeps e =
-    none_emptied (frames_with fs (text value))
-    (sym (put_emptied fs (text value) (sym (awaits_key-emptied fs) ∙ awaits)) ∙ ap (λ cs. frames_with (emptied_frames fs) (text cs)) (sym keeps) ∙ e)
+-- where emptied frames refuse it, so do the frames
+pub scalar_refused : (fs : List Frame) (value : List ℕ) → innermost (scalar_placed value) (emptied_frames fs) ≡ None → frames_with fs (text value) ≡ None
+scalar_refused fs value e = none_emptied (frames_with fs (text value)) (sym (scalar_emptied fs value) ∙ e)
 
 -- the sequence, the mapping that is innermost
 pub record InSeq (fs rest : List Frame) : Type 0 where
@@ -224,14 +203,14 @@ pub record InMap (fs : List Frame) (ms : Members) (rest : List Frame) : Type 0 w
   pub after : rest ≡ emptied_frames outer
 
 -- frames that are emptied to an open sequence have an open sequence
-pub in_seq_parts : (fs : List Frame) (es : Elements) (rest : List Frame) → emptied_frames fs ≡ in_seq es ∷ rest → InSeq fs rest
-in_seq_parts [] es rest e = cc
-in_seq_parts (awaiting ∷ fs) es rest e = cc
-in_seq_parts (root u ∷ fs) es rest e = cc
-in_seq_parts (whole u ∷ fs) es rest e = cc
-in_seq_parts (in_seq ts ∷ fs) es rest e = record { elements = ts; outer = fs; is = refl; after = cc }
-in_seq_parts (at_key ms ∷ fs) es rest e = cc
-in_seq_parts (at_value ms key ∷ fs) es rest e = cc
+pub in_seq_parts : (fs rest : List Frame) → seq_ended (emptied_frames fs) ≡ Some rest → InSeq fs rest
+in_seq_parts [] rest e = cc
+in_seq_parts (awaiting ∷ fs) rest e = cc
+in_seq_parts (root u ∷ fs) rest e = cc
+in_seq_parts (whole u ∷ fs) rest e = cc
+in_seq_parts (in_seq ts ∷ fs) rest e = record { elements = ts; outer = fs; is = refl; after = cc }
+in_seq_parts (at_key ms ∷ fs) rest e = cc
+in_seq_parts (at_value ms key ∷ fs) rest e = cc
 
 -- frames that are emptied to an open mapping have an open mapping
 pub in_map_parts : (fs : List Frame) (ns : Members) (rest : List Frame) → emptied_frames fs ≡ at_key ns ∷ rest → InMap fs ns rest
@@ -244,18 +223,18 @@ in_map_parts (at_key ms ∷ fs) ns rest e = record { members = ms; outer = fs; i
 in_map_parts (at_value ms key ∷ fs) ns rest e = cc
 
 -- where the end of an emptied sequence is taken, so is that of the sequence
-pub seq_stepped : (fs rest new : List Frame) → InSeq fs rest → frames_with rest (sequence no_element) ≡ Some new → Stepped new (frames_distinct fs) (after_seq_end fs)
+pub seq_stepped : (fs rest new : List Frame) → InSeq fs rest → innermost value_placed rest ≡ Some new → Stepped new (frames_distinct fs) (after_seq_end fs)
 seq_stepped fs rest new i e =
     let found = stepped (frames_with i.outer (sequence i.elements)) new (elements_distinct i.elements && frames_distinct i.outer)
-    (sym (put_emptied i.outer (sequence i.elements) refl) ∙ ap (λ gs. frames_with gs (sequence no_element)) (sym i.after) ∙ e)
+    (sym (seq_emptied i.outer i.elements) ∙ ap (innermost value_placed) (sym i.after) ∙ e)
     (put_differs i.outer (sequence i.elements)) in
     subst (λ gs. Stepped new (frames_distinct gs) (after_seq_end gs)) (sym i.is) found
 
 -- where an emptied sequence has no place, the sequence has none
-pub seq_put_none : (fs rest : List Frame) → InSeq fs rest → frames_with rest (sequence no_element) ≡ None → after_seq_end fs ≡ None
+pub seq_put_none : (fs rest : List Frame) → InSeq fs rest → innermost value_placed rest ≡ None → after_seq_end fs ≡ None
 seq_put_none fs rest i e =
     ap after_seq_end i.is
-    ∙ none_emptied (frames_with i.outer (sequence i.elements)) (sym (put_emptied i.outer (sequence i.elements) refl) ∙ ap (λ gs. frames_with gs (sequence no_element)) (sym i.after) ∙ e)
+    ∙ none_emptied (frames_with i.outer (sequence i.elements)) (sym (seq_emptied i.outer i.elements) ∙ ap (innermost value_placed) (sym i.after) ∙ e)
 
 keys_of_mapping : (ms : Members) (d : Bool) (fs : List Frame) → d ≡ (values_distinct ms && frames_distinct fs)
     → (d && keys_differ ms) ≡ (members_distinct ms && frames_distinct fs)
@@ -264,72 +243,52 @@ keys_of_mapping ms d fs e =
     ∙ and_assoc (keys_differ ms) (values_distinct ms) (frames_distinct fs)
     ∙ ap (λ b. b && frames_distinct fs) (sym (members_distinct-parts ms))
 
-has_key-emptied_tree : (key : List ℕ) (ms : Members) → has_key key (emptied_members ms) ≡ has_key key ms
-has_key-emptied_tree key no_member = refl
-has_key-emptied_tree key (member k t ms) = ap (λ b. same_text key k || b) (has_key-emptied_tree key ms)
+has_key-emptied : (key : List ℕ) (ms : Members) → has_key key (emptied_members ms) ≡ has_key key ms
+has_key-emptied key no_member = refl
+has_key-emptied key (member k t ms) = ap (λ b. same_text key k || b) (has_key-emptied key ms)
 
-keys_differ-emptied_tree : (ms : Members) → keys_differ (emptied_members ms) ≡ keys_differ ms
-keys_differ-emptied_tree no_member = refl
-keys_differ-emptied_tree (member k t ms) = ap₂ (λ a b. not a && b) (has_key-emptied_tree k ms) (keys_differ-emptied_tree ms)
+keys_differ-emptied : (ms : Members) → keys_differ (emptied_members ms) ≡ keys_differ ms
+keys_differ-emptied no_member = refl
+keys_differ-emptied (member k t ms) = ap₂ (λ a b. not a && b) (has_key-emptied k ms) (keys_differ-emptied ms)
 
 -- the flag is taken together with whether this mapping's keys differ
-pub map_stepped : (fs rest new : List Frame) (ns : Members) (d : Bool) → InMap fs ns rest → frames_with rest (mapping no_member) ≡ Some new → d ≡ frames_distinct fs
+pub map_stepped : (fs rest new : List Frame) (ns : Members) (d : Bool) → InMap fs ns rest → innermost value_placed rest ≡ Some new → d ≡ frames_distinct fs
     → Stepped new (d && keys_differ ns) (after_map_end fs)
 map_stepped fs rest new ns d i e was =
-    let keys : keys_differ ns ≡ keys_differ i.members = ap keys_differ i.emptied_is ∙ keys_differ-emptied_tree i.members in
+    let keys : keys_differ ns ≡ keys_differ i.members = ap keys_differ i.emptied_is ∙ keys_differ-emptied i.members in
     let flag : (d && keys_differ ns) ≡ (members_distinct i.members && frames_distinct i.outer) =
     ap (λ b. d && b) keys ∙ keys_of_mapping i.members d i.outer (was ∙ ap frames_distinct i.is) in
     let found = stepped (frames_with i.outer (mapping i.members)) new (members_distinct i.members && frames_distinct i.outer)
-    (sym (put_emptied i.outer (mapping i.members) refl) ∙ ap (λ gs. frames_with gs (mapping no_member)) (sym i.after) ∙ e)
+    (sym (map_emptied i.outer i.members) ∙ ap (innermost value_placed) (sym i.after) ∙ e)
     (put_differs i.outer (mapping i.members)) in
     let there : Stepped new (members_distinct i.members && frames_distinct i.outer) (after_map_end fs) =
     subst (λ gs. Stepped new (members_distinct i.members && frames_distinct i.outer) (after_map_end gs)) (sym i.is) found in
     subst (λ b. Stepped new b (after_map_end fs)) (sym flag) there
 
 -- where an emptied mapping has no place, the mapping has none
-pub map_put_none : (fs rest : List Frame) (ns : Members) → InMap fs ns rest → frames_with rest (mapping no_member) ≡ None → after_map_end fs ≡ None
+pub map_put_none : (fs rest : List Frame) (ns : Members) → InMap fs ns rest → innermost value_placed rest ≡ None → after_map_end fs ≡ None
 map_put_none fs rest ns i e =
     ap after_map_end i.is
-    ∙ none_emptied (frames_with i.outer (mapping i.members)) (sym (put_emptied i.outer (mapping i.members) refl) ∙ ap (λ gs. frames_with gs (mapping no_member)) (sym i.after) ∙ e)
+    ∙ none_emptied (frames_with i.outer (mapping i.members)) (sym (map_emptied i.outer i.members) ∙ ap (innermost value_placed) (sym i.after) ∙ e)
 
--- no sequence, no mapping is innermost, or its place is none for a collection
-
-collection_none : (fs : List Frame) (us ts : Elements) → frames_with (emptied_frames fs) (sequence us) ≡ None → frames_with fs (sequence ts) ≡ None
-collection_none [] us ts e = refl
-collection_none (awaiting ∷ fs) us ts e = cc
-collection_none (root u ∷ fs) us ts e = refl
-collection_none (whole u ∷ fs) us ts e = refl
-collection_none (in_seq vs ∷ fs) us ts e = cc
-collection_none (at_key ms ∷ fs) us ts e = refl
-collection_none (at_value ms key ∷ fs) us ts e = cc
-
-mapping_none : (fs : List Frame) (ns os : Members) → frames_with (emptied_frames fs) (mapping ns) ≡ None → frames_with fs (mapping os) ≡ None
-mapping_none [] ns os e = refl
-mapping_none (awaiting ∷ fs) ns os e = cc
-mapping_none (root u ∷ fs) ns os e = refl
-mapping_none (whole u ∷ fs) ns os e = refl
-mapping_none (in_seq vs ∷ fs) ns os e = cc
-mapping_none (at_key ms ∷ fs) ns os e = refl
-mapping_none (at_value ms key ∷ fs) ns os e = cc
-
--- where the end of a sequence is refused on emptied frames, it is on the frames themselves
-pub seq_none : (fs : List Frame) → after_seq_end (emptied_frames fs) ≡ None → after_seq_end fs ≡ None
+-- where no sequence is innermost
+pub seq_none : (fs : List Frame) → seq_ended (emptied_frames fs) ≡ None → after_seq_end fs ≡ None
 seq_none [] e = refl
 seq_none (awaiting ∷ fs) e = refl
 seq_none (root u ∷ fs) e = refl
 seq_none (whole u ∷ fs) e = refl
-seq_none (in_seq ts ∷ fs) e = collection_none fs (emptied_elements ts) ts e
+seq_none (in_seq ts ∷ fs) e = cc
 seq_none (at_key ms ∷ fs) e = refl
 seq_none (at_value ms key ∷ fs) e = refl
 
--- where the end of a mapping is refused on emptied frames, it is on the frames themselves
-pub map_none : (fs : List Frame) → after_map_end (emptied_frames fs) ≡ None → after_map_end fs ≡ None
+-- where no mapping is innermost in which a key is next
+pub map_none : (fs : List Frame) → map_ended (emptied_frames fs) ≡ None → after_map_end fs ≡ None
 map_none [] e = refl
 map_none (awaiting ∷ fs) e = refl
 map_none (root u ∷ fs) e = refl
 map_none (whole u ∷ fs) e = refl
 map_none (in_seq ts ∷ fs) e = refl
-map_none (at_key ms ∷ fs) e = mapping_none fs (emptied_members ms) ms e
+map_none (at_key ms ∷ fs) e = cc
 map_none (at_value ms key ∷ fs) e = refl
 
 -- ---- the end

@@ -12,9 +12,10 @@ use Rattle.std.specs.Ordering.{match_ordering}
 use Rattle.std.specs.Str.{chars, bytes_eq}
 use Rattle.yaml_grammar.specs.Texts.{same_text}
 use Rattle.yaml_grammar.specs.Trees.{Members, no_member, member, has_key, distinct, members_distinct}
-use Rattle.yaml_tree.specs.Keys.{keys_differ, values_distinct}
+use Rattle.yaml_tree.specs.Keys.{key_members, keys_differ, values_distinct}
 use Rattle.yaml_tree.specs.Seen.{Pair, members_of}
 use Rattle.yaml_tree.specs.TextBytes.{text_bytes}
+use Rattle.yaml_tree.specs.declared.text.Text.{Text}
 use Rattle.yaml_tree.proofs.CharacterLemmas.{same_text-Decides}
 use Rattle.yaml_tree.proofs.TextLemmas.{IsUtf8-text_bytes}
 
@@ -32,7 +33,7 @@ is_seen text [] = false
 is_seen text (k ∷ ks) = same_text text k.now || is_seen text ks
 
 -- no key of the pairs is among the keys
-abbrev pub none_seen : List Key → List Pair → Bool
+abbrev pub none_seen : {A : Type 0} → List Key → List (Text × A) → Bool
 none_seen ks [] = true
 none_seen ks (m ∷ ms) = not (is_seen (text_bytes m.0) ks) && none_seen ks ms
 
@@ -105,12 +106,12 @@ part_apart false true n h = refl
 part_apart false false n h = refl
 
 -- none is among the keys with k, just where none is among the keys and none is k
-none_seen-insert : (k : Key) (ks : List Key) (ms : List Pair) → IsUtf8 k.now
-    → none_seen (insert_key key_cmp ks k) ms ≡ (none_seen ks ms && not (has_key (chars k.now) (members_of ms)))
+none_seen-insert : {A : Type 0} (k : Key) (ks : List Key) (ms : List (Text × A)) → IsUtf8 k.now
+    → none_seen (insert_key key_cmp ks k) ms ≡ (none_seen ks ms && not (has_key (chars k.now) (key_members ms)))
 none_seen-insert k ks [] utf8 = refl
 none_seen-insert k ks (m ∷ ms) utf8 =
     let q = text_bytes m.0 in
-    let h = has_key (chars k.now) (members_of ms) in
+    let h = has_key (chars k.now) (key_members ms) in
     ap₂ (λ a b. not a && b) (is_seen-insert q ks k) (none_seen-insert k ks ms utf8)
     ∙ part_apart (same_text q k.now) (is_seen q ks) (none_seen ks ms) h
     ∙ ap (λ a. not (is_seen q ks) && none_seen ks ms && not (a || h))
@@ -121,25 +122,34 @@ and_assoc true b c = refl
 and_assoc false b c = refl
 
 -- a key that was seen before
-pub clear_seen : (k : Key) (ks : List Key) (m : Pair) (ms : List Pair) → k.now ≡ text_bytes m.0 → is_seen k.now ks ≡ true
-    → (none_seen ks (m ∷ ms) && keys_differ (members_of (m ∷ ms))) ≡ false
+pub clear_seen : {A : Type 0} (k : Key) (ks : List Key) (m : Text × A) (ms : List (Text × A)) → k.now ≡ text_bytes m.0 → is_seen k.now ks ≡ true
+    → (none_seen ks (m ∷ ms) && keys_differ (key_members (m ∷ ms))) ≡ false
 clear_seen k ks m ms e seen = rw (← e, seen) refl
 
 -- and one that was not
-pub clear_new : (k : Key) (ks : List Key) (m : Pair) (ms : List Pair) → IsUtf8 k.now → k.now ≡ text_bytes m.0 → is_seen k.now ks ≡ false
-    → (none_seen (insert_key key_cmp ks k) ms && keys_differ (members_of ms)) ≡ (none_seen ks (m ∷ ms) && keys_differ (members_of (m ∷ ms)))
+pub clear_new : {A : Type 0} (k : Key) (ks : List Key) (m : Text × A) (ms : List (Text × A)) → IsUtf8 k.now → k.now ≡ text_bytes m.0 → is_seen k.now ks ≡ false
+    → (none_seen (insert_key key_cmp ks k) ms && keys_differ (key_members ms)) ≡ (none_seen ks (m ∷ ms) && keys_differ (key_members (m ∷ ms)))
 clear_new k ks m ms utf8 e new =
-    ap (λ a. a && keys_differ (members_of ms)) (none_seen-insert k ks ms utf8)
-    ∙ sym (and_assoc (none_seen ks ms) (not (has_key (chars k.now) (members_of ms))) (keys_differ (members_of ms)))
-    ∙ ap₂ (λ a t. (not a && none_seen ks ms) && (not (has_key (chars t) (members_of ms)) && keys_differ (members_of ms)))
+    ap (λ a. a && keys_differ (key_members ms)) (none_seen-insert k ks ms utf8)
+    ∙ sym (and_assoc (none_seen ks ms) (not (has_key (chars k.now) (key_members ms))) (keys_differ (key_members ms)))
+    ∙ ap₂ (λ a t. (not a && none_seen ks ms) && (not (has_key (chars t) (key_members ms)) && keys_differ (key_members ms)))
     (sym new ∙ ap (λ t. is_seen t ks) e) e
 
 -- no key of a mapping is among no keys
-pub none_seen-nil : (ms : List Pair) → none_seen [] ms ≡ true
+pub none_seen-nil : {A : Type 0} (ms : List (Text × A)) → none_seen [] ms ≡ true
 none_seen-nil [] = refl
 none_seen-nil (m ∷ ms) = none_seen-nil ms
 
 -- ---- keys and values
+
+-- whether keys differ doesn't go by the values
+has_key-pairs : (key : List ℕ) (ms : List Pair) → has_key key (key_members ms) ≡ has_key key (members_of ms)
+has_key-pairs key [] = refl
+has_key-pairs key (m ∷ ms) = ap (λ b. same_text key (chars (text_bytes m.0)) || b) (has_key-pairs key ms)
+
+pub keys_differ-pairs : (ms : List Pair) → keys_differ (key_members ms) ≡ keys_differ (members_of ms)
+keys_differ-pairs [] = refl
+keys_differ-pairs (m ∷ ms) = ap₂ (λ a b. not a && b) (has_key-pairs (chars (text_bytes m.0)) ms) (keys_differ-pairs ms)
 
 and_swap : (a b c d : Bool) → (a && b && (c && d)) ≡ (a && c && (b && d))
 and_swap true true c d = refl

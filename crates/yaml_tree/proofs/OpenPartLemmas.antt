@@ -1,28 +1,25 @@
--- The open parts of src/build.rt as frames: what is next in them, and what is written before it.
-use Rattle.std.proofs.Common.{◌≡◌, ℕ, suc, ◌+◌, ◌<◌, Bool, true, false, not, if◌then◌else◌, ◌==◌, List, [], ◌∷◌, ◌++◌, ◌⊎◌, inl, inr, Option, Some, None, codes, length, is_some, refl, sym, ap, ◌∙◌, arith}
+-- The open parts of src/open_part.rt as frames: what is next in them, and what is written before it.
+use Rattle.std.proofs.Common.{◌≡◌, ℕ, suc, ◌+◌, ◌<◌, Bool, true, false, if◌then◌else◌, ◌==◌, List, [], ◌∷◌, ◌++◌, ◌⊎◌, inl, inr, Option, Some, None, codes, length, is_some, refl, sym, ap, ◌∙◌, arith}
 use Rattle.std.proofs.lemmas.Bool.{ne_eqb}
 use Rattle.yaml_events.specs.Meant.{event_of}
 use Rattle.yaml_events.specs.declared.event.Event.{Event}
 use Rattle.yaml_events.specs.declared.event.Event.TheVariants.{DocStart, SeqStart, MapStart}
 use Rattle.yaml_grammar.specs.Texts.{spaces}
 use Rattle.yaml_grammar.specs.Trees.{Members, shape}
-use Rattle.yaml_tree.specs.Building.{frame_by_key}
-use Rattle.yaml_tree.specs.Emptied.{awaits_key}
+use Rattle.yaml_tree.specs.Emptied.{seq_frame, frame_by_next}
 use Rattle.yaml_tree.specs.Frames.{Frame, awaiting, root, whole, in_seq, at_key, at_value}
+use Rattle.yaml_tree.specs.Keys.{key_members}
 use Rattle.yaml_tree.specs.OpenText.{indent_in, awaits_value, empty_line, line_start, dash, key_start, seq_end, map_end, added}
-use Rattle.yaml_tree.specs.Seen.{Pair, elements_of, members_of}
 use Rattle.yaml_tree.specs.declared.text.Text.{Text}
-use Rattle.yaml_tree.specs.declared.tree.Tree.{Tree}
 
--- a mapping with no key at hand awaits one
-pub key_awaited : (ms : Members) (key : Option Text) (fs : List Frame) → is_some key ≡ not (awaits_key (frame_by_key ms key ∷ fs))
-key_awaited ms None fs = refl
-key_awaited ms (Some key) fs = refl
+-- a key of a mapping, without its value
+abbrev Key : Type 0
+Key = Text × Unit {0}
 
--- a mapping with a key at hand awaits its value
-pub value_awaited : (ms : Members) (key : Option Text) (fs : List Frame) → is_some key ≡ awaits_value (frame_by_key ms key ∷ fs)
-value_awaited ms None fs = refl
-value_awaited ms (Some key) fs = refl
+-- a mapping awaits a value where the code says so
+pub value_awaited : (ms : Members) (awaits : Bool) (fs : List Frame) → awaits ≡ awaits_value (frame_by_next ms awaits ∷ fs)
+value_awaited ms true fs = refl
+value_awaited ms false fs = refl
 
 -- what comes before the first line of a collection after a key
 pub line_start-after_key : (is_first : Bool) (fs : List Frame) (i : ℕ) → is_first ≡ true → awaits_value fs ≡ true → i ≡ indent_in fs
@@ -35,45 +32,42 @@ line_start-after_key is_first fs i first awaited e =
 pub empty_line-after_key : (brackets : List ℕ) (fs : List Frame) → awaits_value fs ≡ true → codes " " ++ brackets ≡ empty_line brackets fs
 empty_line-after_key brackets fs awaited = sym (ap (λ b. if b then codes " " ++ brackets else brackets) awaited)
 
--- what comes before an element of a list
-pub dash_of : (ts : List Tree) (n : ℕ) (fs : List Frame) → length ts ≡ n
-    → line_start (n == 0) fs ++ codes "- " ≡ dash (in_seq (elements_of ts)) fs
-dash_of [] n fs e = sym (ap (λ m. line_start (m == 0) fs ++ codes "- ") e)
-dash_of (t ∷ ts) n fs e =
-    let some : suc (length ts) ≡ n = e in
-    ap (λ b. line_start b fs ++ codes "- ") (ne_eqb n 0 (λ none. omega (arith, some, none)))
+-- what comes before an element of a sequence
+pub dash_of : (is_empty : Bool) (fs : List Frame) → line_start is_empty fs ++ codes "- " ≡ dash (seq_frame is_empty) fs
+dash_of true fs = refl
+dash_of false fs = refl
 
 -- what comes before a key of a list of pairs
-pub key_start_of : (ms : List Pair) (n : ℕ) (fs : List Frame) → length ms ≡ n → line_start (n == 0) fs ≡ key_start (members_of ms) fs
+pub key_start_of : (ms : List Key) (n : ℕ) (fs : List Frame) → length ms ≡ n → line_start (n == 0) fs ≡ key_start (key_members ms) fs
 key_start_of [] n fs e = sym (ap (λ m. line_start (m == 0) fs) e)
 key_start_of (m ∷ ms) n fs e =
     let some : suc (length ms) ≡ n = e in
     ap (λ b. line_start b fs) (ne_eqb n 0 (λ none. omega (arith, some, none)))
 
 -- the end of a sequence without elements, and of others
-pub seq_end-empty : (ts : List Tree) (fs : List Frame) → length ts ≡ 0 → empty_line (codes "[]\n") fs ≡ seq_end (in_seq (elements_of ts)) fs
-seq_end-empty [] fs e = refl
-seq_end-empty (t ∷ ts) fs e = absurd (omega (arith, e))
+pub seq_end-empty : (is_empty : Bool) (fs : List Frame) → is_empty ≡ true → empty_line (codes "[]\n") fs ≡ seq_end (seq_frame is_empty) fs
+seq_end-empty true fs e = refl
+seq_end-empty false fs e = cc
 
-pub seq_end-filled : (ts : List Tree) (fs : List Frame) → (length ts ≡ 0 → ⊥) → [] ≡ seq_end (in_seq (elements_of ts)) fs
-seq_end-filled [] fs some = absurd (some refl)
-seq_end-filled (t ∷ ts) fs some = refl
+pub seq_end-filled : (is_empty : Bool) (fs : List Frame) → is_empty ≡ false → [] ≡ seq_end (seq_frame is_empty) fs
+seq_end-filled true fs e = cc
+seq_end-filled false fs e = refl
 
 -- the end of a mapping without members, and of others
-pub map_end-empty : (ms : List Pair) (key : Option Text) (fs : List Frame) → is_some key ≡ false → length ms ≡ 0
-    → empty_line (codes "{}\n") fs ≡ map_end (frame_by_key (members_of ms) key) fs
-map_end-empty [] None fs none e = refl
-map_end-empty [] (Some key) fs none e = cc
-map_end-empty (m ∷ ms) key fs none e = absurd (omega (arith, e))
+pub map_end-empty : (ms : List Key) (awaits : Bool) (fs : List Frame) → awaits ≡ false → length ms ≡ 0
+    → empty_line (codes "{}\n") fs ≡ map_end (frame_by_next (key_members ms) awaits) fs
+map_end-empty [] false fs none e = refl
+map_end-empty [] true fs none e = cc
+map_end-empty (m ∷ ms) awaits fs none e = absurd (omega (arith, e))
 
-pub map_end-key : (ms : Members) (key : Option Text) (fs : List Frame) → is_some key ≡ true → [] ≡ map_end (frame_by_key ms key) fs
-map_end-key ms None fs some = cc
-map_end-key ms (Some key) fs some = refl
+pub map_end-key : (ms : Members) (awaits : Bool) (fs : List Frame) → awaits ≡ true → [] ≡ map_end (frame_by_next ms awaits) fs
+map_end-key ms false fs some = cc
+map_end-key ms true fs some = refl
 
-pub map_end-filled : (ms : List Pair) (key : Option Text) (fs : List Frame) → (length ms ≡ 0 → ⊥) → [] ≡ map_end (frame_by_key (members_of ms) key) fs
-map_end-filled [] key fs some = absurd (some refl)
-map_end-filled (m ∷ ms) None fs some = refl
-map_end-filled (m ∷ ms) (Some key) fs some = refl
+pub map_end-filled : (ms : List Key) (awaits : Bool) (fs : List Frame) → (length ms ≡ 0 → ⊥) → [] ≡ map_end (frame_by_next (key_members ms) awaits) fs
+map_end-filled [] awaits fs some = absurd (some refl)
+map_end-filled (m ∷ ms) false fs some = refl
+map_end-filled (m ∷ ms) true fs some = refl
 
 -- the start of a part begins as a value does
 pub start_added : (e : Event) (f : Frame) (fs : List Frame) → (e ≡ DocStart) ⊎ ((e ≡ SeqStart) ⊎ (e ≡ MapStart)) → dash f fs ≡ added (f ∷ fs) (shape (event_of e))

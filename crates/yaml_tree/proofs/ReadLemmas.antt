@@ -67,3 +67,15 @@ deep_refused bytes limits es TooDeep reads one deep h =
     record { text = reads.text; events = events_of es; reads = reads.reads; tree = h.0; is_tree = h.1; first = (h.2, deep h.0 h.1) }
 deep_refused bytes limits es LargeInStyle reads one deep h = absurd h
 deep_refused bytes limits es OutOfMemory reads one deep h = tt
+
+-- what is refused where keys are looked at is refused where the tree is too deep
+pub keys_refused : (es : List Event) (fault : ReadFault) → HasNoTree (events_of es) fault → RefusesDeep (events_of es) fault
+keys_refused es TooLong h = absurd h
+keys_refused es (NotUtf8 at) h = absurd h
+keys_refused es (Syntax line column why) h = absurd h
+keys_refused es (Documents count) h = absurd h
+keys_refused es KeyNotText h = h
+keys_refused es KeyTwice h = absurd h
+keys_refused es TooDeep h = absurd h
+keys_refused es LargeInStyle h = absurd h
+keys_refused es OutOfMemory h = tt

@@ -29,12 +29,12 @@ frame_of (Seq items) = in_seq (elements_of items.items)
 frame_of (Map map) = map_frame map
 
 -- those of a list whose last one is the innermost, put before others
-abbrev pub frames_onto : List Part → List Frame → List Frame
-frames_onto [] fs = fs
-frames_onto (x ∷ xs) fs = frames_onto xs (frame_of x ∷ fs)
+abbrev pub frames_onto : {A : Type 0} → (A → Frame) → List A → List Frame → List Frame
+frames_onto frame [] fs = fs
+frames_onto frame (x ∷ xs) fs = frames_onto frame xs (frame x ∷ fs)
 
 abbrev pub frames_of : List Part → List Frame
-frames_of parts = frames_onto parts []
+frames_of parts = frames_onto frame_of parts []
 
 -- there is no such part, or no memory
 abbrev pub HasNone : {A : Type 0} → Option A → ReadFault → Type 0

@@ -1,11 +1,11 @@
 -- A document that is written while its events come, and what is left of it at the end.
-use Rattle.std.specs.Prelude.{◌≡◌, ℕ, ◌<◌, List, Option, Some, ◌-◌, ◌+◌, encode_utf8_all, string_bytes}
+use Rattle.std.specs.Prelude.{◌≡◌, ℕ, ◌<◌, List, Option, Some, ◌-◌, ◌+◌, encode_utf8_all}
 use Rattle.yaml_grammar.specs.Events.{Event}
 use Rattle.yaml_grammar.specs.Reads.{Limits}
 use Rattle.yaml_grammar.specs.Style.{style_text}
 use Rattle.yaml_grammar.specs.Trees.{Tree, IsTreeOf, IsTextTree, distinct, Shape, document_from, document_to, seq_from, seq_to, map_from, map_to, scalar_of}
 use Rattle.yaml_tree.specs.Emptied.{Keeps}
-use Rattle.yaml_tree.specs.Frames.{Frame, finished_tree}
+use Rattle.yaml_tree.specs.Frames.{Frame}
 use Rattle.yaml_tree.specs.OpenText.{indent_in, text_of, AreTextFrames, TakesLimited}
 use Rattle.yaml_tree.specs.Reading.{IsRead}
 use Rattle.yaml_tree.specs.declared.format.DocumentWriter.{DocumentWriter}

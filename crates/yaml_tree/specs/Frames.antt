@@ -35,9 +35,13 @@ abbrev pub inside : Option Frame → List Frame → Option (List Frame)
 inside None fs = None
 inside (Some f) fs = Some (f ∷ fs)
 
+-- the parts with a change of the innermost one
+abbrev pub innermost : (Frame → Option Frame) → List Frame → Option (List Frame)
+innermost change [] = None
+innermost change (f ∷ fs) = inside (change f) fs
+
 abbrev pub frames_with : List Frame → Tree → Option (List Frame)
-frames_with [] t = None
-frames_with (f ∷ fs) t = inside (frame_with f t) fs
+frames_with fs t = innermost (λ f. frame_with f t) fs
 
 -- the document, the sequence, the mapping that ends
 abbrev pub after_document_end : List Frame → Option (List Frame)

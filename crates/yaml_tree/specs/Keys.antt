@@ -1,9 +1,21 @@
 -- What `distinct` asks of a mapping: of its own keys, and of its values.
 use Rattle.std.specs.Prelude.{ℕ, ◌+◌, Bool, true, not, ◌&&◌, List, [], ◌∷◌}
 use Rattle.yaml_grammar.specs.Trees.{Tree, text, sequence, mapping, Elements, no_element, element, Members, no_member, member, has_key, distinct, elements_distinct}
+use Rattle.std.specs.Str.{chars}
 use Rattle.yaml_tree.specs.Seen.{elements_of, members_of}
+use Rattle.yaml_tree.specs.TextBytes.{text_bytes}
 use Rattle.yaml_tree.specs.declared.keys.Level.{Level}
 use Rattle.yaml_tree.specs.declared.keys.Level.TheVariants as levels
+use Rattle.yaml_tree.specs.declared.text.Text.{Text as Words}
+
+-- what stands for a value of which nothing is kept
+abbrev pub nothing : Tree
+nothing = text []
+
+-- the members that have the keys of these pairs, whatever the values are
+abbrev pub key_members : {A : Type 0} → List (Words × A) → Members
+key_members [] = no_member
+key_members (m ∷ ms) = member (chars (text_bytes m.0)) nothing (key_members ms)
 
 abbrev pub keys_differ : Members → Bool
 keys_differ no_member = true

@@ -1,9 +1,9 @@
 -- The text in the one style of a document whose events come one after another: what is written once some have come, and
 -- what the next one adds.
-use Rattle.std.specs.Prelude.{◌≡◌, ◌≢◌, ℕ, ◌+◌, Bool, true, false, if◌then◌else◌, List, [], ◌∷◌, ◌++◌, Option, None, codes, encode_utf8_all, string_bytes}
+use Rattle.std.specs.Prelude.{◌≡◌, ◌≢◌, ℕ, ◌+◌, Bool, true, false, if◌then◌else◌, List, [], ◌∷◌, ◌++◌, None, codes, encode_utf8_all, string_bytes}
 use Rattle.yaml_grammar.specs.Style.{scalar_lines, key_lines, lines_at, elements_at, members_at, value_at}
 use Rattle.yaml_grammar.specs.Texts.{IsText, byte_len, spaces}
-use Rattle.yaml_grammar.specs.Trees.{text, Elements, no_element, element, Members, no_member, member, Shape, document_from, document_to, seq_from, seq_to, map_from, map_to, scalar_of, IsTextTree, AreTextElements, AreTextMembers}
+use Rattle.yaml_grammar.specs.Trees.{text, no_element, element, Members, no_member, member, Shape, document_from, document_to, seq_from, seq_to, map_from, map_to, scalar_of, IsTextTree, AreTextElements, AreTextMembers}
 use Rattle.yaml_tree.specs.Budget.{left_after}
 use Rattle.yaml_tree.specs.Frames.{Frame, awaiting, root, whole, in_seq, at_key, at_value}
 use Rattle.yaml_tree.specs.declared.limited.LimitedText.{LimitedText}

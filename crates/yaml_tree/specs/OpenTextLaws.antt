@@ -1,6 +1,6 @@
 -- A text that takes one text after another takes both in a row.
-use Rattle.std.specs.Prelude.{◌≡◌, ◌≢◌, ℕ, List, [], ◌++◌, Option, None, encode_utf8_all, string_bytes}
-use Rattle.std.proofs.Common.{refl, sym, ap, ◌∙◌}
+use Rattle.std.specs.Prelude.{◌≢◌, ℕ, List, [], ◌++◌, Option, None, string_bytes}
+use Rattle.std.proofs.Common.{ap, ◌∙◌}
 use Rattle.yaml_grammar.specs.Texts.{byte_len}
 use Rattle.yaml_tree.specs.Budget.{left_after}
 use Rattle.yaml_tree.specs.BudgetLaws.{left_after-none, left_after-more}

@@ -4,9 +4,7 @@ ghost use Rattle.std.specs.Cow.{cow_str_bytes};
 ghost use Rattle.yaml_events.specs.Meant.{event_of, events_of};
 ghost use Rattle.yaml_grammar.specs.Trees.{IsTreeOf, no_element, no_member, shape};
 ghost use Rattle.yaml_tree.specs.Building.{frame_of, frames_of, map_frame, HasNone, HasNoTree};
-ghost use Rattle.yaml_tree.specs.Emptied.{awaits_key};
 ghost use Rattle.yaml_tree.specs.Frames.{Frame, in_seq, at_key, frame_with, frames_with, step, after_document_end, after_seq_end, after_map_end, finished_tree};
-ghost use Rattle.yaml_tree.specs.OpenText.{awaits_value};
 ghost use Rattle.yaml_tree.specs.Seen.{tree_of, elements_of, members_of};
 ghost use Rattle.yaml_tree.specs.TextBytes.{text_bytes};
 
@@ -75,26 +73,6 @@ impl OpenMap {
 }
 
 impl Part {
-    /// Whether a key is next in it.
-    fn awaits_key(&self) -> bool
-        ensures { (fs : List Frame) → result ≡ awaits_key (frame_of self.now ∷ fs) }
-    {
-        match self {
-            Part::Map(map) => map.key.is_none(),
-            Part::Document | Part::Root(_) | Part::Whole(_) | Part::Seq(_) => false,
-        }
-    }
-
-    /// Whether the value of a key is next in it.
-    pub(crate) fn awaits_value(&self) -> bool
-        ensures { (fs : List Frame) → result ≡ awaits_value (frame_of self.now ∷ fs) }
-    {
-        match self {
-            Part::Map(map) => map.key.is_some(),
-            Part::Document | Part::Root(_) | Part::Whole(_) | Part::Seq(_) => false,
-        }
-    }
-
     /// Puts in a further value. Returns `KeyNotText` if the value is a collection where a key is next, or if no value
     /// may follow.
     #[inline(always)]
@@ -129,7 +107,7 @@ pub(crate) struct Builder {
 
 impl Builder {
     /// Nothing is open. `sizes` tells how many values the collections will have.
-    pub(crate) fn new(alloc: Global, sizes: Sizes) -> Self
+    fn new(alloc: Global, sizes: Sizes) -> Self
         ensures { frames_of result.parts.items ≡ [] }
     {
         Builder {
@@ -164,7 +142,7 @@ impl Builder {
 
     /// Puts a value into the innermost part. Returns `KeyNotText` if it has no place there.
     #[inline(always)]
-    pub(crate) fn put(&mut self, tree: Tree) -> Result<(), ReadFault>
+    fn put(&mut self, tree: Tree) -> Result<(), ReadFault>
         ensures { MatchResult result
             (λ _. frames_with (frames_of self.old.parts.items) (tree_of tree)
             ≡ Some (frames_of self.new.parts.items))
@@ -173,16 +151,6 @@ impl Builder {
         match self.parts.last_mut() {
             Some(part) => part.put(tree),
             None => Err(ReadFault::KeyNotText),
-        }
-    }
-
-    /// Whether a key is next.
-    pub(crate) fn awaits_key(&self) -> bool
-        ensures { result ≡ awaits_key (frames_of self.now.parts.items) }
-    {
-        match self.parts.split_last() {
-            Some((innermost, _)) => innermost.awaits_key(),
-            None => false,
         }
     }
 
@@ -201,7 +169,7 @@ impl Builder {
     }
 
     /// Ends the innermost part and returns its elements. Returns `KeyNotText` if it is no sequence.
-    pub(crate) fn end_seq(&mut self) -> Result<Vec<Tree>, ReadFault>
+    fn end_seq(&mut self) -> Result<Vec<Tree>, ReadFault>
         ensures { MatchResult result
             (λ items. frames_of self.old.parts.items
             ≡ in_seq (elements_of items.items) ∷ frames_of self.new.parts.items)
@@ -215,7 +183,7 @@ impl Builder {
     }
 
     /// Ends the innermost part and returns its pairs. Returns `KeyNotText` if it is no mapping where a key is next.
-    pub(crate) fn end_map(&mut self) -> Result<Vec<(Text, Tree)>, ReadFault>
+    fn end_map(&mut self) -> Result<Vec<(Text, Tree)>, ReadFault>
         ensures { MatchResult result
             (λ pairs. frames_of self.old.parts.items
             ≡ at_key (members_of pairs.items) ∷ frames_of self.new.parts.items)
@@ -278,7 +246,7 @@ impl Builder {
     /// Takes the next event of the document. Returns `KeyNotText` if the event has no place there, as
     /// the end of a collection that is a key.
     #[inline(always)]
-    pub(crate) fn take(&mut self, event: Event<'_>) -> Result<(), ReadFault>
+    fn take(&mut self, event: Event<'_>) -> Result<(), ReadFault>
         ensures { MatchResult result
             (λ _. step (frames_of self.old.parts.items) (shape (event_of event.entry))
             ≡ Some (frames_of self.new.parts.items))
@@ -299,7 +267,7 @@ impl Builder {
     }
 
     /// The tree of the document. Returns `KeyNotText` if the document has not ended.
-    pub(crate) fn finish(mut self) -> Result<Tree, ReadFault>
+    fn finish(mut self) -> Result<Tree, ReadFault>
         ensures { MatchResult result
             (λ tree. finished_tree (frames_of self.parts.items) ≡ Some (tree_of tree))
             (HasNone (finished_tree (frames_of self.parts.items))) }

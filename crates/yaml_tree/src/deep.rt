@@ -9,19 +9,18 @@ ghost use Rattle.yaml_tree.specs.Building.{HasNone, HasNoTree};
 ghost use Rattle.yaml_tree.specs.Emptied.{Keeps, Took};
 ghost use Rattle.yaml_tree.specs.Frames.{Frame, frames_with, step, after_seq_end, after_map_end};
 
-use crate::build::{Builder, text_of};
+use crate::ReadFault;
 use crate::keys::keys_differ;
+use crate::open_part::OpenParts;
 use crate::sizes::Sizes;
-use crate::{ReadFault, Text, Tree};
 use std::alloc::Global;
 use std::borrow::CowStr;
 use yaml_events::{Event, Events};
 
-/// A walk over a document that keeps the keys of the mappings that are open. Of a value that has ended it keeps only
-/// the kind.
+/// A walk over a document that keeps the keys of the mappings that are open, and no values.
 #[derive(Drop)]
 pub(crate) struct KeyCheck {
-    pub(crate) builder: Builder,
+    pub(crate) open: OpenParts,
     /// Whether the keys differ in each mapping that has ended.
     pub(crate) keys_differ: bool,
 }
@@ -32,7 +31,7 @@ impl KeyCheck {
         ensures { Keeps result [] }
     {
         KeyCheck {
-            builder: Builder::new(alloc, sizes),
+            open: OpenParts::new(alloc, sizes),
             keys_differ: true,
         }
     }
@@ -45,25 +44,24 @@ impl KeyCheck {
             (HasNone (step fs (shape (event_of event.entry)))) }
     {
         match event {
+            Event::DocStart => self.open.start_document(),
+            Event::DocEnd => self.open.end_document(),
+            Event::SeqStart => self.open.start_seq(),
             Event::SeqEnd => self.end_seq(),
+            Event::MapStart => self.open.start_map(),
             Event::MapEnd => self.end_map(),
             Event::Scalar { value, .. } => self.scalar(value),
-            event => self.builder.take(event),
         }
     }
 
     /// Takes a scalar, of which it keeps the text where it is a key. Returns `KeyNotText` if it has no place there.
+    #[inline(always)]
     fn scalar(&mut self, value: CowStr<'_>) -> Result<(), ReadFault>
         ensures { (fs : List Frame) → Keeps self.old fs → MatchResult result
             (λ _. Took self.new (frames_with fs (text (chars (cow_str_bytes value.entry)))))
             (HasNone (frames_with fs (text (chars (cow_str_bytes value.entry))))) }
     {
-        let kept = if self.builder.awaits_key() {
-            text_of(self.builder.alloc, value)?
-        } else {
-            Text::empty()
-        };
-        self.builder.put(Tree::Text(kept))
+        self.open.put_scalar(value)
     }
 
     /// Ends the innermost part. Returns `KeyNotText` if it is no sequence, or if it is a key.
@@ -72,9 +70,8 @@ impl KeyCheck {
             (λ _. Took self.new (after_seq_end fs))
             (HasNone (after_seq_end fs)) }
     {
-        let _ = self.builder.end_seq()?;
-        let ended = Tree::Seq(Vec::new(self.builder.alloc));
-        self.builder.put(ended)
+        self.open.end_seq()?;
+        self.open.put_collection()
     }
 
     /// Ends the innermost part and compares its keys. Returns `KeyNotText` if it is no mapping, or if it is a key.
@@ -83,16 +80,15 @@ impl KeyCheck {
             (λ _. Took self.new (after_map_end fs))
             (HasNone (after_map_end fs)) }
     {
-        let pairs = self.builder.end_map()?;
-        let differ = keys_differ(self.builder.alloc, &pairs)?;
+        let pairs = self.open.end_map()?;
+        let differ = keys_differ(self.open.alloc, &pairs)?;
         self.keys_differ = self.keys_differ && differ;
-        let ended = Tree::Map(Vec::new(self.builder.alloc));
-        self.builder.put(ended)
+        self.open.put_collection()
     }
 }
 
-/// Whether in each mapping of a document the keys differ from one another. The document may be of any depth: of a
-/// value that has ended only its kind is kept.
+/// Whether in each mapping of a document the keys differ from one another. The document may be of any depth: no value is
+/// kept.
 ///
 /// # Errors
 ///
@@ -107,10 +103,7 @@ pub(crate) fn document_keys_differ(alloc: Global, events: Events<'_>) -> Result<
     for event in events {
         check.take(event)?;
     }
-    let KeyCheck {
-        builder,
-        keys_differ,
-    } = check;
-    let _ = builder.finish()?;
+    let KeyCheck { open, keys_differ } = check;
+    open.finish()?;
     Ok(keys_differ)
 }

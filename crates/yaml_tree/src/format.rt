@@ -2,7 +2,8 @@
 ghost use Rattle.std.specs.Prelude.{◌≡◌, ◌<◌, ◌↔◌, List, [], Err, IfOk, IfErr, MatchResult, length, string_bytes};
 ghost use Rattle.yaml_events.specs.Meant.{event_of, events_of};
 ghost use Rattle.yaml_grammar.specs.Trees.{shape};
-ghost use Rattle.yaml_tree.specs.Building.{frames_of, HasNone, HasNoTree};
+ghost use Rattle.yaml_tree.specs.Building.{HasNone, HasNoTree};
+ghost use Rattle.yaml_tree.specs.Emptied.{open_frames};
 ghost use Rattle.yaml_tree.specs.Formatting.{IsFormatted, Writes, Wrote, HasWritten, IsWritten, indent_after};
 ghost use Rattle.yaml_tree.specs.Frames.{Frame, step, finished_tree};
 ghost use Rattle.yaml_tree.specs.Kept.{limits_of};
@@ -119,7 +120,7 @@ impl DocumentWriter {
     /// Takes the next event of the document. Returns `KeyNotText` if the event has no place there.
     #[inline(always)]
     fn take(&mut self, event: Event<'_>) -> Result<(), ReadFault>
-        requires indent { self.old.indent ≡ indent_in (frames_of self.old.check.builder.parts.items) }
+        requires indent { self.old.indent ≡ indent_in (open_frames self.old.check.open.parts.items) }
         requires room { self.old.indent < 4294967296 }
         ensures { (start : LimitedText) (fs : List Frame) → Writes start self.old fs
             → MatchResult result
@@ -127,12 +128,7 @@ impl DocumentWriter {
             (HasNone (step fs (shape (event_of event.entry)))) }
     {
         let indent = indent_after(self.indent, &event)?;
-        write_event(
-            &self.check.builder.parts,
-            self.indent,
-            &event,
-            &mut self.text,
-        )?;
+        write_event(&self.check.open.parts, self.indent, &event, &mut self.text)?;
         self.check.take(event)?;
         self.indent = indent;
         Ok(())
@@ -146,11 +142,8 @@ impl DocumentWriter {
             (HasNone (finished_tree fs)) }
     {
         let DocumentWriter { check, text, .. } = self;
-        let KeyCheck {
-            builder,
-            keys_differ,
-        } = check;
-        let _ = builder.finish()?;
+        let KeyCheck { open, keys_differ } = check;
+        open.finish()?;
         Ok(WrittenDocument { keys_differ, text })
     }
 }

@@ -2,8 +2,8 @@
 ghost use Rattle.std.specs.Prelude.{◌≡◌, ◌+◌, ◌&&◌, true, IfOk, MatchOption};
 ghost use Rattle.std.specs.Str.{chars};
 ghost use Rattle.yaml_grammar.specs.Trees.{distinct, has_key};
-ghost use Rattle.yaml_tree.specs.Keys.{keys_differ, own_keys_differ, level_distinct, level_nodes, nodes};
-ghost use Rattle.yaml_tree.specs.Seen.{tree_of, members_of};
+ghost use Rattle.yaml_tree.specs.Keys.{key_members, keys_differ, own_keys_differ, level_distinct, level_nodes, nodes};
+ghost use Rattle.yaml_tree.specs.Seen.{tree_of};
 
 use crate::{Text, Tree};
 use std::alloc::{AllocError, Global};
@@ -90,8 +90,8 @@ fn have_own_keys_distinct(alloc: Global, tree: &Tree) -> Result<bool, AllocError
 }
 
 /// Whether the keys of one mapping differ.
-pub(crate) fn keys_differ(alloc: Global, pairs: &[(Text, Tree)]) -> Result<bool, AllocError>
-    ensures { IfOk result (λ answer. answer ≡ keys_differ (members_of pairs.now)) }
+pub(crate) fn keys_differ<T>(alloc: Global, pairs: &[(Text, T)]) -> Result<bool, AllocError>
+    ensures { IfOk result (λ answer. answer ≡ keys_differ (key_members pairs.now)) }
 {
     if pairs.len() <= FEW {
         return Ok(few_keys_differ(pairs));
@@ -100,8 +100,8 @@ pub(crate) fn keys_differ(alloc: Global, pairs: &[(Text, Tree)]) -> Result<bool,
 }
 
 /// Whether the keys of a small mapping differ. Each is compared with those after it, which takes no memory.
-fn few_keys_differ(pairs: &[(Text, Tree)]) -> bool
-    ensures { result ≡ keys_differ (members_of pairs.now) }
+fn few_keys_differ<T>(pairs: &[(Text, T)]) -> bool
+    ensures { result ≡ keys_differ (key_members pairs.now) }
 {
     let mut rest = pairs;
     while let Some(((key, _), after)) = rest.split_first() {
@@ -114,8 +114,8 @@ fn few_keys_differ(pairs: &[(Text, Tree)]) -> bool
 }
 
 /// Whether one of the pairs has this key.
-fn has_key(pairs: &[(Text, Tree)], key: &str) -> bool
-    ensures { result ≡ has_key (chars key.now) (members_of pairs.now) }
+fn has_key<T>(pairs: &[(Text, T)], key: &str) -> bool
+    ensures { result ≡ has_key (chars key.now) (key_members pairs.now) }
 {
     for (other, _) in pairs {
         if other.as_str() == key {
@@ -126,8 +126,8 @@ fn has_key(pairs: &[(Text, Tree)], key: &str) -> bool
 }
 
 /// Whether the keys of one mapping differ. Each is looked up among those before it, which are in order.
-fn many_keys_differ(alloc: Global, pairs: &[(Text, Tree)]) -> Result<bool, AllocError>
-    ensures { IfOk result (λ answer. answer ≡ keys_differ (members_of pairs.now)) }
+fn many_keys_differ<T>(alloc: Global, pairs: &[(Text, T)]) -> Result<bool, AllocError>
+    ensures { IfOk result (λ answer. answer ≡ keys_differ (key_members pairs.now)) }
 {
     let mut seen = BTreeSet::new(alloc);
     for (key, _) in pairs {

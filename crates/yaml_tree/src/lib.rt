@@ -17,6 +17,7 @@ mod laws;
 mod limited;
 mod limits;
 mod literal;
+mod open_part;
 mod open_text;
 mod quoted;
 mod read;

@@ -3,9 +3,9 @@ use Rattle.std.proofs.lemmas.Result.{err_from_is_err_and}
 use Rattle.yaml_events.specs.Meant.{events_of}
 use Rattle.yaml_events.specs.declared.event.Event.{Event}
 use Rattle.yaml_grammar.specs.Trees.{shapes}
-use Rattle.yaml_tree.specs.Building.{frames_of}
+use Rattle.yaml_tree.specs.Emptied.{open_frames}
+use Rattle.yaml_tree.specs.Keys.{nothing}
 use Rattle.yaml_tree.specs.Frames.{finished_tree}
-use Rattle.yaml_tree.specs.Seen.{tree_of}
 use Rattle.yaml_tree.proofs.CheckLemmas.{emptied_refuses}
 use Rattle.yaml_tree.proofs.EmptiedLemmas.{finished_emptied}
 use Rattle.yaml_tree.proofs.EventLemmas.{run_on, run_ended, run_tree, stopped_refuses}
@@ -36,7 +36,7 @@ returns-in_err-finish c =
     let done : run (Some []) (shapes (events_of all)) ≡ Some fs = run_ended l.event-iterator all fs c.in-None.ensures.steps.0 l.invariant.1 in
     let p = err_from_is_err_and c.from_residual-in_err-finish.result c.from_residual-in_err-finish.ensures.1 in
     rw (p.1, p.2)
-    (emptied_refuses (events_of all) fs (frames_of l.check.builder.parts.items) _ done l.invariant.2.frames c.in_err-finish.ensures)
+    (emptied_refuses (events_of all) fs (open_frames l.check.open.parts.items) _ done l.invariant.2.frames c.in_err-finish.ensures)
 
 pub returns : goal.returns
 returns c =
@@ -44,6 +44,6 @@ returns c =
     let fs = l.invariant.0 in
     let all : List Event = c.args.events in
     let done : run (Some []) (shapes (events_of all)) ≡ Some fs = run_ended l.event-iterator all fs c.in-None.ensures.steps.0 l.invariant.1 in
-    let found = finished_emptied fs (tree_of c.in_ok-finish.field-0) l.check.keys_differ
+    let found = finished_emptied fs nothing l.check.keys_differ
     (ap finished_tree (sym l.invariant.2.frames) ∙ c.in_ok-finish.ensures) l.invariant.2.differ in
     (found.tree, run_tree (events_of all) fs found.tree done found.is, found.distinct)

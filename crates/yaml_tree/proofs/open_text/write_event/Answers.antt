@@ -1,37 +1,37 @@
-use Rattle.std.proofs.Common.{◌≡◌, ◌+◌, ◌<◌, List, ◌∷◌, subst, sym, ap, ap₂, ◌∙◌, arith}
+use Rattle.std.proofs.Common.{subst, sym, ap, ap₂, ◌∙◌}
 use Rattle.std.proofs.lemmas.Result.{on_ok_weaker}
 use Rattle.std.specs.Str.{chars}
 use Rattle.yaml_events.specs.Meant.{event_of}
 use Rattle.yaml_grammar.specs.Trees.{shape}
-use Rattle.yaml_tree.specs.Building.{frame_of, frames_of}
+use Rattle.yaml_tree.specs.Emptied.{open_frame, open_frames}
 use Rattle.yaml_tree.specs.OpenText.{indent_in, scalar_in, added}
 use Rattle.yaml_tree.proofs.OpenPartLemmas.{start_added, own_room}
-use Rattle.yaml_tree.proofs.PartLemmas.{frames_of-push}
+use Rattle.yaml_tree.proofs.PartLemmas.{open_frames-push}
 use Rattle.yaml_tree.proofs.open_text.write_event.Goals as goal
 
 pub write_scalar_in-requires-clause-indent : goal.write_scalar_in-requires-clause-indent
 write_scalar_in-requires-clause-indent g c =
     let outer = c.in-Some.outer.now in
-    let parts = ap frames_of c.in-Some.ensures.cases.0 ∙ frames_of-push outer c.in-Some.innermost.now in
-    c.own_indent-indent.ensures (frames_of outer) (c.requires.indent ∙ ap indent_in parts)
+    let parts = ap open_frames c.in-Some.ensures.cases.0 ∙ open_frames-push outer c.in-Some.innermost.now in
+    c.own_indent-indent.ensures (open_frames outer) (c.requires.indent ∙ ap indent_in parts)
 
 pub write_scalar_in-requires-clause-room : goal.write_scalar_in-requires-clause-room
 write_scalar_in-requires-clause-room g c =
     let outer = c.in-Some.outer.now in
-    let parts = ap frames_of c.in-Some.ensures.cases.0 ∙ frames_of-push outer c.in-Some.innermost.now in
+    let parts = ap open_frames c.in-Some.ensures.cases.0 ∙ open_frames-push outer c.in-Some.innermost.now in
     let whole = c.requires.indent ∙ ap indent_in parts in
-    own_room (frame_of c.in-Some.innermost.now) (frames_of outer) c.args.indent c.own_indent-indent.result whole
-    (c.own_indent-indent.ensures (frames_of outer) whole) c.requires.room
+    own_room (open_frame c.in-Some.innermost.now) (open_frames outer) c.args.indent c.own_indent-indent.result whole
+    (c.own_indent-indent.ensures (open_frames outer) whole) c.requires.room
 
 pub write_dash-requires : goal.write_dash-requires
 write_dash-requires g c =
     let outer = c.in-Some.outer.now in
-    let parts = ap frames_of c.in-Some.ensures.cases.0 ∙ frames_of-push outer c.in-Some.innermost.now in
-    c.own_indent-indent.ensures (frames_of outer) (c.requires.indent ∙ ap indent_in parts)
+    let parts = ap open_frames c.in-Some.ensures.cases.0 ∙ open_frames-push outer c.in-Some.innermost.now in
+    c.own_indent-indent.ensures (open_frames outer) (c.requires.indent ∙ ap indent_in parts)
 
 pub returns-in-SeqEnd-clause-lines : goal.returns-in-SeqEnd-clause-lines
 returns-in-SeqEnd-clause-lines g c =
-    let parts = ap frames_of c.in-Some.ensures.cases.0 ∙ frames_of-push c.in-Some.outer.now c.in-Some.innermost.now in
+    let parts = ap open_frames c.in-Some.ensures.cases.0 ∙ open_frames-push c.in-Some.outer.now c.in-Some.innermost.now in
     on_ok_weaker c.write_seq_end.result
     (subst (λ cs. g.S.Sink.Takes c.args.sink.now cs c.write_seq_end.new.sink)
     (sym (ap₂ (λ fs e. added fs (shape (event_of e))) parts c.in-SeqEnd.is)))
@@ -39,7 +39,7 @@ returns-in-SeqEnd-clause-lines g c =
 
 pub returns-in-MapEnd-clause-lines : goal.returns-in-MapEnd-clause-lines
 returns-in-MapEnd-clause-lines g c =
-    let parts = ap frames_of c.in-Some.ensures.cases.0 ∙ frames_of-push c.in-Some.outer.now c.in-Some.innermost.now in
+    let parts = ap open_frames c.in-Some.ensures.cases.0 ∙ open_frames-push c.in-Some.outer.now c.in-Some.innermost.now in
     on_ok_weaker c.write_map_end.result
     (subst (λ cs. g.S.Sink.Takes c.args.sink.now cs c.write_map_end.new.sink)
     (sym (ap₂ (λ fs e. added fs (shape (event_of e))) parts c.in-MapEnd.is)))
@@ -47,8 +47,8 @@ returns-in-MapEnd-clause-lines g c =
 
 pub returns-in-Scalar-clause-lines : goal.returns-in-Scalar-clause-lines
 returns-in-Scalar-clause-lines g c =
-    let parts = ap frames_of c.in-Some.ensures.cases.0 ∙ frames_of-push c.in-Some.outer.now c.in-Some.innermost.now in
-    let value = ap (λ bytes. scalar_in (frame_of c.in-Some.innermost.now) (frames_of c.in-Some.outer.now) (chars bytes)) c.as_str.ensures.value in
+    let parts = ap open_frames c.in-Some.ensures.cases.0 ∙ open_frames-push c.in-Some.outer.now c.in-Some.innermost.now in
+    let value = ap (λ bytes. scalar_in (open_frame c.in-Some.innermost.now) (open_frames c.in-Some.outer.now) (chars bytes)) c.as_str.ensures.value in
     on_ok_weaker c.write_scalar_in.result
     (subst (λ cs. g.S.Sink.Takes c.args.sink.now cs c.write_scalar_in.new.sink)
     (value ∙ sym (ap₂ (λ fs e. added fs (shape (event_of e))) parts c.in-Scalar.is)))
@@ -56,9 +56,9 @@ returns-in-Scalar-clause-lines g c =
 
 pub returns-in-DocStart-clause-lines : goal.returns-in-DocStart-clause-lines
 returns-in-DocStart-clause-lines g c =
-    let parts = ap frames_of c.in-Some.ensures.cases.0 ∙ frames_of-push c.in-Some.outer.now c.in-Some.innermost.now in
+    let parts = ap open_frames c.in-Some.ensures.cases.0 ∙ open_frames-push c.in-Some.outer.now c.in-Some.innermost.now in
     on_ok_weaker c.write_dash.result
     (subst (λ cs. g.S.Sink.Takes c.args.sink.now cs c.write_dash.new.sink)
-    (start_added c.args.event.now (frame_of c.in-Some.innermost.now) (frames_of c.in-Some.outer.now) c.in-DocStart.is
+    (start_added c.args.event.now (open_frame c.in-Some.innermost.now) (open_frames c.in-Some.outer.now) c.in-DocStart.is
     ∙ sym (ap (λ fs. added fs (shape (event_of c.args.event.now))) parts)))
     c.write_dash.ensures

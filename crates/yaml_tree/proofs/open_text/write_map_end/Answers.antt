@@ -1,40 +1,40 @@
-use Rattle.std.proofs.Common.{◌≡◌, ◌++◌, codes, length, subst, refl, sym, ap, ◌∙◌, arith}
+use Rattle.std.proofs.Common.{◌≡◌, codes, length, subst, refl, sym, ap, ◌∙◌, arith}
 use Rattle.std.proofs.lemmas.Bool.{eqb-true, eqb-false}
 use Rattle.std.proofs.lemmas.Result.{on_ok_weaker}
-use Rattle.yaml_tree.specs.Building.{frame_of, frames_of}
+use Rattle.yaml_tree.specs.Emptied.{open_frame, open_frames}
 use Rattle.yaml_tree.specs.OpenText.{empty_line, map_end}
-use Rattle.yaml_tree.specs.Seen.{members_of}
+use Rattle.yaml_tree.specs.Keys.{key_members}
 use Rattle.yaml_tree.proofs.CharacterLemmas.{chars-literal}
 use Rattle.yaml_tree.proofs.OpenPartLemmas.{map_end-key, map_end-empty, map_end-filled}
 use Rattle.yaml_tree.proofs.open_text.write_map_end.Goals as goal
 
-pub returns-then-is_some : goal.returns-then-is_some
-returns-then-is_some g c =
-    let fs = frames_of c.args.outer.now in
+pub returns-then-map : goal.returns-then-map
+returns-then-map g c =
+    let fs = open_frames c.args.outer.now in
     let map = c.in-Map.map in
     subst (λ cs. g.S.Sink.Takes c.args.sink.now cs c.args.sink.now)
-    (map_end-key (members_of map.pairs.items) map.key fs (sym c.if-is_some.ensures) ∙ sym (ap (λ p. map_end (frame_of p) fs) c.in-Map.is))
+    (map_end-key (key_members map.pairs.items) map.awaits_value fs (c.if-map.true) ∙ sym (ap (λ p. map_end (open_frame p) fs) c.in-Map.is))
     (g.met.S.Sink.takes_none c.args.sink.now)
 
 pub returns-then-not-is_empty : goal.returns-then-not-is_empty
 returns-then-not-is_empty g c =
-    let fs = frames_of c.args.outer.now in
+    let fs = open_frames c.args.outer.now in
     let map = c.in-Map.map in
     let filled = eqb-false _ _ (sym c.if-not-is_empty.ensures) in
     let some : length map.pairs.items ≡ 0 → ⊥ = λ none. filled (omega (arith, none, map.pairs.ok)) in
     subst (λ cs. g.S.Sink.Takes c.args.sink.now cs c.args.sink.now)
-    (map_end-filled map.pairs.items map.key fs some ∙ sym (ap (λ p. map_end (frame_of p) fs) c.in-Map.is))
+    (map_end-filled map.pairs.items map.awaits_value fs some ∙ sym (ap (λ p. map_end (open_frame p) fs) c.in-Map.is))
     (g.met.S.Sink.takes_none c.args.sink.now)
 
 pub returns : goal.returns
 returns g c =
-    let fs = frames_of c.args.outer.now in
+    let fs = open_frames c.args.outer.now in
     let map = c.in-Map.map in
     let empty = eqb-true _ _ (sym c.if-not-is_empty.ensures) in
     let none : length map.pairs.items ≡ 0 = omega (arith, empty, map.pairs.ok) in
     on_ok_weaker c.write_empty.result
     (subst (λ cs. g.S.Sink.Takes c.args.sink.now cs c.write_empty.new.sink)
     (ap (λ cs. empty_line cs fs) (chars-literal (codes "{}\n") refl)
-    ∙ map_end-empty map.pairs.items map.key fs (sym c.if-is_some.ensures) none
-    ∙ sym (ap (λ p. map_end (frame_of p) fs) c.in-Map.is)))
+    ∙ map_end-empty map.pairs.items map.awaits_value fs (c.if-map.false) none
+    ∙ sym (ap (λ p. map_end (open_frame p) fs) c.in-Map.is)))
     c.write_empty.ensures

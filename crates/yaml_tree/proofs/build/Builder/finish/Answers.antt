@@ -10,4 +10,4 @@ returns-then-not-is_empty c =
     let parts = c.pop.new.self.parts in
     let some : eqb parts.len 0 ≡ false = sym c.is_empty.ensures ∙ c.if-not-is_empty.true in
     let room : 0 < parts.len = grind (arith, nat_tests) in
-    ap finished_tree c.in_ok-last.ensures ∙ unfinished (frame_of c.in_ok-last.last) parts.items (omega (arith, parts.ok.0, room))
+    ap finished_tree c.in_ok-last.ensures ∙ unfinished frame_of (frame_of c.in_ok-last.last) parts.items (omega (arith, parts.ok.0, room))

@@ -1,20 +1,30 @@
-use Rattle.std.proofs.Common.{sym, ap, subst, ◌∙◌}
-use Rattle.std.proofs.lemmas.Result.{MatchResult-weaker}
+use Rattle.std.proofs.Common.{◌∷◌, refl, ap}
 use Rattle.yaml_events.specs.Meant.{event_of}
-use Rattle.yaml_grammar.specs.Trees.{shape}
-use Rattle.yaml_tree.specs.Building.{frames_of, HasNone}
-use Rattle.yaml_tree.specs.Emptied.{emptied_frames, frames_distinct}
-use Rattle.yaml_tree.specs.Frames.{step}
-use Rattle.yaml_tree.proofs.CheckLemmas.{took, has_none, inner_event}
-use Rattle.yaml_tree.proofs.EmptiedLemmas.{inner_stepped, inner_none}
+use Rattle.yaml_grammar.specs.Trees.{shape, document_from, document_to, seq_from, map_from, no_element, no_member}
+use Rattle.yaml_tree.specs.Emptied.{open_frames}
+use Rattle.yaml_tree.specs.Frames.{awaiting, in_seq, at_key}
+use Rattle.yaml_tree.proofs.CheckLemmas.{took_inner, opened}
 use Rattle.yaml_tree.proofs.deep.KeyCheck.take.Goals as goal
 
-pub returns-in_default : goal.returns-in_default
-returns-in_default c = λ fs keeps.
-    let s = shape (event_of c.args.event) in
-    let inner = inner_event c.args.event c.in_default.not-SeqEnd c.in_default.not-MapEnd c.in_default.not-Scalar in
-    MatchResult-weaker c.take.result c.take.ensures
-    (λ _ e. took _ (frames_distinct fs) (step fs s)
-    (inner_stepped fs (frames_of c.take.new.self.parts.items) s inner (ap (λ gs. step gs s) (sym keeps.frames) ∙ e)) keeps.differ)
-    (λ fault h. has_none (step (emptied_frames fs) s) (step fs s) (inner_none fs s inner) fault
-    (subst (λ gs. HasNone (step gs s) fault) keeps.frames h))
+pub returns-in-DocStart : goal.returns-in-DocStart
+returns-in-DocStart c = λ fs keeps.
+    let before = open_frames c.args.self.now.open.parts.items in
+    took_inner _ c.args.self.now fs (shape (event_of c.args.event)) document_from c.start_document.result (ap (λ e. shape (event_of e)) c.in-DocStart.is) tt keeps refl
+    (opened c.start_document.result (awaiting ∷ before) (open_frames c.start_document.new.self.parts.items) c.start_document.ensures)
+
+pub returns-in-DocEnd : goal.returns-in-DocEnd
+returns-in-DocEnd c = λ fs keeps.
+    took_inner _ c.args.self.now fs (shape (event_of c.args.event)) document_to c.end_document.result (ap (λ e. shape (event_of e)) c.in-DocEnd.is) tt keeps refl
+    c.end_document.ensures
+
+pub returns-in-SeqStart : goal.returns-in-SeqStart
+returns-in-SeqStart c = λ fs keeps.
+    let before = open_frames c.args.self.now.open.parts.items in
+    took_inner _ c.args.self.now fs (shape (event_of c.args.event)) seq_from c.start_seq.result (ap (λ e. shape (event_of e)) c.in-SeqStart.is) tt keeps refl
+    (opened c.start_seq.result (in_seq no_element ∷ before) (open_frames c.start_seq.new.self.parts.items) c.start_seq.ensures)
+
+pub returns-in-MapStart : goal.returns-in-MapStart
+returns-in-MapStart c = λ fs keeps.
+    let before = open_frames c.args.self.now.open.parts.items in
+    took_inner _ c.args.self.now fs (shape (event_of c.args.event)) map_from c.start_map.result (ap (λ e. shape (event_of e)) c.in-MapStart.is) tt keeps refl
+    (opened c.start_map.result (at_key no_member ∷ before) (open_frames c.start_map.new.self.parts.items) c.start_map.ensures)

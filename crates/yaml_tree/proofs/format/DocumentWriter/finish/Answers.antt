@@ -3,7 +3,7 @@ use Rattle.std.proofs.lemmas.Result.{err_from_is_err_and}
 use Rattle.yaml_tree.specs.Building.{HasNone}
 use Rattle.yaml_tree.specs.Emptied.{emptied_frames}
 use Rattle.yaml_tree.specs.Frames.{finished_tree}
-use Rattle.yaml_tree.specs.Seen.{tree_of}
+use Rattle.yaml_tree.specs.Keys.{nothing}
 use Rattle.yaml_tree.proofs.CheckLemmas.{has_none}
 use Rattle.yaml_tree.proofs.EmptiedLemmas.{finished_emptied, finished_none}
 use Rattle.yaml_tree.proofs.WriterLemmas.{has_written}
@@ -18,6 +18,6 @@ returns-in_err-finish c = λ start fs writes.
 
 pub returns : goal.returns
 returns c = λ start fs writes.
-    let done = finished_emptied fs (tree_of c.in_ok-finish.field-0) c.args.self.check.keys_differ
+    let done = finished_emptied fs nothing c.args.self.check.keys_differ
     (ap finished_tree (sym writes.keeps.frames) ∙ c.in_ok-finish.ensures) writes.keeps.differ in
     has_written start c.args.self _ fs writes done refl

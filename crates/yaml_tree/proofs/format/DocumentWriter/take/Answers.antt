@@ -1,7 +1,7 @@
 use Rattle.std.proofs.Common.{ap, subst, ◌∙◌}
 use Rattle.yaml_events.specs.Meant.{event_of}
 use Rattle.yaml_grammar.specs.Trees.{shape}
-use Rattle.yaml_tree.specs.Building.{frames_of}
+use Rattle.yaml_tree.specs.Emptied.{open_frames}
 use Rattle.yaml_tree.specs.OpenText.{added, BringsText, TakesLimited}
 use Rattle.yaml_tree.proofs.WriterLemmas.{wrote}
 use Rattle.yaml_tree.proofs.format.DocumentWriter.take.Goals as goal
@@ -9,7 +9,7 @@ use Rattle.yaml_tree.proofs.format.DocumentWriter.take.Goals as goal
 pub returns : goal.returns
 returns c = λ start fs writes.
     let s = shape (event_of c.args.event) in
-    let parts = ap frames_of c.deref.ensures.value ∙ writes.keeps.frames in
+    let parts = ap open_frames c.deref.ensures.value ∙ writes.keeps.frames in
     let lines = subst (λ gs. TakesLimited c.args.self.now.text (added gs s) c.write_event.new.sink) parts c.in_ok-write_event.ensures.lines in
     let brings = subst (λ gs. BringsText gs s) parts c.in_ok-write_event.ensures.text in
     wrote start c.args.self.now _ fs s writes (c.in_ok-take.ensures fs writes.keeps) c.in_ok-indent.ensures.0 c.in_ok-indent.ensures.1 brings lines
