@@ -5,6 +5,7 @@ ghost use Rattle.yaml_events.specs.Meant.{event_ref_of, events_of};
 ghost use Rattle.yaml_events.specs.Parts.{events_in, Fits};
 
 use crate::parts::{BorrowedScalar, Kind, OwnedScalar};
+use crate::rest::Rest;
 use crate::{Event, EventRef};
 use std::borrow::CowStr;
 use std::marker::Model;
@@ -91,8 +92,8 @@ impl<'e> Iterator for EventIter<'e> {
 /// An iterator that hands over the events of a list. Contracts see the list of the events that are left.
 #[derive(Drop)]
 pub struct EventIntoIter<'a> {
-    kinds: vec::IntoIter<Kind>,
-    borrowed: vec::IntoIter<BorrowedScalar<'a>>,
+    kinds: Rest<Kind>,
+    borrowed: Rest<BorrowedScalar<'a>>,
     owned: vec::IntoIter<OwnedScalar>,
 }
 
@@ -105,10 +106,10 @@ impl<'a> Model for EventIntoIter<'a> {
     ghost Value = { List Event };
 
     ghost view = { λ i.
-        events_in (into_iter_items i.kinds) (into_iter_items i.borrowed) (into_iter_items i.owned) };
+        events_in i.kinds i.borrowed (into_iter_items i.owned) };
 
     ghost invariant = { λ i.
-        Fits (into_iter_items i.kinds) (into_iter_items i.borrowed) (into_iter_items i.owned) };
+        Fits i.kinds i.borrowed (into_iter_items i.owned) };
 }
 
 impl<'a> EventIntoIter<'a> {
@@ -123,8 +124,8 @@ impl<'a> EventIntoIter<'a> {
         ensures { result ≡ events_in kinds.items borrowed.entry.items owned.items }
     {
         EventIntoIter {
-            kinds: kinds.into_iter(),
-            borrowed: borrowed.into_iter(),
+            kinds: Rest::of(kinds),
+            borrowed: Rest::of(borrowed),
             owned: owned.into_iter(),
         }
     }

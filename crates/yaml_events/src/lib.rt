@@ -11,6 +11,7 @@ mod fault;
 mod iter;
 mod list;
 mod parts;
+mod rest;
 
 pub use context::{BlockContext, FlowContext};
 pub use event::{Event, EventRef, Span, Style};

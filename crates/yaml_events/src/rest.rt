@@ -1,0 +1,44 @@
+// A list of values that is gone through from its front.
+ghost use Rattle.std.specs.Prelude.{◌≡◌, [], ◌∷◌, MatchOption};
+
+use std::marker::Model;
+
+/// A list of values, of which some were handed over. Contracts see the list of those that are left.
+#[derive(Drop)]
+pub(crate) struct Rest<T> {
+    items: Vec<T>,
+    /// How many were handed over.
+    taken: usize,
+}
+
+impl<T> Model for Rest<T> {
+    ghost use Rattle.std.specs.Prelude.{◌≤◌, List, length, drop};
+
+    ghost Value = { List T };
+
+    ghost view = { λ r. drop r.taken r.items.items };
+
+    ghost invariant = { λ r. r.taken ≤ length r.items.items };
+}
+
+impl<T: Copy> Rest<T> {
+    /// Nothing of the list was handed over.
+    #[inline(always)]
+    pub(crate) fn of(items: Vec<T>) -> Self
+        ensures { result ≡ items.items }
+    {
+        Rest { items, taken: 0 }
+    }
+
+    /// Hands over the first value that is left.
+    #[inline(always)]
+    pub(crate) fn next(&mut self) -> Option<T>
+        ensures { MatchOption result
+            ((self.old ≡ []) × (self.new ≡ []))
+            (λ value. self.old ≡ value ∷ self.new) }
+    {
+        let value = *self.items.get(self.taken)?;
+        self.taken += 1;
+        Some(value)
+    }
+}
