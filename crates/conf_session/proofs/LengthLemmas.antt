@@ -13,6 +13,7 @@ use Rattle.yaml_laws.specs.Closed.{framed_text_bytes, framed_text}
 use Rattle.yaml_docs.specs.declared.fault.ReadFault.{ReadFault}
 use Rattle.yaml_docs.specs.declared.fault.ReadFault.TheVariants as read
 use Rattle.yaml_tree.specs.BudgetLaws.{byte_len-append}
+use Rattle.yaml_tree.specs.Limits.{config_limits}
 use Rattle.tree_path.specs.declared.fault.PathFault.{PathFault}
 use Rattle.tree_path.specs.declared.fault.PathFault.TheVariants as path
 use Rattle.tree_path.specs.declared.place.Miss.{Miss}
@@ -66,11 +67,11 @@ pub value-short : (t v : Tree) (tokens : List (List ℕ)) → at t tokens ≡ Ok
 value-short t v tokens e = at-size 1 t v tokens e
 
 -- a configuration under a name keeps its limit of length
-pub named-short : (es : List Entry) (name : List ℕ) (t : Tree) → AreConfigs es → config_named es name ≡ Some t → size t ≤ 1048576
+pub named-short : (es : List Entry) (name : List ℕ) (t : Tree) → AreConfigs es → config_named es name ≡ Some t → size t ≤ config_limits.style
 named-short [] name t all is = cc
 named-short (e ∷ es) name t all is = by (same_text name e.0) is (named-short es name t all.2)
   where
-    by : (b : Bool) → (if b then Some e.1 else config_named es name) ≡ Some t → (config_named es name ≡ Some t → size t ≤ 1048576) → size t ≤ 1048576
+    by : (b : Bool) → (if b then Some e.1 else config_named es name) ≡ Some t → (config_named es name ≡ Some t → size t ≤ config_limits.style) → size t ≤ config_limits.style
     by true here rest =
         let same : e.1 ≡ t = cc in
         let bytes = ap size same in
@@ -259,15 +260,15 @@ by_path-Ok : {A : Type 0} (r : Result A PathFault) (x : A) → by_path r ≡ Ok 
 by_path-Ok (Ok y) x is = cc
 by_path-Ok (Err fault) x is = let refused : Err (store.Path fault) ≡ Ok x = is in cc
 
-named-size : (s : Contents) (name : List ℕ) (t : Tree) → IsState s → tree_named s name ≡ Ok t → size t ≤ 1048576
+named-size : (s : Contents) (name : List ℕ) (t : Tree) → IsState s → tree_named s name ≡ Ok t → size t ≤ config_limits.style
 named-size s name t kept is = by (good_name name) (config_named s.configs name) refl is
   where
-    by : (good : Bool) (o : Option Tree) → config_named s.configs name ≡ o → (if good then found o else Err store.BadName) ≡ Ok t → size t ≤ 1048576
+    by : (good : Bool) (o : Option Tree) → config_named s.configs name ≡ o → (if good then found o else Err store.BadName) ≡ Ok t → size t ≤ config_limits.style
     by true (Some u) there e = let same : u ≡ t = cc in named-short s.configs name t kept.configs (there ∙ ap Some same)
     by true None there e = cc
     by false o there e = cc
 
-value-size : (s : Contents) (name p : List ℕ) (v : Tree) → IsState s → value_at_path s name p ≡ Ok v → size v ≤ 1048576
+value-size : (s : Contents) (name p : List ℕ) (v : Tree) → IsState s → value_at_path s name p ≡ Ok v → size v ≤ config_limits.style
 value-size s name p v kept is =
     let named = and_then-Ok (tree_named s name) _ v is in
     let parsed = and_then-Ok (by_path (path_of p)) _ v named.2 in

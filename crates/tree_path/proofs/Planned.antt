@@ -8,7 +8,7 @@ use Rattle.std.proofs.lemmas.List.{length-map}
 use Rattle.yaml_grammar.specs.Style.{style_text}
 use Rattle.yaml_grammar.specs.Texts.{byte_len}
 use Rattle.yaml_grammar.specs.Trees.{Tree, depth}
-use Rattle.yaml_tree.specs.Kept.{IsKept}
+use Rattle.yaml_tree.specs.Kept.{IsKept, own_limits}
 use Rattle.tree_path.specs.Changes.{Changes, Located, shifted_change}
 use Rattle.tree_path.specs.Paths.{key_in, last_key}
 use Rattle.tree_path.specs.Steps.{texts}
@@ -36,7 +36,7 @@ split tokens last parents is =
 
 -- the node to which tokens lead is as small as a configuration
 pub node-small : (tokens : List (List ℕ)) (slot : Slot) (t u : Tree) → Located tokens Value t slot u → IsKept t
-    → (depth u ≤ 66) × (byte_len (style_text u) ≤ 67108864)
+    → (depth u ≤ own_limits.depth) × (byte_len (style_text u) ≤ own_limits.style)
 node-small tokens slot t u low kept =
     let inside = Located-within tokens Value slot t u low in
     (omega (arith, inside.1, kept.deep), omega (arith, inside.0, kept.long))
