@@ -1,18 +1,10 @@
-//! confstore: a crash-safe store of named configuration trees, and tools for their texts.
+//! confstore: a crash-safe store of named configuration trees, and tools for their texts. What it does is in
+//! [`conf_tools`].
 #![tactic(auto)]
 
-mod input;
-mod program;
-mod report;
-mod stores;
-mod tools;
-
-pub use program::perform;
-use program::refuse_words;
+use conf_tools::{perform, refuse_words};
 use std::process::ExitCode;
 use std::{env, io};
-pub use stores::{StoreToolFault, export_store, run_store};
-pub use tools::{ToolFault, check_text, format_text};
 
 fn main(rt: HostRuntime) -> ExitCode {
     let alloc = rt.alloc();
@@ -26,10 +18,3 @@ fn main(rt: HostRuntime) -> ExitCode {
     let mut writer = io::writer(&rt);
     ExitCode::from(perform(&rt, alloc, &words, &mut reader, &mut writer, &mut errors))
 }
-
-#[cfg(test)]
-mod check_tests;
-#[cfg(test)]
-mod store_tests;
-#[cfg(test)]
-mod tests;

@@ -1,0 +1,46 @@
+-- What a session's end says of the program's status.
+use Rattle.std.proofs.Common.{◌⊎◌, ℕ, List, Option, Err, inl, inr, arith}
+use Rattle.std.specs.Io.KnownBytes.{Keeps}
+use Rattle.conf_disk.specs.Folder.{Folder}
+use Rattle.conf_store.specs.declared.fault.OpenFault.TheVariants as OpenFault
+use Rattle.conf_session.specs.declared.fault.SessionFault.TheVariants as SessionFaults
+use Rattle.conf_tools.specs.Stores.{RunsOn}
+use Rattle.conf_tools.specs.Statuses.{Performs, FindsSome, AnswersSome, code_of, status_of_store}
+use Rattle.conf_tools.specs.declared.stores.StoreToolFault.{StoreToolFault}
+use Rattle.conf_tools.specs.declared.stores.StoreToolFault.TheVariants.{Folder as InFolder, Open, Session, Export, Output as StoreOutput}
+
+at_three : {given left held written : Option (List ℕ)} → Performs given left held written 3
+at_three = record {
+  known = omega arith;
+  done = λ e. absurd (omega (arith, e));
+  refused = λ e. absurd (omega (arith, e));
+  wrong = λ e. absurd (omega (arith, e));
+}
+
+at_one : {given left held written : Option (List ℕ)}
+    → FindsSome given left held written ⊎ AnswersSome given left held written ⊎ Keeps held written → Performs given left held written 1
+at_one why = record {
+  known = omega arith;
+  done = λ e. absurd (omega (arith, e));
+  refused = λ e. why;
+  wrong = λ e. absurd (omega (arith, e));
+}
+
+-- a fault of a run on a store has its status, and what that says of the output
+pub performs_refused : {D : Type 0} (honest : Type 0) (folder : D → Folder) (disk : D) {given left held written : Option (List ℕ)}
+    → (fault : StoreToolFault) → RunsOn honest folder disk given left held written (Err fault)
+    → Performs given left held written (code_of (status_of_store fault))
+performs_refused honest folder disk (InFolder fault) runs = absurd runs
+performs_refused honest folder disk (Open OpenFault.NotAStore) runs = at_one (inr (inr runs.1))
+performs_refused honest folder disk (Open (OpenFault.Damaged number)) runs = at_one (inr (inr runs.1))
+performs_refused honest folder disk (Open OpenFault.Device) runs = at_three
+performs_refused honest folder disk (Open OpenFault.OutOfMemory) runs = at_one (inr (inr runs.1))
+performs_refused honest folder disk (Session SessionFaults.Read) runs = at_three
+performs_refused honest folder disk (Session (SessionFaults.Write count)) runs = at_three
+performs_refused honest folder disk (Session SessionFaults.TooLong) runs = at_one (inr (inl (runs.start, SessionFaults.TooLong, runs.answers)))
+performs_refused honest folder disk (Session SessionFaults.SessionLong) runs = at_one (inr (inl (runs.start, SessionFaults.SessionLong, runs.answers)))
+performs_refused honest folder disk (Session SessionFaults.OutOfMemory) runs = at_one (inr (inl (runs.start, SessionFaults.OutOfMemory, runs.answers)))
+performs_refused honest folder disk (Session SessionFaults.Device) runs = at_three
+performs_refused honest folder disk (Session SessionFaults.Reopen) runs = at_three
+performs_refused honest folder disk (Export fault) runs = absurd runs
+performs_refused honest folder disk StoreOutput runs = absurd runs

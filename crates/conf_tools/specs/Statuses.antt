@@ -1,0 +1,70 @@
+-- The program's statuses, and what each says of its input and output.
+use Rattle.std.specs.Prelude.{◌≡◌, ◌⊎◌, ℕ, ◌<◌, ◌≤◌, List, Option, Ok, Err}
+use Rattle.std.specs.Io.KnownBytes.{Keeps}
+use Rattle.conf_folder.specs.declared.fault.FolderFault.TheVariants as FolderFault
+use Rattle.conf_record.specs.declared.fault.StoreFault.TheVariants as StoreFault
+use Rattle.conf_store.specs.declared.fault.OpenFault.TheVariants as OpenFault
+use Rattle.conf_session.specs.Answers.{Stored}
+use Rattle.conf_session.specs.declared.fault.SessionFault.{SessionFault}
+use Rattle.conf_session.specs.declared.session.Tally.{Tally}
+use Rattle.conf_session.specs.declared.fault.SessionFault.TheVariants as SessionFaults
+use Rattle.conf_tools.specs.Stores.{Answers}
+use Rattle.conf_tools.specs.Tools.{Checks, Formats}
+use Rattle.conf_tools.specs.declared.stores.StoreToolFault.{StoreToolFault}
+use Rattle.conf_tools.specs.declared.stores.StoreToolFault.TheVariants.{Folder as InFolder, Open, Session, Export, Output as StoreOutput}
+use Rattle.conf_tools.specs.declared.program.Status.{Status}
+use Rattle.conf_tools.specs.declared.program.Status.TheVariants.{Done, Found, Refused, WrongWords, Device}
+use Rattle.conf_tools.specs.declared.tools.ToolFault.{ToolFault}
+use Rattle.conf_tools.specs.declared.tools.ToolFault.TheVariants.{Input, Output, Read}
+
+-- the number of a status
+abbrev pub code_of : Status → ℕ
+code_of Done = 0
+code_of Found = 1
+code_of Refused = 1
+code_of WrongWords = 2
+code_of Device = 3
+
+-- the status after a fault of `format` or `check`
+abbrev pub status_of : ToolFault → Status
+status_of Input = Device
+status_of Output = Device
+status_of (Read fault) = Refused
+
+-- the status after a fault of `run` or `export`
+abbrev pub status_of_store : StoreToolFault → Status
+status_of_store (InFolder FolderFault.Device) = Device
+status_of_store (InFolder FolderFault.Locked) = Device
+status_of_store (InFolder FolderFault.OutOfMemory) = Refused
+status_of_store (Open OpenFault.Device) = Device
+status_of_store (Open fault) = Refused
+status_of_store (Session SessionFaults.Read) = Device
+status_of_store (Session (SessionFaults.Write count)) = Device
+status_of_store (Session SessionFaults.Device) = Device
+status_of_store (Session SessionFaults.Reopen) = Device
+status_of_store (Session fault) = Refused
+status_of_store (Export StoreFault.Device) = Device
+status_of_store (Export StoreFault.Reopen) = Device
+status_of_store (Export fault) = Refused
+status_of_store StoreOutput = Device
+
+-- the input was checked, and something was found in it
+abbrev pub FindsSome : Option (List ℕ) → Option (List ℕ) → Option (List ℕ) → Option (List ℕ) → Type 0
+FindsSome given left held written = (count : ℕ) × (0 < count) × Checks given left held written count
+
+-- a session on some store answered all commands of the input
+abbrev pub AnswersAll : Option (List ℕ) → Option (List ℕ) → Option (List ℕ) → Option (List ℕ) → Type 0
+AnswersAll given left held written = (start : Stored) × (tally : Tally) × Answers given left held written start (Ok tally)
+
+-- a session on some store ended with a fault, and wrote what `Ends` says of that fault
+abbrev pub AnswersSome : Option (List ℕ) → Option (List ℕ) → Option (List ℕ) → Option (List ℕ) → Type 0
+AnswersSome given left held written = (start : Stored) × (fault : SessionFault) × Answers given left held written start (Err fault)
+
+-- Where it is done, the input was formatted, or checked and nothing found in it, or its commands were answered, or none
+-- was read, as for help and `export`. At 1 the findings of the input were written, or some answers, or nothing: the
+-- input was refused, or memory ran out. Where the words are wrong, nothing was written.
+pub record Performs (given left held written : Option (List ℕ)) (status : ℕ) : Type 0 where
+  pub known : status ≤ 3
+  pub done : status ≡ 0 → Formats given left held written ⊎ Checks given left held written 0 ⊎ AnswersAll given left held written ⊎ Keeps given left
+  pub refused : status ≡ 1 → FindsSome given left held written ⊎ AnswersSome given left held written ⊎ Keeps held written
+  pub wrong : status ≡ 2 → Keeps held written

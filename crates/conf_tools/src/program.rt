@@ -1,0 +1,310 @@
+// What the program does with the words that it is given.
+ghost use Rattle.std.specs.Prelude.{◌≡◌, ◌⊎◌, ◌≤◌};
+ghost use Rattle.std.specs.Io.KnownBytes.{Keeps};
+ghost use Rattle.conf_tools.specs.Statuses.{Performs, code_of, status_of, status_of_store};
+
+use crate::stores::{StoreToolFault, export_store, run_store};
+use crate::tools::{ToolFault, check_text, format_text};
+use clap::{Arg, ArgMatches, Command};
+use conf_folder::{FolderDisk, FolderFault};
+use conf_record::StoreFault;
+use conf_session::SessionFault;
+use conf_store::OpenFault;
+use std::alloc::{AllocError, Global};
+use std::fs::File;
+use std::io;
+use std::io::{ErrorKind, Read, Write};
+use std::rt::Files;
+
+/// What the program ends with.
+#[derive(Clone, Copy, Debug, PartialEq, Eq)]
+pub enum Status {
+    Done,
+    /// Something was found in a text.
+    Found,
+    /// A text or a store was refused, or memory ran out.
+    Refused,
+    WrongWords,
+    /// Reading or writing failed, or the folder can't be used.
+    Device,
+}
+
+impl Status {
+    pub fn code(self) -> u8
+        ensures { result ≡ code_of self }
+    {
+        match self {
+            Status::Done => 0,
+            Status::Found | Status::Refused => 1,
+            Status::WrongWords => 2,
+            Status::Device => 3,
+        }
+    }
+}
+
+const VERSION: &str = "0.1.0";
+
+const ABOUT: &str = "A crash-safe store of named configuration trees, and tools for their texts.";
+
+const STATUSES: &str = "\
+Statuses:
+  0  done
+  1  a text or a store was refused, memory ran out, or `check` found something
+  2  wrong words
+  3  reading or writing failed, or the folder is missing or locked
+
+A fault is one line on standard error, as `confstore: KeyTwice`.
+`confstore help run` shows how commands and answers look.";
+
+const RUN: &str = "run";
+
+const RUN_ABOUT: &str = "Performs the commands on standard input on the store in a folder";
+
+const RUN_HELP: &str = "\
+Each command is a YAML document that a line of `...` closes. It is performed as soon as that line
+has come, and answered by one document. `ok` comes after the change is on the disk.
+
+  import: NAME   text: TEXT                reads a YAML text, and puts its tree under a name
+  set: NAME      path: POINTER   value: TREE   sets the value at a JSON Pointer
+  delete: NAME   path: POINTER             removes what is there; the pointer \"\" removes the name
+  get: NAME      path: POINTER             answers the value there
+  export: NAME                             answers the text of the tree in the one style
+  names:                                   answers the names
+  checkpoint:                              makes the store file as short as its state
+
+A refused command changes nothing, and leaves the status 0. The folder must be there; the store in
+it is made on the first run, and locked while a run lasts.
+
+Limits: a name has 1 to 64 of a-z, 0-9, `_` and `-`, a letter first. A text and a configuration have
+at most 1,048,576 bytes, and are at most 64 deep. A command has at most 4,194,304 bytes.
+
+Example:
+  mkdir store
+  printf 'import: web\\ntree: \"host: example\"\\n...\\n' | confstore run store";
+
+const EXPORT: &str = "export";
+
+const EXPORT_ABOUT: &str = "Writes a configuration of the store in a folder in the one style";
+
+const EXPORT_HELP: &str = "Example:  confstore export store web";
+
+const FOLDER: &str = "FOLDER";
+
+const FOLDER_HELP: &str = "The store's folder; after `--` if it begins with `-`";
+
+const NAME: &str = "NAME";
+
+const NAME_HELP: &str = "The name of the configuration; after `--` if it begins with `-`";
+
+const FORMAT: &str = "format";
+
+const FORMAT_ABOUT: &str =
+    "Reads a YAML text from standard input and writes its tree in the one style";
+
+const CHECK: &str = "check";
+
+const CHECK_ABOUT: &str =
+    "Reads a YAML text from standard input and writes where it departs from the one style";
+
+const CHECK_HELP: &str = "\
+Each finding is one line, as `S1 3`: the rule, and the number of the line, from 1.
+  S1  the line ends in a space or TAB
+  S2  the line ends in CR LF or CR, or it is the last line and has no break
+  S3  the line has more than 120 characters
+  S4  the text is not what `confstore format` writes for it, and first differs from that on this line
+
+The status is 0 where nothing is found. It is 1 where something is, and where the text is refused.
+
+As a hook, for each file:  confstore check < file";
+
+/// The words that the program takes.
+fn command<'a>(alloc: Global) -> Result<Command<'a>, AllocError> {
+    Command::new(alloc, "confstore")
+        .version(VERSION)
+        .about(ABOUT)
+        .after_help(STATUSES)
+        .subcommand_required(true)
+        .subcommand(run_command(alloc)?)?
+        .subcommand(export_command(alloc)?)?
+        .subcommand(Command::new(alloc, FORMAT).about(FORMAT_ABOUT))?
+        .subcommand(
+            Command::new(alloc, CHECK)
+                .about(CHECK_ABOUT)
+                .after_help(CHECK_HELP),
+        )
+}
+
+fn run_command<'a>(alloc: Global) -> Result<Command<'a>, AllocError> {
+    Command::new(alloc, RUN)
+        .about(RUN_ABOUT)
+        .after_help(RUN_HELP)
+        .arg(Arg::new(alloc, FOLDER).required(true).help(FOLDER_HELP))
+}
+
+fn export_command<'a>(alloc: Global) -> Result<Command<'a>, AllocError> {
+    Command::new(alloc, EXPORT)
+        .about(EXPORT_ABOUT)
+        .after_help(EXPORT_HELP)
+        .arg(Arg::new(alloc, FOLDER).required(true).help(FOLDER_HELP))?
+        .arg(Arg::new(alloc, NAME).required(true).help(NAME_HELP))
+}
+
+/// Does what the program does, and returns its status. `words` are its words, of which the first is its name. The files
+/// of a store are those of `rt`.
+///
+/// The status is 0 if it is done (help and version too), and 2 for wrong words. It is 1 if a text or a store is
+/// refused, memory ran out or something was found in a text. It is 3 if reading or writing failed, or the folder is
+/// missing or locked. A fault is written to `errors` in one line; if that fails, nothing is said.
+pub fn perform<F: Files<File = File>, R: Read, W: Write, E: Write>(
+    rt: &F,
+    alloc: Global,
+    words: &[String],
+    reader: &mut R,
+    writer: &mut W,
+    errors: &mut E,
+) -> u8
+    ensures { Performs (R.remaining reader.old) (R.remaining reader.new)
+        (W.contents writer.old) (W.contents writer.new) result }
+{
+    let Ok(command) = command(alloc) else {
+        return write_fault(errors, ToolFault::from(AllocError)).code();
+    };
+    match command.try_get_matches_from(words) {
+        Ok(matches) => obey(rt, alloc, &matches, reader, writer, errors).code(),
+        Err(error) if error.kind() == clap::error::ErrorKind::OutOfMemory => {
+            write_fault(errors, ToolFault::from(AllocError)).code()
+        }
+        Err(error) if error.use_stderr() => {
+            let _ = write!(errors, "{error}");
+            Status::WrongWords.code()
+        }
+        Err(error) => match write!(writer, "{error}") {
+            Ok(()) => Status::Done.code(),
+            Err(_) => write_fault(errors, ToolFault::Output).code(),
+        },
+    }
+}
+
+/// Does what the subcommand says.
+fn obey<F: Files<File = File>, R: Read, W: Write, E: Write>(
+    rt: &F,
+    alloc: Global,
+    matches: &ArgMatches<'_>,
+    reader: &mut R,
+    writer: &mut W,
+    errors: &mut E,
+) -> Status
+    ensures { Performs (R.remaining reader.old) (R.remaining reader.new)
+        (W.contents writer.old) (W.contents writer.new) (code_of result) }
+{
+    match matches.subcommand() {
+        Some((RUN, words)) => run_folder(rt, alloc, words, reader, writer, errors),
+        Some((EXPORT, words)) => export_folder(rt, alloc, words, writer, errors),
+        Some((FORMAT, _)) => match format_text(alloc, reader, writer) {
+            Ok(()) => Status::Done,
+            Err(fault) => write_fault(errors, fault),
+        },
+        Some((CHECK, _)) => match check_text(alloc, reader, writer) {
+            Ok(0) => Status::Done,
+            Ok(_) => Status::Found,
+            Err(fault) => write_fault(errors, fault),
+        },
+        _ => Status::WrongWords,
+    }
+}
+
+/// Performs the commands of `reader` on the store in the folder that the words name.
+fn run_folder<F: Files<File = File>, R: Read, W: Write, E: Write>(
+    rt: &F,
+    alloc: Global,
+    words: &ArgMatches<'_>,
+    reader: &mut R,
+    writer: &mut W,
+    errors: &mut E,
+) -> Status
+    ensures { Performs (R.remaining reader.old) (R.remaining reader.new)
+        (W.contents writer.old) (W.contents writer.new) (code_of result) }
+{
+    let Some(folder) = words.get_str(FOLDER) else {
+        return Status::WrongWords;
+    };
+    let disk = match FolderDisk::new(rt, alloc, folder) {
+        Ok(disk) => disk,
+        Err(fault) => return write_store_fault(errors, StoreToolFault::Folder(fault)),
+    };
+    match run_store(alloc, disk, reader, writer) {
+        Ok(_) => Status::Done,
+        Err(fault) => write_store_fault(errors, fault),
+    }
+}
+
+/// Writes the configuration that the words name.
+fn export_folder<F: Files<File = File>, W: Write, E: Write>(
+    rt: &F,
+    alloc: Global,
+    words: &ArgMatches<'_>,
+    writer: &mut W,
+    errors: &mut E,
+) -> Status
+    ensures known { code_of result ≤ 3 }
+    ensures refused { code_of result ≡ 1 → Keeps (W.contents writer.old) (W.contents writer.new) }
+    ensures wrong { code_of result ≡ 2 → Keeps (W.contents writer.old) (W.contents writer.new) }
+{
+    let Some(folder) = words.get_str(FOLDER) else {
+        return Status::WrongWords;
+    };
+    let Some(name) = words.get_str(NAME) else {
+        return Status::WrongWords;
+    };
+    let disk = match FolderDisk::new(rt, alloc, folder) {
+        Ok(disk) => disk,
+        Err(fault) => return write_store_fault(errors, StoreToolFault::Folder(fault)),
+    };
+    match export_store(alloc, disk, name, writer) {
+        Ok(()) => Status::Done,
+        Err(fault) => write_store_fault(errors, fault),
+    }
+}
+
+/// Writes a fault in one line, and returns its status.
+fn write_fault<E: Write>(errors: &mut E, fault: ToolFault) -> Status
+    ensures { result ≡ status_of fault }
+{
+    let _ = writeln!(errors, "confstore: {fault}");
+    match fault {
+        ToolFault::Input | ToolFault::Output => Status::Device,
+        ToolFault::Read(_) => Status::Refused,
+    }
+}
+
+/// Writes a fault of a store in one line, and returns its status.
+fn write_store_fault<E: Write>(errors: &mut E, fault: StoreToolFault) -> Status
+    ensures { result ≡ status_of_store fault }
+{
+    let _ = writeln!(errors, "confstore: {fault}");
+    match fault {
+        StoreToolFault::Folder(FolderFault::Device | FolderFault::Locked)
+        | StoreToolFault::Open(OpenFault::Device)
+        | StoreToolFault::Output => Status::Device,
+        StoreToolFault::Session(
+            SessionFault::Read
+            | SessionFault::Write { .. }
+            | SessionFault::Device
+            | SessionFault::Reopen,
+        ) => Status::Device,
+        StoreToolFault::Export(StoreFault::Device | StoreFault::Reopen) => Status::Device,
+        _ => Status::Refused,
+    }
+}
+
+/// Writes why the program's arguments could not be read, and returns the status. Words that are not UTF-8 are wrong
+/// words; otherwise memory ran out.
+pub fn refuse_words<E: Write>(errors: &mut E, error: &io::Error) -> u8
+    ensures { result ≤ 2 }
+{
+    if error.kind() == ErrorKind::InvalidData {
+        let _ = writeln!(errors, "error: the words are not UTF-8");
+        return Status::WrongWords.code();
+    }
+    write_fault(errors, ToolFault::from(AllocError)).code()
+}

@@ -1,0 +1,97 @@
+// A list of events, step by step.
+use std::alloc::{AllocError, Global};
+use std::borrow::CowStr;
+use yaml_events::{Event, Events, Span, Style};
+use yaml_flow::omitted;
+
+/// The number of events after some steps, the list, and the events that are handed over.
+pub(crate) fn list_of(alloc: Global, steps: &[&str]) -> Result<String, AllocError> {
+    let events = after(alloc, steps)?;
+    let told = format!(in alloc; "{} [{events}]", events.len())?;
+    handed_over(alloc, told, events)
+}
+
+/// The list after some steps.
+fn after<'a>(alloc: Global, steps: &[&'a str]) -> Result<Events<'a>, AllocError> {
+    let mut events = Events::new(alloc);
+    for step in steps {
+        match event_of(alloc, step)? {
+            Some(event) => events.push(event)?,
+            None => change(&mut events, step)?,
+        }
+    }
+    Ok(events)
+}
+
+/// What is told, and after it the events one by one.
+fn handed_over(alloc: Global, told: String, events: Events<'_>) -> Result<String, AllocError> {
+    let mut told = told;
+    for event in events {
+        told = format!(in alloc; "{told} {event};")?;
+    }
+    Ok(told)
+}
+
+/// The event that a step appends, if it appends one.
+fn event_of<'a>(alloc: Global, step: &'a str) -> Result<Option<Event<'a>>, AllocError> {
+    Ok(match step {
+        "+D" => Some(Event::DocStart),
+        "-D" => Some(Event::DocEnd),
+        "+S" => Some(Event::SeqStart),
+        "-S" => Some(Event::SeqEnd),
+        "+M" => Some(Event::MapStart),
+        "-M" => Some(Event::MapEnd),
+        step => scalar_of(alloc, step)?,
+    })
+}
+
+/// The scalar that a step appends, if it appends one.
+fn scalar_of<'a>(alloc: Global, step: &'a str) -> Result<Option<Event<'a>>, AllocError> {
+    if let Some(value) = step.strip_prefix('=') {
+        return Ok(Some(scalar(Style::Plain, CowStr::Borrowed(value))));
+    }
+    if let Some(value) = step.strip_prefix('"') {
+        let value = String::from_str(alloc, value)?;
+        return Ok(Some(scalar(Style::Double, CowStr::Owned(value))));
+    }
+    let Some(at) = step.strip_prefix("omitted ") else {
+        return Ok(None);
+    };
+    match at.parse::<usize>() {
+        Ok(at) => Ok(Some(omitted(at))),
+        Err(_) => Ok(None),
+    }
+}
+
+/// A scalar at the start of a text.
+fn scalar<'a>(style: Style, value: CowStr<'a>) -> Event<'a> {
+    Event::Scalar {
+        style,
+        span: Span {
+            start: 0,
+            end: value.as_str().len(),
+        },
+        value,
+    }
+}
+
+/// Changes a list by a step that appends no event. Another step changes nothing.
+fn change(events: &mut Events<'_>, step: &str) -> Result<(), AllocError> {
+    let Some((word, count)) = step.split_once(' ') else {
+        return Ok(());
+    };
+    let Ok(count) = count.parse::<usize>() else {
+        return Ok(());
+    };
+    if count > events.len() {
+        return Ok(());
+    }
+    match word {
+        "insert" => events.insert_map_start(count),
+        "keep" => {
+            events.truncate(count);
+            Ok(())
+        }
+        _ => Ok(()),
+    }
+}

@@ -1,0 +1,57 @@
+// Readers and writers that go in parts, end, or fail.
+use std::alloc::Global;
+use std::io;
+use std::io::{ErrorKind, Read, Write};
+
+/// Gives at most so many bytes at a time, and then the end or a fault.
+#[derive(Drop)]
+pub(crate) struct Source<'a> {
+    pub(crate) rest: &'a [u8],
+    pub(crate) step: usize,
+    pub(crate) fault: Option<ErrorKind>,
+}
+
+impl Read for Source<'_> {
+    fn read(&mut self, buf: &mut [u8]) -> io::Result<usize> {
+        if let (true, Some(kind)) = (self.rest.is_empty(), self.fault) {
+            return Err(io::Error::from(kind));
+        }
+        let most = self.step.min(buf.len());
+        self.rest.read(&mut buf[..most])
+    }
+}
+
+/// Keeps so many bytes, and then takes none or fails.
+#[derive(Drop)]
+pub(crate) struct Sink {
+    pub(crate) kept: Vec<u8>,
+    pub(crate) room: usize,
+    pub(crate) fault: Option<ErrorKind>,
+}
+
+impl Sink {
+    /// Keeps so many bytes, and then takes none.
+    pub(crate) fn new(alloc: Global, room: usize) -> Sink {
+        Sink {
+            kept: Vec::new(alloc),
+            room,
+            fault: None,
+        }
+    }
+}
+
+impl Write for Sink {
+    fn write(&mut self, buf: &[u8]) -> io::Result<usize> {
+        if let (0, Some(kind)) = (self.room, self.fault) {
+            return Err(io::Error::from(kind));
+        }
+        let taken = self.room.min(buf.len());
+        self.kept.extend_from_slice(&buf[..taken])?;
+        self.room -= taken;
+        Ok(taken)
+    }
+
+    fn flush(&mut self) -> io::Result<()> {
+        Ok(())
+    }
+}

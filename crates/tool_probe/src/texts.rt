@@ -1,0 +1,47 @@
+// Inputs that are written in a line.
+use std::alloc::{AllocError, Global};
+
+/// The bytes of all parts, one after another.
+pub(crate) fn bytes_of(alloc: Global, parts: &[&str]) -> Result<Vec<u8>, AllocError> {
+    let mut bytes = Vec::new(alloc);
+    for part in parts {
+        push_part(alloc, &mut bytes, part)?;
+    }
+    Ok(bytes)
+}
+
+/// Appends the bytes of a part, as often as it says.
+fn push_part(alloc: Global, bytes: &mut Vec<u8>, part: &str) -> Result<(), AllocError> {
+    let (text, count) = part.split_once('~').unwrap_or((part, "1"));
+    let meant = meant(alloc, text)?;
+    for _ in 0..count.parse::<u32>().unwrap_or(0) {
+        bytes.extend_from_slice(&meant)?;
+    }
+    Ok(())
+}
+
+/// The bytes that are meant. Digits that are none mean no byte.
+fn meant(alloc: Global, written: &str) -> Result<Vec<u8>, AllocError> {
+    match written.strip_prefix("\\x") {
+        Some(digits) => Ok(hex::decode(alloc, digits).unwrap_or(Vec::new(alloc))),
+        None => unescaped(alloc, written)?.as_bytes().to_vec(alloc),
+    }
+}
+
+/// A text with its escapes replaced.
+fn unescaped(alloc: Global, written: &str) -> Result<String, AllocError> {
+    let text = written.replace(alloc, "\\n", "\n")?;
+    let text = text.replace(alloc, "\\r", "\r")?;
+    let text = text.replace(alloc, "\\t", "\t")?;
+    text.replace(alloc, "\\s", "\\")
+}
+
+/// The words of the program, of which the first is its name.
+pub(crate) fn words_of(alloc: Global, line: &str) -> Result<Vec<String>, AllocError> {
+    let mut words = Vec::new(alloc);
+    words.push(String::from_str(alloc, "confstore")?)?;
+    for word in line.split_whitespace() {
+        words.push(String::from_str(alloc, word)?)?;
+    }
+    Ok(words)
+}

@@ -1,5 +1,0 @@
-use Rattle.std.proofs.lemmas.Str.{IsCharBoundary-start}
-use Rattle.yaml_read_tests.proofs.block_scalars.no_header.Goals as goal
-
-pub header-requires : goal.header-requires
-header-requires c = IsCharBoundary-start c.args.text.now c.utf8.text
