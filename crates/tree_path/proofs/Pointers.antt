@@ -18,7 +18,7 @@ use Rattle.yaml_grammar.specs.Texts.{byte_len}
 use Rattle.yaml_chars.specs.Places.{IsRun, between}
 use Rattle.yaml_chars.proofs.Places.{rest-between}
 use Rattle.yaml_chars.proofs.Runs.{IsBlind}
-use Rattle.tree_path.specs.Pointers.{tilde, unescaped, char_text, token_text, pointer_text, stray, first_stray, bad_place, first_piece, pieces, token_from_text, path_of, tokens_or_place}
+use Rattle.tree_path.specs.Pointers.{unescaped, char_text, token_text, pointer_text, stray, first_stray, bad_place, first_piece, pieces, token_from_text, path_of, tokens_or_place}
 use Rattle.tree_path.specs.declared.fault.PathFault.{PathFault}
 use Rattle.tree_path.specs.declared.fault.PathFault.TheVariants.{BadPath}
 

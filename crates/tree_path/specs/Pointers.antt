@@ -1,6 +1,7 @@
 -- Paths as texts (RFC 6901, 3 and 4): each token is led by `/`, and in it `~` is spelled `~0` and `/` is spelled `~1`.
 use Rattle.std.specs.Prelude.{ℕ, ◌+◌, Bool, false, not, ◌&&◌, ◌||◌, ◌==◌, if◌then◌else◌, List, [], ◌∷◌, ◌++◌, map, codes, Option, Some, None, option_map, Result, Ok, Err}
 use Rattle.std.specs.Char.{len_utf8}
+use Rattle.yaml_chars.specs.Signs.{tilde}
 use Rattle.yaml_grammar.specs.Texts.{first, is_empty}
 use Rattle.tree_path.specs.declared.fault.PathFault.{PathFault}
 use Rattle.tree_path.specs.declared.fault.PathFault.TheVariants.{BadPath}
@@ -8,10 +9,6 @@ use Rattle.tree_path.specs.declared.fault.PathFault.TheVariants.{BadPath}
 -- `/`
 abbrev pub slash : ℕ
 slash = 47
-
--- `~`
-abbrev pub tilde : ℕ
-tilde = 126
 
 -- ---- the text of a path
 

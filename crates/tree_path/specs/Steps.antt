@@ -4,11 +4,12 @@ use Rattle.std.specs.Cow.{cow_str_bytes}
 use Rattle.std.specs.declared.borrow.CowStr.{CowStr}
 use Rattle.std.specs.declared.alloc.Global.{Global}
 use Rattle.std.specs.Str.{chars}
+use Rattle.yaml_chars.specs.Signs.{tilde}
 use Rattle.yaml_grammar.specs.Texts.{same_text}
 use Rattle.yaml_grammar.specs.Trees.{Tree}
 use Rattle.yaml_tree.specs.Seen.{Pair}
 use Rattle.yaml_tree.specs.TextBytes.{text_bytes}
-use Rattle.tree_path.specs.Pointers.{tilde, slash}
+use Rattle.tree_path.specs.Pointers.{slash}
 use Rattle.tree_path.specs.Paths.{is_number, number_after, index_of, at_index, child, put}
 use Rattle.tree_path.specs.declared.place.Known.{Known}
 use Rattle.tree_path.specs.declared.place.Known.TheVariants.{Place, Nothing}

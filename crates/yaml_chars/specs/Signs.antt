@@ -169,6 +169,10 @@ vertical_bar = 124
 abbrev pub close_brace : ℕ
 close_brace = 125
 
+-- `~`
+abbrev pub tilde : ℕ
+tilde = 126
+
 -- NEL
 abbrev pub next_line : ℕ
 next_line = 0x85

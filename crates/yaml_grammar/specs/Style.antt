@@ -1,6 +1,6 @@
 -- The one style: the text of a tree, with the same indentation, quotes and order everywhere.
 use Rattle.std.specs.Prelude.{ℕ, zero, suc, ◌+◌, ◌/◌, ◌%◌, Bool, true, false, not, ◌&&◌, ◌||◌, nat_le, nat_lt, ◌==◌, List, [], ◌∷◌, ◌++◌, length, codes, if◌then◌else◌}
-use Rattle.yaml_chars.specs.Signs.{null, bell, backspace, tab, line_feed, vertical_tab, form_feed, carriage_return, escape_char, space_char, double_quote, digit_zero, backslash, small_a, small_b, small_e, small_f, small_n, small_r, small_t, small_v}
+use Rattle.yaml_chars.specs.Signs.{null, bell, backspace, tab, line_feed, vertical_tab, form_feed, carriage_return, escape_char, space_char, double_quote, digit_zero, backslash, small_a, small_b, small_e, small_f, small_n, small_r, small_t, small_v, tilde, no_break_space, line_separator, paragraph_separator, byte_order_mark}
 use Rattle.yaml_chars.specs.Classes.{in_range, is_in, printable}
 use Rattle.std.specs.List.{list_all}
 use Rattle.yaml_grammar.specs.Texts.{first, same_text, spaces}
@@ -36,7 +36,9 @@ plain_in_style value = first letter value && list_all word_char value && nat_le 
 
 -- a character that is written as itself between double quotes and in a literal
 abbrev pub shown : ℕ → Bool
-shown c = in_range 0x20 0x7e c || (nat_le 0xa0 c && printable c && not (is_in c (0x2028 ∷ 0x2029 ∷ 0xfeff ∷ [])))
+shown c =
+    in_range space_char tilde c
+    || (nat_le no_break_space c && printable c && not (is_in c (line_separator ∷ paragraph_separator ∷ byte_order_mark ∷ [])))
 
 -- a shown character or a line feed
 abbrev pub shown_or_feed : ℕ → Bool
