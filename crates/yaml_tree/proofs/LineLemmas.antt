@@ -1,14 +1,14 @@
 -- A text is cut at its first line feed.
-use Rattle.std.proofs.Common.{◌≡◌, ℕ, zero, suc, ◌+◌, ◌-◌, ◌<◌, ◌≤◌, Bool, true, false, not, ◌==◌, List, [], ◌∷◌, ◌++◌, length, get_or, take, drop, slice_index, IsUtf8, refl, sym, ap, ap₂, ◌∙◌, subst, arith, slice_range}
+use Rattle.std.proofs.Common.{◌≡◌, ℕ, zero, suc, ◌+◌, ◌-◌, ◌<◌, ◌≤◌, Bool, true, not, ◌==◌, List, [], ◌∷◌, ◌++◌, length, take, drop, slice_index, IsUtf8, sym, ap, ap₂, ◌∙◌, subst, arith, slice_range}
 use Rattle.std.proofs.lemmas.Bool.{and_parts, not-true, not_from_false, false_from_ne_true, eqb-true}
 use Rattle.std.proofs.lemmas.Bool.Decides.{nat_tests}
 use Rattle.std.specs.List.{list_all}
-use Rattle.std.specs.Str.{chars, IsCharBoundary}
+use Rattle.std.specs.Str.{chars}
 use Rattle.std.proofs.lemmas.List.{get_or-take, length-take}
-use Rattle.std.proofs.lemmas.Str.{IsUtf8-take, IsCharBoundary-before_ascii, IsCharBoundary-after_ascii}
+use Rattle.std.proofs.lemmas.Str.{IsUtf8-take, IsCharBoundary-before_ascii}
 use Rattle.memchr.specs.Find.{NoneBefore, Passes, is_byte}
 use Rattle.yaml_chars.specs.Signs.{line_feed}
-use Rattle.yaml_chars.proofs.Runs.{IsBlind, blind-not, test-chars}
+use Rattle.yaml_chars.proofs.Runs.{IsBlind, test-chars}
 use Rattle.yaml_tree.specs.Lines.{IsOneLine}
 
 -- any other character
