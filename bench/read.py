@@ -11,7 +11,7 @@ stand beside it.
 A time is the least processor time of several runs, less that of a run with fewer rounds. Run it on a quiet machine from the
 repository's root, after the programs are built:
 
-    ./confstore --version && (cd crates/bench_driver && rt run) && python3 bench/read.py [-i] [corpora|growth]
+    ./confstore --version && (cd crates/bench_driver && rt run -- store run) && python3 bench/read.py [-i] [corpora|growth]
 
 The peers are left out where they are not there: `apt-get install libyaml-dev libfyaml-dev` installs them, and `valgrind`.
 """
