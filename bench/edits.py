@@ -16,9 +16,9 @@ Instructions of an edit, counted on 2026-11-23:
     8 deep                1,999            4,888     2.45
     64 deep              17,903           29,911     1.67
 
-`rt run`, in crates/edit_bench, builds the program:
+`rt run -- store run`, in crates/bench_driver, builds the program:
 
-    (cd crates/edit_bench && rt run -- tree wide 1 1) && python3 bench/edits.py [-i]
+    (cd crates/bench_driver && rt run -- store run) && python3 bench/edits.py [-i]
 """
 
 import os
@@ -28,7 +28,7 @@ import subprocess
 import sys
 
 TOP = os.path.dirname(os.path.dirname(os.path.abspath(__file__)))
-PROGRAM = os.path.join(TOP, "crates", "edit_bench", "out", "edit_bench")
+PROGRAM = os.path.join(TOP, "crates", "bench_driver", "out", "bench_driver")
 # Shapes with their size. The rounds, in a tree and by commands, are so many that a run takes some tenths of a second.
 SHAPES = [
     ("wide", 100, 100_000, 50_000),
@@ -45,7 +45,7 @@ GOAL = 3
 
 def run(*words):
     """The processor time of one run, and what it printed."""
-    process = subprocess.Popen([PROGRAM, *map(str, words)], stdout=subprocess.PIPE, text=True)
+    process = subprocess.Popen([PROGRAM, "edits", *map(str, words)], stdout=subprocess.PIPE, text=True)
     printed = process.stdout.read()
     _, status, usage = os.wait4(process.pid, 0)
     if status != 0:
@@ -67,7 +67,7 @@ def instructions(*words):
 
     def collected(rounds):
         tool = ["valgrind", "--tool=callgrind", "--callgrind-out-file=/dev/null"]
-        command = [*tool, PROGRAM, *map(str, words), str(rounds)]
+        command = [*tool, PROGRAM, "edits", *map(str, words), str(rounds)]
         done = subprocess.run(command, capture_output=True, text=True, check=True)
         return int(re.search(r"Collected : (\d+)", done.stderr)[1])
 
@@ -91,7 +91,7 @@ def cost(target, shape, size, rounds, counts):
 
 def main():
     if not os.access(PROGRAM, os.X_OK):
-        sys.exit("the program is not built: `rt run`, in crates/edit_bench, builds it")
+        sys.exit("the program is not built: `rt run -- store run`, in crates/bench_driver, builds it")
     counts = "-i" in sys.argv[1:]
     if counts and shutil.which("valgrind") is None:
         sys.exit("valgrind is missing, which counts the instructions")

@@ -11,7 +11,7 @@ stand beside it.
 A time is the least processor time of several runs, less that of a run with fewer rounds. Run it on a quiet machine from the
 repository's root, after the programs are built:
 
-    ./confstore --version && (cd crates/read_probe && rt run) && python3 bench/read.py [-i] [corpora|growth]
+    ./confstore --version && (cd crates/bench_driver && rt run -- store run) && python3 bench/read.py [-i] [corpora|growth]
 
 The peers are left out where they are not there: `apt-get install libyaml-dev libfyaml-dev` installs them, and `valgrind`.
 """
@@ -28,7 +28,7 @@ from corpora import CORPORA, HOSTILE
 
 TOP = os.path.dirname(os.path.dirname(os.path.abspath(__file__)))
 PROGRAM = os.path.join(TOP, "crates", "confstore", "out", "confstore")
-PROBE = os.path.join(TOP, "crates", "read_probe", "out", "read_probe")
+DRIVER = os.path.join(TOP, "crates", "bench_driver", "out", "bench_driver")
 MIB = 1024 * 1024
 SIZES = [64 * 1024, MIB, 16 * MIB]
 # The peers, with what each is linked to and the package that has it.
@@ -110,10 +110,10 @@ def megabytes(length, seconds):
 def compare(work, path, peers, counts_instructions):
     """Prints how fast a file is read, beside the peers, and returns the ratio to the best of them."""
     length = os.path.getsize(path)
-    programs = {"confstore": PROBE, **peers}
+    programs = {"confstore": [DRIVER, "read"], **{name: [program] for name, program in peers.items()}}
     speeds, parts = {}, []
     for name, program in programs.items():
-        words = [program, work, path]
+        words = [*program, work, path]
         speeds[name] = megabytes(length, round_seconds(words))
         part = f"{name} {speeds[name]:6.1f} MB/s {greatest_memory([*words, '1']) / MIB:5.1f} MiB"
         if counts_instructions:
@@ -130,7 +130,7 @@ def style_limited(folder, make):
     size = MIB
     while True:
         path = written(folder, make(size))
-        length = int(run([PROBE, "tree", path, "1"])[1])
+        length = int(run([DRIVER, "read", "tree", path, "1"])[1])
         if length <= MIB:
             return path
         size = int(size * MIB / length * 0.99)
@@ -153,7 +153,7 @@ def compare_format(path, peers):
 
 def event_bytes(path, floor):
     """How much memory an event takes: what a run takes more than on a short text, without the text itself."""
-    words = [PROBE, "events", path, "1"]
+    words = [DRIVER, "read", "events", path, "1"]
     return (greatest_memory(words) - floor - os.path.getsize(path)) / int(run(words)[1])
 
 
@@ -164,7 +164,7 @@ def mean(ratios):
 def corpora(folder, peers, counts_instructions):
     """Reads the corpora beside the peers."""
     ratios = {"events": [], "tree": [], "format": []}
-    floor = greatest_memory([PROBE, "events", written(folder, "a: b\n"), "1"])
+    floor = greatest_memory([DRIVER, "read", "events", written(folder, "a: b\n"), "1"])
     for name, make in CORPORA.items():
         path = written(folder, make(MIB))
         print(f"{name}: {event_bytes(path, floor):.0f} bytes an event")
@@ -181,11 +181,11 @@ def growth(folder, counts_instructions):
         costs, counts = [], []
         for size in SIZES:
             path = written(folder, make(size))
-            words, length = [PROBE, "events", path], os.path.getsize(path)
+            words, length = [DRIVER, "read", "events", path], os.path.getsize(path)
             costs.append(round_seconds(words) / length * 1e9)
             if counts_instructions and size <= MIB:
                 counts.append(f"{round_instructions(words) / length:.1f}")
-        answer = run([PROBE, "events", path, "1"])[1].decode().strip()
+        answer = run([DRIVER, "read", "events", path, "1"])[1].decode().strip()
         shown = ", ".join(f"{cost:6.2f}" for cost in costs)
         grew = max(costs) / costs[0]
         more = f", {' and '.join(counts)} instructions" if counts else ""
@@ -193,7 +193,7 @@ def growth(folder, counts_instructions):
 
 
 def main():
-    for program in (PROGRAM, PROBE):
+    for program in (PROGRAM, DRIVER):
         if not os.access(program, os.X_OK):
             sys.exit(f"{program} is not built")
     words = sys.argv[1:]

@@ -13,7 +13,7 @@ Everything is in a folder in memory, where there is one, so that no device is me
 processor time of several runs, less the least of runs with fewer rounds. Run it on a quiet machine from the
 repository's root, after the program is built:
 
-    (cd crates/store_bench && rt run -- run) && python3 bench/store.py [-i]
+    (cd crates/bench_driver && rt run -- store run) && python3 bench/store.py [-i]
 
 LMDB is left out where it is not there: `apt-get install python3-lmdb` installs it for /usr/bin/python3, and
 `valgrind`.
@@ -34,7 +34,7 @@ except ImportError:
     lmdb = None
 
 TOP = os.path.dirname(os.path.dirname(os.path.abspath(__file__)))
-PROGRAM = os.path.join(TOP, "crates", "store_bench", "out", "store_bench")
+PROGRAM = os.path.join(TOP, "crates", "bench_driver", "out", "bench_driver")
 MEMORY = "/dev/shm"
 EDITS = [10_000, 100_000]
 # How many configurations the stores have that take edits, and how many edits those are.
@@ -47,7 +47,7 @@ RUNS = 5
 
 def run(*words):
     """The processor time of a run in seconds, and the number that it printed."""
-    process = subprocess.Popen([PROGRAM, *map(str, words)], stdout=subprocess.PIPE, text=True)
+    process = subprocess.Popen([PROGRAM, "store", *map(str, words)], stdout=subprocess.PIPE, text=True)
     printed = process.stdout.read()
     _, status, usage = os.wait4(process.pid, 0)
     if status != 0:
@@ -69,7 +69,7 @@ def instructions(*words, more):
 
     def collected(rounds):
         tool = ["valgrind", "--tool=callgrind", "--callgrind-out-file=/dev/null"]
-        command = [*tool, PROGRAM, *map(str, words), str(rounds)]
+        command = [*tool, PROGRAM, "store", *map(str, words), str(rounds)]
         done = subprocess.run(command, capture_output=True, text=True, check=True)
         return int(re.search(r"Collected : (\d+)", done.stderr)[1])
 
@@ -198,7 +198,7 @@ def peers(folder):
 
 def main():
     if not os.access(PROGRAM, os.X_OK):
-        sys.exit("the program is not built: `rt run -- run`, in crates/store_bench, builds it")
+        sys.exit("the program is not built: `rt run -- store run`, in crates/bench_driver, builds it")
     counts_instructions = "-i" in sys.argv[1:] and shutil.which("valgrind") is not None
     with tempfile.TemporaryDirectory(dir=MEMORY if os.path.isdir(MEMORY) else None) as folder:
         openings(folder, counts_instructions)

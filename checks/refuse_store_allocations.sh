@@ -2,12 +2,13 @@
 # Refuses each allocation of a fixed run of calls on a store in turn, and looks at what each call returned and what
 # the store then held. A call that is refused memory has to leave the store as it was, and has to succeed when it is
 # made once more. Where the disk in memory finds none for a change, the call returns Device; the store that is
-# opened then has to be in the state before the call or after it. It needs the built program (`rt run`, in
-# crates/store_bench, builds it) and a C compiler.
+# opened then has to be in the state before the call or after it. It needs the built program and a C compiler:
+#
+#   (cd crates/bench_driver && rt run -- store run) && checks/refuse_store_allocations.sh
 set -u
 top=$(cd "$(dirname "${BASH_SOURCE[0]}")/.." && pwd)
-program=$top/crates/store_bench/out/store_bench
-[ -x "$program" ] || { echo "the program is not built: run 'rt run' in crates/store_bench first" >&2; exit 1; }
+program=$top/crates/bench_driver/out/bench_driver
+[ -x "$program" ] || { echo "the program is not built: run 'rt run -- store run' in crates/bench_driver first" >&2; exit 1; }
 work=$(mktemp -d) || exit 1
 trap 'rm -rf "$work"' EXIT
 cc -shared -fPIC -O1 -o "$work/refuse.so" "$top/checks/refuse.c" -ldl || exit 1
@@ -38,12 +39,14 @@ accepted_lines() {
     done
 }
 
-wanted=$top/crates/store_bench/stdout
+# What the run prints when no allocation is refused: these lines of the output that the gate compares.
+wanted=$work/wanted
+grep '^[a-z]*: ' "$top/crates/bench_driver/stdout" >"$wanted"
 memory=0 device=0 spared=0 own=0 wrong=0
 for ((number = 1; number <= 10000; number++)); do
     rm -f "$work/refused"
     REFUSE_ALLOCATION=$number REFUSED_FILE=$work/refused LD_PRELOAD=$work/refuse.so \
-        "$program" run >"$work/output" 2>/dev/null </dev/null
+        "$program" store run >"$work/output" 2>/dev/null </dev/null
     status=$?
     [ -e "$work/refused" ] || break
     if [ "$status" -eq 1 ] && [ ! -s "$work/output" ]; then

@@ -11,6 +11,17 @@ pub(crate) struct Source<'a> {
     pub(crate) fault: Option<ErrorKind>,
 }
 
+impl<'a> Source<'a> {
+    /// Gives these bytes, and fails at the next read.
+    pub(crate) fn broken(bytes: &'a [u8]) -> Source<'a> {
+        Source {
+            rest: bytes,
+            step: usize::MAX,
+            fault: Some(ErrorKind::BrokenPipe),
+        }
+    }
+}
+
 impl Read for Source<'_> {
     fn read(&mut self, buf: &mut [u8]) -> io::Result<usize> {
         if let (true, Some(kind)) = (self.rest.is_empty(), self.fault) {
@@ -36,6 +47,15 @@ impl Sink {
             kept: Vec::new(alloc),
             room,
             fault: None,
+        }
+    }
+
+    /// Takes no byte, and fails.
+    pub(crate) fn full(alloc: Global) -> Sink {
+        Sink {
+            kept: Vec::new(alloc),
+            room: 0,
+            fault: Some(ErrorKind::StorageFull),
         }
     }
 }

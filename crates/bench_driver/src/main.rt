@@ -1,0 +1,67 @@
+//! Works on texts, trees and stores, so that their speed can be measured and what a store does without memory can be
+//! looked at. It is a program for `bench/read.py`, `bench/edits.py`, `bench/store.py` and
+//! `checks/refuse_store_allocations.sh` alone. Its words are orders, performed one after another, with `then` between
+//! them:
+//!
+//! - `read events FILE ROUNDS` and `read tree FILE ROUNDS` read a file that many times in one process, to its events
+//!   or to its tree. They print how many events there are, or how many bytes the tree has in the one style, or why
+//!   the text is refused.
+//! - `edits TARGET SHAPE SIZE ROUNDS` makes edits at the end of a path: it builds a tree, edits it as often as is
+//!   asked, and prints the tree's length. The words are what is edited (`tree`, or `state`: a configuration of a
+//!   store, by commands), the tree's shape (`wide`, one mapping, or `deep`, mappings in mappings), its size (pairs,
+//!   or how deep it is) and how often a pair is set at the end and deleted again.
+//! - `store run` performs a fixed run of calls on a store over a disk in memory, and prints what each call returns
+//!   and what the store then holds.
+//! - `store fill FOLDER EDITS` opens a store in a folder and sets one value of 100 bytes that many times. `store open
+//!   FOLDER ROUNDS` opens the store of a folder that many times in one process, `store read FOLDER ROUNDS` looks for
+//!   the closing lines of its file and reads each piece to a tree, and `store close FOLDER ROUNDS` looks for the
+//!   closing lines alone. `store apply CONFIGURATIONS EDITS` makes a store with that many configurations of 1,000
+//!   bytes over a disk in memory, and sets a value in the last of them. Each prints a number.
+//!
+//! It ends with 0, with 1 where something failed or was refused, and with 2 at an order of wrong words.
+#![tactic(auto)]
+
+mod edits;
+mod failed;
+mod read;
+mod store;
+
+use failed::Failed;
+use std::env;
+use std::process::ExitCode;
+
+fn main(rt: HostRuntime) -> ExitCode {
+    let alloc = rt.alloc();
+    let Ok(words) = env::args(&rt).and_then(|words| Ok(words.collect::<Vec<String>>(alloc)?)) else {
+        return ExitCode::from(1);
+    };
+    let [_, words @ ..] = words.as_slice() else {
+        return ExitCode::from(2);
+    };
+    match perform_all(&rt, words) {
+        Ok(()) => ExitCode::from(0),
+        Err(Failed::Words) => ExitCode::from(2),
+        Err(_) => ExitCode::from(1),
+    }
+}
+
+/// Performs the orders.
+fn perform_all(rt: &HostRuntime, words: &[String]) -> Result<(), Failed> {
+    for words in words.split(|word| word.as_str() == "then") {
+        perform(rt, words)?;
+    }
+    Ok(())
+}
+
+/// Performs an order.
+fn perform(rt: &HostRuntime, words: &[String]) -> Result<(), Failed> {
+    let [part, words @ ..] = words else {
+        return Err(Failed::Words);
+    };
+    match part.as_str() {
+        "read" => read::perform(rt, words),
+        "edits" => edits::perform(rt, words),
+        "store" => store::perform(rt, words),
+        _ => Err(Failed::Words),
+    }
+}

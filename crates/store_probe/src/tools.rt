@@ -1,0 +1,4 @@
+// Orders on the tools of confstore.
+mod answers;
+pub(crate) mod orders;
+mod runs;
