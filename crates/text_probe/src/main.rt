@@ -1,9 +1,9 @@
 //! Answers orders on texts, trees and states, so that the gate can compare the answers with expected ones. Each line of
-//! standard input is an order: the name of a group, a word and what belongs to it, with `;` between them. It is answered
-//! in one line.
+//! standard input is an order: the name of a group, a word and what belongs to it, with `;` between them. It is
+//! answered in one line.
 //!
-//! - `show;TEXT`: the events of a text. `style;TEXT`: how many nanoseconds reading its tree took, and the tree in the one
-//!   style. `checks/cases.py` and `checks/fuzz_texts.py` ask for them too. They read escapes as below and no runs.
+//! - `show;TEXT`: the events of a text. `style;TEXT`: how many nanoseconds reading its tree took, and the tree in the
+//!   one style. `checks/cases.py` and `checks/fuzz_texts.py` ask for them too. They read escapes as below and no runs.
 //!
 //! The group `scan`, places of texts:
 //!
@@ -44,15 +44,15 @@
 //!
 //! The group `config`, limits, copies and sizes:
 //!
-//! - `text;TEXT` takes the text as the tree, and `pairs;KEY;VALUE;..` a mapping of texts. `sequences;COUNT` puts the tree
-//!   that was taken inside so many sequences, and `nested;COUNT` inside as many sequences and mappings by turns.
+//! - `text;TEXT` takes the text as the tree, and `pairs;KEY;VALUE;..` a mapping of texts. `sequences;COUNT` puts the
+//!   tree that was taken inside so many sequences, and `nested;COUNT` inside as many sequences and mappings by turns.
 //! - `deeper;DEPTH`: whether the tree is deeper. `length;MOST`: its length in the one style, if that is not more.
-//! - `new`: the length and the depth of the configuration that the tree is. `copy`: the lengths of a copy and of a copy of
-//!   that, and the second one's depth, its tree's depth and its tree. `sizes;KEY`: the sizes of the tree as an element
-//!   and as a value, and of the key.
+//! - `new`: the length and the depth of the configuration that the tree is, and the depth of its tree. `copy`: the
+//!   lengths of a copy and of a copy of that, and the second one's depth, its tree's depth and its tree. `sizes;KEY`:
+//!   the sizes of the tree as an element and as a value, and of the key.
 //! - `empty`: the length and the depth of the empty configuration, its tree, and the empty text.
-//! - `text_copies;TEXT`: the length of a text, the text, a copy, the string that the text becomes, the text that the string
-//!   becomes, and the copy and that text once more.
+//! - `text_copies;TEXT`: the length of a text, the text, a copy, the string that the text becomes, the text that the
+//!   string becomes, and the copy and that text once more.
 //! - `fault;BYTES`: why the bytes are refused. `sentence;BYTES` says it in a sentence, and by its name.
 //!   `check_fault;BYTES`: why they have no findings.
 //!
@@ -72,10 +72,10 @@
 //! - `fault;NAME`: how a fault is told.
 //!
 //! A line that begins with `#` is a heading, and is answered by itself. What is refused is answered with the fault.
-//! Places count bytes from 0. But for the groups that say otherwise, `\n`, `\r`, `\t` and `\\` in texts and bytes mean a
-//! line feed, a carriage return, a tab and a backslash, and `\xHH` a byte: a `;` is written as `\x3b`. A run stands
-//! between two `\*`, and is a count, a space, and what is there so many times, as in `\*1024 x\*`. So a backslash before
-//! a star is `\x5c` there. The program ends with 0, or with 1 where reading or printing failed.
+//! Places count bytes from 0. But for the groups that say otherwise, `\n`, `\r`, `\t` and `\\` in texts and bytes mean
+//! a line feed, a carriage return, a tab and a backslash, and `\xHH` a byte: a `;` is written as `\x3b`. A run stands
+//! between two `\*`, and is a count, a space, and what is there so many times, as in `\*1024 x\*`. So a backslash
+//! before a star is `\x5c` there. The program ends with 0, or with 1 where reading or printing failed.
 #![tactic(auto)]
 
 mod answers;

@@ -42,7 +42,7 @@ fn answer_to_one(
     match call {
         "name" => shown(alloc, &good_name(text)),
         "perform" => perform_record(alloc, state, text),
-        "read" => reading_of(alloc, lengthened(alloc, text)?.as_bytes()),
+        "read" => text_read(alloc, text),
         "read_bytes" => bytes_read(alloc, text),
         "open" => open(alloc, state, text),
         "fault" => store_fault(alloc, text),
@@ -88,6 +88,12 @@ fn reading_of(alloc: Global, bytes: &[u8]) -> Result<String, AllocError> {
         Some(state) => measured(alloc, &base_text(alloc, &state)?),
         None => String::from_str(alloc, "neither"),
     }
+}
+
+/// The same of a text.
+fn text_read(alloc: Global, written: &str) -> Result<String, AllocError> {
+    let text = lengthened(alloc, written)?;
+    reading_of(alloc, text.as_bytes())
 }
 
 /// The same of bytes with escapes and runs.
