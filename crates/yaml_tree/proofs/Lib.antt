@@ -4,6 +4,7 @@ pub mod DepthTests
 pub mod KeyLemmas
 pub mod LengthLemmas
 pub mod LevelLemmas
+pub mod LineLemmas
 pub mod ListLemmas
 pub mod LiteralLemmas
 pub mod QuotedLemmas

@@ -1,22 +1,17 @@
 -- A literal's lines, cut at its line feeds.
-use Rattle.std.proofs.Common.{◌≡◌, ℕ, ◌+◌, ◌<◌, Bool, true, false, ◌==◌, ◌||◌, Bor, Option, Some, None, lit<, List, [], ◌∷◌, ◌++◌, length, length-append, get_or, take, drop, codes, IsUtf8, refl, sym, ap, ◌∙◌, subst, append_assoc, arith}
+use Rattle.std.proofs.Common.{◌≡◌, ℕ, ◌+◌, ◌<◌, Bool, true, false, ◌==◌, ◌||◌, Bor, Option, Some, None, List, [], ◌∷◌, ◌++◌, length, length-append, get_or, take, drop, codes, IsUtf8, refl, sym, ap, ◌∙◌, subst, append_assoc, arith}
 use Rattle.std.proofs.Math.Seq.{take-append_seam, drop-append-add, get_or-append_seam}
-use Rattle.std.proofs.lemmas.Str.{IsUtf8-take, IsUtf8-drop, IsCharBoundary-before_ascii, IsCharBoundary-after_ascii, chars_from_encodes, chars-append}
+use Rattle.std.proofs.lemmas.Str.{IsUtf8-take, IsUtf8-drop, IsCharBoundary-before_ascii, IsCharBoundary-after_ascii, chars-append}
 use Rattle.std.proofs.lemmas.Bool.{eq-eqb}
-use Rattle.std.proofs.lemmas.Str.Pattern.{IsSplitOnceResult, split_parts}
 use Rattle.std.specs.List.{list_any}
-use Rattle.std.specs.Option.{is_some}
-use Rattle.std.specs.Str.{chars, NoCharPasses, NonePass}
+use Rattle.std.specs.Option.{MatchOption, is_some}
+use Rattle.std.specs.Str.{chars}
 use Rattle.yaml_chars.specs.Classes.{is_in}
 use Rattle.yaml_chars.specs.Signs.{line_feed}
 use Rattle.yaml_tree.proofs.CharacterLemmas.{list_any-is_in}
 use Rattle.yaml_grammar.specs.Texts.{spaces}
 use Rattle.yaml_grammar.specs.Style.{literal_lines}
-use Rattle.yaml_tree.specs.Lines.{line_text}
-
--- no line feed in it
-abbrev pub IsOneLine : List ℕ → Type 0
-IsOneLine cs = NonePass (λ d. d == line_feed) cs
+use Rattle.yaml_tree.specs.Lines.{IsOneLine, line_text}
 
 within_line : (j : ℕ) (xs ys : List ℕ) → IsOneLine xs
     → literal_lines j false (xs ++ line_feed ∷ ys) ≡ xs ++ line_feed ∷ literal_lines j true ys
@@ -55,10 +50,6 @@ pub chars-feed : (bs : List ℕ) → chars (line_feed ∷ bs) ≡ line_feed ∷ 
 unfolding chars
 chars-feed [] = refl
 chars-feed (b ∷ bs) = refl
-
--- a text without a line feed is one line
-pub line_is_one : (bs : List ℕ) → IsUtf8 bs → NoCharPasses (λ d. d == line_feed) bs → IsOneLine (chars bs)
-line_is_one bs utf8 none = subst IsOneLine (chars_from_encodes none.0 bs utf8 none.1) none.2
 
 -- the characters of a text are those before a line feed, the line feed, and those after it
 pub chars-lines : (bs prefix after : List ℕ) → IsUtf8 bs → bs ≡ prefix ++ line_feed ∷ after
@@ -99,9 +90,9 @@ in_none cs one = sym (list_any-is_in line_feed cs) ∙ none_passes cs one
 
 -- a cut at the first line feed is found exactly where there is one
 pub feed_found : (bs : List ℕ) (r : Option (Bor (List ℕ) × Bor (List ℕ))) → IsUtf8 bs
-    → IsSplitOnceResult line_feed bs r → is_some r ≡ is_in line_feed (chars bs)
-feed_found bs None utf8 none = sym (in_none (chars bs) (line_is_one bs utf8 none))
-feed_found bs (Some x) utf8 h =
-    let cut = (split_parts line_feed bs (Some x) h (lit< tt)).0 in
-    sym (ap (is_in line_feed) (chars-lines bs x.0.now x.1.now utf8 cut)
+    → MatchOption r (IsOneLine (chars bs)) (λ cut. (bs ≡ cut.0.now ++ line_feed ∷ cut.1.now) × IsOneLine (chars cut.0.now))
+    → is_some r ≡ is_in line_feed (chars bs)
+feed_found bs None utf8 one = sym (in_none (chars bs) one)
+feed_found bs (Some x) utf8 cut =
+    sym (ap (is_in line_feed) (chars-lines bs x.0.now x.1.now utf8 cut.0)
     ∙ in_after line_feed (chars x.0.now) (chars x.1.now))

@@ -41,7 +41,7 @@ pub(crate) fn are_alone(bytes: &[u8]) -> bool
 pub(crate) fn is_alone(byte: u8) -> bool
     ensures { result ≡ stands_alone byte }
 {
-    matches!(byte, b' '..=b'~') && !matches!(byte, b'"' | b'\\')
+    matches!(byte, b' '..=b'~') & (byte != b'"') & (byte != b'\\')
 }
 
 /// Whether each byte is an ASCII character that a literal shows, or a line feed. It looks at all of them, so that they

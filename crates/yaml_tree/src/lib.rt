@@ -16,6 +16,7 @@ mod keys;
 mod laws;
 mod limited;
 mod limits;
+mod lines;
 mod literal;
 mod open_part;
 mod open_text;

@@ -5,6 +5,7 @@ ghost use Rattle.yaml_grammar.specs.Style.{literal_lines};
 ghost use Rattle.yaml_tree.specs.Lines.{line_text};
 
 use crate::Sink;
+use crate::lines::split_line;
 
 /// Writes a literal's lines after `indent` spaces, an empty line with none.
 pub(crate) fn write_literal_lines<S: Sink>(
@@ -15,7 +16,7 @@ pub(crate) fn write_literal_lines<S: Sink>(
     ensures { OnOk result (S.Takes sink.old (literal_lines indent true (chars text.now)) sink.new) }
 {
     let mut rest = text;
-    while let Some((line, after)) = rest.split_once('\n') {
+    while let Some((line, after)) = split_line(rest) {
         write_line(line, indent, sink)?;
         rest = after;
     }

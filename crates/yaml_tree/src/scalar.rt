@@ -9,6 +9,7 @@ ghost use Rattle.yaml_chars.specs.Signs.{line_feed};
 ghost use Rattle.yaml_tree.specs.ScalarStyles.{value_style, key_style, literal_style};
 
 use crate::bytes::{are_in_lines, is_word_byte};
+use crate::lines::split_line;
 use yaml_chars::printable;
 
 /// How the one style writes a scalar (YAML 1.2.2, 7.3 and 8.1).
@@ -125,7 +126,7 @@ fn is_shown_in_lines(text: &str) -> bool
 fn has_feed(text: &str) -> bool
     ensures { result ≡ is_in line_feed (chars text.now) }
 {
-    text.split_once('\n').is_some()
+    split_line(text).is_some()
 }
 
 fn is_shown_or_feed(c: char) -> bool

@@ -1,11 +1,9 @@
-use Rattle.std.proofs.Common.{◌==◌, Some, true, subst, sym, ap, ◌∙◌, lit<}
+use Rattle.std.proofs.Common.{true, subst, sym, ap, ◌∙◌}
 use Rattle.std.proofs.lemmas.Bool.{eqb-true, eqb-false}
 use Rattle.std.proofs.lemmas.Result.{on_ok_weaker}
-use Rattle.std.proofs.lemmas.Str.Pattern.{split_parts}
-use Rattle.std.specs.Str.{chars, NoCharPasses}
-use Rattle.yaml_chars.specs.Signs.{line_feed}
+use Rattle.std.specs.Str.{chars}
 use Rattle.yaml_grammar.specs.Style.{literal_lines}
-use Rattle.yaml_tree.proofs.LiteralLemmas.{literal_line, literal_last, line_IsUtf8, after_IsUtf8, line_is_one, chars-lines}
+use Rattle.yaml_tree.proofs.LiteralLemmas.{literal_line, literal_last, after_IsUtf8, chars-lines}
 use Rattle.yaml_tree.proofs.CharacterLemmas.{chars_empty, chars_filled}
 use Rattle.yaml_tree.proofs.literal.write_literal_lines.Goals as goal
 
@@ -15,10 +13,8 @@ loop-line-preserved g c =
     let utf8 = c.loop-line.invariant.0 in
     let line = c.in-Some.line.now in
     let after = c.in-Some.after.now in
-    let clause = c.in-Some.ensures.cases in
-    let cut = (split_parts line_feed rest (Some (c.in-Some.line, c.in-Some.after)) clause (lit< tt)).0 in
-    let no_feed = subst (NoCharPasses (λ d. d == line_feed)) (sym clause.3) clause.2.0 in
-    let one = line_is_one line (line_IsUtf8 rest line after utf8 cut) no_feed in (
+    let cut = c.in-Some.ensures.0 in
+    let one = c.in-Some.ensures.1 in (
       after_IsUtf8 rest line after utf8 cut,
       λ end left. c.loop-line.invariant.1 end
           (subst (λ cs. g.S.Sink.Takes c.loop-line.sink cs end)
@@ -42,5 +38,5 @@ returns g c =
     on_ok_weaker c.write_line-2.result
     (λ last. c.loop-line.invariant.1 c.write_line-2.new.sink
     (subst (λ cs. g.S.Sink.Takes c.loop-line.sink cs c.write_line-2.new.sink)
-    (literal_last c.args.indent (chars rest) (line_is_one rest utf8 c.in_default.ensures.cases) filled) last))
+    (literal_last c.args.indent (chars rest) c.in_default.ensures filled) last))
     c.write_line-2.ensures

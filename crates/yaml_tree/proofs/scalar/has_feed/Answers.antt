@@ -4,4 +4,4 @@ use Rattle.yaml_tree.proofs.scalar.has_feed.Goals as goal
 
 pub returns : goal.returns
 returns c =
-    c.is_some.ensures ∙ feed_found c.args.text.now c.split_once.result c.utf8.text c.split_once.ensures.cases
+    c.is_some.ensures ∙ feed_found c.args.text.now c.split_line.result c.utf8.text c.split_line.ensures
