@@ -1,8 +1,8 @@
 #!/usr/bin/env python3
 """Reads a million changed texts to trees in one process, and looks at how long each takes.
 
-The texts are those of checks/cases and every_form.yaml after random changes. `read_probe style` reads them, one after
-the other; another process reads a thousand that are repeated to 64 to 256 KiB.
+The texts are those of checks/cases and every_form.yaml after random changes. `style` of `text_probe` reads them, one
+after the other; another process reads a thousand that are repeated to 64 to 256 KiB.
 
 - Each is answered by a tree or by the name of a fault, within a time and a memory that are linear in its length.
 - A tree is written in the one style; this script reads that text back by libyaml, and the text that was read as well,
@@ -12,7 +12,7 @@ the other; another process reads a thousand that are repeated to 64 to 256 KiB.
 
 Run it from the repository's root after the program is built; it takes some 3 minutes, and more on a busy machine:
 
-    (cd crates/read_probe && rt run) && python3 checks/fuzz_texts.py
+    (cd crates/text_probe && rt run) && python3 checks/fuzz_texts.py
 
 A number of texts and a seed may follow. The status is 0 if all is as it should be.
 """
@@ -102,9 +102,9 @@ def long_texts(chance, count):
         yield one * times if chance.random() < 0.5 else changed(chance, one * times)
 
 
-def escaped(text):
-    """A text as a line."""
-    return text.decode("latin-1").translate(ESCAPES).encode() + b"\n"
+def order_of(text):
+    """The line that asks for the tree of a text."""
+    return b"style;" + text.decode("latin-1").translate(ESCAPES).encode() + b"\n"
 
 
 def unescaped(line):
@@ -119,7 +119,7 @@ class Probe:
         self.peak = 0
         self.sent = queue.Queue(100_000)
         self.process = subprocess.Popen(
-            [PROBE, "style"], stdin=subprocess.PIPE, stdout=subprocess.PIPE, preexec_fn=self.limit_memory
+            [PROBE], stdin=subprocess.PIPE, stdout=subprocess.PIPE, preexec_fn=self.limit_memory
         )
         self.progress = 0
         self.ended = threading.Event()
@@ -133,7 +133,7 @@ class Probe:
         try:
             for text in source:
                 self.sent.put(text)
-                self.process.stdin.write(escaped(text))
+                self.process.stdin.write(order_of(text))
             self.process.stdin.close()
         except BrokenPipeError:
             pass
@@ -270,7 +270,7 @@ def try_texts(source, count, longest, failures):
 
 def main():
     if not os.access(PROBE, os.X_OK):
-        sys.exit("read_probe is not built: run 'rt run' in crates/read_probe first")
+        sys.exit("text_probe is not built: run 'rt run' in crates/text_probe first")
     count = int(sys.argv[1]) if len(sys.argv) > 1 else COUNT
     seed = int(sys.argv[2]) if len(sys.argv) > 2 else random.randrange(10**6)
     print(f"seed {seed}")

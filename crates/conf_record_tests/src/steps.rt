@@ -1,4 +1,4 @@
-// The names of faults, and a run of commands of which each allocation may be refused.
+// A run of commands of which each allocation may be refused.
 ghost use Rattle.std.specs.Prelude.{⊤};
 
 use conf_pieces::read_record;
@@ -6,9 +6,8 @@ use conf_record::{State, StoreFault, step};
 use std::alloc::Global;
 use std::convert::Infallible;
 use std::process::Abort;
-use std::test::Fail;
 use tree_path::PathFault;
-use yaml_tree::{Config, ReadFault, Sink, write_style};
+use yaml_tree::{Config, Sink, write_style};
 
 /// Compares what is written with a text, and takes no memory for it.
 #[derive(Drop)]
@@ -103,31 +102,6 @@ fn holds(state: &State, held: Held) -> bool {
         && has(state, "d", held.d)
         && has_no_others(state)
         && state.count() == held.count
-}
-
-#[test]
-fn faults_are_shown_by_the_innermost_name(rt: HostRuntime) -> Result<(), Fail> {
-    let alloc = rt.alloc();
-    let missing = StoreFault::Path(PathFault::NoSuchPlace { step: 2 });
-    let twice = StoreFault::Read(ReadFault::KeyTwice);
-    for (fault, shown) in [
-        (StoreFault::BadName, "BadName"),
-        (StoreFault::NoConfig, "NoConfig"),
-        (missing, "NoSuchPlace"),
-        (twice, "KeyTwice"),
-        (StoreFault::TooDeep, "TooDeep"),
-        (StoreFault::ConfigLarge, "ConfigLarge"),
-        (StoreFault::StoreFull, "StoreFull"),
-        (StoreFault::JournalLong, "JournalLong"),
-        (StoreFault::CountFull, "CountFull"),
-        (StoreFault::Reopen, "Reopen"),
-        (StoreFault::Device, "Device"),
-        (StoreFault::OutOfMemory, "OutOfMemory"),
-    ] {
-        let text = fault.to_string(alloc)?;
-        assert_eq!(rt; text.as_str(), shown);
-    }
-    Ok(())
 }
 
 /// A command of the run as its record, what it is answered, and what is held after it.

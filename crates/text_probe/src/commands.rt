@@ -1,0 +1,86 @@
+// Commands on a state, from their words or from a record.
+use crate::texts::lengthened;
+use conf_pieces::read_record;
+use conf_record::{Command, State, StoreFault, step};
+use std::alloc::{AllocError, Global};
+use yaml_tree::{Config, Limits, read_one};
+
+/// The limits of a tree: more than a state's configuration may have.
+const LIMITS: Limits = Limits {
+    bytes: 67_108_864,
+    depth: 66,
+    style: 67_108_864,
+};
+
+/// Whether the journal has room for a command's record.
+#[derive(Clone, Copy, PartialEq, Eq)]
+pub(crate) enum Room {
+    Enough,
+    Missing,
+}
+
+/// The configuration that a text gives.
+fn value_of(alloc: Global, text: &str) -> Result<Config, StoreFault> {
+    let text = lengthened(alloc, text)?;
+    read_one(alloc, text.as_bytes(), &LIMITS).map_err(StoreFault::Read)
+}
+
+/// The command that words say. Words that say none are answered as a refused text.
+pub(crate) fn command_of(alloc: Global, words: &[&str]) -> Result<Option<Command>, StoreFault> {
+    Ok(match words {
+        ["import", name, tree] => Some(Command::Import {
+            name: String::from_str(alloc, name)?,
+            tree: value_of(alloc, tree)?,
+        }),
+        ["set", name, path, value] => Some(Command::Set {
+            name: String::from_str(alloc, name)?,
+            path: String::from_str(alloc, path)?,
+            value: value_of(alloc, value)?,
+        }),
+        ["delete", name, path] => Some(Command::Delete {
+            name: String::from_str(alloc, name)?,
+            path: String::from_str(alloc, path)?,
+        }),
+        _ => None,
+    })
+}
+
+/// Performs the command that words say.
+pub(crate) fn perform(
+    alloc: Global,
+    state: &mut State,
+    words: &[&str],
+    room: Room,
+) -> Result<String, AllocError> {
+    match command_of(alloc, words) {
+        Ok(Some(command)) => answer_to(alloc, state, command, room),
+        Ok(None) => String::from_str(alloc, "no order"),
+        Err(fault) => format!(in alloc; "{fault:?}"),
+    }
+}
+
+/// Performs the command of a record.
+pub(crate) fn perform_record(
+    alloc: Global,
+    state: &mut State,
+    text: &str,
+) -> Result<String, AllocError> {
+    let text = lengthened(alloc, text)?;
+    match read_record(alloc, text.as_bytes())? {
+        Some((command, _)) => answer_to(alloc, state, command, Room::Enough),
+        None => String::from_str(alloc, "no record"),
+    }
+}
+
+/// Performs a command. Returns the count after it, or why it is refused.
+fn answer_to(
+    alloc: Global,
+    state: &mut State,
+    command: Command,
+    room: Room,
+) -> Result<String, AllocError> {
+    match step(alloc, state, command, room == Room::Enough) {
+        Ok(()) => format!(in alloc; "{}", state.count()),
+        Err(fault) => format!(in alloc; "{fault:?}"),
+    }
+}
