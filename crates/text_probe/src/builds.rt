@@ -37,11 +37,36 @@ pub(crate) fn build_pairs(
     let mut pairs = Vec::new(alloc);
     for pair in words.chunks(2) {
         if let [key, value] = pair {
-            pairs.push((Text::new(alloc, key)?, Tree::Text(Text::new(alloc, value)?)))?;
+            pairs.push(pair_of(alloc, key, value)?)?;
         }
     }
     *tree = Tree::Map(pairs);
     built(alloc)
+}
+
+/// A key with a text.
+fn pair_of(alloc: Global, key: &str, value: &str) -> Result<(Text, Tree), AllocError> {
+    let key = Text::new(alloc, key)?;
+    Ok((key, Tree::Text(Text::new(alloc, value)?)))
+}
+
+/// A sequence of one element.
+fn in_sequence(alloc: Global, tree: Tree) -> Result<Tree, AllocError> {
+    Ok(Tree::Seq(vec![in alloc; tree]?))
+}
+
+/// A mapping of one pair.
+fn in_mapping(alloc: Global, tree: Tree) -> Result<Tree, AllocError> {
+    let key = Text::new(alloc, "k")?;
+    Ok(Tree::Map(vec![in alloc; (key, tree)]?))
+}
+
+/// A sequence at an even level, and a mapping at an odd one.
+fn in_level(alloc: Global, tree: Tree, level: u32) -> Result<Tree, AllocError> {
+    match level % 2 {
+        0 => in_sequence(alloc, tree),
+        _ => in_mapping(alloc, tree),
+    }
 }
 
 /// Puts the tree inside so many sequences of one element, one in another.
@@ -51,7 +76,7 @@ pub(crate) fn build_sequences(
     count: &str,
 ) -> Result<String, AllocError> {
     for _ in 0..count.parse::<u32>().unwrap_or(0) {
-        *tree = Tree::Seq(vec![in alloc; taken(tree)]?);
+        *tree = in_sequence(alloc, taken(tree))?;
     }
     built(alloc)
 }
@@ -63,11 +88,7 @@ pub(crate) fn build_nested(
     count: &str,
 ) -> Result<String, AllocError> {
     for level in 0..count.parse::<u32>().unwrap_or(0) {
-        *tree = if level % 2 == 0 {
-            Tree::Seq(vec![in alloc; taken(tree)]?)
-        } else {
-            Tree::Map(vec![in alloc; (Text::new(alloc, "k")?, taken(tree))]?)
-        };
+        *tree = in_level(alloc, taken(tree), level)?;
     }
     built(alloc)
 }
