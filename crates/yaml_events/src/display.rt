@@ -5,14 +5,14 @@ use std::fmt;
 /// A letter: `P` plain, `S` in single quotes, `D` in double quotes, `L` literal, `F` folded, `O` omitted.
 impl fmt::Display for Style {
     fn fmt<W: fmt::Write>(&self, f: &mut fmt::Formatter<W>) -> fmt::Result {
-        f.write_str(match self {
-            Style::Plain => "P",
-            Style::Single => "S",
-            Style::Double => "D",
-            Style::Literal => "L",
-            Style::Folded => "F",
-            Style::Omitted => "O",
-        })
+        match self {
+            Style::Plain => f.write_str("P"),
+            Style::Single => f.write_str("S"),
+            Style::Double => f.write_str("D"),
+            Style::Literal => f.write_str("L"),
+            Style::Folded => f.write_str("F"),
+            Style::Omitted => f.write_str("O"),
+        }
     }
 }
 

@@ -2,58 +2,72 @@
 ghost use Rattle.std.specs.Prelude.{◌≡◌};
 
 use std::alloc::{AllocError, AllocFailed};
+use std::fmt;
 use thiserror::Error;
 
 /// Why no node is where one is looked for. Which of them a text gets is no promise: it only helps the
 /// writer of the text. `Display` says it in words, `Debug` by the name.
-#[derive(Clone, Copy, Debug, PartialEq, Eq, Error)]
+#[derive(Clone, Copy, Debug, PartialEq, Eq)]
 pub enum Why {
     /// An alias (`*name`), which the profile leaves out.
-    #[error("an alias, which the profile leaves out")]
     Alias,
     /// An anchor (`&name`), which the profile leaves out.
-    #[error("an anchor, which the profile leaves out")]
     Anchor,
     /// A tag (`!name`), which the profile leaves out.
-    #[error("a tag, which the profile leaves out")]
     Tag,
     /// A directive other than `%YAML 1.1` and `%YAML 1.2`, or one in a wrong place.
-    #[error("a directive that is not allowed here")]
     Directive,
     /// A value without a key, which the profile leaves out.
-    #[error("a value without a key, which the profile leaves out")]
     OmittedKey,
     /// A byte order mark that is not at the text's start.
-    #[error("a byte order mark that is not at the text's start")]
     ByteOrderMark,
     /// A character that is not allowed there.
-    #[error("a character that is not allowed here")]
     Character,
     /// An unknown escape.
-    #[error("an unknown escape")]
     Escape,
     /// A line that has too few or too many spaces.
-    #[error("a line with too few or too many spaces")]
     Indent,
     /// A quote that is not closed.
-    #[error("a quote that is not closed")]
     Quote,
     /// A flow collection that is not closed, or an entry that is none.
-    #[error("a flow collection that is not closed, or an entry that is none")]
     Flow,
     /// A key that is too long or runs over lines, or a second one on its line.
-    #[error("a key that is too long or runs over lines, or a second one on its line")]
     Key,
     /// A block scalar's header that is none.
-    #[error("a block scalar's header that is none")]
     BlockHeader,
     /// A document marker inside a node.
-    #[error("a document marker inside a node")]
     Marker,
     /// None of these.
-    #[error("no node")]
     Other,
 }
+
+impl fmt::Display for Why {
+    fn fmt<W: fmt::Write>(&self, f: &mut fmt::Formatter<W>) -> fmt::Result {
+        match self {
+            Why::Alias => f.write_str("an alias, which the profile leaves out"),
+            Why::Anchor => f.write_str("an anchor, which the profile leaves out"),
+            Why::Tag => f.write_str("a tag, which the profile leaves out"),
+            Why::Directive => f.write_str("a directive that is not allowed here"),
+            Why::OmittedKey => f.write_str("a value without a key, which the profile leaves out"),
+            Why::ByteOrderMark => f.write_str("a byte order mark that is not at the text's start"),
+            Why::Character => f.write_str("a character that is not allowed here"),
+            Why::Escape => f.write_str("an unknown escape"),
+            Why::Indent => f.write_str("a line with too few or too many spaces"),
+            Why::Quote => f.write_str("a quote that is not closed"),
+            Why::Flow => f.write_str(
+                "a flow collection that is not closed, or an entry that is none",
+            ),
+            Why::Key => f.write_str(
+                "a key that is too long or runs over lines, or a second one on its line",
+            ),
+            Why::BlockHeader => f.write_str("a block scalar's header that is none"),
+            Why::Marker => f.write_str("a document marker inside a node"),
+            Why::Other => f.write_str("no node"),
+        }
+    }
+}
+
+impl std::error::Error for Why {}
 
 /// Why a scanner fails.
 #[derive(Clone, Copy, Debug, PartialEq, Eq, Error)]
