@@ -2,51 +2,61 @@
 ghost use Rattle.std.specs.Prelude.{◌≡◌};
 
 use std::alloc::AllocError;
-use thiserror::Error;
+use std::error::Error;
+use std::fmt;
 use tree_path::PathFault;
 use yaml_tree::ReadFault;
 
 /// Why a command is refused. `Reopen` comes before all others; of the others the first in this list is returned.
 /// `OutOfMemory` may come at any point. The message is the innermost fault's own name.
-#[derive(Clone, Copy, Debug, PartialEq, Eq, Error)]
+#[derive(Clone, Copy, Debug, PartialEq, Eq)]
 pub enum StoreFault {
     /// The name isn't 1 to 64 lowercase letters, digits, `_` and `-`, starting with a letter.
-    #[error("BadName")]
     BadName,
     /// No configuration has the name.
-    #[error("NoConfig")]
     NoConfig,
     /// The pointer is not a path, or the path leads to no place.
-    #[error("{0}")]
     Path(PathFault),
     /// The text to import is refused.
-    #[error("{}", .0.brief())]
     Read(ReadFault),
     /// The configuration would be more than 64 deep.
-    #[error("TooDeep")]
     TooDeep,
     /// The configuration would have more than 1,048,576 bytes in the one style.
-    #[error("ConfigLarge")]
     ConfigLarge,
     /// The base text of the state would have more than 67,108,864 bytes.
-    #[error("StoreFull")]
     StoreFull,
     /// The journal has no room for the command's record.
-    #[error("JournalLong")]
     JournalLong,
     /// 18,446,744,073,709,551,615 commands were accepted, and no more can be counted.
-    #[error("CountFull")]
     CountFull,
     /// The device failed before, and the store has to be opened again.
-    #[error("Reopen")]
     Reopen,
     /// The device failed.
-    #[error("Device")]
     Device,
     /// There was no memory. It is never inside `Path` or `Read`.
-    #[error("OutOfMemory")]
     OutOfMemory,
 }
+
+impl fmt::Display for StoreFault {
+    fn fmt<W: fmt::Write>(&self, f: &mut fmt::Formatter<W>) -> fmt::Result {
+        match *self {
+            StoreFault::BadName => f.write_str("BadName"),
+            StoreFault::NoConfig => f.write_str("NoConfig"),
+            StoreFault::Path(fault) => fmt::Display::fmt(&fault, f),
+            StoreFault::Read(fault) => fmt::Display::fmt(&fault.brief(), f),
+            StoreFault::TooDeep => f.write_str("TooDeep"),
+            StoreFault::ConfigLarge => f.write_str("ConfigLarge"),
+            StoreFault::StoreFull => f.write_str("StoreFull"),
+            StoreFault::JournalLong => f.write_str("JournalLong"),
+            StoreFault::CountFull => f.write_str("CountFull"),
+            StoreFault::Reopen => f.write_str("Reopen"),
+            StoreFault::Device => f.write_str("Device"),
+            StoreFault::OutOfMemory => f.write_str("OutOfMemory"),
+        }
+    }
+}
+
+impl Error for StoreFault {}
 
 impl From<AllocError> for StoreFault {
     ghost use Rattle.conf_record.specs.declared.fault.StoreFault.TheVariants.{OutOfMemory};
