@@ -1,12 +1,12 @@
 -- The parts of a tree that a `Config` keeps.
-use Rattle.std.proofs.Common.{◌≡◌, ◌≤◌, ℕ, ◌+◌, true, ◌&&◌, List, [], ◌∷◌, ◌++◌, length, max, not, String, Global, string_bytes, append_assoc, append-nil, arith, refl, sym, ap, ◌∙◌}
+use Rattle.std.proofs.Common.{◌≡◌, ◌<◌, ◌≤◌, ℕ, ◌+◌, true, ◌&&◌, List, [], ◌∷◌, ◌++◌, length, max, not, String, Global, string_bytes, append_assoc, append-nil, arith, refl, sym, ap, ◌∙◌}
 use Rattle.std.proofs.lemmas.Bool.{and_parts}
 use Rattle.std.specs.Str.{chars}
 use Rattle.yaml_grammar.specs.Texts.{byte_len}
 use Rattle.yaml_grammar.specs.Style.{key_lines, value_at, members_after}
 use Rattle.yaml_grammar.specs.Trees.{Tree, mapping, Members, no_member, member, has_key, distinct, members_distinct, depth, members_depth, AreTextMembers}
 use Rattle.yaml_tree.specs.BudgetLaws.{byte_len-append}
-use Rattle.yaml_tree.specs.Kept.{IsKept}
+use Rattle.yaml_tree.specs.Kept.{own_limits, IsKept}
 use Rattle.yaml_tree.specs.Seen.{Pair, tree_of, members_of}
 use Rattle.yaml_tree.specs.TextBytes.{text_bytes}
 use Rattle.yaml_tree.specs.declared.text.Text.{Text}
@@ -21,15 +21,15 @@ after_bytes : (key : List ℕ) (t : Tree) (ms : Members)
 after_bytes key t ms =
     omega (arith, byte_len-append (key_lines 0 key ++ value_at t 0) (members_after ms 0), byte_len-append (key_lines 0 key) (value_at t 0))
 
-max_parts : (a b c : ℕ) → max a b ≤ c → (a ≤ c) × (b ≤ c)
+max_parts : (a b c : ℕ) → max a b < c → (a < c) × (b < c)
 max_parts a b c h = (omega arith, omega arith)
 
-values_kept : (ms : Members) → AreTextMembers ms → members_distinct ms ≡ true → members_depth ms ≤ 65 → byte_len (members_after ms 0) ≤ 67108864 → AreKept (values ms)
+values_kept : (ms : Members) → AreTextMembers ms → members_distinct ms ≡ true → members_depth ms < own_limits.depth → byte_len (members_after ms 0) ≤ own_limits.style → AreKept (values ms)
 values_kept no_member are keys deep long = tt
 values_kept (member key t ms) are keys deep long =
     let parts = and_parts (not (has_key key ms) && distinct t) (members_distinct ms) keys in
     let own = (and_parts (not (has_key key ms)) (distinct t) parts.0).1 in
-    let levels = max_parts (depth t) (members_depth ms) 65 deep in
+    let levels = max_parts (depth t) (members_depth ms) own_limits.depth deep in
     let bytes = after_bytes key t ms in
     let alone = (value_size t).least in
     let low = levels.0 in (

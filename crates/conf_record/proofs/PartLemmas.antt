@@ -121,12 +121,12 @@ no_more a b e h = grind (arith, nat_tests)
 -- where the limits are exceeded, the tree is over them
 over_limits : (t : grammar.Tree) (fault : StoreFault) → checked_tree t ≡ Err fault → Good t config_limits → ⊥
 over_limits t fault refused good =
-    by (nat_lt 64 (depth t)) refl (nat_lt 1048576 (byte_len (style_text t))) refl refused
+    by (nat_lt config_limits.depth (depth t)) refl (nat_lt config_limits.style (byte_len (style_text t))) refl refused
   where
-    by : (d : Bool) → nat_lt 64 (depth t) ≡ d → (l : Bool) → nat_lt 1048576 (byte_len (style_text t)) ≡ l
+    by : (d : Bool) → nat_lt config_limits.depth (depth t) ≡ d → (l : Bool) → nat_lt config_limits.style (byte_len (style_text t)) ≡ l
         → (if d then Err TooDeep else if l then Err ConfigLarge else Ok t) ≡ Err fault → ⊥
-    by true e l f same = no_more (depth t) 64 e good.deep
-    by false e true f same = no_more (byte_len (style_text t)) 1048576 f good.long
+    by true e l f same = no_more (depth t) config_limits.depth e good.deep
+    by false e true f same = no_more (byte_len (style_text t)) config_limits.style f good.long
     by false e false f same = cc
 
 -- a tree that is refused is over its limits

@@ -3,6 +3,7 @@ use Rattle.yaml_grammar.specs.Style.{style_text}
 use Rattle.yaml_grammar.specs.Texts.{byte_len}
 use Rattle.yaml_grammar.specs.Trees.{depth}
 use Rattle.yaml_tree.specs.Seen.{tree_of}
+use Rattle.yaml_tree.specs.Limits.{config_limits}
 use Rattle.conf_record.proofs.EditLemmas.{named-good, edit-length, edit-short, tree_after_edit-deep, tree_after_edit-large, at_most}
 use Rattle.conf_record.proofs.state.State.plan_edit.Goals as goal
 
@@ -41,7 +42,7 @@ overflow_cast-result-2 c =
     let made = c.in_ok-plan.ensures.ok in
     let alone = made.2.alone in
     let after = edit-length es name old made.0 c.in_ok-plan.plan.change c.requires.there.1 made.2 in
-    let long : byte_len (style_text made.0) ≤ 1048576 = omega (arith, alone, c.style_length.ensures, c.length_after-bytes.ensures, c.if-bytes-gt-STYLE_LIMIT.false) in
+    let long : byte_len (style_text made.0) ≤ config_limits.style = omega (arith, alone, c.style_length.ensures, c.length_after-bytes.ensures, c.if-bytes-gt-STYLE_LIMIT.false) in
     let short = edit-short es name old made.0 c.requires.there.1 (omega (arith, c.entries_length-entries.ensures.exact, c.entries_length-entries.ensures.short)) long in
     omega (arith, after, short, c.length_after.ensures, c.entries_length-entries.ensures.exact)
 
@@ -56,7 +57,7 @@ returns-clause-ok c = λ name there.
     record {
       new = made.0;
       made = made.1;
-      deep = at_most (depth made.0) 64 (sym (c.keeps_depth.ensures old made.0 good.deep made.1) ∙ c.if-not-keeps_depth.false);
+      deep = at_most (depth made.0) config_limits.depth (sym (c.keeps_depth.ensures old made.0 good.deep made.1) ∙ c.if-not-keeps_depth.false);
       long = omega (arith, alone, c.style_length.ensures, c.length_after-bytes.ensures, c.if-bytes-gt-STYLE_LIMIT.false);
       config = omega (arith, alone, c.style_length.ensures, c.length_after-bytes.ensures);
       entries = omega (arith, after, c.length_after.ensures, c.entries_length-entries.ensures.exact);
