@@ -1,4 +1,4 @@
-"""The texts that bench/read.py reads: six corpora inside the profile, and hostile texts. The same size gives the same text."""
+"""Six corpora inside the profile, and hostile texts, to be read and measured. The same size gives the same text."""
 
 import random
 

@@ -3,15 +3,13 @@
 
 It makes six corpora of 1 MiB each, and reads them to events and to a tree in a loop inside one process, as the peers do, and
 once by `confstore format` beside what libyaml takes to read and write the same text. It prints MB/s, the ratio to the best
-peer, the greatest memory, and with `-i` instructions a byte as valgrind counts them. Then it reads the corpora, and hostile
-texts, at 64 KiB, 1 MiB and 16 MiB, and says where the time a byte grew by more than a quarter. A text of signs alone has an event
-for each byte or two, and its time goes into fresh memory in part; with `-i` the instructions a byte at 64 KiB and 1 MiB
-stand beside it.
+peer, the greatest memory, and with `-i` instructions a byte as valgrind counts them. How the time a byte grows with the length
+of a text is what `bench/growth.py` says.
 
 A time is the least processor time of several runs, less that of a run with fewer rounds. Run it on a quiet machine from the
 repository's root, after the programs are built:
 
-    ./confstore --version && (cd crates/bench_driver && rt run -- store run) && python3 bench/read.py [-i] [corpora|growth]
+    ./confstore --version && (cd crates/bench_driver && rt run -- store run) && python3 bench/read.py [-i]
 
 The peers are left out where they are not there: `apt-get install libyaml-dev libfyaml-dev` installs them, and `valgrind`.
 """
@@ -24,13 +22,12 @@ import subprocess
 import sys
 import tempfile
 
-from corpora import CORPORA, HOSTILE
+from corpora import CORPORA
 
 TOP = os.path.dirname(os.path.dirname(os.path.abspath(__file__)))
 PROGRAM = os.path.join(TOP, "crates", "confstore", "out", "confstore")
 DRIVER = os.path.join(TOP, "crates", "bench_driver", "out", "bench_driver")
 MIB = 1024 * 1024
-SIZES = [64 * 1024, MIB, 16 * MIB]
 # The peers, with what each is linked to and the package that has it.
 PEERS = {"libyaml": ("-lyaml", "libyaml-dev"), "libfyaml": ("-lfyaml", "libfyaml-dev")}
 # How long the rounds of one measurement take together, in seconds, and how many runs the least is taken of.
@@ -175,34 +172,13 @@ def corpora(folder, peers, counts_instructions):
         print(f"{work}: {mean(all_ratios):.2f} times the peer, in the geometric mean")
 
 
-def growth(folder, counts_instructions):
-    """Reads texts of three sizes, and says where the time a byte grows."""
-    for name, make in {**CORPORA, **HOSTILE}.items():
-        costs, counts = [], []
-        for size in SIZES:
-            path = written(folder, make(size))
-            words, length = [DRIVER, "read", "events", path], os.path.getsize(path)
-            costs.append(round_seconds(words) / length * 1e9)
-            if counts_instructions and size <= MIB:
-                counts.append(f"{round_instructions(words) / length:.1f}")
-        answer = run([DRIVER, "read", "events", path, "1"])[1].decode().strip()
-        shown = ", ".join(f"{cost:6.2f}" for cost in costs)
-        grew = max(costs) / costs[0]
-        more = f", {' and '.join(counts)} instructions" if counts else ""
-        print(f"{name:22} {shown} ns a byte, {grew:4.2f} times{' GROWS' if grew > 1.25 else ''}{more}  ({answer})")
-
-
 def main():
     for program in (PROGRAM, DRIVER):
         if not os.access(program, os.X_OK):
             sys.exit(f"{program} is not built")
-    words = sys.argv[1:]
-    counts_instructions = "-i" in words and shutil.which("valgrind") is not None
+    counts_instructions = "-i" in sys.argv[1:] and shutil.which("valgrind") is not None
     with tempfile.TemporaryDirectory() as folder:
-        if "growth" not in words:
-            corpora(folder, built_peers(folder), counts_instructions)
-        if "corpora" not in words:
-            growth(folder, counts_instructions)
+        corpora(folder, built_peers(folder), counts_instructions)
     return 0
 
 

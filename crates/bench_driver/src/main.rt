@@ -1,5 +1,5 @@
-//! Works on texts, trees and stores, so that their speed can be measured and what a store does without memory can be
-//! looked at. It is a program for `bench/read.py`, `bench/edits.py`, `bench/store.py` and
+//! Works on texts, trees and stores, so that their speed can be measured and what reading and a store do without memory
+//! can be looked at. It is a program for scripts of `bench/`, `checks/refuse_tree_allocations.sh` and
 //! `checks/refuse_store_allocations.sh` alone. Its words are orders, performed one after another, with `then` between
 //! them:
 //!

@@ -1,0 +1,140 @@
+#!/usr/bin/env python3
+"""Says where the time that a byte takes grows with the length of a text.
+
+It reads the corpora of `bench/read.py`, and hostile texts, to events in a loop inside one process, at 64 KiB, 1 MiB
+and 16 MiB. It prints the nanoseconds a byte, and how many times those at 64 KiB the others are. `GROWS` stands where
+that is more than 1.25 times.
+
+A process keeps the memory of a small text from round to round. That of a large one it gives back, and the system
+hands it out anew, page by page; for a text of signs alone that are up to 26 bytes for each byte. What the system takes
+for a page differs much between machines, so it is printed first. The times come twice:
+
+- `kept`: malloc is told to keep what it has, at each size, and to ask for huge pages. This is the reader's own time.
+- `anew`: malloc does as it does by itself. The processor's time for the process stands beside that for the system.
+
+The runs of the three sizes come by turns, and the growth is the median over the turns, so that a machine whose speed
+moves shows the same. The nanoseconds are medians too. What a process takes to start, and for its first round, is taken
+away.
+
+    python3 bench/growth.py [-i] [WORD]
+
+With `-i` the instructions a byte at 64 KiB and 1 MiB, as valgrind counts them, stand at the end of a line. With a word
+only the texts are read whose names have it. Run it on a quiet machine with glibc 2.35 or later, from the repository's
+root, after `bench_driver` is built as `bench/read.py` says. It takes some 25 minutes.
+"""
+
+import mmap
+import os
+import statistics
+import subprocess
+import sys
+import tempfile
+import time
+
+from corpora import CORPORA, HOSTILE
+from read import DRIVER, MIB, round_instructions
+
+SIZES = [64 * 1024, MIB, 16 * MIB]
+# The greatest growth.
+MOST = 1.25
+# How long the rounds of one run take together, in seconds, and how many rounds they are at least.
+ENOUGH = 0.1
+ROUNDS = 4
+# How many turns there are.
+TURNS = 9
+# What glibc's malloc is told.
+KEPT = {"GLIBC_TUNABLES": "glibc.malloc.hugetlb=1:glibc.malloc.mmap_max=0:glibc.malloc.trim_threshold=17179869184"}
+ANEW = {}
+
+
+def used(words, settings):
+    """The processor time of a run in seconds: for the process, and for the system."""
+    nothing = subprocess.DEVNULL
+    process = subprocess.Popen(words, stdout=nothing, stderr=nothing, env={**os.environ, **settings})
+    _, process.returncode, usage = os.wait4(process.pid, 0)
+    return usage.ru_utime, usage.ru_stime
+
+
+def rounds_of(words):
+    """How many rounds take long enough to be measured."""
+    rounds = ROUNDS
+    while sum(used([*words, str(rounds + 1)], KEPT)) - sum(used([*words, "1"], KEPT)) < ENOUGH and rounds < 100_000:
+        rounds *= 2
+    return rounds
+
+
+def measured(files, settings):
+    """What a byte of each file takes in each turn, in nanoseconds: for the process, and for the system."""
+    orders = [[DRIVER, "read", "events", file] for file in files]
+    rounds = [rounds_of(words) for words in orders]
+    turns = [[] for _ in files]
+    for _ in range(TURNS):
+        for file, words, count, costs in zip(files, orders, rounds, turns):
+            one, many = used([*words, "1"], settings), used([*words, str(count + 1)], settings)
+            costs.append([(more - less) / (count * os.path.getsize(file)) * 1e9 for less, more in zip(one, many)])
+    return turns
+
+
+def medians(turns, part):
+    """The medians over the turns of a part of what a byte takes."""
+    return [statistics.median(map(part, costs)) for costs in turns]
+
+
+def growths(turns):
+    """How many times what a byte takes at the first size it takes at the others."""
+    first = [sum(cost) for cost in turns[0]]
+    return [statistics.median(sum(cost) / one for cost, one in zip(costs, first)) for costs in turns[1:]]
+
+
+def page_cost(pages=16_384):
+    """The microseconds that the system takes to hand out a page: what touching it takes more the first time."""
+    with mmap.mmap(-1, pages * mmap.PAGESIZE) as memory:
+        memory.madvise(mmap.MADV_NOHUGEPAGE)
+        times = []
+        for _ in range(2):
+            start = time.perf_counter()
+            for page in range(pages):
+                memory[page * mmap.PAGESIZE] = 1
+            times.append(time.perf_counter() - start)
+    return (times[0] - times[1]) / pages * 1e6
+
+
+def shown(costs):
+    return ", ".join(f"{cost:6.2f}" for cost in costs)
+
+
+def compare(name, make, folder, counts_instructions):
+    """Prints what a byte of a text takes at each size, and returns whether it grows by no more than it may."""
+    files = []
+    for size in SIZES:
+        files.append(os.path.join(folder, f"{size}.yaml"))
+        with open(files[-1], "w", encoding="utf-8") as target:
+            target.write(make(size))
+    kept, anew = measured(files, KEPT), measured(files, ANEW)
+    is_well = max(growths(kept)) <= MOST
+    line = f"{name:22} kept {shown(medians(kept, sum))} ns, {shown(growths(kept))} times"
+    line += f" {'     ' if is_well else 'GROWS'} | anew {shown(medians(anew, lambda cost: cost[0]))} ns"
+    line += f" and {shown(medians(anew, lambda cost: cost[1]))} for the system"
+    if counts_instructions:
+        orders = [(file, [DRIVER, "read", "events", file]) for file in files[:2]]
+        counts = [round_instructions(words) / os.path.getsize(file) for file, words in orders]
+        line += f" | {shown(counts)} instructions"
+    print(line, flush=True)
+    return is_well
+
+
+def main():
+    if not os.access(DRIVER, os.X_OK):
+        sys.exit(f"{DRIVER} is not built")
+    words = [word for word in sys.argv[1:] if word != "-i"]
+    print(f"A page of {mmap.PAGESIZE} bytes takes the system {min(page_cost() for _ in range(5)):.2f} us.")
+    grown = []
+    with tempfile.TemporaryDirectory(dir="/dev/shm") as folder:
+        for name, make in {**CORPORA, **HOSTILE}.items():
+            if all(word in name for word in words) and not compare(name, make, folder, "-i" in sys.argv):
+                grown.append(name)
+    print(f"more than {MOST} times: {', '.join(grown) or 'none'}")
+
+
+if __name__ == "__main__":
+    main()
