@@ -18,27 +18,26 @@ away.
 
     python3 bench/growth.py [-i] [WORD]
 
-With `-i` the instructions a byte at 64 KiB and 1 MiB, as valgrind counts them, stand at the end of a line. With a word
-only the texts are read whose names have it. Run it on a quiet machine with glibc 2.35 or later, from the repository's
-root, after `bench_driver` is built as `bench/read.py` says. It takes some 25 minutes.
+At the end of a line stands how many events the largest text has, or why it is refused; with `-i` also the instructions
+a byte at 64 KiB and 1 MiB, as valgrind counts them. With a word only the texts are read whose names have it. Run it on
+a quiet machine with glibc 2.35 or later, from the repository's root, after `bench_driver` is built as `bench/read.py`
+says. It takes some 25 minutes.
 """
 
 import mmap
 import os
 import statistics
-import subprocess
 import sys
 import tempfile
 import time
 
 from corpora import CORPORA, HOSTILE
-from read import DRIVER, MIB, round_instructions
+from read import DRIVER, MIB, round_instructions, rounds_of, run, usage_and_output, written
 
 SIZES = [64 * 1024, MIB, 16 * MIB]
 # The greatest growth.
 MOST = 1.25
-# How long the rounds of one run take together, in seconds, and how many rounds they are at least.
-ENOUGH = 0.1
+# How many rounds of one run are measured at least.
 ROUNDS = 4
 # How many turns there are.
 TURNS = 9
@@ -47,32 +46,26 @@ KEPT = {"GLIBC_TUNABLES": "glibc.malloc.hugetlb=1:glibc.malloc.mmap_max=0:glibc.
 ANEW = {}
 
 
-def used(words, settings):
+def times(words, settings):
     """The processor time of a run in seconds: for the process, and for the system."""
-    nothing = subprocess.DEVNULL
-    process = subprocess.Popen(words, stdout=nothing, stderr=nothing, env={**os.environ, **settings})
-    _, process.returncode, usage = os.wait4(process.pid, 0)
+    usage, _ = usage_and_output(words, settings=settings)
     return usage.ru_utime, usage.ru_stime
 
 
-def rounds_of(words):
-    """How many rounds take long enough to be measured."""
-    rounds = ROUNDS
-    while sum(used([*words, str(rounds + 1)], KEPT)) - sum(used([*words, "1"], KEPT)) < ENOUGH and rounds < 100_000:
-        rounds *= 2
-    return rounds
-
-
-def measured(files, settings):
-    """What a byte of each file takes in each turn, in nanoseconds: for the process, and for the system."""
-    orders = [[DRIVER, "read", "events", file] for file in files]
-    rounds = [rounds_of(words) for words in orders]
-    turns = [[] for _ in files]
+def measured(orders, settings):
+    """What a byte of each order's file takes in each turn, in nanoseconds: for the process, and for the system."""
+    rounds = [max(ROUNDS, rounds_of(words)) for words in orders]
+    turns = [[] for _ in orders]
     for _ in range(TURNS):
-        for file, words, count, costs in zip(files, orders, rounds, turns):
-            one, many = used([*words, "1"], settings), used([*words, str(count + 1)], settings)
-            costs.append([(more - less) / (count * os.path.getsize(file)) * 1e9 for less, more in zip(one, many)])
+        for words, count, costs in zip(orders, rounds, turns):
+            one, many = times([*words, "1"], settings), times([*words, str(count + 1)], settings)
+            costs.append([(more - less) / (count * length_of(words)) * 1e9 for less, more in zip(one, many)])
     return turns
+
+
+def length_of(words):
+    """The length of an order's file."""
+    return os.path.getsize(words[-1])
 
 
 def medians(turns, part):
@@ -105,21 +98,16 @@ def shown(costs):
 
 def compare(name, make, folder, counts_instructions):
     """Prints what a byte of a text takes at each size, and returns whether it grows by no more than it may."""
-    files = []
-    for size in SIZES:
-        files.append(os.path.join(folder, f"{size}.yaml"))
-        with open(files[-1], "w", encoding="utf-8") as target:
-            target.write(make(size))
-    kept, anew = measured(files, KEPT), measured(files, ANEW)
+    orders = [[DRIVER, "read", "events", written(folder, make(size), f"{size}.yaml")] for size in SIZES]
+    kept, anew = measured(orders, KEPT), measured(orders, ANEW)
     is_well = max(growths(kept)) <= MOST
     line = f"{name:22} kept {shown(medians(kept, sum))} ns, {shown(growths(kept))} times"
     line += f" {'     ' if is_well else 'GROWS'} | anew {shown(medians(anew, lambda cost: cost[0]))} ns"
     line += f" and {shown(medians(anew, lambda cost: cost[1]))} for the system"
     if counts_instructions:
-        orders = [(file, [DRIVER, "read", "events", file]) for file in files[:2]]
-        counts = [round_instructions(words) / os.path.getsize(file) for file, words in orders]
-        line += f" | {shown(counts)} instructions"
-    print(line, flush=True)
+        line += f" | {shown(round_instructions(words) / length_of(words) for words in orders[:2])} instructions"
+    answer = run([*orders[-1], "1"])[1].decode().strip()
+    print(f"{line}  ({answer})", flush=True)
     return is_well
 
 
@@ -129,7 +117,7 @@ def main():
     words = [word for word in sys.argv[1:] if word != "-i"]
     print(f"A page of {mmap.PAGESIZE} bytes takes the system {min(page_cost() for _ in range(5)):.2f} us.")
     grown = []
-    with tempfile.TemporaryDirectory(dir="/dev/shm") as folder:
+    with tempfile.TemporaryDirectory() as folder:
         for name, make in {**CORPORA, **HOSTILE}.items():
             if all(word in name for word in words) and not compare(name, make, folder, "-i" in sys.argv):
                 grown.append(name)

@@ -35,13 +35,22 @@ ENOUGH = 0.1
 RUNS = 3
 
 
+def usage_and_output(words, source=os.devnull, settings=None):
+    """What a run of a program used, in an environment with these settings, and what it printed."""
+    with tempfile.TemporaryFile() as output, open(source, "rb") as text:
+        environment = {**os.environ, **(settings or {})}
+        process = subprocess.Popen(words, stdin=text, stdout=output, stderr=subprocess.DEVNULL, env=environment)
+        _, process.returncode, usage = os.wait4(process.pid, 0)
+        if process.returncode != 0:
+            sys.exit(f"{' '.join(words)} failed")
+        output.seek(0)
+        return usage, output.read()
+
+
 def run(words, source=os.devnull):
     """The processor time of a run in seconds, and what it printed."""
-    with tempfile.TemporaryFile() as output, open(source, "rb") as text:
-        process = subprocess.Popen(words, stdin=text, stdout=output, stderr=subprocess.DEVNULL)
-        _, process.returncode, usage = os.wait4(process.pid, 0)
-        output.seek(0)
-        return usage.ru_utime + usage.ru_stime, output.read()
+    usage, output = usage_and_output(words, source)
+    return usage.ru_utime + usage.ru_stime, output
 
 
 def greatest_memory(words, source=os.devnull):
@@ -92,9 +101,9 @@ def built_peers(folder):
     return built
 
 
-def written(folder, text):
+def written(folder, text, name="input.yaml"):
     """A file with a text."""
-    path = os.path.join(folder, "input.yaml")
+    path = os.path.join(folder, name)
     with open(path, "w", encoding="utf-8") as target:
         target.write(text)
     return path
