@@ -1,10 +1,6 @@
 // Edits of trees.
-mod order;
-mod rounds;
-mod trees;
-
 use crate::failed::Failed;
-use order::Order;
+use bench_edits::{Order, length_in_style, run};
 
 /// Makes the edits that the words of an order say, and prints how many they are and how long the tree is in the one
 /// style.
@@ -13,8 +9,8 @@ pub(crate) fn perform(rt: &HostRuntime, words: &[String]) -> Result<(), Failed> 
         return Err(Failed::Words);
     };
     let alloc = rt.alloc();
-    let length = rounds::length_in_style(alloc, &order)?;
-    rounds::run(alloc, &order)?;
+    let length = length_in_style(alloc, &order)?;
+    run(alloc, &order)?;
     println!(rt; "{} edits of a tree of {length} bytes", order.edits())?;
     Ok(())
 }

@@ -1,4 +1,3 @@
-pub mod Files
 pub mod Images
 pub mod Log
 pub mod Moments

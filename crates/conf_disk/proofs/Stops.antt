@@ -6,7 +6,7 @@ use Rattle.std.proofs.lemmas.Bool.{le-leb, leb-true}
 use Rattle.std.proofs.lemmas.Option.{slice_get-get_or, slice_get_within, get_or_from_slice_get}
 use Rattle.conf_disk.specs.Folder.{File, empty_file, file_bytes, Stage, Folder, stages, bytes_at}
 use Rattle.conf_disk.specs.Image.{Image, IsImage, IsTorn, IsTornAt, image_now, folder_of_image, folder_with_files, fits_at, torn_at, image_of_stage, image_at}
-use Rattle.conf_disk.specs.declared.memory.Cuts.{Cuts}
+use Rattle.conf_disk.specs.declared.cuts.Cuts.{Cuts}
 
 -- a torn file is one under a cut that fits
 fits-torn : (files : List File) (place : Option ℕ) (bytes : Option (List ℕ)) → IsTornAt files place bytes

@@ -3,7 +3,4 @@ pub mod Image
 pub mod Moments
 pub mod Log
 pub mod LogLaws
-pub mod Memory
-pub mod Replay
-pub mod Fused
 pub mod Laws

@@ -14,7 +14,7 @@ use Rattle.yaml_grammar.specs.Trees.{Tree}
 use Rattle.yaml_grammar.specs.Reads.{Limits}
 use Rattle.yaml_tree.specs.Kept.{own_limits}
 use Rattle.yaml_tree.specs.Reading.{IsRead}
-use Rattle.yaml_tree.proofs.ByteLemmas.{byte_len-chars}
+use Rattle.yaml_writer.proofs.ByteLemmas.{byte_len-chars}
 use Rattle.yaml_laws.specs.Closed.{framed_text_bytes, all_framed_bytes, TornInPieces, TornPieces}
 use Rattle.conf_record.specs.Commands.{Command}
 use Rattle.conf_record.specs.States.{Contents, base_limit}

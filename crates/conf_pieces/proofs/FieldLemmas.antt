@@ -9,9 +9,9 @@ use Rattle.std.proofs.lemmas.Fmt.{decimal_is_IsNumeral, IsAscii-decimal}
 use Rattle.std.proofs.lemmas.List.{drop_more}
 use Rattle.std.proofs.lemmas.Str.{chars-IsAscii, encodes-chars}
 use Rattle.yaml_grammar.specs.Texts.{same_text}
-use Rattle.yaml_tree.specs.Seen.{Pair, members_of}
-use Rattle.yaml_tree.specs.TextBytes.{text_bytes}
-use Rattle.yaml_tree.proofs.CharacterLemmas.{same_text-true, same_text-self, chars-same}
+use Rattle.yaml_data.specs.Seen.{Pair, members_of}
+use Rattle.yaml_data.specs.TextBytes.{text_bytes}
+use Rattle.yaml_data.proofs.CharacterLemmas.{same_text-true, same_text-self, chars-same}
 use Rattle.conf_record.specs.RecordsRead.{number_from_digits, keys_are}
 use Rattle.conf_record.specs.States.{count_limit}
 use Rattle.conf_pieces.specs.Reading.{texts}

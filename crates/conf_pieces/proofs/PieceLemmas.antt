@@ -5,12 +5,12 @@ use Rattle.std.specs.Str.{chars}
 use Rattle.yaml_grammar.specs.Texts.{byte_len}
 use Rattle.yaml_grammar.specs.Style.{key_lines, value_at, members_after}
 use Rattle.yaml_grammar.specs.Trees.{Tree, mapping, Members, no_member, member, has_key, distinct, members_distinct, depth, members_depth, AreTextMembers}
-use Rattle.yaml_tree.specs.BudgetLaws.{byte_len-append}
+use Rattle.yaml_writer.specs.BudgetLaws.{byte_len-append}
 use Rattle.yaml_tree.specs.Kept.{own_limits, IsKept}
-use Rattle.yaml_tree.specs.Seen.{Pair, tree_of, members_of}
-use Rattle.yaml_tree.specs.TextBytes.{text_bytes}
-use Rattle.yaml_tree.specs.declared.text.Text.{Text}
-use Rattle.yaml_tree.specs.declared.tree.Tree as code
+use Rattle.yaml_data.specs.Seen.{Pair, tree_of, members_of}
+use Rattle.yaml_data.specs.TextBytes.{text_bytes}
+use Rattle.yaml_data.specs.declared.text.Text.{Text}
+use Rattle.yaml_data.specs.declared.tree.Tree as code
 use Rattle.conf_record.specs.Kept.{entries_of}
 use Rattle.conf_record.specs.RecordsRead.{values, entries}
 use Rattle.conf_record.proofs.SizeLemmas.{value_size}

@@ -3,7 +3,7 @@ use Rattle.std.proofs.Common.{◌≡◌, refl, sym, ◌∙◌, ap, subst, ℕ, B
 use Rattle.yaml_grammar.specs.Trees.{Tree, text, sequence, mapping, Elements, Members}
 use Rattle.yaml_tree.specs.Kept.{own_limits}
 use Rattle.yaml_tree.specs.Reading.{IsRead}
-use Rattle.yaml_tree.specs.Seen.{Pair, members_of}
+use Rattle.yaml_data.specs.Seen.{Pair, members_of}
 use Rattle.conf_record.specs.Commands.{Command, command_of}
 use Rattle.conf_record.specs.Kept.{entries_of}
 use Rattle.conf_record.specs.Limits.{IsState}

@@ -4,7 +4,7 @@ use Rattle.std.specs.Str.{chars}
 use Rattle.std.specs.declared.alloc.Global.{Global}
 use Rattle.yaml_grammar.specs.Trees.{Tree, Members, text, mapping}
 use Rattle.yaml_tree.specs.Kept.{IsKept}
-use Rattle.yaml_tree.specs.Seen.{Pair, tree_of, members_of}
+use Rattle.yaml_data.specs.Seen.{Pair, tree_of, members_of}
 use Rattle.conf_record.specs.Commands.{Command, command_of}
 use Rattle.conf_record.specs.RecordsRead.{entries}
 use Rattle.conf_record.specs.States.{Contents}

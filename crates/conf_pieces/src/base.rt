@@ -3,7 +3,7 @@ ghost use Rattle.std.specs.Prelude.{◌≡◌, IfSome, codes};
 ghost use Rattle.std.specs.Str.{chars};
 ghost use Rattle.yaml_grammar.specs.Texts.{same_text};
 ghost use Rattle.yaml_tree.specs.Kept.{IsKept};
-ghost use Rattle.yaml_tree.specs.Seen.{tree_of, members_of};
+ghost use Rattle.yaml_data.specs.Seen.{tree_of, members_of};
 ghost use Rattle.yaml_grammar.specs.Trees.{mapping};
 ghost use Rattle.conf_record.specs.RecordsRead.{values, contents_of, base_of};
 ghost use Rattle.conf_pieces.specs.Reading.{AreKept, state_of_parts};

@@ -1,7 +1,7 @@
 // The command and the number of a record's tree.
 ghost use Rattle.std.specs.Prelude.{◌≡◌, IfOk};
 ghost use Rattle.yaml_tree.specs.Kept.{IsKept};
-ghost use Rattle.yaml_tree.specs.Seen.{tree_of, members_of};
+ghost use Rattle.yaml_data.specs.Seen.{tree_of, members_of};
 ghost use Rattle.conf_record.specs.RecordsRead.{values, import_of, set_of, delete_of, record_of};
 ghost use Rattle.conf_pieces.specs.Reading.{AreKept, command_and_number};
 

@@ -4,9 +4,9 @@ ghost use Rattle.std.specs.Str.{chars};
 ghost use Rattle.std.specs.Vec.Iter.{into_iter_items};
 ghost use Rattle.yaml_grammar.specs.Texts.{same_text};
 ghost use Rattle.yaml_grammar.specs.Trees.{text, mapping};
-ghost use Rattle.yaml_tree.specs.Seen.{tree_of, members_of};
-ghost use Rattle.yaml_tree.specs.TextBytes.{text_bytes};
-ghost use Rattle.tree_path.specs.Pointers.{path_of};
+ghost use Rattle.yaml_data.specs.Seen.{tree_of, members_of};
+ghost use Rattle.yaml_data.specs.TextBytes.{text_bytes};
+ghost use Rattle.json_pointer.specs.Pointers.{path_of};
 ghost use Rattle.conf_record.specs.RecordsRead.{number_from_digits, keys_are, values};
 ghost use Rattle.conf_pieces.specs.Reading.{texts, text_first, mapping_first};
 

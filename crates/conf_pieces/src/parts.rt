@@ -1,7 +1,7 @@
 // Parts of a configuration's tree as configurations.
 ghost use Rattle.std.specs.Prelude.{◌≡◌, IfOk};
 ghost use Rattle.yaml_tree.specs.Kept.{IsKept};
-ghost use Rattle.yaml_tree.specs.Seen.{tree_of, members_of};
+ghost use Rattle.yaml_data.specs.Seen.{tree_of, members_of};
 ghost use Rattle.conf_record.specs.Kept.{entries_of};
 ghost use Rattle.conf_record.specs.RecordsRead.{entries};
 ghost use Rattle.conf_pieces.specs.Reading.{AreKept, trees_of};

@@ -2,7 +2,7 @@
 ghost use Rattle.std.specs.Prelude.{◌≢◌, OnOk, IfOk, IfSome, IfNone};
 ghost use Rattle.yaml_tree.specs.Kept.{own_limits};
 ghost use Rattle.yaml_tree.specs.Reading.{IsRead, GivesNone};
-ghost use Rattle.yaml_tree.specs.Seen.{tree_of};
+ghost use Rattle.yaml_data.specs.Seen.{tree_of};
 ghost use Rattle.conf_record.specs.Commands.{command_of};
 ghost use Rattle.conf_pieces.specs.Documents.{IsRecord, IsBase, IsNoRecord, IsNoBase};
 

@@ -9,7 +9,7 @@ use Rattle.yaml_chars.specs.Classes.{in_range, is_in}
 use Rattle.yaml_grammar.specs.Texts.{byte_len, spaces}
 use Rattle.yaml_grammar.specs.Trees.{Tree, mapping}
 use Rattle.yaml_grammar.specs.Style.{letter, plain_in_style, literal_in_style, quoted_char, quoted_chars, in_double_quotes, scalar_lines, literal_mark, literal_lines, feeds_at_end, key_lines, value_at, members_after, style_text}
-use Rattle.yaml_tree.specs.BudgetLaws.{byte_len-append}
+use Rattle.yaml_writer.specs.BudgetLaws.{byte_len-append}
 use Rattle.conf_record.specs.States.{Entry, Contents, base_limit, count_limit}
 use Rattle.conf_record.specs.BaseTexts.{members, base_tree, base_text, base_length, entry_lines, entry_length, entries_length, framed_length}
 

@@ -8,19 +8,19 @@ use Rattle.yaml_grammar.specs.Texts.{byte_len, spaces, same_text}
 use Rattle.yaml_grammar.specs.Trees as grammar
 use Rattle.yaml_grammar.specs.Trees.{depth}
 use Rattle.yaml_grammar.specs.Style.{style_text, key_lines, value_at}
-use Rattle.yaml_tree.specs.BudgetLaws.{byte_len-append}
-use Rattle.yaml_tree.specs.Seen.{tree_of}
-use Rattle.yaml_tree.specs.Sizes.{length_at}
-use Rattle.yaml_tree.specs.declared.tree.Tree.{Tree}
-use Rattle.yaml_tree.proofs.SizeLaws.{value_law}
-use Rattle.yaml_tree.proofs.SizeBounds.{value_bound, value_small}
-use Rattle.tree_path.specs.Changes.{Changes}
-use Rattle.tree_path.specs.Pointers.{path_of, pointer_text, slash, first_stray, tokens_or_place}
-use Rattle.tree_path.specs.declared.fault.PathFault.TheVariants as path_faults
+use Rattle.yaml_writer.specs.BudgetLaws.{byte_len-append}
+use Rattle.yaml_data.specs.Seen.{tree_of}
+use Rattle.yaml_writer.specs.Sizes.{length_at}
+use Rattle.yaml_data.specs.declared.tree.Tree.{Tree}
+use Rattle.yaml_writer.proofs.SizeLaws.{value_law}
+use Rattle.yaml_writer.proofs.SizeBounds.{value_bound, value_small}
+use Rattle.edit_lengths.specs.Changes.{Changes}
+use Rattle.json_pointer.specs.Pointers.{path_of, pointer_text, slash, first_stray, tokens_or_place}
+use Rattle.json_pointer.specs.declared.fault.PathFault.TheVariants as path_faults
 use Rattle.std.proofs.lemmas.Str.{chars-nil, encodes-chars}
 use lib.Utf8.{encodes}
-use Rattle.tree_path.specs.declared.change.Change.{Change}
-use Rattle.tree_path.specs.declared.fault.PathFault.{PathFault}
+use Rattle.edit_lengths.specs.declared.change.Change.{Change}
+use Rattle.json_pointer.specs.declared.fault.PathFault.{PathFault}
 use Rattle.conf_record.specs.BaseTexts.{entry_length, entries_length}
 use Rattle.conf_record.specs.Edits.{tree_after_edit, configs_with_edit, configs_after_edit}
 use Rattle.conf_record.specs.Kept.{entries_of, ArePlain}

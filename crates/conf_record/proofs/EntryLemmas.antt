@@ -10,9 +10,9 @@ use Rattle.std.specs.Str.{chars}
 use Rattle.indexmap.specs.IndexMap.{insert_entry, shift_remove_entry, set_value_at}
 use Rattle.yaml_grammar.specs.Texts.{same_text}
 use Rattle.yaml_grammar.specs.Trees as grammar
-use Rattle.yaml_tree.specs.Seen.{tree_of}
-use Rattle.yaml_tree.specs.declared.tree.Tree.{Tree}
-use Rattle.yaml_tree.proofs.CharacterLemmas.{same_text-Decides}
+use Rattle.yaml_data.specs.Seen.{tree_of}
+use Rattle.yaml_data.specs.declared.tree.Tree.{Tree}
+use Rattle.yaml_data.proofs.CharacterLemmas.{same_text-Decides}
 use Rattle.conf_record.specs.States.{Entry, config_named, put_config, cut_config}
 use Rattle.conf_record.specs.Kept.{entries_of, ArePlain}
 

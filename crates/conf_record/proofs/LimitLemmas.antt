@@ -4,7 +4,7 @@ use Rattle.std.proofs.lemmas.Bool.{and_parts, false_from_ne_true}
 use Rattle.yaml_grammar.specs.Texts.{same_text}
 use Rattle.yaml_grammar.specs.Trees.{Tree}
 use Rattle.yaml_grammar.specs.Reads.{Good}
-use Rattle.yaml_tree.proofs.CharacterLemmas.{same_text-true, same_text-self}
+use Rattle.yaml_data.proofs.CharacterLemmas.{same_text-true, same_text-self}
 use Rattle.conf_record.specs.Names.{good_name}
 use Rattle.conf_record.specs.States.{Entry, names_of, config_named, put_config, cut_config, has_name, names_differ}
 use Rattle.yaml_tree.specs.Limits.{config_limits}

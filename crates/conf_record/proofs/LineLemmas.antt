@@ -7,7 +7,7 @@ use Rattle.std.specs.Str.Parse.{AllDigits}
 use Rattle.std.specs.List.{list_all}
 use Rattle.yaml_grammar.specs.Trees.{Tree, text, no_member, member}
 use Rattle.yaml_grammar.specs.Style.{key_lines, value_at, members_after}
-use Rattle.yaml_tree.proofs.CharacterLemmas.{every-IsAscii}
+use Rattle.yaml_data.proofs.CharacterLemmas.{every-IsAscii}
 use Rattle.conf_record.proofs.BaseLemmas.{count_line}
 
 -- ASCII, by a test that computes

@@ -5,7 +5,7 @@ use Rattle.std.proofs.lemmas.Bool.Decides.{nat_tests}
 use Rattle.std.specs.Str.{chars}
 use Rattle.std.specs.List.{list_all}
 use Rattle.yaml_grammar.specs.Texts.{first}
-use Rattle.yaml_tree.proofs.CharacterLemmas.{every-IsAscii, chars-same}
+use Rattle.yaml_data.proofs.CharacterLemmas.{every-IsAscii, chars-same}
 use Rattle.conf_record.specs.Names.{small_letter, name_char, good_name}
 
 -- a character of a name is ASCII

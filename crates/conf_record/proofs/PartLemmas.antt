@@ -6,8 +6,8 @@ use Rattle.yaml_grammar.specs.Reads.{Good}
 use Rattle.yaml_grammar.specs.Texts.{byte_len, same_text}
 use Rattle.yaml_grammar.specs.Trees.{depth}
 use Rattle.yaml_grammar.specs.Style.{style_text}
-use Rattle.yaml_tree.specs.declared.tree.Tree.{Tree}
-use Rattle.yaml_tree.proofs.CharacterLemmas.{same_text-true, same_text-self}
+use Rattle.yaml_data.specs.declared.tree.Tree.{Tree}
+use Rattle.yaml_data.proofs.CharacterLemmas.{same_text-true, same_text-self}
 use Rattle.conf_record.specs.Names.{good_name}
 use Rattle.conf_record.specs.States.{Entry, Contents, base_limit, names_of, config_named, put_config, has_name, names_differ}
 use Rattle.yaml_tree.specs.Limits.{config_limits}

@@ -8,12 +8,12 @@ use Rattle.std.specs.List.{list_all}
 use Rattle.yaml_grammar.specs.Texts.{byte_len, is_empty, same_text}
 use Rattle.yaml_grammar.specs.Trees.{Tree, text, sequence, mapping, Elements, no_element, element, Members, no_member, member, depth, elements_depth, members_depth}
 use Rattle.yaml_grammar.specs.Style.{elements_after, element_at, members_after, key_lines, value_at}
-use Rattle.yaml_tree.specs.BudgetLaws.{byte_len-append}
-use Rattle.yaml_tree.proofs.CharacterLemmas.{same_text-true}
+use Rattle.yaml_writer.specs.BudgetLaws.{byte_len-append}
+use Rattle.yaml_data.proofs.CharacterLemmas.{same_text-true}
 use Rattle.tree_path.specs.Paths.{digit, is_number, number_after, Index, number, after_last, no_index, index_of, at_index, present, element_at as child_at, put_element, cut_element, push_element, value_of, put_member, cut_member, child, put, cut, refusal, at_step, and_then, edit_from, set, delete}
 use Rattle.tree_path.specs.declared.place.Miss.{Miss}
 use Rattle.tree_path.specs.declared.place.Miss.TheVariants.{Absent}
-use Rattle.tree_path.specs.declared.fault.PathFault.{PathFault}
+use Rattle.json_pointer.specs.declared.fault.PathFault.{PathFault}
 use Rattle.tree_path.proofs.StepLaws.{option_map-Some, present-Ok, element_at-put_element, value_of-put_member}
 use Rattle.conf_record.proofs.SizeLemmas.{size, key_line_least, element_least, value_size}
 

@@ -5,8 +5,8 @@ use Rattle.std.proofs.lemmas.Str.{len_utf8_bounds}
 use Rattle.std.specs.Char.{len_utf8}
 use Rattle.yaml_chars.specs.Signs.{tilde}
 use Rattle.yaml_grammar.specs.Texts.{byte_len}
-use Rattle.tree_path.specs.Pointers.{slash, stray, first_stray, first_piece, pieces, token_from_text, tokens_or_place, path_of}
-use Rattle.tree_path.specs.declared.fault.PathFault.TheVariants.{BadPath}
+use Rattle.json_pointer.specs.Pointers.{slash, stray, first_stray, first_piece, pieces, token_from_text, tokens_or_place, path_of}
+use Rattle.json_pointer.specs.declared.fault.PathFault.TheVariants.{BadPath}
 use Rattle.conf_record.proofs.PathLemmas.{tokens_size}
 
 -- what comes before the first `/`, and the tokens after it

@@ -13,10 +13,10 @@ use Rattle.yaml_grammar.specs.Trees.{Tree, text, Members, no_member, member, mem
 use Rattle.yaml_grammar.specs.Reads.{Good}
 use Rattle.yaml_grammar.specs.Style.{scalar_lines, key_lines, value_at, members_after, style_text}
 use Rattle.yaml_laws.specs.Closed.{framed_text}
-use Rattle.yaml_tree.specs.BudgetLaws.{byte_len-append}
+use Rattle.yaml_writer.specs.BudgetLaws.{byte_len-append}
 use Rattle.yaml_tree.specs.Kept.{own_limits}
 use Rattle.yaml_tree.specs.Limits.{config_limits}
-use Rattle.yaml_tree.proofs.CharacterLemmas.{same_text-self}
+use Rattle.yaml_data.proofs.CharacterLemmas.{same_text-self}
 use Rattle.conf_record.specs.Names.{small_letter, name_char, good_name}
 use Rattle.conf_record.specs.Commands.{Command, import_as, set_at, delete_at}
 use Rattle.conf_record.specs.States.{Entry, Contents, base_limit, count_limit, names_of, has_name, names_differ}

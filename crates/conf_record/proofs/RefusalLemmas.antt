@@ -4,8 +4,8 @@ use Rattle.yaml_grammar.specs.Texts.{byte_len}
 use Rattle.yaml_grammar.specs.Style.{style_text}
 use Rattle.yaml_grammar.specs.Trees.{Tree, depth}
 use Rattle.tree_path.specs.Paths.{set, delete}
-use Rattle.tree_path.specs.Pointers.{path_of}
-use Rattle.tree_path.specs.declared.fault.PathFault.{PathFault}
+use Rattle.json_pointer.specs.Pointers.{path_of}
+use Rattle.json_pointer.specs.declared.fault.PathFault.{PathFault}
 use Rattle.conf_record.specs.BaseTexts.{base_length}
 use Rattle.conf_record.specs.Commands.{Command, import_as, set_at, delete_at, name_of}
 use Rattle.conf_record.specs.Names.{good_name}

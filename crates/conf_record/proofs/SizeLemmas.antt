@@ -7,8 +7,8 @@ use Rattle.yaml_chars.specs.Classes.{in_range}
 use Rattle.yaml_grammar.specs.Texts.{byte_len, spaces}
 use Rattle.yaml_grammar.specs.Trees.{Tree, text, sequence, mapping, Elements, no_element, element, Members, no_member, member}
 use Rattle.yaml_grammar.specs.Style.{shown, plain_in_style, literal_in_style, hex, letter_escape, quoted_char, quoted_chars, in_double_quotes, literal_mark, literal_lines, feeds_at_end, scalar_lines, key_text, long_key, key_lines, elements_at, elements_after, element_at, members_at, members_after, value_at, style_text}
-use Rattle.yaml_tree.specs.BudgetLaws.{byte_len-append}
-use Rattle.yaml_tree.proofs.ByteLemmas.{byte_len-spaces}
+use Rattle.yaml_writer.specs.BudgetLaws.{byte_len-append}
+use Rattle.yaml_writer.proofs.ByteLemmas.{byte_len-spaces}
 
 -- how many bytes a tree has
 abbrev pub size : Tree → ℕ

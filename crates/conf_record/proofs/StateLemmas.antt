@@ -7,8 +7,8 @@ use Rattle.std.specs.List.{position}
 use Rattle.std.specs.Map.{keys_of}
 use Rattle.yaml_grammar.specs.Reads.{Good}
 use Rattle.yaml_grammar.specs.Trees as grammar
-use Rattle.yaml_tree.specs.Seen.{tree_of}
-use Rattle.yaml_tree.specs.declared.tree.Tree.{Tree}
+use Rattle.yaml_data.specs.Seen.{tree_of}
+use Rattle.yaml_data.specs.declared.tree.Tree.{Tree}
 use Rattle.conf_record.specs.Names.{good_name}
 use Rattle.conf_record.specs.Kept.{entries_of, ArePlain, IsKept}
 use Rattle.conf_record.specs.Limits.{IsState}

@@ -3,7 +3,7 @@ use Rattle.std.specs.Prelude.{ℕ, List, String, string_bytes}
 use Rattle.std.specs.Str.{chars}
 use Rattle.std.specs.declared.alloc.Global.{Global}
 use Rattle.yaml_grammar.specs.Trees.{Tree}
-use Rattle.yaml_tree.specs.Seen.{tree_of}
+use Rattle.yaml_data.specs.Seen.{tree_of}
 use Rattle.conf_record.specs.declared.command.Command as code
 use Rattle.conf_record.specs.declared.command.Command.TheVariants.{Import, Set, Delete}
 

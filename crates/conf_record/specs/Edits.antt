@@ -3,10 +3,10 @@ use Rattle.std.specs.Prelude.{◌≡◌, ℕ, ◌≤◌, List, Result, Ok}
 use Rattle.yaml_grammar.specs.Texts.{byte_len}
 use Rattle.yaml_grammar.specs.Trees.{Tree, depth}
 use Rattle.yaml_grammar.specs.Style.{style_text}
-use Rattle.yaml_tree.specs.Seen.{tree_of}
+use Rattle.yaml_data.specs.Seen.{tree_of}
 use Rattle.tree_path.specs.Paths.{set, delete, last_key}
-use Rattle.tree_path.specs.Pointers.{path_of}
-use Rattle.tree_path.specs.declared.fault.PathFault.{PathFault}
+use Rattle.json_pointer.specs.Pointers.{path_of}
+use Rattle.json_pointer.specs.declared.fault.PathFault.{PathFault}
 use Rattle.conf_record.specs.States.{Entry, config_named, put_config}
 use Rattle.yaml_tree.specs.Limits.{config_limits}
 use Rattle.conf_record.specs.BaseTexts.{entries_length}

@@ -3,8 +3,8 @@ use Rattle.std.specs.Prelude.{◌≡◌, ◌⊎◌, ℕ, min, true, false, List,
 use Rattle.std.specs.declared.alloc.Global.{Global}
 use Rattle.yaml_grammar.specs.Reads.{Good}
 use Rattle.yaml_grammar.specs.Trees as grammar
-use Rattle.yaml_tree.specs.Seen.{tree_of}
-use Rattle.yaml_tree.specs.declared.tree.Tree.{Tree}
+use Rattle.yaml_data.specs.Seen.{tree_of}
+use Rattle.yaml_data.specs.declared.tree.Tree.{Tree}
 use Rattle.conf_record.specs.Commands.{text_of}
 use Rattle.conf_record.specs.Names.{good_name}
 use Rattle.conf_record.specs.States.{Entry, config_named, put_config}

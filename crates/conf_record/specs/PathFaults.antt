@@ -1,6 +1,6 @@
 -- Which refusal of a store the fault of a path is.
-use Rattle.tree_path.specs.declared.fault.PathFault as path
-use Rattle.tree_path.specs.declared.fault.PathFault.TheVariants as path_faults
+use Rattle.json_pointer.specs.declared.fault.PathFault as path
+use Rattle.json_pointer.specs.declared.fault.PathFault.TheVariants as path_faults
 use Rattle.conf_record.specs.declared.fault.StoreFault.{StoreFault}
 use Rattle.conf_record.specs.declared.fault.StoreFault.TheVariants.{Path, OutOfMemory}
 

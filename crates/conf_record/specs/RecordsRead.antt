@@ -6,7 +6,7 @@ use Rattle.yaml_grammar.specs.Texts.{IsText, same_text}
 use Rattle.yaml_grammar.specs.Trees.{Tree, text, sequence, mapping, Members, no_member, member}
 use Rattle.yaml_grammar.specs.Reads.{Gives}
 use Rattle.yaml_tree.specs.Kept.{IsKept, own_limits}
-use Rattle.tree_path.specs.Pointers.{path_of}
+use Rattle.json_pointer.specs.Pointers.{path_of}
 use Rattle.conf_record.specs.Names.{good_name}
 use Rattle.conf_record.specs.Commands.{Command, import_as, set_at, delete_at, name_of}
 use Rattle.conf_record.specs.States.{Entry, Contents, count_limit}

@@ -1,7 +1,7 @@
 // Lengths of base texts, counted and not written.
 ghost use Rattle.std.specs.Prelude.{◌≡◌, min, OnOk};
 ghost use Rattle.std.specs.Str.{chars};
-ghost use Rattle.yaml_tree.specs.Seen.{tree_of};
+ghost use Rattle.yaml_data.specs.Seen.{tree_of};
 ghost use Rattle.conf_record.specs.BaseTexts.{entry_lines, entry_length, framed_length};
 
 use itoa::Buffer;

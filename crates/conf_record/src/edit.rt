@@ -4,17 +4,18 @@ ghost use Rattle.yaml_grammar.specs.Reads.{Good};
 ghost use Rattle.yaml_grammar.specs.Texts.{byte_len};
 ghost use Rattle.yaml_grammar.specs.Trees.{Tree as Meant, depth, distinct};
 ghost use Rattle.yaml_grammar.specs.Style.{style_text};
-ghost use Rattle.yaml_tree.specs.Seen.{tree_of};
-ghost use Rattle.tree_path.specs.Changes.{Changes};
+ghost use Rattle.yaml_data.specs.Seen.{tree_of};
+ghost use Rattle.edit_lengths.specs.Changes.{Changes};
 ghost use Rattle.tree_path.specs.Paths.{last_key};
 ghost use Rattle.conf_record.specs.Edits.{tree_after_edit};
 ghost use Rattle.yaml_tree.specs.Limits.{config_limits};
 ghost use Rattle.conf_record.specs.Steps.{by_path};
 
 use crate::StoreFault;
+use edit_lengths::{Plan, plan_delete, plan_set};
 use std::alloc::Global;
 use std::mem;
-use tree_path::{Path, PathFault, Plan, delete_planned, plan_delete, plan_set, set_planned};
+use tree_path::{Path, PathFault, delete_planned, set_planned};
 use yaml_tree::{Config, Limits, Tree};
 
 /// The greatest depth of a configuration.

@@ -3,7 +3,7 @@ ghost use Rattle.std.specs.Prelude.{◌≡◌, ◌≢◌, ◌+◌, ◌<◌, ◌�
 ghost use Rattle.std.specs.Str.{chars};
 ghost use Rattle.std.specs.Iterator.{YieldsFirstBy, item_count};
 ghost use Rattle.yaml_grammar.specs.Reads.{Good};
-ghost use Rattle.yaml_tree.specs.Seen.{tree_of};
+ghost use Rattle.yaml_data.specs.Seen.{tree_of};
 ghost use Rattle.conf_record.specs.Commands.{text_of};
 ghost use Rattle.conf_record.specs.Names.{good_name};
 ghost use Rattle.conf_record.specs.Kept.{entries_of, ArePlain, Appended, IsUnfit};

@@ -12,14 +12,14 @@ use Rattle.yaml_grammar.specs.Style.{plain_in_style, literal_in_style, literal_m
 use Rattle.yaml_laws.specs.Closed.{framed_text_bytes, framed_text}
 use Rattle.yaml_docs.specs.declared.fault.ReadFault.{ReadFault}
 use Rattle.yaml_docs.specs.declared.fault.ReadFault.TheVariants as read
-use Rattle.yaml_tree.specs.BudgetLaws.{byte_len-append}
+use Rattle.yaml_writer.specs.BudgetLaws.{byte_len-append}
 use Rattle.yaml_tree.specs.Limits.{config_limits}
-use Rattle.tree_path.specs.declared.fault.PathFault.{PathFault}
-use Rattle.tree_path.specs.declared.fault.PathFault.TheVariants as path
+use Rattle.json_pointer.specs.declared.fault.PathFault.{PathFault}
+use Rattle.json_pointer.specs.declared.fault.PathFault.TheVariants as path
 use Rattle.tree_path.specs.declared.place.Miss.{Miss}
 use Rattle.tree_path.specs.Paths.{at, at_from, at_step, child, refusal as step_refusal}
-use Rattle.tree_path.specs.Pointers.{path_of}
-use Rattle.tree_path.proofs.Located.{child-within}
+use Rattle.json_pointer.specs.Pointers.{path_of}
+use Rattle.edit_lengths.proofs.Located.{child-within}
 use Rattle.conf_record.specs.Commands.{Command, name_of}
 use Rattle.conf_record.specs.Names.{small_letter, name_char, good_name}
 use Rattle.conf_record.specs.States.{Entry, Contents, names_of, config_named, base_limit, count_limit}
@@ -31,7 +31,7 @@ use Rattle.conf_record.specs.declared.fault.StoreFault.TheVariants as store
 use Rattle.conf_record.proofs.BaseLemmas.{count_bytes, base_length-framed}
 use Rattle.conf_record.proofs.RunLaws.{and_then-Ok, step-one}
 use Rattle.conf_record.proofs.SizeLemmas.{size, scalar_most, value_size}
-use Rattle.yaml_tree.proofs.ByteLemmas.{byte_len-encoded}
+use Rattle.yaml_writer.proofs.ByteLemmas.{byte_len-encoded}
 use Rattle.conf_store.specs.Calls.{outcome, has_room, tree_named}
 use Rattle.conf_session.specs.Requests.{Request, changing, unread, getting, exporting, naming, checkpointing, bad}
 use Rattle.conf_session.specs.Answers.{Stored, one, text_elements, read_word, path_word, word, refusal, answer_or_refusal, value_at_path, unread_fault, change_answer, answer, answer_limit}

@@ -6,8 +6,8 @@ use Rattle.yaml_grammar.specs.Trees.{Tree, text, sequence}
 use Rattle.yaml_grammar.specs.Style.{style_text}
 use Rattle.yaml_laws.specs.Closed.{framed_text_bytes}
 use Rattle.tree_path.specs.Paths.{at}
-use Rattle.tree_path.specs.Pointers.{path_of}
-use Rattle.tree_path.specs.declared.fault.PathFault.{PathFault}
+use Rattle.json_pointer.specs.Pointers.{path_of}
+use Rattle.json_pointer.specs.declared.fault.PathFault.{PathFault}
 use Rattle.conf_record.specs.Limits.{IsState}
 use Rattle.conf_record.specs.States.{names_of}
 use Rattle.conf_record.specs.Steps.{and_then, by_path}

@@ -6,10 +6,10 @@ use Rattle.yaml_grammar.specs.Style.{style_text}
 use Rattle.yaml_laws.specs.Closed.{framed_text_bytes}
 use Rattle.yaml_docs.specs.declared.fault.ReadFault.{ReadFault}
 use Rattle.yaml_docs.specs.declared.fault.ReadFault.TheVariants as read
-use Rattle.tree_path.specs.declared.fault.PathFault.{PathFault}
-use Rattle.tree_path.specs.declared.fault.PathFault.TheVariants as path
+use Rattle.json_pointer.specs.declared.fault.PathFault.{PathFault}
+use Rattle.json_pointer.specs.declared.fault.PathFault.TheVariants as path
 use Rattle.tree_path.specs.Paths.{at}
-use Rattle.tree_path.specs.Pointers.{path_of}
+use Rattle.json_pointer.specs.Pointers.{path_of}
 use Rattle.conf_journal.specs.Store.{file_with_bytes}
 use Rattle.conf_record.specs.Commands.{Command}
 use Rattle.conf_record.specs.Names.{good_name}

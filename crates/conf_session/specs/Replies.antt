@@ -6,7 +6,7 @@ use Rattle.conf_disk.specs.Image.{Image}
 use Rattle.conf_disk.specs.Moments.{LeavesOnly}
 use Rattle.conf_disk.specs.declared.disk.Name.TheVariants.{Store}
 use Rattle.std.specs.Str.{chars}
-use Rattle.yaml_tree.specs.TextBytes.{text_bytes}
+use Rattle.yaml_data.specs.TextBytes.{text_bytes}
 use Rattle.conf_record.specs.Commands.{command_of}
 use Rattle.conf_store.specs.Durable.{AfterPrefix}
 use Rattle.conf_store.specs.View.{StoreView}

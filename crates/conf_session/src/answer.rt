@@ -3,7 +3,7 @@ ghost use Rattle.std.specs.Prelude.{◌≡◌, ◌≤◌, IfOk, OnOk, string_byt
 ghost use Rattle.std.specs.Str.{chars};
 ghost use Rattle.yaml_grammar.specs.Trees.{depth, text};
 ghost use Rattle.yaml_laws.specs.Closed.{framed_text_bytes, framed_text};
-ghost use Rattle.yaml_tree.specs.Seen.{tree_of};
+ghost use Rattle.yaml_data.specs.Seen.{tree_of};
 ghost use Rattle.conf_session.specs.Requests.{getting, exporting, naming};
 ghost use Rattle.conf_session.specs.Answers.{one};
 ghost use Rattle.conf_session.specs.Runs.{stored_of};

@@ -1,7 +1,7 @@
 // What is answered to one piece, and what is done for it.
 ghost use Rattle.std.specs.Prelude.{◌≡◌, ◌≤◌, IsErrOf, false};
 ghost use Rattle.std.specs.Str.{chars};
-ghost use Rattle.yaml_tree.specs.TextBytes.{text_bytes};
+ghost use Rattle.yaml_data.specs.TextBytes.{text_bytes};
 ghost use Rattle.conf_record.specs.Commands.{command_of};
 ghost use Rattle.conf_store.specs.Calls.{HasFailed};
 ghost use Rattle.conf_store.specs.Durable.{AllImagesMean};

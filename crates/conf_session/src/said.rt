@@ -1,7 +1,7 @@
 // Reading command documents.
 ghost use Rattle.std.specs.Prelude.{◌≡◌, IfOk};
 ghost use Rattle.yaml_tree.specs.Kept.{IsKept};
-ghost use Rattle.yaml_tree.specs.Seen.{tree_of, members_of};
+ghost use Rattle.yaml_data.specs.Seen.{tree_of, members_of};
 ghost use Rattle.conf_record.specs.RecordsRead.{values};
 ghost use Rattle.conf_pieces.specs.Reading.{AreKept};
 ghost use Rattle.conf_session.specs.Requests.{Says, said_by, import_said, set_said, delete_said, get_said};

@@ -7,8 +7,8 @@ use Rattle.std.proofs.lemmas.Str.Parse.{numerals_by_value, digits_value_short, t
 use Rattle.std.specs.Str.Parse.{AllDigits}
 use Rattle.yaml_grammar.specs.Texts.{byte_len}
 use Rattle.yaml_grammar.specs.Style.{members_after, scalar_lines, style_text}
-use Rattle.yaml_tree.specs.BudgetLaws.{byte_len-append}
-use Rattle.yaml_tree.proofs.ByteLemmas.{byte_len-encoded}
+use Rattle.yaml_writer.specs.BudgetLaws.{byte_len-append}
+use Rattle.yaml_writer.proofs.ByteLemmas.{byte_len-encoded}
 use Rattle.conf_record.specs.Commands.{Command}
 use Rattle.conf_record.specs.Records.{command_members, record_tree, record_text, record_bytes}
 use Rattle.conf_record.specs.States.{Contents, count_limit}

@@ -1,7 +1,7 @@
 // An open store.
 ghost use Rattle.std.specs.Prelude.{◌≡◌, ◌≢◌, ◌≤◌, ◌⊎◌, ◌↔◌, ◌+◌, ℕ, true, false, List, length, OnOk, IfOk, IfErr, IsErrOf, Ok, Err, Some, string_bytes};
 ghost use Rattle.std.specs.Str.{chars};
-ghost use Rattle.yaml_tree.specs.Seen.{tree_of};
+ghost use Rattle.yaml_data.specs.Seen.{tree_of};
 ghost use Rattle.conf_disk.specs.Folder.{bytes_under};
 ghost use Rattle.conf_disk.specs.Moments.{LeavesOnly};
 ghost use Rattle.conf_journal.specs.Store.{file_with_bytes};

@@ -1,3 +1,1 @@
-pub mod Formatting
-pub mod ReportLemmas
 pub mod StoreLemmas

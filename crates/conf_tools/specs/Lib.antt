@@ -1,3 +1,2 @@
 pub mod Stores
-pub mod Tools
 pub mod Statuses

@@ -9,13 +9,13 @@ use Rattle.conf_session.specs.declared.fault.SessionFault.{SessionFault}
 use Rattle.conf_session.specs.declared.session.Tally.{Tally}
 use Rattle.conf_session.specs.declared.fault.SessionFault.TheVariants as SessionFaults
 use Rattle.conf_tools.specs.Stores.{Answers}
-use Rattle.conf_tools.specs.Tools.{Checks, Formats}
+use Rattle.text_tools.specs.Tools.{Checks, Formats}
 use Rattle.conf_tools.specs.declared.stores.StoreToolFault.{StoreToolFault}
 use Rattle.conf_tools.specs.declared.stores.StoreToolFault.TheVariants.{Folder as InFolder, Open, Session, Export, Output as StoreOutput}
 use Rattle.conf_tools.specs.declared.program.Status.{Status}
 use Rattle.conf_tools.specs.declared.program.Status.TheVariants.{Done, Found, Refused, WrongWords, Device}
-use Rattle.conf_tools.specs.declared.tools.ToolFault.{ToolFault}
-use Rattle.conf_tools.specs.declared.tools.ToolFault.TheVariants.{Input, Output, Read}
+use Rattle.text_tools.specs.declared.tools.ToolFault.{ToolFault}
+use Rattle.text_tools.specs.declared.tools.ToolFault.TheVariants.{Input, Output, Read}
 
 -- the number of a status
 abbrev pub code_of : Status → ℕ

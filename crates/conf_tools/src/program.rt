@@ -4,7 +4,6 @@ ghost use Rattle.std.specs.Io.KnownBytes.{Keeps};
 ghost use Rattle.conf_tools.specs.Statuses.{Performs, code_of, status_of, status_of_store};
 
 use crate::stores::{StoreToolFault, export_store, run_store};
-use crate::tools::{ToolFault, check_text, format_text};
 use clap::{Arg, ArgMatches, Command};
 use conf_folder::{FolderDisk, FolderFault};
 use conf_record::StoreFault;
@@ -15,6 +14,7 @@ use std::fs::File;
 use std::io;
 use std::io::{ErrorKind, Read, Write};
 use std::rt::Files;
+use text_tools::{ToolFault, check_text, format_text};
 
 /// What the program ends with.
 #[derive(Clone, Copy, Debug, PartialEq, Eq)]

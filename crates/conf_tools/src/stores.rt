@@ -6,7 +6,6 @@ ghost use Rattle.conf_disk.specs.Folder.{bytes_under};
 ghost use Rattle.conf_store.specs.Meaning.{FileMeans};
 ghost use Rattle.conf_tools.specs.Stores.{RunsOn, ExportsFrom};
 
-use crate::tools::write_whole;
 use conf_disk::{Disk, Name};
 use conf_folder::FolderFault;
 use conf_record::StoreFault;
@@ -14,6 +13,7 @@ use conf_session::{SessionFault, Tally, run};
 use conf_store::{OpenFault, Store};
 use std::alloc::Global;
 use std::io::{Read, Write};
+use text_tools::write_whole;
 use thiserror::Error;
 
 /// Why a tool on a store ended early. The message is the innermost fault's own name.

@@ -1,7 +1,8 @@
 // Places of trees, edits and their lengths.
 use crate::texts::config_of;
+use edit_lengths::{delete_len, set_len};
 use std::alloc::{AllocError, Global};
-use tree_path::{Path, PathFault, at, delete, delete_len, set, set_len};
+use tree_path::{Path, PathFault, at, delete, set};
 use yaml_tree::Tree;
 
 /// What is at a path of a tree.

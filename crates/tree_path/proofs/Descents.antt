@@ -7,8 +7,9 @@ use Rattle.std.specs.Str.{chars}
 use Rattle.std.proofs.lemmas.List.{take_more, at_drop_more, take-append-drop, length-map, length-take-le}
 use Rattle.yaml_grammar.specs.Trees.{Tree}
 use Rattle.tree_path.specs.Paths.{child, put, refusal, at_step, and_then, at_from, edit_from, key_in, last_key, in_child}
-use Rattle.tree_path.specs.Steps.{texts, Lowered, Rebuilt}
-use Rattle.tree_path.specs.declared.fault.PathFault.{PathFault}
+use Rattle.tree_path.specs.Steps.{Lowered, Rebuilt}
+use Rattle.json_pointer.specs.Tokens.{texts}
+use Rattle.json_pointer.specs.declared.fault.PathFault.{PathFault}
 use Rattle.tree_path.specs.declared.place.Miss.{Miss}
 use Rattle.tree_path.proofs.StepLaws.{child-put, put-put, put-child}
 

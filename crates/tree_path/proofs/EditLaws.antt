@@ -4,7 +4,7 @@ use Rattle.std.proofs.lemmas.Bool.Decides.{nat_tests}
 use Rattle.yaml_grammar.specs.Texts.{same_text}
 use Rattle.yaml_grammar.specs.Trees.{Tree, text, sequence, mapping, Elements, no_element, element, Members, no_member, member, distinct, elements_distinct, members_distinct, has_key}
 use Rattle.tree_path.specs.Paths.{Index, number, after_last, no_index, index_of, at_index, present, element_at, put_element, cut_element, push_element, value_of, put_member, cut_member, child, put, cut, at_step, and_then, at_from, at, edit_from, set, delete}
-use Rattle.tree_path.specs.declared.fault.PathFault.{PathFault}
+use Rattle.json_pointer.specs.declared.fault.PathFault.{PathFault}
 use Rattle.tree_path.specs.declared.place.Miss.{Miss}
 use Rattle.tree_path.specs.declared.place.Miss.TheVariants.{Absent}
 use Rattle.tree_path.proofs.StepLaws.{option_map-Some, present-Ok, element_at-put_element, value_of-put_member, child-put}

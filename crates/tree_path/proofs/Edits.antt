@@ -4,7 +4,7 @@ use Rattle.std.specs.Result.{OnOk}
 use Rattle.yaml_grammar.specs.Trees.{Tree}
 use Rattle.tree_path.specs.Paths.{child, put, cut, refusal, at_step, at, set, delete}
 use Rattle.tree_path.specs.Steps.{Lowered, Rebuilt}
-use Rattle.tree_path.specs.declared.fault.PathFault.{PathFault}
+use Rattle.json_pointer.specs.declared.fault.PathFault.{PathFault}
 use Rattle.tree_path.specs.declared.place.Miss.{Miss}
 use Rattle.tree_path.proofs.Descents.{edit_path, edit_path-Rebuilt, edit_path-missed, edit_path-refused, at_from-append, at_from-Lowered}
 

@@ -1,12 +1,7 @@
-pub mod ChangeLaws
 pub mod Descents
 pub mod EditLaws
 pub mod Edits
-pub mod Located
-pub mod Measured
 pub mod Numbers
 pub mod Places
-pub mod Planned
-pub mod Pointers
 pub mod StepLaws
 pub mod Steps

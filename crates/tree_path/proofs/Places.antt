@@ -10,10 +10,10 @@ use lib.Utf8.{encodes}
 use Rattle.yaml_grammar.specs.Texts.{same_text}
 use Rattle.yaml_grammar.specs.Trees as grammar
 use Rattle.yaml_grammar.specs.Trees.{element, member}
-use Rattle.yaml_tree.specs.Seen.{Pair, tree_of, elements_of, members_of}
-use Rattle.yaml_tree.specs.TextBytes.{text_bytes}
-use Rattle.yaml_tree.specs.declared.text.Text.{Text}
-use Rattle.yaml_tree.specs.declared.tree.Tree.{Tree}
+use Rattle.yaml_data.specs.Seen.{Pair, tree_of, elements_of, members_of}
+use Rattle.yaml_data.specs.TextBytes.{text_bytes}
+use Rattle.yaml_data.specs.declared.text.Text.{Text}
+use Rattle.yaml_data.specs.declared.tree.Tree.{Tree}
 use Rattle.tree_path.specs.Paths.{element_at, put_element, cut_element, push_element, value_of, put_member, cut_member, place_of}
 use Rattle.tree_path.specs.Steps.{key_place}
 use Rattle.tree_path.proofs.StepLaws.{option_map-Some, option_map-None}

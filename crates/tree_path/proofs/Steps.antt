@@ -10,10 +10,10 @@ use lib.Utf8.{encodes, encode}
 use Rattle.yaml_grammar.specs.Texts.{same_text}
 use Rattle.yaml_grammar.specs.Trees as grammar
 use Rattle.yaml_grammar.specs.Trees.{sequence, mapping}
-use Rattle.yaml_tree.specs.Seen.{Pair, tree_of, elements_of, members_of}
-use Rattle.yaml_tree.specs.TextBytes.{text_bytes}
-use Rattle.yaml_tree.specs.declared.text.Text.{Text}
-use Rattle.yaml_tree.specs.declared.tree.Tree.{Tree}
+use Rattle.yaml_data.specs.Seen.{Pair, tree_of, elements_of, members_of}
+use Rattle.yaml_data.specs.TextBytes.{text_bytes}
+use Rattle.yaml_data.specs.declared.text.Text.{Text}
+use Rattle.yaml_data.specs.declared.tree.Tree.{Tree}
 use Rattle.tree_path.specs.Paths.{Index, number, after_last, no_index, is_number, number_after, index_of, at_index, present, element_at, put_element, cut_element, push_element, child, put, cut}
 use Rattle.tree_path.specs.Steps.{number_of, index_below, key_place}
 use Rattle.tree_path.specs.declared.place.Miss.{Miss}

@@ -1,4 +1,2 @@
-pub mod Changes
 pub mod Paths
-pub mod Pointers
 pub mod Steps

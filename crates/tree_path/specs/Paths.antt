@@ -5,8 +5,8 @@ use Rattle.yaml_chars.specs.Classes.{in_range}
 use Rattle.std.specs.List.{list_all}
 use Rattle.yaml_grammar.specs.Texts.{is_empty, same_text}
 use Rattle.yaml_grammar.specs.Trees.{Tree, text, sequence, mapping, Elements, no_element, element, Members, no_member, member}
-use Rattle.tree_path.specs.declared.fault.PathFault.{PathFault}
-use Rattle.tree_path.specs.declared.fault.PathFault.TheVariants.{NoSuchPlace, NotIndex}
+use Rattle.json_pointer.specs.declared.fault.PathFault.{PathFault}
+use Rattle.json_pointer.specs.declared.fault.PathFault.TheVariants.{NoSuchPlace, NotIndex}
 use Rattle.tree_path.specs.declared.place.Miss.{Miss}
 use Rattle.tree_path.specs.declared.place.Miss.TheVariants.{Absent, NoIndex}
 

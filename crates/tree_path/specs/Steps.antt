@@ -1,15 +1,10 @@
 -- What the parts of one step are: the number that a token is, the element and the pair that it leads to.
-use Rattle.std.specs.Prelude.{◌≡◌, ◌==◌, ℕ, suc, List, [], ◌∷◌, Option, Some, None, option_map, min, Result, Ok, Err, if◌then◌else◌, nat_lt, map}
-use Rattle.std.specs.Cow.{cow_str_bytes}
-use Rattle.std.specs.declared.borrow.CowStr.{CowStr}
-use Rattle.std.specs.declared.alloc.Global.{Global}
+use Rattle.std.specs.Prelude.{◌≡◌, ◌==◌, ℕ, suc, List, [], ◌∷◌, Option, Some, None, option_map, min, Result, Ok, Err, if◌then◌else◌, nat_lt}
 use Rattle.std.specs.Str.{chars}
-use Rattle.yaml_chars.specs.Signs.{tilde}
 use Rattle.yaml_grammar.specs.Texts.{same_text}
 use Rattle.yaml_grammar.specs.Trees.{Tree}
-use Rattle.yaml_tree.specs.Seen.{Pair}
-use Rattle.yaml_tree.specs.TextBytes.{text_bytes}
-use Rattle.tree_path.specs.Pointers.{slash}
+use Rattle.yaml_data.specs.Seen.{Pair}
+use Rattle.yaml_data.specs.TextBytes.{text_bytes}
 use Rattle.tree_path.specs.Paths.{is_number, number_after, index_of, at_index, child, put}
 use Rattle.tree_path.specs.declared.place.Known.{Known}
 use Rattle.tree_path.specs.declared.place.Known.TheVariants.{Place, Nothing}
@@ -38,15 +33,6 @@ key_place key (pair ∷ pairs) =
 abbrev pub Knows : Known → Option ℕ → Type 0
 Knows (Place place) there = place ≡ there
 Knows Nothing there = Unit {0}
-
--- tokens of the code as texts
-abbrev pub texts : List (CowStr Global) → List (List ℕ)
-texts tokens = map (λ token. chars (cow_str_bytes token)) tokens
-
--- the character that `~` and this one spell
-abbrev pub escaped_by : Option ℕ → Option ℕ
-escaped_by None = None
-escaped_by (Some d) = if d == 48 then Some tilde else (if d == 49 then Some slash else None)
 
 -- ---- a tree taken apart along a path
 

@@ -5,17 +5,17 @@ ghost use Rattle.std.specs.Prelude.{◌≡◌, ◌⊎◌, ◌<◌, IfOk, IfErr, 
 ghost use Rattle.std.specs.Str.{chars};
 ghost use Rattle.std.specs.Vec.{vec_len, vec_capacity};
 ghost use Rattle.yaml_grammar.specs.Trees.{Tree as Meant, sequence, mapping};
-ghost use Rattle.yaml_tree.specs.Seen.{tree_of, elements_of, members_of};
+ghost use Rattle.yaml_data.specs.Seen.{tree_of, elements_of, members_of};
 ghost use Rattle.tree_path.specs.Paths.{at_step, at, put, cut, set, delete, child, key_in, last_key};
-ghost use Rattle.tree_path.specs.Steps.{texts, key_place, Knows, Lowered, Rebuilt};
+ghost use Rattle.tree_path.specs.Steps.{key_place, Knows, Lowered, Rebuilt};
+ghost use Rattle.json_pointer.specs.Tokens.{texts};
 
-use crate::fault::PathFault;
-use crate::path::Path;
 use crate::place::{self, Known, Miss};
+use json_pointer::{Path, PathFault};
 use std::alloc::{AllocError, Global};
 use std::borrow::CowStr;
 use std::mem;
-use yaml_tree::{Text, Tree};
+use yaml_data::{Text, Tree};
 
 /// The value at a path (RFC 6901, 4). Refused are a step that leads to nothing (`NoSuchPlace`), and one into a
 /// sequence that is no index (`NotIndex`).
@@ -23,7 +23,7 @@ pub fn at<'t>(tree: &'t Tree, path: &Path) -> Result<&'t Tree, PathFault>
     ensures ok { IfOk result (λ value. at (tree_of tree.now) path.now ≡ Ok (tree_of value.now)) }
     ensures refused { IfErr result (λ fault. at (tree_of tree.now) path.now ≡ Err fault) }
 {
-    value_at(tree, &path.tokens)
+    value_at(tree, path.tokens())
 }
 
 /// Puts a value at a path, in place. Every step but the last leads to a value that is there, as in [`at`]. At the last
@@ -44,13 +44,11 @@ pub fn set(
     ensures value_back { IfErr result (λ refused. tree_of refused.0 ≡ tree_of value) }
     ensures unchanged { OnErr result (tree_of tree.new ≡ tree_of tree.old) }
 {
-    set_at(alloc, tree, &path.tokens, Known::Nothing, value)
+    set_at(alloc, tree, path.tokens(), Known::Nothing, value)
 }
 
-/// The edit of [`set`], where the place of the path's last key in its mapping is known. [`plan_set`] returns it, so
-/// that the key is searched for once.
-///
-/// [`plan_set`]: crate::plan_set
+/// The edit of [`set`], where the place of the path's last key in its mapping is known. `edit_lengths::plan_set`
+/// returns it, so that the key is searched for once.
 pub fn set_planned(
     alloc: Global,
     tree: &mut Tree,
@@ -67,7 +65,7 @@ pub fn set_planned(
     ensures value_back { IfErr result (λ refused. tree_of refused.0 ≡ tree_of value) }
     ensures unchanged { OnErr result (tree_of tree.new ≡ tree_of tree.old) }
 {
-    set_at(alloc, tree, &path.tokens, Known::Place(place), value)
+    set_at(alloc, tree, path.tokens(), Known::Place(place), value)
 }
 
 /// Takes the value at a path out of the tree: the pair with its key, or the element, whose followers close up. The
@@ -80,13 +78,11 @@ pub fn delete(tree: &mut Tree, path: &Path) -> Result<Tree, PathFault>
     ensures refused { IfErr result (λ fault. delete (tree_of tree.old) path.now ≡ Err fault) }
     ensures unchanged { OnErr result (tree_of tree.new ≡ tree_of tree.old) }
 {
-    delete_at(*path.tokens.allocator(), tree, &path.tokens, Known::Nothing)
+    delete_at(path.allocator(), tree, path.tokens(), Known::Nothing)
 }
 
-/// The edit of [`delete`], where the place of the path's last key in its mapping is known. [`plan_delete`] returns
-/// it, so that the key is searched for once.
-///
-/// [`plan_delete`]: crate::plan_delete
+/// The edit of [`delete`], where the place of the path's last key in its mapping is known. `edit_lengths::plan_delete`
+/// returns it, so that the key is searched for once.
 pub fn delete_planned(tree: &mut Tree, path: &Path, place: Option<usize>) -> Result<Tree, PathFault>
     requires steps { 0 < length path.now }
     requires place { place ≡ last_key (tree_of tree.old) path.now }
@@ -96,8 +92,8 @@ pub fn delete_planned(tree: &mut Tree, path: &Path, place: Option<usize>) -> Res
     ensures refused { IfErr result (λ fault. delete (tree_of tree.old) path.now ≡ Err fault) }
     ensures unchanged { OnErr result (tree_of tree.new ≡ tree_of tree.old) }
 {
-    let alloc = *path.tokens.allocator();
-    delete_at(alloc, tree, &path.tokens, Known::Place(place))
+    let alloc = path.allocator();
+    delete_at(alloc, tree, path.tokens(), Known::Place(place))
 }
 
 fn value_at<'t>(tree: &'t Tree, tokens: &[CowStr<'_>]) -> Result<&'t Tree, PathFault>

@@ -1,13 +1,7 @@
-// Laws of paths and edits, over the definitions alone.
+// Laws of edits, over the definitions alone.
 ghost use Rattle.std.specs.Prelude.{◌≡◌, ◌≢◌, ℕ, true, List, [], ◌∷◌, ◌++◌, Ok};
 ghost use Rattle.yaml_grammar.specs.Trees.{Tree, distinct};
 ghost use Rattle.tree_path.specs.Paths.{index_of, after_last, at, set, delete};
-ghost use Rattle.tree_path.specs.Pointers.{path_of, pointer_text};
-
-/// The text of a path is read as that path, so no two paths have one text.
-pub fn text_is_read_back()
-    ensures { (tokens : List (List ℕ)) → path_of (pointer_text tokens) ≡ Ok tokens }
-{}
 
 /// What is set at a path is found there, unless the last step is `-`.
 pub fn set_is_found()

@@ -2,13 +2,13 @@
 ghost use Rattle.std.specs.Prelude.{◌≡◌, IfOk, IfErr, OnOk, OnErr, Ok, Err, option_map};
 ghost use Rattle.std.specs.Str.{chars};
 ghost use Rattle.yaml_grammar.specs.Trees.{sequence, mapping};
-ghost use Rattle.yaml_tree.specs.Seen.{tree_of, elements_of, members_of};
+ghost use Rattle.yaml_data.specs.Seen.{tree_of, elements_of, members_of};
 ghost use Rattle.tree_path.specs.Paths.{child, put, refusal, key_in};
 ghost use Rattle.tree_path.specs.Steps.{number_of, as_usize, index_below, key_place as place_of, Knows};
 
-use crate::fault::PathFault;
+use json_pointer::PathFault;
 use std::mem;
-use yaml_tree::{Text, Tree};
+use yaml_data::{Text, Tree};
 
 /// Why a step leads to nothing.
 #[derive(Clone, Copy, Debug, PartialEq, Eq)]

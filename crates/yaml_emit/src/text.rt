@@ -2,7 +2,7 @@
 ghost use Rattle.std.specs.Prelude.{◌≡◌, string_bytes, IfOk};
 ghost use Rattle.std.specs.Str.{chars};
 ghost use Rattle.yaml_grammar.specs.Style.{style_text};
-ghost use Rattle.yaml_tree.specs.Seen.{tree_of};
+ghost use Rattle.yaml_data.specs.Seen.{tree_of};
 
 use std::alloc::{AllocError, Global};
 use yaml_tree::{Config, write_style};

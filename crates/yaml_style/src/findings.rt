@@ -8,7 +8,7 @@ ghost use Rattle.yaml_style.specs.Checking.{IsChecked};
 ghost use Rattle.yaml_tree.specs.Limits.{config_limits};
 ghost use Rattle.yaml_style.specs.Findings.{style_line, with_style};
 ghost use Rattle.yaml_tree.specs.Reading.{Refuses};
-ghost use Rattle.yaml_tree.specs.Seen.{tree_of};
+ghost use Rattle.yaml_data.specs.Seen.{tree_of};
 
 use crate::comparison::Comparison;
 use crate::lines::{break_count, line_findings};

@@ -9,8 +9,8 @@ use Rattle.yaml_grammar.specs.Trees.{Tree, depth, distinct, IsTreeOf}
 use Rattle.yaml_grammar.specs.Style.{style_text}
 use Rattle.yaml_grammar.specs.Texts.{byte_len}
 use Rattle.yaml_tree.specs.Reading.{IsRead, RefusesTree, Refuses}
-use Rattle.yaml_tree.proofs.ByteLemmas.{byte_len-chars}
-use Rattle.yaml_tree.proofs.EventLemmas.{tree_is_one}
+use Rattle.yaml_writer.proofs.ByteLemmas.{byte_len-chars}
+use Rattle.yaml_build.proofs.EventLemmas.{tree_is_one}
 use Rattle.yaml_tree.proofs.NestedLemmas.{collection_key_none}
 use Rattle.yaml_tree.proofs.StartLemmas.{tree_counted}
 

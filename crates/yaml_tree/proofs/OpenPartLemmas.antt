@@ -1,16 +1,16 @@
 -- The open parts of src/open_part.rt as frames: what is next in them, and what is written before it.
-use Rattle.std.proofs.Common.{◌≡◌, ℕ, suc, ◌+◌, ◌<◌, Bool, true, false, if◌then◌else◌, ◌==◌, List, [], ◌∷◌, ◌++◌, ◌⊎◌, inl, inr, Option, Some, None, codes, length, is_some, refl, sym, ap, ◌∙◌, arith}
+use Rattle.std.proofs.Common.{◌≡◌, ℕ, suc, ◌+◌, ◌<◌, Bool, true, false, if◌then◌else◌, ◌==◌, List, [], ◌∷◌, ◌++◌, ◌⊎◌, inl, inr, codes, length, refl, sym, ap, ◌∙◌, arith}
 use Rattle.std.proofs.lemmas.Bool.{ne_eqb}
 use Rattle.yaml_events.specs.Meant.{event_of}
 use Rattle.yaml_events.specs.declared.event.Event.{Event}
 use Rattle.yaml_events.specs.declared.event.Event.TheVariants.{DocStart, SeqStart, MapStart}
 use Rattle.yaml_grammar.specs.Texts.{spaces}
 use Rattle.yaml_grammar.specs.Trees.{Members, shape}
-use Rattle.yaml_tree.specs.Emptied.{seq_frame, frame_by_next}
-use Rattle.yaml_tree.specs.Frames.{Frame, awaiting, root, whole, in_seq, at_key, at_value}
-use Rattle.yaml_tree.specs.Keys.{key_members}
-use Rattle.yaml_tree.specs.OpenText.{indent_in, awaits_value, empty_line, line_start, dash, key_start, seq_end, map_end, added}
-use Rattle.yaml_tree.specs.declared.text.Text.{Text}
+use Rattle.yaml_build.specs.Emptied.{seq_frame, frame_by_next}
+use Rattle.yaml_build.specs.Frames.{Frame, awaiting, root, whole, in_seq, at_key, at_value, awaits_value}
+use Rattle.yaml_data.specs.Keys.{key_members}
+use Rattle.yaml_tree.specs.OpenText.{indent_in, empty_line, line_start, dash, key_start, seq_end, map_end, added}
+use Rattle.yaml_data.specs.declared.text.Text.{Text}
 
 -- a key of a mapping, without its value
 abbrev Key : Type 0
@@ -84,8 +84,3 @@ own_room (whole t) fs i own e o room = omega (arith, e, o, room)
 own_room (in_seq ts) fs i own e o room = omega (arith, e, o, room)
 own_room (at_key ms) fs i own e o room = omega (arith, e, o, room)
 own_room (at_value ms key) fs i own e o room = omega (arith, e, o, room)
-
--- a budget that isn't kept is spent
-pub spent : (left : Option ℕ) → is_some left ≡ false → left ≡ None
-spent None e = refl
-spent (Some left) e = cc

@@ -8,9 +8,9 @@ use Rattle.yaml_events.specs.Meant.{events_of}
 use Rattle.yaml_events.specs.declared.event.Event.{Event}
 use Rattle.yaml_grammar.specs.Reads.{Limits, Good}
 use Rattle.yaml_grammar.specs.Trees.{Tree, IsTreeOf, depth}
-use Rattle.yaml_tree.specs.Building.{HasNoTree, RefusesDeep}
+use Rattle.yaml_build.specs.Building.{HasNoTree, RefusesDeep}
 use Rattle.yaml_tree.specs.Reading.{IsRead, Refuses, document_count}
-use Rattle.yaml_tree.proofs.ByteLemmas.{byte_len-chars}
+use Rattle.yaml_writer.proofs.ByteLemmas.{byte_len-chars}
 use Rattle.yaml_tree.proofs.NestedLemmas.{collection_key}
 use Rattle.yaml_tree.proofs.PresentedLemmas.{document_nested}
 

@@ -9,13 +9,13 @@ use Rattle.std.specs.List.{list_all}
 use Rattle.yaml_grammar.specs.Texts.{IsText}
 use Rattle.yaml_grammar.specs.Trees.{Tree as Seen, IsTextTree, AreTextElements, AreTextMembers}
 use Rattle.yaml_chars.specs.Classes.{code_point}
-use Rattle.yaml_tree.specs.Seen.{Pair, tree_of, level, elements_from, members_from}
-use Rattle.yaml_tree.specs.TextBytes.{text_bytes}
-use Rattle.yaml_tree.specs.declared.text.Text.{Text}
-use Rattle.yaml_tree.specs.declared.tree.Tree.{Tree}
-use Rattle.yaml_tree.specs.declared.tree.Tree.TheFolds.{map-Tree, ind-Tree, fold-roll-Tree}
-use Rattle.yaml_tree.specs.declared.tree.Tree.TheOpen.{Tree-F}
-use Rattle.yaml_tree.proofs.TextLemmas.{IsUtf8-text_bytes}
+use Rattle.yaml_data.specs.Seen.{Pair, tree_of, level, elements_from, members_from}
+use Rattle.yaml_data.specs.TextBytes.{text_bytes}
+use Rattle.yaml_data.specs.declared.text.Text.{Text}
+use Rattle.yaml_data.specs.declared.tree.Tree.{Tree}
+use Rattle.yaml_data.specs.declared.tree.Tree.TheFolds.{map-Tree, ind-Tree, fold-roll-Tree}
+use Rattle.yaml_data.specs.declared.tree.Tree.TheOpen.{Tree-F}
+use Rattle.yaml_data.proofs.TextLemmas.{IsUtf8-text_bytes}
 
 passes : (c : ℕ) → (c < 55296) ⊎ ((57344 ≤ c) × (c < 1114112)) → code_point c ≡ true
 passes c h = grind (arith, nat_tests)

@@ -1,5 +1,5 @@
 -- A writer of a document after one event more, and at the end.
-use Rattle.std.proofs.Common.{◌≡◌, ◌≢◌, ℕ, ◌-◌, ◌<◌, ◌≤◌, nat_le, Bool, true, false, if◌then◌else◌, ◌++◌, List, [], ◌∷◌, Option, Some, None, encode_utf8_all, string_bytes, refl, sym, ap, subst, ◌∙◌}
+use Rattle.std.proofs.Common.{◌≡◌, ◌≢◌, ℕ, ◌-◌, ◌<◌, ◌≤◌, nat_le, Bool, true, false, if◌then◌else◌, ◌++◌, List, [], ◌∷◌, Option, Some, None, encode_utf8_all, refl, sym, ap, subst, ◌∙◌}
 use Rattle.std.proofs.lemmas.Bool.{leb-true}
 use Rattle.yaml_docs.specs.Reading.{ReadsAs}
 use Rattle.yaml_events.specs.Meant.{events_of}
@@ -8,17 +8,18 @@ use Rattle.yaml_grammar.specs.Reads.{Limits, Good}
 use Rattle.yaml_grammar.specs.Style.{style_text}
 use Rattle.yaml_grammar.specs.Texts.{byte_len}
 use Rattle.yaml_grammar.specs.Trees.{Shape, depth}
-use Rattle.yaml_tree.specs.Budget.{left_after}
-use Rattle.yaml_tree.specs.Emptied.{Took, emptied_frames}
+use Rattle.yaml_writer.specs.Budget.{left_after}
+use Rattle.yaml_build.specs.Emptied.{Took, emptied_frames}
 use Rattle.yaml_tree.specs.Formatting.{IsFormatted, Writes, Wrote, HasWritten, IsWritten, indent_after}
-use Rattle.yaml_tree.specs.Frames.{Frame, whole, step, finished_tree}
-use Rattle.yaml_tree.specs.OpenText.{text_of, added, AreTextFrames, BringsText, TakesLimited}
-use Rattle.yaml_tree.specs.OpenTextLaws.{TakesLimited-both}
+use Rattle.yaml_build.specs.Frames.{Frame, whole, step, finished_tree}
+use Rattle.yaml_tree.specs.OpenText.{text_of, added, AreTextFrames, BringsText}
+use Rattle.yaml_writer.specs.Limited.{TakesLimited, room_left, taken}
+use Rattle.yaml_writer.specs.LimitedLaws.{TakesLimited-both}
 use Rattle.yaml_tree.specs.declared.format.DocumentWriter.{DocumentWriter}
 use Rattle.yaml_tree.specs.declared.format.WrittenDocument.{WrittenDocument}
-use Rattle.yaml_tree.specs.declared.limited.LimitedText.{LimitedText}
-use Rattle.yaml_tree.proofs.EmptiedLemmas.{Finished}
-use Rattle.yaml_tree.proofs.FrameLemmas.{finished_whole}
+use Rattle.yaml_writer.specs.declared.limited.LimitedText.{LimitedText}
+use Rattle.yaml_build.proofs.EmptiedLemmas.{Finished}
+use Rattle.yaml_build.proofs.FrameLemmas.{finished_whole}
 use Rattle.yaml_tree.proofs.ReadLemmas.{tree_read}
 use Rattle.yaml_tree.proofs.OpenTextLemmas.{IsTextOf, HasTexts, HasIndent, step_text, step_texts, step_indent, added-emptied, BringsText-emptied}
 
@@ -71,14 +72,14 @@ kept_within limit n left e kept = by_test (nat_le n limit) refl
 -- the text that was written of a document within the limits
 pub formatted : (bytes : List ℕ) (limits : Limits) (es : List CodeEvent) (start : LimitedText) (document : WrittenDocument)
     → ReadsAs bytes limits.bytes es → (written : IsWritten start (events_of es) document) → document.keys_differ ≡ true
-    → depth written.tree ≤ limits.depth → start.budget.left ≡ Some limits.style → string_bytes start.text ≡ []
-    → document.text.budget.left ≢ None → IsFormatted bytes limits (string_bytes document.text.text)
+    → depth written.tree ≤ limits.depth → room_left start ≡ Some limits.style → taken start ≡ []
+    → room_left document.text ≢ None → IsFormatted bytes limits (taken document.text)
 formatted bytes limits es start document reads written differ deep limit empty kept =
     let good : Good written.tree limits = record {
       texts = written.texts;
       keys = sym written.differ ∙ differ;
       deep = deep;
-      long = kept_within limits.style (byte_len (style_text written.tree)) document.text.budget.left
+      long = kept_within limits.style (byte_len (style_text written.tree)) (room_left document.text)
           (written.text.0 ∙ ap (λ left. left_after left (byte_len (style_text written.tree))) limit) kept;
     } in
     record {

@@ -4,13 +4,14 @@ use Rattle.yaml_grammar.specs.Events.{Event}
 use Rattle.yaml_grammar.specs.Reads.{Limits}
 use Rattle.yaml_grammar.specs.Style.{style_text}
 use Rattle.yaml_grammar.specs.Trees.{Tree, IsTreeOf, IsTextTree, distinct, Shape, document_from, document_to, seq_from, seq_to, map_from, map_to, scalar_of}
-use Rattle.yaml_tree.specs.Emptied.{Keeps}
-use Rattle.yaml_tree.specs.Frames.{Frame}
-use Rattle.yaml_tree.specs.OpenText.{indent_in, text_of, AreTextFrames, TakesLimited}
+use Rattle.yaml_build.specs.Emptied.{Keeps}
+use Rattle.yaml_build.specs.Frames.{Frame}
+use Rattle.yaml_tree.specs.OpenText.{indent_in, text_of, AreTextFrames}
+use Rattle.yaml_writer.specs.Limited.{TakesLimited}
 use Rattle.yaml_tree.specs.Reading.{IsRead}
 use Rattle.yaml_tree.specs.declared.format.DocumentWriter.{DocumentWriter}
 use Rattle.yaml_tree.specs.declared.format.WrittenDocument.{WrittenDocument}
-use Rattle.yaml_tree.specs.declared.limited.LimitedText.{LimitedText}
+use Rattle.yaml_writer.specs.declared.limited.LimitedText.{LimitedText}
 
 -- the bytes give a tree within the limits, and this is its text in the one style
 pub record IsFormatted (bytes : List ℕ) (limits : Limits) (text : List ℕ) : Type 0 where

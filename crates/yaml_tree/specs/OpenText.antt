@@ -1,12 +1,10 @@
 -- The text in the one style of a document whose events come one after another: what is written once some have come, and
 -- what the next one adds.
-use Rattle.std.specs.Prelude.{◌≡◌, ◌≢◌, ℕ, ◌+◌, Bool, true, false, if◌then◌else◌, List, [], ◌∷◌, ◌++◌, None, codes, encode_utf8_all, string_bytes}
+use Rattle.std.specs.Prelude.{ℕ, ◌+◌, Bool, if◌then◌else◌, List, [], ◌∷◌, ◌++◌, codes}
 use Rattle.yaml_grammar.specs.Style.{scalar_lines, key_lines, lines_at, elements_at, members_at, value_at}
-use Rattle.yaml_grammar.specs.Texts.{IsText, byte_len, spaces}
+use Rattle.yaml_grammar.specs.Texts.{IsText, spaces}
 use Rattle.yaml_grammar.specs.Trees.{text, no_element, element, Members, no_member, member, Shape, document_from, document_to, seq_from, seq_to, map_from, map_to, scalar_of, IsTextTree, AreTextElements, AreTextMembers}
-use Rattle.yaml_tree.specs.Budget.{left_after}
-use Rattle.yaml_tree.specs.Frames.{Frame, awaiting, root, whole, in_seq, at_key, at_value}
-use Rattle.yaml_tree.specs.declared.limited.LimitedText.{LimitedText}
+use Rattle.yaml_build.specs.Frames.{Frame, awaiting, root, whole, in_seq, at_key, at_value, awaits_value}
 
 -- the indentation of a collection that is opened inside these parts: 2 for each collection among them
 abbrev pub indent_in : List Frame → ℕ
@@ -17,16 +15,6 @@ indent_in (whole t ∷ fs) = indent_in fs
 indent_in (in_seq ts ∷ fs) = indent_in fs + 2
 indent_in (at_key ms ∷ fs) = indent_in fs + 2
 indent_in (at_value ms key ∷ fs) = indent_in fs + 2
-
--- the value of a key is next in the innermost part
-abbrev pub awaits_value : List Frame → Bool
-awaits_value [] = false
-awaits_value (awaiting ∷ fs) = false
-awaits_value (root t ∷ fs) = false
-awaits_value (whole t ∷ fs) = false
-awaits_value (in_seq ts ∷ fs) = false
-awaits_value (at_key ms ∷ fs) = false
-awaits_value (at_value ms key ∷ fs) = true
 
 -- what comes before the first line of a collection inside these parts: after a key it is on a line of its own
 abbrev pub opening : List Frame → List ℕ
@@ -149,11 +137,3 @@ AreTextFrames (f ∷ fs) = IsTextFrame f × AreTextFrames fs
 abbrev pub BringsText : List Frame → Shape → Type 0
 BringsText [] s = Unit {0}
 BringsText (f ∷ fs) s = IsTextShape s
-
--- ---- a text of at most so many bytes
-
--- a text that takes characters: while there is room they are at its end
-abbrev pub TakesLimited : LimitedText → List ℕ → LimitedText → Type 0
-TakesLimited before cs after =
-    (after.budget.left ≡ left_after before.budget.left (byte_len cs))
-    × (after.budget.left ≢ None → string_bytes after.text ≡ string_bytes before.text ++ encode_utf8_all cs)

@@ -5,12 +5,14 @@ ghost use Rattle.yaml_grammar.specs.Style.{style_text};
 ghost use Rattle.yaml_grammar.specs.Texts.{byte_len};
 ghost use Rattle.yaml_grammar.specs.Trees.{depth, text};
 ghost use Rattle.yaml_tree.specs.Kept.{IsKept, IsFirstFault, own_limits, limits_of};
-ghost use Rattle.yaml_tree.specs.Seen.{tree_of};
+ghost use Rattle.yaml_data.specs.Seen.{tree_of};
 
-use crate::keys::has_distinct_keys;
-use crate::{Limits, ReadFault, Text, Tree, style_len};
+use crate::Limits;
 use std::alloc::{AllocError, Global};
 use std::marker::Model;
+use yaml_data::{Text, Tree, has_distinct_keys};
+use yaml_docs::ReadFault;
+use yaml_writer::style_len;
 
 /// The limits that each [`Config`] keeps.
 const OWN_LIMITS: Limits = Limits {
@@ -31,8 +33,8 @@ pub struct Config {
 }
 
 impl Model for Config {
-    ghost use Rattle.yaml_tree.specs.declared.tree.Tree.{Tree};
-    ghost use Rattle.yaml_tree.specs.contracts.tree.Tree as trees;
+    ghost use Rattle.yaml_data.specs.declared.tree.Tree.{Tree};
+    ghost use Rattle.yaml_data.specs.contracts.tree.Tree as trees;
 
     ghost Value = { Tree };
 
@@ -42,7 +44,7 @@ impl Model for Config {
     ghost use Rattle.yaml_grammar.specs.Style.{style_text};
     ghost use Rattle.yaml_grammar.specs.Texts.{byte_len};
     ghost use Rattle.yaml_tree.specs.Kept.{IsKept};
-    ghost use Rattle.yaml_tree.specs.Seen.{tree_of};
+    ghost use Rattle.yaml_data.specs.Seen.{tree_of};
 
     ghost view = { λ c. c.tree };
 

@@ -1,7 +1,7 @@
 // What is asked of reading.
 
 /// What a text is read to.
-#[derive(Clone, Copy, PartialEq, Eq)]
+#[derive(Clone, Copy)]
 pub(crate) enum What {
     Events,
     Tree,

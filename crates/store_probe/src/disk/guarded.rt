@@ -2,8 +2,9 @@
 ghost use Rattle.std.specs.Prelude.{◌≡◌, ◌≢◌, ◌<◌, Err};
 ghost use Rattle.conf_disk.specs.Moments.{CountsFailures};
 
-use conf_disk::{Content, Cuts, Disk, DiskFault, MemoryDisk, Name};
+use conf_disk::{Content, Cuts, Disk, DiskFault, Name};
 use std::alloc::{AllocError, Global};
+use test_disks::MemoryDisk;
 
 /// A disk in memory that answers `Device` where a condition on its callers does not hold, as the disk of a real folder
 /// does. So it claims nothing, and its callers need not know which files are there.

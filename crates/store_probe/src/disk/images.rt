@@ -1,9 +1,10 @@
 // The images that a crash may leave of a disk in memory.
 use crate::disk::calls::{call, content_of};
 use crate::disk::guarded::GuardedDisk;
-use conf_disk::{Cuts, Disk, Fuse, FusedDisk, Name};
+use conf_disk::{Cuts, Disk, Name};
 use conf_journal::STORE_LIMIT;
 use std::alloc::{AllocError, Global};
+use test_disks::{Fuse, FusedDisk};
 
 /// More stages than the disks of the orders have.
 const STAGES: usize = 6;

@@ -2,9 +2,10 @@
 use crate::disk::calls::call;
 use crate::disk::guarded::GuardedDisk;
 use crate::disk::images::images_of;
-use conf_disk::{Cuts, Fuse, FusedDisk};
+use conf_disk::Cuts;
 use std::alloc::{AllocError, Global};
 use std::mem;
+use test_disks::{Fuse, FusedDisk};
 
 /// The disk in memory that orders are about.
 #[derive(Drop)]

@@ -3,8 +3,9 @@ use crate::disk::guarded::GuardedDisk;
 use crate::disk::images::stopped;
 use crate::disk::memory::Memory;
 use crate::texts::number_of;
-use conf_disk::{Cuts, Fuse};
+use conf_disk::Cuts;
 use std::alloc::{AllocError, Global};
+use test_disks::Fuse;
 
 /// The answer to an order on the disk in memory.
 pub(crate) fn answer(

@@ -10,9 +10,10 @@
 // call removes, it is 20.
 use crate::store::run::{Counts, OPENING, open_image, run_until};
 use crate::store::wrong::Wrong;
-use conf_disk::{Cuts, Fuse, FusedDisk, MemoryDisk, Name};
+use conf_disk::{Cuts, Name};
 use conf_store::Store;
 use std::alloc::{AllocError, Global};
+use test_disks::{Fuse, FusedDisk, MemoryDisk};
 
 /// More stages than a crash can find: an opening that removes a left-over file and swaps a new one in makes four.
 const STAGES: usize = 6;

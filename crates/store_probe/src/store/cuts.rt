@@ -2,10 +2,11 @@
 use crate::store::worked::{ANSWERS, COMMANDS, Step, count_left, opened, steps};
 use crate::store::wrong::Wrong;
 use crate::streams::{Sink, Source};
-use conf_disk::{Content, Disk, MemoryDisk, Name};
+use conf_disk::{Content, Disk, Name};
 use conf_session::{SessionFault, Tally, run};
 use std::alloc::{AllocError, Global};
 use std::io::ErrorKind;
+use test_disks::MemoryDisk;
 
 /// What is cut off after a byte.
 #[derive(Clone, Copy)]

@@ -2,10 +2,11 @@
 use crate::store::worked::{ANSWERS, COMMANDS, count_left};
 use crate::store::wrong::Wrong;
 use crate::streams::Sink;
-use conf_disk::{Cuts, Fuse, FusedDisk, MemoryDisk};
+use conf_disk::Cuts;
 use conf_session::{SessionFault, Tally, run};
 use conf_store::{OpenFault, Store};
 use std::alloc::{AllocError, Global};
+use test_disks::{Fuse, FusedDisk, MemoryDisk};
 
 /// What a session leaves whose disk fails: how it ends, whether the store has to be opened again, how many bytes are
 /// answered, the count that then reads, and the count of the image that keeps no pending byte.

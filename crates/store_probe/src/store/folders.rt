@@ -1,10 +1,11 @@
 // A folder in memory, and what its files hold.
 use crate::texts::{meant, measured};
-use conf_disk::{Content, Cuts, Disk, Fuse, FusedDisk, MemoryDisk, Name};
+use conf_disk::{Content, Cuts, Disk, Name};
 use conf_journal::STORE_LIMIT;
 use conf_store::Store;
 use std::alloc::{AllocError, Global};
 use std::mem;
+use test_disks::{Fuse, FusedDisk, MemoryDisk};
 
 /// A store over a disk in memory of which a call may fail.
 pub(crate) type FusedStore = Store<FusedDisk<MemoryDisk>>;

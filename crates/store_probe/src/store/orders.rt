@@ -5,8 +5,9 @@ use crate::store::device::device;
 use crate::store::folders::{Place, image, open, renew, shown};
 use crate::store::stores::store_answer;
 use crate::texts::number_of;
-use conf_disk::{Fuse, Name};
+use conf_disk::Name;
 use std::alloc::{AllocError, Global};
+use test_disks::Fuse;
 
 /// The answer to an order.
 pub(crate) fn answer(

@@ -2,10 +2,11 @@
 use crate::store::commands::{delete, set};
 use crate::store::folders::FusedStore;
 use crate::store::wrong::Wrong;
-use conf_disk::{Disk, Fuse, FusedDisk, MemoryDisk};
+use conf_disk::Disk;
 use conf_record::StoreFault;
 use conf_store::{OpenFault, Store};
 use std::alloc::Global;
+use test_disks::{Fuse, FusedDisk, MemoryDisk};
 use yaml_tree::Tree;
 
 /// A call of the run.

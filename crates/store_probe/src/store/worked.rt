@@ -1,9 +1,10 @@
 // A worked session over an empty store, and what the store is after each of its commands.
 use crate::store::wrong::Wrong;
-use conf_disk::{Disk, MemoryDisk};
+use conf_disk::Disk;
 use conf_record::StoreFault;
 use conf_store::Store;
 use std::alloc::Global;
+use test_disks::MemoryDisk;
 
 /// The commands: 144 bytes.
 pub(crate) const COMMANDS: &[u8] =

@@ -1,11 +1,12 @@
 // Runs of the program and of its tools.
 use crate::streams::{Sink, Source};
 use crate::texts::words_of;
-use conf_tools::{check_text, format_text, perform};
+use conf_tools::perform;
 use std::alloc::{AllocError, Global};
 use std::fs::File;
 use std::io::{Read, Write};
 use std::rt::Files;
+use text_tools::{check_text, format_text};
 
 /// What the program wrote, and its status.
 #[derive(Drop)]

@@ -2,7 +2,7 @@ use Rattle.std.proofs.Common.{IfSome, IfNone, subst}
 use Rattle.std.proofs.lemmas.Result.{IfOk-weaker}
 use Rattle.yaml_tree.specs.Kept.{own_limits}
 use Rattle.yaml_tree.specs.Reading.{IsRead, GivesNone}
-use Rattle.yaml_tree.specs.Seen.{tree_of}
+use Rattle.yaml_data.specs.Seen.{tree_of}
 use Rattle.conf_pieces.proofs.TreeLemmas.{no_record, one_record}
 use Rattle.conf_pieces.proofs.read.read_record.Goals as goal
 

@@ -3,7 +3,7 @@ use Rattle.std.proofs.lemmas.Iterator.{YieldsList-from_chars}
 use Rattle.std.proofs.lemmas.Iterator.Search.{all_from_yields_List}
 use Rattle.std.specs.Str.{chars}
 use borrow.Author.Tests.{tests}
-use Rattle.yaml_tree.proofs.CharacterLemmas.{every-IsAscii, chars-same}
+use Rattle.yaml_data.proofs.CharacterLemmas.{every-IsAscii, chars-same}
 use Rattle.conf_record.specs.Names.{name_char}
 use Rattle.conf_record.proofs.NameLemmas.{name_char-below}
 use Rattle.conf_record.proofs.name.has_name_chars.Goals as goal

@@ -4,7 +4,7 @@ use Rattle.std.proofs.lemmas.Str.{IsUtf8-string_bytes}
 use Rattle.std.specs.Str.{chars}
 use Rattle.yaml_grammar.specs.Style.{members_after}
 use Rattle.yaml_grammar.specs.Trees.{Tree, text}
-use Rattle.yaml_tree.specs.Seen.{tree_of}
+use Rattle.yaml_data.specs.Seen.{tree_of}
 use Rattle.yaml_tree.proofs.TextTreeLemmas.{chars-IsText}
 use Rattle.conf_record.specs.Commands.{text_of, command_of}
 use Rattle.conf_record.specs.Records.{command_members}

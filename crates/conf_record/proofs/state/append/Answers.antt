@@ -1,7 +1,7 @@
 use Rattle.std.proofs.Common.{inl, inr, ◌≡◌, true, is_some, string_bytes, ap, sym, subst, ◌∙◌, min}
 use Rattle.std.specs.Str.{chars}
 use Rattle.std.proofs.lemmas.Str.{IsUtf8-string_bytes}
-use Rattle.yaml_tree.specs.Seen.{tree_of}
+use Rattle.yaml_data.specs.Seen.{tree_of}
 use Rattle.conf_record.specs.BaseTexts.{entry_length}
 use Rattle.conf_record.specs.Kept.{ArePlain, entries_of}
 use Rattle.conf_record.specs.Names.{good_name}

@@ -3,15 +3,15 @@ use Rattle.std.proofs.Common.{rules, ◌≡◌, ◌≢◌, ⊎_elim, refl, ap, s
 use Rattle.std.specs.Prelude.{Ok, Err, codes}
 use Rattle.std.specs.Str.{chars}
 use Rattle.yaml_laws.specs.Closed.{framed_text_bytes}
-use Rattle.yaml_tree.specs.Seen.{tree_of}
-use Rattle.tree_path.specs.Pointers.{path_of}
-use Rattle.tree_path.specs.declared.fault.PathFault.TheVariants.{OutOfMemory}
+use Rattle.yaml_data.specs.Seen.{tree_of}
+use Rattle.json_pointer.specs.Pointers.{path_of}
+use Rattle.json_pointer.specs.declared.fault.PathFault.TheVariants.{OutOfMemory}
 use Rattle.conf_record.proofs.LineLemmas.{ascii}
 use Rattle.conf_store.specs.Calls.{tree_named}
 use Rattle.conf_session.specs.Answers.{one}
 use Rattle.conf_session.specs.Runs.{stored_of}
 use Rattle.conf_session.proofs.AnswerLemmas.{value-shallow}
-use Rattle.conf_session.proofs.ReplyLemmas.{get-no_config, get-no_path, get-value}
+use Rattle.conf_session.proofs.ReplyLemmas.{get-no_config, get-no_path, get-no_place, get-value}
 use Rattle.conf_session.proofs.answer.get_answer.Goals as goal
 
 pub returns-in-Err : goal.returns-in-Err
@@ -36,3 +36,10 @@ returns-in-Ok-at g c =
     get-value (stored_of c.args.store.now) (chars c.args.name.now) (chars c.args.path.now) (tree_of c.tree.result.now) c.in-Ok-parse.path named parsed
     (tree_of c.in-Ok-at.value.now) c.in_ok-answer-in-Ok-at.field-0 c.in-Ok-at.ensures.ok
     (c.in_ok-answer-in-Ok-at.ensures ∙ ap (λ k. framed_text_bytes (one k (tree_of c.in-Ok-at.value.now))) (ascii (codes "value") refl)) c.in-Ok.ensures.limits
+
+pub returns : goal.returns
+returns g c =
+    let named : tree_named c.args.store.now.state (chars c.args.name.now) ≡ Ok (tree_of c.tree.result.now) = c.in-Ok.ensures.ok ∙ ap (λ t. Ok (tree_of t)) (sym c.tree.ensures.same) in
+    let parsed : path_of (chars c.args.path.now) ≡ Ok c.in-Ok-parse.path = ⊎_elim (λ never. cc never) (λ is. sym is) c.in-Ok-parse.ensures.met in
+    get-no_place (stored_of c.args.store.now) (chars c.args.name.now) (chars c.args.path.now) (tree_of c.tree.result.now) c.in-Ok-parse.path named parsed
+    c.in-Err-at.fault c.in-Err-at.ensures.refused

@@ -3,8 +3,8 @@ use Rattle.std.proofs.Common.{◌≡◌, refl, ap, ◌∙◌}
 use Rattle.std.specs.Prelude.{codes}
 use Rattle.yaml_laws.specs.Closed.{framed_text_bytes}
 use Rattle.yaml_grammar.specs.Trees.{sequence}
-use Rattle.yaml_tree.specs.Seen.{tree_of}
-use Rattle.yaml_tree.specs.declared.tree.Tree.{Seq}
+use Rattle.yaml_data.specs.Seen.{tree_of}
+use Rattle.yaml_data.specs.declared.tree.Tree.{Seq}
 use Rattle.conf_record.specs.States.{names_of}
 use Rattle.conf_record.proofs.LineLemmas.{ascii}
 use Rattle.conf_session.specs.Answers.{one, text_elements}

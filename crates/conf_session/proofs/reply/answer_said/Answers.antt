@@ -1,7 +1,7 @@
 -- Each document is the request that it says.
 use Rattle.std.proofs.Common.{◌≡◌, refl, sym, ap, ◌∙◌, subst}
 use Rattle.std.specs.Str.{chars}
-use Rattle.yaml_tree.specs.TextBytes.{text_bytes}
+use Rattle.yaml_data.specs.TextBytes.{text_bytes}
 use Rattle.conf_session.specs.Requests.{import_text, get_at, export_of, MeansRequest, getting, exporting, bad}
 use Rattle.conf_session.specs.Replies.{DidSaid, said_of}
 use Rattle.conf_session.specs.declared.reply.Reply.TheVariants.{NoCommand}

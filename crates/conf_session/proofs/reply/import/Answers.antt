@@ -2,7 +2,7 @@
 use Rattle.std.proofs.Common.{rules, ◌≢◌, refl, ap, ◌∙◌, subst}
 use Rattle.yaml_docs.specs.declared.fault.ReadFault.TheVariants as read
 use Rattle.yaml_tree.specs.Reading.{Refuses}
-use Rattle.yaml_tree.specs.TextBytes.{text_bytes}
+use Rattle.yaml_data.specs.TextBytes.{text_bytes}
 use Rattle.yaml_tree.specs.Limits.{config_limits}
 use Rattle.std.specs.Str.{chars}
 use Rattle.yaml_laws.specs.Closed.{framed_text_bytes}

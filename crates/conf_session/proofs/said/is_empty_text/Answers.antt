@@ -3,8 +3,8 @@ use Rattle.std.proofs.lemmas.Str.{chars-nil}
 use Rattle.std.specs.Str.{chars}
 use Rattle.yaml_grammar.specs.Texts.{same_text}
 use Rattle.yaml_grammar.specs.Trees.{text}
-use Rattle.yaml_tree.specs.Seen.{members_of}
-use Rattle.yaml_tree.specs.TextBytes.{text_bytes}
+use Rattle.yaml_data.specs.Seen.{members_of}
+use Rattle.yaml_data.specs.TextBytes.{text_bytes}
 use Rattle.conf_record.specs.RecordsRead.{values}
 use Rattle.conf_session.specs.Requests.{is_empty_text}
 use Rattle.conf_session.proofs.said.is_empty_text.Goals as goal

@@ -2,8 +2,8 @@
 use Rattle.std.proofs.Common.{◌≡◌, false, true, sym, ap, subst, ◌∙◌}
 use Rattle.std.proofs.lemmas.Result.{IfOk-weaker}
 use Rattle.yaml_tree.specs.Kept.{IsKept}
-use Rattle.yaml_tree.specs.Seen.{tree_of, members_of}
-use Rattle.yaml_tree.proofs.SeenLemmas.{tree_of-Text, tree_of-Seq, tree_of-Map}
+use Rattle.yaml_data.specs.Seen.{tree_of, members_of}
+use Rattle.yaml_data.proofs.SeenLemmas.{tree_of-Text, tree_of-Seq, tree_of-Map}
 use Rattle.conf_record.specs.RecordsRead.{keys_are}
 use Rattle.conf_pieces.proofs.PieceLemmas.{parts_kept}
 use Rattle.conf_pieces.proofs.TreeLemmas.{asked}

@@ -1,9 +1,10 @@
 use Rattle.std.proofs.Common.{◌≡◌, ◌-◌, length, take, sym, ap, ap₂, subst, ◌∙◌, refl, arith}
 use Rattle.std.specs.Cow.{cow_str_bytes}
 use Rattle.std.specs.Str.{chars}
-use Rattle.yaml_tree.specs.Seen.{tree_of}
+use Rattle.yaml_data.specs.Seen.{tree_of}
 use Rattle.tree_path.specs.Paths.{child, put}
-use Rattle.tree_path.specs.Steps.{texts, Lowered, Rebuilt}
+use Rattle.tree_path.specs.Steps.{Lowered, Rebuilt}
+use Rattle.json_pointer.specs.Tokens.{texts}
 use Rattle.tree_path.proofs.Descents.{texts-back, Lowered-there, Rebuilt-step, IsOk-there}
 use Rattle.std.proofs.lemmas.List.{take_all}
 use Rattle.std.proofs.lemmas.Result.{IfOk-at_ok}

@@ -1,7 +1,8 @@
 use Rattle.std.proofs.Common.{◌≤◌, length, take}
 use Rattle.yaml_grammar.specs.Trees.{Tree}
-use Rattle.yaml_tree.specs.Seen.{tree_of}
-use Rattle.tree_path.specs.Steps.{texts, Lowered, Rebuilt}
+use Rattle.yaml_data.specs.Seen.{tree_of}
+use Rattle.tree_path.specs.Steps.{Lowered, Rebuilt}
+use Rattle.json_pointer.specs.Tokens.{texts}
 use Rattle.tree_path.proofs.edit.ascend.Given as goal
 
 abbrev pub invariant-loop-left : goal.invariant-loop-left

@@ -1,9 +1,10 @@
 use Rattle.std.proofs.Common.{Err, [], ◌∷◌, ◌++◌, take, sym, ap, subst, ◌∙◌}
 use Rattle.std.specs.Cow.{cow_str_bytes}
 use Rattle.std.specs.Str.{chars}
-use Rattle.yaml_tree.specs.Seen.{tree_of}
+use Rattle.yaml_data.specs.Seen.{tree_of}
 use Rattle.tree_path.specs.Paths.{child, put}
-use Rattle.tree_path.specs.Steps.{texts, Lowered, Rebuilt}
+use Rattle.tree_path.specs.Steps.{Lowered, Rebuilt}
+use Rattle.json_pointer.specs.Tokens.{texts}
 use Rattle.tree_path.proofs.Descents.{texts-turn, at_from-missed, at_from-Lowered, Lowered-push, Rebuilt-same}
 use Rattle.tree_path.proofs.edit.descend.Goals as goal
 

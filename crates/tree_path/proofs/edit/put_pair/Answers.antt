@@ -1,7 +1,7 @@
 use Rattle.std.proofs.Common.{Ok, [], ◌∷◌, ◌++◌, set, ap, ◌∙◌, sym, rules}
 use Rattle.std.specs.Str.{chars}
 use Rattle.yaml_grammar.specs.Trees.{mapping}
-use Rattle.yaml_tree.specs.Seen.{members_of}
+use Rattle.yaml_data.specs.Seen.{members_of}
 use Rattle.tree_path.proofs.Steps.{put-Map-last, put-Map, place-within}
 use Rattle.tree_path.proofs.StepLaws.{none-other}
 use Rattle.tree_path.proofs.edit.put_pair.Goals as goal

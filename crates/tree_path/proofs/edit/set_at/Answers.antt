@@ -4,9 +4,10 @@ use Rattle.std.specs.declared.borrow.CowStr.{CowStr}
 use Rattle.std.specs.Str.{chars}
 use Rattle.std.proofs.lemmas.List.{length-map}
 use Rattle.std.proofs.lemmas.Result.{on_ok_weaker, on_err_weaker, IfErr-weaker}
-use Rattle.yaml_tree.specs.Seen.{tree_of}
+use Rattle.yaml_data.specs.Seen.{tree_of}
 use Rattle.tree_path.specs.Paths.{put, at_step, key_in, last_key}
-use Rattle.tree_path.specs.Steps.{texts, Knows, Rebuilt}
+use Rattle.tree_path.specs.Steps.{Knows, Rebuilt}
+use Rattle.json_pointer.specs.Tokens.{texts}
 use Rattle.tree_path.proofs.Descents.{texts-append, Rebuilt-same, last_key-parent, at_from-Lowered}
 use Rattle.tree_path.proofs.Edits.{IfOk-default, set-Rebuilt, set-missed, set-refused}
 use Rattle.tree_path.proofs.edit.set_at.Goals as goal

@@ -1,7 +1,7 @@
 use Rattle.std.proofs.Common.{◌≡◌, Ok, take}
-use Rattle.yaml_tree.specs.Seen.{tree_of}
+use Rattle.yaml_data.specs.Seen.{tree_of}
 use Rattle.tree_path.specs.Paths.{at}
-use Rattle.tree_path.specs.Steps.{texts}
+use Rattle.json_pointer.specs.Tokens.{texts}
 use Rattle.tree_path.proofs.edit.value_at.Given as goal
 
 abbrev pub invariant-loop-passed : goal.invariant-loop-passed

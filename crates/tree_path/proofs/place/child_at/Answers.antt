@@ -1,10 +1,10 @@
 use Rattle.std.proofs.Common.{◌≡◌, ℕ, List, Option, Vec, Global, refl, Ok, Err, ap, ◌∙◌, sym, rules}
 use Rattle.std.proofs.lemmas.Result.{err_from_is_err_and}
 use Rattle.std.specs.Str.{chars}
-use Rattle.yaml_tree.specs.Seen.{Pair, tree_of}
-use Rattle.yaml_tree.specs.declared.tree.Tree.{Tree}
-use Rattle.yaml_tree.specs.declared.tree.Tree.TheVariants.{Map}
-use Rattle.yaml_tree.proofs.SeenLemmas.{tree_of-Text, tree_of-Seq, tree_of-Map}
+use Rattle.yaml_data.specs.Seen.{Pair, tree_of}
+use Rattle.yaml_data.specs.declared.tree.Tree.{Tree}
+use Rattle.yaml_data.specs.declared.tree.Tree.TheVariants.{Map}
+use Rattle.yaml_data.proofs.SeenLemmas.{tree_of-Text, tree_of-Seq, tree_of-Map}
 use Rattle.tree_path.specs.Paths.{child, key_in}
 use Rattle.tree_path.specs.Steps.{key_place}
 use Rattle.tree_path.proofs.Places.{place_of-pairs}

@@ -1,7 +1,7 @@
 use Rattle.std.proofs.Common.{ap, ◌∙◌}
 use Rattle.std.specs.Str.{chars}
-use Rattle.yaml_tree.specs.Seen.{tree_of}
-use Rattle.yaml_tree.proofs.SeenLemmas.{tree_of-Text}
+use Rattle.yaml_data.specs.Seen.{tree_of}
+use Rattle.yaml_data.proofs.SeenLemmas.{tree_of-Text}
 use Rattle.tree_path.specs.Paths.{child}
 use Rattle.tree_path.proofs.Steps.{child-Text}
 use Rattle.tree_path.proofs.place.exchange.Goals as goal

@@ -2,7 +2,7 @@ use Rattle.std.proofs.Common.{Ok, set, ap, ◌∙◌, sym, rules}
 use Rattle.std.proofs.lemmas.Result.{err_from_is_err_and}
 use Rattle.std.specs.Str.{chars}
 use Rattle.yaml_grammar.specs.Trees.{sequence}
-use Rattle.yaml_tree.specs.Seen.{tree_of, elements_of}
+use Rattle.yaml_data.specs.Seen.{tree_of, elements_of}
 use Rattle.tree_path.proofs.Steps.{child-Seq, child-Seq-missed, put-Seq, index-counted}
 use Rattle.tree_path.proofs.place.exchange_element.Goals as goal
 

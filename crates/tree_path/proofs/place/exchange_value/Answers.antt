@@ -2,7 +2,7 @@ use Rattle.std.proofs.Common.{Ok, Err, set, ap, ap₂, ◌∙◌, sym, rules}
 use Rattle.std.proofs.lemmas.Result.{err_from_is_err_and}
 use Rattle.std.specs.Str.{chars}
 use Rattle.yaml_grammar.specs.Trees.{mapping}
-use Rattle.yaml_tree.specs.Seen.{tree_of, members_of}
+use Rattle.yaml_data.specs.Seen.{tree_of, members_of}
 use Rattle.tree_path.proofs.Steps.{child-Map, child-Map-missed, put-Map, place-within, place-found, place-missed}
 use Rattle.tree_path.proofs.place.exchange_value.Goals as goal
 

@@ -1,7 +1,7 @@
 use Rattle.std.proofs.Common.{ap, sym, ◌∙◌}
 use Rattle.std.specs.Str.{chars}
-use Rattle.yaml_tree.specs.Seen.{tree_of}
-use Rattle.yaml_tree.proofs.SeenLemmas.{tree_of-Map}
+use Rattle.yaml_data.specs.Seen.{tree_of}
+use Rattle.yaml_data.proofs.SeenLemmas.{tree_of-Map}
 use Rattle.tree_path.specs.Paths.{key_in}
 use Rattle.tree_path.specs.Steps.{key_place}
 use Rattle.tree_path.proofs.Places.{place_of-pairs}

@@ -1,6 +1,6 @@
 use Rattle.std.proofs.Common.{◌≡◌, true, sym, ◌∙◌}
 use Rattle.yaml_grammar.specs.Trees.{distinct}
-use Rattle.yaml_tree.specs.Seen.{tree_of}
+use Rattle.yaml_data.specs.Seen.{tree_of}
 use Rattle.yaml_tree.proofs.TextTreeLemmas.{tree_of-IsTextTree}
 use Rattle.yaml_tree.proofs.config.checked_length.Goals as goal
 

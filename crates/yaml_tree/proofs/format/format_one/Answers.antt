@@ -1,4 +1,4 @@
-use Rattle.std.proofs.Common.{◌≡◌, ◌≤◌, true, string_bytes, sym, ap, subst, ◌∙◌}
+use Rattle.std.proofs.Common.{◌≡◌, ◌≤◌, true, sym, subst, ◌∙◌}
 use Rattle.std.proofs.lemmas.Bool.{not-false}
 use Rattle.std.proofs.lemmas.Result.{err_from_is_err_and}
 use Rattle.yaml_events.specs.Meant.{events_of}
@@ -29,6 +29,6 @@ returns-in-Some-clause-given c =
     let differ : document.keys_differ ≡ true = not-false document.keys_differ c.if-not-document.false in
     let same : c.in_ok-documents.field-0.depth ≡ depth written.tree = c.in_ok-documents.ensures.1 written.tree written.is_tree in
     let deep : depth written.tree ≤ limits.depth = subst (λ n. n ≤ limits.depth) same c.if-depth-limits.false in
-    subst (IsFormatted c.args.bytes.now limits) (sym (ap string_bytes c.in-Some.ensures.some.1))
+    subst (IsFormatted c.args.bytes.now limits) (sym c.in-Some.ensures.some.1)
     (formatted c.args.bytes.now limits es c.in_ok-text.text document c.in_ok-events.ensures.reads written differ deep
     c.in_ok-text.ensures.0 c.in_ok-text.ensures.1 c.in-Some.ensures.some.0)

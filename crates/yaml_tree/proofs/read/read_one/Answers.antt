@@ -4,8 +4,8 @@ use Rattle.yaml_events.specs.Meant.{events_of}
 use Rattle.yaml_grammar.specs.Trees.{Tree, IsTreeOf, depth}
 use Rattle.yaml_tree.specs.Kept.{limits_of}
 use Rattle.yaml_tree.specs.Reading.{IsRead, document_count}
-use Rattle.yaml_tree.specs.Seen.{tree_of}
-use Rattle.yaml_tree.specs.declared.tree.Tree as trees
+use Rattle.yaml_data.specs.Seen.{tree_of}
+use Rattle.yaml_data.specs.declared.tree.Tree as trees
 use Rattle.yaml_tree.proofs.ReadLemmas.{tree_read, shallow_refused, deep_refused}
 use Rattle.yaml_tree.proofs.read.read_one.Goals as goal
 

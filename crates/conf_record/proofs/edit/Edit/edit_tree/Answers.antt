@@ -1,6 +1,6 @@
 use Rattle.std.proofs.Common.{ap, ◌∙◌}
 use Rattle.yaml_grammar.specs.Trees.{distinct}
-use Rattle.yaml_tree.specs.Seen.{tree_of}
+use Rattle.yaml_data.specs.Seen.{tree_of}
 use Rattle.tree_path.proofs.EditLaws.{set-distinct, delete-distinct}
 use Rattle.conf_record.proofs.edit.Edit.edit_tree.Goals as goal
 

@@ -1,6 +1,6 @@
 use Rattle.std.proofs.Common.{◌≡◌, ◌+◌, Ok, nat_le, length, ap, subst, ◌∙◌, arith}
 use Rattle.yaml_grammar.specs.Trees.{depth}
-use Rattle.yaml_tree.specs.Seen.{tree_of}
+use Rattle.yaml_data.specs.Seen.{tree_of}
 use Rattle.conf_record.specs.Edits.{tree_after_edit}
 use Rattle.conf_record.proofs.DepthLemmas.{set-fits, delete-fits, capped_fits}
 use Rattle.conf_record.proofs.edit.Edit.keeps_depth.Goals as goal

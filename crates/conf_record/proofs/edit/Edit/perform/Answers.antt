@@ -2,7 +2,7 @@ use Rattle.std.proofs.Common.{◌≡◌, ◌≤◌, Ok, sym, ap, subst, ◌∙�
 use Rattle.yaml_grammar.specs.Style.{style_text}
 use Rattle.yaml_grammar.specs.Texts.{byte_len}
 use Rattle.yaml_grammar.specs.Trees.{depth, distinct}
-use Rattle.yaml_tree.specs.Seen.{tree_of}
+use Rattle.yaml_data.specs.Seen.{tree_of}
 use Rattle.yaml_tree.proofs.TextTreeLemmas.{tree_of-IsTextTree}
 use Rattle.tree_path.specs.Paths.{last_key}
 use Rattle.conf_record.specs.Edits.{tree_after_edit}

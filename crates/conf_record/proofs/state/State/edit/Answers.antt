@@ -2,7 +2,7 @@ use Rattle.std.proofs.Common.{◌≡◌, ◌+◌, List, Ok, Some, string_bytes, 
 use Rattle.std.proofs.lemmas.Result.{err_from_is_err_and}
 use Rattle.std.specs.Map.{lookup}
 use Rattle.std.specs.Str.{chars}
-use Rattle.yaml_tree.specs.Seen.{tree_of}
+use Rattle.yaml_data.specs.Seen.{tree_of}
 use Rattle.tree_path.proofs.StepLaws.{none-other}
 use Rattle.tree_path.specs.Paths.{last_key}
 use Rattle.conf_record.specs.BaseTexts.{entries_length}

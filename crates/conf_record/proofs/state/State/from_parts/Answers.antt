@@ -1,6 +1,6 @@
 use Rattle.std.proofs.Common.{rules, ◌≡◌, List, length, min, [], ◌∷◌, MatchOption, ap, sym, subst, ◌∙◌, refl, arith}
 use Rattle.std.specs.Vec.Iter.{into_iter_items}
-use Rattle.yaml_tree.specs.Seen.{tree_of}
+use Rattle.yaml_data.specs.Seen.{tree_of}
 use Rattle.conf_record.specs.BaseTexts.{framed_length}
 use Rattle.conf_record.specs.Commands.{text_of}
 use Rattle.conf_record.specs.Kept.{entries_of, Appended, IsUnfit}

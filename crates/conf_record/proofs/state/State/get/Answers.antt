@@ -1,7 +1,7 @@
 use Rattle.std.proofs.Common.{Option, Some, None, Bor, option_map, option_copied, ◌≡◌, refl, ap, ◌∙◌}
 use Rattle.std.specs.Str.{chars}
-use Rattle.yaml_tree.specs.Seen.{tree_of}
-use Rattle.yaml_tree.specs.declared.tree.Tree.{Tree}
+use Rattle.yaml_data.specs.Seen.{tree_of}
+use Rattle.yaml_data.specs.declared.tree.Tree.{Tree}
 use Rattle.conf_record.specs.States.{config_named}
 use Rattle.conf_record.proofs.EntryLemmas.{lookup-named}
 use Rattle.conf_record.proofs.state.State.get.Goals as goal

@@ -1,6 +1,6 @@
 use Rattle.std.proofs.Common.{arith}
 use Rattle.std.specs.Str.{chars}
-use Rattle.yaml_tree.specs.Seen.{tree_of}
+use Rattle.yaml_data.specs.Seen.{tree_of}
 use Rattle.conf_record.proofs.LimitLemmas.{entries_length-put}
 use Rattle.conf_record.proofs.state.State.length_with.Goals as goal
 

@@ -1,7 +1,7 @@
 use Rattle.std.proofs.Common.{List, [], ◌∷◌, String, Global, string_bytes, ◌≡◌, refl, ap, ◌∙◌}
 use Rattle.std.specs.Map.{keys_of}
 use Rattle.std.specs.Str.{chars}
-use Rattle.yaml_tree.specs.declared.tree.Tree.{Tree}
+use Rattle.yaml_data.specs.declared.tree.Tree.{Tree}
 use Rattle.conf_record.specs.States.{names_of}
 use Rattle.conf_record.specs.Kept.{names_from, entries_of}
 use Rattle.conf_record.proofs.state.State.names.Goals as goal

@@ -1,6 +1,6 @@
 use Rattle.std.proofs.Common.{◌≡◌, ◌+◌, string_bytes, min, Ok, IsUtf8, ap, sym, subst, ◌∙◌, arith}
 use Rattle.std.specs.Str.{chars}
-use Rattle.yaml_tree.specs.Seen.{tree_of}
+use Rattle.yaml_data.specs.Seen.{tree_of}
 use Rattle.conf_record.specs.States.{put_config}
 use Rattle.conf_record.specs.BaseTexts.{entries_length}
 use Rattle.conf_record.specs.Kept.{entries_of}

@@ -3,8 +3,8 @@ use Rattle.std.proofs.lemmas.Result.{on_ok_weaker}
 use Rattle.std.specs.Str.{chars}
 use Rattle.yaml_grammar.specs.Trees.{mapping}
 use Rattle.yaml_grammar.specs.Style.{value_at, members_after}
-use Rattle.yaml_tree.specs.Seen.{tree_of}
-use Rattle.yaml_tree.specs.declared.tree.Tree.{Tree}
+use Rattle.yaml_data.specs.Seen.{tree_of}
+use Rattle.yaml_data.specs.declared.tree.Tree.{Tree}
 use Rattle.conf_record.specs.BaseTexts.{members, entry_lines}
 use Rattle.conf_record.specs.Kept.{entries_of}
 use Rattle.conf_record.proofs.LineLemmas.{ascii}

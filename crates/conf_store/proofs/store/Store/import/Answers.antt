@@ -1,7 +1,7 @@
 use Rattle.std.proofs.Common.{◌≡◌, true, string_bytes, sym, subst}
 use Rattle.std.proofs.lemmas.Result.{IfErr-weaker}
 use Rattle.std.specs.Str.{chars}
-use Rattle.yaml_tree.specs.Seen.{tree_of}
+use Rattle.yaml_data.specs.Seen.{tree_of}
 use Rattle.conf_record.specs.Commands.{import_as}
 use Rattle.conf_record.specs.Names.{good_name}
 use Rattle.conf_store.specs.Calls.{RefusesCommand}

@@ -5,9 +5,9 @@ use Rattle.yaml_grammar.specs.Style.{style_text}
 use Rattle.yaml_grammar.specs.Texts.{byte_len}
 use Rattle.yaml_grammar.specs.Trees.{Tree, text}
 use Rattle.yaml_tree.specs.Kept.{own_limits}
-use Rattle.yaml_tree.specs.Seen.{tree_of}
-use Rattle.yaml_tree.specs.declared.tree.Tree.{Text}
-use Rattle.yaml_tree.proofs.SeenLemmas.{tree_of-Text}
+use Rattle.yaml_data.specs.Seen.{tree_of}
+use Rattle.yaml_data.specs.declared.tree.Tree.{Text}
+use Rattle.yaml_data.proofs.SeenLemmas.{tree_of-Text}
 use Rattle.std.proofs.lemmas.Str.{chars-nil}
 use Rattle.yaml_tree.proofs.config.Config.empty.Goals as goal
 

@@ -1,0 +1,10 @@
+// Where a crash cuts the files of a folder.
+/// How each file of a stage is cut: how many of its pending bytes are kept, and how many zeros follow them. For a name
+/// under which the stage has no file it is `(0, 0)`.
+#[derive(Clone, Copy, Debug, Default, PartialEq, Eq)]
+pub struct Cuts {
+    /// Kept bytes and zeros of the file under `Store`.
+    pub store: (usize, usize),
+    /// Kept bytes and zeros of the file under `Next`.
+    pub next: (usize, usize),
+}

@@ -1,0 +1,4 @@
+pub mod ChangeLaws
+pub mod Located
+pub mod Measured
+pub mod Planned

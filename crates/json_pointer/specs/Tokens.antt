@@ -1,0 +1,17 @@
+-- Tokens as the code has them.
+use Rattle.std.specs.Prelude.{◌==◌, ℕ, List, Option, Some, None, if◌then◌else◌, map}
+use Rattle.std.specs.Cow.{cow_str_bytes}
+use Rattle.std.specs.declared.borrow.CowStr.{CowStr}
+use Rattle.std.specs.declared.alloc.Global.{Global}
+use Rattle.std.specs.Str.{chars}
+use Rattle.yaml_chars.specs.Signs.{tilde}
+use Rattle.json_pointer.specs.Pointers.{slash}
+
+-- tokens of the code as texts
+abbrev pub texts : List (CowStr Global) → List (List ℕ)
+texts tokens = map (λ token. chars (cow_str_bytes token)) tokens
+
+-- the character that `~` and this one spell
+abbrev pub escaped_by : Option ℕ → Option ℕ
+escaped_by None = None
+escaped_by (Some d) = if d == 48 then Some tilde else (if d == 49 then Some slash else None)

@@ -1,0 +1,11 @@
+//! Pointers into a tree, as JSON Pointer (RFC 6901) writes them: a [`Path`] is a list of tokens, and [`Path::parse`]
+//! reads one. [`PathFault`] says why a text is no pointer, or at which step it leads to nothing.
+#![tactic(auto)]
+
+mod fault;
+mod laws;
+mod path;
+
+pub use fault::PathFault;
+pub use laws::text_is_read_back;
+pub use path::Path;

@@ -1,0 +1,117 @@
+-- A disk with a fuse: which calls pass to the disk below, and what becomes of the others.
+use Rattle.std.specs.Prelude.{◌≡◌, ◌≢◌, ℕ, ◌+◌, min, true, false, Result, Err, ◌==◌, nat_lt, if◌then◌else◌}
+use Rattle.conf_disk.specs.Folder.{Folder, Step, CreateNext, Append, Sync, RenameNext, RemoveNext, SyncFolder, Performs}
+use Rattle.conf_disk.specs.Moments.{CountsFailures, greatest}
+use Rattle.conf_disk.specs.declared.disk.Name.{Name}
+use Rattle.conf_disk.specs.declared.disk.Content.{Content}
+use Rattle.conf_disk.specs.declared.disk.DiskFault.{DiskFault}
+use Rattle.conf_disk.specs.declared.disk.DiskFault.TheVariants.{Device, OutOfMemory}
+use Rattle.test_disks.specs.declared.fused.Fuse.{Fuse}
+use Rattle.test_disks.specs.declared.fused.Fuse.TheVariants.{Stop, FailOnce}
+use Rattle.test_disks.specs.declared.fused.FusedDisk.{FusedDisk}
+use Rattle.test_disks.specs.declared.fused.FuseCounter.{FuseCounter}
+use Rattle.test_disks.specs.declared.fused.Call.{Call}
+use Rattle.test_disks.specs.declared.fused.Call.TheVariants as call
+use Rattle.test_disks.specs.declared.fused.Outcome.{Outcome}
+use Rattle.test_disks.specs.declared.fused.Outcome.TheVariants.{Passes, Fails, FailsDone}
+
+-- what a call does
+abbrev pub call_step : Call → Step
+call_step call.CreateNext = CreateNext
+call_step (call.Append name bytes) = Append name bytes.now
+call_step (call.Sync name) = Sync name
+call_step call.RenameNext = RenameNext
+call_step call.RemoveNext = RemoveNext
+call_step call.SyncFolder = SyncFolder
+
+-- How many calls pass before it is the fuse's turn, and the fuse, which both stay as they are; how many calls passed,
+-- and how many the fuse failed, each up to the greatest number.
+pub record FuseState : Type 0 where
+  pub calls : ℕ
+  pub fuse : Fuse
+  pub passed : ℕ
+  pub blown : ℕ
+
+-- What a fuse that failed so many calls makes of the next one: `Stop` fails each, and `FailOnce` the first.
+abbrev pub outcome_of_fuse : Fuse → ℕ → Outcome
+outcome_of_fuse Stop blown = Fails
+outcome_of_fuse (FailOnce false) blown = if blown == 0 then Fails else Passes
+outcome_of_fuse (FailOnce true) blown = if blown == 0 then FailsDone else Passes
+
+-- the first calls pass, and the fuse decides on the others
+abbrev pub outcome_of_call : FuseState → Outcome
+outcome_of_call state = if nat_lt state.passed state.calls then Passes else outcome_of_fuse state.fuse state.blown
+
+-- the call is counted among those that passed, or among the fuse's own failures
+abbrev pub with_outcome : Outcome → FuseState → FuseState
+with_outcome Passes state = record state { passed = min (state.passed + 1) greatest }
+with_outcome Fails state = record state { blown = min (state.blown + 1) greatest }
+with_outcome FailsDone state = record state { blown = min (state.blown + 1) greatest }
+
+-- a disk that has failed the greatest number of times does nothing more, and counts no call
+abbrev pub outcome_of : ℕ → FuseState → Outcome
+outcome_of failures state = if failures == greatest then Fails else outcome_of_call state
+
+abbrev pub state_after : ℕ → FuseState → FuseState
+state_after failures state = if failures == greatest then state else with_outcome (outcome_of_call state) state
+
+-- what the trait's clauses say of a call of the disk below that changes something
+pub record IsCall {D : Type 0} (honest : Type 0) (folder : D → Folder) (failure_count : D → ℕ)
+    (also_changes : D → Step → Result (Unit {0}) DiskFault → D → Type 0)
+    (old : D) (step : Step) (result : Result (Unit {0}) DiskFault) (new : D) : Type 0 where
+  pub change : honest → Performs step (folder old) (folder new) result
+  pub failures : CountsFailures (failure_count old) (failure_count new) result
+  pub fault : result ≢ Err OutOfMemory
+  pub also : also_changes old step result new
+
+-- A call that passes is one of the disk below. One that fails returns Device, and the disk below is as it was, or has
+-- had the call.
+abbrev pub Goes : {T : Type 0} → Outcome → (Result T DiskFault → Type 0) → Type 0 → Result T DiskFault → Type 0
+Goes Passes Calls Unchanged result = Calls result
+Goes Fails Calls Unchanged result = (result ≡ Err Device) × Unchanged
+Goes {T = T} FailsDone Calls Unchanged result = (result ≡ Err Device) × ((answer : Result T DiskFault) × Calls answer)
+
+-- the disk below
+abbrev pub fused_inner : {D : Type 0} → FusedDisk D → D
+fused_inner disk = disk.inner
+
+-- the state of a fuse, from the code's counter
+abbrev pub counter_state : FuseCounter → FuseState
+counter_state counter = record { calls = counter.calls; fuse = counter.fuse; passed = counter.passed; blown = counter.blown }
+
+-- the state of a disk's fuse
+abbrev pub fuse_of : {D : Type 0} → FusedDisk D → FuseState
+fuse_of disk = counter_state disk.counter
+
+-- how many calls went through to the disk below, up to the greatest number
+abbrev pub passed_count : {D : Type 0} → FusedDisk D → ℕ
+passed_count disk = disk.counter.passed
+
+-- the failures of the disk below and the fuse's own, up to the greatest number
+abbrev pub fused_failures : {D : Type 0} → (D → ℕ) → FusedDisk D → ℕ
+fused_failures failure_count disk = min (failure_count disk.inner + disk.counter.blown) greatest
+
+-- how a call that changes something goes
+pub record FusesChange {D : Type 0} (honest : Type 0) (folder : D → Folder) (failure_count : D → ℕ)
+    (also_changes : D → Step → Result (Unit {0}) DiskFault → D → Type 0)
+    (old : FusedDisk D) (step : Step) (result : Result (Unit {0}) DiskFault) (new : FusedDisk D) : Type 0 where
+  pub fuse : fuse_of new ≡ state_after (fused_failures failure_count old) (fuse_of old)
+  pub outcome : Goes (outcome_of (fused_failures failure_count old) (fuse_of old))
+      (λ answer. IsCall honest folder failure_count also_changes (fused_inner old) step answer (fused_inner new))
+      (fused_inner new ≡ fused_inner old) result
+
+-- a read has no effect that it could have had
+abbrev pub without_effect : Outcome → Outcome
+without_effect Passes = Passes
+without_effect Fails = Fails
+without_effect FailsDone = Fails
+
+-- how a read goes: where it doesn't pass, the disk below is not read
+pub record FusesRead {D : Type 0} (failure_count : D → ℕ)
+    (also_reads : D → Name → ℕ → Result Content DiskFault → D → Type 0)
+    (old : FusedDisk D) (name : Name) (max : ℕ) (result : Result Content DiskFault) (new : FusedDisk D) : Type 0 where
+  pub fuse : fuse_of new ≡ state_after (fused_failures failure_count old) (fuse_of old)
+  pub outcome : Goes (without_effect (outcome_of (fused_failures failure_count old) (fuse_of old)))
+      (λ answer. also_reads (fused_inner old) name max answer (fused_inner new)
+      × CountsFailures (failure_count (fused_inner old)) (failure_count (fused_inner new)) answer)
+      (fused_inner new ≡ fused_inner old) result

@@ -1,0 +1,27 @@
+-- A disk in memory as the steps that it keeps.
+use Rattle.std.specs.Prelude.{◌≡◌, ℕ, ◌+◌, min, List, [], ◌∷◌, ◌++◌, map, Result, OnOk, OnErr}
+use Rattle.conf_disk.specs.Folder.{Folder, empty_folder, Step}
+use Rattle.conf_disk.specs.Log.{folder_after}
+use Rattle.conf_disk.specs.Moments.{greatest}
+use Rattle.test_disks.specs.Replay.{step_of}
+use Rattle.conf_disk.specs.declared.disk.DiskFault.{DiskFault}
+use Rattle.test_disks.specs.declared.memory.MemoryDisk.{MemoryDisk}
+
+-- the steps that were done, the first of them first
+abbrev pub steps_of : MemoryDisk → List Step
+steps_of disk = map step_of disk.changes.items
+
+-- the folder that the disk has
+abbrev pub memory_folder : MemoryDisk → Folder
+memory_folder disk = folder_after (steps_of disk) empty_folder
+
+-- the number of its failures
+abbrev pub memory_failures : MemoryDisk → ℕ
+memory_failures disk = disk.failures
+
+-- A call that returns Ok is one step more and no failure. One that runs out of memory is a failure and no step.
+pub record Notes {T : Type 0} (old : MemoryDisk) (step : Step) (result : Result T DiskFault) (new : MemoryDisk) : Type 0 where
+  pub done : OnOk result (steps_of new ≡ steps_of old ++ step ∷ [])
+  pub no_failure : OnOk result (memory_failures new ≡ memory_failures old)
+  pub not_done : OnErr result (steps_of new ≡ steps_of old)
+  pub failure : OnErr result (memory_failures new ≡ min (memory_failures old + 1) greatest)

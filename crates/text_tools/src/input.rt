@@ -1,0 +1,37 @@
+// Reading an input, up to a limit.
+ghost use Rattle.std.specs.Prelude.{◌≡◌, ◌⊎◌, IfOk, IfErr};
+ghost use Rattle.text_tools.specs.Tools.{HasRead};
+
+use crate::tools::ToolFault;
+use std::alloc::Global;
+use std::io::{ErrorKind, Read};
+use yaml_tree::ReadFault;
+
+/// The most bytes that are read at once.
+const CHUNK: usize = 65_536;
+
+/// The bytes that the reader gives up to its end, or its first `most`. A read that was interrupted is tried again.
+///
+/// `Input` where a read fails, and `Read(OutOfMemory)` where there is no memory for the bytes.
+pub fn read_up_to<R: Read>(alloc: Global, reader: &mut R, most: usize) -> Result<Vec<u8>, ToolFault>
+    ensures ok { IfOk result (λ bytes.
+        HasRead (R.remaining reader.old) (R.remaining reader.new) bytes.items most) }
+    ensures faults { IfErr result (λ fault. (fault ≡ ToolFault.Input)
+        ⊎ (fault ≡ ToolFault.Read ReadFault.OutOfMemory)) }
+{
+    let mut bytes = Vec::new(alloc);
+    let mut chunk = [0; CHUNK];
+    for _ in 0..u64::MAX {
+        let room = CHUNK.min(most - bytes.len());
+        if room == 0 {
+            return Ok(bytes);
+        }
+        match reader.read(&mut chunk[..room]) {
+            Ok(0) => return Ok(bytes),
+            Ok(count) => bytes.extend_from_slice(&chunk[..count])?,
+            Err(error) if error.kind() == ErrorKind::Interrupted => {}
+            Err(_) => return Err(ToolFault::Input),
+        }
+    }
+    Err(ToolFault::Input)
+}

@@ -1,0 +1,107 @@
+// The tools for texts, over any reader and writer.
+ghost use Rattle.std.specs.Prelude.{◌≡◌, IfErr, IfOk, OnOk};
+ghost use Rattle.std.specs.Io.KnownBytes.{Appends};
+ghost use Rattle.text_tools.specs.Tools.{Checks, Formats, Stops};
+
+use crate::input::read_up_to;
+use crate::report::report;
+use std::alloc::{AllocError, Global};
+use std::io::{Read, Write};
+use thiserror::Error;
+use yaml_style::check;
+use yaml_tree::{Limits, ReadFault, format_one};
+
+/// One byte more than a text may have: who has read as many knows that there are too many.
+const MOST_INPUT: usize = Limits::CONFIGURATION.bytes as usize + 1;
+
+/// Why a tool stopped.
+#[derive(Clone, Copy, Debug, PartialEq, Eq, Error)]
+pub enum ToolFault {
+    /// The reader failed. Nothing was written.
+    #[error("Input")]
+    Input,
+    /// The writer failed. Some of the text may have been written.
+    #[error("Output")]
+    Output,
+    /// The text was refused, or there was no memory. Nothing was written.
+    #[error("{}", .0.brief())]
+    Read(ReadFault),
+}
+
+impl From<AllocError> for ToolFault {
+    ghost use Rattle.text_tools.specs.declared.tools.ToolFault.TheVariants.{Read};
+    ghost use Rattle.yaml_docs.specs.declared.fault.ReadFault.TheVariants.{OutOfMemory};
+
+    ghost from_gives = { λ _ out. out ≡ Read OutOfMemory };
+
+    fn from(_: AllocError) -> Self {
+        ToolFault::Read(ReadFault::OutOfMemory)
+    }
+}
+
+/// Reads a text from `reader` to its end, and writes its tree in the one style to `writer`. It reads at most one
+/// byte more than the 1,048,576 that a text may have.
+///
+/// `Input` where the reader fails, `Read` where the text is refused or there is no memory: nothing is written then.
+/// `Output` where the writer fails.
+pub fn format_text<R: Read, W: Write>(
+    alloc: Global,
+    reader: &mut R,
+    writer: &mut W,
+) -> Result<(), ToolFault>
+    ensures ok { OnOk result (Formats (R.remaining reader.old) (R.remaining reader.new)
+        (W.contents writer.old) (W.contents writer.new)) }
+    ensures stops { IfErr result (Stops (R.remaining reader.old) (R.remaining reader.new)
+        (W.contents writer.old) (W.contents writer.new)) }
+{
+    let bytes = read_up_to(alloc, reader, MOST_INPUT)?;
+    let text = match format_one(alloc, &bytes, &Limits::CONFIGURATION) {
+        Ok(text) => text,
+        Err(fault) => return Err(ToolFault::Read(fault)),
+    };
+    write_whole(writer, text.as_bytes())?;
+    Ok(())
+}
+
+/// Reads a text from `reader` to its end, and writes a line to `writer` for each of its findings, in the order of
+/// [`check`]. The line has the rule's name, a space, and the number of the line, from 1. Returns how many findings
+/// there are. It reads at most one byte more than the 1,048,576 that a text may have. The lines are written at once:
+/// they have at most some 12 MB, since a text has at most two findings more than bytes.
+///
+/// `Input` where the reader fails, `Read` where the text is refused or there is no memory: nothing is written then.
+/// `Output` where the writer fails.
+pub fn check_text<R: Read, W: Write>(
+    alloc: Global,
+    reader: &mut R,
+    writer: &mut W,
+) -> Result<u64, ToolFault>
+    ensures ok { IfOk result (Checks (R.remaining reader.old) (R.remaining reader.new)
+        (W.contents writer.old) (W.contents writer.new)) }
+    ensures stops { IfErr result (Stops (R.remaining reader.old) (R.remaining reader.new)
+        (W.contents writer.old) (W.contents writer.new)) }
+{
+    let bytes = read_up_to(alloc, reader, MOST_INPUT)?;
+    let findings = match check(alloc, &bytes) {
+        Ok(findings) => findings,
+        Err(refused) => return Err(ToolFault::Read(refused)),
+    };
+    let lines = report(alloc, &findings)?;
+    write_whole(writer, &lines)?;
+    Ok(findings.len() as u64)
+}
+
+/// Writes all bytes, and flushes the writer.
+///
+/// `Output` where the writer fails; some of the bytes may have been written.
+pub fn write_whole<W: Write>(writer: &mut W, bytes: &[u8]) -> Result<(), ToolFault>
+    ensures ok { OnOk result (Appends (W.contents writer.old) (W.contents writer.new) bytes.now) }
+    ensures fault { IfErr result (λ fault. fault ≡ ToolFault.Output) }
+{
+    let Ok(()) = writer.write_all(bytes) else {
+        return Err(ToolFault::Output);
+    };
+    let Ok(()) = writer.flush() else {
+        return Err(ToolFault::Output);
+    };
+    Ok(())
+}

@@ -1,0 +1,6 @@
+pub mod FrameLemmas
+pub mod PartLemmas
+pub mod InnermostLemmas
+pub mod EventLemmas
+pub mod EmptiedLemmas
+pub mod CheckLemmas

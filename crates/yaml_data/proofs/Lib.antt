@@ -1,0 +1,7 @@
+pub mod DepthTests
+pub mod KeyLemmas
+pub mod LevelLemmas
+pub mod ListLemmas
+pub mod SeenLemmas
+pub mod CharacterLemmas
+pub mod TextLemmas

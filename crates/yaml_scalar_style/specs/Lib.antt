@@ -1,0 +1,4 @@
+pub mod Encoded
+pub mod Lines
+pub mod Runs
+pub mod ScalarStyles

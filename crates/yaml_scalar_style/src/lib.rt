@@ -1,0 +1,17 @@
+//! How the one style writes a text: the style of its scalar, and its characters in double quotes or as a literal.
+//!
+//! What is written goes to a [`Sink`], as a `String` is.
+#![tactic(auto)]
+
+mod bytes;
+mod lines;
+mod literal;
+mod quoted;
+mod scalar;
+mod sink;
+mod text_sink;
+
+pub use literal::write_literal_lines;
+pub use quoted::write_quoted;
+pub use scalar::{ScalarStyle, scalar_style};
+pub use sink::Sink;

@@ -1,6 +1,0 @@
-use Rattle.std.proofs.Common.{arith}
-use Rattle.yaml_tree.proofs.ByteLemmas.{byte_len-spaces}
-use Rattle.yaml_tree.proofs.count.ByteCountSink.put_spaces.Goals as goal
-
-pub returns : goal.returns
-returns c = omega (arith, byte_len-spaces c.args.count)

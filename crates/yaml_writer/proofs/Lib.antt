@@ -1,0 +1,7 @@
+pub mod ByteLemmas
+pub mod LengthLemmas
+pub mod SizeLaws
+pub mod SizeBounds
+pub mod StyleLemmas
+pub mod WalkLemmas
+pub mod BudgetLemmas

@@ -1,0 +1,7 @@
+use Rattle.std.proofs.Common.{sym, ap, ◌∙◌}
+use Rattle.yaml_writer.specs.Budget.{left_after}
+use Rattle.yaml_writer.proofs.ByteLemmas.{byte_len-spaces}
+use Rattle.yaml_writer.proofs.count.ByteBudgetSink.put_spaces.Goals as goal
+
+pub returns : goal.returns
+returns c = c.spend.ensures ∙ ap (left_after c.args.self.now.left) (sym (byte_len-spaces c.args.count))

@@ -1,0 +1,5 @@
+pub mod Budget
+pub mod BudgetLaws
+pub mod Sizes
+pub mod LimitedLaws
+pub mod Limited

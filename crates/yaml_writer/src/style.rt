@@ -1,0 +1,189 @@
+// The one style: the text of a tree, written to a sink.
+ghost use Rattle.std.specs.Prelude.{◌+◌, ◌*◌, ◌^◌, ◌<◌, ◌≤◌, ◌++◌, true, codes, OnOk};
+ghost use Rattle.std.specs.Str.{chars};
+ghost use Rattle.yaml_grammar.specs.Texts.{spaces};
+ghost use Rattle.yaml_grammar.specs.Trees as grammar;
+ghost use Rattle.yaml_grammar.specs.Trees.{depth, elements_depth, members_depth};
+ghost use Rattle.yaml_grammar.specs.Style.{literal_lines, scalar_lines, key_text, key_lines, elements_at, element_at, members_at, value_at, style_text};
+ghost use Rattle.yaml_data.specs.Seen.{tree_of, elements_of, members_of};
+
+use crate::count::is_long_key;
+use yaml_data::{Text, Tree};
+use yaml_scalar_style::{ScalarStyle, Sink, scalar_style, write_literal_lines, write_quoted};
+
+/// Writes a tree in the one style: the text, with the end of its last line. The call stack grows with the depth,
+/// which therefore is at most 66; [`is_deeper_than`](Tree::is_deeper_than) tests that.
+pub fn write_style<S: Sink>(tree: &Tree, sink: &mut S) -> Result<(), S::Fault>
+    requires { depth (tree_of tree.now) ≤ 66 }
+    ensures { OnOk result (S.Takes sink.old (style_text (tree_of tree.now)) sink.new) }
+{
+    match tree {
+        Tree::Text(text) => write_scalar(text, 2, sink),
+        Tree::Seq(items) => write_elements(items, 0, sink),
+        Tree::Map(pairs) => write_members(pairs, 0, sink),
+    }
+}
+
+/// Writes a text as the value after the `:` of its key at `indent`, with the end of its last line.
+pub fn write_text<S: Sink>(text: &str, indent: u64, sink: &mut S) -> Result<(), S::Fault>
+    requires { indent + 2 < 2 ^ 64 }
+    ensures { OnOk result (S.Takes sink.old (value_at
+        (grammar.text (chars text.now)) indent) sink.new) }
+{
+    sink.put_char(' ')?;
+    write_scalar(text, indent + 2, sink)
+}
+
+/// Writes a text as a value, with the end of its last line; a literal's lines come after `indent` spaces. It fails only
+/// if the sink does.
+pub fn write_scalar<S: Sink>(text: &str, indent: u64, sink: &mut S) -> Result<(), S::Fault>
+    ensures { OnOk result (S.Takes sink.old (scalar_lines indent (chars text.now)) sink.new) }
+{
+    match scalar_style(text, false) {
+        ScalarStyle::Plain => {
+            sink.put_text(text)?;
+            sink.put_char('\n')
+        }
+        ScalarStyle::Double => {
+            write_quoted(text, sink)?;
+            sink.put_char('\n')
+        }
+        ScalarStyle::LiteralStrip => write_literal("|-\n", text, indent, sink),
+        ScalarStyle::LiteralClip => write_literal("|\n", text, indent, sink),
+        ScalarStyle::LiteralKeep => write_literal("|+\n", text, indent, sink),
+    }
+}
+
+fn write_literal<S: Sink>(
+    header: &str,
+    text: &str,
+    indent: u64,
+    sink: &mut S,
+) -> Result<(), S::Fault>
+    ensures { OnOk result (S.Takes sink.old
+        (chars header.now ++ literal_lines indent true (chars text.now)) sink.new) }
+{
+    sink.put_text(header)?;
+    write_literal_lines(text, indent, sink)
+}
+
+/// Writes a key without its `:`.
+pub(crate) fn write_key_text<S: Sink>(key: &str, sink: &mut S) -> Result<(), S::Fault>
+    ensures { OnOk result (S.Takes sink.old (key_text (chars key.now)) sink.new) }
+{
+    match scalar_style(key, true) {
+        ScalarStyle::Plain => sink.put_text(key),
+        _ => write_quoted(key, sink),
+    }
+}
+
+/// Writes a key through its `:`, a long one after `? ` on a line of its own.
+pub fn write_key<S: Sink>(key: &str, indent: u64, sink: &mut S) -> Result<(), S::Fault>
+    ensures { OnOk result (S.Takes sink.old (key_lines indent (chars key.now)) sink.new) }
+{
+    if is_long_key(key) {
+        return write_long_key(key, indent, sink);
+    }
+    write_key_text(key, sink)?;
+    sink.put_char(':')
+}
+
+fn write_long_key<S: Sink>(key: &str, indent: u64, sink: &mut S) -> Result<(), S::Fault>
+    ensures { OnOk result (S.Takes sink.old
+        (codes "? " ++ key_text (chars key.now) ++ codes "\n" ++ spaces indent ++ codes ":")
+        sink.new) }
+{
+    sink.put_text("? ")?;
+    write_key_text(key, sink)?;
+    sink.put_char('\n')?;
+    sink.put_spaces(indent)?;
+    sink.put_char(':')
+}
+
+/// Writes the elements of a sequence, each after `- `, at `indent`; the first without its spaces.
+#[cycle(lines)]
+fn write_elements<S: Sink>(items: &[Tree], indent: u64, sink: &mut S) -> Result<(), S::Fault>
+    requires room { indent + 2 * elements_depth (elements_of items.now) < 2 ^ 64 }
+    ensures { OnOk result (S.Takes sink.old (elements_at (elements_of items.now) indent) sink.new) }
+{
+    if items.is_empty() {
+        return sink.put_text("[]\n");
+    }
+    let mut lead = 0u64;
+    for item in items {
+        sink.put_spaces(lead)?;
+        sink.put_text("- ")?;
+        write_element(item, indent, sink)?;
+        lead = indent;
+    }
+    Ok(())
+}
+
+/// Writes an element after its `- ` at `indent`.
+#[cycle(lines)]
+pub(crate) fn write_element<S: Sink>(tree: &Tree, indent: u64, sink: &mut S) -> Result<(), S::Fault>
+    requires room { indent + 2 * depth (tree_of tree.now) < 2 ^ 64 }
+    ensures { OnOk result (S.Takes sink.old (element_at (tree_of tree.now) indent) sink.new) }
+{
+    match tree {
+        Tree::Text(text) => write_scalar(text, indent + 2, sink),
+        Tree::Seq(items) => write_elements(items, indent + 2, sink),
+        Tree::Map(pairs) => write_members(pairs, indent + 2, sink),
+    }
+}
+
+/// Writes the members of a mapping at `indent`, the first without its spaces.
+#[cycle(lines)]
+fn write_members<S: Sink>(pairs: &[(Text, Tree)], indent: u64, sink: &mut S) -> Result<(), S::Fault>
+    requires room { indent + 2 * members_depth (members_of pairs.now) < 2 ^ 64 }
+    ensures { OnOk result (S.Takes sink.old (members_at (members_of pairs.now) indent) sink.new) }
+{
+    if pairs.is_empty() {
+        return sink.put_text("{}\n");
+    }
+    let mut lead = 0u64;
+    for (key, value) in pairs {
+        sink.put_spaces(lead)?;
+        write_key(key, indent, sink)?;
+        write_value_lines(value, indent, sink)?;
+        lead = indent;
+    }
+    Ok(())
+}
+
+/// Writes a value after the `:` of its key at `indent`. The call stack grows with the depth, which therefore is at
+/// most 66; [`is_deeper_than`](Tree::is_deeper_than) tests that.
+pub fn write_value<S: Sink>(tree: &Tree, indent: u64, sink: &mut S) -> Result<(), S::Fault>
+    requires deep { depth (tree_of tree.now) ≤ 66 }
+    requires room { indent + 132 < 2 ^ 64 }
+    ensures { OnOk result (S.Takes sink.old (value_at (tree_of tree.now) indent) sink.new) }
+{
+    write_value_lines(tree, indent, sink)
+}
+
+/// Writes a value after the `:` of its key at `indent`.
+#[cycle(lines)]
+fn write_value_lines<S: Sink>(tree: &Tree, indent: u64, sink: &mut S) -> Result<(), S::Fault>
+    requires room { indent + 2 * depth (tree_of tree.now) < 2 ^ 64 }
+    ensures { OnOk result (S.Takes sink.old (value_at (tree_of tree.now) indent) sink.new) }
+{
+    match tree {
+        Tree::Text(text) => write_text(text, indent, sink),
+        Tree::Seq(items) => {
+            if items.is_empty() {
+                return sink.put_text(" []\n");
+            }
+            sink.put_char('\n')?;
+            sink.put_spaces(indent + 2)?;
+            write_elements(items, indent + 2, sink)
+        }
+        Tree::Map(pairs) => {
+            if pairs.is_empty() {
+                return sink.put_text(" {}\n");
+            }
+            sink.put_char('\n')?;
+            sink.put_spaces(indent + 2)?;
+            write_members(pairs, indent + 2, sink)
+        }
+    }
+}
