@@ -1,7 +1,7 @@
 #!/usr/bin/env python3
 """Reads a million changed texts to trees in one process, and looks at how long each takes.
 
-The texts are those of checks/cases and every_form.yaml after random changes. `style` of `text_probe` reads them, one
+The texts are those of checks/cases and every_form.yaml after random changes. `style` of `tree_probe` reads them, one
 after the other; another process reads a thousand that are repeated to 64 to 256 KiB.
 
 - Each is answered by a tree or by the name of a fault, within a time and a memory that are linear in its length.
@@ -12,7 +12,7 @@ after the other; another process reads a thousand that are repeated to 64 to 256
 
 Run it from the repository's root after the program is built; it takes some 3 minutes, and more on a busy machine:
 
-    (cd crates/text_probe && rt run) && python3 checks/fuzz_texts.py
+    (cd crates/tree_probe && rt run) && python3 checks/fuzz_texts.py
 
 A number of texts and a seed may follow. The status is 0 if all is as it should be.
 """
@@ -29,7 +29,7 @@ import threading
 from collections import Counter
 from concurrent.futures import ProcessPoolExecutor
 
-from cases import CASES, PROBE, TOP, bytes_of, read_cases
+from cases import CASES, TOP, bytes_of, read_cases
 from mutations import changed
 from store_runs import Failures, read_file
 
@@ -38,6 +38,7 @@ try:
 except ImportError:
     yaml = None
 
+PROBE = os.path.join(TOP, "crates", "tree_probe", "out", "tree_probe")
 COUNT = 1_000_000
 
 # For each long text there are so many short ones.
@@ -270,7 +271,7 @@ def try_texts(source, count, longest, failures):
 
 def main():
     if not os.access(PROBE, os.X_OK):
-        sys.exit("text_probe is not built: run 'rt run' in crates/text_probe first")
+        sys.exit("tree_probe is not built: run 'rt run' in crates/tree_probe first")
     count = int(sys.argv[1]) if len(sys.argv) > 1 else COUNT
     seed = int(sys.argv[2]) if len(sys.argv) > 2 else random.randrange(10**6)
     print(f"seed {seed}")

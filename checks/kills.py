@@ -7,7 +7,7 @@ there that was not sent. Some sessions are killed while they open the store, som
 every other one each answer is awaited before the next command is sent.
 
 `kill -9` takes away what the process has, and nothing of the system's: what a crash of the machine leaves is tested
-over a disk in memory (crates/store_probe).
+over a disk in memory (crates/crash_probe).
 
 Run it from the repository's root after the program is built; it takes half a minute:
 

@@ -1,10 +1,11 @@
 // The configurations and the count of a base's tree.
-ghost use Rattle.std.specs.Prelude.{◌≡◌, IfSome, codes};
+ghost use Rattle.std.specs.Prelude.{◌≡◌, [], ◌∷◌, None, IfSome, MatchOption, codes};
 ghost use Rattle.std.specs.Str.{chars};
 ghost use Rattle.yaml_grammar.specs.Texts.{same_text};
 ghost use Rattle.yaml_tree.specs.Kept.{IsKept};
+ghost use Rattle.yaml_data.specs.TextBytes.{text_bytes};
 ghost use Rattle.yaml_data.specs.Seen.{tree_of, members_of};
-ghost use Rattle.yaml_grammar.specs.Trees.{mapping};
+ghost use Rattle.yaml_grammar.specs.Trees.{text, mapping};
 ghost use Rattle.conf_record.specs.RecordsRead.{values, contents_of, base_of};
 ghost use Rattle.conf_pieces.specs.Reading.{AreKept, state_of_parts};
 
@@ -34,6 +35,25 @@ fn contents_from(pairs: Vec<(Text, Tree)>) -> Option<(Vec<(Text, Tree)>, u64)>
     ensures read { state_of_parts result ≡ contents_of (values (members_of pairs.items)) }
     ensures kept { IfSome result (λ p. IsKept (mapping (members_of p.0.items))) }
 {
+    let Some((format, digits, configs)) = base_values(pairs) else {
+        return None;
+    };
+    if !is_format(&format) {
+        return None;
+    }
+    let Some(count) = number_from(&digits) else {
+        return None;
+    };
+    Some((configs, count))
+}
+
+/// The values of a base; `None` if they are others.
+fn base_values(pairs: Vec<(Text, Tree)>) -> Option<(Text, Text, Vec<(Text, Tree)>)>
+    ensures { MatchOption result (contents_of (values (members_of pairs.items)) ≡ None)
+        (λ v. values (members_of pairs.items)
+        ≡ text (chars (text_bytes v.0)) ∷ text (chars (text_bytes v.1))
+        ∷ mapping (members_of v.2.items) ∷ []) }
+{
     let mut values = pairs.into_iter();
     let Some(format) = next_text(&mut values) else {
         return None;
@@ -47,13 +67,7 @@ fn contents_from(pairs: Vec<(Text, Tree)>) -> Option<(Vec<(Text, Tree)>, u64)>
     if next_value(&mut values).is_some() {
         return None;
     }
-    if !is_format(&format) {
-        return None;
-    }
-    let Some(count) = number_from(&digits) else {
-        return None;
-    };
-    Some((configs, count))
+    Some((format, digits, configs))
 }
 
 /// Whether a text is the name of the one format.

@@ -1,8 +1,12 @@
 // The command and the number of a record's tree.
-ghost use Rattle.std.specs.Prelude.{◌≡◌, IfOk};
+ghost use Rattle.std.specs.Prelude.{◌≡◌, [], ◌∷◌, None, option_map, IfOk, MatchOption};
+ghost use Rattle.std.specs.Str.{chars};
+ghost use Rattle.yaml_grammar.specs.Trees.{Tree as Meant, text};
+ghost use Rattle.yaml_data.specs.TextBytes.{text_bytes};
 ghost use Rattle.yaml_tree.specs.Kept.{IsKept};
 ghost use Rattle.yaml_data.specs.Seen.{tree_of, members_of};
-ghost use Rattle.conf_record.specs.RecordsRead.{values, import_of, set_of, delete_of, record_of};
+ghost use Rattle.conf_record.specs.Commands.{set_at, delete_at};
+ghost use Rattle.conf_record.specs.RecordsRead.{values, command_with_number, import_of, set_of, delete_of, record_of};
 ghost use Rattle.conf_pieces.specs.Reading.{AreKept, command_and_number};
 
 use crate::fields::{is_path, keys_are, next_text, next_value, number_from};
@@ -41,19 +45,9 @@ fn import_from(
     ensures { IfOk result (λ read. command_and_number read
         ≡ import_of (values (members_of pairs.items))) }
 {
-    let mut values = pairs.into_iter();
-    let Some(digits) = next_text(&mut values) else {
+    let Some((digits, name, tree)) = import_values(pairs) else {
         return Ok(None);
     };
-    let Some(name) = next_text(&mut values) else {
-        return Ok(None);
-    };
-    let Some(tree) = next_value(&mut values) else {
-        return Ok(None);
-    };
-    if next_value(&mut values).is_some() {
-        return Ok(None);
-    }
     if !good_name(&name) {
         return Ok(None);
     }
@@ -65,41 +59,70 @@ fn import_from(
     Ok(Some((Command::Import { name, tree }, number)))
 }
 
+/// The values of an import; `None` if they are others.
+fn import_values(pairs: Vec<(Text, Tree)>) -> Option<(Text, Text, Tree)>
+    ensures { MatchOption result (import_of (values (members_of pairs.items)) ≡ None)
+        (λ v. values (members_of pairs.items)
+        ≡ text (chars (text_bytes v.0)) ∷ text (chars (text_bytes v.1)) ∷ tree_of v.2 ∷ []) }
+{
+    let mut values = pairs.into_iter();
+    let Some(digits) = next_text(&mut values) else {
+        return None;
+    };
+    let Some(name) = next_text(&mut values) else {
+        return None;
+    };
+    let Some(tree) = next_value(&mut values) else {
+        return None;
+    };
+    if next_value(&mut values).is_some() {
+        return None;
+    }
+    Some((digits, name, tree))
+}
+
 /// The set of these values: the number, the name, the path and the value.
 fn set_from(alloc: Global, pairs: Vec<(Text, Tree)>) -> Result<Option<(Command, u64)>, AllocError>
     requires kept { AreKept (values (members_of pairs.items)) }
     ensures { IfOk result (λ read. command_and_number read
         ≡ set_of (values (members_of pairs.items))) }
 {
-    let mut values = pairs.into_iter();
-    let Some(digits) = next_text(&mut values) else {
+    let Some((digits, name, path, value)) = set_values(pairs) else {
         return Ok(None);
     };
-    let Some(name) = next_text(&mut values) else {
-        return Ok(None);
-    };
-    let Some(path) = next_text(&mut values) else {
-        return Ok(None);
-    };
-    let Some(value) = next_value(&mut values) else {
-        return Ok(None);
-    };
-    if next_value(&mut values).is_some() {
-        return Ok(None);
-    }
-    if !good_name(&name) {
-        return Ok(None);
-    }
-    if !is_path(alloc, &path)? {
-        return Ok(None);
-    }
-    let Some(number) = number_from(&digits) else {
+    let Some(number) = edit_number(alloc, &digits, &name, &path)? else {
         return Ok(None);
     };
     let name = name.into_string(alloc)?;
     let path = path.into_string(alloc)?;
     let value = part(value);
     Ok(Some((Command::Set { name, path, value }, number)))
+}
+
+/// The values of a set; `None` if they are others.
+fn set_values(pairs: Vec<(Text, Tree)>) -> Option<(Text, Text, Text, Tree)>
+    ensures { MatchOption result (set_of (values (members_of pairs.items)) ≡ None)
+        (λ v. values (members_of pairs.items)
+        ≡ text (chars (text_bytes v.0)) ∷ text (chars (text_bytes v.1))
+        ∷ text (chars (text_bytes v.2)) ∷ tree_of v.3 ∷ []) }
+{
+    let mut values = pairs.into_iter();
+    let Some(digits) = next_text(&mut values) else {
+        return None;
+    };
+    let Some(name) = next_text(&mut values) else {
+        return None;
+    };
+    let Some(path) = next_text(&mut values) else {
+        return None;
+    };
+    let Some(value) = next_value(&mut values) else {
+        return None;
+    };
+    if next_value(&mut values).is_some() {
+        return None;
+    }
+    Some((digits, name, path, value))
 }
 
 /// The delete of these values: the number, the name and the path.
@@ -110,29 +133,59 @@ fn delete_from(
     ensures { IfOk result (λ read. command_and_number read
         ≡ delete_of (values (members_of pairs.items))) }
 {
-    let mut values = pairs.into_iter();
-    let Some(digits) = next_text(&mut values) else {
+    let Some((digits, name, path)) = delete_values(pairs) else {
         return Ok(None);
     };
-    let Some(name) = next_text(&mut values) else {
-        return Ok(None);
-    };
-    let Some(path) = next_text(&mut values) else {
-        return Ok(None);
-    };
-    if next_value(&mut values).is_some() {
-        return Ok(None);
-    }
-    if !good_name(&name) {
-        return Ok(None);
-    }
-    if !is_path(alloc, &path)? {
-        return Ok(None);
-    }
-    let Some(number) = number_from(&digits) else {
+    let Some(number) = edit_number(alloc, &digits, &name, &path)? else {
         return Ok(None);
     };
     let name = name.into_string(alloc)?;
     let path = path.into_string(alloc)?;
     Ok(Some((Command::Delete { name, path }, number)))
+}
+
+/// The values of a delete; `None` if they are others.
+fn delete_values(pairs: Vec<(Text, Tree)>) -> Option<(Text, Text, Text)>
+    ensures { MatchOption result (delete_of (values (members_of pairs.items)) ≡ None)
+        (λ v. values (members_of pairs.items)
+        ≡ text (chars (text_bytes v.0)) ∷ text (chars (text_bytes v.1))
+        ∷ text (chars (text_bytes v.2)) ∷ []) }
+{
+    let mut values = pairs.into_iter();
+    let Some(digits) = next_text(&mut values) else {
+        return None;
+    };
+    let Some(name) = next_text(&mut values) else {
+        return None;
+    };
+    let Some(path) = next_text(&mut values) else {
+        return None;
+    };
+    if next_value(&mut values).is_some() {
+        return None;
+    }
+    Some((digits, name, path))
+}
+
+/// The number of a set or a delete; `None` if the number, the name or the path is not good.
+fn edit_number(
+    alloc: Global,
+    digits: &str,
+    name: &str,
+    path: &str,
+) -> Result<Option<u64>, AllocError>
+    ensures set { IfOk result (λ number. (value : Meant)
+        → option_map (λ n. (set_at (chars name.now) (chars path.now) value, n)) number
+        ≡ command_with_number (set_at (chars name.now) (chars path.now) value) (chars digits.now)) }
+    ensures delete { IfOk result (λ number.
+        option_map (λ n. (delete_at (chars name.now) (chars path.now), n)) number
+        ≡ command_with_number (delete_at (chars name.now) (chars path.now)) (chars digits.now)) }
+{
+    if !good_name(name) {
+        return Ok(None);
+    }
+    if !is_path(alloc, path)? {
+        return Ok(None);
+    }
+    Ok(number_from(digits))
 }

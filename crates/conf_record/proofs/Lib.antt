@@ -15,3 +15,4 @@ pub mod RefusalLemmas
 pub mod RunLaws
 pub mod SizeLemmas
 pub mod StateLemmas
+pub mod StepLemmas

@@ -40,6 +40,12 @@ pub record Appended (old new : List (String Global × Tree)) (name : List ℕ) (
   pub plain : ArePlain new
   pub bytes : length ≡ min (entry_length name t) 18446744073709551615
 
+-- a configuration may come after the others: its name is good and new, and its tree is within the limits
+pub record IsFit (es : List Entry) (name : List ℕ) (t : grammar.Tree) : Type 0 where
+  pub named : good_name name ≡ true
+  pub within : Good t config_limits
+  pub absent : config_named es name ≡ None
+
 -- no state has this configuration after the others: its name is not good or is there, or its tree is over the limits
 abbrev pub IsUnfit : List Entry → List ℕ → grammar.Tree → Type 0
 IsUnfit es name t = (good_name name ≡ false) ⊎ (Good t config_limits → ⊥) ⊎ (is_some (config_named es name) ≡ true)

@@ -1,12 +1,12 @@
 // The state of a store.
-ghost use Rattle.std.specs.Prelude.{◌≡◌, ◌≢◌, ◌+◌, ◌<◌, ◌≤◌, ◌⊎◌, ℕ, List, [], min, true, option_map, length, string_bytes, string_eq, Some, Ok, Err, OnOk, IfOk, IfSome, IfNone, MatchOption, is_some, IfErr, OnErr};
+ghost use Rattle.std.specs.Prelude.{◌≡◌, ◌≢◌, ◌+◌, ◌<◌, ◌≤◌, ◌⊎◌, ℕ, List, [], min, true, false, option_map, length, string_bytes, string_eq, Some, Ok, Err, OnOk, IfOk, IfSome, IfNone, MatchOption, is_some, IfErr, OnErr};
 ghost use Rattle.std.specs.Str.{chars};
 ghost use Rattle.std.specs.Iterator.{YieldsFirstBy, item_count};
 ghost use Rattle.yaml_grammar.specs.Reads.{Good};
 ghost use Rattle.yaml_data.specs.Seen.{tree_of};
 ghost use Rattle.conf_record.specs.Commands.{text_of};
 ghost use Rattle.conf_record.specs.Names.{good_name};
-ghost use Rattle.conf_record.specs.Kept.{entries_of, ArePlain, Appended, IsUnfit};
+ghost use Rattle.conf_record.specs.Kept.{entries_of, ArePlain, Appended, IsFit, IsUnfit};
 ghost use Rattle.conf_record.specs.Limits.{IsState};
 ghost use Rattle.conf_record.specs.States.{Entry, names_of, config_named, put_config, cut_config};
 ghost use Rattle.yaml_tree.specs.Limits.{config_limits};
@@ -333,18 +333,29 @@ fn append(
         (IsUnfit (entries_of configs.old.entries) (text_of name) (tree_of config))
         (Appended configs.old.entries configs.new.entries (text_of name) (tree_of config))) }
 {
-    if !good_name(&name) {
-        return Ok(None);
-    }
-    if check_limits(&config).is_err() {
-        return Ok(None);
-    }
-    if has(configs, &name) {
+    if !is_fit(configs, &name, &config) {
         return Ok(None);
     }
     let length = entry_length(&name, &config);
     insert(configs, name, config)?;
     Ok(Some(length))
+}
+
+/// Whether a configuration may be put after the others: its name is good and new, and it keeps to its limits.
+fn is_fit(configs: &IndexMap<String, Config>, name: &str, config: &Config) -> bool
+    requires { ArePlain configs.now.entries }
+    ensures fit { result ≡ true
+        → IsFit (entries_of configs.now.entries) (chars name.now) (tree_of config.now) }
+    ensures unfit { result ≡ false
+        → IsUnfit (entries_of configs.now.entries) (chars name.now) (tree_of config.now) }
+{
+    if !good_name(name) {
+        return false;
+    }
+    if check_limits(config).is_err() {
+        return false;
+    }
+    !has(configs, name)
 }
 
 /// Whether there is a configuration under a name.

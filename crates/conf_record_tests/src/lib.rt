@@ -1,5 +1,5 @@
-//! Tests of states: a command that is refused memory changes nothing. What each command leaves and refuses, the names of
-//! faults, and the records and bases that are written and read, are tested by the run of `text_probe`.
+//! Tests of states: a command that is refused memory changes nothing. What each command leaves and refuses, the names
+//! of faults, and the records and bases that are written and read, are tested by the run of `state_probe`.
 #![tactic(auto)]
 
 #[cfg(test)]

@@ -10,8 +10,8 @@ use Rattle.yaml_grammar.specs.Texts.{byte_len, spaces, first, same_text}
 use Rattle.yaml_grammar.specs.Trees.{Tree, text, sequence, mapping, no_element, element, no_member, member}
 use Rattle.yaml_grammar.specs.Style.{plain_in_style, literal_in_style, literal_mark, literal_lines, feeds_at_end, in_double_quotes, scalar_lines, key_text, long_key, key_lines, elements_after, value_at, style_text}
 use Rattle.yaml_laws.specs.Closed.{framed_text_bytes, framed_text}
-use Rattle.yaml_docs.specs.declared.fault.ReadFault.{ReadFault}
-use Rattle.yaml_docs.specs.declared.fault.ReadFault.TheVariants as read
+use Rattle.yaml_faults.specs.declared.fault.ReadFault.{ReadFault}
+use Rattle.yaml_faults.specs.declared.fault.ReadFault.TheVariants as read
 use Rattle.yaml_writer.specs.BudgetLaws.{byte_len-append}
 use Rattle.yaml_tree.specs.Limits.{config_limits}
 use Rattle.json_pointer.specs.declared.fault.PathFault.{PathFault}

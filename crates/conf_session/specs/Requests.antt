@@ -4,8 +4,8 @@ use Rattle.yaml_grammar.specs.Texts.{same_text}
 use Rattle.yaml_grammar.specs.Trees.{Tree, text, sequence, mapping}
 use Rattle.yaml_grammar.specs.Reads.{Limits, Gives}
 use Rattle.yaml_tree.specs.Reading.{IsRead, Refuses}
-use Rattle.yaml_docs.specs.declared.fault.ReadFault.{ReadFault}
-use Rattle.yaml_docs.specs.declared.fault.ReadFault.TheVariants.{OutOfMemory}
+use Rattle.yaml_faults.specs.declared.fault.ReadFault.{ReadFault}
+use Rattle.yaml_faults.specs.declared.fault.ReadFault.TheVariants.{OutOfMemory}
 use Rattle.conf_record.specs.Commands.{Command, import_as, set_at, delete_at}
 use Rattle.conf_record.specs.RecordsRead.{keys_are, values}
 use Rattle.yaml_tree.specs.Limits.{config_limits}

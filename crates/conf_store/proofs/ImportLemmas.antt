@@ -1,4 +1,4 @@
--- What a refused import says of the name, the text and the tree.
+-- What an import says of the name, the text and the tree.
 use Rattle.std.proofs.Common.{◌≡◌, ◌+◌, ℕ, Bool, true, false, not, nat_le, nat_lt, if◌then◌else◌, List, Result, Ok, Err, refl, subst}
 use Rattle.yaml_grammar.specs.Texts.{byte_len}
 use Rattle.yaml_grammar.specs.Style.{style_text}
@@ -14,7 +14,8 @@ use Rattle.conf_record.specs.declared.fault.StoreFault.{StoreFault}
 use Rattle.conf_record.specs.declared.fault.StoreFault.TheVariants.{BadName, NoConfig, Path, Read, TooDeep, ConfigLarge, StoreFull, JournalLong, CountFull, Reopen, Device, OutOfMemory}
 use Rattle.conf_store.specs.View.{StoreView}
 use Rattle.conf_store.specs.Calls.{has_room, RefusesCommand}
-use Rattle.conf_store.specs.Imports.{RefusesImport}
+use Rattle.conf_store.specs.Accepting.{IsOfState}
+use Rattle.conf_store.specs.Imports.{RefusesText, RefusesImport}
 
 -- a refusal that is neither of a name nor of a text
 OfTree : {A : Type 0} → Result A StoreFault → Type 0
@@ -65,3 +66,22 @@ import-refused old new name source t StoreFull good reads is = record { tree = t
 import-refused old new name source t JournalLong good reads is = record { tree = t; reads = reads; refuses = is }
 import-refused old new name source t CountFull good reads is = record { tree = t; reads = reads; refuses = is }
 import-refused old new name source t Device good reads is = record { tree = t; reads = reads; refuses = is }
+
+-- an import without a command is refused for the same reason
+pub unread-refused : {D : Type 0} (old new : StoreView D) (name source : List ℕ) (fault : StoreFault) → RefusesText name source fault → RefusesImport old name source new fault
+unread-refused old new name source OutOfMemory is = tt
+unread-refused old new name source BadName is = is
+unread-refused old new name source (Read fault) is = is
+unread-refused old new name source Reopen is = absurd is
+unread-refused old new name source NoConfig is = absurd is
+unread-refused old new name source (Path fault) is = absurd is
+unread-refused old new name source TooDeep is = absurd is
+unread-refused old new name source ConfigLarge is = absurd is
+unread-refused old new name source StoreFull is = absurd is
+unread-refused old new name source JournalLong is = absurd is
+unread-refused old new name source CountFull is = absurd is
+unread-refused old new name source Device is = absurd is
+
+-- and never for the store or the device
+pub unread-of_state : (name source : List ℕ) (fault : StoreFault) → RefusesText name source fault → IsOfState fault
+unread-of_state name source fault is = (λ same. subst (RefusesText name source) same is, λ same. subst (RefusesText name source) same is)

@@ -8,6 +8,7 @@
 mod accepting;
 mod base_file;
 mod fault;
+mod importing;
 mod laws;
 mod opening;
 mod recovery;

@@ -18,6 +18,7 @@ ghost use Rattle.conf_store.specs.Opens.{FileRecoversTo, ReadsAfterOpening, Refu
 
 use crate::accepting::accept;
 use crate::base_file::write_base;
+use crate::importing::import_command;
 use crate::opening::{Found, find_store};
 use crate::recovery::Opened;
 use crate::{OpenFault, bytes_mean_one_state};
@@ -30,7 +31,7 @@ use std::marker::Model;
 use tree_path::{Path, at};
 use yaml_emit::style_text;
 use yaml_laws::one_list_of_pieces;
-use yaml_tree::{Config, Limits, ReadFault, Tree, read_one};
+use yaml_tree::{Config, Tree};
 
 /// Named configurations, kept in a folder.
 ///
@@ -221,18 +222,10 @@ impl<D: Disk> Store<D> {
         if self.needs_reopen() {
             return Err(StoreFault::Reopen);
         }
-        if !good_name(name) {
-            return Err(StoreFault::BadName);
+        match import_command(self.alloc, name, text) {
+            Ok(command) => self.apply(command),
+            Err(fault) => Err(fault),
         }
-        let config = match read_one(self.alloc, text, &Limits::CONFIGURATION) {
-            Ok(config) => config,
-            Err(ReadFault::OutOfMemory) => return Err(StoreFault::OutOfMemory),
-            Err(fault) => return Err(StoreFault::Read(fault)),
-        };
-        let Ok(name) = String::from_str(self.alloc, name) else {
-            return Err(StoreFault::OutOfMemory);
-        };
-        self.apply(Command::Import { name, tree: config })
     }
 
     /// Writes a base of the state as the new `store.yaml`, in place of the base and the records that are there.

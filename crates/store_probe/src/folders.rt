@@ -1,31 +1,118 @@
-// Folders of the system.
+// A folder in memory, and what its files hold.
+use conf_disk::{Content, Cuts, Disk, DiskFault, Name};
+use conf_journal::STORE_LIMIT;
+use conf_store::Store;
+use probe_words::{meant, measured};
 use std::alloc::{AllocError, Global};
-use std::fs::File;
-use std::rt::Files;
-use std::{fs, io};
+use std::mem;
+use test_disks::{Fuse, FusedDisk, MemoryDisk};
 
-/// Makes a folder.
-pub(crate) fn make<R: Files<File = File> + Alloc>(
-    rt: &R,
-    alloc: Global,
-    name: &str,
-) -> Result<String, AllocError> {
-    ended(alloc, fs::create_dir_all(rt, name))
+/// A store over a disk in memory of which a call may fail.
+pub(crate) type FusedStore = Store<FusedDisk<MemoryDisk>>;
+
+/// A folder in memory, or the store that is open over it.
+#[derive(Drop)]
+pub(crate) enum Place {
+    Folder(MemoryDisk),
+    Open(FusedStore),
 }
 
-/// Removes a folder with all that is in it.
-pub(crate) fn remove<R: Files<File = File> + Alloc>(
-    rt: &R,
-    alloc: Global,
-    name: &str,
-) -> Result<String, AllocError> {
-    ended(alloc, fs::remove_dir_all(rt, name))
-}
-
-/// How a call of the system ended.
-pub(crate) fn ended(alloc: Global, outcome: io::Result<()>) -> Result<String, AllocError> {
-    match outcome {
-        Ok(()) => String::from_str(alloc, "ok"),
-        Err(_) => String::from_str(alloc, "failed"),
+impl Place {
+    /// A folder without a file.
+    pub(crate) fn new(alloc: Global) -> Place {
+        Place::Folder(MemoryDisk::new(alloc))
     }
+
+    /// Takes the folder out, and leaves one without a file. The store is closed.
+    fn take(&mut self, alloc: Global) -> MemoryDisk {
+        match mem::replace(self, Place::new(alloc)) {
+            Place::Folder(disk) => disk,
+            Place::Open(store) => store.close().into_inner(),
+        }
+    }
+}
+
+/// Takes a new folder with these files.
+pub(crate) fn renew(
+    alloc: Global,
+    place: &mut Place,
+    store: Option<&str>,
+    next: Option<&str>,
+) -> Result<String, AllocError> {
+    let store = bytes_of(alloc, store)?;
+    let next = bytes_of(alloc, next)?;
+    let answer = lengths(alloc, &store, &next)?;
+    *place = Place::Folder(MemoryDisk::with_files(alloc, store, next)?);
+    Ok(answer)
+}
+
+/// The length of each file.
+fn lengths(
+    alloc: Global,
+    store: &Option<Vec<u8>>,
+    next: &Option<Vec<u8>>,
+) -> Result<String, AllocError> {
+    match (store, next) {
+        (Some(store), Some(next)) => format!(in alloc; "{} {}", store.len(), next.len()),
+        (Some(store), None) => format!(in alloc; "{}", store.len()),
+        _ => String::from_str(alloc, "no file"),
+    }
+}
+
+/// The bytes that a written text means, if there is one.
+fn bytes_of(alloc: Global, written: Option<&str>) -> Result<Option<Vec<u8>>, AllocError> {
+    match written {
+        Some(written) => Ok(Some(meant(alloc, written)?.into_bytes())),
+        None => Ok(None),
+    }
+}
+
+/// Opens the store over a disk that lets so many calls pass.
+pub(crate) fn open(
+    alloc: Global,
+    place: &mut Place,
+    calls: u64,
+    fuse: Fuse,
+) -> Result<String, AllocError> {
+    let disk = FusedDisk::new(place.take(alloc), calls, fuse);
+    match Store::open(alloc, disk) {
+        Ok((store, opened)) => {
+            *place = Place::Open(store);
+            format!(in alloc; "commands {}, dropped {}", opened.commands, opened.dropped)
+        }
+        Err((disk, fault)) => {
+            *place = Place::Folder(disk.into_inner());
+            format!(in alloc; "{fault:?}")
+        }
+    }
+}
+
+/// The length of a file, and its text unless it is long.
+pub(crate) fn shown(alloc: Global, place: &mut Place, name: Name) -> Result<String, AllocError> {
+    let mut disk = place.take(alloc);
+    let read = disk.read(alloc, name, STORE_LIMIT);
+    *place = Place::Folder(disk);
+    content_of(alloc, read)
+}
+
+/// What a read returned: the length, and the text unless it is long.
+fn content_of(alloc: Global, read: Result<Content, DiskFault>) -> Result<String, AllocError> {
+    match read {
+        Ok(Content::Bytes(bytes)) => measured(alloc, &bytes),
+        Ok(Content::Missing) => String::from_str(alloc, "no file"),
+        Ok(Content::TooLong) => String::from_str(alloc, "too long"),
+        Err(fault) => format!(in alloc; "{fault:?}"),
+    }
+}
+
+/// Takes the image of a stage that keeps no pending byte. Where there is none the folder stays.
+pub(crate) fn image(alloc: Global, place: &mut Place, stage: u64) -> Result<String, AllocError> {
+    let disk = place.take(alloc);
+    let image = disk.image(stage as usize, Cuts::default())?;
+    let (left, answer) = match image {
+        Some(image) => (image, "an image"),
+        None => (disk, "no image"),
+    };
+    *place = Place::Folder(left);
+    String::from_str(alloc, answer)
 }

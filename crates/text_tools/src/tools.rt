@@ -30,7 +30,7 @@ pub enum ToolFault {
 
 impl From<AllocError> for ToolFault {
     ghost use Rattle.text_tools.specs.declared.tools.ToolFault.TheVariants.{Read};
-    ghost use Rattle.yaml_docs.specs.declared.fault.ReadFault.TheVariants.{OutOfMemory};
+    ghost use Rattle.yaml_faults.specs.declared.fault.ReadFault.TheVariants.{OutOfMemory};
 
     ghost from_gives = { λ _ out. out ≡ Read OutOfMemory };
 

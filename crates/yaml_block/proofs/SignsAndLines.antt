@@ -93,6 +93,13 @@ onward_from text at further least bound to l k o =
     let less = o.less in
     record { above = omega arith; less = omega arith; placed = o.placed }
 
+-- a callee that leads on from a place further on
+pub onward_so : (text : List ℕ) (at further least bound : ℕ) (r : Result Next ScanFault) → at ≤ further
+    → least ≤ bound → IfOk r (Onward text further least) → IfOk r (Onward text at bound)
+onward_so text at further least bound r l k h =
+    ok_so r (Onward text further least) (Onward text at bound)
+    (λ to o. onward_from text at further least bound to l k o) h
+
 -- ---- a sequence that opens
 
 -- a sequence is pushed on the stack

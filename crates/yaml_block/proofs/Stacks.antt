@@ -91,6 +91,10 @@ pub grown_appended : (text : List ℕ) (old new : List Event) (more : List gramm
     → Grown old new
 grown_appended text old new more a = record { more = a.more; is = a.is }
 
+-- a list that stays as it is has grown by nothing
+pub grown_same : (old new : List Event) → new ≡ old → Grown old new
+grown_same old new e = record { more = []; is = e ∙ sym (append-nil old) }
+
 -- a list that grows twice has grown
 pub grown_grown : (a b c : List Event) → Grown a b → Grown b c → Grown a c
 grown_grown a b c g h = record {

@@ -9,6 +9,7 @@ mod first_line;
 mod indent;
 mod line;
 mod parts;
+mod room;
 mod scalar;
 mod value;
 

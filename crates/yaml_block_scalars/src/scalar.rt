@@ -16,6 +16,7 @@ ghost use Rattle.yaml_block_scalars.specs.Meant.{chomping_of, is_folded, least_i
 use crate::indent::detected;
 use crate::line::{Line, empty_lines, text_line, text_start};
 use crate::parts::{Chomping, Header};
+use crate::room::{first_room, give_back_room, push_text};
 use crate::value::{feeds_after, no_lines, push_between};
 use std::alloc::Global;
 use std::borrow::CowStr;
@@ -46,7 +47,7 @@ fn push_lines(
 {
     let mut line = first;
     'lines: loop {
-        value.push_str(&text[line.start..line.end])?;
+        push_text(value, &text[line.start..line.end])?;
         let Some(next) = text_line(text, line.next, indent)? else {
             push_line_feeds(value, feeds_after(style.chomping, line))?;
             return Ok(line.next);
@@ -102,17 +103,6 @@ fn piece_end(
     }
 }
 
-/// The bytes that a value has room for at first, beyond its first text line and the line feeds before
-/// it. A longer value grows as any `String` does.
-const ROOM: usize = 128;
-
-fn room(gaps: usize, line: Line) -> usize
-    requires { line.start ≤ line.end }
-{
-    ROOM.saturating_add(gaps)
-        .saturating_add(line.end - line.start)
-}
-
 /// Returns the value of the lines at `at`, and where they end.
 fn lines<'a>(
     alloc: Global,
@@ -137,9 +127,10 @@ fn lines<'a>(
     if let Some(end) = piece_end(text, gaps, line, indent, style.chomping) {
         return Ok((CowStr::Borrowed(&text[line.start..end]), line.next));
     }
-    let mut value = String::with_capacity(alloc, room(gaps, line))?;
+    let mut value = String::with_capacity(alloc, first_room(gaps, line))?;
     push_line_feeds(&mut value, gaps)?;
     let end = push_lines(&mut value, text, line, indent, style)?;
+    give_back_room(&mut value);
     Ok((CowStr::Owned(value), end))
 }
 
@@ -218,8 +209,9 @@ fn body<'a>(
 /// The scalar is below an indentation of `n`, which is -1 at the top of a document. The digit of the header, from 1 to
 /// 9, and its chomping count; its `folded` does not. Each break in the value is one line feed. The value is borrowed
 /// where the text has it in one piece. That is where it is the text of the only text line with the line feeds that
-/// follow it, or where it is empty and there is no text line. Memory for any other value is allocated once, unless the
-/// value is much longer than its first line.
+/// follow it, or where it is empty and there is no text line. Memory for any other value is allocated once, or a second
+/// time where it is much longer than its first line. A value of more than 4 KiB grows as any `String` does. What a long
+/// value has to spare at its end is given back.
 ///
 /// # Errors
 ///

@@ -1,7 +1,7 @@
 -- A change of the innermost part.
 use Rattle.std.proofs.Common.{◌≡◌, ℕ, zero, suc, List, [], ◌∷◌, length, get_or, set, take, Option, Some, Result, Ok, Err, MatchResult, arith, sym, ap, ◌∙◌}
 use Rattle.std.proofs.lemmas.List.{nil_from_length}
-use Rattle.yaml_docs.specs.declared.fault.ReadFault.{ReadFault}
+use Rattle.yaml_faults.specs.declared.fault.ReadFault.{ReadFault}
 use Rattle.yaml_build.specs.Building.{frames_onto, HasNone}
 use Rattle.yaml_build.specs.Frames.{Frame, innermost, inside}
 use Rattle.yaml_build.proofs.CheckLemmas.{has_none}

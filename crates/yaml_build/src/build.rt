@@ -12,8 +12,8 @@ use crate::sizes::Sizes;
 use std::alloc::{AllocError, Global};
 use std::borrow::CowStr;
 use yaml_data::{Text, Tree};
-use yaml_docs::ReadFault;
 use yaml_events::{Event, Events};
+use yaml_faults::ReadFault;
 
 /// A part of a document that is not complete: its end, or a further value in it, is still to come.
 #[derive(Drop)]

@@ -14,8 +14,8 @@ use crate::sizes::Sizes;
 use std::alloc::Global;
 use std::borrow::CowStr;
 use yaml_data::keys_differ;
-use yaml_docs::ReadFault;
 use yaml_events::{Event, Events};
+use yaml_faults::ReadFault;
 
 /// A walk over a document that keeps the keys of the mappings that are open, and no values.
 #[derive(Drop)]

@@ -13,7 +13,7 @@ use crate::sizes::Sizes;
 use std::alloc::{AllocError, Global};
 use std::borrow::CowStr;
 use yaml_data::Text;
-use yaml_docs::ReadFault;
+use yaml_faults::ReadFault;
 
 /// A part of a document that is open. Of its values nothing is kept.
 #[derive(Drop)]

@@ -8,10 +8,9 @@ mod closing;
 mod cutter;
 mod directive;
 mod documents;
-mod fault;
 mod read;
 
 pub use closing::next_close;
 pub use cutter::{CutFault, Cutter, Fed};
-pub use fault::{Brief, ReadFault};
 pub use read::events;
+pub use yaml_faults::{Brief, ReadFault};

@@ -5,11 +5,11 @@ ghost use Rattle.yaml_events.specs.Meant.{events_of};
 ghost use Rattle.yaml_recognizers.specs.Ranges.{RangesInOrder};
 ghost use Rattle.yaml_docs.specs.Reading.{ReadsAs, RefusesBytes, IsSyntax};
 
-use crate::ReadFault;
 use crate::documents::stream;
 use std::alloc::Global;
 use yaml_chars::{CharFault, checked, next_break};
 use yaml_events::{Events, ScanFault, Why};
+use yaml_faults::ReadFault;
 
 /// The events of all documents of a text, in order.
 ///

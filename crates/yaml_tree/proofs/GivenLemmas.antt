@@ -1,8 +1,8 @@
 -- Bytes give one tree at most, and none where they are refused.
 use Rattle.std.proofs.Common.{◌≡◌, ◌≢◌, ℕ, ◌<◌, true, false, List, refl, sym, subst, ◌∙◌, arith}
 use Rattle.std.specs.Str.{chars}
-use Rattle.yaml_docs.specs.declared.fault.ReadFault.{ReadFault}
-use Rattle.yaml_docs.specs.declared.fault.ReadFault.TheVariants.{TooLong, NotUtf8, Syntax, Documents, KeyNotText, KeyTwice, TooDeep, LargeInStyle, OutOfMemory}
+use Rattle.yaml_faults.specs.declared.fault.ReadFault.{ReadFault}
+use Rattle.yaml_faults.specs.declared.fault.ReadFault.TheVariants.{TooLong, NotUtf8, Syntax, Documents, KeyNotText, KeyTwice, TooDeep, LargeInStyle, OutOfMemory}
 use Rattle.yaml_grammar.specs.Events.{Event}
 use Rattle.yaml_grammar.specs.Reads.{Limits, Reads}
 use Rattle.yaml_grammar.specs.Trees.{Tree, depth, distinct, IsTreeOf}

@@ -6,8 +6,8 @@ use Rattle.yaml_grammar.specs.Style.{style_text}
 use Rattle.yaml_grammar.specs.Texts.{byte_len}
 use Rattle.yaml_grammar.specs.Trees.{Tree, depth, distinct}
 use Rattle.yaml_tree.specs.declared.limits.Limits.{Limits}
-use Rattle.yaml_docs.specs.declared.fault.ReadFault.{ReadFault}
-use Rattle.yaml_docs.specs.declared.fault.ReadFault.TheVariants.{KeyTwice, TooDeep, LargeInStyle, OutOfMemory}
+use Rattle.yaml_faults.specs.declared.fault.ReadFault.{ReadFault}
+use Rattle.yaml_faults.specs.declared.fault.ReadFault.TheVariants.{KeyTwice, TooDeep, LargeInStyle, OutOfMemory}
 
 abbrev pub limits_of : Limits → grammar.Limits
 limits_of limits = record { bytes = limits.bytes; depth = limits.depth; style = limits.style }

@@ -11,7 +11,7 @@ use crate::Limits;
 use std::alloc::{AllocError, Global};
 use std::marker::Model;
 use yaml_data::{Text, Tree, has_distinct_keys};
-use yaml_docs::ReadFault;
+use yaml_faults::ReadFault;
 use yaml_writer::style_len;
 
 /// The limits that each [`Config`] keeps.

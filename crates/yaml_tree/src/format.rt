@@ -16,8 +16,9 @@ use crate::documents::Outline;
 use crate::open_text::write_event;
 use std::alloc::{AllocError, Global};
 use yaml_build::{KeyCheck, Sizes};
-use yaml_docs::{ReadFault, events};
+use yaml_docs::events;
 use yaml_events::{Event, Events};
+use yaml_faults::ReadFault;
 use yaml_writer::LimitedText;
 
 /// The greatest indentation that is written. A document for which it isn't enough has more than 2,147,483,647

@@ -10,8 +10,9 @@ use crate::documents::Outline;
 use crate::{Config, Limits};
 use std::alloc::Global;
 use yaml_build::{document_keys_differ, document_tree};
-use yaml_docs::{ReadFault, events};
+use yaml_docs::events;
 use yaml_events::Events;
+use yaml_faults::ReadFault;
 
 /// The tree of a text that is one document, within limits.
 ///

@@ -2,11 +2,12 @@
 use Rattle.std.proofs.Common.{◌≡◌, refl, sym, ap, ◌∙◌, subst}
 use Rattle.std.specs.Str.{chars}
 use Rattle.yaml_data.specs.TextBytes.{text_bytes}
-use Rattle.conf_session.specs.Requests.{import_text, get_at, export_of, MeansRequest, getting, exporting, bad}
+use Rattle.conf_record.specs.Commands.{command_of}
+use Rattle.conf_session.specs.Requests.{import_text, change, get_at, export_of, checkpoint_now, MeansRequest, changing, checkpointing, getting, exporting, naming, bad}
 use Rattle.conf_session.specs.Replies.{DidSaid, said_of}
 use Rattle.conf_session.specs.declared.reply.Reply.TheVariants.{NoCommand}
 use Rattle.conf_session.proofs.LengthLemmas.{bad-short}
-use Rattle.conf_session.proofs.RequestLemmas.{said-read}
+use Rattle.conf_session.proofs.RequestLemmas.{did-said, said-read}
 use Rattle.conf_session.proofs.reply.answer_said.Goals as goal
 
 pub returns-in-Import-clause-did : goal.returns-in-Import-clause-did
@@ -15,6 +16,46 @@ returns-in-Import-clause-did g c off =
     let same : import_text (chars (text_bytes c.in-Import.name)) (chars c.deref.result.now) ≡ said_of c.args.said =
     ap (λ b. import_text (chars (text_bytes c.in-Import.name)) (chars b)) c.deref.ensures ∙ sym (ap said_of c.in-Import.is) in
     subst (λ s. DidSaid d.honest d.folder d.moment d.left c.args.store.now c.import.new.store s c.import.result) same (c.import.ensures.did off)
+
+pub returns-in-Import-clause-cause : goal.returns-in-Import-clause-cause
+returns-in-Import-clause-cause g c = c.import.ensures.cause
+
+pub returns-in-Import-clause-risen : goal.returns-in-Import-clause-risen
+returns-in-Import-clause-risen g c = c.import.ensures.risen
+
+pub returns-in-Import-clause-now : goal.returns-in-Import-clause-now
+returns-in-Import-clause-now g c = c.import.ensures.now
+
+pub returns-in-Change-clause-did : goal.returns-in-Change-clause-did
+returns-in-Change-clause-did g c off =
+    let d = g.D.Disk in
+    let command = command_of c.in-Change.command in
+    subst (λ s. DidSaid d.honest d.folder d.moment d.left c.args.store.now c.change.new.store s c.change.result) (sym (ap said_of c.in-Change.is))
+    (did-said d.honest d.folder d.moment d.left c.args.store.now c.change.new.store (change command) (changing command) refl c.change.result (c.change.ensures.did off))
+
+pub returns-in-Change-clause-cause : goal.returns-in-Change-clause-cause
+returns-in-Change-clause-cause g c = c.change.ensures.cause
+
+pub returns-in-Change-clause-risen : goal.returns-in-Change-clause-risen
+returns-in-Change-clause-risen g c = c.change.ensures.risen
+
+pub returns-in-Change-clause-now : goal.returns-in-Change-clause-now
+returns-in-Change-clause-now g c = c.change.ensures.now
+
+pub returns-in-Checkpoint-clause-did : goal.returns-in-Checkpoint-clause-did
+returns-in-Checkpoint-clause-did g c off =
+    let d = g.D.Disk in
+    subst (λ s. DidSaid d.honest d.folder d.moment d.left c.args.store.now c.checkpoint.new.store s c.checkpoint.result) (sym (ap said_of c.in-Checkpoint.is))
+    (did-said d.honest d.folder d.moment d.left c.args.store.now c.checkpoint.new.store checkpoint_now checkpointing refl c.checkpoint.result (c.checkpoint.ensures.did off))
+
+pub returns-in-Checkpoint-clause-cause : goal.returns-in-Checkpoint-clause-cause
+returns-in-Checkpoint-clause-cause g c = c.checkpoint.ensures.cause
+
+pub returns-in-Checkpoint-clause-risen : goal.returns-in-Checkpoint-clause-risen
+returns-in-Checkpoint-clause-risen g c = c.checkpoint.ensures.risen
+
+pub returns-in-Checkpoint-clause-now : goal.returns-in-Checkpoint-clause-now
+returns-in-Checkpoint-clause-now g c = c.checkpoint.ensures.now
 
 pub returns-in_ok-get_answer-in-Get-clause-did : goal.returns-in_ok-get_answer-in-Get-clause-did
 returns-in_ok-get_answer-in-Get-clause-did g c off =
@@ -39,3 +80,9 @@ returns-in-Nothing-clause-did g c off =
     let d = g.D.Disk in
     said-read d.honest d.folder d.moment d.left c.args.store.now off (λ image h is. g.met.D.Disk.only_now c.args.store.now.disk image h is) c.requires.means
     (said_of c.args.said) bad (subst (λ s. MeansRequest s bad) (sym (ap said_of c.in-Nothing.is)) refl) tt NoCommand (record { bytes = refl; accepted = refl; refused = refl; short = bad-short })
+
+pub returns-in_ok-names_answer-in-Names-clause-did : goal.returns-in_ok-names_answer-in-Names-clause-did
+returns-in_ok-names_answer-in-Names-clause-did g c off =
+    let d = g.D.Disk in
+    said-read d.honest d.folder d.moment d.left c.args.store.now off (λ image h is. g.met.D.Disk.only_now c.args.store.now.disk image h is) c.requires.means
+    (said_of c.args.said) naming (subst (λ s. MeansRequest s naming) (sym (ap said_of c.in-Names.is)) refl) tt c.in_ok-names_answer-in-Names.field-0 c.in_ok-names_answer-in-Names.ensures

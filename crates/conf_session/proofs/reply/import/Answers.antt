@@ -1,6 +1,6 @@
 -- The text is given a tree, or refused.
 use Rattle.std.proofs.Common.{rules, ◌≢◌, refl, ap, ◌∙◌, subst}
-use Rattle.yaml_docs.specs.declared.fault.ReadFault.TheVariants as read
+use Rattle.yaml_faults.specs.declared.fault.ReadFault.TheVariants as read
 use Rattle.yaml_tree.specs.Reading.{Refuses}
 use Rattle.yaml_data.specs.TextBytes.{text_bytes}
 use Rattle.yaml_tree.specs.Limits.{config_limits}

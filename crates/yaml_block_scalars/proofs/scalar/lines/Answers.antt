@@ -18,8 +18,9 @@ returns-in_default-clause-found c =
 pub returns-clause-found : goal.returns-clause-found
 returns-clause-found c =
     lines_pushed c.args.indent c.args.style.folded (chomping_of c.args.style.chomping) c.args.text.now c.args.at c.empty_lines-gaps.result.0 c.empty_lines-gaps.result.1 c.empty_lines-gaps.ensures
-    c.in-Some.line (rw c.in-Some.is at c.in_ok-line.ensures.found) (string_bytes c.push_line_feeds.new.value) (string_bytes c.push_lines.new.value) c.in_ok-end.end
-    (c.in_ok-push_line_feeds.ensures ∙ ap (λ x. x ++ line_feeds c.empty_lines-gaps.result.0) c.in_ok-value.ensures.bytes) c.in_ok-end.ensures.found
+    c.in-Some.line (rw c.in-Some.is at c.in_ok-line.ensures.found) (string_bytes c.push_line_feeds.new.value) (string_bytes c.give_back_room.new.value) c.in_ok-end.end
+    (c.in_ok-push_line_feeds.ensures ∙ ap (λ x. x ++ line_feeds c.empty_lines-gaps.result.0) c.in_ok-value.ensures.bytes)
+    (rw (c.give_back_room.ensures) c.in_ok-end.ensures.found)
 
 pub returns-clause-borrowed : goal.returns-clause-borrowed
 returns-clause-borrowed c =

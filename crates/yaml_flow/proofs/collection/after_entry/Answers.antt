@@ -1,11 +1,11 @@
-use Rattle.std.proofs.Common.{◌≡◌, true, sym, ap, ◌∙◌, arith, refl}
+use Rattle.std.proofs.Common.{◌≡◌, true, sym, ap, ◌∙◌, arith, length, ◌-◌, ◌*◌, ◌<◌, refl}
 use Rattle.std.specs.Prelude.{◌==◌}
 use Rattle.yaml_chars.specs.Places.{rest}
 use Rattle.yaml_events.specs.Meant.{context_of}
 use Rattle.yaml_grammar.specs.Texts.{first}
 use Rattle.yaml_recognizers.specs.FlowFrames.{closer}
 use Rattle.yaml_scan.proofs.Outcomes.{refuses, faults_so, ok_so}
-use Rattle.yaml_flow.specs.Frames.{bracket_end, place_of}
+use Rattle.yaml_flow.specs.Frames.{Onward, bracket_end, place_of, steps_left}
 use Rattle.yaml_flow.proofs.Appends.{appended_one}
 use Rattle.yaml_flow.proofs.FlowSteps.{closes_entry, comma_passed, no_closing}
 use Rattle.yaml_flow.proofs.SameLines.{closer_line, sign_then}
@@ -89,3 +89,18 @@ returns-clause-none c =
     refuses c.fault.result _
     (λ w here. no_closing n d text w c.args.top.in_seq c.args.at c.args.events.now (sym c.stands_at.ensures ∙ c.if-stands_at.false)
     (ap (λ k. first (λ x. x == k) (rest text c.args.at)) (sym c.closing.ensures) ∙ (sym c.stands_at-2.ensures ∙ c.if-stands_at-2.false)) here)
+
+pub returns-then-stands_at-clause-onward : goal.returns-then-stands_at-clause-onward
+returns-then-stands_at-clause-onward c =
+    ok_so c.pass.result _ (Onward c.args.text.now c.args.at)
+    (λ next h. let on = h.above in record { boundary = h.boundary; above = omega (arith, on); within = h.within })
+    c.pass.ensures.onward
+
+pub returns-then-stands_at-clause-less : goal.returns-then-stands_at-clause-less
+returns-then-stands_at-clause-less c =
+    let text = c.args.text.now in
+    let s = sign_there text c.args.at 44 c.utf8.text c.requires (omega arith)
+    (sym c.stands_at.ensures ∙ c.if-stands_at.true) in
+    let below = s.below in
+    ok_so c.pass.result _ (λ next. steps_left text next < 2 * (length text - c.args.at))
+    (λ next h. omega (arith, below, h)) c.pass.ensures.less

@@ -1,12 +1,12 @@
 use Rattle.std.proofs.lemmas.Result.{err_from_is_err_and}
-use Rattle.std.proofs.Common.{◌+◌, sym, ap, ◌∙◌, subst, arith, refl}
+use Rattle.std.proofs.Common.{◌+◌, ◌<◌, sym, ap, ◌∙◌, subst, arith, refl}
 use Rattle.std.specs.Prelude.{[]}
 use Rattle.std.proofs.lemmas.List.Elements.{All-nil, All-same}
 use Rattle.yaml_events.specs.Meant.{context_of}
 use Rattle.yaml_grammar.specs.FlowScalars.{inside}
 use Rattle.yaml_scan.proofs.Outcomes.{fault_passed}
 use Rattle.yaml_flow.specs.declared.collection.Next.TheVariants.{Entry, Node, AfterEntry, Closed}
-use Rattle.yaml_flow.specs.Frames.{BeforeGap, Collection, LineMoves, Onward, Started, WholeRead, place_of}
+use Rattle.yaml_flow.specs.Frames.{BeforeGap, Collection, LineMoves, Onward, Started, WholeRead, place_of, steps_left}
 use Rattle.yaml_flow.proofs.FlowSteps.{inside_twice, opened}
 use Rattle.yaml_flow.proofs.Signs.{opener_starts}
 use Rattle.yaml_flow.proofs.Stacks.{before, closed, kept_on, kept_once, outermost, refused, stack_none, started, starts_pop, starts_push, stepped, turned, whole_read}
@@ -196,3 +196,28 @@ nodes-preserved c =
           done.ensures.onward done.ensures.line;
       inner = c.nodes.invariant.inner;
     }
+
+pub nodes-smaller-in_ok-next-in-Entry : goal.nodes-smaller-in_ok-next-in-Entry
+nodes-smaller-in_ok-next-in-Entry c =
+    let text = c.args.text.now in
+    subst (λ k. steps_left text c.in_ok-next-in-Entry.next < k) (sym (ap (steps_left text) c.in-Entry.is))
+    c.in_ok-next-in-Entry.ensures.less
+
+pub nodes-smaller-in_ok-next-in-AfterEntry : goal.nodes-smaller-in_ok-next-in-AfterEntry
+nodes-smaller-in_ok-next-in-AfterEntry c =
+    let text = c.args.text.now in
+    subst (λ k. steps_left text c.in_ok-next-in-AfterEntry.next < k) (sym (ap (steps_left text) c.in-AfterEntry.is))
+    c.in_ok-next-in-AfterEntry.ensures.less
+
+pub nodes-smaller-in_ok-next-in-Node : goal.nodes-smaller-in_ok-next-in-Node
+nodes-smaller-in_ok-next-in-Node c =
+    let text = c.args.text.now in
+    subst (λ k. steps_left text c.in_ok-next-in-Node.next < k) (sym (ap (steps_left text) c.in-Node.is))
+    c.in_ok-next-in-Node.ensures.less
+
+pub nodes-smaller : goal.nodes-smaller
+nodes-smaller c =
+    let text = c.args.text.now in
+    let less = c.in_ok-next-in-Some.ensures.less in
+    subst (λ k. steps_left text c.in_ok-next-in-Some.next < k) (sym (ap (steps_left text) c.in-Closed.is))
+    (omega (arith, less))

@@ -1,4 +1,4 @@
-use Rattle.std.proofs.Common.{◌≡◌, true, false, sym, ap, ◌∙◌, arith, refl}
+use Rattle.std.proofs.Common.{◌≡◌, true, false, sym, ap, ◌∙◌, arith, length, ◌+◌, ◌-◌, ◌*◌, ◌<◌, refl}
 use Rattle.std.specs.Prelude.{◌==◌}
 use Rattle.yaml_chars.specs.Places.{rest}
 use Rattle.yaml_events.specs.Meant.{context_of}
@@ -7,7 +7,7 @@ use Rattle.yaml_recognizers.specs.FlowFrames.{closer}
 use Rattle.yaml_recognizers.specs.FlowNodes.{is_asked}
 use Rattle.yaml_scan.proofs.Outcomes.{faults_so, ok_so}
 use Rattle.yaml_flow.specs.declared.collection.Part.TheVariants.{First}
-use Rattle.yaml_flow.specs.Frames.{bracket_end, place_of}
+use Rattle.yaml_flow.specs.Frames.{Onward, bracket_end, place_of, steps_left}
 use Rattle.yaml_flow.proofs.Appends.{appended_one}
 use Rattle.yaml_flow.proofs.FlowSteps.{begins, closes, question}
 use Rattle.yaml_flow.proofs.SameLines.{closer_line, sign_then}
@@ -109,3 +109,15 @@ returns-clause-none c =
     (λ h. λ w here. h w (question n d text w c.args.top.now.in_seq c.args.at c.args.events.now s
     (question_asks d text c.args.at s (sym c.safe_at.ensures ∙ c.if-safe_at.false))
     (ap (λ k. first (λ x. x == k) (rest text c.args.at)) (sym c.closing.ensures) ∙ (sym c.stands_at.ensures ∙ c.if-stands_at.false)) here)) c.asked.ensures.none
+
+pub returns-clause-onward : goal.returns-clause-onward
+returns-clause-onward c =
+    ok_so c.asked.result _ (Onward c.args.text.now c.args.at)
+    (λ next h. let on = h.above in record { boundary = h.boundary; above = omega (arith, on); within = h.within })
+    c.asked.ensures.onward
+
+pub returns-clause-less : goal.returns-clause-less
+returns-clause-less c =
+    let text = c.args.text.now in
+    ok_so c.asked.result _ (λ next. steps_left text next < 2 * (length text - c.args.at) + 1)
+    (λ next h. omega (arith, h)) c.asked.ensures.less

@@ -1,11 +1,11 @@
-use Rattle.std.proofs.Common.{sym, subst, ap, arith, ◌+◌, refl, length}
+use Rattle.std.proofs.Common.{sym, subst, ap, arith, ◌+◌, ◌-◌, ◌*◌, ◌<◌, refl, length}
 use Rattle.std.specs.Prelude.{◌∷◌}
 use Rattle.yaml_chars.specs.Places.{rest}
 use Rattle.yaml_events.specs.Meant.{context_of}
 use Rattle.yaml_events.specs.EventPlaces.{line_starts}
 use Rattle.yaml_recognizers.specs.Recognizers.{flow_node_at}
 use Rattle.yaml_scan.proofs.Outcomes.{faults_so, ok_so, refuses}
-use Rattle.yaml_flow.specs.Frames.{BeforeGap, Collection, place_of}
+use Rattle.yaml_flow.specs.Frames.{BeforeGap, Collection, Onward, place_of, steps_left}
 use Rattle.yaml_flow.proofs.FlowSteps.{opened}
 use Rattle.yaml_flow.proofs.NodeSteps.{at_start, node_at_end, node_missing}
 use Rattle.yaml_flow.proofs.SameLines.{opener_then}
@@ -73,3 +73,19 @@ returns-clause-none c =
     (λ h. λ w here. node_missing n d text w c.args.top.now at events
     (h opens c.in-Some.in_seq c.begin.new.events
     (opened n d d text at c.in-Some.in_seq events c.begin.new.events (sym c.requires.inside) c.in-Some.ensures.found (c.in_ok-top.ensures.written text))) here) c.pass.ensures.none
+
+pub returns-clause-onward : goal.returns-clause-onward
+returns-clause-onward c =
+    ok_so c.pass.result _ (Onward c.args.text.now c.args.at)
+    (λ next h. let on = h.above in record { boundary = h.boundary; above = omega (arith, on); within = h.within })
+    c.pass.ensures.onward
+
+pub returns-clause-less : goal.returns-clause-less
+returns-clause-less c =
+    let text = c.args.text.now in
+    let below : c.args.at < length text = omega (arith, c.requires.at.0, c.if-at-text.false) in
+    ok_so c.pass.result _ (λ next. steps_left text next < 2 * (length text - c.args.at))
+    (λ next h. omega (arith, below, h)) c.pass.ensures.less
+
+pub returns-clause-kept : goal.returns-clause-kept
+returns-clause-kept c = λ k. c.begin.ensures.kept k

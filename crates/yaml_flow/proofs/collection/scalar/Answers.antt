@@ -10,6 +10,7 @@ use Rattle.yaml_flow.proofs.NodeSteps.{node_missing}
 use Rattle.yaml_flow.proofs.GapPlaces.{broken_by, unbroken_by}
 use Rattle.yaml_flow.proofs.SameLines.{line_follows, line_stays, line_then, same_line_here}
 use Rattle.yaml_flow.proofs.ScalarSteps.{scalar_missing, scalar_node}
+use Rattle.yaml_flow.proofs.Stacks.{kept_then}
 use Rattle.yaml_flow.proofs.collection.scalar.Goals as goal
 use Rattle.yaml_flow.proofs.collection.scalar.Goals.{then-is_over_lines, else-is_over_lines}
 
@@ -90,3 +91,16 @@ returns-clause-less c =
     let within = c.in_ok-found.ensures.found.within in
     ok_so c.plug.result _ (λ next. steps_left text next < 2 * (length text - c.args.top.now.start))
     (λ next h. omega (arith, above, within, h)) c.plug.ensures.less
+
+pub plug-requires-clause-count : goal.plug-requires-clause-count
+plug-requires-clause-count c =
+    let count = c.requires.count in
+    let pushed = c.push.ensures.kept (length c.args.events.now) (omega arith) in
+    let room = pushed.0 in
+    omega (arith, count, room)
+
+pub returns-clause-kept : goal.returns-clause-kept
+returns-clause-kept c = λ k l.
+    let count = c.requires.count in
+    kept_then k c.args.events.now c.push.new.events c.plug.new.events (c.push.ensures.kept k)
+    (c.plug.ensures.kept k (omega (arith, count, l))) l

@@ -1,16 +1,16 @@
 use Rattle.std.proofs.lemmas.Result.{err_from_is_err_and}
-use Rattle.std.proofs.Common.{◌≡◌, true, false, sym, subst, ◌∙◌}
+use Rattle.std.proofs.Common.{◌≡◌, true, false, sym, subst, ◌∙◌, arith, length, ◌-◌, ◌*◌, ◌≤◌}
 use Rattle.yaml_chars.specs.Places.{rest}
 use Rattle.yaml_events.specs.Meant.{context_of}
 use Rattle.yaml_recognizers.specs.Ends.{is_colon}
 use Rattle.yaml_scan.specs.Gaps.{NoGap}
 use Rattle.yaml_scan.proofs.Outcomes.{fault_passed, faults_so, ok_so}
 use Rattle.yaml_flow.specs.declared.collection.Part.TheVariants.{Value}
-use Rattle.yaml_flow.specs.Frames.{AtColon, Collection, NodeRead, NoPair, SameLine, Stands, ends_plain}
+use Rattle.yaml_flow.specs.Frames.{AtColon, Collection, LineMoves, NodeRead, NoPair, Onward, SameLine, Stands, ends_plain, place_of, steps_left}
 use Rattle.yaml_flow.proofs.ColonSteps.{colon_read, colon_refused, node_dead}
 use Rattle.yaml_flow.proofs.NodeSteps.{entry_alone, not_value, the_value, value_read}
 use Rattle.yaml_flow.proofs.Results.{ok_two}
-use Rattle.yaml_flow.proofs.Stacks.{inside_widens}
+use Rattle.yaml_flow.proofs.Stacks.{inside_widens, kept_then}
 use Rattle.yaml_flow.proofs.pair.plug.Goals as goal
 
 pub returns-in_err-after-clause-none : goal.returns-in_err-after-clause-none
@@ -87,3 +87,78 @@ returns-clause-stands c = ok_so c.value.result _ _ (λ next h w here. h w (pair_
 
 pub returns-clause-none : goal.returns-clause-none
 returns-clause-none c = faults_so c.value.result _ _ (λ h w here. h w (pair_begun c w here)) c.value.ensures.none
+
+pub returns-then-is_value-clause-onward : goal.returns-then-is_value-clause-onward
+returns-then-is_value-clause-onward c =
+    let gap = c.in_ok-after.ensures.found in
+    ok_so c.close_pair.result _ _
+    (λ next e. subst (Onward c.args.text.now c.args.end) (sym e)
+    (record { boundary = gap.boundary; above = gap.above; within = gap.boundary.0 })) c.close_pair.ensures.next
+
+pub returns-then-is_value-clause-less : goal.returns-then-is_value-clause-less
+returns-then-is_value-clause-less c =
+    let text = c.args.text.now in
+    let above = (c.in_ok-after.ensures.found).above in
+    ok_so c.close_pair.result _ _
+    (λ next e. subst (λ x. steps_left text x ≤ 2 * (length text - c.args.end)) (sym e) (omega (arith, above)))
+    c.close_pair.ensures.next
+
+pub returns-then-is_value-clause-line : goal.returns-then-is_value-clause-line
+returns-then-is_value-clause-line c =
+    ok_so c.close_pair.result _ _
+    (λ next e. subst (λ x. LineMoves c.args.text.now c.args.line.now c.args.end c.pass_gap.new.line (place_of x))
+    (sym e) c.in_ok-after.ensures.line) c.close_pair.ensures.next
+
+pub returns-then-is_value-clause-kept : goal.returns-then-is_value-clause-kept
+returns-then-is_value-clause-kept c = λ k l. c.close_pair.ensures.kept k
+
+pub returns-then-not-colon_at-clause-onward : goal.returns-then-not-colon_at-clause-onward
+returns-then-not-colon_at-clause-onward c =
+    let gap = c.in_ok-after.ensures.found in
+    ok_so c.without_value.result _ _
+    (λ next e. subst (Onward c.args.text.now c.args.end) (sym e)
+    (record { boundary = gap.boundary; above = gap.above; within = gap.boundary.0 })) c.without_value.ensures.next
+
+pub returns-then-not-colon_at-clause-less : goal.returns-then-not-colon_at-clause-less
+returns-then-not-colon_at-clause-less c =
+    let text = c.args.text.now in
+    let above = (c.in_ok-after.ensures.found).above in
+    ok_so c.without_value.result _ _
+    (λ next e. subst (λ x. steps_left text x ≤ 2 * (length text - c.args.end)) (sym e) (omega (arith, above)))
+    c.without_value.ensures.next
+
+pub returns-then-not-colon_at-clause-line : goal.returns-then-not-colon_at-clause-line
+returns-then-not-colon_at-clause-line c =
+    ok_so c.without_value.result _ _
+    (λ next e. subst (λ x. LineMoves c.args.text.now c.args.line.now c.args.end c.pass_gap.new.line (place_of x))
+    (sym e) c.in_ok-after.ensures.line) c.without_value.ensures.next
+
+pub returns-then-not-colon_at-clause-kept : goal.returns-then-not-colon_at-clause-kept
+returns-then-not-colon_at-clause-kept c = λ k l. c.without_value.ensures.kept k
+
+pub returns-clause-onward : goal.returns-clause-onward
+returns-clause-onward c =
+    let above = (c.in_ok-after.ensures.found).above in
+    ok_so c.value.result _ _
+    (λ next o. let further = o.above in
+    record { boundary = o.boundary; above = omega (arith, above, further); within = o.within }) c.value.ensures.onward
+
+pub returns-clause-less : goal.returns-clause-less
+returns-clause-less c =
+    let above = (c.in_ok-after.ensures.found).above in
+    ok_so c.value.result _ _ (λ next l. omega (arith, above, l)) c.value.ensures.less
+
+pub returns-clause-line : goal.returns-clause-line
+returns-clause-line c =
+    let above = (c.in_ok-after.ensures.found).above in
+    let gap = c.in_ok-after.ensures.line in
+    ok_so c.value.result _ _
+    (λ next l. record {
+      within = λ w. l.within (gap.within w);
+      tells = λ from b f s. l.tells from b (omega (arith, above, f)) (gap.tells from b f s);
+    }) c.value.ensures.line
+
+pub returns-clause-kept : goal.returns-clause-kept
+returns-clause-kept c = λ k l.
+    kept_then k c.args.events.now c.begin_pair.new.events c.value.new.events (c.begin_pair.ensures.kept k l)
+    (c.value.ensures.kept k)

@@ -1,5 +1,5 @@
 use Rattle.std.proofs.lemmas.Result.{err_from_is_err_and}
-use Rattle.std.proofs.Common.{◌≡◌, true, false, sym, subst, ap, ◌∙◌, arith, ℕ, ◌+◌, refl}
+use Rattle.std.proofs.Common.{◌≡◌, true, false, sym, subst, ap, ◌∙◌, arith, length, ℕ, ◌+◌, ◌-◌, ◌*◌, ◌<◌, ◌≤◌, refl}
 use Rattle.std.specs.Prelude.{Bool, not, ◌||◌, ◌&&◌, nat_lt, List, []}
 use Rattle.yaml_chars.specs.Places.{rest}
 use Rattle.yaml_events.specs.Meant.{context_of}
@@ -10,12 +10,13 @@ use Rattle.yaml_recognizers.specs.Gaps.{read_gap}
 use Rattle.yaml_scan.specs.Gaps.{NoGap}
 use Rattle.yaml_scan.proofs.Outcomes.{fault_passed, ok_so}
 use Rattle.yaml_flow.specs.declared.collection.Part.TheVariants.{Value}
-use Rattle.yaml_flow.specs.Frames.{LineMoves, Passes, Stands, ends_plain, pair_end, place_of}
+use Rattle.yaml_flow.specs.Frames.{LineMoves, Onward, Passes, Stands, ends_plain, pair_end, place_of, steps_left}
 use Rattle.yaml_flow.proofs.Appends.{appended_one, appended_then}
 use Rattle.yaml_flow.proofs.ColonSteps.{pair_without_value, value_dead, value_waits}
 use Rattle.yaml_flow.proofs.Results.{ok_two}
 use Rattle.yaml_flow.proofs.PairKeys.{left_out}
 use Rattle.yaml_flow.proofs.SameLines.{sign_then}
+use Rattle.yaml_flow.proofs.Stacks.{kept_then}
 use Rattle.yaml_scan.proofs.ByteSigns.{sign_there}
 use Rattle.yaml_flow.proofs.Signs.{not_starting}
 use Rattle.yaml_flow.proofs.pair.value.Goals as goal
@@ -82,3 +83,40 @@ returns-clause-stands c =
     test_is n d text (c.args.colon + 1) c.in_ok-at.at (ends_plain c.args.key_end) gap ∙ (sym c.is_left_out.ensures ∙ c.if-is_left_out.false) in
     λ w here. value_waits n d text w c.args.top.now.in_seq c.args.key_end c.args.colon c.args.events.now here (record c.args.top.now { part = Value }) c.in_ok-at.at refl refl
     (not_starting text c.args.colon 58 c.utf8.text c.requires.at s refl refl) s gap test
+
+pub returns-then-is_left_out-clause-onward : goal.returns-then-is_left_out-clause-onward
+returns-then-is_left_out-clause-onward c =
+    let gap = c.in_ok-at.ensures.found in
+    let above : c.args.colon + 1 ≤ c.in_ok-at.at = gap.above in
+    ok_so c.close_pair.result _ _
+    (λ next e. subst (Onward c.args.text.now c.args.colon) (sym e)
+    (record { boundary = gap.boundary; above = omega (arith, above); within = gap.boundary.0 }))
+    c.close_pair.ensures.next
+
+pub returns-then-is_left_out-clause-less : goal.returns-then-is_left_out-clause-less
+returns-then-is_left_out-clause-less c =
+    let text = c.args.text.now in
+    let gap = c.in_ok-at.ensures.found in
+    let above : c.args.colon + 1 ≤ c.in_ok-at.at = gap.above in
+    let within : c.in_ok-at.at ≤ length text = gap.boundary.0 in
+    ok_so c.close_pair.result _ _
+    (λ next e. subst (λ x. steps_left text x < 2 * (length text - c.args.colon)) (sym e) (omega (arith, above, within)))
+    c.close_pair.ensures.next
+
+pub returns-then-is_left_out-clause-kept : goal.returns-then-is_left_out-clause-kept
+returns-then-is_left_out-clause-kept c = λ k.
+    kept_then k c.args.events.now c.push.new.events c.close_pair.new.events (c.push.ensures.kept k)
+    (c.close_pair.ensures.kept k)
+
+pub returns-clause-onward : goal.returns-clause-onward
+returns-clause-onward c =
+    let gap = c.in_ok-at.ensures.found in
+    let above : c.args.colon + 1 ≤ c.in_ok-at.at = gap.above in
+    record { boundary = gap.boundary; above = omega (arith, above); within = gap.boundary.0 }
+
+pub returns-clause-less : goal.returns-clause-less
+returns-clause-less c =
+    let gap = c.in_ok-at.ensures.found in
+    let above : c.args.colon + 1 ≤ c.in_ok-at.at = gap.above in
+    let within : c.in_ok-at.at ≤ length c.args.text.now = gap.boundary.0 in
+    omega (arith, above, within)

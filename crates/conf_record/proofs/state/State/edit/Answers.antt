@@ -1,4 +1,4 @@
-use Rattle.std.proofs.Common.{◌≡◌, ◌+◌, List, Ok, Some, string_bytes, bytes_eq, inr, refl, ap, subst, ◌∙◌, sym, arith, rules}
+use Rattle.std.proofs.Common.{◌≡◌, ◌+◌, List, Ok, Some, string_bytes, bytes_eq, inr, refl, ap, subst, ◌∙◌, sym, arith}
 use Rattle.std.proofs.lemmas.Result.{err_from_is_err_and}
 use Rattle.std.specs.Map.{lookup}
 use Rattle.std.specs.Str.{chars}
@@ -69,7 +69,7 @@ returns-in_err-check_room-clause-refused c =
     let p = err_from_is_err_and c.from_residual-in_err-check_room.result c.from_residual-in_err-check_room.ensures.1 in
     rw (p.1, p.2)
     (inr (ap (λ r. and_then r (next_state c.args.self.now c.args.fits)) made
-    ∙ c.in_err-check_room.ensures.refused (put_config c.args.self.now.configs name l.new) (search (rules, l.entries))))
+    ∙ c.in_err-check_room.ensures.refused (put_config c.args.self.now.configs name l.new) (omega (arith, l.entries))))
 
 pub perform-requires-clause-steps : goal.perform-requires-clause-steps
 perform-requires-clause-steps c =

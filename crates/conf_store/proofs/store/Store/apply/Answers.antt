@@ -1,4 +1,5 @@
-use Rattle.std.proofs.Common.{rules, ◌≡◌, ◌⊎◌, inl, inr, ⊎_elim, ◌+◌, ◌≤◌, false, length, string_bytes, Some, Ok, Err, sym, ◌∙◌, ap, subst}
+use Rattle.std.proofs.Common.{rules, arith, ◌≡◌, ◌⊎◌, inl, inr, ⊎_elim, ◌+◌, ◌≤◌, false, true, length, string_bytes, Some, Ok, Err, refl, sym, ◌∙◌, ap, subst}
+use Rattle.std.proofs.lemmas.Bool.{false≢true}
 use Rattle.conf_disk.specs.Image.{Image, synced_file}
 use Rattle.conf_disk.specs.Folder.{bytes_under}
 use Rattle.conf_disk.specs.Moments.{LeavesOnly}
@@ -18,7 +19,7 @@ use Rattle.conf_store.proofs.store.Store.apply.Goals as goal
 pub returns-in-Err-clause-reopen : goal.returns-in-Err-clause-reopen
 returns-in-Err-clause-reopen g c = (
   λ e. absurd (c.in-Err.ensures.of_state.0 (let same : c.in-Err.fault ≡ Reopen = cc e in same)),
-  λ on. absurd (let off : c.args.self.now.reopen ≡ false = ap (λ (s : StoreView g.row.D.Denot). s.reopen) (sym c.self.view_is) ∙ c.if-self.false in cc (on, off)),
+  λ on. absurd (false≢true (sym c.if-self.false ∙ ap (λ (s : StoreView g.row.D.Denot). s.reopen) c.self.view_is ∙ on)),
 )
 
 pub returns-in-Err-clause-device : goal.returns-in-Err-clause-device
@@ -125,3 +126,66 @@ returns-in-Ok-append_closed-clause-reads g c h on =
 pub returns-clause-refused : goal.returns-clause-refused
 returns-clause-refused g c =
     subst (λ (s : StoreView g.row.D.Denot). outcome s.size s.state (command_of c.args.command) ≡ Ok c.accept.new.state) c.self.view_is c.in-Ok.ensures.ok.0.outcome
+
+-- ---- whether the store has to be opened again, and failures of the device
+
+pub returns-then-self-clause-reopen : goal.returns-then-self-clause-reopen
+returns-then-self-clause-reopen g c =
+    let on : c.args.self.now.reopen ≡ true = ap (λ (s : StoreView g.row.D.Denot). s.reopen) (sym c.self.view_is) ∙ c.if-self.true in
+    (λ e. on, λ _. refl)
+
+pub returns-then-self-clause-device : goal.returns-then-self-clause-device
+returns-then-self-clause-device g c e = absurd (cc e)
+
+pub returns-then-self-clause-cause : goal.returns-then-self-clause-cause
+returns-then-self-clause-cause g c e = absurd (cc e)
+
+pub returns-then-self-clause-any_moment : goal.returns-then-self-clause-any_moment
+returns-then-self-clause-any_moment g c h off =
+    let on : c.args.self.now.reopen ≡ true = ap (λ (s : StoreView g.row.D.Denot). s.reopen) (sym c.self.view_is) ∙ c.if-self.true in
+    absurd (false≢true (sym off ∙ on))
+
+pub returns-then-self-clause-now : goal.returns-then-self-clause-now
+returns-then-self-clause-now g c h off =
+    let on : c.args.self.now.reopen ≡ true = ap (λ (s : StoreView g.row.D.Denot). s.reopen) (sym c.self.view_is) ∙ c.if-self.true in
+    absurd (false≢true (sym off ∙ on))
+
+pub returns-in-Ok-append_closed-clause-reopen : goal.returns-in-Ok-append_closed-clause-reopen
+returns-in-Ok-append_closed-clause-reopen g c =
+    let off : c.args.self.now.reopen ≡ false = ap (λ (s : StoreView g.row.D.Denot). s.reopen) (sym c.self.view_is) ∙ c.if-self.false in
+    (λ e. absurd (cc e), λ on. absurd (false≢true (sym off ∙ on)))
+
+pub returns-in-Ok-append_closed-clause-device : goal.returns-in-Ok-append_closed-clause-device
+returns-in-Ok-append_closed-clause-device g c e = absurd (cc e)
+
+pub returns-in-Ok-append_closed-clause-cause : goal.returns-in-Ok-append_closed-clause-cause
+returns-in-Ok-append_closed-clause-cause g c e = absurd (cc e)
+
+pub returns-in-Ok-append_closed-clause-risen : goal.returns-in-Ok-append_closed-clause-risen
+returns-in-Ok-append_closed-clause-risen g c =
+    let count = g.D.Disk.failure_count in
+    subst (λ (s : StoreView g.row.D.Denot). count s.disk ≤ count c.append_closed.new.disk) c.self.view_is c.append_closed.ensures.failures.never_falls
+
+pub returns-clause-reopen : goal.returns-clause-reopen
+returns-clause-reopen g c =
+    let off : c.args.self.now.reopen ≡ false = ap (λ (s : StoreView g.row.D.Denot). s.reopen) (sym c.self.view_is) ∙ c.if-self.false in
+    (λ e. absurd (cc e), λ on. absurd (false≢true (sym off ∙ on)))
+
+pub returns-clause-unchanged : goal.returns-clause-unchanged
+returns-clause-unchanged g c some = absurd (some refl)
+
+pub returns-clause-device : goal.returns-clause-device
+returns-clause-device g c e = refl
+
+pub returns-clause-risen : goal.returns-clause-risen
+returns-clause-risen g c =
+    let count = g.D.Disk.failure_count in
+    subst (λ (s : StoreView g.row.D.Denot). count s.disk ≤ count c.append_closed.new.disk) c.self.view_is c.append_closed.ensures.failures.never_falls
+
+pub returns-in-Err-clause-risen : goal.returns-in-Err-clause-risen
+returns-in-Err-clause-risen g c =
+    let count = g.D.Disk.failure_count in
+    subst (λ (s : StoreView g.row.D.Denot). count s.disk ≤ count c.self.inside.disk) c.self.view_is (omega arith)
+
+pub returns-clause-now : goal.returns-clause-now
+returns-clause-now g c h off = absurd (cc off)

@@ -3,6 +3,7 @@ use Rattle.std.specs.Prelude.{◌++◌, MatchOption}
 use Rattle.yaml_grammar.specs.Events.{omitted_at}
 use Rattle.yaml_scan.proofs.Outcomes.{ok_so}
 use Rattle.yaml_block.specs.Frames.{AfterPair}
+use Rattle.yaml_block.proofs.Stacks.{grown_grown, grown_same}
 use Rattle.yaml_block.proofs.UnwindSteps.{SignHere, alone_key, item_ends, item_next, item_of, key_of, left_out, pair_of, sign_here, sign_onward, value_next}
 use Rattle.yaml_block.specs.declared.frame.Sign.TheVariants.{Asked, Dash}
 use Rattle.yaml_block.proofs.reader.Reader.after_part.Goals as goal
@@ -90,3 +91,26 @@ returns-in-Value-clause-turn c =
       ended = t.ended;
     })
     c.after_pair-in-Value.ensures.turn
+
+pub returns-in_err-wait-in-Item-clause-grown : goal.returns-in_err-wait-in-Item-clause-grown
+returns-in_err-wait-in-Item-clause-grown c = grown_same c.args.self.now.events c.wait.new.self.events
+    c.in_err-wait-in-Item.ensures.events
+
+pub returns-then-goes_on_with-clause-grown : goal.returns-then-goes_on_with-clause-grown
+returns-then-goes_on_with-clause-grown c = grown_same c.args.self.now.events c.wait.new.self.events
+    c.in_ok-wait-in-Item.ensures.events
+
+pub returns-in_err-wait-in-Key-clause-grown : goal.returns-in_err-wait-in-Key-clause-grown
+returns-in_err-wait-in-Key-clause-grown c =
+    grown_same c.args.self.now.events c.wait-then-goes_on_with-2.new.self.events
+    c.in_err-wait-in-Key.ensures.events
+
+pub returns-then-goes_on_with-2-clause-grown : goal.returns-then-goes_on_with-2-clause-grown
+returns-then-goes_on_with-2-clause-grown c =
+    grown_same c.args.self.now.events c.wait-then-goes_on_with-2.new.self.events
+    c.in_ok-wait-in-Key.ensures.events
+
+pub returns-in_ok-put-in-Key-clause-grown : goal.returns-in_ok-put-in-Key-clause-grown
+returns-in_ok-put-in-Key-clause-grown c =
+    grown_grown c.args.self.now.events c.put-in-Key.new.self.events c.after_pair.new.self.events
+    c.in_ok-put-in-Key.ensures.grown c.after_pair.ensures.grown

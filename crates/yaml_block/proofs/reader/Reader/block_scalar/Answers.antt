@@ -7,6 +7,7 @@ use Rattle.yaml_events.specs.declared.event.Event.TheVariants.{Scalar}
 use Rattle.yaml_scan.proofs.Outcomes.{fault_passed}
 use Rattle.yaml_block.specs.States.{BeforeLeaf, Fails}
 use Rattle.yaml_block.proofs.BlockScalarSteps.{block_scalar_read, no_body_there, no_header_there, scalar_borrows, scalar_event_is, scalar_onward}
+use Rattle.yaml_block.proofs.Stacks.{grown_same}
 use Rattle.yaml_block.proofs.reader.Reader.block_scalar.Goals as goal
 
 pub returns-in_err-head-clause-none : goal.returns-in_err-head-clause-none
@@ -29,6 +30,19 @@ returns-in_err-body-clause-none c =
     (no_body_there text c.utf8.text leaf head lines c.args.self.now c.requires.begins (c.in_ok-head.ensures).found)
     (c.in_err-body.ensures).none
     (err_from_is_err_and c.from_residual-in_err-body.result c.from_residual-in_err-body.ensures.1)
+
+pub returns-in_err-head-clause-grown : goal.returns-in_err-head-clause-grown
+returns-in_err-head-clause-grown c = grown_same c.args.self.now.events c.args.self.now.events refl
+
+pub returns-in_err-body-clause-grown : goal.returns-in_err-body-clause-grown
+returns-in_err-body-clause-grown c = grown_same c.args.self.now.events c.args.self.now.events refl
+
+pub returns-in_err-put-clause-none : goal.returns-in_err-put-clause-none
+returns-in_err-put-clause-none c =
+    let text = c.args.text.now in
+    fault_passed c.from_residual-in_err-put.result c.in_err-put.field-0.0 ⊥
+    (Fails text (BeforeLeaf text c.args.leaf) c.args.self.now) (λ x. absurd x) (c.in_err-put.ensures).none
+    (err_from_is_err_and c.from_residual-in_err-put.result c.from_residual-in_err-put.ensures.1)
 
 pub line_after_scalar-requires-clause-starts : goal.line_after_scalar-requires-clause-starts
 line_after_scalar-requires-clause-starts c = (c.in_ok-body.ensures).line

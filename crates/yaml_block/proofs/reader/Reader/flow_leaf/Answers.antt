@@ -9,6 +9,7 @@ use Rattle.yaml_block.specs.States.{BeforeLeaf, Fails}
 use Rattle.yaml_block.specs.declared.frame.Sign.TheVariants.{Colon}
 use Rattle.yaml_block.specs.declared.frame.Waits.TheVariants.{Value}
 use Rattle.yaml_block.proofs.KeysAndPairs.{after_onward, fault_kept, leaf_key, leaf_line, leaf_nothing, leaf_unclosed, leaf_unkeyed}
+use Rattle.yaml_block.proofs.Stacks.{grown_appended, grown_before, grown_grown, grown_same}
 use Rattle.yaml_block.proofs.TextPlaces.{past_sign}
 use Rattle.yaml_block.proofs.reader.Reader.flow_leaf.Goals as goal
 
@@ -90,3 +91,55 @@ returns-in-Some-clause-onward c =
         solid = found.solid;
       };
     }
+
+pub returns-in-Err-clause-grown : goal.returns-in-Err-clause-grown
+returns-in-Err-clause-grown c = grown_same c.args.self.now.events c.flow_node.new.events
+    (c.in-Err.ensures).unchanged
+
+pub returns-in_err-indent-clause-grown : goal.returns-in_err-indent-clause-grown
+returns-in_err-indent-clause-grown c = grown_appended c.args.text.now c.args.self.now.events c.flow_node.new.events _
+    ((c.in-Ok.ensures).reads).appended
+
+pub returns-in_err-start_map_before-clause-grown : goal.returns-in_err-start_map_before-clause-grown
+returns-in_err-start_map_before-clause-grown c =
+    grown_grown c.args.self.now.events c.flow_node.new.events c.start_map_before.new.self.events
+    (grown_appended c.args.text.now c.args.self.now.events c.flow_node.new.events _
+    ((c.in-Ok.ensures).reads).appended)
+    (grown_same c.flow_node.new.events c.start_map_before.new.self.events (c.in_err-start_map_before.ensures).back)
+
+pub returns-in_err-start_map_before-clause-none : goal.returns-in_err-start_map_before-clause-none
+returns-in_err-start_map_before-clause-none c =
+    fault_passed c.from_residual-in_err-start_map_before.result c.in_err-start_map_before.field-0.0 ⊥
+    (Fails c.args.text.now (BeforeLeaf c.args.text.now c.args.leaf) c.args.self.now) (λ x. absurd x)
+    (c.in_err-start_map_before.ensures).none
+    (err_from_is_err_and c.from_residual-in_err-start_map_before.result
+    c.from_residual-in_err-start_map_before.ensures.1)
+
+pub returns-in_err-wait-clause-grown : goal.returns-in_err-wait-clause-grown
+returns-in_err-wait-clause-grown c =
+    grown_before c.args.text.now c.args.self.now.events c.flow_node.new.events c.wait.new.self.events _
+    ((c.in-Ok.ensures).reads).appended
+    ((c.in_err-wait.ensures).events ∙ ((c.in_ok-start_map_before.ensures).events
+    ∙ ap (λ n. insert c.flow_node.new.events n MapStart) c.len-before.ensures))
+
+pub returns-in_err-wait-clause-none : goal.returns-in_err-wait-clause-none
+returns-in_err-wait-clause-none c =
+    fault_passed c.from_residual-in_err-wait.result c.in_err-wait.field-0.0 ⊥
+    (Fails c.args.text.now (BeforeLeaf c.args.text.now c.args.leaf) c.args.self.now) (λ x. absurd x)
+    (c.in_err-wait.ensures).none
+    (err_from_is_err_and c.from_residual-in_err-wait.result c.from_residual-in_err-wait.ensures.1)
+
+pub returns-then-sign_at-clause-grown : goal.returns-then-sign_at-clause-grown
+returns-then-sign_at-clause-grown c =
+    grown_before c.args.text.now c.args.self.now.events c.flow_node.new.events c.wait.new.self.events _
+    ((c.in-Ok.ensures).reads).appended
+    ((c.in_ok-wait.ensures).events ∙ ((c.in_ok-start_map_before.ensures).events
+    ∙ ap (λ n. insert c.flow_node.new.events n MapStart) c.len-before.ensures))
+
+pub returns-in-Some-clause-grown : goal.returns-in-Some-clause-grown
+returns-in-Some-clause-grown c = grown_appended c.args.text.now c.args.self.now.events c.flow_node.new.events _
+    ((c.in-Ok.ensures).reads).appended
+
+pub returns-in-None-clause-grown : goal.returns-in-None-clause-grown
+returns-in-None-clause-grown c = grown_appended c.args.text.now c.args.self.now.events c.flow_node.new.events _
+    ((c.in-Ok.ensures).reads).appended

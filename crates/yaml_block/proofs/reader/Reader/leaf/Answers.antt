@@ -1,7 +1,7 @@
 use Rattle.std.proofs.Common.{refl, sym, ◌∙◌, subst, arith, ℕ, ◌+◌, ◌-◌, ◌*◌, ◌≤◌, length}
 use Rattle.std.specs.Prelude.{Option, IfSome}
-use Rattle.yaml_scan.proofs.Outcomes.{ok_so}
-use Rattle.yaml_block.specs.States.{BeforeLeaf, Onward, Leads}
+use Rattle.yaml_scan.proofs.Outcomes.{faults_so, ok_so}
+use Rattle.yaml_block.specs.States.{BeforeLeaf, Fails, Onward, Leads}
 use Rattle.yaml_block.specs.declared.frame.Next.{Next}
 use Rattle.yaml_block.specs.declared.frame.Next.TheVariants as next
 use Rattle.yaml_block.specs.declared.frame.Sign.TheVariants.{Asked}
@@ -33,3 +33,8 @@ returns-then-sign_at-clause-leads c =
     c.first_asked.ensures.next c.first_asked.ensures.collections c.first_asked.ensures.events
     (λ p e. asked_first text leaf k c.in-Some.is (sym c.sign_at.ensures ∙ c.if-sign_at.true) past c.args.self.now
     c.first_asked.new.self p e)
+
+pub returns-then-sign_at-clause-none : goal.returns-then-sign_at-clause-none
+returns-then-sign_at-clause-none c =
+    faults_so c.first_asked.result ⊥ (Fails c.args.text.now (BeforeLeaf c.args.text.now c.args.leaf) c.args.self.now)
+    (λ x. absurd x) c.first_asked.ensures.none

@@ -1,12 +1,14 @@
-use Rattle.std.proofs.Common.{◌≡◌, refl, sym, ◌∙◌, ap, ◌+◌}
+use Rattle.std.proofs.Common.{◌≡◌, refl, sym, ◌∙◌, ap, arith, length, ◌+◌, ◌-◌, ◌*◌, ◌≤◌}
 use Rattle.std.specs.Prelude.{true, false, suc}
+use Rattle.std.proofs.lemmas.Result.{err_from_is_err_and}
 use Rattle.yaml_chars.specs.Places.{rest}
-use Rattle.yaml_scan.proofs.Outcomes.{refuses}
-use Rattle.yaml_block.specs.States.{BeforePart, BeforeNodeLine}
+use Rattle.yaml_scan.proofs.Outcomes.{fault_passed, refuses}
+use Rattle.yaml_block.specs.States.{BeforePart, BeforeNodeLine, Fails}
 use Rattle.yaml_block.specs.declared.frame.Indentation.{Indentation}
 use Rattle.yaml_recognizers.specs.Ends.{block_node_stops}
 use Rattle.yaml_block.specs.Frames.{is_shallow as is_shallow_after}
-use Rattle.yaml_block.proofs.SignsAndLines.{Becomes, leads_so, fails_so, left_out_key, left_out_value, node_there}
+use Rattle.yaml_block.proofs.SignsAndLines.{Becomes, leads_so, fails_so, onward_so, left_out_key, left_out_value, node_there}
+use Rattle.yaml_block.proofs.Stacks.{grown_same}
 use Rattle.yaml_block.proofs.reader.Reader.on_later_line.Goals as goal
 
 pub returns-then-waits_for_key-clause-none : goal.returns-then-waits_for_key-clause-none
@@ -31,6 +33,29 @@ returns-then-is_omitted-clause-leads c =
     c.requires.line e c.args.self.now (record c.put.new.self { end = c.args.at }) c.omitted.result
     (λ f fs s. c.if-waits_for_key.ensures f fs s) c.in_ok-put.ensures.collections c.in_ok-put.ensures.events
     c.omitted.ensures.event (c.omitted.ensures.borrowed text) refl
+
+pub returns-then-waits_for_key-clause-grown : goal.returns-then-waits_for_key-clause-grown
+returns-then-waits_for_key-clause-grown c = grown_same c.args.self.now.events c.args.self.now.events refl
+
+pub returns-in_err-put-clause-none : goal.returns-in_err-put-clause-none
+returns-in_err-put-clause-none c =
+    let text = c.args.text.now in
+    fault_passed c.from_residual.result c.in_err-put.field-0.0 ⊥
+    (Fails text (BeforePart text c.args.sign c.args.indent c.args.at) c.args.self.now) (λ x. absurd x)
+    (c.in_err-put.ensures).none (err_from_is_err_and c.from_residual.result c.from_residual.ensures.1)
+
+pub returns-then-is_omitted-clause-onward : goal.returns-then-is_omitted-clause-onward
+returns-then-is_omitted-clause-onward c =
+    let line = c.requires.line in
+    let above : c.args.at ≤ c.args.line.start = line.above in
+    record {
+      above = above;
+      less = omega (arith, above);
+      placed = record {
+        line = record { boundary = line.boundary; spaces = line.spaces; starts = c.requires.starts };
+        solid = line.solid;
+      };
+    }
 
 node_starts : goal.After-on_line → Indentation
 node_starts c = record {
@@ -65,3 +90,12 @@ unfolding node_starts
 returns-clause-none c =
     fails_so c.args.text.now c.on_line.result (BeforeNodeLine c.args.text.now (node_starts c) c.args.line.start) _
     c.args.self.now (node_here c) c.on_line.ensures.none
+
+pub returns-clause-onward : goal.returns-clause-onward
+returns-clause-onward c =
+    let text = c.args.text.now in
+    let at = c.args.at in
+    let start = c.args.line.start in
+    let above : at ≤ start = (c.requires.line).above in
+    onward_so text at start (3 * (length text - start)) (3 * (length text - at) + 2) c.on_line.result above
+    (omega (arith, above)) c.on_line.ensures.onward

@@ -2,14 +2,15 @@ use Rattle.std.proofs.Common.{◌≡◌, refl, sym, ◌∙◌, subst, arith, ◌
 use Rattle.std.specs.Prelude.{Some, None, List, ℕ, Result, IfOk}
 use Rattle.yaml_events.specs.declared.fault.ScanFault.{ScanFault}
 use Rattle.std.proofs.lemmas.Bool.{and_parts}
-use Rattle.yaml_scan.proofs.Outcomes.{ok_so, refuses}
-use Rattle.yaml_block.specs.States.{BeforeLeaf, BeforeNodeLine, Onward, Leads}
+use Rattle.yaml_scan.proofs.Outcomes.{faults_so, ok_so, refuses}
+use Rattle.yaml_block.specs.States.{BeforeLeaf, BeforeNodeLine, Fails, Onward, Leads}
 use Rattle.yaml_block.specs.declared.frame.Leaf.{Leaf}
 use Rattle.yaml_block.specs.declared.frame.Next.{Next}
 use Rattle.yaml_block.specs.declared.frame.Next.TheVariants as next
 use Rattle.yaml_block.specs.declared.frame.Sign.TheVariants.{Dash}
 use Rattle.yaml_block.proofs.TextPlaces.{IsPastSign, past_sign}
-use Rattle.yaml_block.proofs.SignsAndLines.{either, ok_opens, onward_from, Becomes, leads_so, fails_so, dash_onward, line_sequence, line_refused, line_leaf_only, line_leaf_or_pairs}
+use Rattle.yaml_block.proofs.SignsAndLines.{either, ok_opens, onward_so, Becomes, leads_so, fails_so, dash_onward, line_sequence, line_refused, line_leaf_only, line_leaf_or_pairs}
+use Rattle.yaml_block.proofs.Stacks.{grown_same}
 use Rattle.yaml_block.proofs.reader.Reader.on_line.Goals as goal
 
 pub returns-then-begins_sequence-clause-onward : goal.returns-then-begins_sequence-clause-onward
@@ -38,6 +39,12 @@ returns-then-begins_sequence-clause-leads c =
     c.open_items.ensures.next c.open_items.ensures.collections c.open_items.ensures.events
     (λ p e. line_sequence text c.args.node line c.utf8.text c.requires.line both.0 both.1 past c.args.self.now
     c.open_items.new.self p e)
+
+pub returns-then-begins_sequence-clause-none : goal.returns-then-begins_sequence-clause-none
+returns-then-begins_sequence-clause-none c =
+    faults_so c.open_items.result ⊥
+    (Fails c.args.text.now (BeforeNodeLine c.args.text.now c.args.node c.args.line.start) c.args.self.now)
+    (λ x. absurd x) c.open_items.ensures.none
 
 pub returns-then-spaces-node-clause-none : goal.returns-then-spaces-node-clause-none
 returns-then-spaces-node-clause-none c =
@@ -104,9 +111,7 @@ leaf_onward : (text : List ℕ) (start first lead : ℕ) (r : Result Next ScanFa
     → IfOk r (Onward text lead (3 * (length text - lead)))
     → IfOk r (Onward text start (3 * (length text - start)))
 leaf_onward text start first lead r l m h =
-    ok_so r _ _
-    (λ to o. onward_from text start lead (3 * (length text - lead)) (3 * (length text - start)) to (omega arith)
-    (omega arith) o) h
+    onward_so text start lead (3 * (length text - lead)) (3 * (length text - start)) r (omega arith) (omega arith) h
 
 pub returns-then-spaces-node-2-clause-onward : goal.returns-then-spaces-node-2-clause-onward
 returns-then-spaces-node-2-clause-onward c =
@@ -117,3 +122,6 @@ pub returns-clause-onward : goal.returns-clause-onward
 returns-clause-onward c =
     leaf_onward c.args.text.now c.args.line.start c.args.line.first c.white_end-first.result c.leaf-2.result
     ((c.requires.line).spaces).above c.white_end-first.ensures.taken.above c.leaf-2.ensures.onward
+
+pub returns-then-spaces-node-clause-grown : goal.returns-then-spaces-node-clause-grown
+returns-then-spaces-node-clause-grown c = grown_same c.args.self.now.events c.args.self.now.events refl

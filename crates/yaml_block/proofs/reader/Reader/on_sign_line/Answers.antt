@@ -1,8 +1,8 @@
 use Rattle.std.proofs.Common.{◌≡◌, refl, sym, ◌∙◌, ap, subst, arith, ◌+◌, ◌-◌, ◌*◌, ◌<◌, ◌≤◌, length, inl, inr}
 use Rattle.std.specs.Prelude.{true, false, ◌⊎◌, Some, None}
 use Rattle.yaml_chars.specs.Places.{rest}
-use Rattle.yaml_scan.proofs.Outcomes.{ok_so, refuses}
-use Rattle.yaml_block.specs.States.{BeforePart, BeforeLeaf, Onward, Leads}
+use Rattle.yaml_scan.proofs.Outcomes.{faults_so, ok_so, refuses}
+use Rattle.yaml_block.specs.States.{BeforePart, BeforeLeaf, Fails, Onward, Leads}
 use Rattle.yaml_block.specs.Frames.{is_colon}
 use Rattle.yaml_block.specs.declared.frame.Leaf.{Leaf}
 use Rattle.yaml_block.specs.declared.frame.Next.{Next}
@@ -12,8 +12,9 @@ use Rattle.yaml_block.proofs.TextPlaces.{IsPastSign, past_sign}
 use Rattle.yaml_chars.specs.Classes.{white}
 use Rattle.yaml_grammar.specs.Texts.{first}
 use Rattle.yaml_grammar.specs.BlockScalars.{past_spaces}
-use Rattle.yaml_block.proofs.SignsAndLines.{ok_opens, Becomes, leads_so, fails_so, onward_from, dash_onward, nothing_there, leaf_there, compact_leaf_there, compact_sequence_there, spaces_below, allowed, not_allowed}
+use Rattle.yaml_block.proofs.SignsAndLines.{ok_opens, Becomes, leads_so, fails_so, onward_from, onward_so, dash_onward, nothing_there, leaf_there, compact_leaf_there, compact_sequence_there, spaces_below, allowed, not_allowed}
 use Rattle.yaml_block.proofs.PlaceSteps.{tab}
+use Rattle.yaml_block.proofs.Stacks.{grown_same}
 use Rattle.yaml_block.proofs.reader.Reader.on_sign_line.Goals as goal
 use Rattle.yaml_block.proofs.reader.Reader.on_sign_line.Goals.{then-not-allows_compact-via-then-not-allows_compact, then-not-allows_compact-via-else-not-allows_compact+then-spaces_end-first}
 
@@ -102,6 +103,12 @@ returns-then-sign_at-clause-leads c =
     c.white_end-first.ensures.taken c.spaces_end.result c.spaces_end.ensures same colon far
     (sym c.sign_at.ensures ∙ c.if-sign_at.true) past c.args.self.now c.open_items.new.self p e)
 
+pub returns-then-sign_at-clause-none : goal.returns-then-sign_at-clause-none
+returns-then-sign_at-clause-none c =
+    faults_so c.open_items.result ⊥
+    (Fails c.args.text.now (BeforePart c.args.text.now c.args.sign c.args.indent c.args.at) c.args.self.now)
+    (λ x. absurd x) c.open_items.ensures.none
+
 -- before a leaf that may be the first key of a compact mapping
 compact : goal.After-leaf-2 → Leaf
 compact c =
@@ -138,3 +145,24 @@ unfolding compact
 returns-clause-none c =
     fails_so c.args.text.now c.leaf-2.result (BeforeLeaf c.args.text.now (compact c)) _ c.args.self.now (leaf_compact c)
     c.leaf-2.ensures.none
+
+pub returns-then-not-allows_compact-clause-onward : goal.returns-then-not-allows_compact-clause-onward
+returns-then-not-allows_compact-clause-onward c =
+    let text = c.args.text.now in
+    let at = c.args.at in
+    let lead = c.white_end-first.result in
+    let above : at ≤ lead = c.white_end-first.ensures.taken.above in
+    onward_so text at lead (3 * (length text - lead)) (3 * (length text - at) + 2) c.leaf.result above
+    (omega (arith, above)) c.leaf.ensures.onward
+
+pub returns-clause-onward : goal.returns-clause-onward
+returns-clause-onward c =
+    let text = c.args.text.now in
+    let at = c.args.at in
+    let lead = c.white_end-first.result in
+    let above : at ≤ lead = c.white_end-first.ensures.taken.above in
+    onward_so text at lead (3 * (length text - lead)) (3 * (length text - at) + 2) c.leaf-2.result above
+    (omega (arith, above)) c.leaf-2.ensures.onward
+
+pub returns-then-first-at-clause-grown : goal.returns-then-first-at-clause-grown
+returns-then-first-at-clause-grown c = grown_same c.args.self.now.events c.args.self.now.events refl

@@ -1,10 +1,12 @@
 use Rattle.std.proofs.Common.{arith, inl, inr, refl, sym, ◌∙◌}
+use Rattle.std.proofs.lemmas.Result.{err_from_is_err_and}
 use Rattle.yaml_grammar.specs.FlowScalars.{block_key}
-use Rattle.yaml_scan.proofs.Outcomes.{refuses}
+use Rattle.yaml_scan.proofs.Outcomes.{fault_passed, refuses}
 use Rattle.yaml_flow.specs.FlowNodes.{NoFlowNodeFound}
 use Rattle.yaml_block.specs.States.{BeforePair, Fails}
 use Rattle.yaml_block.specs.declared.frame.Sign.TheVariants.{Asked, Colon}
 use Rattle.yaml_block.proofs.KeysAndPairs.{after_onward, fault_kept, pair_asked, pair_key, pair_missing, pair_unkeyed}
+use Rattle.yaml_block.proofs.Stacks.{grown_appended, grown_grown, grown_same}
 use Rattle.yaml_block.proofs.TextPlaces.{past_sign}
 use Rattle.yaml_block.proofs.reader.Reader.pair.Goals as goal
 
@@ -74,3 +76,53 @@ returns-clause-leads c =
     (c.in-Ok.ensures).reads (c.white_end-colon.ensures).taken (sym c.sign_at-2.ensures ∙ c.if-not-sign_at.false)
     (sym c.at_most_chars.ensures ∙ c.if-not-at_most_chars.false) (c.in_ok-wait-2.ensures).collections
     (c.in_ok-wait-2.ensures).events
+
+pub returns-in_err-wait-clause-grown : goal.returns-in_err-wait-clause-grown
+returns-in_err-wait-clause-grown c = grown_same c.args.self.now.events c.wait.new.self.events
+    (c.in_err-wait.ensures).events
+
+pub returns-in_err-wait-clause-none : goal.returns-in_err-wait-clause-none
+returns-in_err-wait-clause-none c =
+    let text = c.args.text.now in
+    fault_passed c.from_residual.result c.in_err-wait.field-0.0 ⊥
+    (Fails text (BeforePair text c.args.indent c.args.at) c.args.self.now) (λ x. absurd x)
+    (c.in_err-wait.ensures).none (err_from_is_err_and c.from_residual.result c.from_residual.ensures.1)
+
+pub returns-then-sign_at-clause-grown : goal.returns-then-sign_at-clause-grown
+returns-then-sign_at-clause-grown c = grown_same c.args.self.now.events c.wait.new.self.events
+    (c.in_ok-wait.ensures).events
+
+pub returns-in-Err-clause-grown : goal.returns-in-Err-clause-grown
+returns-in-Err-clause-grown c = grown_same c.args.self.now.events c.flow_node.new.events
+    (c.in-Err.ensures).unchanged
+
+pub returns-then-not-sign_at-clause-grown : goal.returns-then-not-sign_at-clause-grown
+returns-then-not-sign_at-clause-grown c = grown_appended c.args.text.now c.args.self.now.events c.flow_node.new.events _
+    ((c.in-Ok.ensures).reads).appended
+
+pub returns-then-not-at_most_chars-clause-grown : goal.returns-then-not-at_most_chars-clause-grown
+returns-then-not-at_most_chars-clause-grown c =
+    grown_appended c.args.text.now c.args.self.now.events c.flow_node.new.events _
+    ((c.in-Ok.ensures).reads).appended
+
+pub returns-in_err-wait-2-clause-none : goal.returns-in_err-wait-2-clause-none
+returns-in_err-wait-2-clause-none c =
+    let text = c.args.text.now in
+    fault_passed c.from_residual-in_err-wait-2.result c.in_err-wait-2.field-0.0 ⊥
+    (Fails text (BeforePair text c.args.indent c.args.at) c.args.self.now) (λ x. absurd x)
+    (c.in_err-wait-2.ensures).none
+    (err_from_is_err_and c.from_residual-in_err-wait-2.result c.from_residual-in_err-wait-2.ensures.1)
+
+pub returns-in_err-wait-2-clause-grown : goal.returns-in_err-wait-2-clause-grown
+returns-in_err-wait-2-clause-grown c =
+    grown_grown c.args.self.now.events c.flow_node.new.events c.wait-2.new.self.events
+    (grown_appended c.args.text.now c.args.self.now.events c.flow_node.new.events _
+    ((c.in-Ok.ensures).reads).appended)
+    (grown_same c.flow_node.new.events c.wait-2.new.self.events (c.in_err-wait-2.ensures).events)
+
+pub returns-clause-grown : goal.returns-clause-grown
+returns-clause-grown c =
+    grown_grown c.args.self.now.events c.flow_node.new.events c.wait-2.new.self.events
+    (grown_appended c.args.text.now c.args.self.now.events c.flow_node.new.events _
+    ((c.in-Ok.ensures).reads).appended)
+    (grown_same c.flow_node.new.events c.wait-2.new.self.events (c.in_ok-wait-2.ensures).events)

@@ -1,10 +1,11 @@
-use Rattle.std.proofs.Common.{sym, ◌∙◌, arith, ◌<◌, ◌≤◌}
+use Rattle.std.proofs.Common.{refl, sym, ◌∙◌, arith, length, ◌-◌, ◌*◌, ◌<◌, ◌≤◌}
 use Rattle.std.specs.Prelude.{None}
 use Rattle.yaml_scan.proofs.Outcomes.{refuses}
 use Rattle.yaml_block.specs.States.{BeforeLeaf, BeforeNode, BeforeNodeLine, is_shallow}
 use Rattle.yaml_block.specs.declared.frame.Leaf.{Leaf}
 use Rattle.yaml_block.specs.declared.frame.Indentation.{Indentation}
-use Rattle.yaml_block.proofs.SignsAndLines.{Becomes, leads_so, fails_so, nothing_at_end, prefix_rest_there, prefix_leaf_there, prefix_nothing_there}
+use Rattle.yaml_block.proofs.SignsAndLines.{Becomes, leads_so, fails_so, onward_so, nothing_at_end, prefix_rest_there, prefix_leaf_there, prefix_nothing_there}
+use Rattle.yaml_block.proofs.Stacks.{grown_same}
 use Rattle.yaml_block.proofs.reader.Reader.prefix.Goals as goal
 
 pub returns-then-at-text-clause-none : goal.returns-then-at-text-clause-none
@@ -73,3 +74,28 @@ unfolding only_leaf
 returns-clause-none c =
     fails_so c.args.text.now c.leaf.result (BeforeLeaf c.args.text.now (only_leaf c)) _ c.args.self.now (leaf_here c)
     c.leaf.ensures.none
+
+pub returns-in-Some-clause-onward : goal.returns-in-Some-clause-onward
+returns-in-Some-clause-onward c =
+    let text = c.args.text.now in
+    let at = c.args.at in
+    let start = c.solid_line-line.result.start in
+    let next : at < c.in-Some.next = c.in-Some.ensures.found.above in
+    let above : c.in-Some.next ≤ start = c.solid_line-line.ensures.found.above in
+    onward_so text at start (3 * (length text - start)) (3 * (length text - at)) c.on_line.result
+    (omega (arith, next, above)) (omega (arith, next, above)) c.on_line.ensures.onward
+
+pub returns-clause-onward : goal.returns-clause-onward
+returns-clause-onward c =
+    let text = c.args.text.now in
+    let at = c.args.at in
+    let lead = c.white_end-first.result in
+    let above : at ≤ lead = c.white_end-first.ensures.taken.above in
+    onward_so text at lead (3 * (length text - lead)) (3 * (length text - at)) c.leaf.result above
+    (omega (arith, above)) c.leaf.ensures.onward
+
+pub returns-then-at-text-clause-grown : goal.returns-then-at-text-clause-grown
+returns-then-at-text-clause-grown c = grown_same c.args.self.now.events c.args.self.now.events refl
+
+pub returns-then-first-at-clause-grown : goal.returns-then-first-at-clause-grown
+returns-then-first-at-clause-grown c = grown_same c.args.self.now.events c.args.self.now.events refl

@@ -1,8 +1,8 @@
-use Rattle.std.proofs.Common.{◌≡◌, inl, inr}
+use Rattle.std.proofs.Common.{◌≡◌, arith, inl, inr, length, ◌-◌, ◌*◌, ◌≤◌}
 use Rattle.std.specs.Prelude.{◌⊎◌}
 use Rattle.yaml_block.specs.States.{BeforeNode, BeforeNodeLine, is_shallow}
 use Rattle.yaml_block.specs.declared.frame.Indentation.{Indentation}
-use Rattle.yaml_block.proofs.SignsAndLines.{Becomes, leads_so, fails_so, prefix_line_there}
+use Rattle.yaml_block.proofs.SignsAndLines.{Becomes, leads_so, fails_so, onward_so, prefix_line_there}
 use Rattle.yaml_block.proofs.reader.Reader.prefix_line.Goals as goal
 use Rattle.yaml_block.proofs.reader.Reader.prefix_line.Goals.{then-line-at, else-line-at}
 
@@ -39,3 +39,12 @@ returns-clause-none c =
     fails_so c.args.text.now c.on_line.result
     (BeforeNodeLine c.args.text.now (node_starts c) c.solid_line-line.result.start) _ c.args.self.now (node_here c)
     c.on_line.ensures.none
+
+pub returns-clause-onward : goal.returns-clause-onward
+returns-clause-onward c =
+    let text = c.args.text.now in
+    let at = c.args.at in
+    let start = c.solid_line-line.result.start in
+    let above : at ≤ start = c.solid_line-line.ensures.found.above in
+    onward_so text at start (3 * (length text - start)) (3 * (length text - at)) c.on_line.result above
+    (omega (arith, above)) c.on_line.ensures.onward

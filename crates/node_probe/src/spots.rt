@@ -1,0 +1,76 @@
+// Numbers, and where a node is looked for and how.
+use yaml_events::{BlockContext, FlowContext};
+
+/// The number that a word is.
+pub(crate) fn number_of(word: &str) -> Option<usize> {
+    word.parse::<usize>().ok()
+}
+
+/// The number that is the only word.
+pub(crate) fn only_number(words: &[&str]) -> Option<usize> {
+    match words {
+        [word] => number_of(word),
+        _ => None,
+    }
+}
+
+/// Where a flow node is looked for: at a place, with lines of `n` spaces or more, and in a context.
+#[derive(Clone, Copy)]
+pub(crate) struct FlowSpot {
+    pub(crate) at: usize,
+    pub(crate) n: u64,
+    pub(crate) context: FlowContext,
+}
+
+impl FlowSpot {
+    /// What three words say.
+    pub(crate) fn of(words: &[&str]) -> Option<FlowSpot> {
+        match words {
+            [at, n, context] => Some(FlowSpot {
+                at: number_of(at)?,
+                n: n.parse::<u64>().ok()?,
+                context: flow_context(context)?,
+            }),
+            _ => None,
+        }
+    }
+}
+
+/// The context that a word names.
+pub(crate) fn flow_context(word: &str) -> Option<FlowContext> {
+    match word {
+        "Outer" => Some(FlowContext::Outer),
+        "Inner" => Some(FlowContext::Inner),
+        "BlockKey" => Some(FlowContext::BlockKey),
+        "FlowKey" => Some(FlowContext::FlowKey),
+        _ => None,
+    }
+}
+
+/// Where a block node is looked for: at a place, below an indentation of `n`, and in a context.
+#[derive(Clone, Copy)]
+pub(crate) struct BlockSpot {
+    pub(crate) at: usize,
+    pub(crate) n: i64,
+    pub(crate) context: BlockContext,
+}
+
+impl BlockSpot {
+    /// What three words say.
+    pub(crate) fn of(words: &[&str]) -> Option<BlockSpot> {
+        match words {
+            [at, n, "Bin"] => BlockSpot::with(at, n, BlockContext::Bin),
+            [at, n, "Bout"] => BlockSpot::with(at, n, BlockContext::Bout),
+            _ => None,
+        }
+    }
+
+    /// What two words say, in a context.
+    fn with(at: &str, n: &str, context: BlockContext) -> Option<BlockSpot> {
+        Some(BlockSpot {
+            at: number_of(at)?,
+            n: n.parse::<i64>().ok()?,
+            context,
+        })
+    }
+}

@@ -1,0 +1,30 @@
+//! What the probes share: programs that answer orders, so that the gate can compare the answers with expected ones.
+//!
+//! [`answer_lines`] answers each line of standard input. What answers orders is an [`Answers`]. A line that begins with
+//! `#` is a heading, and is answered by itself.
+//!
+//! In texts and bytes of an order `\n`, `\r`, `\t` and `\\` mean a line feed, a carriage return, a tab and a backslash,
+//! and `\xHH` a byte: a `;` is written as `\x3b`. [`escaped`] reads them. [`text_of`] and [`bytes_of`] read runs, too.
+//! A run stands between two `\*`, and is a count, a space, and what is there so many times, as in `\*1024 x\*`. So a
+//! backslash before a star is `\x5c` there.
+//!
+//! The orders on stores and on the tools write texts in another way, which [`meant`] and [`unescaped`] read: `*COUNT*`
+//! is so many letters `x`, and `\0` and `\s` are a zero byte and a backslash. [`Source`] and [`Sink`] are readers and
+//! writers that go in parts, end, or fail.
+#![tactic(auto)]
+
+mod answers;
+mod escapes;
+mod folders;
+mod lines;
+mod runs;
+mod streams;
+mod texts;
+
+pub use answers::{no_order, no_place, shown, wrong_escape};
+pub use escapes::escaped;
+pub use folders::{ended, make_folder, remove_folder};
+pub use lines::{Answers, answer_lines};
+pub use runs::{bytes_of, text_of};
+pub use streams::{Sink, Source};
+pub use texts::{meant, measured, number_of, unescaped};

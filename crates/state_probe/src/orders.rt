@@ -1,0 +1,150 @@
+// Orders on a state.
+use crate::commands::{Room, command_of, perform, perform_record};
+use crate::faults::store_fault;
+use crate::texts::lengthened;
+use conf_pieces::{base_text, read_base, read_record, record_text};
+use conf_record::{State, good_name};
+use probe_words::{Answers, bytes_of, no_order, shown, wrong_escape};
+use std::alloc::{AllocError, Global};
+use std::io;
+use yaml_emit::style_text;
+
+/// The state that orders are about.
+#[derive(Drop)]
+pub(crate) struct Held {
+    state: State,
+}
+
+impl Held {
+    /// An empty state.
+    pub(crate) fn new(alloc: Global) -> Held {
+        Held {
+            state: State::new(alloc),
+        }
+    }
+}
+
+impl Answers for Held {
+    fn answer(&mut self, alloc: Global, order: &str) -> io::Result<String> {
+        Ok(answer_to(alloc, &mut self.state, order)?)
+    }
+}
+
+/// The answer to an order.
+fn answer_to(alloc: Global, state: &mut State, order: &str) -> Result<String, AllocError> {
+    let words: Vec<&str> = order.split(';').collect(alloc)?;
+    match words.as_slice() {
+        ["record", number, command @ ..] => record_of(alloc, number, command),
+        ["unfit", command @ ..] => perform(alloc, state, command, Room::Missing),
+        [call] => answer_to_none(alloc, state, call),
+        [call, text] => answer_to_one(alloc, state, call, text),
+        command => perform(alloc, state, command, Room::Enough),
+    }
+}
+
+/// The answer to an order of one word.
+fn answer_to_none(alloc: Global, state: &mut State, call: &str) -> Result<String, AllocError> {
+    match call {
+        "new" => renew(alloc, state),
+        "show" => configs_of(alloc, state),
+        "length" => shown(alloc, &state.base_length()),
+        "base" => base_of(alloc, state),
+        _ => no_order(alloc),
+    }
+}
+
+/// The answer to an order with one part.
+fn answer_to_one(
+    alloc: Global,
+    state: &mut State,
+    call: &str,
+    text: &str,
+) -> Result<String, AllocError> {
+    match call {
+        "name" => shown(alloc, &good_name(text)),
+        "perform" => perform_record(alloc, state, text),
+        "read" => text_read(alloc, text),
+        "read_bytes" => bytes_read(alloc, text),
+        "open" => open(alloc, state, text),
+        "fault" => store_fault(alloc, text),
+        _ => no_order(alloc),
+    }
+}
+
+/// Takes an empty state.
+fn renew(alloc: Global, state: &mut State) -> Result<String, AllocError> {
+    *state = State::new(alloc);
+    String::from_str(alloc, "new")
+}
+
+/// The length of the base text, and the base text.
+fn base_of(alloc: Global, state: &State) -> Result<String, AllocError> {
+    let text = base_text(alloc, state)?;
+    measured(alloc, &text)
+}
+
+/// The length of a text, and the text.
+fn measured(alloc: Global, text: &str) -> Result<String, AllocError> {
+    format!(in alloc; "{} {text:?}", text.len())
+}
+
+/// The record of a command.
+fn record_of(alloc: Global, number: &str, words: &[&str]) -> Result<String, AllocError> {
+    let Ok(number) = number.parse::<u64>() else {
+        return String::from_str(alloc, "no number");
+    };
+    match command_of(alloc, words) {
+        Ok(Some(command)) => measured(alloc, &record_text(alloc, &command, number)?),
+        Ok(None) => String::from_str(alloc, "no command"),
+        Err(fault) => format!(in alloc; "{fault:?}"),
+    }
+}
+
+/// The record or the base that bytes are read as, written again.
+fn reading_of(alloc: Global, bytes: &[u8]) -> Result<String, AllocError> {
+    if let Some((command, number)) = read_record(alloc, bytes)? {
+        return measured(alloc, &record_text(alloc, &command, number)?);
+    }
+    match read_base(alloc, bytes)? {
+        Some(state) => measured(alloc, &base_text(alloc, &state)?),
+        None => String::from_str(alloc, "neither"),
+    }
+}
+
+/// The same of a text.
+fn text_read(alloc: Global, written: &str) -> Result<String, AllocError> {
+    let text = lengthened(alloc, written)?;
+    reading_of(alloc, text.as_bytes())
+}
+
+/// The same of bytes with escapes and runs.
+fn bytes_read(alloc: Global, written: &str) -> Result<String, AllocError> {
+    match bytes_of(alloc, written)? {
+        Some(bytes) => reading_of(alloc, &bytes),
+        None => wrong_escape(alloc),
+    }
+}
+
+/// Takes the state of a base.
+fn open(alloc: Global, state: &mut State, text: &str) -> Result<String, AllocError> {
+    let text = lengthened(alloc, text)?;
+    match read_base(alloc, text.as_bytes())? {
+        Some(read) => {
+            *state = read;
+            format!(in alloc; "{}", state.count())
+        }
+        None => String::from_str(alloc, "no base"),
+    }
+}
+
+/// The count, and each configuration in the one style.
+fn configs_of(alloc: Global, state: &State) -> Result<String, AllocError> {
+    let mut shown = format!(in alloc; "{}", state.count())?;
+    for name in state.names() {
+        if let Some(config) = state.get(name) {
+            let text = style_text(alloc, config)?;
+            shown = format!(in alloc; "{shown} {name} {text:?}")?;
+        }
+    }
+    Ok(shown)
+}

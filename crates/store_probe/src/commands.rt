@@ -1,0 +1,35 @@
+// Commands from their words.
+use conf_record::{Command, StoreFault};
+use probe_words::meant;
+use std::alloc::Global;
+use yaml_tree::{Limits, read_one};
+
+/// The limits of a value: more than a store's configuration may have.
+const LIMITS: Limits = Limits {
+    bytes: 67_108_864,
+    depth: 66,
+    style: 67_108_864,
+};
+
+/// A command that sets the tree of a text at a path.
+pub(crate) fn set(
+    alloc: Global,
+    name: &str,
+    path: &str,
+    value: &str,
+) -> Result<Command, StoreFault> {
+    let text = meant(alloc, value)?;
+    let name = String::from_str(alloc, name)?;
+    let path = String::from_str(alloc, path)?;
+    match read_one(alloc, text.as_bytes(), &LIMITS) {
+        Ok(value) => Ok(Command::Set { name, path, value }),
+        Err(fault) => Err(StoreFault::Read(fault)),
+    }
+}
+
+/// A command that deletes what is at a path.
+pub(crate) fn delete(alloc: Global, name: &str, path: &str) -> Result<Command, StoreFault> {
+    let name = String::from_str(alloc, name)?;
+    let path = String::from_str(alloc, path)?;
+    Ok(Command::Delete { name, path })
+}

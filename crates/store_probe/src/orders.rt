@@ -1,0 +1,39 @@
+// Orders on a store and their answers.
+use crate::folders::{Place, image, open, renew, shown};
+use crate::stores::store_answer;
+use conf_disk::Name;
+use probe_words::{Answers, number_of};
+use std::alloc::{AllocError, Global};
+use std::io;
+use test_disks::Fuse;
+
+impl Answers for Place {
+    fn answer(&mut self, alloc: Global, order: &str) -> io::Result<String> {
+        let words: Vec<&str> = order.split(';').collect(alloc)?;
+        Ok(answer(alloc, self, &words)?)
+    }
+}
+
+/// The answer to an order.
+fn answer(alloc: Global, place: &mut Place, words: &[&str]) -> Result<String, AllocError> {
+    match words {
+        ["folder"] => renew(alloc, place, None, None),
+        ["folder", store] => renew(alloc, place, Some(store), None),
+        ["folder", store, next] => renew(alloc, place, Some(store), Some(next)),
+        ["open"] => open(alloc, place, u64::MAX, Fuse::Stop),
+        ["open", fuse, calls] => open(alloc, place, number_of(calls), fuse_of(fuse)),
+        ["file"] => shown(alloc, place, Name::Store),
+        ["next"] => shown(alloc, place, Name::Next),
+        ["image", stage] => image(alloc, place, number_of(stage)),
+        words => store_answer(alloc, place, words),
+    }
+}
+
+/// The fuse that a word says: any other word is `stop`.
+fn fuse_of(word: &str) -> Fuse {
+    match word {
+        "done" => Fuse::FailOnce { done: true },
+        "undone" => Fuse::FailOnce { done: false },
+        _ => Fuse::Stop,
+    }
+}

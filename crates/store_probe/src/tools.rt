@@ -1,4 +1,0 @@
-// Orders on the tools of confstore.
-mod answers;
-pub(crate) mod orders;
-mod runs;

@@ -1,6 +1,0 @@
--- Each turn takes a byte off what is left.
-use Rattle.std.proofs.Common.{length}
-use Rattle.text_probe.proofs.escapes.escaped.Given as goal
-
-abbrev pub decreases-loop-left : goal.decreases-loop-left
-decreases-loop-left l = length l.left

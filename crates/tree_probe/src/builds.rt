@@ -1,0 +1,93 @@
+// Trees that are built from texts: very deep ones, and mappings with a key twice.
+use probe_words::{no_place, text_of};
+use std::alloc::{AllocError, Global};
+use std::mem;
+use yaml_tree::{Text, Tree};
+
+/// The tree out of its place, where the empty text is left.
+pub(crate) fn taken(tree: &mut Tree) -> Tree {
+    mem::replace(tree, Tree::Text(Text::empty()))
+}
+
+/// The answer where a tree is built.
+fn built(alloc: Global) -> Result<String, AllocError> {
+    String::from_str(alloc, "built")
+}
+
+/// Takes a text as the tree.
+pub(crate) fn build_text(
+    alloc: Global,
+    tree: &mut Tree,
+    written: &str,
+) -> Result<String, AllocError> {
+    let Some(text) = text_of(alloc, written)? else {
+        return no_place(alloc);
+    };
+    *tree = Tree::Text(Text::from_string(text));
+    built(alloc)
+}
+
+/// Takes a mapping of texts as the tree. Its keys and values come by turns.
+pub(crate) fn build_pairs(
+    alloc: Global,
+    tree: &mut Tree,
+    words: &[&str],
+) -> Result<String, AllocError> {
+    let mut pairs = Vec::new(alloc);
+    for pair in words.chunks(2) {
+        if let [key, value] = pair {
+            pairs.push(pair_of(alloc, key, value)?)?;
+        }
+    }
+    *tree = Tree::Map(pairs);
+    built(alloc)
+}
+
+/// A key with a text.
+fn pair_of(alloc: Global, key: &str, value: &str) -> Result<(Text, Tree), AllocError> {
+    let key = Text::new(alloc, key)?;
+    Ok((key, Tree::Text(Text::new(alloc, value)?)))
+}
+
+/// A sequence of one element.
+fn in_sequence(alloc: Global, tree: Tree) -> Result<Tree, AllocError> {
+    Ok(Tree::Seq(vec![in alloc; tree]?))
+}
+
+/// A mapping of one pair.
+fn in_mapping(alloc: Global, tree: Tree) -> Result<Tree, AllocError> {
+    let key = Text::new(alloc, "k")?;
+    Ok(Tree::Map(vec![in alloc; (key, tree)]?))
+}
+
+/// A sequence at an even level, and a mapping at an odd one.
+fn in_level(alloc: Global, tree: Tree, level: u32) -> Result<Tree, AllocError> {
+    match level % 2 {
+        0 => in_sequence(alloc, tree),
+        _ => in_mapping(alloc, tree),
+    }
+}
+
+/// Puts the tree inside so many sequences of one element, one in another.
+pub(crate) fn build_sequences(
+    alloc: Global,
+    tree: &mut Tree,
+    count: &str,
+) -> Result<String, AllocError> {
+    for _ in 0..count.parse::<u32>().unwrap_or(0) {
+        *tree = in_sequence(alloc, taken(tree))?;
+    }
+    built(alloc)
+}
+
+/// Puts the tree inside sequences of one element and mappings of one pair by turns, as many as are asked for.
+pub(crate) fn build_nested(
+    alloc: Global,
+    tree: &mut Tree,
+    count: &str,
+) -> Result<String, AllocError> {
+    for level in 0..count.parse::<u32>().unwrap_or(0) {
+        *tree = in_level(alloc, taken(tree), level)?;
+    }
+    built(alloc)
+}

@@ -1,0 +1,54 @@
+//! Answers orders on trees and on texts that are trees. Each line of standard input is an order: the name of a group, a
+//! word and what belongs to it, with `;` between them. It is answered in one line.
+//!
+//! - `style;TEXT`: how many nanoseconds reading the text's tree took, and the tree in the one style.
+//!   `checks/fuzz_texts.py` asks for it too. The text has escapes and no runs.
+//!
+//! The group `tree`, trees and the texts that are trees. In a `TEXT`, `\n`, `\r` and `\t` mean a line feed, a carriage
+//! return and a tab; a `TREE` and a `VALUE` are texts of YAML as they stand.
+//!
+//! - `emit;TREE`: the length of the tree's text in the one style, and the text. `format;TEXT` answers the same, and
+//!   builds no tree.
+//! - `read;DEPTH;TEXT`: the length of the tree's text, and the tree's depth, if it is at most so deep.
+//! - `check;TEXT`: where the text departs from the one style, as rules with their lines.
+//! - `value;TEXT` and `key;TEXT`: the style of a text as a value or as a key.
+//! - `path;TEXT`: how many steps the path has.
+//! - `tree;TREE`: takes the tree, and shows it. `at;PATH` shows what is at a path of it.
+//! - `set;PATH;VALUE` and `delete;PATH` edit the tree that was taken. They show the value that comes back, if one does,
+//!   and the tree.
+//! - `set_len;TREE;PATH;VALUE` and `delete_len;TREE;PATH`: the length after an edit of the tree.
+//!
+//! The group `config`, limits, copies and sizes:
+//!
+//! - `text;TEXT` takes the text as the tree, and `pairs;KEY;VALUE;..` a mapping of texts. `sequences;COUNT` puts the
+//!   tree that was taken inside so many sequences, and `nested;COUNT` inside as many sequences and mappings by turns.
+//! - `deeper;DEPTH`: whether the tree is deeper. `length;MOST`: its length in the one style, if that is not more.
+//! - `new`: the length and the depth of the configuration that the tree is, and the depth of its tree. `copy`: the
+//!   lengths of a copy and of a copy of that, and the second one's depth, its tree's depth and its tree. `sizes;KEY`:
+//!   the sizes of the tree as an element and as a value, and of the key.
+//! - `empty`: the length and the depth of the empty configuration, its tree, and the empty text.
+//! - `text_copies;TEXT`: the length of a text, the text, a copy, the string that the text becomes, the text that the
+//!   string becomes, and the copy and that text once more.
+//! - `fault;BYTES`: why the bytes are refused. `sentence;BYTES` says it in a sentence, and by its name.
+//!   `check_fault;BYTES`: why they have no findings.
+//!
+//! What is refused is answered with the fault. `probe_words` says how texts and bytes are written in the group `config`
+//! and after `style`, what a heading is, and how the program ends.
+#![tactic(auto)]
+
+mod builds;
+mod configs;
+mod edits;
+mod faults;
+mod orders;
+mod style;
+mod texts;
+mod trees;
+
+use orders::Held;
+use probe_words::answer_lines;
+use std::process::ExitCode;
+
+fn main(rt: HostRuntime) -> ExitCode {
+    answer_lines(&rt, &mut Held::new(&rt))
+}
