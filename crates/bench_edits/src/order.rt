@@ -27,7 +27,8 @@ pub struct Order {
 }
 
 impl Order {
-    /// What the words say: `tree` or `state`, `wide` or `deep`, a size and a number of rounds. Other words are no order.
+    /// What the words say: `tree` or `state`, `wide` or `deep`, a size and a number of rounds. Other words are no
+    /// order.
     pub fn of(words: &[String]) -> Option<Order> {
         let [target, shape, size, rounds] = words else {
             return None;

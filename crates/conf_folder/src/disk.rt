@@ -16,7 +16,6 @@ use std::{fs, io};
 #[derive(Drop)]
 pub struct FolderDisk<'r, R: Files<File = File>> {
     rt: &'r R,
-    folder: String,
     paths: Paths,
     _lock: File,
     store: Option<File>,
@@ -24,18 +23,39 @@ pub struct FolderDisk<'r, R: Files<File = File>> {
     failures: u64,
 }
 
-/// The paths of the folder's files.
+/// The paths of the folder and of its files.
 #[derive(Drop)]
 struct Paths {
+    folder: String,
     store: String,
     next: String,
 }
 
+impl Paths {
+    fn new(alloc: Global, folder: &str) -> Result<Paths, AllocError> {
+        let store = path_in(alloc, folder, "store.yaml")?;
+        let next = path_in(alloc, folder, "next.yaml")?;
+        let folder = String::from_str(alloc, folder)?;
+        Ok(Paths {
+            folder,
+            store,
+            next,
+        })
+    }
+}
+
 fn path_in(alloc: Global, folder: &str, name: &str) -> Result<String, AllocError> {
-    let mut path = String::from_str(alloc, folder)?;
-    path.push('/')?;
-    path.push_str(name)?;
-    Ok(path)
+    format!(in alloc; "{folder}/{name}")
+}
+
+/// Takes the lock of the folder at a path.
+fn lock_folder<R: Files<File = File>>(
+    rt: &R,
+    alloc: Global,
+    folder: &str,
+) -> Result<File, FolderFault> {
+    let path = path_in(alloc, folder, "store.lock")?;
+    lock_file(rt, path.as_str())
 }
 
 fn is_folder<R: Files<File = File>>(rt: &R, folder: &str) -> bool {
@@ -46,6 +66,19 @@ fn is_folder<R: Files<File = File>>(rt: &R, folder: &str) -> bool {
         },
         Err(_) => false,
     }
+}
+
+/// The bytes of a file, at most `max`.
+fn read_up_to(alloc: Global, file: File, max: u64) -> io::Result<Content> {
+    if file.metadata()?.len() > max {
+        return Ok(Content::TooLong);
+    }
+    let mut bytes = Vec::new(alloc);
+    file.take(max.saturating_add(1)).read_to_end(&mut bytes)?;
+    if bytes.len() as u64 > max {
+        return Ok(Content::TooLong);
+    }
+    Ok(Content::Bytes(bytes))
 }
 
 impl<'r, R: Files<File = File>> FolderDisk<'r, R> {
@@ -59,16 +92,10 @@ impl<'r, R: Files<File = File>> FolderDisk<'r, R> {
         if !is_folder(rt, folder) {
             return Err(FolderFault::Device);
         }
-        let paths = Paths {
-            store: path_in(alloc, folder, "store.yaml")?,
-            next: path_in(alloc, folder, "next.yaml")?,
-        };
-        let path = path_in(alloc, folder, "store.lock")?;
-        let folder = String::from_str(alloc, folder)?;
-        let lock = lock_file(rt, path.as_str())?;
+        let paths = Paths::new(alloc, folder)?;
+        let lock = lock_folder(rt, alloc, folder)?;
         Ok(FolderDisk {
             rt,
-            folder,
             paths,
             _lock: lock,
             store: None,
@@ -163,25 +190,16 @@ impl<'r, R: Files<File = File>> FolderDisk<'r, R> {
     }
 
     fn try_sync_folder(&self) -> io::Result<()> {
-        File::open(self.rt, self.folder.as_str())?.sync_all()
+        File::open(self.rt, self.paths.folder.as_str())?.sync_all()
     }
 
     /// Reads a file of at most `max` bytes. One that is longer is not read whole.
     fn try_read(&self, alloc: Global, name: Name, max: u64) -> io::Result<Content> {
-        let mut file = match File::open(self.rt, self.path(name)) {
-            Ok(file) => file,
-            Err(error) if error.kind() == ErrorKind::NotFound => return Ok(Content::Missing),
-            Err(error) => return Err(error),
-        };
-        if file.metadata()?.len() > max {
-            return Ok(Content::TooLong);
+        match File::open(self.rt, self.path(name)) {
+            Ok(file) => read_up_to(alloc, file, max),
+            Err(error) if error.kind() == ErrorKind::NotFound => Ok(Content::Missing),
+            Err(error) => Err(error),
         }
-        let mut bytes = Vec::new(alloc);
-        file.take(max.saturating_add(1)).read_to_end(&mut bytes)?;
-        if bytes.len() as u64 > max {
-            return Ok(Content::TooLong);
-        }
-        Ok(Content::Bytes(bytes))
     }
 
     /// Counts a failure, where a call failed.

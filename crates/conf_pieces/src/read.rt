@@ -13,13 +13,6 @@ use conf_record::{Command, State};
 use std::alloc::{AllocError, Global};
 use yaml_tree::{Limits, ReadFault, Tree, bytes_give_one, read_one, refused_bytes_give_none};
 
-/// The limits that records and bases are read within.
-const LIMITS: Limits = Limits {
-    bytes: 67_108_864,
-    depth: 66,
-    style: 67_108_864,
-};
-
 /// Reads a record: the command and its number. The bytes may spell the document in any way (YAML 1.2.2).
 ///
 /// None where the bytes are no record:
@@ -76,7 +69,7 @@ fn read_tree(alloc: Global, bytes: &[u8]) -> Result<Option<Tree>, AllocError>
     ensures none { IfOk result (λ read. IfNone read (GivesNone bytes.now own_limits)) }
 {
     refused_bytes_give_none();
-    match read_one(alloc, bytes, &LIMITS) {
+    match read_one(alloc, bytes, &Limits::KEPT) {
         Ok(config) => Ok(Some(config.into_tree())),
         Err(fault) => {
             unless_out_of_memory(fault)?;

@@ -7,7 +7,7 @@ use Rattle.std.specs.Char.{len_utf8}
 use Rattle.std.specs.List.{list_all}
 use Rattle.yaml_grammar.specs.Texts.{byte_len, is_empty, same_text}
 use Rattle.yaml_grammar.specs.Trees.{Tree, text, sequence, mapping, Elements, no_element, element, Members, no_member, member, depth, elements_depth, members_depth}
-use Rattle.yaml_grammar.specs.Style.{elements_after, element_at, members_after, key_lines, value_at}
+use Rattle.yaml_grammar.specs.Style.{elements_after, lines_after_dash, members_after, key_lines, value_at}
 use Rattle.yaml_writer.specs.BudgetLaws.{byte_len-append}
 use Rattle.yaml_data.proofs.CharacterLemmas.{same_text-true}
 use Rattle.tree_path.specs.Paths.{digit, is_number, number_after, Index, number, after_last, no_index, index_of, at_index, present, element_at as child_at, put_element, cut_element, push_element, value_of, put_member, cut_member, child, put, cut, refusal, at_step, and_then, edit_from, set, delete}
@@ -99,25 +99,25 @@ element_inside (element t ts) zero u is =
     let bytes = ap size same in
     let deep = ap depth same in
     let least = element_least t in
-    let lines = byte_len-append (codes "- " ++ element_at t 0) (elements_after ts 0) in
+    let lines = byte_len-append (codes "- " ++ lines_after_dash t 0) (elements_after ts 0) in
     record { line_bytes = omega arith; line_deep = omega arith }
 element_inside (element t ts) (suc n) u is =
     let rest = element_inside ts n u is in
     let bytes = rest.line_bytes in
     let deep = rest.line_deep in
-    let lines = byte_len-append (codes "- " ++ element_at t 0) (elements_after ts 0) in
+    let lines = byte_len-append (codes "- " ++ lines_after_dash t 0) (elements_after ts 0) in
     record { line_bytes = omega arith; line_deep = omega arith }
 
 pushed_inside : (ts : Elements) (u : Tree) → InLines 2 u (byte_len (elements_after (push_element ts u) 0)) (elements_depth (push_element ts u))
 pushed_inside no_element u =
     let least = element_least u in
-    let lines = byte_len-append (codes "- " ++ element_at u 0) [] in
+    let lines = byte_len-append (codes "- " ++ lines_after_dash u 0) [] in
     record { line_bytes = omega arith; line_deep = omega arith }
 pushed_inside (element t ts) u =
     let rest = pushed_inside ts u in
     let bytes = rest.line_bytes in
     let deep = rest.line_deep in
-    let lines = byte_len-append (codes "- " ++ element_at t 0) (elements_after (push_element ts u) 0) in
+    let lines = byte_len-append (codes "- " ++ lines_after_dash t 0) (elements_after (push_element ts u) 0) in
     record { line_bytes = omega arith; line_deep = omega arith }
 
 member_inside : (ms : Members) (key : List ℕ) (u : Tree) → value_of ms key ≡ Some u

@@ -6,7 +6,7 @@ use Rattle.std.specs.Char.{len_utf8}
 use Rattle.yaml_chars.specs.Classes.{in_range}
 use Rattle.yaml_grammar.specs.Texts.{byte_len, spaces}
 use Rattle.yaml_grammar.specs.Trees.{Tree, text, sequence, mapping, Elements, no_element, element, Members, no_member, member}
-use Rattle.yaml_grammar.specs.Style.{shown, plain_in_style, literal_in_style, hex, letter_escape, quoted_char, quoted_chars, in_double_quotes, literal_mark, literal_lines, feeds_at_end, scalar_lines, key_text, long_key, key_lines, elements_at, elements_after, element_at, members_at, members_after, value_at, style_text}
+use Rattle.yaml_grammar.specs.Style.{shown, plain_in_style, literal_in_style, hex, letter_escape, quoted_char, quoted_chars, in_double_quotes, literal_mark, literal_lines, feeds_at_end, scalar_lines, key_text, long_key, key_lines, elements_at, elements_after, lines_after_dash, members_at, members_after, value_at, style_text}
 use Rattle.yaml_writer.specs.BudgetLaws.{byte_len-append}
 use Rattle.yaml_writer.proofs.ByteLemmas.{byte_len-spaces}
 
@@ -252,7 +252,7 @@ block_grows i v w one =
     record { no_less = omega arith; no_twice = omega arith }
 
 mutual
-  element_grows : (t : Tree) (i : ℕ) → Grows (byte_len (element_at t i)) (byte_len (element_at t (i + 2)))
+  element_grows : (t : Tree) (i : ℕ) → Grows (byte_len (lines_after_dash t i)) (byte_len (lines_after_dash t (i + 2)))
   element_grows (text value) i = scalar_grows (i + 2) value
   element_grows (sequence ts) i = elements_grow ts (i + 2)
   element_grows (mapping ms) i = members_grow ms (i + 2)
@@ -260,12 +260,12 @@ mutual
   elements_grow : (ts : Elements) (i : ℕ) → Grows (byte_len (elements_at ts i)) (byte_len (elements_at ts (i + 2)))
   elements_grow no_element i = record { no_less = omega arith; no_twice = omega arith }
   elements_grow (element t ts) i =
-      first_element (element_at t i) (elements_after ts i) (element_at t (i + 2)) (elements_after ts (i + 2)) (element_grows t i) (elements_after_grow ts i)
+      first_element (lines_after_dash t i) (elements_after ts i) (lines_after_dash t (i + 2)) (elements_after ts (i + 2)) (element_grows t i) (elements_after_grow ts i)
 
   elements_after_grow : (ts : Elements) (i : ℕ) → Grows (byte_len (elements_after ts i)) (byte_len (elements_after ts (i + 2)))
   elements_after_grow no_element i = record { no_less = omega arith; no_twice = omega arith }
   elements_after_grow (element t ts) i =
-      next_element i (element_at t i) (elements_after ts i) (element_at t (i + 2)) (elements_after ts (i + 2)) (element_grows t i) (elements_after_grow ts i)
+      next_element i (lines_after_dash t i) (elements_after ts i) (lines_after_dash t (i + 2)) (elements_after ts (i + 2)) (element_grows t i) (elements_after_grow ts i)
 
   members_grow : (ms : Members) (i : ℕ) → Grows (byte_len (members_at ms i)) (byte_len (members_at ms (i + 2)))
   members_grow no_member i = record { no_less = omega arith; no_twice = omega arith }
@@ -301,7 +301,7 @@ key_line_least key = by (long_key key) (key_text key) (key_least key)
     by false shown least = omega (arith, least, byte_len-append shown (codes ":"))
 
 -- an element is at least as long as its tree's own text
-pub element_least : (t : Tree) → size t ≤ byte_len (element_at t 0)
+pub element_least : (t : Tree) → size t ≤ byte_len (lines_after_dash t 0)
 element_least (text value) = omega arith
 element_least (sequence ts) = (elements_grow ts 0).no_less
 element_least (mapping ms) = (members_grow ms 0).no_less

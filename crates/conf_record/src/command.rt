@@ -4,7 +4,8 @@ ghost use Rattle.std.specs.Str.{chars};
 
 use yaml_tree::Config;
 
-/// A change of one configuration.
+/// A change of one configuration. Each tree in it is a [`Config`]. A caller learns that it keeps the limits of one from
+/// the clause `kept` of [`record_text`](crate::record_text).
 #[derive(Debug, Drop)]
 pub enum Command {
     /// Puts a tree under a name: last if the name is new; otherwise it replaces the tree that is there.

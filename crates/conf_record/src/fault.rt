@@ -39,20 +39,20 @@ pub enum StoreFault {
 
 impl fmt::Display for StoreFault {
     fn fmt<W: fmt::Write>(&self, f: &mut fmt::Formatter<W>) -> fmt::Result {
-        match *self {
-            StoreFault::BadName => f.write_str("BadName"),
-            StoreFault::NoConfig => f.write_str("NoConfig"),
-            StoreFault::Path(fault) => fmt::Display::fmt(&fault, f),
-            StoreFault::Read(fault) => fmt::Display::fmt(&fault.brief(), f),
-            StoreFault::TooDeep => f.write_str("TooDeep"),
-            StoreFault::ConfigLarge => f.write_str("ConfigLarge"),
-            StoreFault::StoreFull => f.write_str("StoreFull"),
-            StoreFault::JournalLong => f.write_str("JournalLong"),
-            StoreFault::CountFull => f.write_str("CountFull"),
-            StoreFault::Reopen => f.write_str("Reopen"),
-            StoreFault::Device => f.write_str("Device"),
-            StoreFault::OutOfMemory => f.write_str("OutOfMemory"),
-        }
+        f.write_str(match *self {
+            StoreFault::BadName => "BadName",
+            StoreFault::NoConfig => "NoConfig",
+            StoreFault::Path(fault) => return fmt::Display::fmt(&fault, f),
+            StoreFault::Read(fault) => return fmt::Display::fmt(&fault.brief(), f),
+            StoreFault::TooDeep => "TooDeep",
+            StoreFault::ConfigLarge => "ConfigLarge",
+            StoreFault::StoreFull => "StoreFull",
+            StoreFault::JournalLong => "JournalLong",
+            StoreFault::CountFull => "CountFull",
+            StoreFault::Reopen => "Reopen",
+            StoreFault::Device => "Device",
+            StoreFault::OutOfMemory => "OutOfMemory",
+        })
     }
 }
 

@@ -42,7 +42,7 @@ struct EditPlan {
 
 /// The configurations of a store by name, in order, and how many commands were accepted. It keeps how many bytes the
 /// configurations have in the base text. Contracts see the list of configurations, with each name as its characters,
-/// and the count.
+/// and the count. A caller learns that a state keeps its limits from the clause `limits` of [`State::count`].
 #[derive(Drop)]
 pub struct State {
     configs: IndexMap<String, Config>,

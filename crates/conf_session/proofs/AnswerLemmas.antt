@@ -1,8 +1,7 @@
 -- The texts of answers, and what they answer.
 use Rattle.std.proofs.Common.{◌≡◌, refl, sym, ◌∙◌, ap, arith, ◌≤◌, append_assoc}
-use Rattle.std.specs.Prelude.{ℕ, suc, List, [], ◌∷◌, ◌++◌, codes, Result, Ok, Err, Vec}
+use Rattle.std.specs.Prelude.{ℕ, suc, List, [], ◌∷◌, ◌++◌, codes, Result, Ok, Err}
 use Rattle.std.specs.Str.{chars}
-use Rattle.std.specs.declared.alloc.Global.{Global}
 use Rattle.std.proofs.lemmas.List.{append-nil}
 use Rattle.yaml_grammar.specs.Trees.{Tree, text, sequence, Elements, no_element, element, depth, elements_depth}
 use Rattle.yaml_grammar.specs.Style.{key_lines, value_at}
@@ -11,7 +10,7 @@ use Rattle.yaml_data.specs.Seen.{tree_of, elements_of}
 use Rattle.yaml_data.specs.TextBytes.{text_bytes}
 use Rattle.yaml_data.specs.declared.text.Text.{Text}
 use Rattle.yaml_data.specs.declared.tree.Tree as code
-use Rattle.yaml_data.proofs.SeenLemmas.{tree_of-Text, tree_of-Seq, join_elements, elements_of-append}
+use Rattle.yaml_data.proofs.SeenLemmas.{tree_of-Text, join_elements, elements_of-append}
 use Rattle.tree_path.specs.Paths.{at, at_from, at_step, child, refusal}
 use Rattle.tree_path.specs.declared.place.Miss.{Miss}
 use Rattle.edit_lengths.proofs.Located.{child-within}
@@ -69,11 +68,10 @@ names-more was now left later t name pushed first bytes =
     ∙ ap (λ l. join_elements (elements_of was) (text_elements l)) (sym first)
 
 -- none is left
-pub names-all : (names : Vec code.Tree Global) (left all : List (List ℕ)) → join_elements (elements_of names.items) (text_elements left) ≡ text_elements all → left ≡ []
-    → tree_of (code.Seq names) ≡ sequence (text_elements all)
+pub names-all : (names : List code.Tree) (left all : List (List ℕ)) → join_elements (elements_of names) (text_elements left) ≡ text_elements all → left ≡ []
+    → elements_of names ≡ text_elements all
 names-all names left all are none =
-    tree_of-Seq names
-    ∙ ap sequence (sym (join-none (elements_of names.items)) ∙ ap (λ l. join_elements (elements_of names.items) (text_elements l)) (sym none) ∙ are)
+    sym (join-none (elements_of names)) ∙ ap (λ l. join_elements (elements_of names) (text_elements l)) (sym none) ∙ are
 
 -- the tree of all names keeps the limit of depth
 pub names-shallow : (t : Tree) (all : List (List ℕ)) → t ≡ sequence (text_elements all) → depth t ≤ 66

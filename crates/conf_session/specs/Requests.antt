@@ -1,5 +1,5 @@
 -- What the pieces of a session ask for. Each piece is one request; a piece that is no command is a bad one.
-use Rattle.std.specs.Prelude.{◌≡◌, ◌≢◌, ◌⊎◌, ℕ, Bool, false, List, [], ◌∷◌, codes, encode_utf8_all, if◌then◌else◌}
+use Rattle.std.specs.Prelude.{◌≡◌, ◌≢◌, ◌⊎◌, ℕ, Bool, true, false, List, [], ◌∷◌, codes, encode_utf8_all, if◌then◌else◌}
 use Rattle.yaml_grammar.specs.Texts.{same_text}
 use Rattle.yaml_grammar.specs.Trees.{Tree, text, sequence, mapping}
 use Rattle.yaml_grammar.specs.Reads.{Limits, Gives}
@@ -9,10 +9,12 @@ use Rattle.yaml_faults.specs.declared.fault.ReadFault.TheVariants.{OutOfMemory}
 use Rattle.conf_record.specs.Commands.{Command, import_as, set_at, delete_at}
 use Rattle.conf_record.specs.RecordsRead.{keys_are, values}
 use Rattle.yaml_tree.specs.Limits.{config_limits}
+use Rattle.yaml_tree.specs.Kept.{own_limits}
+use Rattle.conf_session.specs.Input.{piece_limit}
 
 -- the limits of a command document: its bytes, its depth, and its bytes in the one style
 abbrev pub command_limits : Limits
-command_limits = record { bytes = 4194304; depth = 66; style = 16777216 }
+command_limits = record { bytes = piece_limit; depth = own_limits.depth; style = 16777216 }
 
 -- ---- what a document says
 
@@ -24,6 +26,21 @@ pub data Said : Type 0 where
   all_names : Said
   checkpoint_now : Said
   nothing : Said
+
+-- there is one value
+abbrev pub is_one : List Tree → Bool
+is_one (t ∷ []) = true
+is_one ts = false
+
+-- the one value is a text
+abbrev pub is_one_text : List Tree → Bool
+is_one_text (text value ∷ []) = true
+is_one_text ts = false
+
+-- the values are two texts
+abbrev pub are_two_texts : List Tree → Bool
+are_two_texts (text one ∷ text other ∷ []) = true
+are_two_texts ts = false
 
 abbrev pub import_said : List Tree → Said
 import_said (text name ∷ text source ∷ []) = import_text name source

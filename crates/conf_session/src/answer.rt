@@ -1,11 +1,16 @@
 // The texts of answers.
-ghost use Rattle.std.specs.Prelude.{◌≡◌, ◌≤◌, IfOk, OnOk, string_bytes, decimal, codes};
+ghost use Rattle.std.specs.Prelude.{◌≡◌, ◌≤◌, ◌++◌, [], ◌∷◌, IfOk, OnOk, string_bytes, decimal, codes};
 ghost use Rattle.std.specs.Str.{chars};
 ghost use Rattle.yaml_grammar.specs.Trees.{depth, text};
 ghost use Rattle.yaml_laws.specs.Closed.{framed_text_bytes, framed_text};
-ghost use Rattle.yaml_data.specs.Seen.{tree_of};
+ghost use Rattle.yaml_tree.specs.Kept.{own_limits};
+ghost use Rattle.yaml_data.specs.Seen.{tree_of, elements_of};
+ghost use Rattle.yaml_data.specs.TextBytes.{text_bytes};
+ghost use Rattle.yaml_data.specs.declared.text.Text.{Text as Name};
+ghost use Rattle.conf_record.specs.Limits.{IsState};
+ghost use Rattle.conf_record.specs.States.{names_of};
 ghost use Rattle.conf_session.specs.Requests.{getting, exporting, naming};
-ghost use Rattle.conf_session.specs.Answers.{one};
+ghost use Rattle.conf_session.specs.Answers.{one, text_elements};
 ghost use Rattle.conf_session.specs.Runs.{stored_of};
 ghost use Rattle.conf_session.specs.Replies.{Replies};
 
@@ -21,7 +26,7 @@ use yaml_tree::{Sink, Text, Tree, write_key, write_value};
 /// The document of a mapping with one key: a line of `---`, the mapping in the one style, and a line
 /// of `...`.
 fn answer(alloc: Global, key: &str, value: &Tree) -> Result<String, AllocError>
-    requires { depth (tree_of value.now) ≤ 66 }
+    requires { depth (tree_of value.now) ≤ own_limits.depth }
     ensures { IfOk result (λ text. string_bytes text
         ≡ framed_text_bytes (one (chars key.now) (tree_of value.now))) }
 {
@@ -32,7 +37,7 @@ fn answer(alloc: Global, key: &str, value: &Tree) -> Result<String, AllocError>
 
 /// Writes such a document.
 fn write_answer<S: Sink>(key: &str, value: &Tree, sink: &mut S) -> Result<(), S::Fault>
-    requires { depth (tree_of value.now) ≤ 66 }
+    requires { depth (tree_of value.now) ≤ own_limits.depth }
     ensures { OnOk result
         (S.Takes sink.old (framed_text (one (chars key.now) (tree_of value.now))) sink.new) }
 {
@@ -99,9 +104,29 @@ pub fn export_answer<D: Disk>(
 pub fn names_answer<D: Disk>(alloc: Global, store: &Store<D>) -> Result<Reply, AllocError>
     ensures { IfOk result (Replies (stored_of store.now) naming) }
 {
+    let names = Tree::Seq(name_texts(alloc, store)?);
+    Ok(Reply::Done(answer(alloc, "names", &names)?))
+}
+
+/// The names of the configurations as texts, in order.
+fn name_texts<D: Disk>(alloc: Global, store: &Store<D>) -> Result<Vec<Tree>, AllocError>
+    ensures names { IfOk result (λ names. elements_of names.items
+        ≡ text_elements (names_of store.now.state.configs)) }
+    ensures limits { IsState store.now.state }
+{
     let mut names = Vec::new(alloc);
     for name in store.names() {
-        names.push(Tree::Text(Text::new(alloc, name)?))?;
+        push_name(alloc, &mut names, name)?;
     }
-    Ok(Reply::Done(answer(alloc, "names", &Tree::Seq(names))?))
+    Ok(names)
+}
+
+/// Appends a name.
+fn push_name(alloc: Global, names: &mut Vec<Tree>, name: &str) -> Result<(), AllocError>
+    ensures { OnOk result ((t : Name) × (names.new.items ≡ names.old.items ++ Tree.Text t ∷ [])
+        × (text_bytes t ≡ name.now)) }
+{
+    let name = Text::new(alloc, name)?;
+    names.push(Tree::Text(name))?;
+    Ok(())
 }

@@ -14,7 +14,7 @@ use yaml_docs::{CutFault, Cutter};
 const CHUNK: usize = 65_536;
 
 /// The most bytes of a piece, or of what comes after the last closing line.
-const PIECE_LIMIT: u64 = 4_194_304;
+pub(crate) const PIECE_LIMIT: u64 = 4_194_304;
 
 /// The most bytes of the input.
 const SESSION_LIMIT: usize = 1_073_741_824;

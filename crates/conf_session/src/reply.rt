@@ -19,7 +19,7 @@ use std::alloc::Global;
 use yaml_tree::{Limits, ReadFault, Text, read_one};
 
 /// What is answered to a piece.
-#[derive(Debug, Drop)]
+#[derive(Drop)]
 pub enum Reply {
     /// A command was accepted that changes the state.
     Accepted(String),

@@ -1,27 +1,34 @@
 // Reading command documents.
-ghost use Rattle.std.specs.Prelude.{◌≡◌, IfOk};
+ghost use Rattle.std.specs.Prelude.{◌≡◌, [], ◌∷◌, false, IfOk, MatchOption, string_bytes};
+ghost use Rattle.std.specs.Str.{chars};
+ghost use Rattle.std.specs.Vec.Iter.{into_iter_items};
+ghost use Rattle.yaml_grammar.specs.Trees.{text};
 ghost use Rattle.yaml_tree.specs.Kept.{IsKept};
 ghost use Rattle.yaml_data.specs.Seen.{tree_of, members_of};
+ghost use Rattle.yaml_data.specs.TextBytes.{text_bytes};
 ghost use Rattle.conf_record.specs.RecordsRead.{values};
 ghost use Rattle.conf_pieces.specs.Reading.{AreKept};
 ghost use Rattle.conf_session.specs.Requests.{Says, said_by, import_said, set_said, delete_said, get_said};
-ghost use Rattle.conf_session.specs.Requests.{export_said, names_said, checkpoint_said, is_empty_text};
+ghost use Rattle.conf_session.specs.Requests.{export_said, names_said, checkpoint_said, is_empty_text, nothing};
+ghost use Rattle.conf_session.specs.Requests.{is_one, is_one_text, are_two_texts};
 ghost use Rattle.conf_session.specs.Replies.{said_of};
 
+use crate::input::PIECE_LIMIT;
 use conf_pieces::{is_same, keys_are, next_text, next_value, part};
 use conf_record::Command;
 use std::alloc::{AllocError, Global};
+use std::vec::IntoIter;
 use yaml_tree::{Limits, ReadFault, Text, Tree, read_one};
 
 /// The limits of a command document: its bytes, its depth, and its bytes in the one style.
 const COMMAND_LIMITS: Limits = Limits {
-    bytes: 4_194_304,
+    bytes: PIECE_LIMIT,
     depth: 66,
     style: 16_777_216,
 };
 
 /// What a command document says. Names and paths may be any texts.
-#[derive(Debug, Drop)]
+#[derive(Drop)]
 pub enum Said {
     /// `import`, with the text that is not read yet.
     Import { name: Text, text: Text },
@@ -83,17 +90,10 @@ fn said_by(alloc: Global, tree: Tree) -> Result<Said, AllocError>
 fn import_said(pairs: Vec<(Text, Tree)>) -> Said
     ensures { said_of result ≡ import_said (values (members_of pairs.items)) }
 {
-    let mut values = pairs.into_iter();
-    let Some(name) = next_text(&mut values) else {
-        return Said::Nothing;
-    };
-    let Some(text) = next_text(&mut values) else {
-        return Said::Nothing;
-    };
-    if next_value(&mut values).is_some() {
-        return Said::Nothing;
+    match two_texts(pairs) {
+        Some((name, text)) => Said::Import { name, text },
+        None => Said::Nothing,
     }
-    Said::Import { name, text }
 }
 
 fn set_said(alloc: Global, pairs: Vec<(Text, Tree)>) -> Result<Said, AllocError>
@@ -101,21 +101,10 @@ fn set_said(alloc: Global, pairs: Vec<(Text, Tree)>) -> Result<Said, AllocError>
     ensures { IfOk result (λ said. said_of said
         ≡ set_said (values (members_of pairs.items))) }
 {
-    let mut values = pairs.into_iter();
-    let Some(name) = next_text(&mut values) else {
+    let Some((name, path, value)) = set_values(pairs) else {
         return Ok(Said::Nothing);
     };
-    let Some(path) = next_text(&mut values) else {
-        return Ok(Said::Nothing);
-    };
-    let Some(value) = next_value(&mut values) else {
-        return Ok(Said::Nothing);
-    };
-    if next_value(&mut values).is_some() {
-        return Ok(Said::Nothing);
-    }
-    let name = name.into_string(alloc)?;
-    let path = path.into_string(alloc)?;
+    let (name, path) = as_strings(alloc, name, path)?;
     let value = part(value);
     Ok(Said::Change(Command::Set { name, path, value }))
 }
@@ -124,48 +113,90 @@ fn delete_said(alloc: Global, pairs: Vec<(Text, Tree)>) -> Result<Said, AllocErr
     ensures { IfOk result (λ said. said_of said
         ≡ delete_said (values (members_of pairs.items))) }
 {
-    let mut values = pairs.into_iter();
-    let Some(name) = next_text(&mut values) else {
+    let Some((name, path)) = two_texts(pairs) else {
         return Ok(Said::Nothing);
     };
-    let Some(path) = next_text(&mut values) else {
-        return Ok(Said::Nothing);
-    };
-    if next_value(&mut values).is_some() {
-        return Ok(Said::Nothing);
-    }
-    let name = name.into_string(alloc)?;
-    let path = path.into_string(alloc)?;
+    let (name, path) = as_strings(alloc, name, path)?;
     Ok(Said::Change(Command::Delete { name, path }))
 }
 
 fn get_said(pairs: Vec<(Text, Tree)>) -> Said
     ensures { said_of result ≡ get_said (values (members_of pairs.items)) }
 {
-    let mut values = pairs.into_iter();
-    let Some(name) = next_text(&mut values) else {
-        return Said::Nothing;
-    };
-    let Some(path) = next_text(&mut values) else {
-        return Said::Nothing;
-    };
-    if next_value(&mut values).is_some() {
-        return Said::Nothing;
+    match two_texts(pairs) {
+        Some((name, path)) => Said::Get { name, path },
+        None => Said::Nothing,
     }
-    Said::Get { name, path }
+}
+
+/// The two texts that are the values; `None` if they are others.
+fn two_texts(pairs: Vec<(Text, Tree)>) -> Option<(Text, Text)>
+    ensures { MatchOption result (are_two_texts (values (members_of pairs.items)) ≡ false)
+        (λ v. values (members_of pairs.items)
+        ≡ text (chars (text_bytes v.0)) ∷ text (chars (text_bytes v.1)) ∷ []) }
+{
+    let mut values = pairs.into_iter();
+    let one = next_text(&mut values)?;
+    let other = last_text(values)?;
+    Some((one, other))
+}
+
+/// The values of a set; `None` if they are others.
+fn set_values(pairs: Vec<(Text, Tree)>) -> Option<(Text, Text, Tree)>
+    ensures { MatchOption result (set_said (values (members_of pairs.items)) ≡ nothing)
+        (λ v. values (members_of pairs.items)
+        ≡ text (chars (text_bytes v.0)) ∷ text (chars (text_bytes v.1)) ∷ tree_of v.2 ∷ []) }
+{
+    let mut values = pairs.into_iter();
+    let name = next_text(&mut values)?;
+    let path = next_text(&mut values)?;
+    let value = last_value(values)?;
+    Some((name, path, value))
+}
+
+/// The one value that is left, if it is a text; `None` if it is none, or there are more or fewer.
+fn last_text(pairs: IntoIter<(Text, Tree)>) -> Option<Text>
+    ensures { MatchOption result
+        (is_one_text (values (members_of (into_iter_items pairs))) ≡ false)
+        (λ t. values (members_of (into_iter_items pairs)) ≡ text (chars (text_bytes t)) ∷ []) }
+{
+    match last_value(pairs)? {
+        Tree::Text(text) => Some(text),
+        Tree::Seq(_) => None,
+        Tree::Map(_) => None,
+    }
+}
+
+/// The one value that is left; `None` if there are more or fewer.
+fn last_value(mut pairs: IntoIter<(Text, Tree)>) -> Option<Tree>
+    ensures { MatchOption result
+        (is_one (values (members_of (into_iter_items pairs))) ≡ false)
+        (λ t. values (members_of (into_iter_items pairs)) ≡ tree_of t ∷ []) }
+{
+    let value = next_value(&mut pairs)?;
+    match next_value(&mut pairs) {
+        Some(_) => None,
+        None => Some(value),
+    }
+}
+
+/// Two texts as strings.
+fn as_strings(alloc: Global, one: Text, other: Text) -> Result<(String, String), AllocError>
+    ensures { IfOk result (λ v. (string_bytes v.0 ≡ text_bytes one)
+        × (string_bytes v.1 ≡ text_bytes other)) }
+{
+    let one = one.into_string(alloc)?;
+    let other = other.into_string(alloc)?;
+    Ok((one, other))
 }
 
 fn export_said(pairs: Vec<(Text, Tree)>) -> Said
     ensures { said_of result ≡ export_said (values (members_of pairs.items)) }
 {
-    let mut values = pairs.into_iter();
-    let Some(name) = next_text(&mut values) else {
-        return Said::Nothing;
-    };
-    if next_value(&mut values).is_some() {
-        return Said::Nothing;
+    match last_text(pairs.into_iter()) {
+        Some(name) => Said::Export(name),
+        None => Said::Nothing,
     }
-    Said::Export(name)
 }
 
 fn names_said(pairs: Vec<(Text, Tree)>) -> Said
@@ -192,12 +223,8 @@ fn checkpoint_said(pairs: Vec<(Text, Tree)>) -> Said
 fn is_empty_text(pairs: Vec<(Text, Tree)>) -> bool
     ensures { result ≡ is_empty_text (values (members_of pairs.items)) }
 {
-    let mut values = pairs.into_iter();
-    let Some(text) = next_text(&mut values) else {
-        return false;
-    };
-    match next_value(&mut values) {
-        Some(_) => false,
-        None => is_same(&text, ""),
+    match last_text(pairs.into_iter()) {
+        Some(text) => is_same(&text, ""),
+        None => false,
     }
 }

@@ -58,9 +58,11 @@ impl<D: Disk> Model for Store<D> {
 
     ghost coded = { store_view_code D.code };
 
-    ghost view = { λ s. record { disk = s.disk; state = s.state; size = s.size; reopen = s.reopen } };
+    ghost view = { λ s.
+        record { disk = s.disk; state = s.state; size = s.size; reopen = s.reopen } };
 
-    ghost invariant = { λ s. (s.size ≤ store_limit) × IsState s.state × (D.honest → s.reopen ≡ false → IsDurable (D.folder s.disk) s.state s.size) };
+    ghost invariant = { λ s. (s.size ≤ store_limit) × IsState s.state
+        × (D.honest → s.reopen ≡ false → IsDurable (D.folder s.disk) s.state s.size) };
 }
 
 impl<D: Disk> Store<D> {

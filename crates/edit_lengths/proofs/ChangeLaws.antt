@@ -3,7 +3,7 @@ use Rattle.std.proofs.Common.{◌≡◌, ℕ, zero, suc, ◌+◌, ◌-◌, ◌*�
 use Rattle.std.proofs.lemmas.Bool.Decides.{nat_tests}
 use Rattle.yaml_grammar.specs.Texts.{byte_len, spaces, same_text}
 use Rattle.yaml_grammar.specs.Trees.{Tree, text, sequence, mapping, Elements, no_element, element, Members, no_member, member}
-use Rattle.yaml_grammar.specs.Style.{key_lines, elements_at, elements_after, element_at, members_at, members_after, value_at, style_text}
+use Rattle.yaml_grammar.specs.Style.{key_lines, elements_at, elements_after, lines_after_dash, members_at, members_after, value_at, style_text}
 use Rattle.yaml_writer.specs.Sizes.{length_at, element_size, value_size}
 use Rattle.yaml_writer.specs.declared.size.Size.{Size}
 use Rattle.yaml_writer.proofs.SizeLaws.{three, four, spaces_bytes, key_law, element_law, value_law}
@@ -19,7 +19,7 @@ use Rattle.tree_path.proofs.StepLaws.{option_map-Some, present-Ok}
 -- ---- a node in its slot
 
 -- an element is a node two columns further
-pub node-element : (t : Tree) (i : ℕ) → element_at t i ≡ node_at t (i + 2)
+pub node-element : (t : Tree) (i : ℕ) → lines_after_dash t i ≡ node_at t (i + 2)
 node-element (text value) i = refl
 node-element (sequence ts) i = refl
 node-element (mapping ms) i = refl
@@ -45,8 +45,8 @@ elements_led : (t : Tree) (ts : Elements) (n : ℕ) → byte_len (elements_after
 elements_led t ts n =
     omega (
       arith,
-      four (spaces n) (codes "- ") (element_at t n) (elements_after ts n),
-      three (codes "- ") (element_at t n) (elements_after ts n),
+      four (spaces n) (codes "- ") (lines_after_dash t n) (elements_after ts n),
+      three (codes "- ") (lines_after_dash t n) (elements_after ts n),
       spaces_bytes n,
     )
 
@@ -63,7 +63,7 @@ members_led key t ms n =
 element_row-length : (t : Tree) (ts : Elements) (n : ℕ)
     → byte_len (elements_after (element t ts) n) ≡ length_at (element_row t) n + byte_len (elements_after ts n)
 element_row-length t ts n =
-    omega (arith, four (spaces n) (codes "- ") (element_at t n) (elements_after ts n), spaces_bytes n, element_law t n)
+    omega (arith, four (spaces n) (codes "- ") (lines_after_dash t n) (elements_after ts n), spaces_bytes n, element_law t n)
 
 member_row-length : (key : List ℕ) (t : Tree) (ms : Members) (n : ℕ)
     → byte_len (members_after (member key t ms) n) ≡ length_at (member_row key t) n + byte_len (members_after ms n)

@@ -3,7 +3,7 @@ use Rattle.std.proofs.Common.{◌≡◌, ℕ, zero, suc, ◌+◌, ◌*◌, ◌^�
 use Rattle.std.proofs.Math.Nat.{mul-le-mul_left, mul-le-mul_right}
 use Rattle.yaml_grammar.specs.Texts.{byte_len, same_text, spaces}
 use Rattle.yaml_grammar.specs.Trees.{Tree, text, sequence, mapping, Elements, no_element, element, Members, no_member, member, depth, elements_depth, members_depth}
-use Rattle.yaml_grammar.specs.Style.{key_lines, elements_at, elements_after, element_at, members_at, members_after, value_at, style_text}
+use Rattle.yaml_grammar.specs.Style.{key_lines, elements_at, elements_after, lines_after_dash, members_at, members_after, value_at, style_text}
 use Rattle.yaml_writer.proofs.SizeLaws.{three, elements_law, members_law}
 use Rattle.tree_path.specs.Paths.{Index, number, after_last, no_index, index_of, at_index, element_at as child_at, value_of, child, refusal, at_step, at_from}
 use Rattle.edit_lengths.specs.Changes.{IsCollection, Changes, ChangesSmall, node_length, slot_in, Located, shifted_change}
@@ -114,7 +114,7 @@ record Within (inner : Tree) (bytes deep : ℕ) : Type 0 where
   within_bytes : byte_len (style_text inner) ≤ bytes
   within_deep : depth inner ≤ deep
 
-element_least : (t : Tree) → byte_len (style_text t) ≤ byte_len (element_at t 0)
+element_least : (t : Tree) → byte_len (style_text t) ≤ byte_len (lines_after_dash t 0)
 element_least (text value) = omega arith
 element_least (sequence ts) = omega (arith, elements_law ts 2)
 element_least (mapping ms) = omega (arith, members_law ms 2)
@@ -135,13 +135,13 @@ element_within (element t ts) zero u is =
     let bytes = ap (λ x. byte_len (style_text x)) same in
     let deep = ap depth same in
     let least = element_least t in
-    let lines = three (codes "- ") (element_at t 0) (elements_after ts 0) in
+    let lines = three (codes "- ") (lines_after_dash t 0) (elements_after ts 0) in
     record { within_bytes = omega arith; within_deep = omega arith }
 element_within (element t ts) (suc i) u is =
     let rest = element_within ts i u is in
     let bytes = rest.within_bytes in
     let deep = rest.within_deep in
-    let lines = three (codes "- ") (element_at t 0) (elements_after ts 0) in
+    let lines = three (codes "- ") (lines_after_dash t 0) (elements_after ts 0) in
     record { within_bytes = omega arith; within_deep = omega arith }
 
 member_within : (ms : Members) (key : List ℕ) (u : Tree) → value_of ms key ≡ Some u → Within u (byte_len (members_after ms 0)) (members_depth ms)

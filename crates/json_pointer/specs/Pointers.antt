@@ -1,7 +1,7 @@
 -- Paths as texts (RFC 6901, 3 and 4): each token is led by `/`, and in it `~` is spelled `~0` and `/` is spelled `~1`.
 use Rattle.std.specs.Prelude.{ℕ, ◌+◌, Bool, false, not, ◌&&◌, ◌||◌, ◌==◌, if◌then◌else◌, List, [], ◌∷◌, ◌++◌, map, codes, Option, Some, None, option_map, Result, Ok, Err}
 use Rattle.std.specs.Char.{len_utf8}
-use Rattle.yaml_chars.specs.Signs.{tilde}
+use Rattle.yaml_chars.specs.Signs.{digit_zero, digit_one, tilde}
 use Rattle.yaml_grammar.specs.Texts.{first, is_empty}
 use Rattle.json_pointer.specs.declared.fault.PathFault.{PathFault}
 use Rattle.json_pointer.specs.declared.fault.PathFault.TheVariants.{BadPath}
@@ -35,7 +35,7 @@ pointer_text (token ∷ tokens) = slash ∷ (token_text token ++ pointer_text to
 -- the text begins with a `~` that isn't before `0` or `1`
 abbrev pub stray : List ℕ → Bool
 stray [] = false
-stray (c ∷ cs) = (c == tilde) && not (first (λ d. (d == 48) || (d == 49)) cs)
+stray (c ∷ cs) = (c == tilde) && not (first (λ d. (d == digit_zero) || (d == digit_one)) cs)
 
 -- where the first such `~` is, in bytes
 abbrev pub first_stray : List ℕ → Option ℕ
@@ -61,7 +61,7 @@ pieces (c ∷ cs) = if c == slash then first_piece cs ∷ pieces cs else pieces 
 -- the character that a `~` and the digit after it spell, and what is after them
 abbrev pub after_tilde : List ℕ → List ℕ
 after_tilde [] = []
-after_tilde (d ∷ cs) = (if d == 48 then tilde else slash) ∷ cs
+after_tilde (d ∷ cs) = (if d == digit_zero then tilde else slash) ∷ cs
 
 -- a token from its text: `~1` is `/`, and then `~0` is `~` (RFC 6901, 4)
 abbrev pub token_from_text : List ℕ → List ℕ

@@ -4,7 +4,7 @@ use Rattle.std.specs.Cow.{cow_str_bytes}
 use Rattle.std.specs.declared.borrow.CowStr.{CowStr}
 use Rattle.std.specs.declared.alloc.Global.{Global}
 use Rattle.std.specs.Str.{chars}
-use Rattle.yaml_chars.specs.Signs.{tilde}
+use Rattle.yaml_chars.specs.Signs.{digit_zero, digit_one, tilde}
 use Rattle.json_pointer.specs.Pointers.{slash}
 
 -- tokens of the code as texts
@@ -14,4 +14,4 @@ texts tokens = map (λ token. chars (cow_str_bytes token)) tokens
 -- the character that `~` and this one spell
 abbrev pub escaped_by : Option ℕ → Option ℕ
 escaped_by None = None
-escaped_by (Some d) = if d == 48 then Some tilde else (if d == 49 then Some slash else None)
+escaped_by (Some d) = if d == digit_zero then Some tilde else (if d == digit_one then Some slash else None)

@@ -5,22 +5,27 @@ use yaml_events::{Event, Events, Span, Style};
 use yaml_flow::omitted;
 
 /// The number of events after some steps, the list, and the events that are handed over.
-pub(crate) fn list_of(alloc: Global, steps: &[&str]) -> Result<String, AllocError> {
+pub(crate) fn list_of(alloc: Global, steps: &str) -> Result<String, AllocError> {
     let events = after(alloc, steps)?;
     let told = format!(in alloc; "{} [{events}]", events.len())?;
     handed_over(alloc, told, events)
 }
 
 /// The list after some steps.
-fn after<'a>(alloc: Global, steps: &[&'a str]) -> Result<Events<'a>, AllocError> {
+fn after(alloc: Global, steps: &str) -> Result<Events<'_>, AllocError> {
     let mut events = Events::new(alloc);
-    for step in steps {
-        match event_of(alloc, step)? {
-            Some(event) => events.push(event)?,
-            None => change(&mut events, step)?,
-        }
+    for step in steps.split(';') {
+        take_step(alloc, &mut events, step)?;
     }
     Ok(events)
+}
+
+/// Takes a step.
+fn take_step<'a>(alloc: Global, events: &mut Events<'a>, step: &'a str) -> Result<(), AllocError> {
+    match event_of(alloc, step)? {
+        Some(event) => Ok(events.push(event)?),
+        None => change(events, step),
+    }
 }
 
 /// What is told, and after it the events one by one.

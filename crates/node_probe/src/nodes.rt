@@ -3,7 +3,7 @@ ghost use Rattle.std.specs.Prelude.{◌≤ℤ◌, negsuc};
 ghost use Rattle.std.specs.Str.{IsCharBoundary};
 
 use crate::spots::{BlockSpot, FlowSpot};
-use probe_words::{no_place, text_of};
+use probe_words::no_place;
 use std::alloc::{AllocError, Global};
 use yaml_block::block_node;
 use yaml_events::{Event, Events, ScanFault};
@@ -25,10 +25,8 @@ pub(crate) fn flow_at(
     text: &str,
     told: Told,
 ) -> Result<String, AllocError> {
-    match (spot, text_of(alloc, text)?) {
-        (Some(spot), Some(text)) if text.is_char_boundary(spot.at) => read_flow(
-            alloc, spot, &text, told,
-        ),
+    match spot {
+        Some(spot) if text.is_char_boundary(spot.at) => read_flow(alloc, spot, text, told),
         _ => no_place(alloc),
     }
 }
@@ -49,9 +47,9 @@ pub(crate) fn block_at(
     text: &str,
     told: Told,
 ) -> Result<String, AllocError> {
-    match (spot, text_of(alloc, text)?) {
-        (Some(spot), Some(text)) if spot.n >= -1 && text.is_char_boundary(spot.at) => {
-            read_block(alloc, spot, &text, told)
+    match spot {
+        Some(spot) if spot.n >= -1 && text.is_char_boundary(spot.at) => {
+            read_block(alloc, spot, text, told)
         }
         _ => no_place(alloc),
     }

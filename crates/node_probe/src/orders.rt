@@ -5,7 +5,7 @@ use crate::scalars::{header_at, lines_at, safe_of, scalar_at_spot};
 use crate::show::events_shown;
 use crate::spots::{BlockSpot, FlowSpot};
 use crate::streams::{closings_of, cut, events_of};
-use probe_words::{Answers, no_order};
+use probe_words::{Answers, bytes_of, no_place};
 use std::alloc::{AllocError, Global};
 use std::io;
 
@@ -15,29 +15,45 @@ pub(crate) struct Reader;
 
 impl Answers for Reader {
     fn answer(&mut self, alloc: Global, order: &str) -> io::Result<String> {
-        Ok(match order.split_once(';') {
-            Some(("show", text)) => events_shown(alloc, text)?,
-            _ => words_answered(alloc, order)?,
-        })
+        Ok(order_answered(alloc, order)?)
     }
 }
 
-/// The answer to an order whose words are parted by each `;`.
-fn words_answered(alloc: Global, order: &str) -> Result<String, AllocError> {
-    let words: Vec<&str> = order.split(';').collect(alloc)?;
-    match words.as_slice() {
-        ["list", steps @ ..] => list_of(alloc, steps),
-        [call, words @ .., text] => called(alloc, call, words, text),
-        _ => no_order(alloc),
+/// The answer to an order.
+fn order_answered(alloc: Global, order: &str) -> Result<String, AllocError> {
+    let (call, words) = order.split_once(';').unwrap_or((order, ""));
+    match call {
+        "show" => events_shown(alloc, words),
+        "list" => list_of(alloc, words),
+        _ => words_answered(alloc, call, words),
+    }
+}
+
+/// The answer to a call with words, the last of which is a text or bytes.
+fn words_answered(alloc: Global, call: &str, words: &str) -> Result<String, AllocError> {
+    let (words, written) = words.rsplit_once(';').unwrap_or(("", words));
+    match bytes_of(alloc, written)? {
+        Some(bytes) => called_on(alloc, call, words, &bytes),
+        None => no_place(alloc),
+    }
+}
+
+/// The answer to a call with some words before bytes.
+fn called_on(alloc: Global, call: &str, words: &str, bytes: &[u8]) -> Result<String, AllocError> {
+    match call {
+        "closings" => closings_of(alloc, bytes),
+        "events" => events_of(alloc, words, bytes),
+        "cut" => cut(alloc, words, bytes),
+        _ => match str::from_utf8(bytes) {
+            Ok(text) => called(alloc, call, words, text),
+            Err(_) => no_place(alloc),
+        },
     }
 }
 
 /// The answer to a call with some words before a text.
-fn called(alloc: Global, call: &str, words: &[&str], text: &str) -> Result<String, AllocError> {
+fn called(alloc: Global, call: &str, words: &str, text: &str) -> Result<String, AllocError> {
     match call {
-        "closings" => closings_of(alloc, text),
-        "events" => events_of(alloc, words, text),
-        "cut" => cut(alloc, words, text),
         "is_safe" => safe_of(alloc, words, text),
         "header" => header_at(alloc, words, text),
         "lines" => lines_at(alloc, words, text),

@@ -2,12 +2,12 @@
 ghost use Rattle.std.specs.Prelude.{◌≤ℤ◌, negsuc};
 ghost use Rattle.std.specs.Str.{IsCharBoundary};
 
-use crate::spots::{BlockSpot, FlowSpot, flow_context, only_number};
-use probe_words::{no_order, no_place, shown, text_of};
+use crate::spots::{BlockSpot, FlowSpot, flow_context, number_of};
+use probe_words::{no_order, no_place, shown};
 use std::alloc::{AllocError, Global};
 use std::borrow::CowStr;
 use yaml_block_scalars::{folded, header, literal};
-use yaml_events::ScanFault;
+use yaml_events::{BlockContext, ScanFault};
 use yaml_flow::scalar_at;
 use yaml_flow_scalars::{double, plain, single};
 use yaml_scan::{gap_end, is_safe, safe_at};
@@ -19,13 +19,9 @@ pub(crate) fn scalar_at_spot(
     spot: Option<FlowSpot>,
     text: &str,
 ) -> Result<String, AllocError> {
-    let (Some(spot), Some(text)) = (spot, text_of(alloc, text)?) else {
-        return no_place(alloc);
-    };
-    if text.is_char_boundary(spot.at) {
-        found_at_spot(alloc, call, spot, text.as_str())
-    } else {
-        no_place(alloc)
+    match spot {
+        Some(spot) if text.is_char_boundary(spot.at) => found_at_spot(alloc, call, spot, text),
+        _ => no_place(alloc),
     }
 }
 
@@ -97,11 +93,8 @@ fn gap_at(alloc: Global, text: &str, spot: FlowSpot) -> Result<String, AllocErro
 }
 
 /// The characters of a text that are safe in a plain scalar in a context.
-pub(crate) fn safe_of(alloc: Global, words: &[&str], text: &str) -> Result<String, AllocError> {
-    let [context] = words else {
-        return no_place(alloc);
-    };
-    let (Some(context), Some(text)) = (flow_context(context), text_of(alloc, text)?) else {
+pub(crate) fn safe_of(alloc: Global, context: &str, text: &str) -> Result<String, AllocError> {
+    let Some(context) = flow_context(context) else {
         return no_place(alloc);
     };
     let safe: String = text
@@ -112,21 +105,18 @@ pub(crate) fn safe_of(alloc: Global, words: &[&str], text: &str) -> Result<Strin
 }
 
 /// The header of a block scalar at a place.
-pub(crate) fn header_at(alloc: Global, words: &[&str], text: &str) -> Result<String, AllocError> {
-    match (only_number(words), text_of(alloc, text)?) {
-        (Some(at), Some(text)) if text.is_char_boundary(at) => shown(alloc, &header(&text, at)),
+pub(crate) fn header_at(alloc: Global, at: &str, text: &str) -> Result<String, AllocError> {
+    match number_of(at) {
+        Some(at) if text.is_char_boundary(at) => shown(alloc, &header(text, at)),
         _ => no_place(alloc),
     }
 }
 
 /// The block scalar at a place, below an indentation of `n`.
-pub(crate) fn lines_at(alloc: Global, words: &[&str], text: &str) -> Result<String, AllocError> {
-    let [at, n] = words else {
-        return no_place(alloc);
-    };
-    match (BlockSpot::of(&[at, n, "Bin"]), text_of(alloc, text)?) {
-        (Some(spot), Some(text)) if spot.n >= -1 && text.is_char_boundary(spot.at) => {
-            found(alloc, block_scalar(alloc, &text, spot.at, spot.n))
+pub(crate) fn lines_at(alloc: Global, words: &str, text: &str) -> Result<String, AllocError> {
+    match BlockSpot::with(words, BlockContext::Bin) {
+        Some(spot) if spot.n >= -1 && text.is_char_boundary(spot.at) => {
+            found(alloc, block_scalar(alloc, text, spot.at, spot.n))
         }
         _ => no_place(alloc),
     }

@@ -6,14 +6,6 @@ pub(crate) fn number_of(word: &str) -> Option<usize> {
     word.parse::<usize>().ok()
 }
 
-/// The number that is the only word.
-pub(crate) fn only_number(words: &[&str]) -> Option<usize> {
-    match words {
-        [word] => number_of(word),
-        _ => None,
-    }
-}
-
 /// Where a flow node is looked for: at a place, with lines of `n` spaces or more, and in a context.
 #[derive(Clone, Copy)]
 pub(crate) struct FlowSpot {
@@ -24,15 +16,14 @@ pub(crate) struct FlowSpot {
 
 impl FlowSpot {
     /// What three words say.
-    pub(crate) fn of(words: &[&str]) -> Option<FlowSpot> {
-        match words {
-            [at, n, context] => Some(FlowSpot {
-                at: number_of(at)?,
-                n: n.parse::<u64>().ok()?,
-                context: flow_context(context)?,
-            }),
-            _ => None,
-        }
+    pub(crate) fn of(words: &str) -> Option<FlowSpot> {
+        let (at, words) = words.split_once(';')?;
+        let (n, context) = words.split_once(';')?;
+        Some(FlowSpot {
+            at: number_of(at)?,
+            n: n.parse::<u64>().ok()?,
+            context: flow_context(context)?,
+        })
     }
 }
 
@@ -57,20 +48,27 @@ pub(crate) struct BlockSpot {
 
 impl BlockSpot {
     /// What three words say.
-    pub(crate) fn of(words: &[&str]) -> Option<BlockSpot> {
-        match words {
-            [at, n, "Bin"] => BlockSpot::with(at, n, BlockContext::Bin),
-            [at, n, "Bout"] => BlockSpot::with(at, n, BlockContext::Bout),
-            _ => None,
-        }
+    pub(crate) fn of(words: &str) -> Option<BlockSpot> {
+        let (words, context) = words.rsplit_once(';')?;
+        BlockSpot::with(words, block_context(context)?)
     }
 
     /// What two words say, in a context.
-    fn with(at: &str, n: &str, context: BlockContext) -> Option<BlockSpot> {
+    pub(crate) fn with(words: &str, context: BlockContext) -> Option<BlockSpot> {
+        let (at, n) = words.split_once(';')?;
         Some(BlockSpot {
             at: number_of(at)?,
             n: n.parse::<i64>().ok()?,
             context,
         })
+    }
+}
+
+/// The context that a word names.
+fn block_context(word: &str) -> Option<BlockContext> {
+    match word {
+        "Bin" => Some(BlockContext::Bin),
+        "Bout" => Some(BlockContext::Bout),
+        _ => None,
     }
 }

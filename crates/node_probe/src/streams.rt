@@ -1,31 +1,25 @@
 // Bytes: as a stream, and cut after closing lines.
 ghost use Rattle.yaml_docs.specs.Cutting.{Unclosed};
 
-use crate::spots::{number_of, only_number};
+use crate::spots::number_of;
 use probe_words::{bytes_of, no_place, shown};
 use std::alloc::{AllocError, Global};
 use yaml_docs::{CutFault, Cutter, Fed, events, next_close};
 
 /// The number of events of a stream of at most so many bytes, and the events.
-pub(crate) fn events_of(alloc: Global, words: &[&str], bytes: &str) -> Result<String, AllocError> {
-    let Some(limit) = only_number(words) else {
+pub(crate) fn events_of(alloc: Global, limit: &str, bytes: &[u8]) -> Result<String, AllocError> {
+    let Some(limit) = number_of(limit) else {
         return no_place(alloc);
     };
-    let Some(bytes) = bytes_of(alloc, bytes)? else {
-        return no_place(alloc);
-    };
-    match events(alloc, &bytes, limit as u64) {
+    match events(alloc, bytes, limit as u64) {
         Ok(events) => format!(in alloc; "{} [{events}]", events.len()),
         Err(fault) => format!(in alloc; "{fault:?}"),
     }
 }
 
 /// The places after the closing lines of some bytes.
-pub(crate) fn closings_of(alloc: Global, bytes: &str) -> Result<String, AllocError> {
-    match bytes_of(alloc, bytes)? {
-        Some(bytes) => shown(alloc, &closings(alloc, &bytes)?),
-        None => no_place(alloc),
-    }
+pub(crate) fn closings_of(alloc: Global, bytes: &[u8]) -> Result<String, AllocError> {
+    shown(alloc, &closings(alloc, bytes)?)
 }
 
 /// The places after the closing lines, each found from the one before.
@@ -40,15 +34,12 @@ fn closings(alloc: Global, bytes: &[u8]) -> Result<Vec<usize>, AllocError> {
 }
 
 /// What a cutter for at most so many bytes takes of two parts, what it holds then, and what after it was cleared.
-pub(crate) fn cut(alloc: Global, words: &[&str], second: &str) -> Result<String, AllocError> {
-    let [most, first] = words else {
+pub(crate) fn cut(alloc: Global, words: &str, second: &[u8]) -> Result<String, AllocError> {
+    let Some((most, first)) = words.split_once(';') else {
         return no_place(alloc);
     };
-    let Some(first) = bytes_of(alloc, first)? else {
-        return no_place(alloc);
-    };
-    match (number_of(most), bytes_of(alloc, second)?) {
-        (Some(most), Some(second)) => cut_parts(alloc, most as u64, &first, &second),
+    match (number_of(most), bytes_of(alloc, first)?) {
+        (Some(most), Some(first)) => cut_parts(alloc, most as u64, &first, second),
         _ => no_place(alloc),
     }
 }

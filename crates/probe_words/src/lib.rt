@@ -3,14 +3,13 @@
 //! [`answer_lines`] answers each line of standard input. What answers orders is an [`Answers`]. A line that begins with
 //! `#` is a heading, and is answered by itself.
 //!
-//! In texts and bytes of an order `\n`, `\r`, `\t` and `\\` mean a line feed, a carriage return, a tab and a backslash,
-//! and `\xHH` a byte: a `;` is written as `\x3b`. [`escaped`] reads them. [`text_of`] and [`bytes_of`] read runs, too.
-//! A run stands between two `\*`, and is a count, a space, and what is there so many times, as in `\*1024 x\*`. So a
-//! backslash before a star is `\x5c` there.
+//! In texts and bytes of an order `\n`, `\r`, `\t` and `\0` mean a line feed, a carriage return, a tab and a zero
+//! byte, `\\` and `\s` a backslash, and `\xHH` a byte: a `;` is written as `\x3b`. [`escaped`] reads them. [`text_of`]
+//! and [`bytes_of`] read runs, too. A run stands between two `\*`, and is a count, a space, and what is there so many
+//! times, as in `\*1024 x\*`. So a backslash before a star is `\x5c` there.
 //!
-//! The orders on stores and on the tools write texts in another way, which [`meant`] and [`unescaped`] read: `*COUNT*`
-//! is so many letters `x`, and `\0` and `\s` are a zero byte and a backslash. [`Source`] and [`Sink`] are readers and
-//! writers that go in parts, end, or fail.
+//! The orders on stores write runs in another way, which [`meant`] reads: `*COUNT*` is so many letters `x`. [`Source`]
+//! and [`Sink`] are readers and writers that go in parts, end, or fail.
 #![tactic(auto)]
 
 mod answers;
@@ -27,4 +26,4 @@ pub use folders::{ended, make_folder, remove_folder};
 pub use lines::{Answers, answer_lines};
 pub use runs::{bytes_of, text_of};
 pub use streams::{Sink, Source};
-pub use texts::{meant, measured, number_of, unescaped};
+pub use texts::{meant, measured, number_of};

@@ -1,7 +1,7 @@
 // Lines of standard input, and their answers.
 use std::alloc::Global;
 use std::io;
-use std::io::{BufRead, BufReader, BufWriter, Write};
+use std::io::{BufRead, BufReader};
 use std::process::ExitCode;
 
 /// What answers orders, and holds what one order leaves to the next.
@@ -26,20 +26,21 @@ fn print_answers<R: Input + Print + AllocGlobal, A: Answers>(
     rt: &R,
     answers: &mut A,
 ) -> io::Result<()> {
-    let alloc = rt.alloc();
-    let mut writer = BufWriter::new(alloc, io::writer(rt))?;
-    for line in BufReader::new(alloc, rt.reader())?.lines(alloc) {
-        let line = line?;
-        let answer = answer_to(alloc, answers, &line)?;
-        writeln!(writer, "{answer}")?;
+    for line in BufReader::new(rt.alloc(), rt.reader())?.lines(rt.alloc()) {
+        print_answer(rt, answers, &line?)?;
     }
-    writer.flush()
+    Ok(())
 }
 
-/// The answer to a line: a heading as it is, or what is answered to the order.
-fn answer_to<A: Answers>(alloc: Global, answers: &mut A, line: &str) -> io::Result<String> {
+/// Prints the answer to a line: a heading as it is, or what is answered to the order.
+fn print_answer<R: Print + AllocGlobal, A: Answers>(
+    rt: &R,
+    answers: &mut A,
+    line: &str,
+) -> io::Result<()> {
     if line.starts_with('#') {
-        return Ok(String::from_str(alloc, line)?);
+        return println!(rt; "{line}");
     }
-    answers.answer(alloc, line)
+    let answer = answers.answer(rt.alloc(), line)?;
+    println!(rt; "{answer}")
 }

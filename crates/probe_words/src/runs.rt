@@ -1,5 +1,5 @@
 // Runs, and what is between them.
-use crate::escapes::escaped;
+use crate::escapes::push_escaped;
 use std::alloc::{AllocError, Global};
 
 /// Returns the text that is meant, or `None` if it is written wrongly or is not UTF-8.
@@ -13,36 +13,41 @@ pub fn text_of(alloc: Global, written: &str) -> Result<Option<String>, AllocErro
 /// Returns the bytes that are meant, or `None` if they are written wrongly.
 pub fn bytes_of(alloc: Global, written: &str) -> Result<Option<Vec<u8>>, AllocError> {
     let mut bytes = Vec::new(alloc);
+    let is_right = push_parts(&mut bytes, written)?;
+    Ok(is_right.then_some(bytes))
+}
+
+/// Appends the bytes that are meant. Returns whether they are written rightly.
+fn push_parts(bytes: &mut Vec<u8>, written: &str) -> Result<bool, AllocError> {
     for (index, part) in written.split("\\*").enumerate() {
-        let piece = if index % 2 == 0 {
-            escaped(alloc, part)?
-        } else {
-            run_of(alloc, part)?
-        };
-        let Some(piece) = piece else {
-            return Ok(None);
-        };
-        bytes.extend_from_slice(&piece)?;
+        if !push_part(bytes, index, part)? {
+            return Ok(false);
+        }
     }
-    Ok(Some(bytes))
+    Ok(true)
 }
 
-/// Returns the bytes of a run, or `None` if it is written wrongly.
-fn run_of(alloc: Global, written: &str) -> Result<Option<Vec<u8>>, AllocError> {
+/// Appends the bytes of a part: each second one is a run. Returns whether it is written rightly.
+fn push_part(bytes: &mut Vec<u8>, index: usize, part: &str) -> Result<bool, AllocError> {
+    if index % 2 == 0 {
+        push_escaped(bytes, part)
+    } else {
+        push_run(bytes, part)
+    }
+}
+
+/// Appends the bytes of a run. Returns whether it is written rightly.
+fn push_run(bytes: &mut Vec<u8>, written: &str) -> Result<bool, AllocError> {
     let Some((count, piece)) = written.split_once(' ') else {
-        return Ok(None);
+        return Ok(false);
     };
-    match (count.parse::<u32>(), escaped(alloc, piece)?) {
-        (Ok(count), Some(piece)) => Ok(Some(repeated(alloc, &piece, count)?)),
-        _ => Ok(None),
-    }
-}
-
-/// Returns so many copies of a piece, one after the other.
-fn repeated(alloc: Global, piece: &[u8], count: u32) -> Result<Vec<u8>, AllocError> {
-    let mut bytes = Vec::new(alloc);
+    let Ok(count) = count.parse::<u32>() else {
+        return Ok(false);
+    };
     for _ in 0..count {
-        bytes.extend_from_slice(piece)?;
+        if !push_escaped(bytes, piece)? {
+            return Ok(false);
+        }
     }
-    Ok(bytes)
+    Ok(true)
 }

@@ -1,44 +1,29 @@
 // Texts and numbers of an order in which `*COUNT*` is a run of letters.
+use crate::escapes::push_escaped;
 use std::alloc::{AllocError, Global};
 
-/// The text that is meant: `*COUNT*` is that many letters `x`, and the rest has signs after backslashes.
+/// The text that is meant: `*COUNT*` is that many letters `x`, and the rest has escapes, up to a wrong one.
 pub fn meant(alloc: Global, written: &str) -> Result<String, AllocError> {
     let (before, rest) = written.split_once('*').unwrap_or((written, "0"));
     let (count, after) = rest.split_once('*').unwrap_or((rest, ""));
-    let mut text = unescaped(alloc, before)?;
-    for _ in 0..count.parse::<u32>().unwrap_or(0) {
-        text.push('x')?;
-    }
-    text.push_str(&unescaped(alloc, after)?)?;
-    Ok(text)
+    let mut bytes = Vec::new(alloc);
+    push_meant(&mut bytes, before, count.parse::<u32>().unwrap_or(0), after)?;
+    Ok(String::from_utf8(bytes).unwrap_or(String::new(alloc)))
 }
 
-/// The text of which `\n`, `\r` and `\t` are a line feed, a carriage return and a tab, `\0` a zero byte, `\s` a
-/// backslash, and another character after `\` itself.
-pub fn unescaped(alloc: Global, written: &str) -> Result<String, AllocError> {
-    let mut text = String::new(alloc);
-    let mut is_escape = false;
-    for sign in written.chars() {
-        match (is_escape, sign) {
-            (false, '\\') => {}
-            (true, sign) => text.push(character_of(sign))?,
-            (false, sign) => text.push(sign)?,
-        }
-        is_escape = !is_escape && sign == '\\';
+/// Appends what a text with escapes means, so many letters, and what another text means.
+fn push_meant(
+    bytes: &mut Vec<u8>,
+    before: &str,
+    count: u32,
+    after: &str,
+) -> Result<(), AllocError> {
+    let _ = push_escaped(bytes, before)?;
+    for _ in 0..count {
+        bytes.push(b'x')?;
     }
-    Ok(text)
-}
-
-/// The character that a sign after `\` means.
-fn character_of(sign: char) -> char {
-    match sign {
-        'n' => '\n',
-        'r' => '\r',
-        't' => '\t',
-        's' => '\\',
-        '0' => '\0',
-        sign => sign,
-    }
+    let _ = push_escaped(bytes, after)?;
+    Ok(())
 }
 
 /// The number that a word says; 0 if it says none.

@@ -1,6 +1,6 @@
 // Characters and their classes, and bytes as characters.
 use crate::numbers::number_of;
-use probe_words::{bytes_of, no_order, no_place, shown, text_of};
+use probe_words::{no_order, no_place, shown};
 use std::alloc::{AllocError, Global};
 use yaml_chars::{
     CharFault, checked, flow_indicator, indicator, nb, nb_json, ns, printable, white,
@@ -50,9 +50,6 @@ impl Class {
 
 /// The characters of a text that are in a class.
 fn characters_in(alloc: Global, class: Class, text: &str) -> Result<String, AllocError> {
-    let Some(text) = text_of(alloc, text)? else {
-        return no_place(alloc);
-    };
     let kept: String = text.chars().filter(|c| class.has(*c)).collect(alloc)?;
     shown(alloc, &kept)
 }
@@ -71,19 +68,17 @@ pub(crate) fn line_feeds_after(
     count: &str,
     text: &str,
 ) -> Result<String, AllocError> {
-    let (Some(count), Some(mut text)) = (number_of(count), text_of(alloc, text)?) else {
+    let Some(count) = number_of(count) else {
         return no_place(alloc);
     };
+    let mut text = String::from_str(alloc, text)?;
     push_line_feeds(&mut text, count)?;
     shown(alloc, &text)
 }
 
 /// The bytes as a text, or the fault and the length of the longest prefix that is one.
-pub(crate) fn text_in(alloc: Global, bytes: &str) -> Result<String, AllocError> {
-    let Some(bytes) = bytes_of(alloc, bytes)? else {
-        return no_place(alloc);
-    };
-    match checked(&bytes) {
+pub(crate) fn text_in(alloc: Global, bytes: &[u8]) -> Result<String, AllocError> {
+    match checked(bytes) {
         Ok(text) => format!(in alloc; "{text:?}"),
         Err(fault) => {
             let CharFault::NotUtf8 { at } = fault;

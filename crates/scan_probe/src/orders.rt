@@ -1,7 +1,7 @@
 // Orders on characters and on places of texts.
 use crate::characters::{class_of, line_feeds_after, text_in};
 use crate::places::{between, counted, found_at, signed_at};
-use probe_words::{Answers, no_order};
+use probe_words::{Answers, bytes_of, no_order, no_place};
 use std::alloc::{AllocError, Global};
 use std::io;
 
@@ -11,21 +11,54 @@ pub(crate) struct Reader;
 
 impl Answers for Reader {
     fn answer(&mut self, alloc: Global, order: &str) -> io::Result<String> {
-        Ok(words_answered(alloc, order)?)
+        Ok(order_answered(alloc, order)?)
     }
 }
 
-/// The answer to an order, whose last word is a text.
-fn words_answered(alloc: Global, order: &str) -> Result<String, AllocError> {
-    let words: Vec<&str> = order.split(';').collect(alloc)?;
-    match words.as_slice() {
-        ["checked", bytes] => text_in(alloc, bytes),
-        ["line_feeds", count, text] => line_feeds_after(alloc, count, text),
-        ["has_break", places @ .., text] => between(alloc, places, text),
-        ["at_most_chars", numbers @ .., text] => counted(alloc, numbers, text),
-        [class, text] => class_of(alloc, class, text),
-        [call, at, text] => found_at(alloc, call, at, text),
-        [call, at, sign, text] => signed_at(alloc, call, at, sign, text),
-        _ => no_order(alloc),
+/// The answer to an order, whose last word is a text or bytes.
+fn order_answered(alloc: Global, order: &str) -> Result<String, AllocError> {
+    let Some((words, written)) = order.rsplit_once(';') else {
+        return no_order(alloc);
+    };
+    match bytes_of(alloc, written)? {
+        Some(bytes) => answered_on(alloc, words, &bytes),
+        None => no_place(alloc),
+    }
+}
+
+/// The answer to the words of an order on bytes.
+fn answered_on(alloc: Global, words: &str, bytes: &[u8]) -> Result<String, AllocError> {
+    if words == "checked" {
+        return text_in(alloc, bytes);
+    }
+    match str::from_utf8(bytes) {
+        Ok(text) => words_answered(alloc, words, text),
+        Err(_) => no_place(alloc),
+    }
+}
+
+/// The answer to the words of an order on a text: a class, or a call and more words.
+fn words_answered(alloc: Global, words: &str, text: &str) -> Result<String, AllocError> {
+    match words.split_once(';') {
+        Some((call, words)) => called(alloc, call, words, text),
+        None => class_of(alloc, words, text),
+    }
+}
+
+/// The answer to a call with some words on a text.
+fn called(alloc: Global, call: &str, words: &str, text: &str) -> Result<String, AllocError> {
+    match call {
+        "line_feeds" => line_feeds_after(alloc, words, text),
+        "has_break" => between(alloc, words, text),
+        "at_most_chars" => counted(alloc, words, text),
+        _ => called_at(alloc, call, words, text),
+    }
+}
+
+/// The answer to a call at a place, and maybe with a sign or a class.
+fn called_at(alloc: Global, call: &str, words: &str, text: &str) -> Result<String, AllocError> {
+    match words.split_once(';') {
+        Some((at, sign)) => signed_at(alloc, call, at, sign, text),
+        None => found_at(alloc, call, words, text),
     }
 }

@@ -2,8 +2,8 @@
 ghost use Rattle.std.specs.Prelude.{◌<◌};
 ghost use Rattle.std.specs.Str.{IsCharBoundary};
 
-use crate::numbers::{number_of, two_numbers};
-use probe_words::{no_order, no_place, shown, text_of};
+use crate::numbers::{number_of, place_in, places_in};
+use probe_words::{no_order, no_place, shown};
 use std::alloc::{AllocError, Global};
 use yaml_chars::{next_break, next_char};
 use yaml_scan::{
@@ -19,9 +19,9 @@ pub(crate) fn found_at(
     at: &str,
     text: &str,
 ) -> Result<String, AllocError> {
-    match (number_of(at), text_of(alloc, text)?) {
-        (Some(at), Some(text)) if text.is_char_boundary(at) => found_in(alloc, call, &text, at),
-        _ => no_place(alloc),
+    match place_in(text, at) {
+        Some(at) => found_in(alloc, call, text, at),
+        None => no_place(alloc),
     }
 }
 
@@ -80,11 +80,9 @@ pub(crate) fn signed_at(
     sign: &str,
     text: &str,
 ) -> Result<String, AllocError> {
-    match (number_of(at), text_of(alloc, text)?) {
-        (Some(at), Some(text)) if text.is_char_boundary(at) => {
-            signed_in(alloc, call, &text, at, sign)
-        }
-        _ => no_place(alloc),
+    match place_in(text, at) {
+        Some(at) => signed_in(alloc, call, text, at, sign),
+        None => no_place(alloc),
     }
 }
 
@@ -131,42 +129,20 @@ fn run_at(alloc: Global, text: &str, at: usize, class: &str) -> Result<String, A
 }
 
 /// Whether a break is between two places.
-pub(crate) fn between(alloc: Global, words: &[&str], text: &str) -> Result<String, AllocError> {
-    let Some((from, to)) = two_numbers(words) else {
-        return no_place(alloc);
-    };
-    let Some(text) = text_of(alloc, text)? else {
-        return no_place(alloc);
-    };
-    if from > to || !text.is_char_boundary(from) || !text.is_char_boundary(to) {
-        return no_place(alloc);
+pub(crate) fn between(alloc: Global, words: &str, text: &str) -> Result<String, AllocError> {
+    match places_in(text, words) {
+        Some((from, to)) => shown(alloc, &has_break(text, from, to)),
+        None => no_place(alloc),
     }
-    shown(alloc, &has_break(&text, from, to))
 }
 
 /// Whether at most so many characters are between two places.
-pub(crate) fn counted(alloc: Global, words: &[&str], text: &str) -> Result<String, AllocError> {
-    match words {
-        [most, places @ ..] => counted_to(alloc, number_of(most), two_numbers(places), text),
-        [] => no_place(alloc),
-    }
-}
-
-/// The same for numbers that were read.
-fn counted_to(
-    alloc: Global,
-    most: Option<usize>,
-    places: Option<(usize, usize)>,
-    text: &str,
-) -> Result<String, AllocError> {
-    let (Some(most), Some((from, to))) = (most, places) else {
+pub(crate) fn counted(alloc: Global, words: &str, text: &str) -> Result<String, AllocError> {
+    let Some((most, places)) = words.split_once(';') else {
         return no_place(alloc);
     };
-    let Some(text) = text_of(alloc, text)? else {
-        return no_place(alloc);
-    };
-    if from > to || !text.is_char_boundary(from) || !text.is_char_boundary(to) {
-        return no_place(alloc);
+    match (number_of(most), places_in(text, places)) {
+        (Some(most), Some((from, to))) => shown(alloc, &at_most_chars(text, from, to, most)),
+        _ => no_place(alloc),
     }
-    shown(alloc, &at_most_chars(&text, from, to, most))
 }

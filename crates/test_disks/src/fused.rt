@@ -193,11 +193,14 @@ impl<D: Disk> Disk for FusedDisk<D> {
 
     ghost failure_count = { λ disk. fused_failures D.failure_count disk };
 
-    ghost also_changes = { λ old step result new. FusesChange D.honest D.folder D.failure_count D.also_changes old step result new };
+    ghost also_changes = { λ old step result new.
+        FusesChange D.honest D.folder D.failure_count D.also_changes old step result new };
 
-    ghost also_reads = { λ old name max result new. FusesRead D.failure_count D.also_reads old name max result new };
+    ghost also_reads = { λ old name max result new.
+        FusesRead D.failure_count D.also_reads old name max result new };
 
-    ghost counts_now = { λ disk t image honest le is. D.counts_now disk.inner t image honest le is };
+    ghost counts_now = { λ disk t image honest le is.
+        D.counts_now disk.inner t image honest le is };
 
     ghost only_now = { λ disk image honest is. D.only_now disk.inner image honest is };
 

@@ -1,6 +1,7 @@
 -- What paths do in trees: the value at a place, and the trees after a `set` and a `delete`. Each is a tree, or the
 -- first refusal on the way; steps count from 1.
 use Rattle.std.specs.Prelude.{ℕ, zero, suc, ◌+◌, ◌-◌, ◌*◌, Bool, false, ◌==◌, if◌then◌else◌, List, [], ◌∷◌, codes, Option, Some, None, option_map, Result, Ok, Err}
+use Rattle.yaml_chars.specs.Signs.{digit_zero}
 use Rattle.yaml_chars.specs.Classes.{in_range}
 use Rattle.std.specs.List.{list_all}
 use Rattle.yaml_grammar.specs.Texts.{is_empty, same_text}
@@ -19,12 +20,12 @@ digit c = in_range 48 57 c
 -- `0`, or digits without a leading zero
 abbrev pub is_number : List ℕ → Bool
 is_number [] = false
-is_number (c ∷ cs) = if c == 48 then is_empty cs else list_all digit (c ∷ cs)
+is_number (c ∷ cs) = if c == digit_zero then is_empty cs else list_all digit (c ∷ cs)
 
 -- the number that digits spell after a number n
 abbrev pub number_after : ℕ → List ℕ → ℕ
 number_after n [] = n
-number_after n (c ∷ cs) = number_after (10 * n + (c - 48)) cs
+number_after n (c ∷ cs) = number_after (10 * n + (c - digit_zero)) cs
 
 -- what a token is in a sequence: the index of an element, from 0; `-`, the place after the last one; or neither
 pub data Index : Type 0 where

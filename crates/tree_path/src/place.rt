@@ -85,7 +85,7 @@ pub fn key_in(tree: &Tree, key: &str) -> Option<usize>
 }
 
 /// What is known of the place of a key in a tree.
-#[derive(Clone, Copy, Debug, PartialEq, Eq)]
+#[derive(Clone, Copy)]
 pub enum Known {
     /// The key is there, or it is missing.
     Place(Option<usize>),

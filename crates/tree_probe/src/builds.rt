@@ -31,16 +31,22 @@ pub(crate) fn build_text(
 pub(crate) fn build_pairs(
     alloc: Global,
     tree: &mut Tree,
-    words: &[&str],
+    words: &str,
 ) -> Result<String, AllocError> {
+    *tree = Tree::Map(pairs_of(alloc, words)?);
+    built(alloc)
+}
+
+/// The pairs of keys and texts that come by turns.
+fn pairs_of(alloc: Global, words: &str) -> Result<Vec<(Text, Tree)>, AllocError> {
     let mut pairs = Vec::new(alloc);
+    let words: Vec<&str> = words.split(';').collect(alloc)?;
     for pair in words.chunks(2) {
         if let [key, value] = pair {
             pairs.push(pair_of(alloc, key, value)?)?;
         }
     }
-    *tree = Tree::Map(pairs);
-    built(alloc)
+    Ok(pairs)
 }
 
 /// A key with a text.

@@ -7,12 +7,9 @@ use yaml_tree::{Config, Size, Text, Tree, style_len};
 
 /// The answer to an order.
 pub(crate) fn answer(alloc: Global, tree: &mut Tree, order: &str) -> Result<String, AllocError> {
-    let words: Vec<&str> = order.split(';').collect(alloc)?;
-    match words.as_slice() {
-        [call] => answer_to_none(alloc, tree, call),
-        [call, text] => answer_to_one(alloc, tree, call, text),
-        ["pairs", words @ ..] => build_pairs(alloc, tree, words),
-        _ => no_order(alloc),
+    match order.split_once(';') {
+        Some((call, words)) => answer_to_words(alloc, tree, call, words),
+        None => answer_to_none(alloc, tree, order),
     }
 }
 
@@ -26,14 +23,15 @@ fn answer_to_none(alloc: Global, tree: &mut Tree, call: &str) -> Result<String, 
     }
 }
 
-/// The answer to an order with one part.
-fn answer_to_one(
+/// The answer to an order with more words.
+fn answer_to_words(
     alloc: Global,
     tree: &mut Tree,
     call: &str,
     text: &str,
 ) -> Result<String, AllocError> {
     match call {
+        "pairs" => build_pairs(alloc, tree, text),
         "text" => build_text(alloc, tree, text),
         "sequences" => build_sequences(alloc, tree, text),
         "nested" => build_nested(alloc, tree, text),
@@ -88,15 +86,18 @@ fn copied(alloc: Global, tree: &Tree) -> Result<String, AllocError> {
     let Ok(config) = Config::new(alloc, tree.try_copy(alloc)?) else {
         return String::from_str(alloc, "no configuration");
     };
-    let again = config.try_copy(alloc)?;
-    let (length, depth) = (again.style_length(), again.depth());
-    let told = format!(in alloc;
-        "{} {length} {depth} {}",
-        config.style_length(),
-        again.tree().depth()
-    )?;
-    let tree = again.into_tree();
-    format!(in alloc; "{told} {tree:?}")
+    copy_told(alloc, config.style_length(), &config.try_copy(alloc)?)
+}
+
+/// The length of a configuration, and what a copy of it is.
+fn copy_told(alloc: Global, length: u64, copy: &Config) -> Result<String, AllocError> {
+    let tree = copy.tree();
+    format!(in alloc;
+        "{length} {} {} {} {tree:?}",
+        copy.style_length(),
+        copy.depth(),
+        tree.depth()
+    )
 }
 
 /// The sizes of the tree as an element and as a value, and of a key.

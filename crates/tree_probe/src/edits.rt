@@ -1,6 +1,7 @@
 // Places of trees, edits and their lengths.
 use crate::texts::config_of;
 use edit_lengths::{delete_len, set_len};
+use probe_words::{no_order, no_place, shown};
 use std::alloc::{AllocError, Global};
 use tree_path::{Path, PathFault, at, delete, set};
 use yaml_tree::Tree;
@@ -8,8 +9,8 @@ use yaml_tree::Tree;
 /// What is at a path of a tree.
 pub(crate) fn at_path(alloc: Global, tree: &Tree, path: &str) -> Result<String, AllocError> {
     match Path::parse(alloc, path).and_then(|path| at(tree, &path)) {
-        Ok(found) => format!(in alloc; "{found:?}"),
-        Err(fault) => format!(in alloc; "{fault:?}"),
+        Ok(found) => shown(alloc, found),
+        Err(fault) => shown(alloc, &fault),
     }
 }
 
@@ -20,14 +21,11 @@ pub(crate) fn set_path(
     path: &str,
     value: &str,
 ) -> Result<String, AllocError> {
-    let Ok(path) = Path::parse(alloc, path) else {
-        return String::from_str(alloc, "no path");
-    };
-    let Ok(value) = config_of(alloc, value) else {
-        return String::from_str(alloc, "no tree");
+    let (Ok(path), Ok(value)) = (Path::parse(alloc, path), config_of(alloc, value)) else {
+        return no_place(alloc);
     };
     match set(alloc, tree, &path, value.into_tree()) {
-        Ok(()) => format!(in alloc; "{tree:?}"),
+        Ok(()) => shown(alloc, tree),
         Err((back, fault)) => format!(in alloc; "{fault:?} {back:?} {tree:?}"),
     }
 }
@@ -54,36 +52,43 @@ pub(crate) fn delete_path(
 }
 
 /// The length of a tree after another one is set at a path.
-pub(crate) fn set_len_at(
+pub(crate) fn set_len_at(alloc: Global, whole: &str, words: &str) -> Result<String, AllocError> {
+    let Some((path, value)) = words.split_once(';') else {
+        return no_order(alloc);
+    };
+    match length_after_set(alloc, whole, path, value) {
+        Some(length) => shown(alloc, &length),
+        None => no_place(alloc),
+    }
+}
+
+/// The length after the edit, or `None` where a word is written wrongly.
+fn length_after_set(
     alloc: Global,
     whole: &str,
     path: &str,
     value: &str,
-) -> Result<String, AllocError> {
-    let Ok(whole) = config_of(alloc, whole) else {
-        return String::from_str(alloc, "no tree");
-    };
-    let Ok(value) = config_of(alloc, value) else {
-        return String::from_str(alloc, "no value");
-    };
-    let Ok(path) = Path::parse(alloc, path) else {
-        return String::from_str(alloc, "no path");
-    };
-    let length = set_len(&whole, &path, value.tree());
-    format!(in alloc; "{length:?}")
+) -> Option<Result<u128, PathFault>> {
+    let path = Path::parse(alloc, path).ok()?;
+    let whole = config_of(alloc, whole).ok()?;
+    let value = config_of(alloc, value).ok()?;
+    Some(set_len(&whole, &path, value.tree()))
 }
 
-/// The length of a tree after what is at a path is deleted. The empty path leads to no element.
+/// The length of a tree after what is at a path is deleted.
 pub(crate) fn delete_len_at(alloc: Global, whole: &str, path: &str) -> Result<String, AllocError> {
-    let Ok(whole) = config_of(alloc, whole) else {
-        return String::from_str(alloc, "no tree");
-    };
-    let Ok(path) = Path::parse(alloc, path) else {
-        return String::from_str(alloc, "no path");
-    };
-    if path.steps() == 0 {
-        return String::from_str(alloc, "no step");
+    match length_after_delete(alloc, whole, path) {
+        Some(length) => shown(alloc, &length),
+        None => no_place(alloc),
     }
-    let length = delete_len(&whole, &path);
-    format!(in alloc; "{length:?}")
+}
+
+/// The length after the edit, or `None` where a word is written wrongly. The empty path leads to no element.
+fn length_after_delete(alloc: Global, whole: &str, path: &str) -> Option<Result<u128, PathFault>> {
+    let path = Path::parse(alloc, path).ok()?;
+    if path.steps() == 0 {
+        return None;
+    }
+    let whole = config_of(alloc, whole).ok()?;
+    Some(delete_len(&whole, &path))
 }

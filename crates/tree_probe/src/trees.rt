@@ -5,17 +5,17 @@ use probe_words::{no_order, shown};
 use std::alloc::{AllocError, Global};
 use tree_path::Path;
 use yaml_emit::style_text;
-use yaml_style::check;
-use yaml_tree::{Limits, Tree, format_one, read_one, scalar_style};
+use yaml_style::{Finding, check};
+use yaml_tree::{Limits, ReadFault, Tree, format_one, read_one, scalar_style};
 
 /// The answer to an order.
 pub(crate) fn answer(alloc: Global, tree: &mut Tree, order: &str) -> Result<String, AllocError> {
-    let words: Vec<&str> = order.split(';').collect(alloc)?;
-    match words.as_slice() {
-        [call, text] => answer_to_one(alloc, tree, call, text),
-        [call, first, second] => answer_to_two(alloc, tree, call, first, second),
-        ["set_len", whole, path, value] => set_len_at(alloc, whole, path, value),
-        _ => no_order(alloc),
+    let Some((call, words)) = order.split_once(';') else {
+        return no_order(alloc);
+    };
+    match words.split_once(';') {
+        Some((first, rest)) => answer_to_more(alloc, tree, call, first, rest),
+        None => answer_to_one(alloc, tree, call, words),
     }
 }
 
@@ -40,18 +40,19 @@ fn answer_to_one(
     }
 }
 
-/// The answer to an order with two parts.
-fn answer_to_two(
+/// The answer to an order with two parts or three.
+fn answer_to_more(
     alloc: Global,
     tree: &mut Tree,
     call: &str,
     first: &str,
-    second: &str,
+    rest: &str,
 ) -> Result<String, AllocError> {
     match call {
-        "read" => reading_of(alloc, first, second),
-        "set" => set_path(alloc, tree, first, second),
-        "delete_len" => delete_len_at(alloc, first, second),
+        "read" => reading_of(alloc, first, rest),
+        "set" => set_path(alloc, tree, first, rest),
+        "set_len" => set_len_at(alloc, first, rest),
+        "delete_len" => delete_len_at(alloc, first, rest),
         _ => no_order(alloc),
     }
 }
@@ -63,24 +64,32 @@ enum Role {
     Value,
 }
 
+/// The length of a text and the text, or why there is none.
+fn measured(alloc: Global, text: Result<String, ReadFault>) -> Result<String, AllocError> {
+    match text {
+        Ok(text) => format!(in alloc; "{} {text:?}", text.len()),
+        Err(fault) => shown(alloc, &fault),
+    }
+}
+
+/// The tree of a text in the one style.
+fn restyled(alloc: Global, text: &str) -> Result<String, ReadFault> {
+    let config = config_of(alloc, text)?;
+    Ok(style_text(alloc, &config)?)
+}
+
 /// The length of a tree's text in the one style, and the text.
 fn emitted(alloc: Global, text: &str) -> Result<String, AllocError> {
-    match config_of(alloc, text) {
-        Ok(config) => {
-            let text = style_text(alloc, &config)?;
-            format!(in alloc; "{} {text:?}", text.len())
-        }
-        Err(fault) => format!(in alloc; "{fault:?}"),
-    }
+    measured(alloc, restyled(alloc, text))
 }
 
 /// The length of a text that is formatted, and the text.
 fn formatted(alloc: Global, text: &str) -> Result<String, AllocError> {
     let text = meant(alloc, text)?;
-    match format_one(alloc, text.as_bytes(), &Limits::CONFIGURATION) {
-        Ok(text) => format!(in alloc; "{} {text:?}", text.len()),
-        Err(fault) => format!(in alloc; "{fault:?}"),
-    }
+    measured(
+        alloc,
+        format_one(alloc, text.as_bytes(), &Limits::CONFIGURATION),
+    )
 }
 
 /// The style of a text as a value or as a key.
@@ -108,22 +117,25 @@ fn reading_of(alloc: Global, depth: &str, text: &str) -> Result<String, AllocErr
 fn findings_of(alloc: Global, text: &str) -> Result<String, AllocError> {
     let text = meant(alloc, text)?;
     match check(alloc, text.as_bytes()) {
-        Ok(findings) => {
-            let mut shown = String::new(alloc);
-            for finding in &findings {
-                shown = format!(in alloc; "{shown}{} {};", finding.rule.name(), finding.line)?;
-            }
-            Ok(shown)
-        }
-        Err(fault) => format!(in alloc; "{fault:?}"),
+        Ok(findings) => listed(alloc, &findings),
+        Err(fault) => shown(alloc, &fault),
     }
+}
+
+/// The rules and the lines of findings.
+fn listed(alloc: Global, findings: &[Finding]) -> Result<String, AllocError> {
+    let mut list = String::new(alloc);
+    for finding in findings {
+        list = format!(in alloc; "{list}{} {};", finding.rule.name(), finding.line)?;
+    }
+    Ok(list)
 }
 
 /// The number of a path's steps.
 fn steps_of(alloc: Global, text: &str) -> Result<String, AllocError> {
     match Path::parse(alloc, text) {
-        Ok(path) => format!(in alloc; "{}", path.steps()),
-        Err(fault) => format!(in alloc; "{fault:?}"),
+        Ok(path) => shown(alloc, &path.steps()),
+        Err(fault) => shown(alloc, &fault),
     }
 }
 
@@ -132,8 +144,8 @@ fn take(alloc: Global, tree: &mut Tree, text: &str) -> Result<String, AllocError
     match config_of(alloc, text) {
         Ok(config) => {
             *tree = config.into_tree();
-            format!(in alloc; "{tree:?}")
+            shown(alloc, tree)
         }
-        Err(fault) => format!(in alloc; "{fault:?}"),
+        Err(fault) => shown(alloc, &fault),
     }
 }

@@ -54,10 +54,10 @@ block_reads m text lines after value folded digit chomping h b =
       means = λ comments at.
           ap (λ f. scalar_event (if f then folded_style else literal_style) at
           (at + byte_len (bare_block_text (block_of header b.body [])))
-          (block_value f (h.header).chomping (b.body).gaps (b.body).texts) ∷ []) (h.means).style
+          (block_value f (h.header).chomping (b.body).empties (b.body).texts) ∷ []) (h.means).style
           ∙ (ap (λ c. scalar_event (if folded then folded_style else literal_style) at
           (at + byte_len (bare_block_text (block_of header b.body [])))
-          (block_value folded c (b.body).gaps (b.body).texts) ∷ []) (h.means).chomps
+          (block_value folded c (b.body).empties (b.body).texts) ∷ []) (h.means).chomps
           ∙ ap (λ v. scalar_event (if folded then folded_style else literal_style) at
           (at + byte_len (bare_block_text (block_of header b.body []))) v ∷ []) (sym b.means));
       spells = (blocks_read.sound m text (block_of header b.body trail.0) trail.1 reads).0
@@ -86,7 +86,7 @@ block_no_body m text lines folded digit chomping h n =
     by_cases : (r : Read Body) → read_body digit m lines ≡ r → r ≡ None
     by_cases None e = refl
     by_cases (Some r) e = absurd (let i : IsBody digit m folded chomping lines
-        (block_value folded chomping (r.0).gaps (r.0).texts) r.1 =
+        (block_value folded chomping (r.0).empties (r.0).texts) r.1 =
         body_is digit m folded chomping lines r.0 r.1 e in n i.body r.1 i.stands)
 
 -- ---- B3: the comments after it

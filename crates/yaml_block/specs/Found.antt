@@ -1,11 +1,10 @@
 -- A block node at a place of a text, which counts bytes.
 use Rattle.std.specs.Prelude.{◌≡◌, ℕ, ◌≤◌, Bool, List, ◌++◌, length, Some, None}
-use Rattle.std.proofs.Math.Logic.{◌⊎◌}
 use Rattle.std.specs.Str.{IsCharBoundary}
 use Rattle.yaml_chars.specs.Places.{rest}
 use Rattle.yaml_grammar.specs.BlockNodes.{Node, node_events}
 use Rattle.yaml_recognizers.specs.Recognizers.{block_node_at}
-use Rattle.yaml_recognizers.specs.StandingNodes.{BlockNodeStands, NoBlockNode}
+use Rattle.yaml_recognizers.specs.StandingNodes.{IsBlockNode, NoBlockNode}
 use Rattle.yaml_events.specs.Meant.{events_of}
 use Rattle.yaml_events.specs.EventPlaces.{line_starts}
 use Rattle.yaml_events.specs.declared.event.Event.{Event}
@@ -24,15 +23,13 @@ pub record BlockNodeRead (m : ℕ) (shallow : Bool) (text : List ℕ) (at : ℕ)
     pub found : block_node_at m shallow (line_starts text at) (rest text at) ≡ Some (node, rest text end)
     pub appended : Appended text old new (node_events node at)
 
--- Each block node that is at the place, in whatever form it is presented, has these events. The
--- end is after the lines of white
--- space and comments that follow it, or before them.
-abbrev pub IsEachBlockNode : ℕ → Bool → List ℕ → ℕ → List Event → List Event → ℕ → Type 0
-IsEachBlockNode m shallow text at old new end =
-    (node : Node) (after : List ℕ) (stands : BlockNodeStands m shallow (line_starts text at) (rest text at) node
-    after)
-    → (events_of new ≡ events_of old ++ node_events node at)
-    × ((rest text end ≡ stands.after.after) ⊎ (rest text end ≡ after))
+-- A block node is between the two places, each that is at the first is the same but for its form, and its events are
+-- appended. The end is after the lines of white space and comments that follow it, or before them.
+pub record BlockNodeIs (m : ℕ) (shallow : Bool) (text : List ℕ) (at : ℕ) (old new : List Event) (end : ℕ) : Type 0
+  where
+    pub node : Node
+    pub is : IsBlockNode m shallow (line_starts text at) (rest text at) node (rest text end)
+    pub means : events_of new ≡ events_of old ++ node_events node at
 
 -- the recognizer finds no block node at the place
 abbrev pub NoBlockNodeFound : ℕ → Bool → List ℕ → ℕ → Type 0

@@ -15,6 +15,7 @@ use Rattle.yaml_events.specs.declared.context.BlockContext.TheVariants.{Bin, Bou
 use Rattle.yaml_scan.specs.ScanPlaces.{AreSpaces, unbroken_between}
 use Rattle.yaml_scan.specs.Lines.{IsLineStart}
 use Rattle.yaml_scan.specs.declared.lines.Line.{Line}
+use Rattle.yaml_grammar.specs.FlowNodes.{key_limit}
 use Rattle.yaml_flow.specs.FlowNodes.{Appended}
 use Rattle.yaml_block.specs.Frames.{waits_of, indent_of, AfterSign, AtPair, AtLine, AtNode, AtNodeLine, AtLeaf}
 use Rattle.yaml_block.specs.declared.frame.Waits.{Waits}
@@ -39,7 +40,7 @@ is_deep m context s = nat_le m (if is_shallow context then suc s else s)
 -- The node from `at` to `end`, with its `:` at `colon`, is on one line, and short enough for a key (8.2.2): the `:`
 -- follows after at most 1,024 characters.
 abbrev pub fits_as_key : List ℕ → ℕ → ℕ → ℕ → Bool
-fits_as_key text at end colon = unbroken_between text at end && nat_le (length (between text at colon)) 1024
+fits_as_key text at end colon = unbroken_between text at end && nat_le (length (between text at colon)) key_limit
 
 -- ---- the open collections
 

@@ -2,6 +2,7 @@
 ghost use Rattle.std.specs.Prelude.{◌≡◌, ◌*◌, ◌+◌, ◌-◌, ◌^◌, ◌<◌, ◌≤◌, true, false, [], ◌∷◌, ◌++◌, ◌⊎◌, Some, None, IfSome, IfOk, IfErr, OnOk, length};
 ghost use Rattle.std.specs.Str.{IsCharBoundary};
 ghost use Rattle.yaml_chars.specs.Places.{rest};
+ghost use Rattle.yaml_chars.specs.Signs.{question};
 ghost use Rattle.yaml_grammar.specs.Texts.{first};
 ghost use Rattle.yaml_recognizers.specs.BlockNodes.{bar};
 ghost use Rattle.yaml_recognizers.specs.Prefixes.{sign};
@@ -59,7 +60,7 @@ impl<'a> Reader<'a> {
         requires at { IsCharBoundary text.now leaf.at }
         requires pairs { IfSome leaf.pairs (λ indent. indent ≤ leaf.at) }
         requires no_bar { first bar (rest text.now leaf.at) ≡ false }
-        requires not_asked { IfSome leaf.pairs (λ indent. sign 63 (rest text.now leaf.at) ≡ false) }
+        requires not_asked { IfSome leaf.pairs (λ indent. sign question (rest text.now leaf.at) ≡ false) }
         ensures onward { IfOk result (Onward text.now leaf.at (3 * (length text.now - leaf.at))) }
         ensures leads { IfOk result (Leads text.now (BeforeLeaf text.now leaf) self.old self.new) }
         ensures grown { Grown self.old.events self.new.events }

@@ -3,7 +3,7 @@ ghost use Rattle.std.specs.Prelude.{◌≡◌, ◌*◌, ◌-◌, ◌^◌, ◌<�
 ghost use Rattle.std.specs.Str.{IsCharBoundary};
 ghost use Rattle.yaml_events.specs.EventPlaces.{Refuses, line_starts};
 ghost use Rattle.yaml_block_scalars.specs.Meant.{least_indent};
-ghost use Rattle.yaml_block.specs.Found.{NoBlockNodeFound, NoBlockNodeAt, BlockNodeRead, IsEachBlockNode};
+ghost use Rattle.yaml_block.specs.Found.{NoBlockNodeFound, NoBlockNodeAt, BlockNodeRead, BlockNodeIs};
 ghost use Rattle.yaml_block.specs.States.{Grown, Onward, Leads, FailsBy, BeforeNode, is_shallow};
 
 use crate::frame::{Indentation, Leaf, Next};
@@ -11,6 +11,7 @@ use crate::reader::Reader;
 use crate::refusal::{no_white, refusal};
 use std::alloc::Global;
 use std::mem;
+use yaml_block_scalars::least_indent;
 use yaml_events::{BlockContext, Events, ScanFault, Why};
 use yaml_scan::{line_starts, rest_of_line_end, solid_line, white_end};
 
@@ -113,7 +114,7 @@ impl<'a> Reader<'a> {
         requires none_open { self.old.collections.items ≡ [] }
         ensures reads { IfOk result (BlockNodeRead least (is_shallow context) text.now at
             self.old.events self.new.events) }
-        ensures only { IfOk result (IsEachBlockNode least (is_shallow context) text.now at
+        ensures only { IfOk result (BlockNodeIs least (is_shallow context) text.now at
             self.old.events self.new.events) }
         ensures grown { Grown self.old.events self.new.events }
         ensures missing { IfErr result (λ fault.
@@ -133,15 +134,6 @@ impl<'a> Reader<'a> {
             };
         }
     }
-}
-
-/// Returns the least indentation of a node below an indentation of `n`.
-fn least_indent(n: i64) -> usize
-    requires { negsuc 0 ≤ℤ n }
-    ensures value { result ≡ least_indent n }
-    ensures fits { result ≤ 2 ^ 63 }
-{
-    if n < 0 { 0 } else { n as usize + 1 }
 }
 
 /// Reads the block node at `at`, appends its events, and returns the place after it (YAML 1.2.2, 8.2).
@@ -166,7 +158,7 @@ pub fn block_node<'a>(
     requires below { negsuc 0 ≤ℤ n }
     ensures reads { IfOk result (BlockNodeRead (least_indent n) (is_shallow context) text.now at
         events.old events.new) }
-    ensures only { IfOk result (IsEachBlockNode (least_indent n) (is_shallow context) text.now at
+    ensures only { IfOk result (BlockNodeIs (least_indent n) (is_shallow context) text.now at
         events.old events.new) }
     ensures missing { IfErr result (λ fault.
         Refuses fault (NoBlockNodeFound (least_indent n) (is_shallow context) text.now at)) }

@@ -1,6 +1,6 @@
 -- The first line of a block scalar, by what is at its places.
 use Rattle.std.proofs.Common.{◌≡◌, ℕ, ◌+◌, ◌-◌, ◌<◌, ◌≤◌, ◌⊎◌, Bool, true, false, List, [], ◌∷◌, Option, Some, None, refl, ap, sym, ◌∙◌, arith, length, inl, inr, get_or}
-use Rattle.std.specs.Prelude.{◌||◌, ◌==◌, cond, IfNone, IfSome, MatchOption}
+use Rattle.std.specs.Prelude.{◌||◌, ◌==◌, cond, IfNone, IfSome}
 use Rattle.std.specs.Char.{len_utf8}
 use Rattle.std.specs.Str.{IsUtf8, IsCharBoundary}
 use Rattle.std.proofs.lemmas.Bool.{and_from, cond-true, cond-false, le-leb, false≢true}
@@ -116,16 +116,16 @@ line_end_read [] n = absurd (n refl)
 line_end_read (c ∷ cs) n = refl
 
 -- where the text does not end, it is the end of any line
-pub header_end_is : (bs : List ℕ) (i : ℕ) (found : Option ℕ) → IsUtf8 bs → IsCharBoundary bs i → i < length bs → IfSome found (IsLineEnd false bs i) → IfNone found (read_line_end false (rest bs i) ≡ None)
-    → MatchOption found (read_header_end (rest bs i) ≡ None) (IsHeaderEnd bs i)
-header_end_is bs i found u b l some none = by_cases found some none
-  where
-    reads : read_header_end (rest bs i) ≡ read_line_end false (rest bs i)
-    reads = line_end_read (rest bs i) (λ e. let there = char_at bs i u b l in let none : [] ≡ there.0 ∷ rest bs (i + len_utf8 there.0) = sym e ∙ there.1.splits in cc)
+line_end_there : (bs : List ℕ) (i : ℕ) → IsUtf8 bs → IsCharBoundary bs i → i < length bs → read_header_end (rest bs i) ≡ read_line_end false (rest bs i)
+line_end_there bs i u b l = line_end_read (rest bs i) (λ e. let there = char_at bs i u b l in let none : [] ≡ there.0 ∷ rest bs (i + len_utf8 there.0) = sym e ∙ there.1.splits in cc)
 
-    by_cases : (found : Option ℕ) → IfSome found (IsLineEnd false bs i) → IfNone found (read_line_end false (rest bs i) ≡ None) → MatchOption found (read_header_end (rest bs i) ≡ None) (IsHeaderEnd bs i)
-    by_cases None some none = reads ∙ none
-    by_cases (Some end) some none = record { above = let above = some.above in omega arith; boundary = some.boundary; line_end = some.line_end; reads = reads ∙ some.reads; starts = some.starts }
+pub header_end_found : (bs : List ℕ) (i : ℕ) (found : Option ℕ) → IsUtf8 bs → IsCharBoundary bs i → i < length bs → IfSome found (IsLineEnd false bs i) → IfSome found (IsHeaderEnd bs i)
+header_end_found bs i None u b l some = tt
+header_end_found bs i (Some end) u b l some = record { above = let above = some.above in omega arith; boundary = some.boundary; line_end = some.line_end; reads = line_end_there bs i u b l ∙ some.reads; starts = some.starts }
+
+pub header_end_missing : (bs : List ℕ) (i : ℕ) (found : Option ℕ) → IsUtf8 bs → IsCharBoundary bs i → i < length bs → IfNone found (read_line_end false (rest bs i) ≡ None) → IfNone found (read_header_end (rest bs i) ≡ None)
+header_end_missing bs i None u b l none = line_end_there bs i u b l ∙ none
+header_end_missing bs i (Some end) u b l none = tt
 
 -- ---- the whole line
 

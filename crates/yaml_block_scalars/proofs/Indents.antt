@@ -8,7 +8,7 @@ use Rattle.yaml_chars.specs.Places.{rest}
 use Rattle.yaml_chars.proofs.Places.{char_at, rest-end}
 use Rattle.yaml_grammar.specs.BlockScalars.{last_spaces, past_spaces, sets_none, spaces_before}
 use Rattle.yaml_grammar.specs.Texts.{first, is_empty, marker}
-use Rattle.yaml_recognizers.specs.BlockScalars.{all_gaps, find_indent}
+use Rattle.yaml_recognizers.specs.BlockScalars.{all_empties, find_indent}
 use Rattle.yaml_block_scalars.specs.Lines.{AreLeading}
 use Rattle.yaml_scan.specs.ScanPlaces.{AreSpaces, IsNb}
 
@@ -22,7 +22,7 @@ indent_by m width text =
 found_by : (m : ℕ) (bs : List ℕ) (i width j : ℕ) → AreLeading bs i width j → find_indent None m (rest bs i) ≡ indent_by m width (rest bs j)
 unfolding indent_by
 found_by m bs i width j h =
-    ap (λ x. indent_by m x (all_gaps (rest bs i)).1) h.widest_is ∙ ap (indent_by m width) h.leaves
+    ap (λ x. indent_by m x (all_empties (rest bs i)).1) h.widest_is ∙ ap (indent_by m width) h.leaves
 
 module _ (m : ℕ) (bs : List ℕ) (i width j k : ℕ) (u : IsUtf8 bs) (h : AreLeading bs i width j) (s : AreSpaces bs j k) where
   set_none : (q : ℕ) → sets_none m (rest bs j) ≡ true → last_spaces (rest bs j) ≡ q → find_indent None m (rest bs i) ≡ Some (max m (max width q))

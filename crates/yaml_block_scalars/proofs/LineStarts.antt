@@ -9,7 +9,7 @@ use Rattle.yaml_chars.specs.Classes.{line_break}
 use Rattle.yaml_chars.specs.Places.{rest, between}
 use Rattle.yaml_chars.proofs.Places.{between-append, rest-between}
 use Rattle.yaml_events.specs.EventPlaces.{line_starts, without_mark}
-use Rattle.yaml_grammar.specs.BlockScalars.{Body, Gap, TextLine, body_text, gap_line_text, gaps_text, goes_on, text_line_fits, text_line_text, text_lines_fit, text_lines_text}
+use Rattle.yaml_grammar.specs.BlockScalars.{Body, BlockEmptyLine, TextLine, body_text, block_empty_text, block_empties_text, goes_on, text_line_fits, text_line_text, text_lines_fit, text_lines_text}
 use Rattle.yaml_grammar.specs.Separation.{Break, break_text, cr, cr_lf, lf, stop_fits}
 use Rattle.yaml_grammar.specs.Texts.{is_empty, optional, spaces, starts_line}
 use Rattle.yaml_recognizers.specs.BlockScalarFacts.{BodyStands}
@@ -41,25 +41,25 @@ stop_ends : (bol : Bool) (xs : List ℕ) (stop : Option Break) (after : List ℕ
 stop_ends bol xs None after h = inr (none_left after h)
 stop_ends bol xs (Some b) after h = inl (starts_joined bol xs (break_text b) ∙ break_starts (starts_line bol xs) b)
 
-gaps_start : (gs : List Gap) → starts_line true (gaps_text gs) ≡ true
-gaps_start [] = refl
-gaps_start (g ∷ gs) =
-    starts_joined true (gap_line_text g) (gaps_text gs)
-    ∙ (ap (λ b. starts_line b (gaps_text gs)) (starts_joined true (spaces g.width) (break_text g.stop) ∙ break_starts (starts_line true (spaces g.width)) g.stop) ∙ gaps_start gs)
+empties_start : (gs : List BlockEmptyLine) → starts_line true (block_empties_text gs) ≡ true
+empties_start [] = refl
+empties_start (g ∷ gs) =
+    starts_joined true (block_empty_text g) (block_empties_text gs)
+    ∙ (ap (λ b. starts_line b (block_empties_text gs)) (starts_joined true (spaces g.width) (break_text g.stop) ∙ break_starts (starts_line true (spaces g.width)) g.stop) ∙ empties_start gs)
 
 lines_end : (q : ℕ) (ls : List TextLine) (after : List ℕ) → text_lines_fit q ls after ≡ true → Ends true (text_lines_text q ls) after
 lines_end q [] after h = inl refl
 lines_end q (l ∷ ls) after h =
     let p = and_parts (text_line_fits q l (text_lines_text q ls ++ after)) (text_lines_fit q ls after) h in
-    let stop : stop_fits l.stop (gaps_text l.gaps ++ (text_lines_text q ls ++ after)) ≡ true = (and_parts _ _ (and_parts _ _ p.0).0).1 in
-    elim (stop_ends true (spaces q ++ l.text) l.stop (gaps_text l.gaps ++ (text_lines_text q ls ++ after)) stop) [
+    let stop : stop_fits l.stop (block_empties_text l.empties ++ (text_lines_text q ls ++ after)) ≡ true = (and_parts _ _ (and_parts _ _ p.0).0).1 in
+    elim (stop_ends true (spaces q ++ l.text) l.stop (block_empties_text l.empties ++ (text_lines_text q ls ++ after)) stop) [
       | inl starts ↦ (let line : starts_line true (text_line_text q l) ≡ true =
-          starts_joined true (spaces q ++ l.text ++ optional break_text l.stop) (gaps_text l.gaps) ∙ (ap (λ b. starts_line b (gaps_text l.gaps)) starts ∙ gaps_start l.gaps) in
+          starts_joined true (spaces q ++ l.text ++ optional break_text l.stop) (block_empties_text l.empties) ∙ (ap (λ b. starts_line b (block_empties_text l.empties)) starts ∙ empties_start l.empties) in
           elim (lines_end q ls after p.1) [
             | inl more ↦ inl (starts_joined true (text_line_text q l) (text_lines_text q ls) ∙ (ap (λ b. starts_line b (text_lines_text q ls)) line ∙ more))
             | inr none ↦ inr none
           ])
-      | inr none ↦ inr (nil_after (text_lines_text q ls) after (nil_after (gaps_text l.gaps) (text_lines_text q ls ++ after) none))
+      | inr none ↦ inr (nil_after (text_lines_text q ls) after (nil_after (block_empties_text l.empties) (text_lines_text q ls ++ after) none))
     ]
 
 -- ---- places
@@ -91,9 +91,9 @@ body_ends m folded header text at value end u b h (inl line) =
     let stands : BodyStands header.digit m (rest text at) body (rest text end) = h.means.stands in
     let lines : text_lines_fit body.indent body.texts (rest text end) ≡ true = (and_parts _ _ (and_parts _ _ stands.fits).0).1 in
     elim (lines_end body.indent body.texts (rest text end) lines) [
-      | inl starts ↦ (let gaps : starts_line (line_starts text at) (gaps_text body.gaps) ≡ true = ap (λ b. starts_line b (gaps_text body.gaps)) line ∙ gaps_start body.gaps in
+      | inl starts ↦ (let empties : starts_line (line_starts text at) (block_empties_text body.empties) ≡ true = ap (λ b. starts_line b (block_empties_text body.empties)) line ∙ empties_start body.empties in
           inl (starts_at text at end (body_text body) u h.above b h.boundary stands.spells
-          (starts_joined (line_starts text at) (gaps_text body.gaps) (text_lines_text body.indent body.texts) ∙ (ap (λ b. starts_line b (text_lines_text body.indent body.texts)) gaps ∙ starts))))
+          (starts_joined (line_starts text at) (block_empties_text body.empties) (text_lines_text body.indent body.texts) ∙ (ap (λ b. starts_line b (text_lines_text body.indent body.texts)) empties ∙ starts))))
       | inr none ↦ inr none
     ]
 body_ends m folded header text at value end u b h (inr none) = inr (nil_after (body_text h.means.body) (rest text end) (sym h.means.stands.spells ∙ none))

@@ -7,42 +7,42 @@ use Rattle.yaml_chars.specs.Classes.{nb, white}
 use Rattle.yaml_chars.specs.Places.{between, rest}
 use Rattle.yaml_chars.proofs.Classes.{white_is_nb}
 use Rattle.yaml_chars.proofs.Places.{between-nil}
-use Rattle.yaml_grammar.specs.BlockScalars.{TextLine, gaps_text, goes_on, past_spaces, spaces_before}
+use Rattle.yaml_grammar.specs.BlockScalars.{TextLine, block_empties_text, goes_on, past_spaces, spaces_before}
 use Rattle.yaml_grammar.specs.Separation.{Break, break_text}
 use Rattle.yaml_grammar.specs.Texts.{first, marker, no_marker, optional}
 use Rattle.yaml_recognizers.proofs.BlockScalars.BlockScalarSteps.{lines_step}
 use Rattle.yaml_recognizers.proofs.Separation.CommentsSound.{StopOf, stop_sound}
-use Rattle.yaml_recognizers.proofs.BlockScalars.EmptyLines.{gaps_of_sound}
+use Rattle.yaml_recognizers.proofs.BlockScalars.EmptyLines.{empties_of_sound}
 use Rattle.yaml_recognizers.proofs.Basics.Reading.{sound_is}
 use Rattle.yaml_recognizers.proofs.Basics.Spaces.{at_most, goes_on_text}
-use Rattle.yaml_recognizers.specs.BlockScalars.{gaps_at, lines_at, read_text_line}
+use Rattle.yaml_recognizers.specs.BlockScalars.{empties_at, lines_at, read_text_line}
 use Rattle.yaml_recognizers.specs.Comments.{read_stop}
 use Rattle.yaml_recognizers.specs.Prefixes.{drop_while, take_while}
 use Rattle.yaml_recognizers.specs.Reading.{Read, on}
 use Rattle.yaml_block_scalars.specs.declared.line.Line.{Line}
-use Rattle.yaml_block_scalars.specs.Lines.{AreGaps, IsLine, IsPastGaps, IsTextStart}
+use Rattle.yaml_block_scalars.specs.Lines.{AreEmpties, IsLine, IsPastEmpties, IsTextStart}
 use Rattle.yaml_scan.specs.ScanPlaces.{AreSpaces, AreTaken, IsStop}
-use Rattle.yaml_block_scalars.proofs.EmptyLines.{gaps_past}
+use Rattle.yaml_block_scalars.proofs.EmptyLines.{empties_past}
 use Rattle.yaml_scan.proofs.ByteRuns.{spaces_dropped_at}
 
 -- ---- where a line goes on
 
 module _ (q : ℕ) (bs : List ℕ) (i j : ℕ) (u : IsUtf8 bs) (b : IsCharBoundary bs i) (s : AreSpaces bs i j) where
-  stays : IsPastGaps q (rest bs i) → nat_lt q (j - i) ≡ false → (spaces_before (rest bs i) == q) && first nb (past_spaces (rest bs i)) && no_marker true (rest bs i) ≡ false → goes_on q (rest bs i) ≡ false
+  stays : IsPastEmpties q (rest bs i) → nat_lt q (j - i) ≡ false → (spaces_before (rest bs i) == q) && first nb (past_spaces (rest bs i)) && no_marker true (rest bs i) ≡ false → goes_on q (rest bs i) ≡ false
   stays past w t = or_from _ _ (or_from _ _ (ap (nat_lt q) s.counts ∙ w) past) t
 
   -- a line with too few spaces doesn't go on
-  pub line_narrow : IsPastGaps q (rest bs i) → j - i < q → goes_on q (rest bs i) ≡ false
+  pub line_narrow : IsPastEmpties q (rest bs i) → j - i < q → goes_on q (rest bs i) ≡ false
   line_narrow past w =
       stays past (le-ltb q (j - i) (omega arith)) (and_left _ _ (and_left _ _ (ap (λ x. x == q) s.counts ∙ ne_eqb (j - i) q (λ e. omega arith))))
 
   -- nor a line with nothing after its spaces
-  pub line_no_text : IsPastGaps q (rest bs i) → j - i ≡ q → first nb (rest bs j) ≡ false → goes_on q (rest bs i) ≡ false
+  pub line_no_text : IsPastEmpties q (rest bs i) → j - i ≡ q → first nb (rest bs j) ≡ false → goes_on q (rest bs i) ≡ false
   line_no_text past w n =
       stays past (le-ltb q (j - i) (omega arith)) (and_left _ _ (and_right (spaces_before (rest bs i) == q) _ (ap (first nb) s.leaves ∙ n)))
 
   -- nor a marker
-  pub line_marked : IsPastGaps q (rest bs i) → j - i ≡ q → marker (rest bs i) ≡ true → goes_on q (rest bs i) ≡ false
+  pub line_marked : IsPastEmpties q (rest bs i) → j - i ≡ q → marker (rest bs i) ≡ true → goes_on q (rest bs i) ≡ false
   line_marked past w e =
       stays past (le-ltb q (j - i) (omega arith)) (and_right ((spaces_before (rest bs i) == q) && first nb (past_spaces (rest bs i))) _ (ap not e))
 
@@ -75,7 +75,7 @@ some_taken : (cs : List ℕ) → first nb cs ≡ true → take_while nb cs ≡ [
 some_taken [] h e = false≢true h
 some_taken (c ∷ cs) h e = let none : c ∷ take_while nb cs ≡ [] = sym (cond-true (nb c) (c ∷ take_while nb cs) [] h) ∙ e in cc
 
-module _ (q : ℕ) (bs : List ℕ) (i : ℕ) (past : IsPastGaps q (rest bs i)) where
+module _ (q : ℕ) (bs : List ℕ) (i : ℕ) (past : IsPastEmpties q (rest bs i)) where
   stepped : (start : ℕ) → IsTextStart q bs i start
       → lines_at q (rest bs i) ≡ on (read_text_line q (rest bs start)) (λ l t. on (lines_at q t) (λ ls after. Some (l ∷ ls, after)))
   stepped start h =
@@ -95,9 +95,9 @@ module _ (q : ℕ) (bs : List ℕ) (i : ℕ) (past : IsPastGaps q (rest bs i)) w
 
   -- a text line is there
   pub line_there : (line : Line) (after : ℕ) → IsTextStart q bs i line.start → AreTaken nb bs line.start line.end → IsStop bs line.end line.has_break after
-      → AreGaps q bs after line.gaps line.next → line.white ≡ first white (rest bs line.start) → IsLine q bs i line
+      → AreEmpties q bs after line.empties line.next → line.white ≡ first white (rest bs line.start) → IsLine q bs i line
   line_there line after h t s g w =
-      let read : TextLine = record { text = take_while nb (rest bs line.start); stop = s.stop; gaps = (gaps_at q (rest bs after)).0 } in
+      let read : TextLine = record { text = take_while nb (rest bs line.start); stop = s.stop; empties = (empties_at q (rest bs after)).0 } in
       let stops : read_stop (drop_while nb (rest bs line.start)) ≡ Some (s.stop, rest bs after) = ap read_stop t.leaves ∙ s.reads in
       let further = s.above in
       let more = g.above in
@@ -105,21 +105,21 @@ module _ (q : ℕ) (bs : List ℕ) (i : ℕ) (past : IsPastGaps q (rest bs i)) w
         after = h.above;
         placed = record {
           above = long line.start line.end h t;
-          gaps_fit = omega arith;
+          empties_fit = omega arith;
           start_boundary = h.boundary;
           end_boundary = t.boundary;
           next_boundary = g.boundary;
-          past = gaps_past q bs after line.gaps line.next g;
+          past = empties_past q bs after line.empties line.next g;
         };
         read = read;
         described = record { begins_white = white_taken (rest bs line.start) ∙ sym w; breaks = s.is_break; empties = g.counts };
         spells = t.takes;
         follows = (let stop : rest bs line.end ≡ optional break_text s.stop ++ rest bs after =
             (sound_is (StopOf (rest bs line.end)) (read_stop (rest bs line.end)) (s.stop, rest bs after) (stop_sound (rest bs line.end)) s.reads).0 in
-            let gaps : rest bs after ≡ gaps_text (gaps_at q (rest bs after)).0 ++ rest bs line.next =
-            (gaps_of_sound (at_most q) (rest bs after)).0 ∙ ap (λ t'. gaps_text (gaps_at q (rest bs after)).0 ++ t') g.leaves in
-            stop ∙ (ap (λ t'. optional break_text s.stop ++ t') gaps ∙ sym (append_assoc (optional break_text s.stop) (gaps_text (gaps_at q (rest bs after)).0) (rest bs line.next))));
+            let empties : rest bs after ≡ block_empties_text (empties_at q (rest bs after)).0 ++ rest bs line.next =
+            (empties_of_sound (at_most q) (rest bs after)).0 ∙ ap (λ t'. block_empties_text (empties_at q (rest bs after)).0 ++ t') g.leaves in
+            stop ∙ (ap (λ t'. optional break_text s.stop ++ t') empties ∙ sym (append_assoc (optional break_text s.stop) (block_empties_text (empties_at q (rest bs after)).0) (rest bs line.next))));
         reads = stepped line.start h
-            ∙ ap (λ (r : Read (Option Break)). on (on r (λ stop t'. let g = gaps_at q t' in Some (record { text = take_while nb (rest bs line.start); stop = stop; gaps = g.0 }, g.1))) (λ l t'. on (lines_at q t') (λ ls after. Some (l ∷ ls, after)))) stops
+            ∙ ap (λ (r : Read (Option Break)). on (on r (λ stop t'. let g = empties_at q t' in Some (record { text = take_while nb (rest bs line.start); stop = stop; empties = g.0 }, g.1))) (λ l t'. on (lines_at q t') (λ ls after. Some (l ∷ ls, after)))) stops
             ∙ ap (λ (t' : List ℕ). on (lines_at q t') (λ ls after. Some (read ∷ ls, after))) g.leaves;
       }

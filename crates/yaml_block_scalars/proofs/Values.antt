@@ -28,8 +28,8 @@ folded_ascii (suc n) k = feeds_ascii (suc n) k
 
 between_ascii : (folded : Bool) (l m : TextLine) → IsAscii (between_lines folded l m)
 between_ascii folded l m =
-    cond_both (not folded || first white l.text || first white m.text) (line_feeds (suc (length l.gaps))) (folded_break (length l.gaps)) IsAscii
-    (λ _. feeds_ascii (suc (length l.gaps))) (λ _. folded_ascii (length l.gaps))
+    cond_both (not folded || first white l.text || first white m.text) (line_feeds (suc (length l.empties))) (folded_break (length l.empties)) IsAscii
+    (λ _. feeds_ascii (suc (length l.empties))) (λ _. folded_ascii (length l.empties))
 
 -- line feeds are characters
 pub chars_feeds : (n : ℕ) → chars (line_feeds n) ≡ line_feeds n
@@ -92,7 +92,7 @@ module _ (q : ℕ) (folded : Bool) (chomping : Chomping) (bs : List ℕ) (openin
       → ((l m : TextLine) → Describes line l → Describes next_line m → more ≡ texted ++ between_lines folded l m) → ArePushedSoFar q folded chomping bs opening start next_line more
   pushed_more line next_line value texted more u v h n t b =
       record {
-        above = let above = h.above in let gap_after = n.after in let within = n.placed.above in let gaps_fit = n.placed.gaps_fit in omega arith;
+        above = let above = h.above in let empty_after = n.after in let within = n.placed.above in let empties_fit = n.placed.empties_fit in omega arith;
         placed = n.placed;
         reads = λ l d s.
             (let k = h.reads l d s in

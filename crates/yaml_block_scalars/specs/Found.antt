@@ -2,9 +2,9 @@
 use Rattle.std.specs.Prelude.{◌≡◌, ℕ, ◌≤◌, Bool, true, List, Some}
 use Rattle.std.specs.Str.{IsCharBoundary, chars}
 use Rattle.yaml_chars.specs.Places.{rest}
-use Rattle.yaml_grammar.specs.BlockScalars.{Body, Gap, TextLine, block_value}
+use Rattle.yaml_grammar.specs.BlockScalars.{Body, BlockEmptyLine, TextLine, block_value}
 use Rattle.yaml_grammar.specs.BlockScalars as grammar
-use Rattle.yaml_recognizers.specs.BlockScalars.{gaps_at, lines_at}
+use Rattle.yaml_recognizers.specs.BlockScalars.{empties_at, lines_at}
 use Rattle.yaml_recognizers.specs.BlockScalarFacts.{IsHeader, IsBody, BodyStands}
 use Rattle.yaml_recognizers.specs.Reading.{on}
 use Rattle.yaml_block_scalars.specs.Meant.{chomping_of}
@@ -27,16 +27,16 @@ pub record IsBodyAt (m : ℕ) (folded : Bool) (header : Header) (text : List ℕ
 pub record IsPieceAt (m : ℕ) (header : Header) (text : List ℕ) (at end : ℕ) : Type 0 where
   pub body : Body
   pub stands : BodyStands header.digit m (rest text at) body (rest text end)
-  pub piece : is_one_piece (chomping_of header.chomping) body.gaps body.texts ≡ true
+  pub piece : is_one_piece (chomping_of header.chomping) body.empties body.texts ≡ true
 
 -- the lines at a place, with the empty lines before them
 pub record AreLines (q : ℕ) (folded : Bool) (chomping : grammar.Chomping) (text : List ℕ) (at : ℕ) (value : List ℕ) (end : ℕ) : Type 0 where
   pub above : at ≤ end
   pub boundary : IsCharBoundary text end
-  pub reads : on (lines_at q (gaps_at q (rest text at)).1) (λ ls after. Some (block_value folded chomping (gaps_at q (rest text at)).0 ls, after))
+  pub reads : on (lines_at q (empties_at q (rest text at)).1) (λ ls after. Some (block_value folded chomping (empties_at q (rest text at)).0 ls, after))
       ≡ Some (chars value, rest text end)
 
 -- what they are where their value is in one piece
 abbrev pub ArePiece : ℕ → grammar.Chomping → List ℕ → Type 0
 ArePiece q chomping text =
-    (ls : List TextLine) × (after : List ℕ) × (lines_at q (gaps_at q text).1 ≡ Some (ls, after)) × (is_one_piece chomping (gaps_at q text).0 ls ≡ true)
+    (ls : List TextLine) × (after : List ℕ) × (lines_at q (empties_at q text).1 ≡ Some (ls, after)) × (is_one_piece chomping (empties_at q text).0 ls ≡ true)

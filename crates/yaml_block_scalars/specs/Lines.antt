@@ -3,31 +3,31 @@ use Rattle.std.specs.Prelude.{◌≡◌, ℕ, ◌+◌, ◌<◌, ◌≤◌, Bool,
 use Rattle.std.specs.Str.{IsCharBoundary, chars}
 use Rattle.yaml_chars.specs.Classes.{white, line_break}
 use Rattle.yaml_chars.specs.Places.{rest, between}
-use Rattle.yaml_grammar.specs.BlockScalars.{Chomping, Gap, TextLine, trailing_line_feeds, goes_on, spaces_before, past_spaces, text_value, widest}
+use Rattle.yaml_grammar.specs.BlockScalars.{Chomping, BlockEmptyLine, TextLine, trailing_line_feeds, goes_on, spaces_before, past_spaces, text_value, widest}
 use Rattle.yaml_grammar.specs.FlowScalars.{line_feeds}
 use Rattle.yaml_grammar.specs.Texts.{first}
-use Rattle.yaml_recognizers.specs.BlockScalars.{all_gaps, gaps_at, lines_at}
+use Rattle.yaml_recognizers.specs.BlockScalars.{all_empties, empties_at, lines_at}
 use Rattle.yaml_recognizers.specs.Reading.{Read, on}
 use Rattle.yaml_block_scalars.specs.Pieces.{is_one_piece, text_after}
 use Rattle.yaml_block_scalars.specs.declared.line.Line.{Line}
 
 -- no empty line of the indentation q is at the start
-abbrev pub IsPastGaps : ℕ → List ℕ → Type 0
-IsPastGaps q text = nat_le (spaces_before text) q && first line_break (past_spaces text) ≡ false
+abbrev pub IsPastEmpties : ℕ → List ℕ → Type 0
+IsPastEmpties q text = nat_le (spaces_before text) q && first line_break (past_spaces text) ≡ false
 
 -- all empty lines of the indentation q from a place on
-pub record AreGaps (q : ℕ) (text : List ℕ) (at count end : ℕ) : Type 0 where
+pub record AreEmpties (q : ℕ) (text : List ℕ) (at count end : ℕ) : Type 0 where
   pub above : at + count ≤ end
   pub boundary : IsCharBoundary text end
-  pub counts : length (gaps_at q (rest text at)).0 ≡ count
-  pub leaves : (gaps_at q (rest text at)).1 ≡ rest text end
+  pub counts : length (empties_at q (rest text at)).0 ≡ count
+  pub leaves : (empties_at q (rest text at)).1 ≡ rest text end
 
 -- all lines of spaces from a place on, of which the widest has so many
 pub record AreLeading (text : List ℕ) (at width end : ℕ) : Type 0 where
   pub above : at ≤ end
   pub boundary : IsCharBoundary text end
-  pub widest_is : widest (all_gaps (rest text at)).0 ≡ width
-  pub leaves : (all_gaps (rest text at)).1 ≡ rest text end
+  pub widest_is : widest (all_empties (rest text at)).0 ≡ width
+  pub leaves : (all_empties (rest text at)).1 ≡ rest text end
 
 -- a line that goes on, and where its text starts
 pub record IsTextStart (q : ℕ) (text : List ℕ) (at start : ℕ) : Type 0 where
@@ -39,17 +39,17 @@ pub record IsTextStart (q : ℕ) (text : List ℕ) (at start : ℕ) : Type 0 whe
 -- the places of a text line
 pub record IsPlaced (q : ℕ) (text : List ℕ) (line : Line) : Type 0 where
   pub above : line.start < line.end
-  pub gaps_fit : line.end + line.gaps ≤ line.next
+  pub empties_fit : line.end + line.empties ≤ line.next
   pub start_boundary : IsCharBoundary text line.start
   pub end_boundary : IsCharBoundary text line.end
   pub next_boundary : IsCharBoundary text line.next
-  pub past : IsPastGaps q (rest text line.next)
+  pub past : IsPastEmpties q (rest text line.next)
 
 -- what is known of a text line
 pub record Describes (line : Line) (l : TextLine) : Type 0 where
   pub begins_white : first white l.text ≡ line.white
   pub breaks : is_some l.stop ≡ line.has_break
-  pub empties : length l.gaps ≡ line.gaps
+  pub empties : length l.empties ≡ line.empties
 
 -- the text line at a place, and what is read from there on
 pub record IsLine (q : ℕ) (text : List ℕ) (at : ℕ) (line : Line) : Type 0 where
@@ -81,15 +81,15 @@ pub record AreFeeds (text : List ℕ) (at count end : ℕ) : Type 0 where
 
 -- No line comes after the text line, no empty line before it, and the line feeds that the value has after its text are
 -- there, up to the end.
-pub record IsPiece (q : ℕ) (chomping : Chomping) (text : List ℕ) (gaps : ℕ) (line : Line) (end : ℕ) : Type 0 where
+pub record IsPiece (q : ℕ) (chomping : Chomping) (text : List ℕ) (empties : ℕ) (line : Line) (end : ℕ) : Type 0 where
   pub last : lines_at q (rest text line.next) ≡ Some ([], rest text line.next)
-  pub none_before : gaps ≡ 0
+  pub none_before : empties ≡ 0
   pub above : line.end ≤ end
   pub boundary : IsCharBoundary text end
   pub spells : (l : TextLine) → Describes line l → between text line.end end ≡ trailing_line_feeds chomping l
 
 -- one of these fails
 abbrev pub IsNoPiece : ℕ → Chomping → List ℕ → ℕ → Line → Type 0
-IsNoPiece q chomping text gaps line =
-    (l : TextLine) (gs : List Gap) (ls : List TextLine) (after : List ℕ) → Describes line l → rest text line.end ≡ text_after l ++ rest text line.next
-    → length gs ≡ gaps → lines_at q (rest text line.next) ≡ Some (ls, after) → is_one_piece chomping gs (l ∷ ls) ≡ false
+IsNoPiece q chomping text empties line =
+    (l : TextLine) (gs : List BlockEmptyLine) (ls : List TextLine) (after : List ℕ) → Describes line l → rest text line.end ≡ text_after l ++ rest text line.next
+    → length gs ≡ empties → lines_at q (rest text line.next) ≡ Some (ls, after) → is_one_piece chomping gs (l ∷ ls) ≡ false

@@ -1,5 +1,5 @@
 // The first line of a block scalar.
-ghost use Rattle.std.specs.Prelude.{◌≡◌, ◌≢◌, ◌≤◌, None, IsTrue, IfOk, IfErr, MatchOption};
+ghost use Rattle.std.specs.Prelude.{◌≡◌, ◌≢◌, ◌≤◌, None, IsTrue, IfOk, IfErr, IfSome, IfNone};
 ghost use Rattle.std.specs.Str.{IsCharBoundary};
 ghost use Rattle.yaml_chars.specs.Places.{rest};
 ghost use Rattle.yaml_events.specs.EventPlaces.{Refuses};
@@ -72,8 +72,8 @@ fn signs_at(text: &str, at: usize) -> (Option<u8>, Chomping, usize)
 /// space, and a break or the end of the text. Returns None where anything else is there.
 fn header_end(text: &str, at: usize) -> Option<usize>
     requires { IsCharBoundary text.now at }
-    ensures { MatchOption result (read_header_end (rest text.now at)
-        ≡ None) (IsHeaderEnd text.now at) }
+    ensures found { IfSome result (IsHeaderEnd text.now at) }
+    ensures none { IfNone result (read_header_end (rest text.now at) ≡ None) }
 {
     if at == text.len() {
         return Some(at);

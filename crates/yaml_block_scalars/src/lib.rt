@@ -15,4 +15,4 @@ mod value;
 
 pub use first_line::header;
 pub use parts::{Chomping, Header};
-pub use scalar::{folded, literal};
+pub use scalar::{folded, least_indent, literal};

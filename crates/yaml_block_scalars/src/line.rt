@@ -1,11 +1,11 @@
 // The lines of a block scalar at an indentation.
-ghost use Rattle.std.specs.Prelude.{◌≡◌, false, [], None, Some, MatchOption, IfOk, IfErr};
+ghost use Rattle.std.specs.Prelude.{◌≡◌, false, [], None, Some, IfSome, IfNone, IfOk, IfErr};
 ghost use Rattle.std.specs.Str.{IsCharBoundary};
 ghost use Rattle.yaml_chars.specs.Places.{rest};
 ghost use Rattle.yaml_events.specs.EventPlaces.{Refuses};
 ghost use Rattle.yaml_grammar.specs.BlockScalars.{goes_on};
 ghost use Rattle.yaml_recognizers.specs.BlockScalars.{lines_at};
-ghost use Rattle.yaml_block_scalars.specs.Lines.{IsPastGaps, AreGaps, IsTextStart, IsLine};
+ghost use Rattle.yaml_block_scalars.specs.Lines.{IsPastEmpties, AreEmpties, IsTextStart, IsLine};
 
 use yaml_events::{ScanFault, Why};
 use yaml_scan::{break_end, is_marker, nb_at, nb_end, spaces_end, stop_at, white_at};
@@ -21,7 +21,7 @@ pub(crate) struct Line {
     /// Whether it has a break.
     pub(crate) has_break: bool,
     /// The number of empty lines after it.
-    pub(crate) gaps: usize,
+    pub(crate) empties: usize,
     /// Where the line after those starts.
     pub(crate) next: usize,
 }
@@ -30,7 +30,7 @@ pub(crate) struct Line {
 /// and a break.
 pub(crate) fn empty_lines(text: &str, at: usize, indent: usize) -> (usize, usize)
     requires { IsCharBoundary text.now at }
-    ensures { AreGaps indent text.now at result.0 result.1 }
+    ensures { AreEmpties indent text.now at result.0 result.1 }
 {
     let mut count = 0;
     let mut place = at;
@@ -51,9 +51,9 @@ pub(crate) fn empty_lines(text: &str, at: usize, indent: usize) -> (usize, usize
 /// empty line is at `at`.
 pub(crate) fn text_start(text: &str, at: usize, indent: usize) -> Option<usize>
     requires boundary { IsCharBoundary text.now at }
-    requires past { IsPastGaps indent (rest text.now at) }
-    ensures { MatchOption result (goes_on indent (rest text.now at)
-        ≡ false) (IsTextStart indent text.now at) }
+    requires past { IsPastEmpties indent (rest text.now at) }
+    ensures found { IfSome result (IsTextStart indent text.now at) }
+    ensures none { IfNone result (goes_on indent (rest text.now at) ≡ false) }
 {
     let end = spaces_end(text, at);
     let width = end - at;
@@ -78,11 +78,11 @@ pub(crate) fn text_start(text: &str, at: usize, indent: usize) -> Option<usize>
 /// [`ScanFault::At`] where the text of the line ends neither in a break nor at the end of the text.
 pub(crate) fn text_line(text: &str, at: usize, indent: usize) -> Result<Option<Line>, ScanFault>
     requires boundary { IsCharBoundary text.now at }
-    requires past { IsPastGaps indent (rest text.now at) }
-    ensures found { IfOk result (λ found.
-        MatchOption found (lines_at indent (rest text.now at) ≡ Some ([], rest text.now at))
-        (IsLine indent text.now at)) }
-    ensures none { IfErr result (λ fault.
+    requires past { IsPastEmpties indent (rest text.now at) }
+    ensures found { IfOk result (λ found. IfSome found (IsLine indent text.now at)) }
+    ensures none { IfOk result (λ found.
+        IfNone found (lines_at indent (rest text.now at) ≡ Some ([], rest text.now at))) }
+    ensures fails { IfErr result (λ fault.
         Refuses fault (lines_at indent (rest text.now at) ≡ None)) }
 {
     let Some(start) = text_start(text, at, indent) else {
@@ -95,13 +95,13 @@ pub(crate) fn text_line(text: &str, at: usize, indent: usize) -> Result<Option<L
             why: Why::Character,
         });
     };
-    let (gaps, next) = empty_lines(text, stop.next, indent);
+    let (empties, next) = empty_lines(text, stop.next, indent);
     Ok(Some(Line {
         start,
         end,
         white: white_at(text, start),
         has_break: stop.has_break,
-        gaps,
+        empties,
         next,
     }))
 }

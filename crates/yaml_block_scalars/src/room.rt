@@ -12,11 +12,11 @@ const FIRST_ROOM: usize = 128;
 const LONG_ROOM: usize = 4_096;
 
 /// Returns how many bytes a value has room for at first.
-pub(crate) fn first_room(gaps: usize, line: Line) -> usize
+pub(crate) fn first_room(empties: usize, line: Line) -> usize
     requires { line.start ≤ line.end }
 {
     FIRST_ROOM
-        .saturating_add(gaps)
+        .saturating_add(empties)
         .saturating_add(line.end - line.start)
 }
 

@@ -1,12 +1,12 @@
 // Block scalars after their headers.
-ghost use Rattle.std.specs.Prelude.{◌≡◌, ◌≤◌, ◌^◌, ◌≤ℤ◌, negsuc, true, false, [], None, Some, IfOk, IfErr, MatchOption, length, string_bytes};
+ghost use Rattle.std.specs.Prelude.{◌≡◌, ◌≤◌, ◌^◌, ◌≤ℤ◌, negsuc, true, false, [], None, Some, IfOk, IfErr, IfSome, IfNone, length, string_bytes};
 ghost use Rattle.std.specs.Cow.{cow_str_bytes, IsBorrowedStr};
 ghost use Rattle.std.specs.Str.{IsCharBoundary, chars};
 ghost use Rattle.yaml_chars.specs.Places.{rest};
 ghost use Rattle.yaml_events.specs.EventPlaces.{Refuses};
 ghost use Rattle.yaml_grammar.specs.FlowScalars.{line_feeds};
 ghost use Rattle.yaml_grammar.specs.Texts.{begins};
-ghost use Rattle.yaml_recognizers.specs.BlockScalars.{find_indent, gaps_at, lines_at};
+ghost use Rattle.yaml_recognizers.specs.BlockScalars.{find_indent, empties_at, lines_at};
 ghost use Rattle.yaml_recognizers.specs.BlockScalarFacts.{NoBody};
 ghost use Rattle.yaml_block_scalars.specs.Found.{IsBodyAt, IsPieceAt, AreLines, ArePiece};
 ghost use Rattle.yaml_block_scalars.specs.Lines.{AreFeeds, IsPlaced, IsPiece, IsNoPiece, ArePushed};
@@ -60,8 +60,8 @@ fn push_lines(
 /// Returns the end of `count` line feeds at `at`. Returns None where anything else is there.
 fn feeds_end(text: &str, at: usize, count: usize) -> Option<usize>
     requires { IsCharBoundary text.now at }
-    ensures { MatchOption result (begins (line_feeds count) (rest text.now at)
-        ≡ false) (AreFeeds text.now at count) }
+    ensures found { IfSome result (AreFeeds text.now at count) }
+    ensures none { IfNone result (begins (line_feeds count) (rest text.now at) ≡ false) }
 {
     let bytes = text.as_bytes();
     let mut end = at;
@@ -78,20 +78,21 @@ fn feeds_end(text: &str, at: usize, count: usize) -> Option<usize>
 }
 
 /// Returns where the value ends in the text, if the text has it in one piece from the start of `line`
-/// on. Returns None otherwise. `line` is the first text line, and `gaps` counts the empty lines before
+/// on. Returns None otherwise. `line` is the first text line, and `empties` counts the empty lines before
 /// it.
 fn piece_end(
     text: &str,
-    gaps: usize,
+    empties: usize,
     line: Line,
     indent: usize,
     chomping: Chomping,
 ) -> Option<usize>
     requires { IsPlaced indent text.now line }
-    ensures { MatchOption result (IsNoPiece indent (chomping_of chomping) text.now gaps line)
-        (IsPiece indent (chomping_of chomping) text.now gaps line) }
+    ensures found { IfSome result (IsPiece indent (chomping_of chomping) text.now empties line) }
+    ensures none { IfNone result
+        (IsNoPiece indent (chomping_of chomping) text.now empties line) }
 {
-    if gaps > 0 {
+    if empties > 0 {
         return None;
     }
     let Some(end) = feeds_end(text, line.end, feeds_after(chomping, line)) else {
@@ -118,24 +119,44 @@ fn lines<'a>(
     ensures borrowed { IfOk result (λ found.
         ArePiece indent (chomping_of style.chomping) (rest text.now at) → IsBorrowedStr found.0) }
     ensures none { IfErr result (λ fault.
-        Refuses fault (lines_at indent (gaps_at indent (rest text.now at)).1 ≡ None)) }
+        Refuses fault (lines_at indent (empties_at indent (rest text.now at)).1 ≡ None)) }
 {
-    let (gaps, place) = empty_lines(text, at, indent);
+    let (empties, place) = empty_lines(text, at, indent);
     let Some(line) = text_line(text, place, indent)? else {
-        return Ok((no_lines(alloc, style.chomping, gaps)?, place));
+        return Ok((no_lines(alloc, style.chomping, empties)?, place));
     };
-    if let Some(end) = piece_end(text, gaps, line, indent, style.chomping) {
+    if let Some(end) = piece_end(text, empties, line, indent, style.chomping) {
         return Ok((CowStr::Borrowed(&text[line.start..end]), line.next));
     }
-    let mut value = String::with_capacity(alloc, first_room(gaps, line))?;
-    push_line_feeds(&mut value, gaps)?;
-    let end = push_lines(&mut value, text, line, indent, style)?;
+    joined_lines(alloc, text, empties, line, indent, style)
+}
+
+/// Returns the value of so many empty lines, the text line `first` and all lines after it, and where they end.
+fn joined_lines<'a>(
+    alloc: Global,
+    text: &str,
+    empties: usize,
+    first: Line,
+    indent: usize,
+    style: Style,
+) -> Result<(CowStr<'a>, usize), ScanFault>
+    requires { IsPlaced indent text.now first }
+    ensures found { IfOk result (λ found. ArePushed indent style.folded
+        (chomping_of style.chomping) text.now first (line_feeds empties)
+        (cow_str_bytes found.0) found.1) }
+    ensures none { IfErr result (λ fault.
+        Refuses fault (lines_at indent (rest text.now first.next) ≡ None)) }
+{
+    let mut value = String::with_capacity(alloc, first_room(empties, first))?;
+    push_line_feeds(&mut value, empties)?;
+    let end = push_lines(&mut value, text, first, indent, style)?;
     give_back_room(&mut value);
     Ok((CowStr::Owned(value), end))
 }
 
-/// Returns the least indentation of a scalar below an indentation of `n`.
-fn least_indent(n: i64) -> usize
+/// Returns the least indentation of a node or a scalar below an indentation of `n`, which is -1 at the top of a
+/// document.
+pub fn least_indent(n: i64) -> usize
     ensures value { result ≡ least_indent n }
     ensures fits { result ≤ 2 ^ 63 }
 {
@@ -189,7 +210,8 @@ fn body<'a>(
     ensures found { IfOk result (λ found.
         IsBodyAt (least_indent n) (is_folded form) header.now text.now at
         (cow_str_bytes found.0) found.1) }
-    ensures line { IsLineStart text.now at → IfOk result (λ found. IsLineStart text.now found.1) }
+    ensures line { IsLineStart text.now at
+        → IfOk result (λ found. IsLineStart text.now found.1) }
     ensures borrowed { IfOk result (λ found.
         IsPieceAt (least_indent n) header.now text.now at found.1 → IsBorrowedStr found.0) }
     ensures none { IfErr result (λ fault.
@@ -229,7 +251,8 @@ pub fn literal<'a>(
     requires below { negsuc 0 ≤ℤ n }
     ensures found { IfOk result (λ found.
         IsBodyAt (least_indent n) false header.now text.now at (cow_str_bytes found.0) found.1) }
-    ensures line { IsLineStart text.now at → IfOk result (λ found. IsLineStart text.now found.1) }
+    ensures line { IsLineStart text.now at
+        → IfOk result (λ found. IsLineStart text.now found.1) }
     ensures borrowed { IfOk result (λ found.
         IsPieceAt (least_indent n) header.now text.now at found.1 → IsBorrowedStr found.0) }
     ensures none { IfErr result (λ fault.
@@ -254,7 +277,8 @@ pub fn folded<'a>(
     requires below { negsuc 0 ≤ℤ n }
     ensures found { IfOk result (λ found.
         IsBodyAt (least_indent n) true header.now text.now at (cow_str_bytes found.0) found.1) }
-    ensures line { IsLineStart text.now at → IfOk result (λ found. IsLineStart text.now found.1) }
+    ensures line { IsLineStart text.now at
+        → IfOk result (λ found. IsLineStart text.now found.1) }
     ensures borrowed { IfOk result (λ found.
         IsPieceAt (least_indent n) header.now text.now at found.1 → IsBorrowedStr found.0) }
     ensures none { IfErr result (λ fault.

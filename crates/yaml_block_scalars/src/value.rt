@@ -15,7 +15,7 @@ use yaml_scan::push_line_feeds;
 
 /// Returns how many line feeds follow the last text line in the value.
 pub(crate) fn feeds_after(chomping: Chomping, line: Line) -> usize
-    requires { line.gaps < usize.MAX }
+    requires { line.empties < usize.MAX }
     ensures { (l : TextLine) → Describes line l → line_feeds result
         ≡ trailing_line_feeds (chomping_of chomping) l }
 {
@@ -23,17 +23,17 @@ pub(crate) fn feeds_after(chomping: Chomping, line: Line) -> usize
     match chomping {
         Chomping::Strip => 0,
         Chomping::Clip => of_break,
-        Chomping::Keep => of_break + line.gaps,
+        Chomping::Keep => of_break + line.empties,
     }
 }
 
 /// Returns how many line feeds the value has where there is no text line.
-fn kept_feeds(chomping: Chomping, gaps: usize) -> usize
-    ensures { line_feeds result ≡ value_without_lines (chomping_of chomping) gaps }
+fn kept_feeds(chomping: Chomping, empties: usize) -> usize
+    ensures { line_feeds result ≡ value_without_lines (chomping_of chomping) empties }
 {
     match chomping {
         Chomping::Strip | Chomping::Clip => 0,
-        Chomping::Keep => gaps,
+        Chomping::Keep => empties,
     }
 }
 
@@ -44,31 +44,31 @@ pub(crate) fn push_between(
     line: Line,
     next: Line,
 ) -> Result<(), AllocError>
-    requires { line.gaps < usize.MAX }
+    requires { line.empties < usize.MAX }
     ensures { OnOk result ((l m : TextLine) → Describes line l → Describes next m
         → string_bytes value.new ≡ string_bytes value.old ++ between_lines folded l m) }
 {
     if !folded || line.white || next.white {
-        return push_line_feeds(value, line.gaps + 1);
+        return push_line_feeds(value, line.empties + 1);
     }
-    if line.gaps == 0 {
+    if line.empties == 0 {
         return value.push(' ');
     }
-    push_line_feeds(value, line.gaps)
+    push_line_feeds(value, line.empties)
 }
 
 /// Returns the value where there are so many empty lines and no text line.
 pub(crate) fn no_lines<'a>(
     alloc: Global,
     chomping: Chomping,
-    gaps: usize,
+    empties: usize,
 ) -> Result<CowStr<'a>, AllocError>
     ensures value { IfOk result (λ value. cow_str_bytes value
-        ≡ value_without_lines (chomping_of chomping) gaps) }
-    ensures borrowed { is_empty (value_without_lines (chomping_of chomping) gaps) ≡ true
+        ≡ value_without_lines (chomping_of chomping) empties) }
+    ensures borrowed { is_empty (value_without_lines (chomping_of chomping) empties) ≡ true
         → IfOk result IsBorrowedStr }
 {
-    let feeds = kept_feeds(chomping, gaps);
+    let feeds = kept_feeds(chomping, empties);
     if feeds == 0 {
         return Ok(CowStr::Borrowed(""));
     }

@@ -87,8 +87,7 @@ impl Part {
                 *self = Part::Root(tree);
                 Ok(())
             }
-            Part::Root(_) => Err(ReadFault::KeyNotText),
-            Part::Whole(_) => Err(ReadFault::KeyNotText),
+            Part::Root(_) | Part::Whole(_) => Err(ReadFault::KeyNotText),
             Part::Seq(items) => {
                 items.push(tree)?;
                 Ok(())
@@ -268,10 +267,10 @@ impl Builder {
     }
 
     /// The tree of the document. Returns `KeyNotText` if the document has not ended.
-    fn finish(mut self) -> Result<Tree, ReadFault>
+    fn finish(&mut self) -> Result<Tree, ReadFault>
         ensures { MatchResult result
-            (λ tree. finished_tree (frames_of self.parts.items) ≡ Some (tree_of tree))
-            (HasNone (finished_tree (frames_of self.parts.items))) }
+            (λ tree. finished_tree (frames_of self.old.parts.items) ≡ Some (tree_of tree))
+            (HasNone (finished_tree (frames_of self.old.parts.items))) }
     {
         let last = self.pop()?;
         if !self.parts.is_empty() {

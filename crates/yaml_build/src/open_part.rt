@@ -158,7 +158,8 @@ impl OpenParts {
     /// Opens a part inside the innermost one.
     fn push(&mut self, part: OpenPart) -> Result<(), ReadFault>
         ensures { MatchResult result
-            (λ _. open_frames self.new.parts.items ≡ open_frame part ∷ open_frames self.old.parts.items)
+            (λ _. open_frames self.new.parts.items
+            ≡ open_frame part ∷ open_frames self.old.parts.items)
             (λ fault. fault ≡ ReadFault.OutOfMemory) }
     {
         self.parts.push(part)?;

@@ -1,6 +1,6 @@
 -- Classes of characters, over code points (YAML 1.2.2, chapter 5).
 use Rattle.std.specs.Prelude.{ℕ, Bool, false, not, ◌&&◌, ◌||◌, nat_le, ◌==◌, List, [], ◌∷◌, codes}
-use Rattle.yaml_chars.specs.Signs.{tab, line_feed, carriage_return, space_char, byte_order_mark}
+use Rattle.yaml_chars.specs.Signs.{tab, line_feed, carriage_return, space_char, next_line, byte_order_mark}
 
 -- from low to high, both included
 abbrev pub in_range : ℕ → ℕ → ℕ → Bool
@@ -18,7 +18,7 @@ code_point c = in_range 0 0xd7ff c || in_range 0xe000 0x10ffff c
 -- [1] c-printable, 5.1
 abbrev pub printable : ℕ → Bool
 printable c =
-    is_in c (9 ∷ 10 ∷ 13 ∷ 0x85 ∷ []) || in_range 0x20 0x7e c || in_range 0xa0 0xd7ff c || in_range 0xe000 0xfffd c
+    is_in c (tab ∷ line_feed ∷ carriage_return ∷ next_line ∷ []) || in_range 0x20 0x7e c || in_range 0xa0 0xd7ff c || in_range 0xe000 0xfffd c
     || in_range 0x10000 0x10ffff c
 
 -- [2] nb-json, 5.1: TAB, and everything from the space on

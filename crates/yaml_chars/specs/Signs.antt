@@ -77,6 +77,10 @@ dot = 46
 abbrev pub digit_zero : ℕ
 digit_zero = 48
 
+-- `1`
+abbrev pub digit_one : ℕ
+digit_one = 49
+
 -- `:`
 abbrev pub colon : ℕ
 colon = 58

@@ -21,7 +21,7 @@ use thiserror::Error;
 #[derive(Clone, Copy, Debug, PartialEq, Eq, Error)]
 pub enum CharFault {
     /// The bytes are not UTF-8.
-    #[error("NotUtf8")]
+    #[error("the bytes are not UTF-8 after the first {at}")]
     NotUtf8 {
         /// The length in bytes of the longest prefix that is UTF-8.
         at: usize,

@@ -1,3 +1,4 @@
 pub mod Keys
+pub mod OwnLimits
 pub mod Seen
 pub mod TextBytes

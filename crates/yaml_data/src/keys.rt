@@ -1,8 +1,8 @@
 // Whether keys differ (YAML 1.2.2, 3.2.1.3).
-ghost use Rattle.std.specs.Prelude.{◌≡◌, ◌+◌, ◌&&◌, true, IfOk, MatchOption};
+ghost use Rattle.std.specs.Prelude.{◌≡◌, ◌+◌, ◌<◌, ◌&&◌, true, IfOk, MatchOption};
 ghost use Rattle.std.specs.Str.{chars};
 ghost use Rattle.yaml_grammar.specs.Trees.{distinct, has_key};
-ghost use Rattle.yaml_data.specs.Keys.{key_members, keys_differ, own_keys_differ, level_distinct, level_nodes, nodes};
+ghost use Rattle.yaml_data.specs.Keys.{key_members, keys_differ, own_keys_differ, level_distinct, levels_distinct, level_nodes, nodes, steps_left};
 ghost use Rattle.yaml_data.specs.Seen.{tree_of};
 
 use crate::{Text, Tree};
@@ -23,14 +23,9 @@ pub fn has_distinct_keys(alloc: Global, tree: &Tree) -> Result<bool, AllocError>
     let mut levels = Vec::new(alloc);
     levels.push(Level::inside(tree))?;
     while let Some(level) = levels.pop() {
-        let Some((first, rest)) = level.split_first() else {
-            continue;
-        };
-        if !have_own_keys_distinct(alloc, first)? {
+        if !level.first_differs(alloc, &mut levels)? {
             return Ok(false);
         }
-        levels.push(rest)?;
-        levels.push(Level::inside(first))?;
     }
     Ok(true)
 }
@@ -76,6 +71,27 @@ impl<'t> Level<'t> {
                 Some((&first.1, Level::Values(rest)))
             }
         }
+    }
+
+    /// Whether the own keys of its first value differ. What comes after that value and what is inside it are then put
+    /// onto the levels that are left.
+    #[inline(always)]
+    fn first_differs(self, alloc: Global, left: &mut Vec<Level<'t>>) -> Result<bool, AllocError>
+        ensures keys { IfOk result (λ answer.
+            (levels_distinct left.old.items && level_distinct self.entry)
+            ≡ (answer && levels_distinct left.new.items)) }
+        ensures size { IfOk result (λ _. steps_left left.new.items
+            < steps_left left.old.items + 1 + level_nodes self.entry + level_nodes self.entry) }
+    {
+        let Some((first, rest)) = self.split_first() else {
+            return Ok(true);
+        };
+        if !have_own_keys_distinct(alloc, first)? {
+            return Ok(false);
+        }
+        left.push(rest)?;
+        left.push(Level::inside(first))?;
+        Ok(true)
     }
 }
 

@@ -32,7 +32,8 @@ impl Short {
     /// A copy of a text, if it is short enough.
     #[inline]
     pub(crate) fn new(text: &str) -> Option<Short>
-        ensures { MatchOption result (23 < length text.now) (λ short. short_bytes short ≡ text.now) }
+        ensures { MatchOption result (23 < length text.now)
+            (λ short. short_bytes short ≡ text.now) }
     {
         let len = text.len();
         if len > ROOM {

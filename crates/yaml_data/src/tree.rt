@@ -1,6 +1,7 @@
 // A tree of texts: its depth and its copy.
 ghost use Rattle.std.specs.Prelude.{◌≡◌, ◌≤◌, min, nat_lt, IfOk};
 ghost use Rattle.yaml_grammar.specs.Trees.{depth, elements_depth, members_depth};
+ghost use Rattle.yaml_data.specs.OwnLimits.{own_limits};
 ghost use Rattle.yaml_data.specs.Seen.{tree_of, elements_of, members_of};
 
 use crate::Text;
@@ -43,7 +44,7 @@ impl Tree {
     /// don't count. The call stack grows with the depth, which therefore is at most 66;
     /// [`is_deeper_than`](Tree::is_deeper_than) tests that.
     pub fn depth(&self) -> u64
-        requires { depth (tree_of self.now) ≤ 66 }
+        requires { depth (tree_of self.now) ≤ own_limits.depth }
         ensures { result ≡ depth (tree_of self.now) }
     {
         depth_of(self)
@@ -52,7 +53,7 @@ impl Tree {
     /// A copy: a tree of the same texts in the same order. Only running out of memory can fail. The call stack grows
     /// with the depth, which therefore is at most 66; [`is_deeper_than`](Tree::is_deeper_than) tests that.
     pub fn try_copy(&self, alloc: Global) -> Result<Tree, AllocError>
-        requires { depth (tree_of self.now) ≤ 66 }
+        requires { depth (tree_of self.now) ≤ own_limits.depth }
         ensures { IfOk result (λ copy. tree_of copy ≡ tree_of self.now) }
     {
         copied(alloc, self)

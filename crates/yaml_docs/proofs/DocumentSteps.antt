@@ -27,7 +27,7 @@ use Rattle.yaml_recognizers.specs.Comments.{all_comments, closes_line}
 use Rattle.yaml_recognizers.specs.Ends.{block_node_stops}
 use Rattle.yaml_recognizers.specs.Reading.{Read, on}
 use Rattle.yaml_recognizers.specs.Recognizers.{document_node_at}
-use Rattle.yaml_recognizers.specs.Streams.{explicit_with, mark_at, order_mark, read_directed, read_explicit, suffix_with}
+use Rattle.yaml_recognizers.specs.Streams.{explicit_with, marker_of, order_mark, read_directed, read_explicit, suffix_with}
 use Rattle.yaml_recognizers.proofs.Documents.StreamsBegin.{marked}
 use Rattle.yaml_recognizers.proofs.Documents.StreamsComplete.{begins_split}
 use Rattle.yaml_scan.proofs.LineStarts.{starts_after}
@@ -44,11 +44,11 @@ use Rattle.yaml_docs.proofs.TextPlaces.{StandsUpTo, place_after}
 -- ---- markers
 
 -- `---` is at the place
-pub dashes_there : (bs : List ℕ) (at : ℕ) → IsUtf8 bs → IsCharBoundary bs at → mark_at 45 (rest bs at) ≡ true → StandsUpTo bs at (codes "---") (drop 3 (rest bs at)) (at + 3)
+pub dashes_there : (bs : List ℕ) (at : ℕ) → IsUtf8 bs → IsCharBoundary bs at → marker_of 45 (rest bs at) ≡ true → StandsUpTo bs at (codes "---") (drop 3 (rest bs at)) (at + 3)
 dashes_there bs at u b h = place_after bs at (codes "---") (drop 3 (rest bs at)) u b (begins_split (codes "---") (rest bs at) (and_parts _ _ h).0)
 
 -- `...` is at the place
-pub dots_there : (bs : List ℕ) (at : ℕ) → IsUtf8 bs → IsCharBoundary bs at → mark_at 46 (rest bs at) ≡ true → StandsUpTo bs at (codes "...") (drop 3 (rest bs at)) (at + 3)
+pub dots_there : (bs : List ℕ) (at : ℕ) → IsUtf8 bs → IsCharBoundary bs at → marker_of 46 (rest bs at) ≡ true → StandsUpTo bs at (codes "...") (drop 3 (rest bs at)) (at + 3)
 dots_there bs at u b h = place_after bs at (codes "...") (drop 3 (rest bs at)) u b (begins_split (codes "...") (rest bs at) (and_parts _ _ h).0)
 
 -- if the line of a `...` goes on, there is no suffix
@@ -69,7 +69,7 @@ pub some_left : (bs : List ℕ) (at : ℕ) → IsUtf8 bs → IsCharBoundary bs a
 some_left bs at u b l = ap is_empty (char_at bs at u b l).1.splits
 
 -- no line starts after a `---`
-pub inside_line : (bs : List ℕ) (at : ℕ) → IsUtf8 bs → IsCharBoundary bs at → mark_at 45 (rest bs at) ≡ true → line_starts bs (at + 3) ≡ false
+pub inside_line : (bs : List ℕ) (at : ℕ) → IsUtf8 bs → IsCharBoundary bs at → marker_of 45 (rest bs at) ≡ true → line_starts bs (at + 3) ≡ false
 inside_line bs at u b h =
     let s = dashes_there bs at u b h in
     starts_after bs at (at + 3) (codes "--") 45 u (omega arith) b s.boundary s.is refl
@@ -119,13 +119,13 @@ pub node_missing : (text : List ℕ) (c : List LineEnd × List ℕ) → omits 0 
 node_missing text c h e = rw (h, e) refl
 
 -- what follows a `---` is read
-pub explicit_is : (text after : List ℕ) (r : Read Explicit) → mark_at 45 text ≡ true → after ≡ drop 3 text → explicit_with document_node_at after (all_comments false after) ≡ r
+pub explicit_is : (text after : List ℕ) (r : Read Explicit) → marker_of 45 text ≡ true → after ≡ drop 3 text → explicit_with document_node_at after (all_comments false after) ≡ r
     → read_explicit document_node_at text ≡ r
 unfolding read_explicit
 explicit_is text after r h e k = rw h (subst (λ (t : List ℕ). explicit_with document_node_at t (all_comments false t) ≡ r) e k)
 
 -- without a `---` there is no explicit document
-pub no_explicit : (node_at : Bool → List ℕ → Read Node) (text : List ℕ) → mark_at 45 text ≡ false → read_explicit node_at text ≡ None
+pub no_explicit : (node_at : Bool → List ℕ → Read Node) (text : List ℕ) → marker_of 45 text ≡ false → read_explicit node_at text ≡ None
 unfolding read_explicit
 no_explicit node_at text h = rw h refl
 
@@ -176,7 +176,7 @@ nothing_read bs at old new end event o e m b =
     }
 
 -- between the events of a document's start and end
-pub explicit_found : (bs : List ℕ) (at : ℕ) (old one two new : List Event) (end : ℕ) → mark_at 45 (rest bs at) ≡ true → rest bs (at + 3) ≡ drop 3 (rest bs at)
+pub explicit_found : (bs : List ℕ) (at : ℕ) (old one two new : List Event) (end : ℕ) → marker_of 45 (rest bs at) ≡ true → rest bs (at + 3) ≡ drop 3 (rest bs at)
     → one ≡ old ++ DocStart ∷ [] → new ≡ two ++ DocEnd ∷ [] → ExplicitNodeRead bs (at + 3) one two end → ExplicitRead bs at old new end
 explicit_found bs at old one two new end h l e f r =
     record {
@@ -244,11 +244,11 @@ document_found bs at line old new end d r =
     record {
       boundary = r.boundary;
       starts = r.starts;
-      document = directed d.blank d.first_version d.comments r.document;
-      reads = d.reads document_node_at ∙ ap (λ (x : Read Explicit). on x (λ y after. Some (directed d.blank d.first_version d.comments y, after))) found;
+      document = directed d.blank d.version d.comments r.document;
+      reads = d.reads document_node_at ∙ ap (λ (x : Read Explicit). on x (λ y after. Some (directed d.blank d.version d.comments y, after))) found;
       appended = subst (λ (place : ℕ). Appended bs old new (explicit_events r.document place)) d.place r.appended;
     }
 
 -- if there is none, none is read
 pub document_missing : (bs : List ℕ) (at : ℕ) (line : Line) → IsDirective bs at line → read_explicit document_node_at (rest bs line.start) ≡ None → read_directed document_node_at (rest bs at) ≡ None
-document_missing bs at line d h = d.reads document_node_at ∙ ap (λ (x : Read Explicit). on x (λ y after. Some (directed d.blank d.first_version d.comments y, after))) h
+document_missing bs at line d h = d.reads document_node_at ∙ ap (λ (x : Read Explicit). on x (λ y after. Some (directed d.blank d.version d.comments y, after))) h

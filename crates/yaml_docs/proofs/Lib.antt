@@ -9,3 +9,4 @@ pub mod Words
 pub mod StreamSteps
 pub mod Readings
 pub mod CutLines
+pub mod NodesInBytes

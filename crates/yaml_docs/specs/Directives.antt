@@ -1,11 +1,11 @@
 -- The `%YAML` directive at a place of a text.
-use Rattle.std.specs.Prelude.{◌≡◌, ℕ, ◌+◌, ◌≤◌, Bool, true, false, List, ◌++◌, Some, None, drop, codes, if◌then◌else◌}
+use Rattle.std.specs.Prelude.{◌≡◌, ℕ, ◌+◌, ◌≤◌, Bool, true, false, List, ◌++◌, Some, None, drop, codes}
 use Rattle.std.specs.Str.{IsCharBoundary}
 use Rattle.yaml_chars.specs.Classes.{white}
 use Rattle.yaml_chars.specs.Places.{rest}
 use Rattle.yaml_grammar.specs.BlockNodes.{Node}
 use Rattle.yaml_grammar.specs.Separation.{LineEnd}
-use Rattle.yaml_grammar.specs.Streams.{directed, directive_text}
+use Rattle.yaml_grammar.specs.Streams.{directed, directive_text, Version, version_text}
 use Rattle.yaml_grammar.specs.Texts.{byte_len}
 use Rattle.yaml_recognizers.specs.Comments.{all_comments}
 use Rattle.yaml_recognizers.specs.Reading.{Read, on}
@@ -17,9 +17,9 @@ use Rattle.yaml_scan.specs.declared.lines.Line.{Line}
 pub record IsVersion (text : List ℕ) (at end : ℕ) : Type 0 where
   pub boundary : IsCharBoundary text end
   pub blank : List ℕ
-  pub first_version : Bool
-  pub spells : rest text at ≡ codes "%YAML" ++ (blank ++ ((if first_version then codes "1.1" else codes "1.2") ++ rest text end))
-  pub reads : (node_at : Bool → List ℕ → Read Node) → read_directed node_at (rest text at) ≡ directed_with node_at blank first_version (all_comments false (rest text end))
+  pub version : Version
+  pub spells : rest text at ≡ codes "%YAML" ++ (blank ++ (version_text version ++ rest text end))
+  pub reads : (node_at : Bool → List ℕ → Read Node) → read_directed node_at (rest text at) ≡ directed_with node_at blank version (all_comments false (rest text end))
 
 -- whatever the nodes are, no document with a directive begins there
 abbrev pub NoDirective : List ℕ → Type 0
@@ -31,8 +31,8 @@ pub record IsDirective (text : List ℕ) (at : ℕ) (line : Line) : Type 0 where
   pub starts : IsLineStart text line.start
   pub first : IsCharBoundary text line.first
   pub blank : List ℕ
-  pub first_version : Bool
+  pub version : Version
   pub comments : List LineEnd
-  pub place : line.start ≡ at + byte_len (directive_text blank first_version comments)
+  pub place : line.start ≡ at + byte_len (directive_text blank version comments)
   pub reads : (node_at : Bool → List ℕ → Read Node) → read_directed node_at (rest text at)
-      ≡ on (read_explicit node_at (rest text line.start)) (λ x after. Some (directed blank first_version comments x, after))
+      ≡ on (read_explicit node_at (rest text line.start)) (λ x after. Some (directed blank version comments x, after))

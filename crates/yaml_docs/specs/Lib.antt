@@ -5,3 +5,4 @@ pub mod Documents
 pub mod Directives
 pub mod Cutting
 pub mod LineBegun
+pub mod NodesInBytes

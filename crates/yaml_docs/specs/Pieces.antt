@@ -15,7 +15,7 @@ use Rattle.yaml_recognizers.specs.Comments.{all_comments}
 use Rattle.yaml_recognizers.specs.Reading.{Read, on}
 use Rattle.yaml_recognizers.specs.Recognizers.{document_node_at, piece_at, pieces_at, stream_at}
 use Rattle.yaml_chars.specs.Signs.{dash, dot}
-use Rattle.yaml_recognizers.specs.Streams.{mark_at, order_mark, read_directed, read_explicit, suffix_with}
+use Rattle.yaml_recognizers.specs.Streams.{marker_of, order_mark, read_directed, read_explicit, suffix_with}
 use Rattle.yaml_scan.specs.Lines.{IsLineStart}
 use Rattle.yaml_flow.specs.FlowNodes.{Appended}
 use Rattle.yaml_docs.specs.declared.documents.Piece.{Piece}
@@ -62,8 +62,8 @@ ends_document Bare = false
 
 -- a piece with a marker begins with it
 abbrev pub Begins : Piece → List ℕ → Type 0
-Begins Suffix text = mark_at dot text ≡ true
-Begins Explicit text = mark_at dash text ≡ true
+Begins Suffix text = marker_of dot text ≡ true
+Begins Explicit text = marker_of dash text ≡ true
 Begins Directed text = Unit {0}
 Begins Bare text = Unit {0}
 

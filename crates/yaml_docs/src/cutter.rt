@@ -19,14 +19,14 @@ pub struct Fed {
     pub closed: bool,
 }
 
-/// Why a [`Cutter`] takes no bytes.
+/// Why a [`Cutter`] takes no bytes. `Display` says it in a sentence.
 #[derive(Clone, Copy, Debug, PartialEq, Eq, Error)]
 pub enum CutFault {
     /// The piece would have more bytes than it may.
-    #[error("TooLong")]
+    #[error("the piece is longer than the limit")]
     TooLong,
     /// Out of memory.
-    #[error("OutOfMemory")]
+    #[error("out of memory")]
     OutOfMemory,
 }
 

@@ -10,7 +10,7 @@ ghost use Rattle.yaml_recognizers.specs.CanonicalComments.{is_line_end};
 ghost use Rattle.yaml_recognizers.specs.Comments.{all_comments};
 ghost use Rattle.yaml_recognizers.specs.Recognizers.{piece_at};
 ghost use Rattle.yaml_chars.specs.Signs.{dash, dot};
-ghost use Rattle.yaml_recognizers.specs.Streams.{mark_at};
+ghost use Rattle.yaml_recognizers.specs.Streams.{marker_of};
 ghost use Rattle.yaml_docs.specs.Documents.{ExplicitRead, NoExplicit, DocumentRead, NoDirected};
 ghost use Rattle.yaml_docs.specs.Documents.{IsMarkEnd, IsOmitted, SuffixRead, NoSuffix, ExplicitNodeRead, NoExplicitNode};
 ghost use Rattle.yaml_docs.specs.Pieces.{Begins, BeginsPiece, PieceRead, ends_document, read_as, stream_meaning};
@@ -138,7 +138,7 @@ fn piece_end<'a>(
 /// Returns the end of the `...` at `at` and of its line (9.1.2, `l-document-suffix`).
 fn suffix_end(text: &str, at: usize) -> Result<usize, ScanFault>
     requires at { IsCharBoundary text.now at }
-    requires mark { mark_at dot (rest text.now at) ≡ true }
+    requires mark { marker_of dot (rest text.now at) ≡ true }
     ensures reads { IfOk result (SuffixRead text.now at) }
     ensures none { IfErr result (λ fault. Refuses fault (NoSuffix (rest text.now at))) }
 {
@@ -178,7 +178,7 @@ fn explicit_end<'a>(
     at: usize,
 ) -> Result<usize, ScanFault>
     requires at { IsCharBoundary text.now at }
-    requires mark { mark_at dash (rest text.now at) ≡ true }
+    requires mark { marker_of dash (rest text.now at) ≡ true }
     ensures reads { IfOk result (ExplicitRead text.now at events.old events.new) }
     ensures none { IfErr result (λ fault. Refuses fault (NoExplicit (rest text.now at))) }
 {

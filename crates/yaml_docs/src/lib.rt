@@ -8,9 +8,11 @@ mod closing;
 mod cutter;
 mod directive;
 mod documents;
+mod laws;
 mod read;
 
 pub use closing::next_close;
 pub use cutter::{CutFault, Cutter, Fed};
+pub use laws::nodes_are_at_their_places;
 pub use read::events;
 pub use yaml_faults::{Brief, ReadFault};

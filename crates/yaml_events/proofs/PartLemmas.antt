@@ -9,6 +9,7 @@ use Rattle.yaml_events.specs.Parts.{kind_of, borrowed_of, owned_of, borrows, own
 use Rattle.yaml_events.specs.declared.event.Event.{Event}
 use Rattle.yaml_events.specs.declared.event.Event.TheVariants.{DocStart, DocEnd, SeqStart, SeqEnd, MapStart, MapEnd, Scalar}
 use Rattle.yaml_events.specs.declared.event.Style.{Style}
+use Rattle.yaml_events.specs.declared.parts.Edge.TheVariants as edge
 use Rattle.yaml_events.specs.declared.parts.Kind.{Kind}
 use Rattle.yaml_events.specs.declared.parts.Kind.TheVariants as kind
 use Rattle.yaml_events.specs.declared.parts.BorrowedScalar.{BorrowedScalar}
@@ -24,12 +25,7 @@ events-length (k ∷ ks) bs os = omega (arith, events-length ks (drop (borrows k
 
 -- values behind those that a kind takes change nothing
 event_at-append : (k : Kind) (bs more : List BorrowedScalar) (os others : List OwnedScalar) → borrows k ≤ length bs → owns k ≤ length os → event_at k (bs ++ more) (os ++ others) ≡ event_at k bs os
-event_at-append kind.DocStart bs more os others b o = refl
-event_at-append kind.DocEnd bs more os others b o = refl
-event_at-append kind.SeqStart bs more os others b o = refl
-event_at-append kind.SeqEnd bs more os others b o = refl
-event_at-append kind.MapStart bs more os others b o = refl
-event_at-append kind.MapEnd bs more os others b o = refl
+event_at-append (kind.Edge e) bs more os others b o = refl
 event_at-append (kind.Borrowed style) [] more os others b o = absurd (omega (arith, b))
 event_at-append (kind.Borrowed style) (x ∷ bs) more os others b o = refl
 event_at-append (kind.Owned style) bs more [] others b o = absurd (omega (arith, o))
@@ -117,20 +113,20 @@ events-take n ks bs os fits within =
 
 -- ---- the start of a mapping between others
 
-pub events-insert : (n : ℕ) (ks : List Kind) (bs : List BorrowedScalar) (os : List OwnedScalar) → Fits ks bs os → n ≤ length ks → events_in (insert ks n kind.MapStart) bs os ≡ insert (events_in ks bs os) n MapStart
+pub events-insert : (n : ℕ) (ks : List Kind) (bs : List BorrowedScalar) (os : List OwnedScalar) → Fits ks bs os → n ≤ length ks → events_in (insert ks n (kind.Edge edge.MapStart)) bs os ≡ insert (events_in ks bs os) n MapStart
 events-insert n ks bs os fits within =
     let b = sum_by borrows (take n ks) in
     let o = sum_by owns (take n ks) in
     let first = events_in (take n ks) (take b bs) (take o os) in
     let others = events_in (drop n ks) (drop b bs) (drop o os) in
     let long : length first ≡ n = first-length n ks (take b bs) (take o os) within in
-    let parts : events_in (take n ks ++ kind.MapStart ∷ drop n ks) (take b bs ++ drop b bs) (take o os ++ drop o os) ≡ events_in (insert ks n kind.MapStart) bs os =
+    let parts : events_in (take n ks ++ (kind.Edge edge.MapStart) ∷ drop n ks) (take b bs ++ drop b bs) (take o os ++ drop o os) ≡ events_in (insert ks n (kind.Edge edge.MapStart)) bs os =
     rw (take-append-drop b bs, take-append-drop o os) refl in
     let whole = events-split n ks bs os fits in
     let before : take n (events_in ks bs os) ≡ first = ap (λ es. take n es) whole ∙ subst (λ m. take m (first ++ others) ≡ first) long (take-append_seam first others) in
     let after : drop n (events_in ks bs os) ≡ others = ap (λ es. drop n es) whole ∙ subst (λ m. drop m (first ++ others) ≡ others) long (drop-append_seam first others) in
     sym parts
-    ∙ events-append (take n ks) (kind.MapStart ∷ drop n ks) (take b bs) (drop b bs) (take o os) (drop o os) (fits-take n ks bs os fits)
+    ∙ events-append (take n ks) ((kind.Edge edge.MapStart) ∷ drop n ks) (take b bs) (drop b bs) (take o os) (drop o os) (fits-take n ks bs os fits)
     ∙ sym (rw (before, after) refl)
 
 -- ---- where the values fit the kinds, none lacks

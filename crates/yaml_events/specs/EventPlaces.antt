@@ -1,5 +1,6 @@
 -- What a scanner says of a place in a text, which counts bytes from 0, and how it refuses.
 use Rattle.std.specs.Prelude.{ℕ, Bool, true, ◌==◌, List, [], ◌∷◌, if◌then◌else◌}
+use Rattle.yaml_chars.specs.Signs.{byte_order_mark}
 use Rattle.yaml_chars.specs.Places.{between}
 use Rattle.yaml_grammar.specs.Texts.{starts_line}
 use Rattle.yaml_events.specs.declared.fault.ScanFault.{ScanFault}
@@ -8,7 +9,7 @@ use Rattle.yaml_events.specs.declared.fault.ScanFault.TheVariants.{At, OutOfMemo
 -- the characters after a byte order mark, which may be at the start (5.2)
 abbrev pub without_mark : List ℕ → List ℕ
 without_mark [] = []
-without_mark (c ∷ cs) = if c == 0xfeff then cs else c ∷ cs
+without_mark (c ∷ cs) = if c == byte_order_mark then cs else c ∷ cs
 
 -- a line starts at the place: at the start of the text, after a byte order mark there, or after a break
 abbrev pub line_starts : List ℕ → ℕ → Bool

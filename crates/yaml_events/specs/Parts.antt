@@ -4,6 +4,8 @@ use Rattle.std.specs.List.{sum_by}
 use Rattle.std.specs.declared.borrow.CowStr.TheVariants as text
 use Rattle.yaml_events.specs.declared.event.Event.{Event}
 use Rattle.yaml_events.specs.declared.event.Event.TheVariants.{DocStart, DocEnd, SeqStart, SeqEnd, MapStart, MapEnd, Scalar}
+use Rattle.yaml_events.specs.declared.parts.Edge.{Edge}
+use Rattle.yaml_events.specs.declared.parts.Edge.TheVariants as edge
 use Rattle.yaml_events.specs.declared.parts.Kind.{Kind}
 use Rattle.yaml_events.specs.declared.parts.Kind.TheVariants as kind
 use Rattle.yaml_events.specs.declared.parts.BorrowedScalar.{BorrowedScalar}
@@ -13,12 +15,12 @@ use Rattle.yaml_events.specs.declared.parts.OwnedScalar.{OwnedScalar}
 
 -- the kind of an event
 abbrev pub kind_of : Event → Kind
-kind_of DocStart = kind.DocStart
-kind_of DocEnd = kind.DocEnd
-kind_of SeqStart = kind.SeqStart
-kind_of SeqEnd = kind.SeqEnd
-kind_of MapStart = kind.MapStart
-kind_of MapEnd = kind.MapEnd
+kind_of DocStart = kind.Edge edge.DocStart
+kind_of DocEnd = kind.Edge edge.DocEnd
+kind_of SeqStart = kind.Edge edge.SeqStart
+kind_of SeqEnd = kind.Edge edge.SeqEnd
+kind_of MapStart = kind.Edge edge.MapStart
+kind_of MapEnd = kind.Edge edge.MapEnd
 kind_of (Scalar style span (text.Borrowed value)) = kind.Borrowed style
 kind_of (Scalar style span (text.Owned value)) = kind.Owned style
 
@@ -48,34 +50,28 @@ owned_of (Scalar style at (text.Owned bytes)) = record { span = at; value = byte
 
 -- how many borrowed values an event of a kind has
 abbrev pub borrows : Kind → ℕ
-borrows kind.DocStart = 0
-borrows kind.DocEnd = 0
-borrows kind.SeqStart = 0
-borrows kind.SeqEnd = 0
-borrows kind.MapStart = 0
-borrows kind.MapEnd = 0
+borrows (kind.Edge e) = 0
 borrows (kind.Borrowed style) = 1
 borrows (kind.Owned style) = 0
 
 -- how many values it owns
 abbrev pub owns : Kind → ℕ
-owns kind.DocStart = 0
-owns kind.DocEnd = 0
-owns kind.SeqStart = 0
-owns kind.SeqEnd = 0
-owns kind.MapStart = 0
-owns kind.MapEnd = 0
+owns (kind.Edge e) = 0
 owns (kind.Borrowed style) = 0
 owns (kind.Owned style) = 1
 
+-- the event that a start or an end is
+abbrev pub edge_event : Edge → Event
+edge_event edge.DocStart = DocStart
+edge_event edge.DocEnd = DocEnd
+edge_event edge.SeqStart = SeqStart
+edge_event edge.SeqEnd = SeqEnd
+edge_event edge.MapStart = MapStart
+edge_event edge.MapEnd = MapEnd
+
 -- The event of a kind, whose value is the first of its list. Where the values fit the kinds, no list is empty.
 abbrev pub event_at : Kind → List BorrowedScalar → List OwnedScalar → Event
-event_at kind.DocStart bs os = DocStart
-event_at kind.DocEnd bs os = DocEnd
-event_at kind.SeqStart bs os = SeqStart
-event_at kind.SeqEnd bs os = SeqEnd
-event_at kind.MapStart bs os = MapStart
-event_at kind.MapEnd bs os = MapEnd
+event_at (kind.Edge e) bs os = edge_event e
 event_at (kind.Borrowed style) [] os = DocStart
 event_at (kind.Borrowed style) (b ∷ bs) os = Scalar style b.span (text.Borrowed b.value)
 event_at (kind.Owned style) bs [] = DocStart

@@ -5,14 +5,27 @@ use std::fmt;
 /// A letter: `P` plain, `S` in single quotes, `D` in double quotes, `L` literal, `F` folded, `O` omitted.
 impl fmt::Display for Style {
     fn fmt<W: fmt::Write>(&self, f: &mut fmt::Formatter<W>) -> fmt::Result {
-        match self {
-            Style::Plain => f.write_str("P"),
-            Style::Single => f.write_str("S"),
-            Style::Double => f.write_str("D"),
-            Style::Literal => f.write_str("L"),
-            Style::Folded => f.write_str("F"),
-            Style::Omitted => f.write_str("O"),
-        }
+        f.write_str(match self {
+            Style::Plain => "P",
+            Style::Single => "S",
+            Style::Double => "D",
+            Style::Literal => "L",
+            Style::Folded => "F",
+            Style::Omitted => "O",
+        })
+    }
+}
+
+/// Returns the sign of an event: all of it, but for a scalar.
+fn sign_of(event: &EventRef<'_>) -> &'static str {
+    match event {
+        EventRef::DocStart => "+D",
+        EventRef::DocEnd => "-D",
+        EventRef::SeqStart => "+S",
+        EventRef::SeqEnd => "-S",
+        EventRef::MapStart => "+M",
+        EventRef::MapEnd => "-M",
+        EventRef::Scalar { .. } => "=",
     }
 }
 
@@ -21,17 +34,10 @@ impl fmt::Display for Style {
 impl fmt::Display for EventRef<'_> {
     fn fmt<W: fmt::Write>(&self, f: &mut fmt::Formatter<W>) -> fmt::Result {
         match self {
-            EventRef::DocStart => f.write_str("+D"),
-            EventRef::DocEnd => f.write_str("-D"),
-            EventRef::SeqStart => f.write_str("+S"),
-            EventRef::SeqEnd => f.write_str("-S"),
-            EventRef::MapStart => f.write_str("+M"),
-            EventRef::MapEnd => f.write_str("-M"),
             EventRef::Scalar { style, span, value } => {
-                let start = span.start;
-                let end = span.end;
-                write!(f, "={style}[{start},{end}]{value:?}")
+                write!(f, "={style}[{},{}]{value:?}", span.start, span.end)
             }
+            _ => f.write_str(sign_of(self)),
         }
     }
 }
@@ -39,8 +45,14 @@ impl fmt::Display for EventRef<'_> {
 /// As an [`EventRef`] of it.
 impl fmt::Display for Event<'_> {
     fn fmt<W: fmt::Write>(&self, f: &mut fmt::Formatter<W>) -> fmt::Result {
-        let event = self.as_ref();
-        write!(f, "{event}")
+        fmt::Display::fmt(&self.as_ref(), f)
+    }
+}
+
+/// As an [`EventRef`] of it.
+impl fmt::Debug for Event<'_> {
+    fn fmt<W: fmt::Write>(&self, f: &mut fmt::Formatter<W>) -> fmt::Result {
+        fmt::Debug::fmt(&self.as_ref(), f)
     }
 }
 
@@ -56,5 +68,12 @@ impl fmt::Display for Events<'_> {
             write!(f, "{event}")?;
         }
         Ok(())
+    }
+}
+
+/// The list of the events.
+impl fmt::Debug for Events<'_> {
+    fn fmt<W: fmt::Write>(&self, f: &mut fmt::Formatter<W>) -> fmt::Result {
+        f.debug_list().entries(self.iter()).finish()
     }
 }

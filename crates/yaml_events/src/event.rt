@@ -27,7 +27,7 @@ pub struct Span {
 }
 
 /// An event of a text (YAML 1.2.2, 3.1).
-#[derive(Debug, Drop)]
+#[derive(Drop)]
 pub enum Event<'a> {
     DocStart,
     DocEnd,

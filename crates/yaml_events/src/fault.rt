@@ -41,29 +41,32 @@ pub enum Why {
     Other,
 }
 
+impl Why {
+    /// Returns the reason in words.
+    fn words(&self) -> &'static str {
+        match self {
+            Why::Alias => "an alias, which the profile leaves out",
+            Why::Anchor => "an anchor, which the profile leaves out",
+            Why::Tag => "a tag, which the profile leaves out",
+            Why::Directive => "a directive that is not allowed here",
+            Why::OmittedKey => "a value without a key, which the profile leaves out",
+            Why::ByteOrderMark => "a byte order mark that is not at the text's start",
+            Why::Character => "a character that is not allowed here",
+            Why::Escape => "an unknown escape",
+            Why::Indent => "a line with too few or too many spaces",
+            Why::Quote => "a quote that is not closed",
+            Why::Flow => "a flow collection that is not closed, or an entry that is none",
+            Why::Key => "a key that is too long or runs over lines, or a second one on its line",
+            Why::BlockHeader => "a block scalar's header that is none",
+            Why::Marker => "a document marker inside a node",
+            Why::Other => "no node",
+        }
+    }
+}
+
 impl fmt::Display for Why {
     fn fmt<W: fmt::Write>(&self, f: &mut fmt::Formatter<W>) -> fmt::Result {
-        match self {
-            Why::Alias => f.write_str("an alias, which the profile leaves out"),
-            Why::Anchor => f.write_str("an anchor, which the profile leaves out"),
-            Why::Tag => f.write_str("a tag, which the profile leaves out"),
-            Why::Directive => f.write_str("a directive that is not allowed here"),
-            Why::OmittedKey => f.write_str("a value without a key, which the profile leaves out"),
-            Why::ByteOrderMark => f.write_str("a byte order mark that is not at the text's start"),
-            Why::Character => f.write_str("a character that is not allowed here"),
-            Why::Escape => f.write_str("an unknown escape"),
-            Why::Indent => f.write_str("a line with too few or too many spaces"),
-            Why::Quote => f.write_str("a quote that is not closed"),
-            Why::Flow => f.write_str(
-                "a flow collection that is not closed, or an entry that is none",
-            ),
-            Why::Key => f.write_str(
-                "a key that is too long or runs over lines, or a second one on its line",
-            ),
-            Why::BlockHeader => f.write_str("a block scalar's header that is none"),
-            Why::Marker => f.write_str("a document marker inside a node"),
-            Why::Other => f.write_str("no node"),
-        }
+        f.write_str(self.words())
     }
 }
 

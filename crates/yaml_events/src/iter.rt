@@ -62,30 +62,32 @@ impl<'e> Iterator for EventIter<'e> {
 
     #[inline(always)]
     fn next(&mut self) -> Option<EventRef<'e>> {
-        Some(match self.kinds.next()? {
-            Kind::DocStart => EventRef::DocStart,
-            Kind::DocEnd => EventRef::DocEnd,
-            Kind::SeqStart => EventRef::SeqStart,
-            Kind::SeqEnd => EventRef::SeqEnd,
-            Kind::MapStart => EventRef::MapStart,
-            Kind::MapEnd => EventRef::MapEnd,
+        let Some(kind) = self.kinds.next() else {
+            return None;
+        };
+        match kind {
+            Kind::Edge(edge) => Some(edge.event_ref()),
             Kind::Borrowed(style) => {
-                let scalar = self.borrowed.next()?;
-                EventRef::Scalar {
+                let Some(scalar) = self.borrowed.next() else {
+                    return None;
+                };
+                Some(EventRef::Scalar {
                     style: *style,
                     span: scalar.span,
                     value: scalar.value,
-                }
+                })
             }
             Kind::Owned(style) => {
-                let scalar = self.owned.next()?;
-                EventRef::Scalar {
+                let Some(scalar) = self.owned.next() else {
+                    return None;
+                };
+                Some(EventRef::Scalar {
                     style: *style,
                     span: scalar.span,
                     value: scalar.value.as_str(),
-                }
+                })
             }
-        })
+        }
     }
 }
 
@@ -140,29 +142,31 @@ impl<'a> Iterator for EventIntoIter<'a> {
 
     #[inline(always)]
     fn next(&mut self) -> Option<Event<'a>> {
-        Some(match self.kinds.next()? {
-            Kind::DocStart => Event::DocStart,
-            Kind::DocEnd => Event::DocEnd,
-            Kind::SeqStart => Event::SeqStart,
-            Kind::SeqEnd => Event::SeqEnd,
-            Kind::MapStart => Event::MapStart,
-            Kind::MapEnd => Event::MapEnd,
+        let Some(kind) = self.kinds.next() else {
+            return None;
+        };
+        match kind {
+            Kind::Edge(edge) => Some(edge.event()),
             Kind::Borrowed(style) => {
-                let BorrowedScalar { span, value } = self.borrowed.next()?;
-                Event::Scalar {
+                let Some(BorrowedScalar { span, value }) = self.borrowed.next() else {
+                    return None;
+                };
+                Some(Event::Scalar {
                     style,
                     span,
                     value: CowStr::Borrowed(value),
-                }
+                })
             }
             Kind::Owned(style) => {
-                let OwnedScalar { span, value } = self.owned.next()?;
-                Event::Scalar {
+                let Some(OwnedScalar { span, value }) = self.owned.next() else {
+                    return None;
+                };
+                Some(Event::Scalar {
                     style,
                     span,
                     value: CowStr::Owned(value),
-                }
+                })
             }
-        })
+        }
     }
 }

@@ -3,7 +3,7 @@ ghost use Rattle.std.specs.Prelude.{◌≡◌, ◌≤◌, ◌<◌, ◌^◌, List
 ghost use Rattle.yaml_events.specs.declared.event.Event;
 ghost use Rattle.yaml_events.specs.Meant.{events_of};
 
-use crate::parts::{BorrowedScalar, Kind, OwnedScalar, keep_value, value_counts};
+use crate::parts::{BorrowedScalar, Edge, Kind, OwnedScalar, keep_value, value_counts};
 use crate::{Event, EventIntoIter, EventIter};
 use std::alloc::{AllocError, AllocFailed, Global};
 use std::marker::Model;
@@ -12,7 +12,7 @@ use std::marker::Model;
 ///
 /// The kinds of all events are in one list, with two bytes each. The values of the scalars are in lists of their own, in
 /// the same order, so an event without a value takes no room for one.
-#[derive(Debug, Drop)]
+#[derive(Drop)]
 pub struct Events<'a> {
     kinds: Vec<Kind>,
     borrowed: Vec<BorrowedScalar<'a>>,
@@ -90,7 +90,7 @@ impl<'a> Events<'a> {
         ensures ok { OnOk result (self.new ≡ insert self.old at Event.MapStart) }
         ensures back { OnErr result (self.new ≡ self.old) }
     {
-        self.kinds.insert(at, Kind::MapStart)?;
+        self.kinds.insert(at, Kind::Edge(Edge::MapStart))?;
         Ok(())
     }
 

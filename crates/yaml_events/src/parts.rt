@@ -1,21 +1,28 @@
 // The parts that a list of events keeps: kinds, and the values of the scalars.
 ghost use Rattle.std.specs.Prelude.{◌≡◌, ◌++◌, OnOk, IfErr};
 ghost use Rattle.std.specs.List.{sum_by};
-ghost use Rattle.yaml_events.specs.Parts.{kind_of, borrowed_of, owned_of, borrows, owns};
+ghost use Rattle.yaml_events.specs.Meant.{event_of, event_ref_of};
+ghost use Rattle.yaml_events.specs.Parts.{edge_event, kind_of, borrowed_of, owned_of, borrows, owns};
 
-use crate::{Event, Span, Style};
+use crate::{Event, EventRef, Span, Style};
 use std::alloc::AllocFailed;
 use std::borrow::CowStr;
 
-/// What an event is. A scalar's kind tells which list its value is in.
-#[derive(Clone, Copy, Debug)]
-pub(crate) enum Kind {
+/// The start or the end of a document or a collection.
+#[derive(Clone, Copy)]
+pub(crate) enum Edge {
     DocStart,
     DocEnd,
     SeqStart,
     SeqEnd,
     MapStart,
     MapEnd,
+}
+
+/// What an event is. A scalar's kind tells which list its value is in.
+#[derive(Clone, Copy)]
+pub(crate) enum Kind {
+    Edge(Edge),
     /// A scalar whose value the text has in one piece.
     Borrowed(Style),
     /// A scalar whose value has memory of its own.
@@ -23,14 +30,14 @@ pub(crate) enum Kind {
 }
 
 /// The place of a scalar, and its value in the text.
-#[derive(Clone, Copy, Debug)]
+#[derive(Clone, Copy)]
 pub(crate) struct BorrowedScalar<'a> {
     pub(crate) span: Span,
     pub(crate) value: &'a str,
 }
 
 /// The place of a scalar, and its value.
-#[derive(Debug, Drop)]
+#[derive(Drop)]
 pub(crate) struct OwnedScalar {
     pub(crate) span: Span,
     pub(crate) value: String,
@@ -40,6 +47,38 @@ const _: () = prove!(size_of::<Kind>() == 2);
 
 const _: () = prove!(size_of::<BorrowedScalar<'static>>() == 32);
 
+impl Edge {
+    /// Returns the event.
+    #[inline(always)]
+    pub(crate) fn event<'a>(self) -> Event<'a>
+        ensures { result ≡ edge_event self }
+    {
+        match self {
+            Edge::DocStart => Event::DocStart,
+            Edge::DocEnd => Event::DocEnd,
+            Edge::SeqStart => Event::SeqStart,
+            Edge::SeqEnd => Event::SeqEnd,
+            Edge::MapStart => Event::MapStart,
+            Edge::MapEnd => Event::MapEnd,
+        }
+    }
+
+    /// Returns the event, to be looked at.
+    #[inline(always)]
+    pub(crate) fn event_ref<'e>(self) -> EventRef<'e>
+        ensures { event_ref_of result ≡ event_of (edge_event self) }
+    {
+        match self {
+            Edge::DocStart => EventRef::DocStart,
+            Edge::DocEnd => EventRef::DocEnd,
+            Edge::SeqStart => EventRef::SeqStart,
+            Edge::SeqEnd => EventRef::SeqEnd,
+            Edge::MapStart => EventRef::MapStart,
+            Edge::MapEnd => EventRef::MapEnd,
+        }
+    }
+}
+
 impl Kind {
     /// Returns the kind of an event.
     #[inline(always)]
@@ -47,12 +86,12 @@ impl Kind {
         ensures { result ≡ kind_of event.now }
     {
         match event {
-            Event::DocStart => Kind::DocStart,
-            Event::DocEnd => Kind::DocEnd,
-            Event::SeqStart => Kind::SeqStart,
-            Event::SeqEnd => Kind::SeqEnd,
-            Event::MapStart => Kind::MapStart,
-            Event::MapEnd => Kind::MapEnd,
+            Event::DocStart => Kind::Edge(Edge::DocStart),
+            Event::DocEnd => Kind::Edge(Edge::DocEnd),
+            Event::SeqStart => Kind::Edge(Edge::SeqStart),
+            Event::SeqEnd => Kind::Edge(Edge::SeqEnd),
+            Event::MapStart => Kind::Edge(Edge::MapStart),
+            Event::MapEnd => Kind::Edge(Edge::MapEnd),
             Event::Scalar { style, value, .. } => match value {
                 CowStr::Borrowed(_) => Kind::Borrowed(*style),
                 CowStr::Owned(_) => Kind::Owned(*style),

@@ -37,7 +37,10 @@ impl<T: Copy> Rest<T> {
             ((self.old ≡ []) × (self.new ≡ []))
             (λ value. self.old ≡ value ∷ self.new) }
     {
-        let value = *self.items.get(self.taken)?;
+        let Some(value) = self.items.get(self.taken) else {
+            return None;
+        };
+        let value = *value;
         self.taken += 1;
         Some(value)
     }

@@ -58,7 +58,7 @@ impl fmt::Display for Brief {
             ReadFault::NotUtf8 { .. } => f.write_str("NotUtf8"),
             ReadFault::Syntax { line, column, why } => write!(f, "Syntax {line}:{column} {why:?}"),
             ReadFault::Documents { .. } => f.write_str("Documents"),
-            fault => write!(f, "{fault:?}"),
+            fault => fmt::Debug::fmt(&fault, f),
         }
     }
 }

@@ -6,7 +6,7 @@ use Rattle.std.proofs.lemmas.Bool.Decides.{nat_tests}
 use Rattle.std.proofs.lemmas.List.{append-nil}
 use Rattle.yaml_chars.specs.Places.{rest}
 use Rattle.yaml_grammar.specs.FlowNodes.{Flow, Entries, Entry, entry, Value, absent, given, none, last, is_plain, scalar, asked_text, entry_text, entries_events}
-use Rattle.yaml_grammar.specs.FlowScalars.{FlowContext, outer, inner, block_key, flow_key, inside, one_line}
+use Rattle.yaml_grammar.specs.FlowScalars.{FlowContext, outer, inner, block_key, flow_key, in_flow, one_line}
 use Rattle.yaml_grammar.specs.Separation.{Sep, gap_text}
 use Rattle.yaml_grammar.specs.Texts.{byte_len, first, starts_line}
 use Rattle.yaml_events.specs.EventPlaces.{line_starts}
@@ -184,18 +184,18 @@ no_gap : (g : Option Sep) → is_some g ≡ false → g ≡ None
 no_gap None h = refl
 no_gap (Some sep) h = absurd (false≢true (sym h))
 
-line_inside : (c : FlowContext) → one_line c ≡ one_line (inside c)
-line_inside outer = refl
-line_inside inner = refl
-line_inside block_key = refl
-line_inside flow_key = refl
+line_in_flow : (c : FlowContext) → one_line c ≡ one_line (in_flow c)
+line_in_flow outer = refl
+line_in_flow inner = refl
+line_in_flow block_key = refl
+line_in_flow flow_key = refl
 
 -- between brackets within brackets the context is the same
-pub inside_twice : (c : FlowContext) → inside (inside c) ≡ inside c
-inside_twice outer = refl
-inside_twice inner = refl
-inside_twice block_key = refl
-inside_twice flow_key = refl
+pub in_flow_twice : (c : FlowContext) → in_flow (in_flow c) ≡ in_flow c
+in_flow_twice outer = refl
+in_flow_twice inner = refl
+in_flow_twice block_key = refl
+in_flow_twice flow_key = refl
 
 module _ (n : ℕ) (d : FlowContext) (text : List ℕ) where
   abbrev gap_from : ℕ → GapRead
@@ -397,20 +397,20 @@ module _ (n : ℕ) (d : FlowContext) (text : List ℕ) where
 
 opens : (n : ℕ) (c : FlowContext) (bol : Bool) (in_seq : Bool) (at : ℕ) (text : List ℕ) → IsBracket text at in_seq
     → flow_node_at n c bol (rest text at) ≡ close_with (record { in_seq = in_seq; gap = (read_gap n (one_line c) (past (rest text at))).0; done = [] })
-    (flow_entries_at n (inside c) in_seq (starts_line false (gap_text (read_gap n (one_line c) (past (rest text at))).0)) (closer in_seq) (read_gap n (one_line c) (past (rest text at))).1)
+    (flow_entries_at n (in_flow c) in_seq (starts_line false (gap_text (read_gap n (one_line c) (past (rest text at))).0)) (closer in_seq) (read_gap n (one_line c) (past (rest text at))).1)
 opens n c bol true at text s = opens_seq n c bol (rest text at) (ap (first (λ x. x == 91)) s.splits)
 opens n c bol false at text s = opens_map n c bol (rest text at) (ap (first (λ x. x == 91)) s.splits) (ap (first (λ x. x == 123)) s.splits)
 
 -- an opening bracket starts a collection
-pub opened : (n : ℕ) (c d : FlowContext) (text : List ℕ) (at : ℕ) (in_seq : Bool) (kept new : EventList) → d ≡ inside c → IsBracket text at in_seq
+pub opened : (n : ℕ) (c d : FlowContext) (text : List ℕ) (at : ℕ) (in_seq : Bool) (kept new : EventList) → d ≡ in_flow c → IsBracket text at in_seq
     → Appended text kept new (bracket_start in_seq ∷ [])
     → BeforeGap n d text (record { reads = flow_node_at n c (line_starts text at) (rest text at); start = at; kept = kept }) in_seq (at + 1) new
 opened n c d text at in_seq kept new e s a =
     let f : GapRead → Read Flow =
-    λ g. close_with (record { in_seq = in_seq; gap = g.0; done = [] }) (flow_entries_at n (inside c) in_seq (starts_line false (gap_text g.0)) (closer in_seq) g.1) in
+    λ g. close_with (record { in_seq = in_seq; gap = g.0; done = [] }) (flow_entries_at n (in_flow c) in_seq (starts_line false (gap_text g.0)) (closer in_seq) g.1) in
     let g : GapRead = read_gap n (one_line d) (rest text (at + 1)) in
     let h : read_gap n (one_line c) (past (rest text at)) ≡ g =
-    ap (read_gap n (one_line c)) (ap past s.splits) ∙ ap (λ (k : Bool). read_gap n k (rest text (at + 1))) (line_inside c ∙ ap one_line (sym e)) in
+    ap (read_gap n (one_line c)) (ap past s.splits) ∙ ap (λ (k : Bool). read_gap n k (rest text (at + 1))) (line_in_flow c ∙ ap one_line (sym e)) in
     let k : flow_node_at n c (line_starts text at) (rest text at) ≡ f g = opens n c (line_starts text at) in_seq at text s ∙ ap f h in
     record {
       bracket = record { in_seq = in_seq; gap = g.0; done = [] };

@@ -8,7 +8,7 @@ use Rattle.std.proofs.lemmas.List.Elements.{All-push, All-same, All-weaker, All-
 use Rattle.std.proofs.Common.{inl, inr}
 use Rattle.yaml_chars.specs.Places.{rest}
 use Rattle.yaml_grammar.specs.FlowNodes.{flow_events}
-use Rattle.yaml_grammar.specs.FlowScalars.{FlowContext, outer, inner, block_key, flow_key, inside}
+use Rattle.yaml_grammar.specs.FlowScalars.{FlowContext, outer, inner, block_key, flow_key, in_flow}
 use Rattle.yaml_events.specs.EventPlaces.{line_starts}
 use Rattle.yaml_recognizers.specs.OneLine.{widens}
 use Rattle.yaml_recognizers.specs.Reading.{on}
@@ -34,11 +34,11 @@ snoc_same (a ∷ us) (b ∷ vs) x y e =
     (ap (λ z. z ∷ us) h ∙ ap (λ zs. b ∷ zs) r.0, r.1)
 
 -- a key's context has the same safe characters as between brackets
-pub inside_widens : (d : FlowContext) → inside d ≡ d → widens flow_key d ≡ true
-inside_widens outer e = absurd (let h : inner ≡ outer = e in cc)
-inside_widens inner e = refl
-inside_widens block_key e = absurd (let h : flow_key ≡ block_key = e in cc)
-inside_widens flow_key e = refl
+pub in_flow_widens : (d : FlowContext) → in_flow d ≡ d → widens flow_key d ≡ true
+in_flow_widens outer e = absurd (let h : inner ≡ outer = e in cc)
+in_flow_widens inner e = refl
+in_flow_widens block_key e = absurd (let h : flow_key ≡ block_key = e in cc)
+in_flow_widens flow_key e = refl
 
 -- the collection that is read, before these events
 abbrev pub outermost : ℕ → FlowContext → List ℕ → ℕ → EventList → Collection

@@ -4,7 +4,7 @@ use Rattle.std.specs.Str.{IsCharBoundary}
 use Rattle.yaml_chars.specs.Places.{rest, between}
 use Rattle.yaml_grammar.specs.Events.{Event, seq_start, seq_end, map_start, map_end}
 use Rattle.yaml_grammar.specs.FlowNodes as nodes
-use Rattle.yaml_grammar.specs.FlowNodes.{Flow, flow_text, flow_events, entry_text, entry_events, asked_text, is_plain}
+use Rattle.yaml_grammar.specs.FlowNodes.{Flow, flow_text, flow_events, entry_text, entry_events, asked_text, is_plain, key_limit}
 use Rattle.yaml_grammar.specs.FlowScalars.{FlowContext, one_line}
 use Rattle.yaml_grammar.specs.Separation.{Sep, gap_text}
 use Rattle.yaml_grammar.specs.Texts.{byte_len, starts_line}
@@ -344,7 +344,7 @@ absent_events false in_seq end = omitted_at end ++ pair_end in_seq
 
 -- no break and at most 1,024 characters are between the key's start and its `:`
 abbrev pub fits_single : List ℕ → ℕ → ℕ → ℕ → Bool
-fits_single text line start colon = nat_le line start && nat_le (length (between text start colon)) 1024
+fits_single text line start colon = nat_le line start && nat_le (length (between text start colon)) key_limit
 
 -- a single pair fits, and its mapping starts before its key
 pub record BeganPair (text : List ℕ) (top : Open) (line colon : ℕ) (old new : EventList) : Type 0 where

@@ -2,8 +2,9 @@
 ghost use Rattle.std.specs.Prelude.{◌≡◌, ℕ, Bool, ◌+◌, ◌-◌, ◌*◌, ◌==◌, true, ◌<◌, ◌≤◌, false, List, ◌++◌, [], ◌∷◌, Some, None, length, IfOk, IfErr, OnOk, IfSome, IfNone};
 ghost use Rattle.std.specs.Str.{IsCharBoundary};
 ghost use Rattle.yaml_chars.specs.Places.{rest};
+ghost use Rattle.yaml_chars.specs.Signs.{open_brace, open_bracket};
 ghost use Rattle.yaml_grammar.specs.Texts.{first};
-ghost use Rattle.yaml_grammar.specs.FlowScalars.{inside};
+ghost use Rattle.yaml_grammar.specs.FlowScalars.{in_flow};
 ghost use Rattle.yaml_grammar.specs.FlowNodes.{flow_events};
 ghost use Rattle.yaml_events.specs.Meant.{context_of, event_of, style_of};
 ghost use Rattle.yaml_events.specs.EventPlaces.{line_starts, Refuses};
@@ -111,7 +112,8 @@ pub(crate) fn pass_gap(
     ensures found { IfOk result (Passes setting.n (context_of setting.context) text.now at) }
     ensures line { IfOk result (LineMoves text.now line.old at line.new) }
     ensures none { IfErr result
-        (λ fault. Refuses fault (NoGap setting.n (context_of setting.context) (rest text.now at))) }
+        (λ fault. Refuses fault
+        (NoGap setting.n (context_of setting.context) (rest text.now at))) }
 {
     let gap = gap_end(text, at, setting.n, setting.context)?;
     if gap.is_over_lines {
@@ -125,7 +127,8 @@ fn pass(text: &str, at: usize, setting: Setting, line: &mut usize) -> Result<Nex
     requires at { IsCharBoundary text.now at }
     requires inside_line { line_starts text.now at ≡ false }
     ensures onward { IfOk result (Onward text.now at) }
-    ensures less { IfOk result (λ next. steps_left text.now next ≤ 2 * (length text.now - at) + 1) }
+    ensures less { IfOk result (λ next.
+        steps_left text.now next ≤ 2 * (length text.now - at) + 1) }
     ensures line { IfOk result (λ next. LineMoves text.now line.old at line.new (place_of next)) }
     ensures stands { IfOk result (λ next. (w : Collection) (top : Open) (events : EventList)
         → BeforeGap setting.n (context_of setting.context) text.now w top.in_seq at events
@@ -150,7 +153,8 @@ fn entry(
 ) -> Result<Next, ScanFault>
     requires { IsCharBoundary text.now at }
     ensures onward { IfOk result (Onward text.now at) }
-    ensures less { IfOk result (λ next. steps_left text.now next < 2 * (length text.now - at) + 1) }
+    ensures less { IfOk result (λ next.
+        steps_left text.now next < 2 * (length text.now - at) + 1) }
     ensures line { IfOk result (λ next. LineMoves text.now line.old at line.new (place_of next)) }
     ensures stands { IfOk result (λ next. (w : Collection)
         → AtEntry setting.n (context_of setting.context) text.now w top.old.in_seq at
@@ -249,8 +253,8 @@ fn after_entry(
     Err(fault(at, Why::Flow))
 }
 
-fn inside(c: FlowContext) -> FlowContext
-    ensures { context_of result ≡ inside (context_of c) }
+fn in_flow(c: FlowContext) -> FlowContext
+    ensures { context_of result ≡ in_flow (context_of c) }
 {
     match c {
         FlowContext::Outer | FlowContext::Inner => FlowContext::Inner,
@@ -263,8 +267,8 @@ pub(crate) fn bracket_at(text: &str, at: usize) -> Option<bool>
     requires { IsCharBoundary text.now at }
     ensures found { IfSome result (IsBracket text.now at) }
     ensures none { IfNone result
-        ((first (λ x. x == 91) (rest text.now at) ≡ false)
-        × (first (λ x. x == 123) (rest text.now at) ≡ false)) }
+        ((first (λ x. x == open_bracket) (rest text.now at) ≡ false)
+        × (first (λ x. x == open_brace) (rest text.now at) ≡ false)) }
 {
     if stands_at(text, at, b'[') {
         return Some(true);
@@ -316,7 +320,7 @@ fn node<'a>(
 ) -> Result<Next, ScanFault>
     requires at { IsCharBoundary text.now at }
     requires line { line.old ≤ at }
-    requires inside { inside (context_of setting.context) ≡ context_of setting.context }
+    requires inside { in_flow (context_of setting.context) ≡ context_of setting.context }
     ensures onward { IfOk result (Onward text.now at) }
     ensures less { IfOk result (λ next. steps_left text.now next < 2 * (length text.now - at)) }
     ensures line { IfOk result (λ next. LineMoves text.now line.old at line.new (place_of next)) }
@@ -356,19 +360,21 @@ fn scalar<'a>(
     requires at { IsCharBoundary text.now top.old.start }
     requires line { line.old ≤ top.old.start }
     requires count { top.old.before ≡ length events.old }
-    requires no_seq { first (λ x. x == 91) (rest text.now top.old.start) ≡ false }
-    requires no_map { first (λ x. x == 123) (rest text.now top.old.start) ≡ false }
-    requires inside { inside (context_of setting.context) ≡ context_of setting.context }
+    requires no_seq { first (λ x. x == open_bracket) (rest text.now top.old.start) ≡ false }
+    requires no_map { first (λ x. x == open_brace) (rest text.now top.old.start) ≡ false }
+    requires inside { in_flow (context_of setting.context) ≡ context_of setting.context }
     ensures onward { IfOk result (Onward text.now top.old.start) }
     ensures less { IfOk result (λ next.
         steps_left text.now next < 2 * (length text.now - top.old.start)) }
     ensures line { IfOk result (λ next.
         LineMoves text.now line.old top.old.start line.new (place_of next)) }
     ensures stands { IfOk result (λ next. (w : Collection)
-        → AtNode setting.n (context_of setting.context) text.now w top.old top.old.start events.old
+        → AtNode setting.n (context_of setting.context) text.now w top.old top.old.start
+        events.old
         → Stands setting.n (context_of setting.context) text.now w top.new next events.new) }
     ensures none { IfErr result (λ fault. Refuses fault ((w : Collection)
-        → AtNode setting.n (context_of setting.context) text.now w top.old top.old.start events.old
+        → AtNode setting.n (context_of setting.context) text.now w top.old top.old.start
+        events.old
         → w.reads ≡ None)) }
     ensures kept { (k : ℕ) → Kept k events.old events.new }
 {
@@ -413,7 +419,7 @@ pub(crate) fn collection<'a>(
 {
     let setting = Setting {
         n,
-        context: inside(c),
+        context: in_flow(c),
     };
     // The brackets around the innermost one, the outermost first.
     let mut outer: Vec<Open> = Vec::new(alloc);

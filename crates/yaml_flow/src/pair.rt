@@ -2,8 +2,9 @@
 ghost use Rattle.std.specs.Prelude.{◌≡◌, ℕ, ◌+◌, ◌-◌, ◌*◌, ◌==◌, true, false, not, ◌&&◌, ◌||◌, ◌<◌, ◌≤◌, nat_lt, nat_le, List, ◌++◌, length, None, IfOk, IfErr, OnOk};
 ghost use Rattle.std.specs.Str.{IsCharBoundary};
 ghost use Rattle.yaml_chars.specs.Places.{rest};
+ghost use Rattle.yaml_chars.specs.Signs;
 ghost use Rattle.yaml_grammar.specs.Texts.{first};
-ghost use Rattle.yaml_grammar.specs.FlowScalars.{inside};
+ghost use Rattle.yaml_grammar.specs.FlowScalars.{in_flow};
 ghost use Rattle.yaml_grammar.specs.FlowNodes.{Flow, flow_text, short_key};
 ghost use Rattle.yaml_events.specs.Meant.{context_of};
 ghost use Rattle.yaml_events.specs.EventPlaces.{line_starts, Refuses};
@@ -44,15 +45,17 @@ pub(crate) fn plug(
     requires count { top.old.before ≤ length events.old }
     requires inside_line { line_starts text.now end ≡ false }
     requires line { SameLine text.now line.old top.old.start end }
-    requires inside { inside (context_of setting.context) ≡ context_of setting.context }
+    requires inside { in_flow (context_of setting.context) ≡ context_of setting.context }
     ensures onward { IfOk result (Onward text.now end) }
     ensures less { IfOk result (λ next. steps_left text.now next ≤ 2 * (length text.now - end)) }
     ensures line { IfOk result (λ next. LineMoves text.now line.old end line.new (place_of next)) }
     ensures stands { IfOk result (λ next. (w : Collection)
-        → NodeRead setting.n (context_of setting.context) text.now w top.old node_end end events.old
+        → NodeRead setting.n (context_of setting.context) text.now w top.old node_end end
+        events.old
         → Stands setting.n (context_of setting.context) text.now w top.new next events.new) }
     ensures none { IfErr result (λ fault. Refuses fault ((w : Collection)
-        → NodeRead setting.n (context_of setting.context) text.now w top.old node_end end events.old
+        → NodeRead setting.n (context_of setting.context) text.now w top.old node_end end
+        events.old
         → w.reads ≡ None)) }
     ensures kept { (k : ℕ) → k ≤ top.old.before → Kept k events.old events.new }
 {
@@ -172,7 +175,7 @@ fn value(
     line: &mut usize,
 ) -> Result<Next, ScanFault>
     requires at { IsCharBoundary text.now colon }
-    requires stands { first (λ x. x == 58) (rest text.now colon) ≡ true }
+    requires stands { first (λ x. x == Signs.colon) (rest text.now colon) ≡ true }
     ensures onward { IfOk result (Onward text.now colon) }
     ensures less { IfOk result (λ next. steps_left text.now next < 2 * (length text.now - colon)) }
     ensures line { IfOk result (λ next.

@@ -11,7 +11,7 @@ use Rattle.yaml_chars.specs.Places.{rest, between, IsRun}
 use Rattle.yaml_chars.proofs.Classes.{line_break_no_white}
 use Rattle.yaml_chars.proofs.Places.{rest-between, rest-end}
 use Rattle.yaml_chars.proofs.Runs.{IsBlind, blind-white}
-use Rattle.yaml_grammar.specs.FlowScalars.{Empty}
+use Rattle.yaml_grammar.specs.FlowScalars.{FlowEmptyLine}
 use Rattle.yaml_grammar.specs.Separation.{Break, indents}
 use Rattle.yaml_grammar.specs.Texts.{begins, first, marker, no_marker, spaces}
 use Rattle.yaml_recognizers.specs.Comments.{read_break}
@@ -91,7 +91,7 @@ empty_unbroken : (n : ℕ) (text : List ℕ) → read_break (drop_while white te
 unfolding read_empty
 empty_unbroken n text e = rw e (both (begins (spaces n) (take_while white text) || list_all space (take_while white text)))
   where
-    both : (b : Bool) → ◌≡◌ {A = Read Empty} (cond b None None) None
+    both : (b : Bool) → ◌≡◌ {A = Read FlowEmptyLine} (cond b None None) None
     both true = refl
     both false = refl
 
@@ -126,7 +126,7 @@ spaces_split (suc n) (suc k) text l =
 record Prefixes (n : ℕ) (line after : List ℕ) (indented : Bool) : Type 0 where
   indent : indents n (take_while white line) ≡ indented
   skips : indented ≡ true → drop_while white line ≡ after
-  empty : (stop : Break) (later : List ℕ) → read_break after ≡ Some (stop, later) → (e : Empty) × (read_empty n line ≡ Some (e, later))
+  empty : (stop : Break) (later : List ℕ) → read_break after ≡ Some (stop, later) → (e : FlowEmptyLine) × (read_empty n line ≡ Some (e, later))
   no_empty : read_break after ≡ None → read_empty n line ≡ None
 
 indented_prefix : (n : ℕ) (blank after : List ℕ) → list_all white blank ≡ true → first white after ≡ false → Prefixes n (spaces n ++ (blank ++ after)) after true
@@ -196,7 +196,7 @@ pub record Folding (n : ℕ) (text : List ℕ) (at line empties : ℕ) : Type 0 
   pub stop : Break
   pub start : List ℕ
   pub broken : read_break (rest text at) ≡ Some (stop, start)
-  pub lines : List Empty
+  pub lines : List FlowEmptyLine
   pub count : length lines ≡ empties
   pub passed : Passed n start lines (rest text line)
 
@@ -215,7 +215,7 @@ folding_begins n text at line b =
       passed = passed_none n (rest text line);
     }
 
-length-more : (es : List Empty) (e : Empty) → length (es ++ e ∷ []) ≡ length es + 1
+length-more : (es : List FlowEmptyLine) (e : FlowEmptyLine) → length (es ++ e ∷ []) ≡ length es + 1
 length-more [] e = refl
 length-more (x ∷ xs) e = let more : length (xs ++ e ∷ []) ≡ length xs + 1 = length-more xs e in omega arith
 
@@ -282,7 +282,7 @@ join_solid : (escaped : Bool) (n : ℕ) (blank text : List ℕ) (j : Join) (afte
 unfolding after_blank
 join_solid escaped n blank text j after e =
     let p = on_parts (read_break text) (λ stop t. with_lead escaped n blank stop (all_of (read_empty n) t)) (j, after) e in
-    let more : List Empty × List ℕ = all_of (read_empty n) p.1 in
+    let more : List FlowEmptyLine × List ℕ = all_of (read_empty n) p.1 in
     let none : read_empty n more.1 ≡ None = repeated_end (read_empty n) (empty_shrinks n) (length p.1) p.1 (omega arith) in
     elim (chosen (indents n (take_while white more.1) && no_marker true more.1) _ _ _ p.3) [
       | inl q ↦ (let same : drop_while white more.1 ≡ after = (some_parts _ _ _ _ q.1).1 in

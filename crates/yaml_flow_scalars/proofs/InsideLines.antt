@@ -11,7 +11,7 @@ use Rattle.yaml_chars.specs.Places.{rest, between}
 use Rattle.yaml_chars.proofs.Places.{between-append, rest-between}
 use Rattle.yaml_events.specs.EventPlaces.{line_starts, without_mark}
 use Rattle.yaml_grammar.specs.Events.{Style}
-use Rattle.yaml_grammar.specs.FlowScalars.{FlowContext, outer, inner, block_key, flow_key, Line, Scalar, plain, single, double, ends, plain_next, plain_run, plain_line, plain_more, plain_lines, plain_kind, plain_text, single_text, quoted_char_text, line_text, lines_text, join_text, empties_text, lines_after, scalar_text, scalar_fits}
+use Rattle.yaml_grammar.specs.FlowScalars.{FlowContext, outer, inner, block_key, flow_key, Line, Scalar, plain, single, double, ends, plain_next, plain_run, plain_line, plain_more, plain_lines, plain_kind, plain_text, single_text, quoted_char_text, line_text, lines_text, join_text, flow_empties_text, lines_after, scalar_text, scalar_fits}
 use Rattle.yaml_grammar.specs.Texts.{starts_line}
 use Rattle.yaml_recognizers.proofs.Scalars.PlainScalars.{plain_texts}
 use Rattle.yaml_flow_scalars.specs.Standing.{ScalarAt}
@@ -61,7 +61,7 @@ more_ends c [] after h = absurd (false≢true h)
 more_ends c (x ∷ xs) after h = run_ends c 32 x xs after (and_parts _ _ h).1
 
 line_text_ends : (l : Line ℕ) → ends inked l.held ≡ true → ends inked (line_text plain_text l) ≡ true
-line_text_ends l h = ends_after inked (join_text l ++ empties_text l.empties ++ l.lead) (flat_map plain_text l.held) (rw (plain_texts l.held) h)
+line_text_ends l h = ends_after inked (join_text l ++ flow_empties_text l.empties ++ l.lead) (flat_map plain_text l.held) (rw (plain_texts l.held) h)
 
 lines_end : (n : ℕ) (c : FlowContext) (before : List ℕ) (l : Line ℕ) (ls : List (Line ℕ)) (after : List ℕ) → plain_lines n c before (l ∷ ls) after ≡ true
     → ends inked (flat_map (line_text plain_text) (l ∷ ls)) ≡ true

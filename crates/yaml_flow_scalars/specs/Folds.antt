@@ -4,7 +4,7 @@ use Rattle.std.specs.Prelude.{◌≡◌, ℕ, ◌<◌, ◌≤◌, Bool, true, fa
 use Rattle.std.specs.Str.{IsCharBoundary}
 use Rattle.yaml_chars.specs.Places.{rest, between}
 use Rattle.yaml_chars.specs.Classes.{white}
-use Rattle.yaml_grammar.specs.FlowScalars.{Empty, ends}
+use Rattle.yaml_grammar.specs.FlowScalars.{FlowEmptyLine, ends}
 use Rattle.yaml_grammar.specs.Separation.{Break, indents}
 use Rattle.std.specs.List.{list_all}
 use Rattle.yaml_recognizers.specs.Comments.{read_break}
@@ -32,7 +32,7 @@ pub record IsPrefix (n : ℕ) (text : List ℕ) (at end : ℕ) (indented : Bool)
   pub boundary : IsCharBoundary text end
   pub indent : indents n (take_while white (rest text at)) ≡ indented
   pub skips : indented ≡ true → drop_while white (rest text at) ≡ rest text end
-  pub empty : (stop : Break) (after : List ℕ) → read_break (rest text end) ≡ Some (stop, after) → (line : Empty) × (read_empty n (rest text at) ≡ Some (line, after))
+  pub empty : (stop : Break) (after : List ℕ) → read_break (rest text end) ≡ Some (stop, after) → (line : FlowEmptyLine) × (read_empty n (rest text at) ≡ Some (line, after))
   pub no_empty : read_break (rest text end) ≡ None → read_empty n (rest text at) ≡ None
 
 -- the white at the end of what is between two places

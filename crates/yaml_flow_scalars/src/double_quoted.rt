@@ -5,6 +5,7 @@ ghost use Rattle.std.specs.String.{string_bytes};
 ghost use Rattle.std.specs.Cow.{cow_str_bytes};
 ghost use Rattle.yaml_chars.specs.Classes.{line_break, is_in};
 ghost use Rattle.yaml_chars.specs.Places.{rest, IsRun};
+ghost use Rattle.yaml_chars.specs.Signs.{backslash, double_quote};
 ghost use Rattle.yaml_grammar.specs.Texts.{first};
 ghost use Rattle.yaml_grammar.specs.Events.{double_style};
 ghost use Rattle.yaml_grammar.specs.FlowScalars.{one_line, escape, quoted_char_fits, hex_digit, digits_after};
@@ -14,11 +15,11 @@ ghost use Rattle.yaml_flow_scalars.specs.Standing.{ScalarAt, NoScalarAt, IsUnbro
 ghost use Rattle.yaml_flow_scalars.specs.DoubleScan.{double_value, raw_char, Adds, ClosesAt, EscapeAt, NoEscapeAt, IsEscape, IsDigit, digits_at, IsNumberAt, JoinsAt, NoJoinAt};
 ghost use Rattle.yaml_flow_scalars.specs.DoubleBorrowed.{BorrowsVerbatim};
 
-use crate::fold::{Fold, fold_at, fold_fault, push_fold, stands_on_one_line, white_start};
+use crate::fold::{Fold, fold_at, fold_fault, push_fold, white_start};
 use std::alloc::Global;
 use std::borrow::CowStr;
 use yaml_events::{FlowContext, ScanFault, Why};
-use yaml_scan::{Class, break_end, push_line_feeds, run_end, stands_at};
+use yaml_scan::{Class, break_end, is_on_one_line, push_line_feeds, run_end, stands_at};
 
 /// What an escape means, and the place after it.
 #[derive(Clone, Copy)]
@@ -80,7 +81,7 @@ fn unescaped(
 ) -> Result<(String, usize), ScanFault>
     requires start { IsCharBoundary text.now start }
     requires run { IsRun raw_char text.now start first }
-    requires goes_on { first < length text.now → slice_index text.now first ≢ 34 }
+    requires goes_on { first < length text.now → slice_index text.now first ≢ double_quote }
     ensures ok { IfOk result (λ r. ClosesAt n (context_of context) text.now start first
         (string_bytes r.0) r.1) }
     ensures err { IfErr result (λ fault.
@@ -109,7 +110,7 @@ fn push_run(
 ) -> Result<usize, ScanFault>
     requires from { IsCharBoundary text.now from }
     requires run { IsRun raw_char text.now from end }
-    requires goes_on { end < length text.now → slice_index text.now end ≢ 34 }
+    requires goes_on { end < length text.now → slice_index text.now end ≢ double_quote }
     ensures further { IfOk result (λ next. end < next) }
     ensures ok { IfOk result (λ next.
         Adds n (context_of context) text.now (string_bytes value.old) from
@@ -145,7 +146,7 @@ fn push_escape(
     context: FlowContext,
 ) -> Result<usize, ScanFault>
     requires within { at < length text.now }
-    requires backslash { slice_index text.now at ≡ 92 }
+    requires backslash { slice_index text.now at ≡ backslash }
     ensures further { IfOk result (λ next. at < next) }
     ensures ok { IfOk result (λ next.
         Adds n (context_of context) text.now (string_bytes value.old) at
@@ -177,7 +178,7 @@ fn line_after(text: &str, at: usize, n: u64, context: FlowContext) -> Result<Fol
             why: Why::Escape,
         });
     }
-    if stands_on_one_line(context) {
+    if is_on_one_line(context) {
         return Err(ScanFault::At { at, why: Why::Key });
     }
     let Some(fold) = fold_at(text, at, n) else {
@@ -203,7 +204,7 @@ fn breaks_at(text: &str, at: usize) -> bool
 /// Returns the escape whose backslash is at `at` (5.7, `c-ns-esc-char`).
 fn escape_at(text: &str, at: usize) -> Option<Escape>
     requires within { at < length text.now }
-    requires backslash { slice_index text.now at ≡ 92 }
+    requires backslash { slice_index text.now at ≡ backslash }
     ensures found { IfSome result (λ escape. EscapeAt text.now at escape.meant escape.end) }
     ensures none { IfNone result (NoEscapeAt text.now at) }
 {
@@ -214,14 +215,22 @@ fn escape_at(text: &str, at: usize) -> Option<Escape>
     }
     let digits = digits_after(bytes[sign]);
     if digits == 0 {
+        let Some(meant) = escaped_char(bytes[sign]) else {
+            return None;
+        };
         return Some(Escape {
-            meant: escaped_char(bytes[sign])?,
+            meant,
             end: sign + 1,
         });
     }
-    let number = hex_number(text, sign + 1, digits)?;
+    let Some(number) = hex_number(text, sign + 1, digits) else {
+        return None;
+    };
+    let Some(meant) = char::from_u32(number) else {
+        return None;
+    };
     Some(Escape {
-        meant: char::from_u32(number)?,
+        meant,
         end: sign + 1 + digits,
     })
 }
@@ -279,7 +288,10 @@ fn hex_number(text: &str, at: usize, count: usize) -> Option<u32>
         if end == bytes.len() {
             return None;
         }
-        number = number * 16 + hex_digit(bytes[end])?;
+        let Some(digit) = hex_digit(bytes[end]) else {
+            return None;
+        };
+        number = number * 16 + digit;
         end += 1;
     }
     Some(number)

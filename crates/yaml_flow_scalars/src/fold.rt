@@ -2,12 +2,11 @@
 ghost use Rattle.std.specs.Prelude.{◌≡◌, ◌≤◌, ◌++◌, IfSome, IfNone, OnOk};
 ghost use Rattle.std.specs.Str.{IsCharBoundary};
 ghost use Rattle.std.specs.String.{string_bytes};
-ghost use Rattle.yaml_grammar.specs.FlowScalars.{folded_break, one_line};
-ghost use Rattle.yaml_events.specs.Meant.{context_of};
+ghost use Rattle.yaml_grammar.specs.FlowScalars.{folded_break};
 ghost use Rattle.yaml_flow_scalars.specs.Folds.{IsFold, NoFold, IsPrefix, IsWhiteStart};
 
 use std::alloc::AllocError;
-use yaml_events::{FlowContext, ScanFault, Why};
+use yaml_events::{ScanFault, Why};
 use yaml_scan::{break_end, is_marker, is_white, push_line_feeds, spaces_end, white_end};
 
 /// A break inside a scalar, with the empty lines after it and the white space at the start of the
@@ -110,16 +109,6 @@ pub(crate) fn push_fold(value: &mut String, empties: usize) -> Result<(), AllocE
         return value.push(' ');
     }
     push_line_feeds(value, empties)
-}
-
-/// Returns whether what is in the context is on one line, as a key is.
-pub(crate) fn stands_on_one_line(context: FlowContext) -> bool
-    ensures { result ≡ one_line (context_of context) }
-{
-    match context {
-        FlowContext::Outer | FlowContext::Inner => false,
-        FlowContext::BlockKey | FlowContext::FlowKey => true,
-    }
 }
 
 /// Returns where the white space starts that ends at `end`, but not before `from`.

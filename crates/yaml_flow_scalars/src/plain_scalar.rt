@@ -15,12 +15,14 @@ ghost use Rattle.yaml_scan.specs.Classes.{test_of, word};
 ghost use Rattle.yaml_flow_scalars.specs.Standing.{ScalarAt, NoScalarAt, IsUnbroken};
 ghost use Rattle.yaml_flow_scalars.specs.PlainPlaces.{is_content, letter_or_digit, BeginsPlain, NoPlainBegins, IsPlainPiece, NoPlainPiece, IsPlainRun, IsNextLine, NoNextLine, PushesLines};
 
-use crate::fold::{fold_at, push_fold, stands_on_one_line, white_start};
+use crate::fold::{fold_at, push_fold, white_start};
 use std::alloc::{AllocError, Global};
 use std::borrow::CowStr;
 use yaml_chars::{indicator, next_char, ns};
 use yaml_events::{FlowContext, ScanFault, Why};
-use yaml_scan::{Class, is_marker, is_safe, line_starts, run_end, safe_at, white_end};
+use yaml_scan::{
+    Class, is_marker, is_on_one_line, is_safe, line_starts, run_end, safe_at, white_end,
+};
 
 /// A further line of a plain scalar.
 #[derive(Clone, Copy)]
@@ -280,7 +282,7 @@ fn next_line(text: &str, at: usize, n: u64, context: FlowContext) -> Option<Plai
         IsNextLine n (context_of context) text.now at line.empties line.start line.end) }
     ensures none { IfNone result (NoNextLine n (context_of context) text.now at) }
 {
-    if stands_on_one_line(context) {
+    if is_on_one_line(context) {
         return None;
     }
     let Some(fold) = fold_at(text, white_end(text, at), n) else {

@@ -13,11 +13,11 @@ ghost use Rattle.yaml_flow_scalars.specs.Folds.{IsFold};
 ghost use Rattle.yaml_flow_scalars.specs.SingleScalars.{content, BorrowsContent, IsInside, NoFoldIn, read_inside};
 ghost use Rattle.yaml_flow_scalars.specs.Standing.{ScalarAt, NoScalarAt, IsUnbroken};
 
-use crate::fold::{Fold, fold_at, fold_fault, push_fold, stands_on_one_line, white_start};
+use crate::fold::{Fold, fold_at, fold_fault, push_fold, white_start};
 use std::alloc::Global;
 use std::borrow::CowStr;
 use yaml_events::{FlowContext, ScanFault, Why};
-use yaml_scan::{Class, break_end, run_end, stands_at};
+use yaml_scan::{Class, break_end, is_on_one_line, run_end, stands_at};
 
 /// Returns the value of the scalar in single quotes at `at` (7.3.2), and the place after its closing
 /// quote. A further line is indented by `n` spaces or more; a key has none. The value of a scalar on one
@@ -105,7 +105,7 @@ fn fold_in(text: &str, at: usize, n: u64, context: FlowContext) -> Option<Fold>
     ensures found { IfSome result (λ fold. IsFold n text.now at fold.empties fold.next) }
     ensures none { IfNone result (NoFoldIn n (context_of context) text.now at) }
 {
-    if stands_on_one_line(context) {
+    if is_on_one_line(context) {
         return None;
     }
     fold_at(text, at, n)
@@ -123,7 +123,7 @@ fn fault_at(text: &str, at: usize, context: FlowContext) -> ScanFault
         };
         return ScanFault::At { at, why };
     }
-    if stands_on_one_line(context) {
+    if is_on_one_line(context) {
         return ScanFault::At { at, why: Why::Key };
     }
     fold_fault(text, at)

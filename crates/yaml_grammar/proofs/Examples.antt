@@ -11,12 +11,12 @@ use Rattle.std.proofs.Common.{◌≡◌, refl}
 use Rattle.std.specs.Prelude.{ℕ, Bool, true, false, List, [], ◌∷◌, ◌++◌, Option, Some, None, replicate, codes}
 use Rattle.yaml_grammar.specs.Texts.{spaces}
 use Rattle.yaml_grammar.specs.Separation.{lf, LineEnd, Sep, inline, lines}
-use Rattle.yaml_grammar.specs.FlowScalars.{QuotedChar, raw, escape, Empty, Line, plain, double}
+use Rattle.yaml_grammar.specs.FlowScalars.{QuotedChar, raw, escape, FlowEmptyLine, Line, plain, double}
 use Rattle.yaml_grammar.specs.FlowNodes.{Flow, scalar, seq, Entries, last, next, Entry, entry, absent, given}
-use Rattle.yaml_grammar.specs.BlockScalars.{Chomping, clip, keep, Header, Gap, TextLine, BlockScalar}
+use Rattle.yaml_grammar.specs.BlockScalars.{Chomping, clip, keep, Header, BlockEmptyLine, TextLine, BlockScalar}
 use Rattle.yaml_grammar.specs.BlockNodes.{Node, block, flow, items, pairs, item, item_and, Pairs, pair, pair_and, Pair, keyed, keyed_alone, compact_pairs, node, omitted}
 use Rattle.yaml_grammar.specs.Events.{Event, document_start, document_end, seq_start, seq_end, map_start, map_end, scalar_event, plain_style, double_style, literal_style, folded_style, omitted_style}
-use Rattle.yaml_grammar.specs.Streams.{content, nothing, bare, explicit, directed, suffixes, line, Stream, stream_text, fits, stream_events}
+use Rattle.yaml_grammar.specs.Streams.{content, nothing, bare, explicit, yaml_1_1, directed, suffixes, line, Stream, stream_text, fits, stream_events}
 use Rattle.yaml_grammar.specs.Trees.{Tree, text, sequence, mapping, Elements, no_element, element, no_member, member, IsTreeOf}
 use Rattle.yaml_grammar.specs.Style.{style_text}
 
@@ -69,7 +69,7 @@ abbrev quotes : List ℕ → Flow
 quotes w = scalar (double (raws w) [])
 
 -- a further line of a plain scalar
-abbrev continued : List Empty → List ℕ → List ℕ → Line ℕ
+abbrev continued : List FlowEmptyLine → List ℕ → List ℕ → Line ℕ
 continued empties lead held = record { escaped = false; blank = []; stop = lf; empties = empties; lead = lead; held = held }
 
 -- a flow node at a document's first place, to the end of its line or of the text
@@ -95,15 +95,15 @@ only f = entry None f absent
 abbrev header : Bool → Chomping → Header
 header folded chomping = record { folded = folded; digit = None; chomping = chomping; digit_last = false; line_end = newline }
 
-abbrev text_line : List ℕ → List Gap → TextLine
-text_line t gaps = record { text = t; stop = Some lf; gaps = gaps }
+abbrev text_line : List ℕ → List BlockEmptyLine → TextLine
+text_line t empties = record { text = t; stop = Some lf; empties = empties }
 
-abbrev empty_line : Gap
+abbrev empty_line : BlockEmptyLine
 empty_line = record { width = 0; stop = lf }
 
 -- a block scalar with no empty line at its start
 abbrev block_of : Header → ℕ → List TextLine → BlockScalar
-block_of h indent texts = record { header = h; body = record { indent = indent; gaps = []; texts = texts }; trail = [] }
+block_of h indent texts = record { header = h; body = record { indent = indent; empties = []; texts = texts }; trail = [] }
 
 -- ---- a mapping of a quoted and a plain value
 --
@@ -382,7 +382,7 @@ abbrev marked : Example
 marked =
     record {
       source = 0xfeff ∷ codes "%YAML 1.1\n---\na: yes\n";
-      presentation = record { mark = true; prefix = []; document = Some (directed (spaces 1) true (newline ∷ []) (content after_version)); parts = [] };
+      presentation = record { mark = true; prefix = []; document = Some (directed (spaces 1) yaml_1_1 (newline ∷ []) (content after_version)); parts = [] };
       events =
           document_start ∷ map_start ∷ scalar_event plain_style 17 18 (codes "a") ∷ scalar_event plain_style 20 23 (codes "yes") ∷ map_end ∷ document_end ∷ [];
       tree = mapping (member (codes "a") (text (codes "yes")) no_member);
@@ -454,7 +454,7 @@ marker_after_a_space_read = record { spells = refl; fits = refl; means = refl }
 -- No fold begins where a fold ends: two breaks between quotes are one fold with an empty line, a line feed, and not two
 -- spaces.
 
-abbrev folds : List QuotedChar → List Empty → Line QuotedChar
+abbrev folds : List QuotedChar → List FlowEmptyLine → Line QuotedChar
 folds held empties = record { escaped = false; blank = []; stop = lf; empties = empties; lead = []; held = held }
 
 two_folds_refused : Refused (alone (scalar (double [] (folds [] [] ∷ folds [] [] ∷ []))) []) (codes "\"\n\n\"")
@@ -498,7 +498,7 @@ scalar_ends_early_refused = record { spells = refl; fits = refl }
 
 scalar_to_its_end_read :
     Read
-    (stream_of (block (inline []) (bar (text_line (codes "|") [] ∷ record { text = spaces 1; stop = None; gaps = [] } ∷ []))))
+    (stream_of (block (inline []) (bar (text_line (codes "|") [] ∷ record { text = spaces 1; stop = None; empties = [] } ∷ []))))
     (codes "|\n|\n ")
     (document_start ∷ scalar_event literal_style 0 5 (codes "|\n ") ∷ document_end ∷ [])
 scalar_to_its_end_read = record { spells = refl; fits = refl; means = refl }

@@ -32,8 +32,8 @@ mutual
     pair : Pair → Pairs
     pair_and : Pair → Pairs → Pairs
 
-  -- [188] ns-l-block-map-entry, 8.2.2: a key after `?`, with a value after `:` or without one; a key on one line,
-  -- whitespace and `:`, with a node or without one
+  -- [188] ns-l-block-map-entry, 8.2.2. An explicit entry ([189]) is asked: a key after `?`, with a value after `:` or
+  -- without one. An implicit entry ([192]) is keyed: a key on one line, whitespace and `:`, with a node or without one.
   pub data Pair : Type 0 where
     asked : Indented → Indented → Pair
     asked_alone : Indented → Pair
@@ -92,22 +92,28 @@ is_omitted (omitted comments) = true
 is_omitted _ = false
 
 abbrev mutual
-  -- [197] s-l+flow-in-block, [199] s-l+block-scalar and [200] s-l+block-collection, 8.2.3
+  -- [196] s-l+block-node, 8.2.3
   pub node_fits : Node → ℕ → Bool → Bool → List ℕ → Bool
+  -- [199] s-l+block-scalar, 8.2.3
   node_fits (block sep b) m shallow bol after = sep_fits m false bol sep (block_text b ++ after) && block_fits m b after
+  -- [197] s-l+flow-in-block, 8.2.3
   node_fits (flow sep f comments) m shallow bol after =
       sep_fits m false bol sep (flow_text f ++ (comments_text comments ++ after))
       && flow_fits f m outer (starts_line bol (sep_text sep)) (comments_text comments ++ after)
       && comments_fit false comments after
+  -- [200] s-l+block-collection and [201] seq-space, 8.2.3, with [183] l+block-sequence, 8.2.1
   node_fits (items comments k is) m shallow bol after =
       comments_fit bol comments (spaces k ++ (items_text is k ++ after))
       && nat_le m (if shallow then suc k else k) && items_fit is k after
+  -- [200] s-l+block-collection, 8.2.3, with [187] l+block-mapping, 8.2.2
   node_fits (pairs comments k ps) m shallow bol after =
       comments_fit bol comments (spaces k ++ (pairs_text ps k ++ after)) && nat_le m k && pairs_fit ps k (k == 0) after
 
   -- [183] l+block-sequence and [186] ns-l-compact-sequence, 8.2.1
   pub items_fit : Items → ℕ → List ℕ → Bool
+  -- [184] c-l-block-seq-entry, 8.2.1: the last one
   items_fit (item i) k after = not (first ns (indented_text i k ++ after)) && indented_fits i k false after
+  -- [183] and [186], 8.2.1: an entry ([184]), the indentation, and further entries
   items_fit (item_and i is) k after =
       let rest = spaces k ++ (items_text is k ++ after) in
       not (first ns (indented_text i k ++ rest)) && indented_fits i k false rest && items_fit is k after
@@ -115,28 +121,38 @@ abbrev mutual
   -- [187] l+block-mapping and [195] ns-l-compact-mapping, 8.2.2; bol says whether the key of the first pair is at the
   -- start of a line
   pub pairs_fit : Pairs → ℕ → Bool → List ℕ → Bool
+  -- [188] ns-l-block-map-entry, 8.2.2: the last one
   pairs_fit (pair p) k bol after = pair_fits p k bol after
+  -- [187] and [195], 8.2.2: an entry ([188]), the indentation, and further entries
   pairs_fit (pair_and p ps) k bol after = pair_fits p k bol (spaces k ++ (pairs_text ps k ++ after)) && pairs_fit ps k (k == 0) after
 
-  -- [189] to [194], 8.2.2
+  -- [188] ns-l-block-map-entry, 8.2.2
   pub pair_fits : Pair → ℕ → Bool → List ℕ → Bool
+  -- [189] c-l-block-map-explicit-entry, 8.2.2: a key ([190]) and a value ([191])
   pair_fits (asked key value) k bol after =
       let rest = spaces k ++ (codes ":" ++ (indented_text value k ++ after)) in
       not (first ns (indented_text key k ++ rest)) && not (is_omitted key) && indented_fits key k true rest && indented_fits value k true after
+  -- [189] c-l-block-map-explicit-entry, 8.2.2: a key ([190]), and no value ([106] e-node, 7.2)
   pair_fits (asked_alone key) k bol after =
       not (first ns (indented_text key k ++ after)) && not (is_omitted key) && indented_fits key k true after
+  -- [192] ns-l-block-map-implicit-entry, 8.2.2: a key ([193]), and a node as its value ([194])
   pair_fits (keyed key gap value) k bol after =
       flow_fits key 0 block_key bol (gap ++ (codes ":" ++ (node_text value ++ after))) && list_all white gap && short_key key gap
       && node_fits value (suc k) true false after
+  -- [192] ns-l-block-map-implicit-entry, 8.2.2: a key ([193]), and no node after its `:` ([194])
   pair_fits (keyed_alone key gap comments) k bol after =
       flow_fits key 0 block_key bol (gap ++ (codes ":" ++ (comments_text comments ++ after))) && list_all white gap && short_key key gap
       && comments_fit false comments after
 
   -- [185] s-l+block-indented, 8.2.1
   pub indented_fits : Indented → ℕ → Bool → List ℕ → Bool
+  -- [186] ns-l-compact-sequence, 8.2.1
   indented_fits (compact_items s is) k shallow after = nat_le 1 s && items_fit is (k + 1 + s) after
+  -- [195] ns-l-compact-mapping, 8.2.2
   indented_fits (compact_pairs s ps) k shallow after = nat_le 1 s && pairs_fit ps (k + 1 + s) false after
+  -- [196] s-l+block-node, 8.2.3
   indented_fits (node n) k shallow after = node_fits n (suc k) shallow false after
+  -- [106] e-node, 7.2, and [79] s-l-comments, 6.6
   indented_fits (omitted comments) k shallow after = comments_fit false comments after
 
 -- ---- where a node ends, from the place `at` on: after its last scalar or its last closing bracket

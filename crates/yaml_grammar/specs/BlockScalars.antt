@@ -24,8 +24,8 @@ pub record Header : Type 0 where
   pub digit_last : Bool
   pub line_end : LineEnd
 
--- [70] l-empty, 6.4: how many spaces an empty line has, and its break
-pub record Gap : Type 0 where
+-- [70] l-empty, 6.4, in a block scalar: how many spaces the empty line has, and its break
+pub record BlockEmptyLine : Type 0 where
   pub width : ℕ
   pub stop : Break
 
@@ -34,13 +34,13 @@ pub record Gap : Type 0 where
 pub record TextLine : Type 0 where
   pub text : List ℕ
   pub stop : Option Break
-  pub gaps : List Gap
+  pub empties : List BlockEmptyLine
 
 -- [173] l-literal-content, 8.1.2, and [182] l-folded-content, 8.1.3: what is between the header and the comments: empty
 -- lines, and text lines, whose indentation this is
 pub record Body : Type 0 where
   pub indent : ℕ
-  pub gaps : List Gap
+  pub empties : List BlockEmptyLine
   pub texts : List TextLine
 
 -- [170] c-l+literal and [174] c-l+folded, 8.1: a header, a body, and the comments after them
@@ -70,16 +70,16 @@ header_text h =
     ++ line_end_text h.line_end
 
 -- the text of an empty line
-abbrev pub gap_line_text : Gap → List ℕ
-gap_line_text g = spaces g.width ++ break_text g.stop
+abbrev pub block_empty_text : BlockEmptyLine → List ℕ
+block_empty_text g = spaces g.width ++ break_text g.stop
 
 -- the text of empty lines
-abbrev pub gaps_text : List Gap → List ℕ
-gaps_text gs = flat_map gap_line_text gs
+abbrev pub block_empties_text : List BlockEmptyLine → List ℕ
+block_empties_text gs = flat_map block_empty_text gs
 
 -- the text of a text line at the indentation q, and of the empty lines after it
 abbrev pub text_line_text : ℕ → TextLine → List ℕ
-text_line_text q l = spaces q ++ l.text ++ optional break_text l.stop ++ gaps_text l.gaps
+text_line_text q l = spaces q ++ l.text ++ optional break_text l.stop ++ block_empties_text l.empties
 
 -- the text of text lines
 abbrev pub text_lines_text : ℕ → List TextLine → List ℕ
@@ -87,7 +87,7 @@ text_lines_text q ls = flat_map (text_line_text q) ls
 
 -- the text of a body
 abbrev pub body_text : Body → List ℕ
-body_text b = gaps_text b.gaps ++ text_lines_text b.indent b.texts
+body_text b = block_empties_text b.empties ++ text_lines_text b.indent b.texts
 
 -- the text of the scalar without the comments after it
 abbrev pub bare_block_text : BlockScalar → List ℕ
@@ -100,16 +100,16 @@ block_text b = bare_block_text b ++ comments_text b.trail
 -- ---- lines
 
 -- [70] l-empty, 6.4: an empty line has at most q spaces, then a break
-abbrev pub gaps_fit : ℕ → List Gap → List ℕ → Bool
-gaps_fit q [] after = true
-gaps_fit q (g ∷ gs) after = nat_le g.width q && break_fits g.stop (gaps_text gs ++ after) && gaps_fit q gs after
+abbrev pub block_empties_fit : ℕ → List BlockEmptyLine → List ℕ → Bool
+block_empties_fit q [] after = true
+block_empties_fit q (g ∷ gs) after = nat_le g.width q && break_fits g.stop (block_empties_text gs ++ after) && block_empties_fit q gs after
 
 -- [171] l-nb-literal-text, 8.1.2, and [175], [177], 8.1.3: a text line has q spaces and at least one character after
 -- them, which may be whitespace, and doesn't start as a marker
 abbrev pub text_line_fits : ℕ → TextLine → List ℕ → Bool
 text_line_fits q l after =
     not (is_empty l.text) && list_all nb l.text && no_marker true (text_line_text q l ++ after)
-    && stop_fits l.stop (gaps_text l.gaps ++ after) && gaps_fit q l.gaps after
+    && stop_fits l.stop (block_empties_text l.empties ++ after) && block_empties_fit q l.empties after
 
 -- [173] l-literal-content, 8.1.2, and [182] l-folded-content, 8.1.3: each of the text lines fits
 abbrev pub text_lines_fit : ℕ → List TextLine → List ℕ → Bool
@@ -137,7 +137,7 @@ goes_on q text =
 -- ---- the indentation (8.1.1.1)
 
 -- how many spaces the widest of the empty lines has
-abbrev pub widest : List Gap → ℕ
+abbrev pub widest : List BlockEmptyLine → ℕ
 widest [] = 0
 widest (g ∷ gs) = max g.width (widest gs)
 
@@ -153,14 +153,16 @@ sets_none m text = is_empty (past_spaces text) || nat_lt (spaces_before text) m 
 -- 8.1.1.1: Without a digit, the indentation is that of the first line that holds something other than spaces. No line
 -- of spaces before it is wider, as for all empty lines. If that line sets none, the indentation is the width of the
 -- widest line of spaces, and at least m.
-abbrev pub is_detected_indent : ℕ → ℕ → List Gap → List TextLine → List ℕ → Bool
-is_detected_indent m q gaps [] after = (q == max m (max (widest gaps) (last_spaces after))) && sets_none m after
-is_detected_indent m q gaps (l ∷ ls) after = nat_le m q && not (begins (spaces 1) l.text)
+abbrev pub is_detected_indent : ℕ → ℕ → List BlockEmptyLine → List TextLine → List ℕ → Bool
+is_detected_indent m q empties [] after = (q == max m (max (widest empties) (last_spaces after))) && sets_none m after
+is_detected_indent m q empties (l ∷ ls) after = nat_le m q && not (begins (spaces 1) l.text)
 
--- [163] c-indentation-indicator, 8.1.1.1: with a digit d the indentation is n + d, and d at the top of a document.
-abbrev pub indent_fits : Option ℕ → ℕ → ℕ → List Gap → List TextLine → List ℕ → Bool
-indent_fits (Some d) m q gaps texts after = q == (m - 1) + d
-indent_fits None m q gaps texts after = is_detected_indent m q gaps texts after
+-- the indentation (8.1.1.1)
+abbrev pub indent_fits : Option ℕ → ℕ → ℕ → List BlockEmptyLine → List TextLine → List ℕ → Bool
+-- [163] c-indentation-indicator, 8.1.1.1: with a digit d it is n + d, and d at the top of a document
+indent_fits (Some d) m q empties texts after = q == (m - 1) + d
+-- 8.1.1.1: without a digit it is detected
+indent_fits None m q empties texts after = is_detected_indent m q empties texts after
 
 -- ---- what a block scalar has to meet
 
@@ -184,7 +186,7 @@ header_fits h after = digit_fits h.digit && line_end_fits false h.line_end after
 -- digit or none; no line after it goes on with it
 abbrev pub body_fits : Option ℕ → ℕ → Body → List ℕ → Bool
 body_fits digit m b after =
-    indent_fits digit m b.indent b.gaps b.texts after && gaps_fit b.indent b.gaps (text_lines_text b.indent b.texts ++ after)
+    indent_fits digit m b.indent b.empties b.texts after && block_empties_fit b.indent b.empties (text_lines_text b.indent b.texts ++ after)
     && text_lines_fit b.indent b.texts after && not (goes_on b.indent after)
 
 -- [170] c-l+literal and [174] c-l+folded, 8.1: what a block scalar has to meet
@@ -201,13 +203,13 @@ block_fits m b after =
 abbrev pub between_lines : Bool → TextLine → TextLine → List ℕ
 between_lines folded l next_line =
     if not folded || first white l.text || first white next_line.text
-    then line_feeds (suc (length l.gaps)) else folded_break (length l.gaps)
+    then line_feeds (suc (length l.empties)) else folded_break (length l.empties)
 
 -- [165] b-chomped-last and [166] l-chomped-empty, 8.1.1.2: the line feeds after the last text line
 abbrev pub trailing_line_feeds : Chomping → TextLine → List ℕ
 trailing_line_feeds strip l = []
 trailing_line_feeds clip l = if is_some l.stop then line_feeds 1 else []
-trailing_line_feeds keep l = (if is_some l.stop then line_feeds 1 else []) ++ line_feeds (length l.gaps)
+trailing_line_feeds keep l = (if is_some l.stop then line_feeds 1 else []) ++ line_feeds (length l.empties)
 
 -- [173] l-literal-content and [182] l-folded-content: the value of text lines
 abbrev pub text_value : Bool → Chomping → TextLine → List TextLine → List ℕ
@@ -222,13 +224,13 @@ value_without_lines keep n = line_feeds n
 
 -- [173], 8.1.2, and [182], 8.1.3: the value, from the empty lines before the first text line, and the text lines with
 -- the empty lines after each
-abbrev pub block_value : Bool → Chomping → List Gap → List TextLine → List ℕ
-block_value folded chomping gaps [] = value_without_lines chomping (length gaps)
-block_value folded chomping gaps (l ∷ ls) = line_feeds (length gaps) ++ text_value folded chomping l ls
+abbrev pub block_value : Bool → Chomping → List BlockEmptyLine → List TextLine → List ℕ
+block_value folded chomping empties [] = value_without_lines chomping (length empties)
+block_value folded chomping empties (l ∷ ls) = line_feeds (length empties) ++ text_value folded chomping l ls
 
 -- The event of a block scalar. Its range goes from the header through the last text line or empty line, or through the
 -- header's line.
 abbrev pub block_events : ℕ → BlockScalar → List Event
 block_events at b =
     scalar_event (if (b.header).folded then folded_style else literal_style) at (at + byte_len (bare_block_text b))
-    (block_value (b.header).folded (b.header).chomping (b.body).gaps (b.body).texts) ∷ []
+    (block_value (b.header).folded (b.header).chomping (b.body).empties (b.body).texts) ∷ []

@@ -3,7 +3,7 @@
 use Rattle.std.specs.Prelude.{ℕ, ◌+◌, Bool, true, false, not, ◌&&◌, ◌||◌, nat_le, List, [], ◌++◌, length, Option, Some, None, is_some, codes, if◌then◌else◌}
 use Rattle.yaml_grammar.specs.Texts.{first, byte_len, starts_line}
 use Rattle.yaml_grammar.specs.Separation.{Sep, sep_text, gap_text, gap_fits}
-use Rattle.yaml_grammar.specs.FlowScalars.{FlowContext, flow_key, inside, one_line, safe, Scalar, plain, scalar_text, scalar_fits, scalar_events}
+use Rattle.yaml_grammar.specs.FlowScalars.{FlowContext, flow_key, in_flow, one_line, safe, Scalar, plain, scalar_text, scalar_fits, scalar_events}
 use Rattle.yaml_grammar.specs.Events.{Event, omitted_at, as_seq, as_map}
 
 -- ---- presentations
@@ -23,7 +23,8 @@ mutual
     next : Entry → Option Sep → Option Sep → Entries → Entries
 
   -- [139] ns-flow-seq-entry, [142] ns-flow-map-entry and [150] ns-flow-pair, 7.4: perhaps a `?` and the separation
-  -- after it; a node, which is the key unless it is alone in a sequence; and a value
+  -- after it; a node, which is the key unless it is alone in a sequence; and a value. An entry with `?` is an explicit
+  -- one ([143]), which is asked; others are implicit ([144], [151]).
   pub data Entry : Type 0 where
     entry : Option Sep → Flow → Value → Entry
 
@@ -87,27 +88,37 @@ abbrev pub single_pair : Bool → Option Sep → Value → Bool
 single_pair in_seq None value = in_seq && has_colon value
 single_pair in_seq (Some sep) value = false
 
--- [154], [155], 7.4.2, 8.2.2: `:` is at most 1,024 characters after the start of a key on one line; whitespace before
--- the `:` counts
+-- [154], [155], 7.4.2, 8.2.2: how many characters may come before the `:` of a key on one line
+abbrev pub key_limit : ℕ
+key_limit = 1024
+
+-- [154], [155], 7.4.2, 8.2.2: the key is within that limit; whitespace before the `:` counts
 abbrev pub short_key : Flow → List ℕ → Bool
-short_key key gap = nat_le (length (flow_text key ++ gap)) 1024
+short_key key gap = nat_le (length (flow_text key ++ gap)) key_limit
 
 abbrev mutual
-  -- [161] ns-flow-node, 7.5, with [137] c-flow-sequence, 7.4.1, and [140] c-flow-mapping, 7.4.2
+  -- [161] ns-flow-node, 7.5
   pub flow_fits : Flow → ℕ → FlowContext → Bool → List ℕ → Bool
+  -- [156] ns-flow-yaml-content and [157] c-flow-json-content, 7.5: a scalar
   flow_fits (scalar s) n c bol after = scalar_fits n c bol s after
+  -- [137] c-flow-sequence, 7.4.1
   flow_fits (seq gap es) n c bol after =
       gap_fits n (one_line c) gap (entries_text es ++ (codes "]" ++ after))
-      && entries_fit es n (inside c) true (starts_line false (gap_text gap)) (codes "]" ++ after)
+      && entries_fit es n (in_flow c) true (starts_line false (gap_text gap)) (codes "]" ++ after)
+  -- [140] c-flow-mapping, 7.4.2
   flow_fits (map gap es) n c bol after =
       gap_fits n (one_line c) gap (entries_text es ++ (codes "}" ++ after))
-      && entries_fit es n (inside c) false (starts_line false (gap_text gap)) (codes "}" ++ after)
+      && entries_fit es n (in_flow c) false (starts_line false (gap_text gap)) (codes "}" ++ after)
 
-  -- [138], [141]: in the context d between the brackets; in_seq says whether they are those of a sequence
+  -- [138] ns-s-flow-seq-entries, 7.4.1, and [141] ns-s-flow-map-entries, 7.4.2: in the context d between the brackets;
+  -- in_seq says whether they are those of a sequence
   pub entries_fit : Entries → ℕ → FlowContext → Bool → Bool → List ℕ → Bool
+  -- [137], 7.4.1, and [140], 7.4.2: no entry, or none after a comma
   entries_fit none n d in_seq bol after = true
+  -- [138], 7.4.1, and [141], 7.4.2: the last entry, with no comma after it
   entries_fit (last e gap) n d in_seq bol after =
       entry_fits e n d in_seq bol (gap_text gap ++ after) && gap_fits n (one_line d) gap after
+  -- [138], 7.4.1, and [141], 7.4.2: an entry, a comma, and perhaps further entries
   entries_fit (next e before gap_after es) n d in_seq bol after =
       let rest = gap_text gap_after ++ (entries_text es ++ after) in
       entry_fits e n d in_seq bol (gap_text before ++ (codes "," ++ rest))
@@ -116,6 +127,8 @@ abbrev mutual
 
   -- [139] ns-flow-seq-entry, [142] ns-flow-map-entry and [150] ns-flow-pair
   pub entry_fits : Entry → ℕ → FlowContext → Bool → Bool → List ℕ → Bool
+  -- [143] ns-flow-map-explicit-entry, [144] ns-flow-map-implicit-entry and [151] ns-flow-pair-entry, 7.4.2; the key
+  -- of the last is [154] ns-s-implicit-yaml-key or [155] c-s-implicit-json-key
   entry_fits (entry ask key value) n d in_seq bol after =
       gap_fits n (one_line d) ask (flow_text key ++ (value_text value ++ after))
       && (if single_pair in_seq ask value
@@ -126,9 +139,12 @@ abbrev mutual
   -- [147], [149], 7.4.2. key: the whitespace before the `:` is on its line. after_plain: after a plain key, `:` needs
   -- whitespace before a value.
   pub value_fits : Value → ℕ → FlowContext → Bool → Bool → List ℕ → Bool
+  -- [145] ns-flow-map-yaml-key-entry and [148] c-ns-flow-map-json-key-entry, 7.4.2: no value ([106] e-node, 7.2)
   value_fits absent n d key after_plain after = true
+  -- [147] and [149], 7.4.2: `:`, and no node after it ([106] e-node, 7.2)
   value_fits (empty gap) n d key after_plain after =
       gap_fits n key gap (codes ":" ++ after) && not (after_plain && first (safe d) after)
+  -- [147] and [149], 7.4.2: `:`, and a node after it
   value_fits (given before gap_after f) n d key after_plain after =
       gap_fits n key before (codes ":" ++ (gap_text gap_after ++ (flow_text f ++ after)))
       && (is_some gap_after || not after_plain) && gap_fits n (one_line d) gap_after (flow_text f ++ after)

@@ -15,11 +15,11 @@ pub data FlowContext : Type 0 where
   outer inner block_key flow_key : FlowContext
 
 -- [136] in-flow, 7.4: the context of what is between the brackets
-abbrev pub inside : FlowContext → FlowContext
-inside outer = inner
-inside inner = inner
-inside block_key = flow_key
-inside flow_key = flow_key
+abbrev pub in_flow : FlowContext → FlowContext
+in_flow outer = inner
+in_flow inner = inner
+in_flow block_key = flow_key
+in_flow flow_key = flow_key
 
 -- A block key, and the key of a single pair without `?`, are on one line, and so is everything in them ([110], [121]
 -- and [131], 7.3). Keys in `{ }` need not be.
@@ -38,8 +38,8 @@ pub data QuotedChar : Type 0 where
   escape : ℕ → QuotedChar
   number : ℕ → List ℕ → QuotedChar
 
--- [70] l-empty, 6.4: an empty line in a scalar: its whitespace, and its break
-pub record Empty : Type 0 where
+-- [70] l-empty, 6.4, in a flow scalar: the whitespace of the empty line, and its break
+pub record FlowEmptyLine : Type 0 where
   pub blank : List ℕ
   pub stop : Break
 
@@ -49,7 +49,7 @@ pub record Line (A : Type 0) : Type 0 where
   pub escaped : Bool
   pub blank : List ℕ
   pub stop : Break
-  pub empties : List Empty
+  pub empties : List FlowEmptyLine
   pub lead : List ℕ
   pub held : List A
 
@@ -75,12 +75,12 @@ quoted_char_text (escape c) = backslash ∷ c ∷ []
 quoted_char_text (number c digits) = backslash ∷ c ∷ digits
 
 -- the text of an empty line
-abbrev pub empty_text : Empty → List ℕ
-empty_text e = e.blank ++ break_text e.stop
+abbrev pub flow_empty_text : FlowEmptyLine → List ℕ
+flow_empty_text e = e.blank ++ break_text e.stop
 
 -- the text of empty lines
-abbrev pub empties_text : List Empty → List ℕ
-empties_text es = flat_map empty_text es
+abbrev pub flow_empties_text : List FlowEmptyLine → List ℕ
+flow_empties_text es = flat_map flow_empty_text es
 
 -- the join of a line to the one before it, up to its break; whitespace before a backslash belongs to the line before
 abbrev pub join_text : {A : Type 0} → Line A → List ℕ
@@ -88,7 +88,7 @@ join_text l = l.blank ++ (if l.escaped then codes "\\" else []) ++ break_text l.
 
 -- the text of a further line, where `spell` gives the text of one thing held
 abbrev pub line_text : {A : Type 0} → (A → List ℕ) → Line A → List ℕ
-line_text spell l = join_text l ++ empties_text l.empties ++ l.lead ++ flat_map spell l.held
+line_text spell l = join_text l ++ flow_empties_text l.empties ++ l.lead ++ flat_map spell l.held
 
 -- the text of the first line and of all further ones
 abbrev pub lines_text : {A : Type 0} → (A → List ℕ) → List A → List (Line A) → List ℕ
@@ -103,13 +103,13 @@ scalar_text (double prefix more) = codes "\"" ++ lines_text quoted_char_text pre
 -- ---- joins of lines
 
 -- [70] l-empty, 6.4: an indentation of n and whitespace, or fewer spaces
-abbrev pub empty_fits : ℕ → Empty → List ℕ → Bool
-empty_fits n e after = list_all white e.blank && (begins (spaces n) e.blank || list_all space e.blank) && break_fits e.stop after
+abbrev pub flow_empty_fits : ℕ → FlowEmptyLine → List ℕ → Bool
+flow_empty_fits n e after = list_all white e.blank && (begins (spaces n) e.blank || list_all space e.blank) && break_fits e.stop after
 
 -- [70] l-empty, 6.4: each of the empty lines fits
-abbrev pub empties_fit : ℕ → List Empty → List ℕ → Bool
-empties_fit n [] after = true
-empties_fit n (e ∷ es) after = empty_fits n e (empties_text es ++ after) && empties_fit n es after
+abbrev pub flow_empties_fit : ℕ → List FlowEmptyLine → List ℕ → Bool
+flow_empties_fit n [] after = true
+flow_empties_fit n (e ∷ es) after = flow_empty_fits n e (flow_empties_text es ++ after) && flow_empties_fit n es after
 
 -- there is a last element, and it passes the test
 abbrev pub ends : {A : Type 0} → (A → Bool) → List A → Bool
@@ -131,7 +131,7 @@ from_lead kind l after = l.lead ++ (flat_map kind.spell l.held ++ after)
 abbrev pub join_fits : {A : Type 0} → Kind A → ℕ → List A → Line A → List ℕ → Bool
 join_fits kind n before l after =
     (if l.escaped then is_empty l.blank else list_all white l.blank && not (ends kind.blank before))
-    && break_fits l.stop (empties_text l.empties ++ from_lead kind l after) && empties_fit n l.empties (from_lead kind l after)
+    && break_fits l.stop (flow_empties_text l.empties ++ from_lead kind l after) && flow_empties_fit n l.empties (from_lead kind l after)
     && indents n l.lead && not (first kind.blank l.held) && no_marker true (from_lead kind l after)
 
 -- the text of further lines, and the text after them
@@ -190,9 +190,9 @@ plain_lines n c before (l ∷ ls) after =
 abbrev pub hex_digit : ℕ → Bool
 hex_digit c = in_range 48 57 c || in_range 65 70 c || in_range 97 102 c
 
--- the value of a hexadecimal digit ([36], 5.6): 48 is `0`, and 55 and 87 are 10 less than `A` and `a`
+-- the value of a hexadecimal digit ([36], 5.6): 55 and 87 are 10 less than `A` and `a`
 abbrev pub digit_of : ℕ → ℕ
-digit_of c = if nat_lt c 58 then c - 48 else (if nat_lt c 71 then c - 55 else c - 87)
+digit_of c = if nat_lt c 58 then c - digit_zero else (if nat_lt c 71 then c - 55 else c - 87)
 
 -- [59] to [61], 5.7: the number that digits spell after one whose value is n
 abbrev pub hex_value : ℕ → List ℕ → ℕ
@@ -203,10 +203,13 @@ hex_value n (c ∷ cs) = hex_value (16 * n + digit_of c) cs
 abbrev pub digits_after : ℕ → ℕ
 digits_after c = if c == small_x then 2 else (if c == small_u then 4 else 8)
 
--- [62] c-ns-esc-char, 5.7, and [107] nb-double-char, 7.3.1; a surrogate or a number above x10FFFF is no character
+-- [107] nb-double-char, 7.3.1
 abbrev pub quoted_char_fits : QuotedChar → Bool
+-- [107] nb-double-char, 7.3.1: a character of JSON, no quote and no backslash
 quoted_char_fits (raw c) = nb_json c && not (is_in c (codes "\"\\"))
+-- [62] c-ns-esc-char, 5.7: [42] to [58]
 quoted_char_fits (escape c) = is_in c (tab ∷ codes "0abtnvfre \"/\\N_LP")
+-- [62] c-ns-esc-char, 5.7: [59] to [61]; a surrogate or a number above x10FFFF is no character
 quoted_char_fits (number c digits) =
     is_in c (codes "xuU") && (length digits == digits_after c) && list_all hex_digit digits && code_point (hex_value 0 digits)
 
@@ -233,14 +236,16 @@ quoted_lines kind p escapes n before (l ∷ ls) after =
 
 -- ---- what a flow scalar has to meet, at n in the context c
 
--- [109] c-double-quoted, [120] c-single-quoted and [131] ns-plain, 7.3: what a flow scalar has to meet, at n in the
--- context c
+-- 7.3: a flow scalar at n in the context c
 abbrev pub scalar_fits : ℕ → FlowContext → Bool → Scalar → List ℕ → Bool
+-- [131] ns-plain, 7.3.3
 scalar_fits n c bol (plain prefix more) after =
     no_marker bol (lines_text plain_text prefix more ++ after) && plain_line c prefix (lines_after plain_kind more after)
     && plain_lines n c prefix more after && (is_empty more || not (one_line c))
+-- [120] c-single-quoted, 7.3.2
 scalar_fits n c bol (single prefix more) after =
     list_all nb_json prefix && quoted_lines single_kind nb_json false n prefix more (codes "'" ++ after) && (is_empty more || not (one_line c))
+-- [109] c-double-quoted, 7.3.1
 scalar_fits n c bol (double prefix more) after =
     list_all quoted_char_fits prefix && quoted_lines double_kind quoted_char_fits true n prefix more (codes "\"" ++ after) && (is_empty more || not (one_line c))
 

@@ -43,12 +43,3 @@ pub record Gives (text : List ℕ) (limits : Limits) (t : Tree) : Type 0 where
   pub reads : Reads text events
   pub tree : IsTreeOf events t
   pub good : Good t limits
-
--- the same by some presentation, whatever others mean
-pub record CanGive (text : List ℕ) (limits : Limits) (t : Tree) : Type 0 where
-  pub short : byte_len text ≤ limits.bytes
-  pub source : IsText text
-  pub events : List Event
-  pub reads : CanRead text events
-  pub tree : IsTreeOf events t
-  pub good : Good t limits

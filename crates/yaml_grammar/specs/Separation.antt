@@ -27,7 +27,9 @@ break_fits cr_lf after = true
 
 -- [76] b-comment, 6.6: a break, or the end of the text
 abbrev pub stop_fits : Option Break → List ℕ → Bool
+-- [76] b-comment, 6.6: the end of the text
 stop_fits None after = is_empty after
+-- [28] b-break, 5.4
 stop_fits (Some b) after = break_fits b after
 
 -- ---- the end of a line: white, a comment, and a break or the end of the text (6.6)
@@ -92,7 +94,9 @@ indents n blank = list_all white blank && begins (spaces n) blank
 
 -- what a separation has to meet; in a key on one line ([80], block-key and flow-key) it is on that line
 abbrev pub sep_fits : ℕ → Bool → Bool → Sep → List ℕ → Bool
+-- [66] s-separate-in-line, 6.2
 sep_fits n key bol (inline blank) after = list_all white blank && (bol || not (is_empty blank))
+-- [81] s-separate-lines, 6.7
 sep_fits n key bol (lines comments lead) after = not key && comments_fit bol comments (lead ++ after) && indents n lead
 
 -- a separation that may be left out, after something on its line

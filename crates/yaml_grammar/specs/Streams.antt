@@ -3,7 +3,7 @@ use Rattle.std.specs.Prelude.{ℕ, ◌+◌, Bool, true, false, not, ◌&&◌, Li
 use Rattle.yaml_chars.specs.Signs.{byte_order_mark}
 use Rattle.yaml_chars.specs.Classes.{white}
 use Rattle.std.specs.List.{list_all}
-use Rattle.yaml_grammar.specs.Texts.{is_empty, optional, byte_len, ends_word, starts_line}
+use Rattle.yaml_grammar.specs.Texts.{is_empty, optional, byte_len, marker, starts_line}
 use Rattle.yaml_grammar.specs.Separation.{LineEnd, line_end_text, comment_line_fits, comments_text, comments_fit}
 use Rattle.yaml_grammar.specs.BlockNodes.{Node, node_text, node_fits, node_events}
 use Rattle.yaml_grammar.specs.Events.{Event, omitted_at, as_document}
@@ -15,12 +15,16 @@ pub data Explicit : Type 0 where
   content : Node → Explicit
   nothing : List LineEnd → Explicit
 
+-- [87] ns-yaml-version, 6.8.1: 1.1 or 1.2
+pub data Version : Type 0 where
+  yaml_1_1 yaml_1_2 : Version
+
 -- [207] l-bare-document, [208] l-explicit-document and [209] l-directive-document, 9.1.3 to 9.1.5; the last with its
--- `%YAML` line: its whitespace, whether the version is 1.1, and comments (6.8.1)
+-- `%YAML` line: its whitespace, its version and comments (6.8.1)
 pub data Document : Type 0 where
   bare : Node → Document
   explicit : Explicit → Document
-  directed : List ℕ → Bool → List LineEnd → Explicit → Document
+  directed : List ℕ → Version → List LineEnd → Explicit → Document
 
 -- [211] l-yaml-stream, 9.2: what follows a first document: `...` lines, comments and perhaps a document; a line; a
 -- further explicit document
@@ -43,16 +47,20 @@ abbrev pub explicit_text : Explicit → List ℕ
 explicit_text (content n) = codes "---" ++ node_text n
 explicit_text (nothing comments) = codes "---" ++ comments_text comments
 
+-- [87] ns-yaml-version, 6.8.1
+abbrev pub version_text : Version → List ℕ
+version_text yaml_1_1 = codes "1.1"
+version_text yaml_1_2 = codes "1.2"
+
 -- [86] ns-yaml-directive, 6.8.1, and comments
-abbrev pub directive_text : List ℕ → Bool → List LineEnd → List ℕ
-directive_text blank first_version comments =
-    codes "%YAML" ++ blank ++ (if first_version then codes "1.1" else codes "1.2") ++ comments_text comments
+abbrev pub directive_text : List ℕ → Version → List LineEnd → List ℕ
+directive_text blank version comments = codes "%YAML" ++ blank ++ version_text version ++ comments_text comments
 
 -- the text of a document
 abbrev pub document_text : Document → List ℕ
 document_text (bare n) = node_text n
 document_text (explicit x) = explicit_text x
-document_text (directed blank first_version comments x) = directive_text blank first_version comments ++ explicit_text x
+document_text (directed blank version comments x) = directive_text blank version comments ++ explicit_text x
 
 -- [205] l-document-suffix, 9.1.2
 abbrev pub suffix_text : List LineEnd → List ℕ
@@ -78,16 +86,22 @@ stream_text s = mark_text s.mark ++ comments_text s.prefix ++ optional document_
 
 -- ---- what they have to meet
 
--- [208] l-explicit-document, 9.1.4: `---` is at the start of a line, as a marker
+-- `---` is at the start of a line, as a marker
 abbrev pub explicit_fits : Explicit → Bool → List ℕ → Bool
-explicit_fits (content n) bol after = bol && ends_word (node_text n ++ after) && node_fits n 0 false false after
-explicit_fits (nothing comments) bol after = bol && ends_word (comments_text comments ++ after) && comments_fit false comments after
+-- [208] l-explicit-document, 9.1.4: [203] c-directives-end and a node
+explicit_fits (content n) bol after = bol && marker (explicit_text (content n) ++ after) && node_fits n 0 false false after
+-- [208] l-explicit-document, 9.1.4: [203] c-directives-end, [106] e-node and [79] s-l-comments
+explicit_fits (nothing comments) bol after =
+    bol && marker (explicit_text (nothing comments) ++ after) && comments_fit false comments after
 
 -- [210] l-any-document, 9.2
 abbrev pub document_fits : Document → Bool → List ℕ → Bool
+-- [207] l-bare-document, 9.1.3
 document_fits (bare n) bol after = node_fits n 0 false bol after
+-- [208] l-explicit-document, 9.1.4
 document_fits (explicit x) bol after = explicit_fits x bol after
-document_fits (directed blank first_version comments x) bol after =
+-- [209] l-directive-document, 9.1.5, with [86] ns-yaml-directive, 6.8.1
+document_fits (directed blank version comments x) bol after =
     bol && list_all white blank && not (is_empty blank) && comments_fit false comments (explicit_text x ++ after) && explicit_fits x true after
 
 -- [211] l-yaml-stream, 9.2: a document that may be left out
@@ -97,21 +111,24 @@ optional_document_fits (Some d) bol after = document_fits d bol after
 
 -- [205] l-document-suffix, 9.1.2: `...` is at the start of a line, as a marker
 abbrev pub suffix_fits : List LineEnd → Bool → List ℕ → Bool
-suffix_fits comments bol after = bol && ends_word (comments_text comments ++ after) && comments_fit false comments after
+suffix_fits comments bol after = bol && marker (suffix_text comments ++ after) && comments_fit false comments after
 
 -- [205] l-document-suffix, 9.1.2: each of the suffixes fits
 abbrev pub suffixes_fit : List (List LineEnd) → List ℕ → Bool
 suffixes_fit [] after = true
 suffixes_fit (s ∷ ss) after = suffix_fits s true (flat_map suffix_text ss ++ after) && suffixes_fit ss after
 
--- [211] l-yaml-stream, 9.2: a further document follows `---`, or `...` lines
+-- [211] l-yaml-stream, 9.2: what follows a first document
 abbrev pub part_fits : Part → Bool → List ℕ → Bool
+-- [211], 9.2: [205] l-document-suffix, once or more; [202] l-document-prefix; perhaps [210] l-any-document
 part_fits (suffixes one more prefix document) bol after =
     let rest = optional document_text document ++ after in
     suffix_fits one bol (flat_map suffix_text more ++ (comments_text prefix ++ rest))
     && suffixes_fit more (comments_text prefix ++ rest) && comments_fit true prefix rest
     && optional_document_fits document true after
+-- [78] l-comment, 6.6
 part_fits (line e) bol after = comment_line_fits bol e after
+-- [208] l-explicit-document, 9.1.4
 part_fits (further x) bol after = explicit_fits x bol after
 
 -- [211] l-yaml-stream, 9.2: each of the parts fits
@@ -137,7 +154,7 @@ explicit_events (nothing comments) at = as_document (omitted_at (at + 3))
 abbrev pub document_events : Document → ℕ → List Event
 document_events (bare n) at = as_document (node_events n at)
 document_events (explicit x) at = explicit_events x at
-document_events (directed blank first_version comments x) at = explicit_events x (at + byte_len (directive_text blank first_version comments))
+document_events (directed blank version comments x) at = explicit_events x (at + byte_len (directive_text blank version comments))
 
 -- the events of a document that may be left out
 abbrev pub optional_document_events : Option Document → ℕ → List Event

@@ -54,9 +54,9 @@ literal_in_style value = is_in line_feed value && not (first space_or_feed value
 
 -- ---- double quotes
 
--- the hexadecimal digit of a number below 16, in capital letters: 48 is `0`, and 55 is 10 less than `A`
+-- the hexadecimal digit of a number below 16, in capital letters: 55 is 10 less than `A`
 abbrev pub hex : ℕ → ℕ
-hex d = if nat_lt d 10 then 48 + d else 55 + d
+hex d = if nat_lt d 10 then digit_zero + d else 55 + d
 
 -- the letter of the short escape of a character that has one (5.7)
 abbrev pub letter_escape : ℕ → ℕ
@@ -137,18 +137,18 @@ abbrev mutual
   -- the lines of elements
   pub elements_at : Elements → ℕ → List ℕ
   elements_at no_element i = codes "[]\n"
-  elements_at (element t ts) i = codes "- " ++ element_at t i ++ elements_after ts i
+  elements_at (element t ts) i = codes "- " ++ lines_after_dash t i ++ elements_after ts i
 
   -- the lines of the elements after the first
   pub elements_after : Elements → ℕ → List ℕ
   elements_after no_element i = []
-  elements_after (element t ts) i = spaces i ++ codes "- " ++ element_at t i ++ elements_after ts i
+  elements_after (element t ts) i = spaces i ++ codes "- " ++ lines_after_dash t i ++ elements_after ts i
 
-  -- an element after its `- `
-  pub element_at : Tree → ℕ → List ℕ
-  element_at (text value) i = scalar_lines (i + 2) value
-  element_at (sequence ts) i = elements_at ts (i + 2)
-  element_at (mapping ms) i = members_at ms (i + 2)
+  -- the lines of an element after its `- `; those of a collection are two deeper than in lines_at
+  pub lines_after_dash : Tree → ℕ → List ℕ
+  lines_after_dash (text value) i = scalar_lines (i + 2) value
+  lines_after_dash (sequence ts) i = elements_at ts (i + 2)
+  lines_after_dash (mapping ms) i = members_at ms (i + 2)
 
   -- the lines of members
   pub members_at : Members → ℕ → List ℕ

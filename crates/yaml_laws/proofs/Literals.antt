@@ -7,7 +7,7 @@ use Rattle.std.specs.List.{list_all}
 use Rattle.yaml_grammar.specs.Texts.{first}
 use Rattle.yaml_grammar.specs.BlockScalars.{TextLine, Chomping, strip, clip, keep, text_value, block_value}
 use Rattle.yaml_grammar.specs.Style.{feeds_at_end, space_or_feed}
-use Rattle.yaml_laws.proofs.Presented.{bare_gaps, line_with, held_by, empties_in, lines_in, chomping_of}
+use Rattle.yaml_laws.proofs.Presented.{bare_empties, line_with, held_by, empties_in, lines_in, chomping_of}
 
 -- how many line feeds end the text, where n come before it
 abbrev feeds_after : ℕ → List ℕ → ℕ
@@ -57,7 +57,7 @@ held_first ch c held empties (l ∷ ls) = refl
 last_feeds : (n empties : ℕ) → empties ≡ n + 0 → text_value false (chomping_of (suc n)) (line_with [] empties) [] ≡ replicate (suc n) 10 ++ []
 last_feeds zero empties e = refl
 last_feeds (suc n) empties e =
-    let long : length (bare_gaps empties) ≡ suc n = length-replicate empties _ ∙ omega (arith, e) in
+    let long : length (bare_empties empties) ≡ suc n = length-replicate empties _ ∙ omega (arith, e) in
     rw long (sym (append-nil (replicate (suc (suc n)) 10)))
 
 -- a line feed after line feeds may as well come before them
@@ -82,7 +82,7 @@ mutual
     | inl f ↦ (let g : empties ≡ n + suc (empties_in true cs) = (rw f at e) in
         rw (f, eqb-true c 10 f) (fresh_meant (suc n) empties cs (omega (arith, g)) ∙ sym (feed_moved (suc n) cs)))
     | inr f ↦ (let g : empties ≡ n + 0 = (rw f at e) in
-        let long : length (bare_gaps empties) ≡ n = length-replicate empties _ ∙ omega (arith, g) in
+        let long : length (bare_empties empties) ≡ n = length-replicate empties _ ∙ omega (arith, g) in
         rw (f, long) (ap (λ t. replicate (suc n) 10 ++ t) (held_first _ c (held_by cs) (empties_in false cs) (lines_in false cs) ∙ ap (λ t. c ∷ t) (line_meant cs))))
   ]
 

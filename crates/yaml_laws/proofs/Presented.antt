@@ -4,7 +4,7 @@ use Rattle.yaml_chars.specs.Classes.{in_range}
 use Rattle.yaml_grammar.specs.Separation.{lf, LineEnd, Sep, inline, lines}
 use Rattle.yaml_grammar.specs.FlowScalars.{QuotedChar, raw, escape, number, plain, double}
 use Rattle.yaml_grammar.specs.FlowNodes.{Flow, scalar, seq, map, none}
-use Rattle.yaml_grammar.specs.BlockScalars.{Chomping, strip, clip, keep, Gap, TextLine, BlockScalar}
+use Rattle.yaml_grammar.specs.BlockScalars.{Chomping, strip, clip, keep, BlockEmptyLine, TextLine, BlockScalar}
 use Rattle.yaml_grammar.specs.BlockNodes.{Node, block, flow, items, pairs, Items, item, item_and, Pairs, pair, pair_and, Pair, asked, keyed, Indented, compact_items, compact_pairs, node}
 use Rattle.yaml_grammar.specs.Streams.{Stream, bare, explicit, content, suffixes}
 use Rattle.yaml_grammar.specs.Trees.{Tree, text, sequence, mapping, Elements, no_element, element, Members, no_member, member}
@@ -41,12 +41,12 @@ word_flow value = scalar (if plain_in_style value then plain value [] else doubl
 -- ---- literals: their text lines, and the empty lines after each
 
 -- so many empty lines without spaces
-abbrev pub bare_gaps : ℕ → List Gap
-bare_gaps n = replicate n (record { width = 0; stop = lf })
+abbrev pub bare_empties : ℕ → List BlockEmptyLine
+bare_empties n = replicate n (record { width = 0; stop = lf })
 
 -- a text line with so many empty lines after it
 abbrev pub line_with : List ℕ → ℕ → TextLine
-line_with held empties = record { text = held; stop = Some lf; gaps = bare_gaps empties }
+line_with held empties = record { text = held; stop = Some lf; empties = bare_empties empties }
 
 -- up to the line's end
 abbrev pub held_by : List ℕ → List ℕ
@@ -78,7 +78,7 @@ abbrev pub literal_block : ℕ → List ℕ → BlockScalar
 literal_block j value =
     record {
       header = record { folded = false; digit = None; chomping = chomping_of (feeds_at_end value); digit_last = false; line_end = feed };
-      body = record { indent = j; gaps = []; texts = lines_in true value };
+      body = record { indent = j; empties = []; texts = lines_in true value };
       trail = [];
     }
 

@@ -8,10 +8,10 @@ use Rattle.yaml_grammar.specs.Texts.{IsText, first, spaces, marker, no_marker, s
 use Rattle.yaml_grammar.specs.Separation.{Sep, sep_text, sep_fits}
 use Rattle.yaml_grammar.specs.FlowScalars.{FlowContext, outer, safe, plain_text, lines_text, plain_run, quoted_char_fits, plain, double}
 use Rattle.yaml_grammar.specs.FlowNodes.{scalar, flow_text, flow_fits}
-use Rattle.yaml_grammar.specs.BlockScalars.{gaps_text, gaps_fit, text_line_fits, text_lines_fit, spaces_before, past_spaces, goes_on, block_text, block_fits}
+use Rattle.yaml_grammar.specs.BlockScalars.{block_empties_text, block_empties_fit, text_line_fits, text_lines_fit, spaces_before, past_spaces, goes_on, block_text, block_fits}
 use Rattle.yaml_grammar.specs.BlockNodes.{flow, block, node_fits}
 use Rattle.yaml_grammar.specs.Style.{letter, word_char, plain_in_style, literal_in_style, shown, shown_or_feed, space_or_feed}
-use Rattle.yaml_laws.proofs.Presented.{feed, items_of_text, word_flow, bare_gaps, line_with, held_by, empties_in, lines_in, literal_block, scalar_node}
+use Rattle.yaml_laws.proofs.Presented.{feed, items_of_text, word_flow, bare_empties, line_with, held_by, empties_in, lines_in, literal_block, scalar_node}
 use Rattle.yaml_laws.proofs.Characters.{from_range, of_letter, of_word}
 use Rattle.yaml_laws.proofs.QuotedChars.{item_quotes}
 
@@ -105,9 +105,9 @@ ended i after b =
     (and_left _ _ (and_left _ _ (ne_eqb (spaces_before after) (i + 2) (λ e. omega (arith, b.0, e)))))
 
 -- empty lines without spaces fit
-bare_gaps_fit : (q n : ℕ) (after : List ℕ) → gaps_fit q (bare_gaps n) after ≡ true
-bare_gaps_fit q zero after = refl
-bare_gaps_fit q (suc n) after = and_from _ _ (and_from _ _ (le-leb 0 q (omega arith)) refl) (bare_gaps_fit q n after)
+bare_empties_fit : (q n : ℕ) (after : List ℕ) → block_empties_fit q (bare_empties n) after ≡ true
+bare_empties_fit q zero after = refl
+bare_empties_fit q (suc n) after = and_from _ _ (and_from _ _ (le-leb 0 q (omega arith)) refl) (bare_empties_fit q n after)
 
 -- a character of a literal that is no line feed may be in a line
 shown_nb : (c : ℕ) → c == 10 ≡ false → shown_or_feed c ≡ true → nb c ≡ true
@@ -140,8 +140,8 @@ held_nb (c ∷ cs) h =
 -- a line of a literal fits
 line_fits : (q c empties : ℕ) (held after : List ℕ) → nb c ≡ true → list_all nb held ≡ true → text_line_fits (suc q) (line_with (c ∷ held) empties) after ≡ true
 line_fits q c empties held after h k =
-    let tail : List ℕ = spaces q ++ (c ∷ held) ++ codes "\n" ++ gaps_text (bare_gaps empties) ++ after in
-    and_from _ _ (and_from _ _ (and_from _ _ (and_from _ _ refl (and_from _ _ h k)) (no_marker_there true (32 ∷ tail) (unmarked 32 tail refl refl))) refl) (bare_gaps_fit (suc q) empties after)
+    let tail : List ℕ = spaces q ++ (c ∷ held) ++ codes "\n" ++ block_empties_text (bare_empties empties) ++ after in
+    and_from _ _ (and_from _ _ (and_from _ _ (and_from _ _ refl (and_from _ _ h k)) (no_marker_there true (32 ∷ tail) (unmarked 32 tail refl refl))) refl) (bare_empties_fit (suc q) empties after)
 
 -- the lines of a literal fit
 lines_fit : (q : ℕ) (fresh : Bool) (cs after : List ℕ) → list_all shown_or_feed cs ≡ true → text_lines_fit (suc q) (lines_in fresh cs) after ≡ true

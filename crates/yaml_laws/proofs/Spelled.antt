@@ -9,13 +9,13 @@ use Rattle.yaml_grammar.specs.Texts.{spaces, first}
 use Rattle.yaml_grammar.specs.Separation.{Sep, sep_text}
 use Rattle.yaml_grammar.specs.FlowScalars.{raw, escape, number, quoted_char_text, plain_text, plain, double, scalar_text}
 use Rattle.yaml_grammar.specs.FlowNodes.{scalar, flow_text}
-use Rattle.yaml_grammar.specs.BlockScalars.{chomping_text, gaps_text, text_lines_text, block_text}
+use Rattle.yaml_grammar.specs.BlockScalars.{chomping_text, block_empties_text, text_lines_text, block_text}
 use Rattle.yaml_grammar.specs.BlockNodes.{flow, block, Node, node_text, Indented, indented_text, items_text, Pair, pair_text, pairs_text, asked, keyed, node}
 use Rattle.yaml_grammar.specs.Trees.{Tree, text, sequence, mapping, Elements, no_element, element, Members, no_member, member}
 use Rattle.yaml_grammar.specs.Streams.{stream_text}
-use Rattle.yaml_grammar.specs.Style.{plain_in_style, literal_in_style, shown, shown_or_feed, space_or_feed, hex, letter_escape, quoted_char, quoted_chars, in_double_quotes, literal_mark, literal_lines, feeds_at_end, scalar_lines, key_text, long_key, key_lines, elements_after, element_at, members_after, value_at, style_text}
+use Rattle.yaml_grammar.specs.Style.{plain_in_style, literal_in_style, shown, shown_or_feed, space_or_feed, hex, letter_escape, quoted_char, quoted_chars, in_double_quotes, literal_mark, literal_lines, feeds_at_end, scalar_lines, key_text, long_key, key_lines, elements_after, lines_after_dash, members_after, value_at, style_text}
 use Rattle.yaml_laws.specs.Closed.{framed_text}
-use Rattle.yaml_laws.proofs.Presented.{feed, one_space, item_of, items_of_text, word_flow, bare_gaps, held_by, empties_in, lines_in, chomping_of, literal_block, scalar_node, pair_of, element_of, value_of, items_from, pairs_from, Place, at_start, after_marker, place_sep, top_node, presentation_of, framed_presentation_of}
+use Rattle.yaml_laws.proofs.Presented.{feed, one_space, item_of, items_of_text, word_flow, bare_empties, held_by, empties_in, lines_in, chomping_of, literal_block, scalar_node, pair_of, element_of, value_of, items_from, pairs_from, Place, at_start, after_marker, place_sep, top_node, presentation_of, framed_presentation_of}
 
 -- ---- scalars on one line
 
@@ -65,7 +65,7 @@ word_flow_spelled key = by (plain_in_style key)
 
 mutual
   -- from the start of a line on
-  fresh_spelled : (j : ℕ) (cs : List ℕ) → gaps_text (bare_gaps (empties_in true cs)) ++ text_lines_text j (lines_in true cs) ≡ literal_lines j true cs
+  fresh_spelled : (j : ℕ) (cs : List ℕ) → block_empties_text (bare_empties (empties_in true cs)) ++ text_lines_text j (lines_in true cs) ≡ literal_lines j true cs
   fresh_spelled j [] = refl
   fresh_spelled j (c ∷ cs) = elim (cases_Bool (c == 10)) [
     | inl e ↦ rw e (ap (λ t. 10 ∷ t) (fresh_spelled j cs))
@@ -73,7 +73,7 @@ mutual
   ]
 
   -- from a place within a line on
-  line_spelled : (j : ℕ) (cs : List ℕ) → held_by cs ++ (10 ∷ (gaps_text (bare_gaps (empties_in false cs)) ++ text_lines_text j (lines_in false cs))) ≡ literal_lines j false cs
+  line_spelled : (j : ℕ) (cs : List ℕ) → held_by cs ++ (10 ∷ (block_empties_text (bare_empties (empties_in false cs)) ++ text_lines_text j (lines_in false cs))) ≡ literal_lines j false cs
   line_spelled j [] = refl
   line_spelled j (c ∷ cs) = elim (cases_Bool (c == 10)) [
     | inl e ↦ rw e (ap (λ t. 10 ∷ t) (fresh_spelled j cs))
@@ -148,7 +148,7 @@ pair_joined a s k v b = append_assoc a s ((k ++ v) ++ b) ∙ ap (λ t. a ++ t) (
 
 mutual
   -- an element spells its lines
-  pub element_spelled : (t : Tree) (i : ℕ) → indented_text (element_of t i) i ≡ 32 ∷ element_at t i
+  pub element_spelled : (t : Tree) (i : ℕ) → indented_text (element_of t i) i ≡ 32 ∷ lines_after_dash t i
   element_spelled (text value) i = scalar_spelled one_space (i + 2) value
   element_spelled (sequence no_element) i = refl
   element_spelled (sequence (element t ts)) i = rw (two_more i, elements_spelled (element_of t (i + 2)) ts (i + 2), element_spelled t (i + 2))
@@ -168,7 +168,7 @@ mutual
   -- a first element and further ones are spelled as the one style writes them
   elements_spelled : (one : Indented) (ts : Elements) (i : ℕ) → items_text (items_from one ts i) i ≡ 45 ∷ (indented_text one i ++ elements_after ts i)
   elements_spelled one no_element i = ap (λ x. 45 ∷ x) (sym (append-nil _))
-  elements_spelled one (element t ts) i = rw (elements_spelled (element_of t i) ts i, element_spelled t i) (ap (λ x. 45 ∷ x) (item_joined (indented_text one i) (spaces i) (element_at t i) (elements_after ts i)))
+  elements_spelled one (element t ts) i = rw (elements_spelled (element_of t i) ts i, element_spelled t i) (ap (λ x. 45 ∷ x) (item_joined (indented_text one i) (spaces i) (lines_after_dash t i) (elements_after ts i)))
 
   -- a first member and further ones are spelled as the one style writes them
   members_spelled : (one : Pair) (ms : Members) (i : ℕ) → pairs_text (pairs_from one ms i) i ≡ pair_text one i ++ members_after ms i

@@ -5,7 +5,7 @@ use Rattle.std.proofs.lemmas.Bool.{cond_both, and_parts, and_from, not-true, not
 use Rattle.std.specs.List.{list_all}
 use Rattle.yaml_grammar.specs.Texts.{spaces}
 use Rattle.yaml_grammar.specs.Trees.{Tree, text, sequence, mapping, Elements, no_element, element, Members, no_member, member}
-use Rattle.yaml_grammar.specs.Style.{letter, word_char, hex, quoted_chars, in_double_quotes, plain_in_style, literal_in_style, literal_mark, literal_lines, feeds_at_end, scalar_lines, key_text, long_key, key_lines, elements_at, elements_after, element_at, members_at, members_after, value_at, style_text}
+use Rattle.yaml_grammar.specs.Style.{letter, word_char, hex, quoted_chars, in_double_quotes, plain_in_style, literal_in_style, literal_mark, literal_lines, feeds_at_end, scalar_lines, key_text, long_key, key_lines, elements_at, elements_after, lines_after_dash, members_at, members_after, value_at, style_text}
 use Rattle.yaml_laws.proofs.Characters.{every_joined, of_letter, of_word, shown_low, Writes, quoted_chars_all}
 use Rattle.yaml_laws.proofs.Spelled.{item_regrouped, pair_regrouped}
 use Rattle.yaml_laws.proofs.Closings.{ends_from, dotless}
@@ -168,8 +168,8 @@ empty_lined : (bol : Bool) (a b : ℕ) → a == 46 ≡ false → a == 10 ≡ fal
 empty_lined bol a b d e f = joined bol false true (a ∷ b ∷ []) (codes "\n") (begun bol a (b ∷ []) d (and_from _ _ (not_from_false _ e) (and_from _ _ (not_from_false _ f) refl))) (refl, refl)
 
 -- a sequence has no dot at the start of a line, if its elements have none
-elements_lined : (t : Tree) (i : ℕ) (bol : Bool) (ts : Elements) → Lined false (element_at t i) true → Lined true (elements_after ts i) true → Lined bol (elements_at (element t ts) i) true
-elements_lined t i bol ts h k = joined bol true true (codes "- " ++ element_at t i) (elements_after ts i) (joined bol false true (codes "- ") (element_at t i) (dashes bol) h) k
+elements_lined : (t : Tree) (i : ℕ) (bol : Bool) (ts : Elements) → Lined false (lines_after_dash t i) true → Lined true (elements_after ts i) true → Lined bol (elements_at (element t ts) i) true
+elements_lined t i bol ts h k = joined bol true true (codes "- " ++ lines_after_dash t i) (elements_after ts i) (joined bol false true (codes "- ") (lines_after_dash t i) (dashes bol) h) k
 
 -- a mapping has no dot at the start of a line, if its members have none
 members_lined : (key : List ℕ) (t : Tree) (i : ℕ) (bol : Bool) (ms : Members) → Lined false (value_at t i) true → Lined true (members_after ms i) true → Lined bol (members_at (member key t ms) i) true
@@ -177,7 +177,7 @@ members_lined key t i bol ms h k = joined bol true true (key_lines i key ++ valu
 
 mutual
   -- an element has no dot at the start of a line
-  element_lined : (t : Tree) (i : ℕ) (bol : Bool) → Lined bol (element_at t i) true
+  element_lined : (t : Tree) (i : ℕ) (bol : Bool) → Lined bol (lines_after_dash t i) true
   element_lined (text value) i bol = scalar_lined i value bol
   element_lined (sequence no_element) i bol = empty_lined bol 91 93 refl refl refl
   element_lined (sequence (element t ts)) i bol = elements_lined t (i + 2) bol ts (element_lined t (i + 2) false) (after_lined ts (i + 2))
@@ -196,7 +196,7 @@ mutual
   after_lined : (ts : Elements) (i : ℕ) → Lined true (elements_after ts i) true
   after_lined no_element i = (refl, refl)
   after_lined (element t ts) i =
-      subst (λ ls. Lined true ls true) (sym (item_regrouped (spaces i) (element_at t i) (elements_after ts i))) (led i true (elements_at (element t ts) i) (λ bol. elements_lined t i bol ts (element_lined t i false) (after_lined ts i)))
+      subst (λ ls. Lined true ls true) (sym (item_regrouped (spaces i) (lines_after_dash t i) (elements_after ts i))) (led i true (elements_at (element t ts) i) (λ bol. elements_lined t i bol ts (element_lined t i false) (after_lined ts i)))
 
   -- further members have no dot at the start of a line
   pairs_lined : (ms : Members) (i : ℕ) → Lined true (members_after ms i) true

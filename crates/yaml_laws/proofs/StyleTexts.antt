@@ -6,7 +6,7 @@ use Rattle.yaml_chars.specs.Classes.{in_range, code_point}
 use Rattle.std.specs.List.{list_all}
 use Rattle.yaml_grammar.specs.Texts.{IsText, spaces}
 use Rattle.yaml_grammar.specs.Trees.{Tree, text, sequence, mapping, Elements, no_element, element, Members, no_member, member, IsTextTree, AreTextElements, AreTextMembers}
-use Rattle.yaml_grammar.specs.Style.{hex, quoted_chars, in_double_quotes, plain_in_style, literal_in_style, literal_mark, literal_lines, feeds_at_end, scalar_lines, key_text, long_key, key_lines, elements_at, elements_after, element_at, members_at, members_after, value_at, style_text}
+use Rattle.yaml_grammar.specs.Style.{hex, quoted_chars, in_double_quotes, plain_in_style, literal_in_style, literal_mark, literal_lines, feeds_at_end, scalar_lines, key_text, long_key, key_lines, elements_at, elements_after, lines_after_dash, members_at, members_after, value_at, style_text}
 use Rattle.yaml_laws.specs.Closed.{framed_text}
 use Rattle.yaml_laws.proofs.Characters.{every_joined, code_point_high, Writes, quoted_chars_all}
 
@@ -79,10 +79,10 @@ key_lines_text i key t =
 
 mutual
   -- an element as it is written is a text
-  element_text : (t : Tree) (i : ℕ) → IsTextTree t → IsText (element_at t i)
+  element_text : (t : Tree) (i : ℕ) → IsTextTree t → IsText (lines_after_dash t i)
   element_text (text value) i h = scalar_text (i + 2) value h
   element_text (sequence no_element) i h = refl
-  element_text (sequence (element t ts)) i h = joined (codes "- " ++ element_at t (i + 2)) (elements_after ts (i + 2)) (element_text t (i + 2) h.0) (elements_text ts (i + 2) h.1)
+  element_text (sequence (element t ts)) i h = joined (codes "- " ++ lines_after_dash t (i + 2)) (elements_after ts (i + 2)) (element_text t (i + 2) h.0) (elements_text ts (i + 2) h.1)
   element_text (mapping no_member) i h = refl
   element_text (mapping (member key t ms)) i h =
       joined (key_lines (i + 2) key ++ value_at t (i + 2)) (members_after ms (i + 2)) (joined (key_lines (i + 2) key) (value_at t (i + 2)) (key_lines_text (i + 2) key h.0) (value_text t (i + 2) h.1)) (members_text ms (i + 2) h.2)
@@ -93,7 +93,7 @@ mutual
   value_text (sequence no_element) i h = refl
   value_text (sequence (element t ts)) i h =
       joined (codes "\n" ++ spaces (i + 2)) (elements_at (element t ts) (i + 2)) (spaces_text (i + 2))
-      (joined (codes "- " ++ element_at t (i + 2)) (elements_after ts (i + 2)) (element_text t (i + 2) h.0) (elements_text ts (i + 2) h.1))
+      (joined (codes "- " ++ lines_after_dash t (i + 2)) (elements_after ts (i + 2)) (element_text t (i + 2) h.0) (elements_text ts (i + 2) h.1))
   value_text (mapping no_member) i h = refl
   value_text (mapping (member key t ms)) i h =
       joined (codes "\n" ++ spaces (i + 2)) (members_at (member key t ms) (i + 2)) (spaces_text (i + 2))
@@ -103,8 +103,8 @@ mutual
   elements_text : (ts : Elements) (i : ℕ) → AreTextElements ts → IsText (elements_after ts i)
   elements_text no_element i h = refl
   elements_text (element t ts) i h =
-      joined (spaces i ++ codes "- " ++ element_at t i) (elements_after ts i)
-      (joined (spaces i ++ codes "- ") (element_at t i) (joined (spaces i) (codes "- ") (spaces_text i) refl) (element_text t i h.0)) (elements_text ts i h.1)
+      joined (spaces i ++ codes "- " ++ lines_after_dash t i) (elements_after ts i)
+      (joined (spaces i ++ codes "- ") (lines_after_dash t i) (joined (spaces i) (codes "- ") (spaces_text i) refl) (element_text t i h.0)) (elements_text ts i h.1)
 
   -- further members as they are written are a text
   members_text : (ms : Members) (i : ℕ) → AreTextMembers ms → IsText (members_after ms i)
@@ -117,7 +117,7 @@ mutual
 pub style_is_text : (t : Tree) → IsTextTree t → IsText (style_text t)
 style_is_text (text value) h = scalar_text 2 value h
 style_is_text (sequence no_element) h = refl
-style_is_text (sequence (element t ts)) h = joined (codes "- " ++ element_at t 0) (elements_after ts 0) (element_text t 0 h.0) (elements_text ts 0 h.1)
+style_is_text (sequence (element t ts)) h = joined (codes "- " ++ lines_after_dash t 0) (elements_after ts 0) (element_text t 0 h.0) (elements_text ts 0 h.1)
 style_is_text (mapping no_member) h = refl
 style_is_text (mapping (member key t ms)) h =
     joined (key_lines 0 key ++ value_at t 0) (members_after ms 0) (joined (key_lines 0 key) (value_at t 0) (key_lines_text 0 key h.0) (value_text t 0 h.1)) (members_text ms 0 h.2)

@@ -38,7 +38,7 @@ pub record BodyStands (digit : Option ℕ) (m : ℕ) (text : List ℕ) (b : Body
 pub record IsBody (digit : Option ℕ) (m : ℕ) (folded : Bool) (chomping : Chomping) (text value rest : List ℕ) : Type 0 where
   pub body : Body
   pub stands : BodyStands digit m text body rest
-  pub means : value ≡ block_value folded chomping body.gaps body.texts
+  pub means : value ≡ block_value folded chomping body.empties body.texts
   pub only : (b : Body) (after : List ℕ) → BodyStands digit m text b after → (b ≡ body) × (after ≡ rest)
 
 -- no body is at the start of the text

@@ -2,7 +2,7 @@
 -- them.
 use Rattle.std.specs.Prelude.{Bool, List, None, Option, Some, [], drop, false, if◌then◌else◌, is_some, length, max, nat_le, nat_lt, suc, true, zero, ℕ, ◌&&◌, ◌+◌, ◌-◌, ◌==◌, ◌∷◌}
 use Rattle.yaml_chars.specs.Classes.{in_range, nb}
-use Rattle.yaml_grammar.specs.BlockScalars.{BlockScalar, Body, Chomping, Gap, Header, TextLine, clip, goes_on, keep, last_spaces, past_spaces, sets_none, spaces_before, strip, widest}
+use Rattle.yaml_grammar.specs.BlockScalars.{BlockScalar, Body, Chomping, BlockEmptyLine, Header, TextLine, clip, goes_on, keep, last_spaces, past_spaces, sets_none, spaces_before, strip, widest}
 use Rattle.yaml_grammar.specs.Separation.{Break, LineEnd}
 use Rattle.yaml_grammar.specs.Texts.{first}
 use Rattle.yaml_recognizers.specs.CanonicalComments.{hash, is_line_end}
@@ -52,34 +52,34 @@ read_header (c ∷ cs) = if c == greater then after_digit true (read_digit cs) e
 -- ---- lines
 
 -- a first empty line, and then as many as the other recognizer finds
-abbrev pub more_gaps : ℕ → List ℕ → (List ℕ → List Gap × List ℕ) → Read Break → List Gap × List ℕ
-more_gaps width text again None = ([], text)
-more_gaps width text again (Some r) = let more = again r.1 in (record { width = width; stop = r.0 } ∷ more.0, more.1)
+abbrev pub more_empties : ℕ → List ℕ → (List ℕ → List BlockEmptyLine × List ℕ) → Read Break → List BlockEmptyLine × List ℕ
+more_empties width text again None = ([], text)
+more_empties width text again (Some r) = let more = again r.1 in (record { width = width; stop = r.0 } ∷ more.0, more.1)
 
 -- the lines of spaces at the start of the text whose widths pass p, at most so many
-abbrev pub read_gaps : ℕ → (ℕ → Bool) → List ℕ → List Gap × List ℕ
-read_gaps zero p text = ([], text)
-read_gaps (suc fuel) p text =
+abbrev pub read_empties : ℕ → (ℕ → Bool) → List ℕ → List BlockEmptyLine × List ℕ
+read_empties zero p text = ([], text)
+read_empties (suc fuel) p text =
     if p (spaces_before text)
-    then more_gaps (spaces_before text) text (λ rest. read_gaps fuel p rest) (read_break (past_spaces text))
+    then more_empties (spaces_before text) text (λ rest. read_empties fuel p rest) (read_break (past_spaces text))
     else ([], text)
 
 -- all lines of spaces whose widths pass p
-abbrev pub gaps_of : (ℕ → Bool) → List ℕ → List Gap × List ℕ
-gaps_of p text = read_gaps (suc (length text)) p text
+abbrev pub empties_of : (ℕ → Bool) → List ℕ → List BlockEmptyLine × List ℕ
+empties_of p text = read_empties (suc (length text)) p text
 
 -- [70] l-empty, 6.4: the empty lines at an indentation
-abbrev pub gaps_at : ℕ → List ℕ → List Gap × List ℕ
-gaps_at q text = gaps_of (λ w. nat_le w q) text
+abbrev pub empties_at : ℕ → List ℕ → List BlockEmptyLine × List ℕ
+empties_at q text = empties_of (λ w. nat_le w q) text
 
 -- all lines of spaces
-abbrev pub all_gaps : List ℕ → List Gap × List ℕ
-all_gaps text = gaps_of (λ _. true) text
+abbrev pub all_empties : List ℕ → List BlockEmptyLine × List ℕ
+all_empties text = empties_of (λ _. true) text
 
 -- [171], 8.1.2, [175] and [177], 8.1.3: the line after its indentation, and the empty lines after it
 abbrev pub read_text_line : ℕ → List ℕ → Read TextLine
 read_text_line q line =
-    on (read_stop (drop_while nb line)) (λ stop rest. let g = gaps_at q rest in Some (record { text = take_while nb line; stop = stop; gaps = g.0 }, g.1))
+    on (read_stop (drop_while nb line)) (λ stop rest. let g = empties_at q rest in Some (record { text = take_while nb line; stop = stop; empties = g.0 }, g.1))
 
 -- the text lines at the start of the text, up to the first line that is neither a text line nor empty
 abbrev pub read_text_lines : ℕ → ℕ → List ℕ → Read (List TextLine)
@@ -97,7 +97,7 @@ lines_at q text = read_text_lines (suc (length text)) q text
 
 -- 8.1.1.1: The indentation, from the lines of spaces at the start and what comes after them. None if a line of spaces
 -- is too wide, or if the first other line starts with no character that a text line may have.
-abbrev pub indent_after : ℕ → List Gap × List ℕ → Option ℕ
+abbrev pub indent_after : ℕ → List BlockEmptyLine × List ℕ → Option ℕ
 indent_after m g =
     if sets_none m g.1 then Some (max m (max (widest g.0) (last_spaces g.1)))
     else if nat_le (widest g.0) (spaces_before g.1) && first nb (past_spaces g.1) then Some (spaces_before g.1)
@@ -106,7 +106,7 @@ indent_after m g =
 -- the indentation, from the digit or from the lines
 abbrev pub find_indent : Option ℕ → ℕ → List ℕ → Option ℕ
 find_indent (Some d) m text = Some ((m - 1) + d)
-find_indent None m text = indent_after m (all_gaps text)
+find_indent None m text = indent_after m (all_empties text)
 
 -- ---- the scalar
 
@@ -114,8 +114,8 @@ find_indent None m text = indent_after m (all_gaps text)
 abbrev pub body_at : List ℕ → Option ℕ → Read Body
 body_at text None = None
 body_at text (Some q) =
-    let g = gaps_at q text in
-    on (lines_at q g.1) (λ ls rest. Some (record { indent = q; gaps = g.0; texts = ls }, rest))
+    let g = empties_at q text in
+    on (lines_at q g.1) (λ ls rest. Some (record { indent = q; empties = g.0; texts = ls }, rest))
 
 -- [173] l-literal-content, 8.1.2, and [182] l-folded-content, 8.1.3: a body, from the digit and the least indentation
 abbrev pub read_body : Option ℕ → ℕ → List ℕ → Read Body

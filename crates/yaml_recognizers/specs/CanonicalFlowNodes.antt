@@ -2,7 +2,7 @@
 use Rattle.std.specs.Prelude.{ℕ, Bool, true, false, not, ◌&&◌, ◌||◌, List, ◌++◌, is_some, codes, if◌then◌else◌}
 use Rattle.yaml_grammar.specs.Texts.{first, starts_line}
 use Rattle.yaml_grammar.specs.Separation.{gap_text}
-use Rattle.yaml_grammar.specs.FlowScalars.{FlowContext, flow_key, inside, one_line, safe, scalar_fits}
+use Rattle.yaml_grammar.specs.FlowScalars.{FlowContext, flow_key, in_flow, one_line, safe, scalar_fits}
 use Rattle.yaml_grammar.specs.FlowNodes.{Flow, scalar, seq, map, Entries, none, last, next, Entry, entry, Value, absent, empty, given, flow_text, entries_text, value_text, is_plain, before_colon, single_pair, short_key}
 use Rattle.yaml_recognizers.specs.CanonicalComments.{canonical_gap}
 
@@ -12,10 +12,10 @@ abbrev mutual
   canonical_flow (scalar s) n c bol after = scalar_fits n c bol s after
   canonical_flow (seq gap es) n c bol after =
       canonical_gap n (one_line c) gap (entries_text es ++ (codes "]" ++ after))
-      && canonical_entries es n (inside c) true (starts_line false (gap_text gap)) (codes "]" ++ after)
+      && canonical_entries es n (in_flow c) true (starts_line false (gap_text gap)) (codes "]" ++ after)
   canonical_flow (map gap es) n c bol after =
       canonical_gap n (one_line c) gap (entries_text es ++ (codes "}" ++ after))
-      && canonical_entries es n (inside c) false (starts_line false (gap_text gap)) (codes "}" ++ after)
+      && canonical_entries es n (in_flow c) false (starts_line false (gap_text gap)) (codes "}" ++ after)
 
   -- [138] and [141], 7.4: entries in the context d between the brackets; in_seq says whether they are those of a
   -- sequence

@@ -3,8 +3,8 @@
 use Rattle.std.specs.Prelude.{ℕ, ◌+◌, Bool, true, false, not, ◌&&◌, List, [], ◌∷◌, ◌++◌, flat_map, if◌then◌else◌}
 use Rattle.yaml_chars.specs.Classes.{white}
 use Rattle.std.specs.List.{list_all}
-use Rattle.yaml_grammar.specs.Texts.{is_empty, byte_len, ends_word, starts_line}
-use Rattle.yaml_grammar.specs.Separation.{LineEnd, line_end_text, comment_line_fits, comments_text}
+use Rattle.yaml_grammar.specs.Texts.{is_empty, byte_len, marker, starts_line}
+use Rattle.yaml_grammar.specs.Separation.{LineEnd, line_end_text, comment_line_fits}
 use Rattle.yaml_grammar.specs.BlockNodes.{node_text}
 use Rattle.yaml_grammar.specs.Events.{Event}
 use Rattle.yaml_grammar.specs.Streams.{Explicit, content, nothing, Document, bare, explicit, directed, explicit_text, document_text, document_events, suffix_text, mark_text}
@@ -44,23 +44,24 @@ flat_text s = mark_text s.mark ++ pieces_text s.pieces
 
 -- [208] l-explicit-document, 9.1.4: `---` is at the start of a line, as a marker
 abbrev pub canonical_explicit : Explicit → Bool → List ℕ → Bool
-canonical_explicit (content n) bol after = bol && ends_word (node_text n ++ after) && canonical_node n 0 false false after
+canonical_explicit (content n) bol after =
+    bol && marker (explicit_text (content n) ++ after) && canonical_node n 0 false false after
 canonical_explicit (nothing comments) bol after =
-    bol && ends_word (comments_text comments ++ after) && canonical_comments false comments after
+    bol && marker (explicit_text (nothing comments) ++ after) && canonical_comments false comments after
 
 -- [210] l-any-document, 9.2: A bare document and a directive are at the start of the stream or after a suffix,
 -- perhaps with lines between; opened says so. The lines before a bare document are pieces of their own.
 abbrev pub canonical_document : Document → Bool → Bool → List ℕ → Bool
 canonical_document (bare n) opened bol after = opened && not (is_line_end (node_text n ++ after)) && canonical_node n 0 false bol after
 canonical_document (explicit x) opened bol after = canonical_explicit x bol after
-canonical_document (directed blank first_version comments x) opened bol after =
+canonical_document (directed blank version comments x) opened bol after =
     opened && bol && list_all white blank && not (is_empty blank) && canonical_comments false comments (explicit_text x ++ after)
     && canonical_explicit x true after
 
 -- [211] l-yaml-stream, 9.2: a piece in its canonical form; `...` is at the start of a line, as a marker
 abbrev pub canonical_piece : Piece → Bool → Bool → List ℕ → Bool
 canonical_piece (suffix comments) opened bol after =
-    bol && ends_word (comments_text comments ++ after) && canonical_comments false comments after
+    bol && marker (suffix_text comments ++ after) && canonical_comments false comments after
 canonical_piece (line e) opened bol after = comment_line_fits bol e after
 canonical_piece (document d) opened bol after = canonical_document d opened bol after
 

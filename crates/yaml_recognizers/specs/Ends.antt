@@ -20,11 +20,11 @@ solid x = not (white x || line_break x || hash x)
 -- ---- flow scalars
 
 -- between brackets
-abbrev pub in_flow : FlowContext → Bool
-in_flow outer = false
-in_flow inner = true
-in_flow block_key = false
-in_flow flow_key = true
+abbrev pub between_brackets : FlowContext → Bool
+between_brackets outer = false
+between_brackets inner = true
+between_brackets block_key = false
+between_brackets flow_key = true
 
 -- a comma or a closing bracket
 abbrev pub closing : ℕ → Bool
@@ -37,7 +37,7 @@ is_colon d after_plain (c ∷ cs) = (c == colon) && not (after_plain && first (s
 
 -- between brackets: a gap, and then a closing character or the `:` of a value
 pub record BetweenBrackets (c : FlowContext) (after_plain : Bool) (after : List ℕ) : Type 0 where
-  pub within : in_flow c ≡ true
+  pub within : between_brackets c ≡ true
   pub gap : Option Sep
   pub rest : List ℕ
   pub is : after ≡ gap_text gap ++ rest
@@ -46,7 +46,7 @@ pub record BetweenBrackets (c : FlowContext) (after_plain : Bool) (after : List 
 
 -- in a block: whitespace, and then the `:` of a key
 pub record BeforeColon (c : FlowContext) (after : List ℕ) : Type 0 where
-  pub outside : in_flow c ≡ false
+  pub outside : between_brackets c ≡ false
   pub gap : List ℕ
   pub rest : List ℕ
   pub is : after ≡ gap ++ (colon ∷ rest)

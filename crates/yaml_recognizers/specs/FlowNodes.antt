@@ -3,7 +3,7 @@ use Rattle.std.specs.Prelude.{ℕ, zero, suc, ◌+◌, ◌*◌, Bool, true, fals
 use Rattle.yaml_chars.specs.Classes.{is_in}
 use Rattle.yaml_grammar.specs.Texts.{first, starts_line}
 use Rattle.yaml_grammar.specs.Separation.{Sep, gap_text}
-use Rattle.yaml_grammar.specs.FlowScalars.{FlowContext, flow_key, safe, inside, one_line, Scalar}
+use Rattle.yaml_grammar.specs.FlowScalars.{FlowContext, flow_key, safe, in_flow, one_line, Scalar}
 use Rattle.yaml_grammar.specs.FlowNodes.{Flow, scalar, seq, map, Entries, none, last, next, Entry, entry, Value, absent, empty, given, value_text, is_plain, single_pair, short_key, before_colon}
 use Rattle.yaml_chars.specs.Signs.{close_brace, close_bracket, comma, open_brace, open_bracket, question}
 use Rattle.yaml_recognizers.specs.Prefixes.{past}
@@ -77,9 +77,9 @@ module _ (read_scalar : ℕ → FlowContext → Bool → List ℕ → Read Scala
     read_flow zero n c bol text = None
     read_flow (suc fuel) n c bol text =
         if first (λ x. x == open_bracket) text
-        then in_brackets seq close_bracket (λ gap rest. read_entries fuel n (inside c) true (starts_line false (gap_text gap)) close_bracket rest) (read_gap n (one_line c) (past text))
+        then in_brackets seq close_bracket (λ gap rest. read_entries fuel n (in_flow c) true (starts_line false (gap_text gap)) close_bracket rest) (read_gap n (one_line c) (past text))
         else if first (λ x. x == open_brace) text
-        then in_brackets map close_brace (λ gap rest. read_entries fuel n (inside c) false (starts_line false (gap_text gap)) close_brace rest) (read_gap n (one_line c) (past text))
+        then in_brackets map close_brace (λ gap rest. read_entries fuel n (in_flow c) false (starts_line false (gap_text gap)) close_brace rest) (read_gap n (one_line c) (past text))
         else on (read_scalar n c bol text) (λ s rest. Some (scalar s, rest))
 
     -- the entries up to the closing bracket

@@ -1,7 +1,7 @@
 -- The recognizer of what joins two lines of a flow scalar. It serves all three styles.
 use Rattle.std.specs.Prelude.{Bool, List, None, Some, [], codes, false, if◌then◌else◌, true, ℕ, ◌&&◌, ◌++◌, ◌==◌, ◌||◌}
 use Rattle.yaml_chars.specs.Classes.{line_break, space, white}
-use Rattle.yaml_grammar.specs.FlowScalars.{Empty, Line, empties_text}
+use Rattle.yaml_grammar.specs.FlowScalars.{FlowEmptyLine, Line, flow_empties_text}
 use Rattle.yaml_grammar.specs.Separation.{Break, break_text, indents}
 use Rattle.std.specs.List.{list_all}
 use Rattle.yaml_grammar.specs.Texts.{begins, first, no_marker, spaces}
@@ -17,7 +17,7 @@ pub record Join : Type 0 where
   pub escaped : Bool
   pub blank : List ℕ
   pub stop : Break
-  pub empties : List Empty
+  pub empties : List FlowEmptyLine
   pub lead : List ℕ
 
 -- the join of a line
@@ -34,21 +34,21 @@ prefix_text j = j.blank ++ (if j.escaped then codes "\\" else []) ++ break_text 
 
 -- what it spells, and the rest
 abbrev pub join_text_then : Join → List ℕ → List ℕ
-join_text_then j after = prefix_text j ++ (empties_text j.empties ++ (j.lead ++ after))
+join_text_then j after = prefix_text j ++ (flow_empties_text j.empties ++ (j.lead ++ after))
 
 -- whitespace, and a break after it
 abbrev pub at_break : List ℕ → Bool
 at_break text = first line_break (drop_while white text)
 
 -- [70] l-empty, 6.4
-unfoldable pub read_empty : ℕ → List ℕ → Read Empty
+unfoldable pub read_empty : ℕ → List ℕ → Read FlowEmptyLine
 read_empty n text =
     let blank = take_while white text in
     if begins (spaces n) blank || list_all space blank
     then on (read_break (drop_while white text)) (λ stop rest. Some (record { blank = blank; stop = stop }, rest)) else None
 
 -- after the empty lines: the start of the next line
-abbrev pub with_lead : Bool → ℕ → List ℕ → Break → List Empty × List ℕ → Read Join
+abbrev pub with_lead : Bool → ℕ → List ℕ → Break → List FlowEmptyLine × List ℕ → Read Join
 with_lead escaped n blank stop empties =
     let lead = take_while white empties.1 in
     if indents n lead && no_marker true empties.1

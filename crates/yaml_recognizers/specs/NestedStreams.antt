@@ -28,7 +28,7 @@ abbrev mutual
   closed_pieces (line e ∷ ps) = line_part e ∷ closed_pieces ps
   closed_pieces (document (explicit x) ∷ ps) = further x ∷ closed_pieces ps
   closed_pieces (document (bare n) ∷ ps) = closed_pieces ps
-  closed_pieces (document (directed blank first_version comments x) ∷ ps) = further x ∷ closed_pieces ps
+  closed_pieces (document (directed blank version comments x) ∷ ps) = further x ∷ closed_pieces ps
   closed_pieces (suffix comments ∷ ps) =
       let more = opened_pieces ps in suffixes comments [] more.prefix more.document ∷ more.parts
 

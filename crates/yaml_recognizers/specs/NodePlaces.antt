@@ -3,7 +3,7 @@
 use Rattle.std.specs.Prelude.{◌≡◌, ℕ, suc, ◌+◌, Bool, true, false, ◌==◌, List, [], ◌∷◌, ◌++◌, Option, Some, None, is_some, flat_map, codes, if◌then◌else◌}
 use Rattle.yaml_grammar.specs.Texts.{byte_len, optional, spaces, starts_line}
 use Rattle.yaml_grammar.specs.Separation.{comments_text, gap_text, sep_text}
-use Rattle.yaml_grammar.specs.FlowScalars.{FlowContext, outer, block_key, flow_key, inside}
+use Rattle.yaml_grammar.specs.FlowScalars.{FlowContext, outer, block_key, flow_key, in_flow}
 use Rattle.yaml_grammar.specs.FlowNodes.{Flow, scalar, seq, map, Entries, none, last, next, Entry, entry, Value, absent, empty, given, asked_text, single_pair, flow_text, entries_text, entry_text, value_text}
 use Rattle.yaml_grammar.specs.BlockNodes.{Node, block, flow, items, pairs, Items, item, item_and, Pairs, pair, pair_and, Pair, asked, asked_alone, keyed, keyed_alone, Indented, compact_items, compact_pairs, node, omitted, node_text, items_text, pairs_text, pair_text, indented_text}
 use Rattle.yaml_grammar.specs.Streams.{Explicit, content, nothing, Document, bare, explicit, directed, Part, suffixes, line, further, Stream, directive_text, document_text, mark_text, suffix_text, part_text, parts_text}
@@ -23,10 +23,10 @@ abbrev mutual
   flow_places (scalar s) n c bol at after = flow_at n c bol at (scalar s) after ∷ []
   flow_places (seq gap es) n c bol at after =
       flow_at n c bol at (seq gap es) after
-      ∷ entries_places es n (inside c) true (starts_line false (gap_text gap)) (at + 1 + byte_len (gap_text gap)) (codes "]" ++ after)
+      ∷ entries_places es n (in_flow c) true (starts_line false (gap_text gap)) (at + 1 + byte_len (gap_text gap)) (codes "]" ++ after)
   flow_places (map gap es) n c bol at after =
       flow_at n c bol at (map gap es) after
-      ∷ entries_places es n (inside c) false (starts_line false (gap_text gap)) (at + 1 + byte_len (gap_text gap)) (codes "}" ++ after)
+      ∷ entries_places es n (in_flow c) false (starts_line false (gap_text gap)) (at + 1 + byte_len (gap_text gap)) (codes "}" ++ after)
 
   -- the nodes in entries
   pub entries_places : Entries → ℕ → FlowContext → Bool → Bool → ℕ → List ℕ → List NodePlace
@@ -111,7 +111,7 @@ explicit_places (nothing comments) at after = []
 abbrev pub document_places : Document → Bool → ℕ → List ℕ → List NodePlace
 document_places (bare n) bol at after = node_places n 0 false bol at after
 document_places (explicit x) bol at after = explicit_places x at after
-document_places (directed blank first_version comments x) bol at after = explicit_places x (at + byte_len (directive_text blank first_version comments)) after
+document_places (directed blank version comments x) bol at after = explicit_places x (at + byte_len (directive_text blank version comments)) after
 
 -- the nodes of a document that may be left out
 abbrev pub optional_document_places : Option Document → ℕ → List ℕ → List NodePlace

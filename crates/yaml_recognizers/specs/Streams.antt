@@ -7,7 +7,7 @@ use Rattle.yaml_grammar.specs.Separation.{LineEnd}
 use Rattle.yaml_grammar.specs.FlowScalars.{FlowContext, Scalar}
 use Rattle.yaml_grammar.specs.BlockScalars.{BlockScalar}
 use Rattle.yaml_grammar.specs.BlockNodes.{Node}
-use Rattle.yaml_grammar.specs.Streams.{Explicit, content, nothing, Document, bare, explicit, directed}
+use Rattle.yaml_grammar.specs.Streams.{Explicit, content, nothing, Version, yaml_1_1, yaml_1_2, Document, bare, explicit, directed}
 use Rattle.yaml_chars.specs.Signs.{byte_order_mark, dash, dot, percent_sign}
 use Rattle.yaml_recognizers.specs.Prefixes.{take_while, drop_while}
 use Rattle.yaml_recognizers.specs.Reading.{Read, on}
@@ -16,9 +16,9 @@ use Rattle.yaml_recognizers.specs.CanonicalStreams.{Piece, suffix, line, documen
 use Rattle.yaml_recognizers.specs.Comments.{read_line_end, all_comments, closes_line}
 use Rattle.yaml_recognizers.specs.BlockNodes.{omits, whole_node}
 
--- three times x, as a marker: `---` or `...`
-abbrev pub mark_at : ℕ → List ℕ → Bool
-mark_at x text = begins (x ∷ x ∷ x ∷ []) text && ends_word (drop 3 text)
+-- the marker of three times this sign: `---` or `...` (`marker` is either)
+abbrev pub marker_of : ℕ → List ℕ → Bool
+marker_of x text = begins (x ∷ x ∷ x ∷ []) text && ends_word (drop 3 text)
 
 -- `%` starts a directive: a bare node does not start with it
 abbrev pub percent : ℕ → Bool
@@ -36,25 +36,25 @@ explicit_with node_at text c = if omits 0 false c then Some (nothing c.0, c.1) e
 
 -- [208] l-explicit-document, 9.1.4, after its `---`
 unfoldable pub read_explicit : (Bool → List ℕ → Read Node) → List ℕ → Read Explicit
-read_explicit node_at text = if mark_at dash text then explicit_with node_at (drop 3 text) (all_comments false (drop 3 text)) else None
+read_explicit node_at text = if marker_of dash text then explicit_with node_at (drop 3 text) (all_comments false (drop 3 text)) else None
 
--- [87] ns-yaml-version, 6.8.1: whether the version is 1.1
-abbrev pub read_version : List ℕ → Read Bool
+-- [87] ns-yaml-version, 6.8.1
+abbrev pub read_version : List ℕ → Read Version
 read_version text =
-    if begins (codes "1.1") text then Some (true, drop 3 text)
-    else if begins (codes "1.2") text then Some (false, drop 3 text)
+    if begins (codes "1.1") text then Some (yaml_1_1, drop 3 text)
+    else if begins (codes "1.2") text then Some (yaml_1_2, drop 3 text)
     else None
 
 -- a document after its directive and comments
-abbrev pub directed_with : (Bool → List ℕ → Read Node) → List ℕ → Bool → List LineEnd × List ℕ → Read Document
-directed_with node_at blank first_version c =
-    if closes_line c then on (read_explicit node_at c.1) (λ x rest. Some (directed blank first_version c.0 x, rest)) else None
+abbrev pub directed_with : (Bool → List ℕ → Read Node) → List ℕ → Version → List LineEnd × List ℕ → Read Document
+directed_with node_at blank version c =
+    if closes_line c then on (read_explicit node_at c.1) (λ x rest. Some (directed blank version c.0 x, rest)) else None
 
 -- a document after the whitespace of its directive
 abbrev pub version_with : (Bool → List ℕ → Read Node) → List ℕ → List ℕ → Read Document
 version_with node_at blank text =
     if is_empty blank then None
-    else on (read_version text) (λ first_version rest. directed_with node_at blank first_version (all_comments false rest))
+    else on (read_version text) (λ version rest. directed_with node_at blank version (all_comments false rest))
 
 -- [209] l-directive-document, 9.1.5
 abbrev pub read_directed : (Bool → List ℕ → Read Node) → List ℕ → Read Document
@@ -71,8 +71,8 @@ suffix_with c = if closes_line c then Some (suffix c.0, c.1) else None
 unfoldable pub read_piece : (Bool → List ℕ → Read Node) → Bool → Bool → List ℕ → Read Piece
 read_piece node_at opened bol text =
     if is_line_end text then on (read_line_end bol text) (λ e rest. Some (line e, rest))
-    else if bol && mark_at dot text then suffix_with (all_comments false (drop 3 text))
-    else if bol && mark_at dash text then on (read_explicit node_at text) (λ x rest. Some (document (explicit x), rest))
+    else if bol && marker_of dot text then suffix_with (all_comments false (drop 3 text))
+    else if bol && marker_of dash text then on (read_explicit node_at text) (λ x rest. Some (document (explicit x), rest))
     else if opened && bol && first percent text then on (read_directed node_at text) (λ d rest. Some (document d, rest))
     else if opened then on (node_at bol text) (λ n rest. Some (document (bare n), rest))
     else None

@@ -46,7 +46,7 @@ pub fn header_missing()
 pub fn body_found()
     ensures { (digit : Option ℕ) (m : ℕ) (folded : Bool) (chomping : Chomping) (text : List ℕ)
         (b : Body) (rest : List ℕ) → read_body digit m text ≡ Some (b, rest)
-        → IsBody digit m folded chomping text (block_value folded chomping b.gaps b.texts) rest }
+        → IsBody digit m folded chomping text (block_value folded chomping b.empties b.texts) rest }
 {}
 
 /// If no body is found, there is none.

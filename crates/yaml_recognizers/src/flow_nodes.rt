@@ -5,7 +5,7 @@ ghost use Rattle.yaml_chars.specs.Classes.{white, ns};
 ghost use Rattle.std.specs.List.{list_all};
 ghost use Rattle.yaml_grammar.specs.Texts.{first, starts_line};
 ghost use Rattle.yaml_grammar.specs.Separation.{LineEnd, comments_text, gap_text};
-ghost use Rattle.yaml_grammar.specs.FlowScalars.{FlowContext, outer, block_key, inside, one_line};
+ghost use Rattle.yaml_grammar.specs.FlowScalars.{FlowContext, outer, block_key, in_flow, one_line};
 ghost use Rattle.yaml_grammar.specs.FlowNodes.{Flow, scalar, seq, map, none, is_plain, flow_text, short_key};
 ghost use Rattle.yaml_recognizers.specs.CanonicalComments.{canonical_comments};
 ghost use Rattle.yaml_recognizers.specs.CanonicalFlowNodes.{canonical_flow};
@@ -80,11 +80,11 @@ pub fn flow_node_steps()
         → flow_node_at n c bol text
         ≡ (if first (λ x. x == open_bracket) text
         then in_brackets seq close_bracket (λ gap rest.
-        flow_entries_at n (inside c) true (starts_line false (gap_text gap)) close_bracket rest)
+        flow_entries_at n (in_flow c) true (starts_line false (gap_text gap)) close_bracket rest)
         (read_gap n (one_line c) (past text))
         else if first (λ x. x == open_brace) text
         then in_brackets map close_brace (λ gap rest.
-        flow_entries_at n (inside c) false (starts_line false (gap_text gap)) close_brace rest)
+        flow_entries_at n (in_flow c) false (starts_line false (gap_text gap)) close_brace rest)
         (read_gap n (one_line c) (past text))
         else on (read_scalar n c bol text) (λ s rest. Some (scalar s, rest))) }
     ensures entries { (n : ℕ) (d : FlowContext) (in_seq bol : Bool) (close : ℕ) (text : List ℕ)

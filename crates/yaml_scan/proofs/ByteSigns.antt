@@ -13,7 +13,7 @@ use Rattle.yaml_grammar.specs.Texts.{begins, ends_word, first, marker}
 use Rattle.yaml_recognizers.specs.CanonicalComments.{hash}
 use Rattle.yaml_recognizers.specs.Ends.{solid}
 use Rattle.yaml_recognizers.specs.Prefixes.{sign}
-use Rattle.yaml_recognizers.specs.Streams.{mark_at}
+use Rattle.yaml_recognizers.specs.Streams.{marker_of}
 use Rattle.yaml_scan.specs.Markers.{sign_of}
 use Rattle.yaml_scan.specs.ScanPlaces.{is_sign, ends_word_byte}
 use Rattle.yaml_scan.specs.declared.signs.Marker.{Marker}
@@ -98,7 +98,7 @@ three_same a b c d after h =
     let z : c ≡ d = eqb-true c d r.0 in
     cc
 
-mark_signed : (s : ℕ) (cs : List ℕ) → mark_at s cs ≡ true → IsSigned s cs
+mark_signed : (s : ℕ) (cs : List ℕ) → marker_of s cs ≡ true → IsSigned s cs
 mark_signed s [] h = absurd (false≢true h)
 mark_signed s (a ∷ []) h = let p = and_parts (begins (s ∷ s ∷ s ∷ []) (a ∷ [])) _ h in absurd (false≢true (and_parts (a == s) false p.0).1)
 mark_signed s (a ∷ b ∷ []) h =
@@ -107,7 +107,7 @@ mark_signed s (a ∷ b ∷ []) h =
 mark_signed s (a ∷ b ∷ c ∷ after) h =
     record { after = after; spells = three_same a b c s after (and_parts (begins (s ∷ s ∷ s ∷ []) (a ∷ b ∷ c ∷ after)) (ends_word after) h).0 }
 
-marker_signs : (bs : List ℕ) (i s : ℕ) → s < 128 → IsUtf8 bs → IsCharBoundary bs i → mark_at s (rest bs i) ≡ true → AreMarkerSigns bs i s
+marker_signs : (bs : List ℕ) (i s : ℕ) → s < 128 → IsUtf8 bs → IsCharBoundary bs i → marker_of s (rest bs i) ≡ true → AreMarkerSigns bs i s
 marker_signs bs i s a u b h =
     let m : IsSigned s (rest bs i) = mark_signed s (rest bs i) h in
     let one = ascii_at_beginning bs i s (s ∷ s ∷ m.after) u b a m.spells in
@@ -122,17 +122,17 @@ ascii_mark DirectivesEnd = omega arith
 ascii_mark DocumentEnd = omega arith
 
 -- without three signs there is no marker
-pub marker_false : (bs : List ℕ) (i s : ℕ) → s < 128 → IsUtf8 bs → IsCharBoundary bs i → (AreMarkerSigns bs i s → ⊥) → false ≡ mark_at s (rest bs i)
-marker_false bs i s a u b h = elim (cases_Bool (mark_at s (rest bs i))) [
+pub marker_false : (bs : List ℕ) (i s : ℕ) → s < 128 → IsUtf8 bs → IsCharBoundary bs i → (AreMarkerSigns bs i s → ⊥) → false ≡ marker_of s (rest bs i)
+marker_false bs i s a u b h = elim (cases_Bool (marker_of s (rest bs i))) [
   | inl e ↦ absurd (h (marker_signs bs i s a u b e))
   | inr e ↦ sym e
 ]
 
-signed_mark : (s : ℕ) (after : List ℕ) → mark_at s (s ∷ s ∷ s ∷ after) ≡ ends_word after
+signed_mark : (s : ℕ) (after : List ℕ) → marker_of s (s ∷ s ∷ s ∷ after) ≡ ends_word after
 signed_mark s after = rw (same s) refl
 
 -- with three signs there is a marker if the word ends there
-pub marker_by_signs : (bs : List ℕ) (i s : ℕ) → s < 128 → IsUtf8 bs → AreMarkerSigns bs i s → (mark_at s (rest bs i) ≡ ends_word (rest bs (i + 3))) × IsCharBoundary bs (i + 3)
+pub marker_by_signs : (bs : List ℕ) (i s : ℕ) → s < 128 → IsUtf8 bs → AreMarkerSigns bs i s → (marker_of s (rest bs i) ≡ ends_word (rest bs (i + 3))) × IsCharBoundary bs (i + 3)
 marker_by_signs bs i s a u h =
     let within = h.within in
     let one = ascii_prefix bs i s u (omega arith) a h.one in
@@ -141,7 +141,7 @@ marker_by_signs bs i s a u h =
     let e : i + 1 + 1 ≡ i + 2 = omega arith in
     let f : i + 2 + 1 ≡ i + 3 = omega arith in
     let whole : rest bs i ≡ s ∷ s ∷ s ∷ rest bs (i + 3) = one.0 ∙ ap (λ x. s ∷ x) (two.0 ∙ ap (λ x. s ∷ x) (ap (rest bs) e ∙ three.0 ∙ ap (λ x. s ∷ rest bs x) f)) in
-    (ap (mark_at s) whole ∙ signed_mark s (rest bs (i + 3)), subst (λ x. IsCharBoundary bs x) f three.1)
+    (ap (marker_of s) whole ∙ signed_mark s (rest bs (i + 3)), subst (λ x. IsCharBoundary bs x) f three.1)
 
 -- at the end a word ends
 pub word_ends : (bs : List ℕ) (i : ℕ) → length bs ≤ i → ends_word (rest bs i) ≡ true
@@ -165,7 +165,7 @@ neither : (a b : Bool) → ((a && false) && true) || ((b && false) && true) ≡ 
 neither a b = grind arith
 
 -- a marker is one of the two
-pub marker_either : (cs : List ℕ) → marker cs ≡ mark_at 45 cs || mark_at 46 cs
+pub marker_either : (cs : List ℕ) → marker cs ≡ marker_of 45 cs || marker_of 46 cs
 marker_either [] = refl
 marker_either (a ∷ []) = sym (neither (a == 45) (a == 46))
 marker_either (a ∷ b ∷ []) = sym (neither_of (a == 45) (b == 45) (a == 46) (b == 46))

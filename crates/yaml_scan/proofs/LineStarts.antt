@@ -19,7 +19,7 @@ use Rattle.yaml_recognizers.specs.Comments.{read_break}
 use Rattle.yaml_recognizers.proofs.Basics.Breaks.{break_sound, BreakOf}
 use Rattle.yaml_recognizers.proofs.Basics.LineStarts.{starts_joined}
 use Rattle.yaml_recognizers.proofs.Basics.Reading.{Sound}
-use Rattle.yaml_scan.specs.ScanPlaces.{IsBreak, byte_order_mark}
+use Rattle.yaml_scan.specs.ScanPlaces.{IsBreak, byte_order_mark_bytes}
 use Rattle.yaml_scan.proofs.ByteSigns.{IsSign}
 
 -- ---- by the last character
@@ -140,13 +140,13 @@ starts_by_break bs at u b l h =
     let no_mark : (last.1 == 0xfeff) ≡ false = grind (arith, nat_tests) in
     sym (starts_after bs 0 at last.0 last.1 u (omega arith) start b last.2.splits no_mark ∙ is)
 
-mark_encoded : encodes (0xfeff ∷ []) ≡ byte_order_mark
+mark_encoded : encodes (0xfeff ∷ []) ≡ byte_order_mark_bytes
 unfolding encode
 mark_encoded = refl
 
 -- after another byte a line starts only after a byte order mark
 pub starts_by_mark : (bs : List ℕ) (at : ℕ) (r : Bool) → IsUtf8 bs → IsCharBoundary bs at → 0 < at → line_break (get_or bs (at - 1) 0) ≡ false
-    → IsTrue r ↔ (slice_range bs 0 at ≡ byte_order_mark) → r ≡ line_starts bs at
+    → IsTrue r ↔ (slice_range bs 0 at ≡ byte_order_mark_bytes) → r ≡ line_starts bs at
 starts_by_mark bs at r u b l h decides = elim (cases_Bool r) [
   | inl e ↦ (let mark : slice_range bs 0 at ≡ encodes (0xfeff ∷ []) = decides.0 e ∙ sym mark_encoded in
       e ∙ sym (ap (λ t. starts_line true (without_mark (chars t))) mark ∙ ap (λ t. starts_line true (without_mark t)) (chars-encodes (0xfeff ∷ []) refl)))

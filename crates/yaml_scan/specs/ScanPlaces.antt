@@ -2,6 +2,7 @@
 use Rattle.std.specs.Prelude.{◌≡◌, ℕ, ◌-◌, ◌<◌, ◌≤◌, Bool, true, false, ◌||◌, ◌==◌, List, [], ◌∷◌, Option, Some, is_some, slice_index}
 use Rattle.std.specs.Str.{IsCharBoundary}
 use Rattle.yaml_chars.specs.Breaks.{no_break}
+use Rattle.yaml_chars.specs.Signs.{space_char}
 use Rattle.yaml_chars.specs.Classes.{line_break, nb, space, white}
 use Rattle.yaml_chars.specs.Places.{rest, between}
 use Rattle.yaml_grammar.specs.BlockScalars.{past_spaces, spaces_before}
@@ -17,7 +18,7 @@ use Rattle.yaml_recognizers.specs.Prefixes.{take_while, drop_while}
 pub record AreSpaces (text : List ℕ) (at end : ℕ) : Type 0 where
   pub above : at ≤ end
   pub boundary : IsCharBoundary text end
-  pub spaces : (k : ℕ) → at ≤ k → k < end → slice_index text k ≡ 32
+  pub spaces : (k : ℕ) → at ≤ k → k < end → slice_index text k ≡ space_char
   pub stop : first space (rest text end) ≡ false
   pub counts : spaces_before (rest text at) ≡ end - at
   pub leaves : past_spaces (rest text at) ≡ rest text end
@@ -55,8 +56,8 @@ pub record IsStop (text : List ℕ) (at : ℕ) (has_break : Bool) (end : ℕ) : 
   pub is_break : is_some stop ≡ has_break
 
 -- U+FEFF in UTF-8 (5.2)
-abbrev pub byte_order_mark : List ℕ
-byte_order_mark = 0xef ∷ 0xbb ∷ 0xbf ∷ []
+abbrev pub byte_order_mark_bytes : List ℕ
+byte_order_mark_bytes = 0xef ∷ 0xbb ∷ 0xbf ∷ []
 
 -- no break is between the two places
 abbrev pub unbroken_between : List ℕ → ℕ → ℕ → Bool

@@ -5,7 +5,7 @@ ghost use Rattle.yaml_chars.specs.Classes.{line_break};
 ghost use Rattle.yaml_chars.specs.Places.{rest, between};
 ghost use Rattle.yaml_events.specs.EventPlaces.{line_starts};
 ghost use Rattle.yaml_recognizers.specs.Comments.{read_break, read_stop};
-ghost use Rattle.yaml_scan.specs.ScanPlaces.{IsBreak, IsStop, byte_order_mark, unbroken_between};
+ghost use Rattle.yaml_scan.specs.ScanPlaces.{IsBreak, IsStop, byte_order_mark_bytes, unbroken_between};
 
 /// Returns the end of the break at `at`: a line feed, a carriage return, or both in this order
 /// (5.4, `b-break`). Returns None if there is no line break.
@@ -88,7 +88,7 @@ pub fn line_starts(text: &str, at: usize) -> bool
 }
 
 fn is_byte_order_mark(text: &str) -> bool
-    ensures { IsTrue result ↔ (text.now ≡ byte_order_mark) }
+    ensures { IsTrue result ↔ (text.now ≡ byte_order_mark_bytes) }
 {
     text == "\u{feff}"
 }

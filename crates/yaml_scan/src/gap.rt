@@ -21,7 +21,8 @@ pub struct Gap {
     pub is_over_lines: bool,
 }
 
-fn is_on_one_line(context: FlowContext) -> bool
+/// Returns whether what is in the context is on one line, as a key is.
+pub fn is_on_one_line(context: FlowContext) -> bool
     ensures { result ≡ one_line (context_of context) }
 {
     match context {

@@ -17,7 +17,7 @@ mod signs;
 pub use breaks::{Stop, at_most_chars, break_end, has_break, line_starts, stop_at};
 pub use classes::{Class, run_end};
 pub use feeds::push_line_feeds;
-pub use gap::{Gap, gap_end};
+pub use gap::{Gap, gap_end, is_on_one_line};
 pub use lines::{Line, comment_line_end, line_after, rest_of_line_end, solid_line};
 pub use runs::{is_white, nb_at, nb_end, spaces_end, white_end};
 pub use signs::{

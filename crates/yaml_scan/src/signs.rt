@@ -8,7 +8,7 @@ ghost use Rattle.yaml_grammar.specs.FlowScalars.{safe};
 ghost use Rattle.yaml_grammar.specs.Texts.{first, marker};
 ghost use Rattle.yaml_recognizers.specs.Ends.{solid};
 ghost use Rattle.yaml_recognizers.specs.Prefixes.{sign};
-ghost use Rattle.yaml_recognizers.specs.Streams.{mark_at};
+ghost use Rattle.yaml_recognizers.specs.Streams.{marker_of};
 ghost use Rattle.yaml_scan.specs.Markers.{sign_of};
 ghost use Rattle.yaml_scan.specs.ScanPlaces.{is_sign, ends_word_byte};
 
@@ -128,7 +128,7 @@ pub enum Marker {
 /// end of the text. It is a marker only where a line starts, which this does not ask.
 pub fn is_marker_of(text: &str, at: usize, marker: Marker) -> bool
     requires { IsCharBoundary text.now at }
-    ensures { result ≡ mark_at (sign_of marker) (rest text.now at) }
+    ensures { result ≡ marker_of (sign_of marker) (rest text.now at) }
 {
     let sign = marker_sign(marker);
     let bytes = text.as_bytes();

@@ -38,11 +38,13 @@ impl Sink for Comparison<'_> {
 
     type Fault = Infallible;
 
-    ghost Takes = { λ a cs b. (chars b.rest.now, b.agrees) ≡ comparison_after (chars a.rest.now) a.agrees cs };
+    ghost Takes = { λ a cs b. (chars b.rest.now, b.agrees)
+        ≡ comparison_after (chars a.rest.now) a.agrees cs };
 
     ghost takes_none = { λ s. comparison_after-none (chars s.rest.now) s.agrees };
 
-    ghost takes_both = { λ a b c xs ys first second. comparison_after-both (chars a.rest.now) a.agrees (chars b.rest.now) b.agrees
+    ghost takes_both = { λ a b c xs ys first second.
+        comparison_after-both (chars a.rest.now) a.agrees (chars b.rest.now) b.agrees
         (chars c.rest.now, c.agrees) xs ys first second };
 
     fn put_text(&mut self, text: &str) -> Result<(), Infallible> {

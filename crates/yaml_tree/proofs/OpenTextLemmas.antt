@@ -1,7 +1,7 @@
 -- What an event adds to the text of the open parts gives the text of the parts after it.
 use Rattle.std.proofs.Common.{◌≡◌, ℕ, ◌+◌, ◌-◌, if◌then◌else◌, List, [], ◌∷◌, ◌++◌, Option, Some, None, codes, append_assoc, arith, refl, sym, ap, subst, ◌∙◌}
 use Rattle.std.proofs.lemmas.List.{append-nil}
-use Rattle.yaml_grammar.specs.Style.{key_lines, lines_at, elements_at, elements_after, element_at, members_at, members_after, value_at}
+use Rattle.yaml_grammar.specs.Style.{key_lines, lines_at, elements_at, elements_after, lines_after_dash, members_at, members_after, value_at}
 use Rattle.yaml_grammar.specs.Texts.{IsText, spaces}
 use Rattle.yaml_grammar.specs.Trees.{Tree, text, sequence, mapping, Elements, no_element, element, Members, no_member, member, Shape, document_from, document_to, seq_from, seq_to, map_from, map_to, scalar_of, IsTextTree, AreTextElements, AreTextMembers}
 use Rattle.yaml_build.specs.Emptied.{emptied_members, emptied_frame, emptied_frames}
@@ -17,17 +17,17 @@ regroup a b c d = sym (append_assoc a (b ++ c) d) ∙ ap (λ x. x ++ d) (sym (ap
 
 -- the lines of elements with one more at the end
 elements_after-and : (ts : Elements) (u : Tree) (i : ℕ)
-    → elements_after (elements_and ts u) i ≡ elements_after ts i ++ (spaces i ++ codes "- ") ++ element_at u i
-elements_after-and no_element u i = append-nil (spaces i ++ codes "- " ++ element_at u i)
+    → elements_after (elements_and ts u) i ≡ elements_after ts i ++ (spaces i ++ codes "- ") ++ lines_after_dash u i
+elements_after-and no_element u i = append-nil (spaces i ++ codes "- " ++ lines_after_dash u i)
 elements_after-and (element t ts) u i =
-    let line = spaces i ++ codes "- " ++ element_at t i in
-    ap (λ x. line ++ x) (elements_after-and ts u i) ∙ regroup line (elements_after ts i) (spaces i ++ codes "- ") (element_at u i)
+    let line = spaces i ++ codes "- " ++ lines_after_dash t i in
+    ap (λ x. line ++ x) (elements_after-and ts u i) ∙ regroup line (elements_after ts i) (spaces i ++ codes "- ") (lines_after_dash u i)
 
 elements_at-and : (t : Tree) (ts : Elements) (u : Tree) (i : ℕ)
-    → elements_at (element t (elements_and ts u)) i ≡ elements_at (element t ts) i ++ (spaces i ++ codes "- ") ++ element_at u i
+    → elements_at (element t (elements_and ts u)) i ≡ elements_at (element t ts) i ++ (spaces i ++ codes "- ") ++ lines_after_dash u i
 elements_at-and t ts u i =
-    let line = codes "- " ++ element_at t i in
-    ap (λ x. line ++ x) (elements_after-and ts u i) ∙ regroup line (elements_after ts i) (spaces i ++ codes "- ") (element_at u i)
+    let line = codes "- " ++ lines_after_dash t i in
+    ap (λ x. line ++ x) (elements_after-and ts u i) ∙ regroup line (elements_after ts i) (spaces i ++ codes "- ") (lines_after_dash u i)
 
 -- the lines of members with one more at the end
 members_after-and : (ms : Members) (name : List ℕ) (u : Tree) (i : ℕ)
@@ -51,7 +51,7 @@ abbrev value_in : Frame → List Frame → Tree → List ℕ
 value_in awaiting fs t = lines_at t (indent_in fs)
 value_in (root u) fs t = []
 value_in (whole u) fs t = []
-value_in (in_seq ts) fs t = dash (in_seq ts) fs ++ element_at t (indent_in fs)
+value_in (in_seq ts) fs t = dash (in_seq ts) fs ++ lines_after_dash t (indent_in fs)
 value_in (at_key ms) fs (text key) = key_start ms fs ++ key_lines (indent_in fs) key
 value_in (at_key ms) fs (sequence ts) = []
 value_in (at_key ms) fs (mapping ns) = []
@@ -74,9 +74,9 @@ put_lines : (f : Frame) (fs : List Frame) (t : Tree) → AreLines (frame_with f 
 put_lines awaiting fs t = refl
 put_lines (root u) fs t = tt
 put_lines (whole u) fs t = tt
-put_lines (in_seq no_element) fs t = first_element (opening fs) (codes "- ") (element_at t (indent_in fs))
+put_lines (in_seq no_element) fs t = first_element (opening fs) (codes "- ") (lines_after_dash t (indent_in fs))
 put_lines (in_seq (element u us)) fs t =
-    one_more (opening fs) (elements_at (element u us) (indent_in fs)) (spaces (indent_in fs) ++ codes "- ") (element_at t (indent_in fs))
+    one_more (opening fs) (elements_at (element u us) (indent_in fs)) (spaces (indent_in fs) ++ codes "- ") (lines_after_dash t (indent_in fs))
     (elements_at (element u (elements_and us t)) (indent_in fs)) (elements_at-and u us t (indent_in fs))
 put_lines (at_key no_member) fs (text key) = refl
 put_lines (at_key (member k u ms)) fs (text key) = refl
@@ -267,8 +267,8 @@ scalar_in-emptied awaiting fs value = ap (λ i. lines_at (text value) i) (indent
 scalar_in-emptied (root t) fs value = refl
 scalar_in-emptied (whole t) fs value = refl
 scalar_in-emptied (in_seq ts) fs value =
-    ap (λ cs. cs ++ element_at (text value) (indent_in (emptied_frames fs))) (dash-emptied (in_seq ts) fs)
-    ∙ ap (λ i. dash (in_seq ts) fs ++ element_at (text value) i) (indent_in-emptied fs)
+    ap (λ cs. cs ++ lines_after_dash (text value) (indent_in (emptied_frames fs))) (dash-emptied (in_seq ts) fs)
+    ∙ ap (λ i. dash (in_seq ts) fs ++ lines_after_dash (text value) i) (indent_in-emptied fs)
 scalar_in-emptied (at_key ms) fs value =
     ap (λ cs. cs ++ key_lines (indent_in (emptied_frames fs)) value) (key_start-emptied ms fs)
     ∙ ap (λ i. key_start ms fs ++ key_lines i value) (indent_in-emptied fs)

@@ -113,7 +113,7 @@ mutual
 
 abbrev mutual
   node_value : Node → Nested
-  node_value (blocks.block sep b) = text (block_value (b.header).folded (b.header).chomping (b.body).gaps (b.body).texts)
+  node_value (blocks.block sep b) = text (block_value (b.header).folded (b.header).chomping (b.body).empties (b.body).texts)
   node_value (blocks.flow sep f comments) = flow_value f
   node_value (blocks.items comments k is) = sequence (items_values is)
   node_value (blocks.pairs comments k ps) = mapping (pairs_values ps)
@@ -190,7 +190,7 @@ explicit_value (nothing comments) = text []
 abbrev document_value : Document → Nested
 document_value (bare n) = node_value n
 document_value (explicit x) = explicit_value x
-document_value (directed blank first_version comments x) = explicit_value x
+document_value (directed blank version comments x) = explicit_value x
 
 abbrev optional_values : Option Document → List Nested
 optional_values None = []
@@ -212,7 +212,7 @@ explicit_shapes (nothing comments) at = refl
 document_shapes : (d : Document) (at : ℕ) → shapes (document_events d at) ≡ documents_shapes (document_value d ∷ [])
 document_shapes (bare n) at = one_document _ (node_value n) (node_shapes n _)
 document_shapes (explicit x) at = explicit_shapes x at
-document_shapes (directed blank first_version comments x) at = explicit_shapes x _
+document_shapes (directed blank version comments x) at = explicit_shapes x _
 
 optional_shapes : (d : Option Document) (at : ℕ) → shapes (optional_document_events d at) ≡ documents_shapes (optional_values d)
 optional_shapes None at = refl

@@ -5,16 +5,13 @@ use Rattle.yaml_grammar.specs.Reads.{Good}
 use Rattle.yaml_grammar.specs.Style.{style_text}
 use Rattle.yaml_grammar.specs.Texts.{byte_len}
 use Rattle.yaml_grammar.specs.Trees.{Tree, depth, distinct}
+pub use Rattle.yaml_data.specs.OwnLimits.{own_limits}
 use Rattle.yaml_tree.specs.declared.limits.Limits.{Limits}
 use Rattle.yaml_faults.specs.declared.fault.ReadFault.{ReadFault}
 use Rattle.yaml_faults.specs.declared.fault.ReadFault.TheVariants.{KeyTwice, TooDeep, LargeInStyle, OutOfMemory}
 
 abbrev pub limits_of : Limits → grammar.Limits
 limits_of limits = record { bytes = limits.bytes; depth = limits.depth; style = limits.style }
-
--- A Config's own limits: of depth, and of bytes in the one style, which its text as it is read may have too.
-abbrev pub own_limits : grammar.Limits
-own_limits = record { bytes = 67108864; depth = 66; style = 67108864 }
 
 -- all is text, in each mapping the keys differ, and the tree is within a Config's own limits
 abbrev pub IsKept : Tree → Type 0

@@ -14,13 +14,6 @@ use yaml_data::{Text, Tree, has_distinct_keys};
 use yaml_faults::ReadFault;
 use yaml_writer::style_len;
 
-/// The limits that each [`Config`] keeps.
-const OWN_LIMITS: Limits = Limits {
-    bytes: 67_108_864,
-    depth: 66,
-    style: 67_108_864,
-};
-
 /// The bytes of the empty text in the one style, `""` and a line feed.
 const EMPTY_LENGTH: u64 = 3;
 
@@ -48,7 +41,8 @@ impl Model for Config {
 
     ghost view = { λ c. c.tree };
 
-    ghost invariant = { λ c. IsKept (tree_of c.tree) × (c.length ≡ byte_len (style_text (tree_of c.tree))) };
+    ghost invariant = { λ c. IsKept (tree_of c.tree)
+        × (c.length ≡ byte_len (style_text (tree_of c.tree))) };
 }
 
 impl Config {
@@ -61,11 +55,11 @@ impl Config {
         ensures refused { IfErr result (λ refused. (refused.0 ≡ tree)
             × IsFirstFault own_limits (tree_of tree) refused.1) }
     {
-        if tree.is_deeper_than(OWN_LIMITS.depth as u8) {
+        if tree.is_deeper_than(Limits::KEPT.depth as u8) {
             let fault = deep_fault(alloc, &tree);
             return Err((tree, fault));
         }
-        Config::within(alloc, tree, &OWN_LIMITS)
+        Config::within(alloc, tree, &Limits::KEPT)
     }
 
     /// The same within limits that are at most a configuration's own, of a tree that is known to keep to the limit of
@@ -76,8 +70,8 @@ impl Config {
         limits: &Limits,
     ) -> Result<Config, (Tree, ReadFault)>
         requires shallow { depth (tree_of tree) ≤ limits.now.depth }
-        requires depth { limits.now.depth ≤ 66 }
-        requires style { limits.now.style ≤ 67108864 }
+        requires depth { limits.now.depth ≤ own_limits.depth }
+        requires style { limits.now.style ≤ own_limits.style }
         ensures ok { IfOk result (λ config. (config ≡ tree)
             × Good (tree_of tree) (limits_of limits.now)) }
         ensures refused { IfErr result (λ refused. (refused.0 ≡ tree)
@@ -155,7 +149,7 @@ impl Config {
 
 /// What a tree is refused for that is too deep: keys are looked at first.
 fn deep_fault(alloc: Global, tree: &Tree) -> ReadFault
-    requires { 66 < depth (tree_of tree.now) }
+    requires { own_limits.depth < depth (tree_of tree.now) }
     ensures { IsFirstFault own_limits (tree_of tree.now) result }
 {
     match has_distinct_keys(alloc, tree) {
@@ -169,7 +163,7 @@ fn deep_fault(alloc: Global, tree: &Tree) -> ReadFault
 /// what it is refused for.
 fn checked_length(alloc: Global, tree: &Tree, limits: &Limits) -> Result<u64, ReadFault>
     requires shallow { depth (tree_of tree.now) ≤ limits.now.depth }
-    requires depth { limits.now.depth ≤ 66 }
+    requires depth { limits.now.depth ≤ own_limits.depth }
     ensures good { OnOk result (Good (tree_of tree.now) (limits_of limits.now)) }
     ensures length { IfOk result (λ length. length ≡ byte_len (style_text (tree_of tree.now))) }
     ensures refused { IfErr result (IsFirstFault (limits_of limits.now) (tree_of tree.now)) }

@@ -23,7 +23,8 @@ pub(crate) struct Outline {
 impl Outline {
     /// The outline of a list of events. It fails only if memory runs out.
     pub(crate) fn of(alloc: Global, events: &Events<'_>) -> Result<Outline, AllocError>
-        ensures { IfOk result (λ outline. (outline.documents ≡ document_count (events_of events.now))
+        ensures { IfOk result (λ outline.
+            (outline.documents ≡ document_count (events_of events.now))
             × ((t : Tree) → IsTreeOf (events_of events.now) t → outline.depth ≡ depth t)) }
     {
         let mut documents = 0u64;

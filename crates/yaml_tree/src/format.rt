@@ -120,7 +120,8 @@ impl DocumentWriter {
     /// Takes the next event of the document. Returns `KeyNotText` if the event has no place there.
     #[inline(always)]
     fn take(&mut self, event: Event<'_>) -> Result<(), ReadFault>
-        requires indent { self.old.indent ≡ indent_in (open_frames self.old.check.open.parts.items) }
+        requires indent { self.old.indent
+            ≡ indent_in (open_frames self.old.check.open.parts.items) }
         requires room { self.old.indent < 4294967296 }
         ensures { (start : LimitedText) (fs : List Frame) → Writes start self.old fs
             → MatchResult result

@@ -15,7 +15,7 @@ mod read_laws;
 
 pub use config::Config;
 pub use format::format_one;
-pub use limits::{Limits, limits_of_a_configuration};
+pub use limits::{Limits, limits_of_a_configuration, limits_that_are_kept};
 pub use read::read_one;
 pub use read_laws::{bytes_give_one, refused_bytes_give_none};
 pub use yaml_data::{Text, Tree};

@@ -1,6 +1,6 @@
 // How large a text, and the tree in it, may be.
 ghost use Rattle.std.specs.Prelude.{◌≡◌};
-ghost use Rattle.yaml_tree.specs.Kept.{limits_of};
+ghost use Rattle.yaml_tree.specs.Kept.{limits_of, own_limits};
 ghost use Rattle.yaml_tree.specs.Limits.{config_limits};
 
 /// How large a text, and the tree in it, may be.
@@ -22,9 +22,22 @@ impl Limits {
         depth: 64,
         style: 1_048_576,
     };
+
+    /// The limits that every [`Config`](crate::Config) keeps: it is at most 66 deep, and has at most 67,108,864 bytes
+    /// in the one style. A text that is read within them may have as many.
+    pub const KEPT: Limits = Limits {
+        bytes: 67_108_864,
+        depth: 66,
+        style: 67_108_864,
+    };
 }
 
 /// [`Limits::CONFIGURATION`] are the limits that contracts call `config_limits`.
 pub fn limits_of_a_configuration()
     ensures { limits_of Limits.CONFIGURATION ≡ config_limits }
+{}
+
+/// [`Limits::KEPT`] are the limits that contracts call `own_limits`.
+pub fn limits_that_are_kept()
+    ensures { limits_of Limits.KEPT ≡ own_limits }
 {}

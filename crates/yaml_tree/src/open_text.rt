@@ -74,7 +74,8 @@ fn write_line_start<S: Sink>(
     sink: &mut S,
 ) -> Result<(), S::Fault>
     requires { indent ≡ indent_in (open_frames outer.now) }
-    ensures { OnOk result (S.Takes sink.old (line_start is_first (open_frames outer.now)) sink.new) }
+    ensures { OnOk result
+        (S.Takes sink.old (line_start is_first (open_frames outer.now)) sink.new) }
 {
     if !is_first {
         return sink.put_spaces(indent);

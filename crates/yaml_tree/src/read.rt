@@ -2,7 +2,7 @@
 ghost use Rattle.std.specs.Prelude.{◌≡◌, ◌≤◌, ◌<◌, ◌↔◌, Err, IfOk, IfErr, length};
 ghost use Rattle.yaml_events.specs.Meant.{events_of};
 ghost use Rattle.yaml_build.specs.Building.{RefusesDeep};
-ghost use Rattle.yaml_tree.specs.Kept.{limits_of};
+ghost use Rattle.yaml_tree.specs.Kept.{limits_of, own_limits};
 ghost use Rattle.yaml_tree.specs.Reading.{IsRead, Refuses};
 ghost use Rattle.yaml_data.specs.Seen.{tree_of};
 
@@ -25,8 +25,8 @@ use yaml_faults::ReadFault;
 /// Each fault of [`ReadFault`] is returned only where it holds and no earlier one does; [`ReadFault::OutOfMemory`] may
 /// come at any point.
 pub fn read_one(alloc: Global, bytes: &[u8], limits: &Limits) -> Result<Config, ReadFault>
-    requires deep { limits.now.depth ≤ 66 }
-    requires long { limits.now.style ≤ 67108864 }
+    requires deep { limits.now.depth ≤ own_limits.depth }
+    requires long { limits.now.style ≤ own_limits.style }
     ensures given { IfOk result (λ config.
         IsRead bytes.now (limits_of limits.now) (tree_of config)) }
     ensures too_long { (result ≡ Err ReadFault.TooLong) ↔ (limits.now.bytes < length bytes.now) }

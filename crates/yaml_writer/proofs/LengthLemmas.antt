@@ -4,7 +4,7 @@ use Rattle.std.proofs.lemmas.Str.{len_utf8_bounds}
 use Rattle.std.proofs.lemmas.Bool.{and_parts}
 use Rattle.yaml_grammar.specs.Texts.{byte_len, spaces, first}
 use Rattle.yaml_grammar.specs.Trees.{Tree, text, sequence, mapping, Elements, no_element, element, Members, no_member, member, depth, elements_depth, members_depth}
-use Rattle.yaml_grammar.specs.Style.{letter, plain_in_style, literal_in_style, in_double_quotes, quoted_chars, literal_mark, literal_lines, feeds_at_end, scalar_lines, key_text, long_key, key_lines, elements_at, elements_after, element_at, members_at, members_after, value_at, style_text}
+use Rattle.yaml_grammar.specs.Style.{letter, plain_in_style, literal_in_style, in_double_quotes, quoted_chars, literal_mark, literal_lines, feeds_at_end, scalar_lines, key_text, long_key, key_lines, elements_at, elements_after, lines_after_dash, members_at, members_after, value_at, style_text}
 
 -- a text has at least as many bytes as characters
 pub length-byte_len : (cs : List ℕ) → length cs ≤ byte_len cs
@@ -63,7 +63,7 @@ parts : (xs ys zs : List ℕ) → length (xs ++ ys ++ zs) ≡ length xs + length
 parts xs ys zs = omega (arith, length-append (xs ++ ys) zs, length-append xs ys)
 
 mutual
-  deep_element : (t : Tree) (i : ℕ) → 2 * depth t ≤ length (element_at t i)
+  deep_element : (t : Tree) (i : ℕ) → 2 * depth t ≤ length (lines_after_dash t i)
   deep_element (text value) i = scalar_two (i + 2) value
   deep_element (sequence ts) i = deep_elements ts (i + 2)
   deep_element (mapping ms) i = deep_members ms (i + 2)
@@ -80,12 +80,12 @@ mutual
   deep_elements : (ts : Elements) (i : ℕ) → 2 * suc (elements_depth ts) ≤ length (elements_at ts i)
   deep_elements no_element i = omega arith
   deep_elements (element t ts) i =
-      omega (arith, deep_element t i, deep_after ts i, parts (codes "- ") (element_at t i) (elements_after ts i))
+      omega (arith, deep_element t i, deep_after ts i, parts (codes "- ") (lines_after_dash t i) (elements_after ts i))
 
   deep_after : (ts : Elements) (i : ℕ) → 2 * elements_depth ts ≤ length (elements_after ts i)
   deep_after no_element i = omega arith
   deep_after (element t ts) i =
-      omega (arith, deep_element t i, deep_after ts i, parts (spaces i ++ codes "- ") (element_at t i) (elements_after ts i))
+      omega (arith, deep_element t i, deep_after ts i, parts (spaces i ++ codes "- ") (lines_after_dash t i) (elements_after ts i))
 
   deep_members : (ms : Members) (i : ℕ) → 2 * suc (members_depth ms) ≤ length (members_at ms i)
   deep_members no_member i = omega arith

@@ -7,7 +7,7 @@ use Rattle.yaml_chars.specs.Classes.{in_range}
 use Rattle.yaml_chars.specs.Signs.{null, bell, line_feed, carriage_return, escape_char, double_quote, backslash}
 use Rattle.yaml_grammar.specs.Texts.{byte_len, spaces}
 use Rattle.yaml_grammar.specs.Trees.{Tree, text, sequence, mapping, Elements, no_element, element, Members, no_member, member}
-use Rattle.yaml_grammar.specs.Style.{shown as is_shown, hex, letter_escape, quoted_char, quoted_chars, plain_in_style, literal_in_style, in_double_quotes, literal_mark, literal_lines, feeds_at_end, scalar_lines, key_text, long_key, key_lines, elements_at, elements_after, element_at, members_at, members_after, value_at, style_text}
+use Rattle.yaml_grammar.specs.Style.{shown as is_shown, hex, letter_escape, quoted_char, quoted_chars, plain_in_style, literal_in_style, in_double_quotes, literal_mark, literal_lines, feeds_at_end, scalar_lines, key_text, long_key, key_lines, elements_at, elements_after, lines_after_dash, members_at, members_after, value_at, style_text}
 use Rattle.yaml_writer.specs.BudgetLaws.{byte_len-append}
 use Rattle.yaml_writer.specs.Sizes.{indented_literal_lines, indented_scalar_lines, indented_key_lines, indented, elements_indented, elements_after_indented, members_indented, members_after_indented, value_indented}
 use Rattle.yaml_writer.proofs.SizeLaws.{three, four, scalar_law, elements_law, members_law}
@@ -136,7 +136,7 @@ on_own_lines lines n bound law =
 
 mutual
   -- an element has a byte at least for each line that is indented
-  pub element_bound : (t : Tree) → indented t ≤ byte_len (element_at t 0)
+  pub element_bound : (t : Tree) → indented t ≤ byte_len (lines_after_dash t 0)
   element_bound (text value) = omega (arith, scalar_bound value, scalar_law 2 value)
   element_bound (sequence ts) = omega (arith, elements_bound ts, elements_law ts 2)
   element_bound (mapping ms) = omega (arith, members_bound ms, members_law ms 2)
@@ -145,13 +145,13 @@ mutual
   pub elements_bound : (ts : Elements) → elements_indented ts ≤ byte_len (elements_at ts 0)
   elements_bound no_element = omega arith
   elements_bound (element t ts) =
-      omega (arith, element_bound t, elements_after_bound ts, three (codes "- ") (element_at t 0) (elements_after ts 0))
+      omega (arith, element_bound t, elements_after_bound ts, three (codes "- ") (lines_after_dash t 0) (elements_after ts 0))
 
   -- so do the elements after the first
   pub elements_after_bound : (ts : Elements) → elements_after_indented ts ≤ byte_len (elements_after ts 0)
   elements_after_bound no_element = omega arith
   elements_after_bound (element t ts) =
-      omega (arith, element_bound t, elements_after_bound ts, three (codes "- ") (element_at t 0) (elements_after ts 0))
+      omega (arith, element_bound t, elements_after_bound ts, three (codes "- ") (lines_after_dash t 0) (elements_after ts 0))
 
   -- so do the members of a mapping
   pub members_bound : (ms : Members) → members_indented ms ≤ byte_len (members_at ms 0)
@@ -198,7 +198,7 @@ times_at_most (suc (suc i)) n h = absurd (omega arith)
 -- ---- by the length of the whole
 
 -- as an element, a tree is at most three times as long as alone
-pub element_small : (t : Tree) → byte_len (element_at t 0) ≤ 3 * byte_len (style_text t)
+pub element_small : (t : Tree) → byte_len (lines_after_dash t 0) ≤ 3 * byte_len (style_text t)
 element_small (text value) = omega arith
 element_small (sequence ts) = omega (arith, elements_bound ts, elements_law ts 2)
 element_small (mapping ms) = omega (arith, members_bound ms, members_law ms 2)

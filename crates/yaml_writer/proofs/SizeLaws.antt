@@ -3,7 +3,7 @@ use Rattle.std.proofs.Common.{◌≡◌, ℕ, zero, suc, ◌+◌, ◌-◌, ◌*�
 use Rattle.yaml_chars.specs.Signs.{line_feed}
 use Rattle.yaml_grammar.specs.Texts.{byte_len, spaces}
 use Rattle.yaml_grammar.specs.Trees.{Tree, text, sequence, mapping, Elements, no_element, element, Members, no_member, member}
-use Rattle.yaml_grammar.specs.Style.{plain_in_style, literal_in_style, in_double_quotes, literal_mark, literal_lines, feeds_at_end, scalar_lines, key_text, long_key, key_lines, elements_at, elements_after, element_at, members_at, members_after, value_at}
+use Rattle.yaml_grammar.specs.Style.{plain_in_style, literal_in_style, in_double_quotes, literal_mark, literal_lines, feeds_at_end, scalar_lines, key_text, long_key, key_lines, elements_at, elements_after, lines_after_dash, members_at, members_after, value_at}
 use Rattle.yaml_writer.specs.declared.size.Size.{Size}
 use Rattle.yaml_writer.specs.BudgetLaws.{byte_len-append}
 use Rattle.yaml_writer.specs.Sizes.{indented_literal_lines, indented_scalar_lines, indented_key_lines, indented, elements_indented, elements_after_indented, members_indented, members_after_indented, value_indented}
@@ -90,7 +90,7 @@ key_law i key = by (long_key key) (key_text key)
 
 mutual
   -- so does an element's
-  pub element_law : (t : Tree) (i : ℕ) → byte_len (element_at t i) ≡ byte_len (element_at t 0) + i * indented t
+  pub element_law : (t : Tree) (i : ℕ) → byte_len (lines_after_dash t i) ≡ byte_len (lines_after_dash t 0) + i * indented t
   element_law (text value) i = omega (arith, scalar_law (i + 2) value, scalar_law 2 value)
   element_law (sequence ts) i = omega (arith, elements_law ts (i + 2), elements_law ts 2)
   element_law (mapping ms) i = omega (arith, members_law ms (i + 2), members_law ms 2)
@@ -103,8 +103,8 @@ mutual
         arith,
         element_law t i,
         elements_after_law ts i,
-        three (codes "- ") (element_at t i) (elements_after ts i),
-        three (codes "- ") (element_at t 0) (elements_after ts 0),
+        three (codes "- ") (lines_after_dash t i) (elements_after ts i),
+        three (codes "- ") (lines_after_dash t 0) (elements_after ts 0),
       )
 
   -- so does that of the elements after the first
@@ -116,8 +116,8 @@ mutual
         arith,
         element_law t i,
         elements_after_law ts i,
-        four (spaces i) (codes "- ") (element_at t i) (elements_after ts i),
-        four (spaces 0) (codes "- ") (element_at t 0) (elements_after ts 0),
+        four (spaces i) (codes "- ") (lines_after_dash t i) (elements_after ts i),
+        four (spaces 0) (codes "- ") (lines_after_dash t 0) (elements_after ts 0),
         spaces_bytes i,
       )
 

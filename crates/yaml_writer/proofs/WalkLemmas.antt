@@ -2,14 +2,14 @@
 use Rattle.std.proofs.Common.{◌≡◌, ℕ, ◌+◌, List, [], ◌∷◌, ◌++◌, length, codes, refl, sym, subst, arith}
 use Rattle.yaml_grammar.specs.Texts.{spaces}
 use Rattle.yaml_grammar.specs.Trees.{sequence, mapping, Elements, no_element, element, Members, no_member, member}
-use Rattle.yaml_grammar.specs.Style.{key_lines, elements_at, elements_after, element_at, members_at, members_after, value_at}
+use Rattle.yaml_grammar.specs.Style.{key_lines, elements_at, elements_after, lines_after_dash, members_at, members_after, value_at}
 use Rattle.yaml_data.specs.Seen.{Pair, elements_of, members_of}
 use Rattle.yaml_data.specs.declared.tree.Tree.{Tree}
 
 -- elements with this many spaces before the first; each further line has its indentation
 abbrev pub elements_led : ℕ → Elements → ℕ → List ℕ
 elements_led lead no_element i = []
-elements_led lead (element t ts) i = spaces lead ++ codes "- " ++ element_at t i ++ elements_after ts i
+elements_led lead (element t ts) i = spaces lead ++ codes "- " ++ lines_after_dash t i ++ elements_after ts i
 
 -- members with this many spaces before the first; each further line has its indentation
 abbrev pub members_led : ℕ → Members → ℕ → List ℕ

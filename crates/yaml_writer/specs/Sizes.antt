@@ -4,7 +4,7 @@ use Rattle.std.specs.Prelude.{ℕ, ◌+◌, ◌*◌, ◌==◌, Bool, true, false
 use Rattle.yaml_chars.specs.Signs.{line_feed}
 use Rattle.yaml_grammar.specs.Texts.{byte_len}
 use Rattle.yaml_grammar.specs.Trees.{Tree, text, sequence, mapping, Elements, no_element, element, Members, no_member, member}
-use Rattle.yaml_grammar.specs.Style.{plain_in_style, literal_in_style, long_key, key_lines, element_at, value_at}
+use Rattle.yaml_grammar.specs.Style.{plain_in_style, literal_in_style, long_key, key_lines, lines_after_dash, value_at}
 use Rattle.yaml_writer.specs.declared.size.Size.{Size}
 
 -- the bytes of a part at the indentation i
@@ -62,7 +62,7 @@ abbrev mutual
 
 -- an element after its `- `, which is at the indentation
 abbrev pub element_size : Tree → Size
-element_size t = record { bytes = byte_len (element_at t 0); lines = indented t }
+element_size t = record { bytes = byte_len (lines_after_dash t 0); lines = indented t }
 
 -- a value after the `:` of its key, which is at the indentation
 abbrev pub value_size : Tree → Size

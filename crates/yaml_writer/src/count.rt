@@ -6,6 +6,7 @@ ghost use Rattle.yaml_grammar.specs.Texts.{byte_len};
 ghost use Rattle.yaml_grammar.specs.Trees.{depth};
 ghost use Rattle.yaml_grammar.specs.Style.{long_key, style_text};
 ghost use Rattle.yaml_writer.specs.Budget.{left_after};
+ghost use Rattle.yaml_data.specs.OwnLimits.{own_limits};
 ghost use Rattle.yaml_data.specs.Seen.{tree_of};
 
 use crate::style::{write_key_text, write_style};
@@ -25,7 +26,8 @@ impl Sink for CharCount {
 
     type Fault = Infallible;
 
-    ghost Takes = { λ a cs b. min b.count 18446744073709551615 ≡ min (a.count + length cs) 18446744073709551615 };
+    ghost Takes = { λ a cs b. min b.count 18446744073709551615
+        ≡ min (a.count + length cs) 18446744073709551615 };
 
     ghost takes_none = { λ s. Prim.omega arith };
 
@@ -94,7 +96,8 @@ impl Sink for ByteCount {
 
     type Fault = Infallible;
 
-    ghost Takes = { λ a cs b. min b.count 340282366920938463463374607431768211455 ≡ min (a.count + byte_len cs) 340282366920938463463374607431768211455 };
+    ghost Takes = { λ a cs b. min b.count 340282366920938463463374607431768211455
+        ≡ min (a.count + byte_len cs) 340282366920938463463374607431768211455 };
 
     ghost takes_none = { λ s. Prim.omega arith };
 
@@ -160,7 +163,8 @@ impl Sink for ByteBudget {
 
     ghost takes_none = { λ s. left_after-none s.left };
 
-    ghost takes_both = { λ a b c xs ys first second. left_after-more a.left b.left c.left xs ys first second };
+    ghost takes_both = { λ a b c xs ys first second.
+        left_after-more a.left b.left c.left xs ys first second };
 
     fn put_text(&mut self, text: &str) -> Result<(), Infallible> {
         self.spend(text.len() as u64);
@@ -181,7 +185,7 @@ impl Sink for ByteBudget {
 /// How many bytes a tree has in the one style; None where these are more than `max`. It takes no memory. The call
 /// stack grows with the depth, which therefore is at most 66; [`is_deeper_than`](Tree::is_deeper_than) tests that.
 pub fn style_len(tree: &Tree, max: u64) -> Option<u64>
-    requires { depth (tree_of tree.now) ≤ 66 }
+    requires { depth (tree_of tree.now) ≤ own_limits.depth }
     ensures { SomeIff result
         (byte_len (style_text (tree_of tree.now)) ≤ max)
         (byte_len (style_text (tree_of tree.now))) }

@@ -2,14 +2,14 @@
 ghost use Rattle.std.specs.Prelude.{◌≡◌, ℕ, List};
 ghost use Rattle.yaml_grammar.specs.Texts.{byte_len};
 ghost use Rattle.yaml_grammar.specs.Trees.{Tree};
-ghost use Rattle.yaml_grammar.specs.Style.{key_lines, element_at, value_at};
+ghost use Rattle.yaml_grammar.specs.Style.{key_lines, lines_after_dash, value_at};
 ghost use Rattle.yaml_writer.specs.Sizes.{length_at, key_size, element_size, value_size};
 
 /// The length of a key, an element and a value at each indentation follows from its size. It has the bytes that it has
 /// at the indentation 0, and the indentation once more for each of its lines that is indented.
 pub fn lengths_follow_indentation()
     ensures key { (key : List ℕ) (i : ℕ) → byte_len (key_lines i key) ≡ length_at (key_size key) i }
-    ensures element { (t : Tree) (i : ℕ) → byte_len (element_at t i)
+    ensures element { (t : Tree) (i : ℕ) → byte_len (lines_after_dash t i)
         ≡ length_at (element_size t) i }
     ensures value { (t : Tree) (i : ℕ) → byte_len (value_at t i) ≡ length_at (value_size t) i }
 {}

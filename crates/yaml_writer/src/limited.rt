@@ -32,7 +32,8 @@ impl LimitedText {
 
     /// The text; None if more came than it may have.
     pub fn into_text(self) -> Option<String>
-        ensures some { IfSome result (λ text. (room_left self ≢ None) × (string_bytes text ≡ taken self)) }
+        ensures some { IfSome result (λ text. (room_left self ≢ None)
+            × (string_bytes text ≡ taken self)) }
         ensures none { IfNone result (room_left self ≡ None) }
     {
         let LimitedText { text, budget } = self;

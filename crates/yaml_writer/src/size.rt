@@ -3,7 +3,8 @@ ghost use Rattle.std.specs.Prelude.{◌≡◌, ◌^◌, ◌<◌, ◌≤◌};
 ghost use Rattle.std.specs.Str.{chars};
 ghost use Rattle.yaml_grammar.specs.Texts.{byte_len};
 ghost use Rattle.yaml_grammar.specs.Trees.{depth};
-ghost use Rattle.yaml_grammar.specs.Style.{style_text, element_at, value_at, key_lines};
+ghost use Rattle.yaml_grammar.specs.Style.{style_text, lines_after_dash, value_at, key_lines};
+ghost use Rattle.yaml_data.specs.OwnLimits.{own_limits};
 ghost use Rattle.yaml_data.specs.Seen.{tree_of};
 ghost use Rattle.yaml_writer.specs.Sizes.{element_size, value_size, key_size};
 
@@ -25,8 +26,8 @@ impl Size {
     /// The size of an element after its `- `, which is at the indentation. The tree is within the limits of a
     /// configuration (`yaml_tree::Config`).
     pub fn of_element(tree: &Tree) -> Size
-        requires deep { depth (tree_of tree.now) ≤ 66 }
-        requires long { byte_len (style_text (tree_of tree.now)) ≤ 67108864 }
+        requires deep { depth (tree_of tree.now) ≤ own_limits.depth }
+        requires long { byte_len (style_text (tree_of tree.now)) ≤ own_limits.style }
         ensures size { result ≡ element_size (tree_of tree.now) }
         ensures small { (result.bytes < 2 ^ 32) × (result.lines < 2 ^ 32) }
     {
@@ -40,8 +41,8 @@ impl Size {
     /// The size of a value after the `:` of its key, which is at the indentation. The tree is within the limits of a
     /// configuration (`yaml_tree::Config`).
     pub fn of_value(tree: &Tree) -> Size
-        requires deep { depth (tree_of tree.now) ≤ 66 }
-        requires long { byte_len (style_text (tree_of tree.now)) ≤ 67108864 }
+        requires deep { depth (tree_of tree.now) ≤ own_limits.depth }
+        requires long { byte_len (style_text (tree_of tree.now)) ≤ own_limits.style }
         ensures size { result ≡ value_size (tree_of tree.now) }
         ensures small { (result.bytes < 2 ^ 32) × (result.lines < 2 ^ 32) }
     {
@@ -79,10 +80,10 @@ fn key_length(key: &str, indent: u64) -> u128
 
 /// How many bytes an element has after its `- ` at an indentation.
 fn element_length(tree: &Tree, indent: u64) -> u128
-    requires deep { depth (tree_of tree.now) ≤ 66 }
-    requires long { byte_len (style_text (tree_of tree.now)) ≤ 67108864 }
+    requires deep { depth (tree_of tree.now) ≤ own_limits.depth }
+    requires long { byte_len (style_text (tree_of tree.now)) ≤ own_limits.style }
     requires indent { indent ≤ 1 }
-    ensures { result ≡ byte_len (element_at (tree_of tree.now) indent) }
+    ensures { result ≡ byte_len (lines_after_dash (tree_of tree.now) indent) }
 {
     let mut bytes = ByteCount::new();
     match write_element(tree, indent, &mut bytes) {
@@ -93,8 +94,8 @@ fn element_length(tree: &Tree, indent: u64) -> u128
 
 /// How many bytes a value has after the `:` of its key at an indentation.
 fn value_length(tree: &Tree, indent: u64) -> u128
-    requires deep { depth (tree_of tree.now) ≤ 66 }
-    requires long { byte_len (style_text (tree_of tree.now)) ≤ 67108864 }
+    requires deep { depth (tree_of tree.now) ≤ own_limits.depth }
+    requires long { byte_len (style_text (tree_of tree.now)) ≤ own_limits.style }
     requires indent { indent ≤ 1 }
     ensures { result ≡ byte_len (value_at (tree_of tree.now) indent) }
 {

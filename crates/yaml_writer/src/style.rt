@@ -4,7 +4,8 @@ ghost use Rattle.std.specs.Str.{chars};
 ghost use Rattle.yaml_grammar.specs.Texts.{spaces};
 ghost use Rattle.yaml_grammar.specs.Trees as grammar;
 ghost use Rattle.yaml_grammar.specs.Trees.{depth, elements_depth, members_depth};
-ghost use Rattle.yaml_grammar.specs.Style.{literal_lines, scalar_lines, key_text, key_lines, elements_at, element_at, members_at, value_at, style_text};
+ghost use Rattle.yaml_grammar.specs.Style.{literal_lines, scalar_lines, key_text, key_lines, elements_at, lines_after_dash, members_at, value_at, style_text};
+ghost use Rattle.yaml_data.specs.OwnLimits.{own_limits};
 ghost use Rattle.yaml_data.specs.Seen.{tree_of, elements_of, members_of};
 
 use crate::count::is_long_key;
@@ -14,7 +15,7 @@ use yaml_scalar_style::{ScalarStyle, Sink, scalar_style, write_literal_lines, wr
 /// Writes a tree in the one style: the text, with the end of its last line. The call stack grows with the depth,
 /// which therefore is at most 66; [`is_deeper_than`](Tree::is_deeper_than) tests that.
 pub fn write_style<S: Sink>(tree: &Tree, sink: &mut S) -> Result<(), S::Fault>
-    requires { depth (tree_of tree.now) ≤ 66 }
+    requires { depth (tree_of tree.now) ≤ own_limits.depth }
     ensures { OnOk result (S.Takes sink.old (style_text (tree_of tree.now)) sink.new) }
 {
     match tree {
@@ -123,7 +124,7 @@ fn write_elements<S: Sink>(items: &[Tree], indent: u64, sink: &mut S) -> Result<
 #[cycle(lines)]
 pub(crate) fn write_element<S: Sink>(tree: &Tree, indent: u64, sink: &mut S) -> Result<(), S::Fault>
     requires room { indent + 2 * depth (tree_of tree.now) < 2 ^ 64 }
-    ensures { OnOk result (S.Takes sink.old (element_at (tree_of tree.now) indent) sink.new) }
+    ensures { OnOk result (S.Takes sink.old (lines_after_dash (tree_of tree.now) indent) sink.new) }
 {
     match tree {
         Tree::Text(text) => write_scalar(text, indent + 2, sink),
@@ -154,7 +155,7 @@ fn write_members<S: Sink>(pairs: &[(Text, Tree)], indent: u64, sink: &mut S) -> 
 /// Writes a value after the `:` of its key at `indent`. The call stack grows with the depth, which therefore is at
 /// most 66; [`is_deeper_than`](Tree::is_deeper_than) tests that.
 pub fn write_value<S: Sink>(tree: &Tree, indent: u64, sink: &mut S) -> Result<(), S::Fault>
-    requires deep { depth (tree_of tree.now) ≤ 66 }
+    requires deep { depth (tree_of tree.now) ≤ own_limits.depth }
     requires room { indent + 132 < 2 ^ 64 }
     ensures { OnOk result (S.Takes sink.old (value_at (tree_of tree.now) indent) sink.new) }
 {

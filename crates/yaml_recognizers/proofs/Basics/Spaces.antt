@@ -91,8 +91,8 @@ spaced_unmarked text h = elim (cases_Bool (no_marker true text)) [
 -- ---- a line of spaces whose width meets p begins here
 
 -- an empty line starts here whose width passes the test
-abbrev pub gap_here : (ℕ → Bool) → List ℕ → Bool
-gap_here p text = p (spaces_before text) && first line_break (past_spaces text)
+abbrev pub empty_here : (ℕ → Bool) → List ℕ → Bool
+empty_here p text = p (spaces_before text) && first line_break (past_spaces text)
 
 -- the test for at most so many spaces
 abbrev pub at_most : ℕ → ℕ → Bool
@@ -101,7 +101,7 @@ at_most q w = nat_le w q
 -- what holds where the lines of a scalar end
 pub record Ended (q : ℕ) (text : List ℕ) : Type 0 where
   pub narrow : nat_lt q (spaces_before text) ≡ false
-  pub no_gap : gap_here (at_most q) text ≡ false
+  pub no_empty : empty_here (at_most q) text ≡ false
   pub no_text : (spaces_before text == q) && first nb (past_spaces text) && no_marker true text ≡ false
 
 -- where no line goes on, the lines end
@@ -110,7 +110,7 @@ ended_parts q text h =
     let p : (nat_lt q (spaces_before text) || (nat_le (spaces_before text) q && first line_break (past_spaces text)) ≡ false)
     × ((spaces_before text == q) && first nb (past_spaces text) && no_marker true text ≡ false) = or_parts _ _ h in
     let r : (nat_lt q (spaces_before text) ≡ false) × (nat_le (spaces_before text) q && first line_break (past_spaces text) ≡ false) = or_parts _ _ p.0 in
-    record { narrow = r.0; no_gap = r.1; no_text = p.1 }
+    record { narrow = r.0; no_empty = r.1; no_text = p.1 }
 
 -- The lines end before a line of k spaces, at most q, with no space and no break after them, unless it is a text line.
 pub line_ends : (k q : ℕ) (rest : List ℕ) → k ≤ q → first space rest ≡ false → first line_break rest ≡ false → (k == q) && first nb rest && no_marker true (spaces k ++ rest) ≡ false → goes_on q (spaces k ++ rest) ≡ false
@@ -142,9 +142,9 @@ text_goes_on q (c ∷ cs) t = elim (cases_Bool (c == 32)) [
 ]
 
 -- a text line is no empty line
-pub text_no_gap : (q : ℕ) (line : List ℕ) → first nb line ≡ true → gap_here (at_most q) (spaces q ++ line) ≡ false
-text_no_gap q [] h = absurd (false≢true h)
-text_no_gap q (c ∷ cs) h = elim (cases_Bool (c == 32)) [
+pub text_no_empty : (q : ℕ) (line : List ℕ) → first nb line ≡ true → empty_here (at_most q) (spaces q ++ line) ≡ false
+text_no_empty q [] h = absurd (false≢true h)
+text_no_empty q (c ∷ cs) h = elim (cases_Bool (c == 32)) [
   | inl e ↦ (let s : spaces_before (spaces q ++ (c ∷ cs)) ≡ q + suc (spaces_before cs) = spaces_added q (c ∷ cs) ∙ (rw e refl) in
       and_left _ _ (lt-leb (spaces_before (spaces q ++ (c ∷ cs))) q (omega arith)))
   | inr e ↦ and_right _ _ (ap (first line_break) (spaces_past q (c ∷ cs) ∙ (no_space (c ∷ cs) e).1) ∙ nb_unbroken c h)
@@ -165,7 +165,7 @@ space_filled (c ∷ cs) h = elim (cases_Bool (c == 32)) [
 ]
 
 -- a line that goes on and isn't empty is a text line
-pub goes_on_text : (q : ℕ) (text : List ℕ) → goes_on q text ≡ true → gap_here (at_most q) text ≡ false → TextAt q text
+pub goes_on_text : (q : ℕ) (text : List ℕ) → goes_on q text ≡ true → empty_here (at_most q) text ≡ false → TextAt q text
 goes_on_text q text h n =
     elim (or_cases (nat_lt q (spaces_before text) || (nat_le (spaces_before text) q && first line_break (past_spaces text)))
     ((spaces_before text == q) && first nb (past_spaces text) && no_marker true text) h) [

@@ -12,7 +12,7 @@ use Rattle.yaml_recognizers.specs.BlockNodes.{block_key_at, key_after}
 use Rattle.yaml_recognizers.specs.CanonicalComments.{canonical_comments}
 use Rattle.yaml_recognizers.specs.CanonicalFlowNodes.{canonical_flow}
 use Rattle.yaml_recognizers.specs.Comments.{read_line_end}
-use Rattle.yaml_recognizers.specs.Ends.{Stops, in_flow, less_deep}
+use Rattle.yaml_recognizers.specs.Ends.{Stops, between_brackets, less_deep}
 use Rattle.yaml_recognizers.specs.Prefixes.{drop_while, past, sign, take_while}
 use Rattle.yaml_recognizers.specs.Reading.{Read, on}
 use Rattle.yaml_recognizers.proofs.Block.BlockNodesComplete.{KeySound}
@@ -63,7 +63,7 @@ no_colon_after (c ∷ cs) after gap rest h w e =
 -- ---- what may come after a flow node in a block
 
 -- before the `:` of a key a scalar ends
-before_colon_stops : (n : ℕ) (c : FlowContext) (after_plain : Bool) (gap rest : List ℕ) → in_flow c ≡ false → list_all white gap ≡ true → first ns rest ≡ false → Stops n c after_plain (gap ++ (58 ∷ rest))
+before_colon_stops : (n : ℕ) (c : FlowContext) (after_plain : Bool) (gap rest : List ℕ) → between_brackets c ≡ false → list_all white gap ≡ true → first ns rest ≡ false → Stops n c after_plain (gap ++ (58 ∷ rest))
 before_colon_stops n c after_plain gap rest o w h = inr (inl (record { outside = o; gap = gap; rest = rest; is = refl; gap_white = w; apart = h }))
 
 -- comments and a line less deep end a flow node

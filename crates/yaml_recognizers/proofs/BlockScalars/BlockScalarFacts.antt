@@ -87,7 +87,7 @@ body_found digit m text b rest s = ap (read_body digit m) s.spells ∙ body_read
 
 -- a body that is there is the one that is read, with its value
 pub body_stands : (digit : Option ℕ) (m : ℕ) (folded : Bool) (chomping : Chomping) (text : List ℕ) (b : Body) (rest : List ℕ) → BodyStands digit m text b rest
-    → IsBody digit m folded chomping text (block_value folded chomping b.gaps b.texts) rest
+    → IsBody digit m folded chomping text (block_value folded chomping b.empties b.texts) rest
 body_stands digit m folded chomping text b rest s =
     record {
       body = b;
@@ -98,7 +98,7 @@ body_stands digit m folded chomping text b rest s =
 
 -- a body that is read is there, and no other
 pub body_is : (digit : Option ℕ) (m : ℕ) (folded : Bool) (chomping : Chomping) (text : List ℕ) (b : Body) (rest : List ℕ) → read_body digit m text ≡ Some (b, rest)
-    → IsBody digit m folded chomping text (block_value folded chomping b.gaps b.texts) rest
+    → IsBody digit m folded chomping text (block_value folded chomping b.empties b.texts) rest
 body_is digit m folded chomping text b rest e =
     let s : BodyOf digit m text b rest = sound_is (BodyOf digit m text) (read_body digit m text) (b, rest) (body_sound digit m text) e in
     body_stands digit m folded chomping text b rest (record { spells = s.0; fits = s.1 })
@@ -127,7 +127,7 @@ body_spelled header b = header ++ body_text b
 
 -- its events, from the header, the body and its text
 abbrev body_events : ℕ → Header → Body → List ℕ → List Event
-body_events at h b text = scalar_event (if h.folded then folded_style else literal_style) at (at + byte_len text) (block_value h.folded h.chomping b.gaps b.texts) ∷ []
+body_events at h b text = scalar_event (if h.folded then folded_style else literal_style) at (at + byte_len text) (block_value h.folded h.chomping b.empties b.texts) ∷ []
 
 -- scalars of the same parts are the same
 same_parts : (b c : BlockScalar) → digit_first b.header ≡ digit_first c.header → b.body ≡ c.body → SameBlock b c

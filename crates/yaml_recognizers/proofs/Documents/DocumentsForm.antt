@@ -25,7 +25,7 @@ explicit_form (nothing comments) ls = nothing (comments ++ ls)
 abbrev pub document_form : Document → List LineEnd → Document
 document_form (bare n) ls = bare (node_form n ls)
 document_form (explicit x) ls = explicit (explicit_form x ls)
-document_form (directed blank first_version comments x) ls = directed blank first_version comments (explicit_form x ls)
+document_form (directed blank version comments x) ls = directed blank version comments (explicit_form x ls)
 
 -- the indentation of the block scalar that a document ends with, where no comments come after it
 abbrev pub explicit_open : Explicit → Option ℕ
@@ -36,7 +36,7 @@ explicit_open (nothing comments) = None
 abbrev pub document_open : Document → Option ℕ
 document_open (bare n) = node_open n
 document_open (explicit x) = explicit_open x
-document_open (directed blank first_version comments x) = explicit_open x
+document_open (directed blank version comments x) = explicit_open x
 
 -- ---- text and meaning
 
@@ -49,8 +49,8 @@ explicit_form_text (nothing comments) ls = ap (λ (t : List ℕ). 45 ∷ (45 ∷
 pub document_form_text : (d : Document) (ls : List LineEnd) → document_text (document_form d ls) ≡ document_text d ++ comments_text ls
 document_form_text (bare n) ls = node_form_text n ls
 document_form_text (explicit x) ls = explicit_form_text x ls
-document_form_text (directed blank first_version comments x) ls =
-    rw (explicit_form_text x ls) (sym (append_assoc (directive_text blank first_version comments) (explicit_text x) (comments_text ls)))
+document_form_text (directed blank version comments x) ls =
+    rw (explicit_form_text x ls) (sym (append_assoc (directive_text blank version comments) (explicit_text x) (comments_text ls)))
 
 -- it means the same
 explicit_form_events : (x : Explicit) (ls : List LineEnd) (at : ℕ) → explicit_events (explicit_form x ls) at ≡ explicit_events x at
@@ -61,7 +61,7 @@ explicit_form_events (nothing comments) ls at = refl
 pub document_form_events : (d : Document) (ls : List LineEnd) (at : ℕ) → document_events (document_form d ls) at ≡ document_events d at
 document_form_events (bare n) ls at = rw (node_form_events n ls)
 document_form_events (explicit x) ls at = explicit_form_events x ls at
-document_form_events (directed blank first_version comments x) ls at = explicit_form_events x ls _
+document_form_events (directed blank version comments x) ls at = explicit_form_events x ls _
 
 -- ---- it fits
 
@@ -94,7 +94,7 @@ document_form_fits (bare n) ls opened bol after h l t =
     let p : (opened && not (is_line_end (node_text n ++ more)) ≡ true) × (node_fits n 0 false bol more ≡ true) = and_parts _ _ h in
     rw (node_before n ls after) (and_from _ _ p.0 (node_form_fits n 0 false bol ls after p.1 l t))
 document_form_fits (explicit x) ls opened bol after h l t = explicit_form_fits x ls bol after h l t
-document_form_fits (directed blank first_version comments x) ls opened bol after h l t =
+document_form_fits (directed blank version comments x) ls opened bol after h l t =
     let more : List ℕ = comments_text ls ++ after in
     let head : Bool = bol && list_all white blank && not (is_empty blank) in
     let p : (opened ≡ true) × (head && comments_fit false comments (explicit_text x ++ more) && explicit_fits x true more ≡ true) = and_parts _ _ h in

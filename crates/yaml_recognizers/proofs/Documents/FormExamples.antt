@@ -81,7 +81,7 @@ abbrev scalar_of : Bool → List LineEnd → Node
 scalar_of digit_last trail =
     block (inline []) (record {
       header = record { folded = false; digit = None; chomping = strip; digit_last = digit_last; line_end = newline };
-      body = record { indent = 1; gaps = []; texts = record { text = codes "a"; stop = Some lf; gaps = [] } ∷ [] };
+      body = record { indent = 1; empties = []; texts = record { text = codes "a"; stop = Some lf; empties = [] } ∷ [] };
       trail = trail;
     })
 

@@ -51,7 +51,7 @@ mutual
   closed_spells (line e ∷ ps) bol h = ap (λ u. line_end_text e ++ u) (closed_spells ps (starts_line bol (line_end_text e)) (and_parts _ _ h).1)
   closed_spells (document (explicit x) ∷ ps) bol h = ap (λ u. explicit_text x ++ u) (closed_spells ps (starts_line bol (explicit_text x)) (and_parts _ _ h).1)
   closed_spells (document (bare n) ∷ ps) bol h = absurd (false≢true h)
-  closed_spells (document (directed blank first_version comments x) ∷ ps) bol h = absurd (false≢true h)
+  closed_spells (document (directed blank version comments x) ∷ ps) bol h = absurd (false≢true h)
   closed_spells (suffix comments ∷ ps) bol h =
       suffix_opened comments (opened_pieces ps) (pieces_text ps) (opened_spells ps (starts_line bol (suffix_text comments)) (and_parts _ _ h).1)
 
@@ -147,7 +147,7 @@ mutual
       let t : pieces_text ps ≡ parts_text (closed_pieces ps) ++ [] = closed_spells ps start q.1 ∙ sym (append-nil (parts_text (closed_pieces ps))) in
       and_from _ _ (subst (λ (u : List ℕ). explicit_fits x bol u ≡ true) t (explicit_fits_too x bol (pieces_text ps) q.0)) (closed_fits ps start q.1)
   closed_fits (document (bare n) ∷ ps) bol h = absurd (false≢true h)
-  closed_fits (document (directed blank first_version comments x) ∷ ps) bol h = absurd (false≢true h)
+  closed_fits (document (directed blank version comments x) ∷ ps) bol h = absurd (false≢true h)
   closed_fits (suffix comments ∷ ps) bol h =
       let start : Bool = starts_line bol (suffix_text comments) in
       let q : (bol && ends_word (comments_text comments ++ pieces_text ps) && canonical_comments false comments (pieces_text ps) ≡ true) × (canonical_pieces ps true start ≡ true) = and_parts _ _ h in
@@ -200,7 +200,7 @@ mutual
   closed_means (document (explicit x) ∷ ps) bol at h =
       ap (λ es. explicit_events x at ++ es) (closed_means ps (starts_line bol (explicit_text x)) (at + byte_len (explicit_text x)) (and_parts _ _ h).1)
   closed_means (document (bare n) ∷ ps) bol at h = absurd (false≢true h)
-  closed_means (document (directed blank first_version comments x) ∷ ps) bol at h = absurd (false≢true h)
+  closed_means (document (directed blank version comments x) ∷ ps) bol at h = absurd (false≢true h)
   closed_means (suffix comments ∷ ps) bol at h =
       opened_means ps (starts_line bol (suffix_text comments)) (at + byte_len (suffix_text comments)) (and_parts _ _ h).1 ∙ suffix_events comments (opened_pieces ps) at
 

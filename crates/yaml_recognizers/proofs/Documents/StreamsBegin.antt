@@ -295,4 +295,4 @@ document_ended (document (bare n) ∷ ps) bol h = absurd (false≢true h)
 document_ended (document (explicit x) ∷ ps) bol h =
     let p : (canonical_explicit x bol (pieces_text ps) ≡ true) × (canonical_pieces ps false (starts_line bol (explicit_text x)) ≡ true) = and_parts _ _ h in
     marked 0 false (pieces_text (document (explicit x) ∷ ps)) (explicit_ends x bol (pieces_text ps) p.0)
-document_ended (document (directed blank first_version comments x) ∷ ps) bol h = absurd (false≢true h)
+document_ended (document (directed blank version comments x) ∷ ps) bol h = absurd (false≢true h)

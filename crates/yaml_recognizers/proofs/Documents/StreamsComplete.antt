@@ -1,11 +1,11 @@
 -- A stream that is canonical is read whole.
 use Rattle.std.proofs.Common.{ap, append_assoc, arith, inl, inr, length-append, refl, subst, sym, ◌<◌, ◌∙◌, ◌≡◌, ◌≤◌}
-use Rattle.std.specs.Prelude.{Bool, List, Some, [], codes, drop, false, if◌then◌else◌, length, not, suc, true, zero, ℕ, ◌&&◌, ◌++◌, ◌==◌, ◌∷◌}
+use Rattle.std.specs.Prelude.{Bool, List, Some, [], codes, drop, false, length, not, suc, true, zero, ℕ, ◌&&◌, ◌++◌, ◌==◌, ◌∷◌}
 use Rattle.std.proofs.lemmas.Bool.{and_from, and_parts, and_right, cases_Bool, cases_eq, eqb-true, false≢true, ne_eqb, not-true, or_parts}
 use Rattle.yaml_chars.specs.Classes.{white}
 use Rattle.yaml_grammar.specs.BlockNodes.{Node, node_text}
 use Rattle.yaml_grammar.specs.Separation.{LineEnd, comments_text, line_end_text}
-use Rattle.yaml_grammar.specs.Streams.{Explicit, bare, content, directed, document_text, explicit, explicit_text, mark_text, nothing}
+use Rattle.yaml_grammar.specs.Streams.{Explicit, bare, content, directed, document_text, explicit, explicit_text, mark_text, nothing, Version, yaml_1_1, yaml_1_2, version_text}
 use Rattle.std.specs.List.{list_all}
 use Rattle.yaml_grammar.specs.Texts.{begins, ends_word, first, is_empty, marker, starts_line}
 use Rattle.yaml_recognizers.specs.BlockNodes.{omits}
@@ -15,7 +15,7 @@ use Rattle.yaml_recognizers.specs.CanonicalStreams.{FlatStream, Piece, canonical
 use Rattle.yaml_recognizers.specs.Comments.{all_comments, closes_line}
 use Rattle.yaml_recognizers.specs.Ends.{block_node_stops}
 use Rattle.yaml_recognizers.specs.Reading.{Read, on}
-use Rattle.yaml_recognizers.specs.Streams.{directed_with, mark_at, more_pieces, order_mark, percent, piece_and, read_directed, read_explicit, read_piece, read_pieces, read_version, stream_of, suffix_with, with_mark}
+use Rattle.yaml_recognizers.specs.Streams.{directed_with, marker_of, more_pieces, order_mark, percent, piece_and, read_directed, read_explicit, read_piece, read_pieces, read_version, stream_of, suffix_with, with_mark}
 use Rattle.yaml_recognizers.proofs.Block.BlockNodesBegin.{closes}
 use Rattle.yaml_recognizers.proofs.Separation.CommentsComplete.{comments_all, line_end_read}
 use Rattle.yaml_recognizers.proofs.Separation.CommentsSound.{line_is_end}
@@ -33,21 +33,21 @@ begins_split (c ∷ cs) (d ∷ ds) h =
     ap (λ x. x ∷ ds) (eqb-true d c p.0) ∙ ap (λ xs. c ∷ xs) (begins_split cs ds p.1)
 
 -- three dashes as a marker are one
-dashes_mark : (text : List ℕ) → mark_at 45 text ≡ true → marker text ≡ true
+dashes_mark : (text : List ℕ) → marker_of 45 text ≡ true → marker text ≡ true
 dashes_mark text h =
     let p : (begins (codes "---") text ≡ true) × (ends_word (drop 3 text) ≡ true) = and_parts _ _ h in
     ap marker (begins_split (codes "---") text p.0) ∙ p.1
 
 -- so are three dots
-dots_mark : (text : List ℕ) → mark_at 46 text ≡ true → marker text ≡ true
+dots_mark : (text : List ℕ) → marker_of 46 text ≡ true → marker text ≡ true
 dots_mark text h =
     let p : (begins (codes "...") text ≡ true) × (ends_word (drop 3 text) ≡ true) = and_parts _ _ h in
     ap marker (begins_split (codes "...") text p.0) ∙ p.1
 
 -- where no marker is, neither is there
-no_mark_at : (bol : Bool) (x : ℕ) (text : List ℕ) → (mark_at x text ≡ true → marker text ≡ true) → (bol ≡ true → marker text ≡ false) → bol && mark_at x text ≡ false
-no_mark_at false x text f u = refl
-no_mark_at true x text f u = elim (cases_Bool (mark_at x text)) [
+no_marker_of : (bol : Bool) (x : ℕ) (text : List ℕ) → (marker_of x text ≡ true → marker text ≡ true) → (bol ≡ true → marker text ≡ false) → bol && marker_of x text ≡ false
+no_marker_of false x text f u = refl
+no_marker_of true x text f u = elim (cases_Bool (marker_of x text)) [
   | inl e ↦ absurd (false≢true (sym (u refl) ∙ f e))
   | inr e ↦ e
 ]
@@ -104,7 +104,7 @@ piece_some (document (bare n)) opened bol rest h =
     let b : Bare bol (node_text n ++ rest) = bare_some n bol rest p.1 (not-true _ (and_parts _ _ p.0).1) in
     (b.some, (not_reserved (node_text n ++ rest) b.unreserved).1)
 piece_some (document (explicit x)) opened bol rest h = explicit_some x rest
-piece_some (document (directed blank first_version comments x)) opened bol rest h = (refl, refl)
+piece_some (document (directed blank version comments x)) opened bol rest h = (refl, refl)
 
 -- what starts with `---` has a character
 explicit_long : (x : Explicit) → 1 ≤ length (explicit_text x)
@@ -117,7 +117,7 @@ piece_long (suffix comments) opened bol rest h = omega arith
 piece_long (line e) opened bol rest h = line_long bol e rest h
 piece_long (document (bare n)) opened bol rest h = node_long n 0 false bol rest (and_parts _ _ h).1
 piece_long (document (explicit x)) opened bol rest h = explicit_long x
-piece_long (document (directed blank first_version comments x)) opened bol rest h = omega arith
+piece_long (document (directed blank version comments x)) opened bol rest h = omega arith
 
 -- there are no more pieces than characters
 pieces_long : (ps : List Piece) (opened bol : Bool) → canonical_pieces ps opened bol ≡ true → length ps ≤ length (pieces_text ps)
@@ -131,14 +131,14 @@ pieces_long (p ∷ ps) opened bol h =
 -- ---- what is canonical is read
 
 -- the version is read
-version_read : (first_version : Bool) (rest : List ℕ) → read_version ((if first_version then codes "1.1" else codes "1.2") ++ rest) ≡ Some (first_version, rest)
-version_read true rest = refl
-version_read false rest = refl
+version_read : (version : Version) (rest : List ℕ) → read_version (version_text version ++ rest) ≡ Some (version, rest)
+version_read yaml_1_1 rest = refl
+version_read yaml_1_2 rest = refl
 
 -- it starts with no whitespace
-version_not_white : (first_version : Bool) (rest : List ℕ) → first white ((if first_version then codes "1.1" else codes "1.2") ++ rest) ≡ false
-version_not_white true rest = refl
-version_not_white false rest = refl
+version_not_white : (version : Version) (rest : List ℕ) → first white (version_text version ++ rest) ≡ false
+version_not_white yaml_1_1 rest = refl
+version_not_white yaml_1_2 rest = refl
 
 module _ (node_at : Bool → List ℕ → Read Node)
     (node_read : (n : Node) (bol : Bool) (after : List ℕ) → canonical_node n 0 false bol after ≡ true → block_node_stops 0 false after ≡ true → node_at bol (node_text n ++ after) ≡ Some (n, after)) where
@@ -155,28 +155,28 @@ module _ (node_at : Bool → List ℕ → Read Node)
       let o : omits 0 false (comments, after) ≡ true = and_from _ _ (closes comments after p.1) e in
       rw p.0 (rw (comments_all false comments after p.1) (rw o refl))
 
-  directed_read : (blank : List ℕ) (first_version : Bool) (comments : List LineEnd) (x : Explicit) (after : List ℕ) → list_all white blank ≡ true → is_empty blank ≡ false
+  directed_read : (blank : List ℕ) (version : Version) (comments : List LineEnd) (x : Explicit) (after : List ℕ) → list_all white blank ≡ true → is_empty blank ≡ false
       → canonical_comments false comments (explicit_text x ++ after) ≡ true → canonical_explicit x true after ≡ true → block_node_stops 0 false after ≡ true
-      → read_directed node_at (document_text (directed blank first_version comments x) ++ after) ≡ Some (directed blank first_version comments x, after)
-  directed_read blank first_version comments x after w b c h e =
+      → read_directed node_at (document_text (directed blank version comments x) ++ after) ≡ Some (directed blank version comments x, after)
+  directed_read blank version comments x after w b c h e =
       let rest : List ℕ = explicit_text x ++ after in
-      let version : List ℕ = (if first_version then codes "1.1" else codes "1.2") ++ (comments_text comments ++ rest) in
-      let regrouped : document_text (directed blank first_version comments x) ++ after ≡ codes "%YAML" ++ (blank ++ version) = simp append_assoc in
-      let f : first white version ≡ false = version_not_white first_version (comments_text comments ++ rest) in
+      let from_version : List ℕ = version_text version ++ (comments_text comments ++ rest) in
+      let regrouped : document_text (directed blank version comments x) ++ after ≡ codes "%YAML" ++ (blank ++ from_version) = simp append_assoc in
+      let f : first white from_version ≡ false = version_not_white version (comments_text comments ++ rest) in
       ap (read_directed node_at) regrouped
-      ∙ rw (take_while_all white blank version w f, drop_while_all white blank version w f, b)
-      (ap (λ r. on r (λ v rest'. directed_with node_at blank v (all_comments false rest'))) (version_read first_version (comments_text comments ++ rest))
-      ∙ (ap (directed_with node_at blank first_version) (comments_all false comments rest c)
+      ∙ rw (take_while_all white blank from_version w f, drop_while_all white blank from_version w f, b)
+      (ap (λ r. on r (λ v rest'. directed_with node_at blank v (all_comments false rest'))) (version_read version (comments_text comments ++ rest))
+      ∙ (ap (directed_with node_at blank version) (comments_all false comments rest c)
       ∙ rw (closes comments rest c)
-      (ap (λ r. on r (λ x' rest'. Some (directed blank first_version comments x', rest'))) (explicit_read x after h e))))
+      (ap (λ r. on r (λ x' rest'. Some (directed blank version comments x', rest'))) (explicit_read x after h e))))
 
-  explicit_step : (x : Explicit) (opened : Bool) (text : List ℕ) (r : Read Explicit) → is_line_end text ≡ false → mark_at 46 text ≡ false → mark_at 45 text ≡ true → read_explicit node_at text ≡ r
+  explicit_step : (x : Explicit) (opened : Bool) (text : List ℕ) (r : Read Explicit) → is_line_end text ≡ false → marker_of 46 text ≡ false → marker_of 45 text ≡ true → read_explicit node_at text ≡ r
       → read_piece node_at opened true text ≡ on r (λ x' rest. Some (document (explicit x'), rest))
   unfolding read_piece
   explicit_step x opened text r l m d e = rw (l, m, d) (ap (λ s. on s (λ x' rest. Some (document (explicit x'), rest))) e)
 
   dashes : (x : Explicit) (after : List ℕ) → canonical_explicit x true after ≡ true
-      → (is_line_end (explicit_text x ++ after) ≡ false) × (mark_at 46 (explicit_text x ++ after) ≡ false) × (mark_at 45 (explicit_text x ++ after) ≡ true)
+      → (is_line_end (explicit_text x ++ after) ≡ false) × (marker_of 46 (explicit_text x ++ after) ≡ false) × (marker_of 45 (explicit_text x ++ after) ≡ true)
   dashes (content n) after h = (refl, refl, (and_parts _ _ h).0)
   dashes (nothing comments) after h = (refl, refl, (and_parts _ _ h).0)
 
@@ -197,8 +197,8 @@ module _ (node_at : Bool → List ℕ → Read Node)
       let q : (opened ≡ true) × (not (is_line_end text) ≡ true) = and_parts _ _ p.0 in
       let l : is_line_end text ≡ false = not-true _ q.1 in
       let b : Bare bol text = bare_some n bol after p.1 l in
-      let dots : bol && mark_at 46 text ≡ false = no_mark_at bol 46 text (dots_mark text) b.unmarked in
-      let marks : bol && mark_at 45 text ≡ false = no_mark_at bol 45 text (dashes_mark text) b.unmarked in
+      let dots : bol && marker_of 46 text ≡ false = no_marker_of bol 46 text (dots_mark text) b.unmarked in
+      let marks : bol && marker_of 45 text ≡ false = no_marker_of bol 45 text (dashes_mark text) b.unmarked in
       let o : first percent text ≡ false = (not_reserved text b.unreserved).0 in
       let d : opened && bol && first percent text ≡ false = and_right _ _ o in
       rw (l, dots, marks, d, q.0) (ap (λ r. on r (λ n' rest. Some (document (bare n'), rest))) (node_read n bol after p.1 f))
@@ -210,13 +210,13 @@ module _ (node_at : Bool → List ℕ → Read Node)
   piece_read (document (explicit x)) opened true after h f =
       let d = dashes x after h in
       explicit_step x opened (explicit_text x ++ after) (Some (x, after)) d.0 d.1 d.2 (explicit_read x after h f)
-  piece_read (document (directed blank first_version comments x)) opened bol after h f =
+  piece_read (document (directed blank version comments x)) opened bol after h f =
       let p : (opened && bol && list_all white blank && not (is_empty blank) && canonical_comments false comments (explicit_text x ++ after) ≡ true) × (canonical_explicit x true after ≡ true) = and_parts _ _ h in
       let q : (opened && bol && list_all white blank && not (is_empty blank) ≡ true) × (canonical_comments false comments (explicit_text x ++ after) ≡ true) = and_parts _ _ p.0 in
       let r : (opened && bol && list_all white blank ≡ true) × (not (is_empty blank) ≡ true) = and_parts _ _ q.0 in
       let s : (opened && bol ≡ true) × (list_all white blank ≡ true) = and_parts _ _ r.0 in
       let t : (opened ≡ true) × (bol ≡ true) = and_parts _ _ s.0 in
-      rw (t.0, t.1) (ap (λ u. on u (λ d rest. Some (document d, rest))) (directed_read blank first_version comments x after s.1 (not-true _ r.1) q.1 p.1 f))
+      rw (t.0, t.1) (ap (λ u. on u (λ d rest. Some (document d, rest))) (directed_read blank version comments x after s.1 (not-true _ r.1) q.1 p.1 f))
 
   pieces_read : (ps : List Piece) (fuel : ℕ) (opened bol : Bool) → length ps < fuel → canonical_pieces ps opened bol ≡ true → read_pieces node_at fuel opened bol (pieces_text ps) ≡ Some ps
   unfolding read_pieces

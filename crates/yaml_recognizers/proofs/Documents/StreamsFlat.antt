@@ -25,7 +25,7 @@ lines_pieces (e ∷ es) = line e ∷ lines_pieces es
 abbrev pub document_pieces : Document → List Piece
 document_pieces (bare n) = lines_pieces (leading n) ++ document (bare (unled n)) ∷ []
 document_pieces (explicit x) = document (explicit x) ∷ []
-document_pieces (directed blank first_version comments x) = document (directed blank first_version comments x) ∷ []
+document_pieces (directed blank version comments x) = document (directed blank version comments x) ∷ []
 
 -- the pieces of a document that may be left out
 abbrev pub optional_pieces : Option Document → List Piece
@@ -69,7 +69,7 @@ document_pieces_text (bare n) =
     pieces_joined (lines_pieces (leading n)) (document (bare (unled n)) ∷ [])
     ∙ (rw (lines_pieces_text (leading n), append-nil (node_text (unled n))) (sym (parted_text n)))
 document_pieces_text (explicit x) = append-nil (explicit_text x)
-document_pieces_text (directed blank first_version comments x) = append-nil (directive_text blank first_version comments ++ explicit_text x)
+document_pieces_text (directed blank version comments x) = append-nil (directive_text blank version comments ++ explicit_text x)
 
 -- those of a document spell the document
 pub optional_pieces_text : (d : Option Document) → pieces_text (optional_pieces d) ≡ optional document_text d
@@ -129,7 +129,7 @@ document_pieces_events (bare n) at =
     pieces_events_joined (lines_pieces (leading n)) (document (bare (unled n)) ∷ []) at
     ∙ (rw (lines_pieces_events (leading n) at, lines_pieces_text (leading n), parted_events n at) (append-nil (as_document (node_events (unled n) (at + byte_len (comments_text (leading n)))))))
 document_pieces_events (explicit x) at = append-nil (document_events (explicit x) at)
-document_pieces_events (directed blank first_version comments x) at = append-nil (document_events (directed blank first_version comments x) at)
+document_pieces_events (directed blank version comments x) at = append-nil (document_events (directed blank version comments x) at)
 
 -- and so do those of one that may be left out
 optional_pieces_events : (d : Option Document) (at : ℕ) → pieces_events (optional_pieces d) at ≡ optional_document_events d at

@@ -20,7 +20,7 @@ use Rattle.yaml_recognizers.proofs.Documents.StreamsFlat.{document_pieces, lines
 abbrev pub flat_document_fits : Document → Bool → Bool → List ℕ → Bool
 flat_document_fits (bare n) opened bol after = opened && not (is_line_end (node_text n ++ after)) && node_fits n 0 false bol after
 flat_document_fits (explicit x) opened bol after = explicit_fits x bol after
-flat_document_fits (directed blank first_version comments x) opened bol after = opened && document_fits (directed blank first_version comments x) bol after
+flat_document_fits (directed blank version comments x) opened bol after = opened && document_fits (directed blank version comments x) bol after
 
 -- what a piece has to meet
 abbrev pub piece_fits : Piece → Bool → Bool → List ℕ → Bool
@@ -61,7 +61,7 @@ document_filled (bare n) after h =
     rw text (append_filled (comments_text (leading n)) (node_text (unled n) ++ after) p.some)
 document_filled (explicit (content n)) after h = refl
 document_filled (explicit (nothing comments)) after h = refl
-document_filled (directed blank first_version comments x) after h = refl
+document_filled (directed blank version comments x) after h = refl
 
 -- a document before pieces fits with them
 document_before : (d : Document) (rest : List Piece) → document_fits d true (pieces_text rest) ≡ true → pieces_fit rest false (starts_line true (document_text d)) ≡ true
@@ -78,7 +78,7 @@ document_before (bare n) rest h r =
     subst (λ (ps : List Piece). pieces_fit ps true true ≡ true) (sym regrouped)
     (lines_before (leading n) (document (bare (unled n)) ∷ rest) true true p.comments (and_from _ _ (and_from _ _ (not_from_false _ p.begun) node) more))
 document_before (explicit x) rest h r = and_from _ _ h r
-document_before (directed blank first_version comments x) rest h r = and_from _ _ h r
+document_before (directed blank version comments x) rest h r = and_from _ _ h r
 
 -- so does one that may be left out
 optional_before : (d : Option Document) (rest : List Piece) (bol : Bool) → optional_document_fits d true (pieces_text rest) ≡ true

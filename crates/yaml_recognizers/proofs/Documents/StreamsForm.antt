@@ -74,7 +74,7 @@ record Split (ps : List Piece) (opened bol : Bool) : Type 0 where
 document_stop : (d : Document) (opened bol : Bool) (after : List ℕ) → canonical_document d opened bol after ≡ true → is_line_end (document_text d ++ after) ≡ false
 document_stop (bare n) opened bol after h = not-true _ (and_parts _ _ (and_parts _ _ h).0).1
 document_stop (explicit x) opened bol after h = explicit_stop x after
-document_stop (directed blank first_version comments x) opened bol after h = refl
+document_stop (directed blank version comments x) opened bol after h = refl
 
 -- what the comment lines at the start and the others meet
 split : (ps : List Piece) (opened bol : Bool) → canonical_pieces ps opened bol ≡ true → Split ps opened bol

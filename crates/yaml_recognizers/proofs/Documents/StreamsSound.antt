@@ -5,7 +5,7 @@ use Rattle.std.proofs.lemmas.Bool.{and_from, and_parts, cond_both, eqb-true, fal
 use Rattle.yaml_chars.specs.Classes.{white}
 use Rattle.yaml_grammar.specs.BlockNodes.{Node}
 use Rattle.yaml_grammar.specs.Separation.{LineEnd, comments_text}
-use Rattle.yaml_grammar.specs.Streams.{Document, Explicit, bare, content, directed, document_text, explicit, explicit_text, mark_text, nothing}
+use Rattle.yaml_grammar.specs.Streams.{Document, Explicit, bare, content, directed, document_text, explicit, explicit_text, mark_text, nothing, Version, yaml_1_1, yaml_1_2, version_text}
 use Rattle.std.specs.List.{list_all}
 use Rattle.yaml_grammar.specs.Texts.{begins, ends_word, first, is_empty, starts_line}
 use Rattle.yaml_recognizers.specs.BlockNodes.{omits}
@@ -15,7 +15,7 @@ use Rattle.yaml_recognizers.specs.Comments.{all_comments, closes_line, read_line
 use Rattle.yaml_recognizers.specs.Ends.{block_node_stops}
 use Rattle.yaml_recognizers.specs.Prefixes.{drop_while, take_while}
 use Rattle.yaml_recognizers.specs.Reading.{Read, on}
-use Rattle.yaml_recognizers.specs.Streams.{directed_with, explicit_with, mark_at, more_pieces, order_mark, percent, piece_and, read_directed, read_explicit, read_piece, read_pieces, read_version, stream_of, suffix_with, version_with, with_mark}
+use Rattle.yaml_recognizers.specs.Streams.{directed_with, explicit_with, marker_of, more_pieces, order_mark, percent, piece_and, read_directed, read_explicit, read_piece, read_pieces, read_version, stream_of, suffix_with, version_with, with_mark}
 use Rattle.yaml_recognizers.proofs.Block.BlockNodesSound.{NodeOf, tail_fit}
 use Rattle.yaml_recognizers.proofs.Separation.CommentsSound.{CommentsOf, LineOf, all_sound, line_sound}
 use Rattle.yaml_recognizers.proofs.Basics.Prefixes.{take_while_every, take_while_split}
@@ -46,15 +46,15 @@ closed_sound text h =
     (cs.0, tail_fit c.0 c.1 cs.1 h)
 
 -- the version is at the start of the text
-abbrev VersionOf : List ℕ → Bool → List ℕ → Type 0
-VersionOf text first_version rest = text ≡ (if first_version then codes "1.1" else codes "1.2") ++ rest
+abbrev VersionOf : List ℕ → Version → List ℕ → Type 0
+VersionOf text version rest = text ≡ version_text version ++ rest
 
 -- a version that is read is there
 version_sound : (text : List ℕ) → Sound (VersionOf text) (read_version text)
 version_sound text =
-    cond_both (begins (codes "1.1") text) (Some (true, drop 3 text)) (if begins (codes "1.2") text then Some (false, drop 3 text) else None) (Sound (VersionOf text))
+    cond_both (begins (codes "1.1") text) (Some (yaml_1_1, drop 3 text)) (if begins (codes "1.2") text then Some (yaml_1_2, drop 3 text) else None) (Sound (VersionOf text))
     (λ h. begins_split (codes "1.1") text h)
-    (λ _. cond_both (begins (codes "1.2") text) (Some (false, drop 3 text)) None (Sound (VersionOf text)) (λ h. begins_split (codes "1.2") text h) (λ _. tt))
+    (λ _. cond_both (begins (codes "1.2") text) (Some (yaml_1_2, drop 3 text)) None (Sound (VersionOf text)) (λ h. begins_split (codes "1.2") text h) (λ _. tt))
 
 module _ (node_at : Bool → List ℕ → Read Node) (node_sound : (bol : Bool) (text : List ℕ) → Sound (NodeOf 0 false bol text) (node_at bol text)) where
   -- after `---`
@@ -72,36 +72,36 @@ module _ (node_at : Bool → List ℕ → Read Node) (node_sound : (bol : Bool) 
   explicit_sound : (text : List ℕ) → Sound (ExplicitOf text) (read_explicit node_at text)
   unfolding read_explicit
   explicit_sound text =
-      cond_both (mark_at 45 text) (explicit_with node_at (drop 3 text) (all_comments false (drop 3 text))) None (Sound (ExplicitOf text))
+      cond_both (marker_of 45 text) (explicit_with node_at (drop 3 text) (all_comments false (drop 3 text))) None (Sound (ExplicitOf text))
       (λ h.
       let p : (begins (codes "---") text ≡ true) × (ends_word (drop 3 text) ≡ true) = and_parts _ _ h in
       after_dashes text (drop 3 text) (begins_split (codes "---") text p.0) p.1)
       (λ _. tt)
 
   -- after `%YAML`, its white and the version
-  after_version : (text blank after : List ℕ) (first_version : Bool) → text ≡ codes "%YAML" ++ (blank ++ ((if first_version then codes "1.1" else codes "1.2") ++ after))
-      → list_all white blank ≡ true → is_empty blank ≡ false → Sound (DirectedOf text) (directed_with node_at blank first_version (all_comments false after))
-  after_version text blank after first_version t w b =
+  after_version : (text blank after : List ℕ) (version : Version) → text ≡ codes "%YAML" ++ (blank ++ (version_text version ++ after))
+      → list_all white blank ≡ true → is_empty blank ≡ false → Sound (DirectedOf text) (directed_with node_at blank version (all_comments false after))
+  after_version text blank after version t w b =
       let c : List LineEnd × List ℕ = all_comments false after in
-      cond_both (closes_line c) (on (read_explicit node_at c.1) (λ x rest. Some (directed blank first_version c.0 x, rest))) None (Sound (DirectedOf text))
+      cond_both (closes_line c) (on (read_explicit node_at c.1) (λ x rest. Some (directed blank version c.0 x, rest))) None (Sound (DirectedOf text))
       (λ h.
       let cs : ClosedOf after c = closed_sound after h in
-      sound_on (ExplicitOf c.1) (DirectedOf text) (read_explicit node_at c.1) (λ x rest. Some (directed blank first_version c.0 x, rest)) (explicit_sound c.1)
+      sound_on (ExplicitOf c.1) (DirectedOf text) (read_explicit node_at c.1) (λ x rest. Some (directed blank version c.0 x, rest)) (explicit_sound c.1)
       (λ x rest q.
       let e : after ≡ comments_text c.0 ++ (explicit_text x ++ rest) = cs.0 ∙ ap (λ u. comments_text c.0 ++ u) q.0 in
-      let regrouped : document_text (directed blank first_version c.0 x) ++ rest
-      ≡ codes "%YAML" ++ (blank ++ ((if first_version then codes "1.1" else codes "1.2") ++ (comments_text c.0 ++ (explicit_text x ++ rest)))) = simp append_assoc in (
-        t ∙ (ap (λ u. codes "%YAML" ++ (blank ++ ((if first_version then codes "1.1" else codes "1.2") ++ u))) e ∙ sym regrouped),
+      let regrouped : document_text (directed blank version c.0 x) ++ rest
+      ≡ codes "%YAML" ++ (blank ++ (version_text version ++ (comments_text c.0 ++ (explicit_text x ++ rest)))) = simp append_assoc in (
+        t ∙ (ap (λ u. codes "%YAML" ++ (blank ++ (version_text version ++ u))) e ∙ sym regrouped),
         and_from _ _ (and_from _ _ (and_from _ _ w (not_from_false _ b)) (subst (λ (u : List ℕ). canonical_comments false c.0 u ≡ true) q.0 cs.1)) q.1,
       )))
       (λ _. tt)
 
   after_percent : (text blank after : List ℕ) → text ≡ codes "%YAML" ++ (blank ++ after) → list_all white blank ≡ true → Sound (DirectedOf text) (version_with node_at blank after)
   after_percent text blank after t w =
-      cond_both (is_empty blank) None (on (read_version after) (λ first_version rest. directed_with node_at blank first_version (all_comments false rest))) (Sound (DirectedOf text))
+      cond_both (is_empty blank) None (on (read_version after) (λ version rest. directed_with node_at blank version (all_comments false rest))) (Sound (DirectedOf text))
       (λ _. tt)
-      (λ b. sound_on (VersionOf after) (DirectedOf text) (read_version after) (λ first_version rest. directed_with node_at blank first_version (all_comments false rest)) (version_sound after)
-      (λ first_version rest q. after_version text blank rest first_version (t ∙ ap (λ u. codes "%YAML" ++ (blank ++ u)) q) w b))
+      (λ b. sound_on (VersionOf after) (DirectedOf text) (read_version after) (λ version rest. directed_with node_at blank version (all_comments false rest)) (version_sound after)
+      (λ version rest q. after_version text blank rest version (t ∙ ap (λ u. codes "%YAML" ++ (blank ++ u)) q) w b))
 
   directed_sound : (text : List ℕ) → Sound (DirectedOf text) (read_directed node_at text)
   directed_sound text =
@@ -112,7 +112,7 @@ module _ (node_at : Bool → List ℕ → Read Node) (node_sound : (bol : Bool) 
       after_percent text (take_while white (drop 5 text)) (drop_while white (drop 5 text)) (t ∙ ap (λ u. codes "%YAML" ++ u) s) (take_while_every white (drop 5 text)))
       (λ _. tt)
 
-  suffix_sound : (opened bol : Bool) (text : List ℕ) → bol ≡ true → mark_at 46 text ≡ true → Sound (PieceOf opened bol text) (suffix_with (all_comments false (drop 3 text)))
+  suffix_sound : (opened bol : Bool) (text : List ℕ) → bol ≡ true → marker_of 46 text ≡ true → Sound (PieceOf opened bol text) (suffix_with (all_comments false (drop 3 text)))
   suffix_sound opened bol text b h =
       let p : (begins (codes "...") text ≡ true) × (ends_word (drop 3 text) ≡ true) = and_parts _ _ h in
       let c : List LineEnd × List ℕ = all_comments false (drop 3 text) in
@@ -138,13 +138,13 @@ module _ (node_at : Bool → List ℕ → Read Node) (node_sound : (bol : Bool) 
       let P : Read Piece → Type 0 = Sound (PieceOf opened bol text) in
       let bare_at : Read Piece = if opened then on (node_at bol text) (λ n rest. Some (document (bare n), rest)) else None in
       let directed_at : Read Piece = if opened && bol && first percent text then on (read_directed node_at text) (λ d rest. Some (document d, rest)) else bare_at in
-      let explicit_at : Read Piece = if bol && mark_at 45 text then on (read_explicit node_at text) (λ x rest. Some (document (explicit x), rest)) else directed_at in
-      cond_both (is_line_end text) (on (read_line_end bol text) (λ e rest. Some (line e, rest))) (if bol && mark_at 46 text then suffix_with (all_comments false (drop 3 text)) else explicit_at) P
+      let explicit_at : Read Piece = if bol && marker_of 45 text then on (read_explicit node_at text) (λ x rest. Some (document (explicit x), rest)) else directed_at in
+      cond_both (is_line_end text) (on (read_line_end bol text) (λ e rest. Some (line e, rest))) (if bol && marker_of 46 text then suffix_with (all_comments false (drop 3 text)) else explicit_at) P
       (λ _. sound_on (LineOf bol text) (PieceOf opened bol text) (read_line_end bol text) (λ e rest. Some (line e, rest)) (line_sound bol text) (λ e rest q. q))
-      (λ l. cond_both (bol && mark_at 46 text) (suffix_with (all_comments false (drop 3 text))) explicit_at P
-      (λ h. let p : (bol ≡ true) × (mark_at 46 text ≡ true) = and_parts _ _ h in suffix_sound opened bol text p.0 p.1)
-      (λ _. cond_both (bol && mark_at 45 text) (on (read_explicit node_at text) (λ x rest. Some (document (explicit x), rest))) directed_at P
-      (λ h. let p : (bol ≡ true) × (mark_at 45 text ≡ true) = and_parts _ _ h in
+      (λ l. cond_both (bol && marker_of 46 text) (suffix_with (all_comments false (drop 3 text))) explicit_at P
+      (λ h. let p : (bol ≡ true) × (marker_of 46 text ≡ true) = and_parts _ _ h in suffix_sound opened bol text p.0 p.1)
+      (λ _. cond_both (bol && marker_of 45 text) (on (read_explicit node_at text) (λ x rest. Some (document (explicit x), rest))) directed_at P
+      (λ h. let p : (bol ≡ true) × (marker_of 45 text ≡ true) = and_parts _ _ h in
       sound_on (ExplicitOf text) (PieceOf opened bol text) (read_explicit node_at text) (λ x rest. Some (document (explicit x), rest)) (explicit_sound text)
       (λ x rest q. (q.0, at_line_start x bol rest p.0 q.1)))
       (λ _. cond_both (opened && bol && first percent text) (on (read_directed node_at text) (λ d rest. Some (document d, rest))) bare_at P

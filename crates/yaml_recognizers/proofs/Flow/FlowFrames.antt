@@ -2,7 +2,7 @@
 use Rattle.std.proofs.Common.{ap, refl, sym, ◌∙◌, ◌≡◌}
 use Rattle.std.specs.Prelude.{Bool, List, None, Option, Some, [], false, true, is_some, ℕ, ◌++◌, ◌==◌, ◌||◌, ◌&&◌, not, ◌∷◌}
 use Rattle.yaml_grammar.specs.FlowNodes.{Entries, Entry, Flow, Value, absent, empty, entry, given, is_plain, last, next, none, scalar}
-use Rattle.yaml_grammar.specs.FlowScalars.{FlowContext, inside, one_line}
+use Rattle.yaml_grammar.specs.FlowScalars.{FlowContext, in_flow, one_line}
 use Rattle.yaml_grammar.specs.Separation.{Sep, gap_text}
 use Rattle.yaml_grammar.specs.Texts.{first, starts_line}
 use Rattle.yaml_recognizers.specs.Ends.{is_colon}
@@ -36,13 +36,13 @@ joined_more (y ∷ ys) x es = ap (next y.entry y.before y.after) (joined_more ys
 -- at a `[` a sequence is opened
 pub opens_seq : (n : ℕ) (c : FlowContext) (bol : Bool) (text : List ℕ) → first (λ x. x == 91) text ≡ true
     → flow_node_at n c bol text ≡ close_with (record { in_seq = true; gap = (read_gap n (one_line c) (past text)).0; done = [] })
-    (flow_entries_at n (inside c) true (starts_line false (gap_text (read_gap n (one_line c) (past text)).0)) 93 (read_gap n (one_line c) (past text)).1)
+    (flow_entries_at n (in_flow c) true (starts_line false (gap_text (read_gap n (one_line c) (past text)).0)) 93 (read_gap n (one_line c) (past text)).1)
 opens_seq n c bol text h = flow_step read_scalar reads_scalars n c bol text ∙ rw h refl
 
 -- at a `{` a mapping is opened
 pub opens_map : (n : ℕ) (c : FlowContext) (bol : Bool) (text : List ℕ) → first (λ x. x == 91) text ≡ false → first (λ x. x == 123) text ≡ true
     → flow_node_at n c bol text ≡ close_with (record { in_seq = false; gap = (read_gap n (one_line c) (past text)).0; done = [] })
-    (flow_entries_at n (inside c) false (starts_line false (gap_text (read_gap n (one_line c) (past text)).0)) 125 (read_gap n (one_line c) (past text)).1)
+    (flow_entries_at n (in_flow c) false (starts_line false (gap_text (read_gap n (one_line c) (past text)).0)) 125 (read_gap n (one_line c) (past text)).1)
 opens_map n c bol text h k = flow_step read_scalar reads_scalars n c bol text ∙ rw (h, k) refl
 
 -- without a bracket there is a scalar

@@ -9,7 +9,7 @@ use Rattle.yaml_grammar.specs.Separation.{gap_text}
 use Rattle.yaml_grammar.specs.Texts.{first, is_empty, marker, no_marker}
 use Rattle.yaml_recognizers.specs.BlockNodes.{bar}
 use Rattle.yaml_recognizers.specs.CanonicalFlowNodes.{canonical_entries, canonical_entry, canonical_flow}
-use Rattle.yaml_recognizers.specs.Ends.{closing, in_flow, solid}
+use Rattle.yaml_recognizers.specs.Ends.{closing, between_brackets, solid}
 use Rattle.yaml_recognizers.specs.FlowNodes.{ends_entry, is_asked}
 use Rattle.yaml_recognizers.specs.Prefixes.{sign}
 use Rattle.yaml_recognizers.proofs.Scalars.PlainScalars.{plain_regrouped}
@@ -158,7 +158,7 @@ entry_opens e n d in_seq bol close after k h = unclosed (entry_text e ++ after) 
 -- ---- nodes in a block
 
 -- outside brackets what is safe is ns
-wide_safe : (c : FlowContext) (xs : List ℕ) → in_flow c ≡ false → first (safe c) xs ≡ true → first ns xs ≡ true
+wide_safe : (c : FlowContext) (xs : List ℕ) → between_brackets c ≡ false → first (safe c) xs ≡ true → first ns xs ≡ true
 wide_safe outer [] w h = h
 wide_safe outer (x ∷ xs) w h = h
 wide_safe block_key [] w h = h
@@ -167,7 +167,7 @@ wide_safe inner xs w h = absurd (false≢true (sym w))
 wide_safe flow_key xs w h = absurd (false≢true (sym w))
 
 -- a plain scalar starts with no indicator as a sign
-plain_unsigned : (c : FlowContext) (k x : ℕ) (xs : List ℕ) → in_flow c ≡ false → indicator k ≡ true → plain_first c x xs ≡ true → sign k (x ∷ xs) ≡ false
+plain_unsigned : (c : FlowContext) (k x : ℕ) (xs : List ℕ) → between_brackets c ≡ false → indicator k ≡ true → plain_first c x xs ≡ true → sign k (x ∷ xs) ≡ false
 plain_unsigned c k x xs w i h = elim (or_cases _ _ (and_parts _ _ h).1) [
   | inl n ↦ and_left (x == k) _ (no_indicator x k i (not-true _ n))
   | inr n ↦ not_both (x == k) _ (not_from_true _ (wide_safe c xs w (and_parts _ _ n).1))
@@ -206,7 +206,7 @@ pub record Opens (text : List ℕ) : Type 0 where
   pub unreserved : first reserved text ≡ false
 
 -- a plain scalar may start a node
-plain_opens : (c : FlowContext) (prefix after : List ℕ) → in_flow c ≡ false → plain_line c prefix after ≡ true → Opens (prefix ++ after) × (first bar (prefix ++ after) ≡ false)
+plain_opens : (c : FlowContext) (prefix after : List ℕ) → between_brackets c ≡ false → plain_line c prefix after ≡ true → Opens (prefix ++ after) × (first bar (prefix ++ after) ≡ false)
 plain_opens c [] after w h = absurd (false≢true h)
 plain_opens c (x ∷ xs) after w h =
     let f : plain_first c x (xs ++ after) ≡ true = (and_parts _ _ h).0 in (
@@ -221,7 +221,7 @@ plain_opens c (x ∷ xs) after w h =
     )
 
 -- a flow node in a block starts with no sign of a block node, and with no `|` or `>`
-pub flow_opens : (f : Flow) (n : ℕ) (c : FlowContext) (bol : Bool) (after : List ℕ) → in_flow c ≡ false → canonical_flow f n c bol after ≡ true
+pub flow_opens : (f : Flow) (n : ℕ) (c : FlowContext) (bol : Bool) (after : List ℕ) → between_brackets c ≡ false → canonical_flow f n c bol after ≡ true
     → Opens (flow_text f ++ after) × (first bar (flow_text f ++ after) ≡ false)
 flow_opens (scalar (plain prefix more)) n c bol after w h =
     subst (λ (t : List ℕ). Opens t × (first bar t ≡ false)) (sym (plain_regrouped prefix more after)) (plain_opens c prefix (lines_after plain_kind more after) w (plain_prefix n c bol prefix more after h).0)

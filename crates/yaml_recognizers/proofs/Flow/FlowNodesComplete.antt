@@ -3,12 +3,12 @@ use Rattle.std.proofs.Common.{ap, append_assoc, arith, inl, inr, refl, subst, sy
 use Rattle.std.specs.Prelude.{Bool, List, None, Option, Some, [], cond, false, is_some, not, suc, true, zero, ℕ, ◌&&◌, ◌++◌, ◌+◌, ◌==◌, ◌||◌, ◌∷◌}
 use Rattle.std.proofs.lemmas.Bool.{and_from, and_left, and_parts, eq-eqb, eqb-true, false≢true, or_cases, or_left}
 use Rattle.yaml_grammar.specs.FlowNodes.{Entries, Entry, Flow, Value, absent, before_colon, empty, entries_text, entry, entry_text, flow_text, given, is_plain, last, map, next, none, scalar, seq, short_key, single_pair, value_text}
-use Rattle.yaml_grammar.specs.FlowScalars.{FlowContext, Scalar, block_key, flow_key, inner, inside, one_line, outer, safe, scalar_text}
+use Rattle.yaml_grammar.specs.FlowScalars.{FlowContext, Scalar, block_key, flow_key, inner, in_flow, one_line, outer, safe, scalar_text}
 use Rattle.yaml_grammar.specs.Separation.{Sep, gap_text, sep_text}
 use Rattle.yaml_grammar.specs.Texts.{first, starts_line}
 use Rattle.yaml_recognizers.specs.CanonicalComments.{canonical_gap}
 use Rattle.yaml_recognizers.specs.CanonicalFlowNodes.{canonical_entries, canonical_entry, canonical_flow, canonical_value}
-use Rattle.yaml_recognizers.specs.Ends.{BetweenBrackets, Stops, closing, in_flow, is_colon, solid}
+use Rattle.yaml_recognizers.specs.Ends.{BetweenBrackets, Stops, closing, between_brackets, is_colon, solid}
 use Rattle.yaml_recognizers.specs.FlowNodes.{asked_entry, ends_entry, flow_ends, given_value, in_brackets, is_asked, keyed_entry, entry_if_short, next_entry, read_entries, read_entry, read_flow, read_value, some_value}
 use Rattle.yaml_recognizers.specs.Gaps.{read_gap}
 use Rattle.yaml_recognizers.specs.Reading.{Read, read_closing, on}
@@ -45,11 +45,11 @@ unfoldable mutual
 -- ---- closing characters
 
 -- the context between brackets is one of a flow collection
-pub inside_flow : (c : FlowContext) → in_flow (inside c) ≡ true
-inside_flow outer = refl
-inside_flow inner = refl
-inside_flow block_key = refl
-inside_flow flow_key = refl
+pub in_flow_between_brackets : (c : FlowContext) → between_brackets (in_flow c) ≡ true
+in_flow_between_brackets outer = refl
+in_flow_between_brackets inner = refl
+in_flow_between_brackets block_key = refl
+in_flow_between_brackets flow_key = refl
 
 -- a closing character is one of three
 closing_is : (P : ℕ → Type 0) (x : ℕ) → closing x ≡ true → P 44 → P 93 → P 125 → P x
@@ -79,14 +79,14 @@ closing_no_colon d after_plain (c ∷ cs) k = and_left (c == 58) _ (closing_is (
 -- ---- keys
 
 -- a flow key fits at each n
-from_key : (f : Flow) (n : ℕ) (d : FlowContext) (bol : Bool) (after : List ℕ) → in_flow d ≡ true → canonical_flow f 0 flow_key bol after ≡ true → canonical_flow f n d bol after ≡ true
+from_key : (f : Flow) (n : ℕ) (d : FlowContext) (bol : Bool) (after : List ℕ) → between_brackets d ≡ true → canonical_flow f 0 flow_key bol after ≡ true → canonical_flow f n d bol after ≡ true
 from_key f n outer bol after i h = absurd (false≢true i)
 from_key f n inner bol after i h = flow_wider f 0 n flow_key inner bol after refl h
 from_key f n block_key bol after i h = absurd (false≢true i)
 from_key f n flow_key bol after i h = flow_wider f 0 n flow_key flow_key bol after refl h
 
 -- a key that is canonical as that of a single pair or as another is canonical as another
-key_either : (pair : Bool) (f : Flow) (n : ℕ) (d : FlowContext) (bol : Bool) (after : List ℕ) (short : Bool) → in_flow d ≡ true
+key_either : (pair : Bool) (f : Flow) (n : ℕ) (d : FlowContext) (bol : Bool) (after : List ℕ) (short : Bool) → between_brackets d ≡ true
     → cond pair (canonical_flow f 0 flow_key bol after && short) (canonical_flow f n d bol after) ≡ true → canonical_flow f n d bol after ≡ true
 key_either true f n d bol after short i h = from_key f n d bol after i (and_parts _ _ h).0
 key_either false f n d bol after short i h = h
@@ -135,12 +135,12 @@ colon_given n d false None after s g = refl
 colon_given n d after_plain (Some sep) after s g = not_and after_plain _ (sep_unsafe n (one_line d) d sep after g)
 
 -- a closing character stops a scalar
-pub closing_stop : (n : ℕ) (d : FlowContext) (after_plain : Bool) (gap : Option Sep) (rest : List ℕ) → in_flow d ≡ true → first closing rest ≡ true
+pub closing_stop : (n : ℕ) (d : FlowContext) (after_plain : Bool) (gap : Option Sep) (rest : List ℕ) → between_brackets d ≡ true → first closing rest ≡ true
     → canonical_gap n (one_line d) gap rest ≡ true → BetweenBrackets d after_plain (gap_text gap ++ rest)
 closing_stop n d after_plain gap rest i k g = record { within = i; gap = gap; rest = rest; is = refl; fits = (n, gap_either n false (one_line d) gap rest g); stop = or_left _ _ k }
 
 -- a value, or the gap after the entry, stops its key
-pub value_stop : (v : Value) (n : ℕ) (d : FlowContext) (after_plain : Bool) (gap : Option Sep) (rest : List ℕ) → in_flow d ≡ true → first closing rest ≡ true
+pub value_stop : (v : Value) (n : ℕ) (d : FlowContext) (after_plain : Bool) (gap : Option Sep) (rest : List ℕ) → between_brackets d ≡ true → first closing rest ≡ true
     → canonical_gap n (one_line d) gap rest ≡ true → canonical_value v n d (one_line d) after_plain (gap_text gap ++ rest) ≡ true
     → BetweenBrackets d after_plain (value_text v ++ (gap_text gap ++ rest))
 value_stop absent n d after_plain gap rest i k g h = closing_stop n d after_plain gap rest i k g
@@ -183,23 +183,23 @@ module _ (read_scalar : ℕ → FlowContext → Bool → List ℕ → Read Scala
         let b : (first (λ x. x == 91) (scalar_text s ++ after) ≡ false) × (first (λ x. x == 123) (scalar_text s ++ after) ≡ false) = scalar_begins s n c bol after h in
         rw (b.0, b.1, scalars.complete n c bol s after h st)
     flow_read (seq gap es) (suc fuel) n c bol after m h st =
-        let p : (canonical_gap n (one_line c) gap (entries_text es ++ (93 ∷ after)) ≡ true) × (canonical_entries es n (inside c) true (starts_line false (gap_text gap)) (93 ∷ after) ≡ true) = and_parts _ _ h in
+        let p : (canonical_gap n (one_line c) gap (entries_text es ++ (93 ∷ after)) ≡ true) × (canonical_entries es n (in_flow c) true (starts_line false (gap_text gap)) (93 ∷ after) ≡ true) = and_parts _ _ h in
         let rest : List ℕ = entries_text es ++ (93 ∷ after) in
-        let again : Option Sep → List ℕ → Read Entries = λ gap' rest'. read_entries read_scalar fuel n (inside c) true (starts_line false (gap_text gap')) 93 rest' in
+        let again : Option Sep → List ℕ → Read Entries = λ gap' rest'. read_entries read_scalar fuel n (in_flow c) true (starts_line false (gap_text gap')) 93 rest' in
         let regrouped : flow_text (seq gap es) ++ after ≡ 91 ∷ (gap_text gap ++ rest) = simp append_assoc in
         ap (read_flow read_scalar (suc fuel) n c bol) regrouped
-        ∙ (ap (in_brackets seq 93 again) (gap_read n (one_line c) gap rest p.0 (entries_begin es n (inside c) true _ 93 after refl p.1))
-        ∙ ap (λ r. on r (λ es' rest'. read_closing 93 (seq gap es') rest')) (entries_read es fuel n (inside c) true _ 93 after (inside_flow c) (omega arith) refl p.1))
+        ∙ (ap (in_brackets seq 93 again) (gap_read n (one_line c) gap rest p.0 (entries_begin es n (in_flow c) true _ 93 after refl p.1))
+        ∙ ap (λ r. on r (λ es' rest'. read_closing 93 (seq gap es') rest')) (entries_read es fuel n (in_flow c) true _ 93 after (in_flow_between_brackets c) (omega arith) refl p.1))
     flow_read (map gap es) (suc fuel) n c bol after m h st =
-        let p : (canonical_gap n (one_line c) gap (entries_text es ++ (125 ∷ after)) ≡ true) × (canonical_entries es n (inside c) false (starts_line false (gap_text gap)) (125 ∷ after) ≡ true) = and_parts _ _ h in
+        let p : (canonical_gap n (one_line c) gap (entries_text es ++ (125 ∷ after)) ≡ true) × (canonical_entries es n (in_flow c) false (starts_line false (gap_text gap)) (125 ∷ after) ≡ true) = and_parts _ _ h in
         let rest : List ℕ = entries_text es ++ (125 ∷ after) in
-        let again : Option Sep → List ℕ → Read Entries = λ gap' rest'. read_entries read_scalar fuel n (inside c) false (starts_line false (gap_text gap')) 125 rest' in
+        let again : Option Sep → List ℕ → Read Entries = λ gap' rest'. read_entries read_scalar fuel n (in_flow c) false (starts_line false (gap_text gap')) 125 rest' in
         let regrouped : flow_text (map gap es) ++ after ≡ 123 ∷ (gap_text gap ++ rest) = simp append_assoc in
         ap (read_flow read_scalar (suc fuel) n c bol) regrouped
-        ∙ (ap (in_brackets map 125 again) (gap_read n (one_line c) gap rest p.0 (entries_begin es n (inside c) false _ 125 after refl p.1))
-        ∙ ap (λ r. on r (λ es' rest'. read_closing 125 (map gap es') rest')) (entries_read es fuel n (inside c) false _ 125 after (inside_flow c) (omega arith) refl p.1))
+        ∙ (ap (in_brackets map 125 again) (gap_read n (one_line c) gap rest p.0 (entries_begin es n (in_flow c) false _ 125 after refl p.1))
+        ∙ ap (λ r. on r (λ es' rest'. read_closing 125 (map gap es') rest')) (entries_read es fuel n (in_flow c) false _ 125 after (in_flow_between_brackets c) (omega arith) refl p.1))
 
-    entries_read : (es : Entries) (fuel n : ℕ) (d : FlowContext) (in_seq bol : Bool) (close : ℕ) (after : List ℕ) → in_flow d ≡ true → entries_size es ≤ fuel → bracket close ≡ true
+    entries_read : (es : Entries) (fuel n : ℕ) (d : FlowContext) (in_seq bol : Bool) (close : ℕ) (after : List ℕ) → between_brackets d ≡ true → entries_size es ≤ fuel → bracket close ≡ true
         → canonical_entries es n d in_seq bol (close ∷ after) ≡ true
         → read_entries read_scalar fuel n d in_seq bol close (entries_text es ++ (close ∷ after)) ≡ Some (es, close ∷ after)
     entries_read none zero n d in_seq bol close after i m k h = absurd (omega arith)
@@ -235,7 +235,7 @@ module _ (read_scalar : ℕ → FlowContext → Bool → List ℕ → Read Scala
         (gap_read n (one_line d) gap_after _ q.1 (entries_begin es n d in_seq _ close after k p.1))
         ∙ ap (λ x. on x (λ es' rest'. Some (next e before gap_after es', rest'))) (entries_read es fuel n d in_seq _ close after i (omega arith) k p.1)))))
 
-    entry_read : (e : Entry) (fuel n : ℕ) (d : FlowContext) (in_seq bol : Bool) (gap : Option Sep) (rest : List ℕ) → in_flow d ≡ true → entry_size e ≤ fuel → first closing rest ≡ true
+    entry_read : (e : Entry) (fuel n : ℕ) (d : FlowContext) (in_seq bol : Bool) (gap : Option Sep) (rest : List ℕ) → between_brackets d ≡ true → entry_size e ≤ fuel → first closing rest ≡ true
         → canonical_gap n (one_line d) gap rest ≡ true → canonical_entry e n d in_seq bol (gap_text gap ++ rest) ≡ true
         → read_entry read_scalar fuel n d in_seq bol (entry_text e ++ (gap_text gap ++ rest)) ≡ Some (e, gap_text gap ++ rest)
     entry_read (entry ask key value) zero n d in_seq bol gap rest i m k g h = absurd (omega arith)
@@ -271,7 +271,7 @@ module _ (read_scalar : ℕ → FlowContext → Bool → List ℕ → Read Scala
         (flow_read key fuel n d line (value_text value ++ after) (omega arith) q.1 (stops_flow n d key (value_text value ++ (gap_text gap ++ rest)) (inl (value_stop value n d (is_plain key) gap rest i k g value_fit))))
         ∙ ap (λ x. on x (λ value' rest'. Some (entry (Some sep) key value', rest'))) (value_read value fuel n d (is_plain key) gap rest i (omega arith) k g value_fit))))
 
-    value_read : (v : Value) (fuel n : ℕ) (d : FlowContext) (after_plain : Bool) (gap : Option Sep) (rest : List ℕ) → in_flow d ≡ true → value_size v ≤ fuel → first closing rest ≡ true
+    value_read : (v : Value) (fuel n : ℕ) (d : FlowContext) (after_plain : Bool) (gap : Option Sep) (rest : List ℕ) → between_brackets d ≡ true → value_size v ≤ fuel → first closing rest ≡ true
         → canonical_gap n (one_line d) gap rest ≡ true → canonical_value v n d (one_line d) after_plain (gap_text gap ++ rest) ≡ true
         → read_value read_scalar fuel n d after_plain (value_text v ++ (gap_text gap ++ rest)) ≡ Some (v, gap_text gap ++ rest)
     value_read absent zero n d after_plain gap rest i m k g h = absurd (omega arith)

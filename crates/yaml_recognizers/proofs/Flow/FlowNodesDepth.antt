@@ -2,7 +2,7 @@
 use Rattle.std.proofs.Common.{ap, arith, length-append, refl, sym, ◌∙◌, ◌≡◌, ◌≤◌}
 use Rattle.std.specs.Prelude.{Bool, List, None, Option, Some, false, if◌then◌else◌, is_some, length, not, suc, true, zero, ℕ, ◌&&◌, ◌*◌, ◌++◌, ◌+◌, ◌==◌, ◌||◌, ◌∷◌}
 use Rattle.yaml_grammar.specs.FlowNodes.{Entries, Entry, Flow, Value, entry, entry_text, flow_text, given, is_plain, map, next, none, scalar, seq}
-use Rattle.yaml_grammar.specs.FlowScalars.{FlowContext, Scalar, inside, one_line}
+use Rattle.yaml_grammar.specs.FlowScalars.{FlowContext, Scalar, in_flow, one_line}
 use Rattle.yaml_grammar.specs.Separation.{Sep, gap_text}
 use Rattle.yaml_grammar.specs.Texts.{first, starts_line}
 use Rattle.yaml_recognizers.specs.Ends.{is_colon}
@@ -59,15 +59,15 @@ module _ (read_scalar : ℕ → FlowContext → Bool → List ℕ → Read Scala
     flow_same (suc fuel) zero n c bol text l l' = absurd (omega arith)
     flow_same (suc fuel) (suc fuel') n c bol text l l' =
         let g : GapRead = read_gap n (one_line c) (past text) in
-        let again : ℕ → Bool → ℕ → Read Entries = λ depth in_seq close. read_entries read_scalar depth n (inside c) in_seq (starts_line false (gap_text g.0)) close g.1 in
+        let again : ℕ → Bool → ℕ → Read Entries = λ depth in_seq close. read_entries read_scalar depth n (in_flow c) in_seq (starts_line false (gap_text g.0)) close g.1 in
         cond_same (first (λ x. x == 91) text) _ _ _ _
         (λ e. let s : suc (length g.1) ≤ length text = past_gap_left n (one_line c) 91 text (head_is 91 text e) in
         ap (λ r. on r (λ es rest. read_closing 93 (seq g.0 es) rest))
-        (entries_same fuel fuel' n (inside c) true (starts_line false (gap_text g.0)) 93 g.1 (omega arith) (omega arith)))
+        (entries_same fuel fuel' n (in_flow c) true (starts_line false (gap_text g.0)) 93 g.1 (omega arith) (omega arith)))
         (λ _. cond_same (first (λ x. x == 123) text) _ _ _ _
         (λ e. let s : suc (length g.1) ≤ length text = past_gap_left n (one_line c) 123 text (head_is 123 text e) in
         ap (λ r. on r (λ es rest. read_closing 125 (map g.0 es) rest))
-        (entries_same fuel fuel' n (inside c) false (starts_line false (gap_text g.0)) 125 g.1 (omega arith) (omega arith)))
+        (entries_same fuel fuel' n (in_flow c) false (starts_line false (gap_text g.0)) 125 g.1 (omega arith) (omega arith)))
         (λ _. refl))
 
     -- and the same entries
@@ -137,9 +137,9 @@ module _ (read_scalar : ℕ → FlowContext → Bool → List ℕ → Read Scala
   -- a flow node, from its parts
   pub flow_step : (n : ℕ) (c : FlowContext) (bol : Bool) (text : List ℕ) → whole_flow read_scalar n c bol text
       ≡ (if first (λ x. x == 91) text
-      then in_brackets seq 93 (λ gap rest. whole_entries read_scalar n (inside c) true (starts_line false (gap_text gap)) 93 rest) (read_gap n (one_line c) (past text))
+      then in_brackets seq 93 (λ gap rest. whole_entries read_scalar n (in_flow c) true (starts_line false (gap_text gap)) 93 rest) (read_gap n (one_line c) (past text))
       else if first (λ x. x == 123) text
-      then in_brackets map 125 (λ gap rest. whole_entries read_scalar n (inside c) false (starts_line false (gap_text gap)) 125 rest) (read_gap n (one_line c) (past text))
+      then in_brackets map 125 (λ gap rest. whole_entries read_scalar n (in_flow c) false (starts_line false (gap_text gap)) 125 rest) (read_gap n (one_line c) (past text))
       else on (read_scalar n c bol text) (λ s rest. Some (scalar s, rest)))
   unfolding read_flow
   flow_step n c bol text =
@@ -149,11 +149,11 @@ module _ (read_scalar : ℕ → FlowContext → Bool → List ℕ → Read Scala
       ∙ cond_same (first (λ x. x == 91) text) _ _ _ _
       (λ e. let s : suc (length g.1) ≤ length text = past_gap_left n (one_line c) 91 text (head_is 91 text e) in
       ap (λ r. on r (λ es rest. read_closing 93 (seq g.0 es) rest))
-      (entries_same (4 * length text) (4 * length g.1 + 4) n (inside c) true (starts_line false (gap_text g.0)) 93 g.1 (omega arith) (omega arith)))
+      (entries_same (4 * length text) (4 * length g.1 + 4) n (in_flow c) true (starts_line false (gap_text g.0)) 93 g.1 (omega arith) (omega arith)))
       (λ _. cond_same (first (λ x. x == 123) text) _ _ _ _
       (λ e. let s : suc (length g.1) ≤ length text = past_gap_left n (one_line c) 123 text (head_is 123 text e) in
       ap (λ r. on r (λ es rest. read_closing 125 (map g.0 es) rest))
-      (entries_same (4 * length text) (4 * length g.1 + 4) n (inside c) false (starts_line false (gap_text g.0)) 125 g.1 (omega arith) (omega arith)))
+      (entries_same (4 * length text) (4 * length g.1 + 4) n (in_flow c) false (starts_line false (gap_text g.0)) 125 g.1 (omega arith) (omega arith)))
       (λ _. refl))
 
   -- entries, from their parts

@@ -3,7 +3,7 @@ use Rattle.std.proofs.Common.{refl, ◌≡◌}
 use Rattle.std.specs.Prelude.{Bool, List, None, Option, Some, cond, false, is_some, not, true, ℕ, ◌&&◌, ◌++◌, ◌||◌, ◌∷◌}
 use Rattle.std.proofs.lemmas.Bool.{and_from, and_parts}
 use Rattle.yaml_grammar.specs.FlowNodes.{Entries, Entry, Flow, Value, absent, asked_text, before_colon, empty, entries_events, entries_fit, entries_text, entry, entry_events, entry_fits, entry_text, flow_events, flow_fits, flow_text, given, is_pair, is_plain, last, map, next, none, scalar, seq, short_key, single_pair, value_events, value_fits, value_text}
-use Rattle.yaml_grammar.specs.FlowScalars.{FlowContext, flow_key, inside, one_line, safe}
+use Rattle.yaml_grammar.specs.FlowScalars.{FlowContext, flow_key, in_flow, one_line, safe}
 use Rattle.yaml_grammar.specs.Separation.{Sep, gap_fits, gap_text}
 use Rattle.yaml_grammar.specs.Texts.{first, starts_line}
 use Rattle.yaml_recognizers.specs.CanonicalFlowNodes.{canonical_entries, canonical_entry, canonical_flow, canonical_value}
@@ -148,14 +148,14 @@ mutual
   pub flow_form_fits : (f : Flow) (n : ℕ) (c : FlowContext) (bol : Bool) (after : List ℕ) → flow_fits f n c bol after ≡ true → canonical_flow (flow_form f) n c bol after ≡ true
   flow_form_fits (scalar s) n c bol after h = h
   flow_form_fits (seq gap es) n c bol after h =
-      let p : (gap_fits n (one_line c) gap (entries_text es ++ (93 ∷ after)) ≡ true) × (entries_fit es n (inside c) true (starts_line false (gap_text gap)) (93 ∷ after) ≡ true) = and_parts _ _ h in
-      let e : canonical_entries (entries_form es) n (inside c) true (starts_line false (gap_text gap)) (93 ∷ after) ≡ true = entries_form_fit es n (inside c) true _ 93 after refl p.1 in
-      let s : first solid (entries_text es ++ (93 ∷ after)) ≡ true = rw (entries_form_text es) at (entries_begin (entries_form es) n (inside c) true _ 93 after refl e) in
+      let p : (gap_fits n (one_line c) gap (entries_text es ++ (93 ∷ after)) ≡ true) × (entries_fit es n (in_flow c) true (starts_line false (gap_text gap)) (93 ∷ after) ≡ true) = and_parts _ _ h in
+      let e : canonical_entries (entries_form es) n (in_flow c) true (starts_line false (gap_text gap)) (93 ∷ after) ≡ true = entries_form_fit es n (in_flow c) true _ 93 after refl p.1 in
+      let s : first solid (entries_text es ++ (93 ∷ after)) ≡ true = rw (entries_form_text es) at (entries_begin (entries_form es) n (in_flow c) true _ 93 after refl e) in
       rw (gap_form_text gap, entries_form_text es) (and_from _ _ (gap_form_fits n (one_line c) gap _ p.0 s) e)
   flow_form_fits (map gap es) n c bol after h =
-      let p : (gap_fits n (one_line c) gap (entries_text es ++ (125 ∷ after)) ≡ true) × (entries_fit es n (inside c) false (starts_line false (gap_text gap)) (125 ∷ after) ≡ true) = and_parts _ _ h in
-      let e : canonical_entries (entries_form es) n (inside c) false (starts_line false (gap_text gap)) (125 ∷ after) ≡ true = entries_form_fit es n (inside c) false _ 125 after refl p.1 in
-      let s : first solid (entries_text es ++ (125 ∷ after)) ≡ true = rw (entries_form_text es) at (entries_begin (entries_form es) n (inside c) false _ 125 after refl e) in
+      let p : (gap_fits n (one_line c) gap (entries_text es ++ (125 ∷ after)) ≡ true) × (entries_fit es n (in_flow c) false (starts_line false (gap_text gap)) (125 ∷ after) ≡ true) = and_parts _ _ h in
+      let e : canonical_entries (entries_form es) n (in_flow c) false (starts_line false (gap_text gap)) (125 ∷ after) ≡ true = entries_form_fit es n (in_flow c) false _ 125 after refl p.1 in
+      let s : first solid (entries_text es ++ (125 ∷ after)) ≡ true = rw (entries_form_text es) at (entries_begin (entries_form es) n (in_flow c) false _ 125 after refl e) in
       rw (gap_form_text gap, entries_form_text es) (and_from _ _ (gap_form_fits n (one_line c) gap _ p.0 s) e)
 
   -- so is that of entries

@@ -4,13 +4,13 @@ use Rattle.std.proofs.Common.{refl, subst, sym, ◌≡◌}
 use Rattle.std.specs.Prelude.{Bool, List, None, Option, Some, cond, false, not, true, ℕ, ◌&&◌}
 use Rattle.std.proofs.lemmas.Bool.{and_from, and_parts, false≢true, or_left}
 use Rattle.yaml_grammar.specs.FlowNodes.{Entries, Entry, Flow, Value, absent, empty, entry, given, last, map, next, none, scalar, seq, single_pair}
-use Rattle.yaml_grammar.specs.FlowScalars.{FlowContext, Scalar, flow_key, inside, one_line, scalar_fits}
+use Rattle.yaml_grammar.specs.FlowScalars.{FlowContext, Scalar, flow_key, in_flow, one_line, scalar_fits}
 use Rattle.yaml_grammar.specs.Separation.{Sep, inline, lines}
 use Rattle.yaml_recognizers.specs.CanonicalComments.{canonical_gap}
 use Rattle.yaml_recognizers.specs.CanonicalFlowNodes.{canonical_entries, canonical_entry, canonical_flow, canonical_value}
 use Rattle.yaml_recognizers.specs.OneLine.{entries_on_one_line, entry_on_one_line, gap_on_one_line, on_one_line, value_on_one_line, widens}
 use Rattle.yaml_recognizers.specs.WholeScalars.{stands_on_one_line}
-use Rattle.yaml_recognizers.proofs.Flow.FlowNodesWider.{either, first_safe, key_line, safe_same, widens_cases, wider_inside}
+use Rattle.yaml_recognizers.proofs.Flow.FlowNodesWider.{either, first_safe, key_line, safe_same, widens_cases, wider_in_flow}
 use Rattle.yaml_recognizers.proofs.Scalars.ScalarKeys.{fits_same, key_on_one_line}
 
 -- a gap on one line fits in either way
@@ -30,11 +30,11 @@ mutual
   flow_narrower (seq gap es) n m c d bol after w o h =
       let p = and_parts _ _ h in
       let l : (gap_on_one_line gap ≡ true) × (entries_on_one_line es ≡ true) = and_parts _ _ o in
-      and_from _ _ (gap_narrower n m (one_line c) (one_line d) gap _ l.0 p.0) (entries_narrower es n m (inside c) (inside d) true _ _ (wider_inside d c w) l.1 p.1)
+      and_from _ _ (gap_narrower n m (one_line c) (one_line d) gap _ l.0 p.0) (entries_narrower es n m (in_flow c) (in_flow d) true _ _ (wider_in_flow d c w) l.1 p.1)
   flow_narrower (map gap es) n m c d bol after w o h =
       let p = and_parts _ _ h in
       let l : (gap_on_one_line gap ≡ true) × (entries_on_one_line es ≡ true) = and_parts _ _ o in
-      and_from _ _ (gap_narrower n m (one_line c) (one_line d) gap _ l.0 p.0) (entries_narrower es n m (inside c) (inside d) false _ _ (wider_inside d c w) l.1 p.1)
+      and_from _ _ (gap_narrower n m (one_line c) (one_line d) gap _ l.0 p.0) (entries_narrower es n m (in_flow c) (in_flow d) false _ _ (wider_in_flow d c w) l.1 p.1)
 
   -- so do entries on one line
   entries_narrower : (es : Entries) (n m : ℕ) (c d : FlowContext) (in_seq bol : Bool) (after : List ℕ) → widens d c ≡ true → entries_on_one_line es ≡ true
@@ -99,9 +99,9 @@ mutual
   pub flow_line : (f : Flow) (n : ℕ) (c : FlowContext) (bol : Bool) (after : List ℕ) → widens c c ≡ true → canonical_flow f n c bol after ≡ true → on_one_line f ≡ true
   flow_line (scalar s) n c bol after w h = key_on_one_line s n c bol after (key_line c c w) h
   flow_line (seq gap es) n c bol after w h =
-      let p = and_parts _ _ h in and_from _ _ (gap_line n (one_line c) gap _ (key_line c c w) p.0) (entries_line es n (inside c) true _ _ (wider_inside c c w) p.1)
+      let p = and_parts _ _ h in and_from _ _ (gap_line n (one_line c) gap _ (key_line c c w) p.0) (entries_line es n (in_flow c) true _ _ (wider_in_flow c c w) p.1)
   flow_line (map gap es) n c bol after w h =
-      let p = and_parts _ _ h in and_from _ _ (gap_line n (one_line c) gap _ (key_line c c w) p.0) (entries_line es n (inside c) false _ _ (wider_inside c c w) p.1)
+      let p = and_parts _ _ h in and_from _ _ (gap_line n (one_line c) gap _ (key_line c c w) p.0) (entries_line es n (in_flow c) false _ _ (wider_in_flow c c w) p.1)
 
   -- in a key entries are on one line
   entries_line : (es : Entries) (n : ℕ) (d : FlowContext) (in_seq bol : Bool) (after : List ℕ) → widens d d ≡ true → canonical_entries es n d in_seq bol after ≡ true → entries_on_one_line es ≡ true

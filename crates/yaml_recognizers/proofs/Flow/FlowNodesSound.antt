@@ -3,7 +3,7 @@ use Rattle.std.proofs.Common.{ap, append_assoc, inl, inr, refl, subst, sym, ◌�
 use Rattle.std.specs.Prelude.{Bool, List, None, Option, Some, [], cond, false, is_some, not, suc, true, zero, ℕ, ◌&&◌, ◌++◌, ◌==◌, ◌||◌, ◌∷◌}
 use Rattle.std.proofs.lemmas.Bool.{and_from, and_parts, eqb-true, false≢true, or_parts}
 use Rattle.yaml_grammar.specs.FlowNodes.{Entries, Entry, Flow, Value, absent, empty, entries_text, entry, entry_text, flow_text, given, is_plain, last, map, next, none, scalar, seq, single_pair, value_text}
-use Rattle.yaml_grammar.specs.FlowScalars.{FlowContext, Scalar, inside, one_line, safe, scalar_fits, scalar_text}
+use Rattle.yaml_grammar.specs.FlowScalars.{FlowContext, Scalar, in_flow, one_line, safe, scalar_fits, scalar_text}
 use Rattle.yaml_grammar.specs.Separation.{Sep, gap_text}
 use Rattle.yaml_grammar.specs.Texts.{first, starts_line}
 use Rattle.yaml_recognizers.specs.CanonicalComments.{canonical_gap}
@@ -77,27 +77,27 @@ module _ (read_scalar : ℕ → FlowContext → Bool → List ℕ → Read Scala
         let gap : GapRead = read_gap n (one_line c) (past text) in
         let g : (past text ≡ gap_text gap.0 ++ gap.1) × (canonical_gap n (one_line c) gap.0 gap.1 ≡ true) = gap_sound n (one_line c) (past text) in
         elim (chosen (first (λ x. x == 91) text) _ _ _ h) [
-          | inl e ↦ (let p = on_parts (read_entries read_scalar fuel n (inside c) true (starts_line false (gap_text gap.0)) 93 gap.1) _ _ e.1 in
+          | inl e ↦ (let p = on_parts (read_entries read_scalar fuel n (in_flow c) true (starts_line false (gap_text gap.0)) 93 gap.1) _ _ e.1 in
               let q = closed_parts 93 (seq gap.0 p.0) p.1 f rest p.3 in
-              let j : EntriesSound n (inside c) true (starts_line false (gap_text gap.0)) gap.1 p.1 p.0 = entries_sound fuel n (inside c) true _ 93 gap.1 p.0 p.1 p.2 in
+              let j : EntriesSound n (in_flow c) true (starts_line false (gap_text gap.0)) gap.1 p.1 p.0 = entries_sound fuel n (in_flow c) true _ 93 gap.1 p.0 p.1 p.2 in
               let after : gap.1 ≡ entries_text p.0 ++ (93 ∷ rest) = j.0 ∙ ap (λ (t : List ℕ). entries_text p.0 ++ t) q.1 in
               let regrouped : flow_text (seq gap.0 p.0) ++ rest ≡ 91 ∷ (gap_text gap.0 ++ (entries_text p.0 ++ (93 ∷ rest))) = simp append_assoc in
               subst (FlowFound n c bol text rest) q.0 (
                 head_is 91 text e.0 ∙ (ap (λ (t : List ℕ). 91 ∷ t) g.0 ∙ (ap (λ (t : List ℕ). 91 ∷ (gap_text gap.0 ++ t)) after ∙ sym regrouped)),
                 and_from _ _ (subst (λ (t : List ℕ). canonical_gap n (one_line c) gap.0 t ≡ true) after g.1)
-                    (subst (λ (t : List ℕ). canonical_entries p.0 n (inside c) true (starts_line false (gap_text gap.0)) t ≡ true) q.1 j.1),
+                    (subst (λ (t : List ℕ). canonical_entries p.0 n (in_flow c) true (starts_line false (gap_text gap.0)) t ≡ true) q.1 j.1),
                 refl,
               ))
           | inr i ↦ elim (chosen (first (λ x. x == 123) text) _ _ _ i.1) [
-            | inl e ↦ (let p = on_parts (read_entries read_scalar fuel n (inside c) false (starts_line false (gap_text gap.0)) 125 gap.1) _ _ e.1 in
+            | inl e ↦ (let p = on_parts (read_entries read_scalar fuel n (in_flow c) false (starts_line false (gap_text gap.0)) 125 gap.1) _ _ e.1 in
                 let q = closed_parts 125 (map gap.0 p.0) p.1 f rest p.3 in
-                let j : EntriesSound n (inside c) false (starts_line false (gap_text gap.0)) gap.1 p.1 p.0 = entries_sound fuel n (inside c) false _ 125 gap.1 p.0 p.1 p.2 in
+                let j : EntriesSound n (in_flow c) false (starts_line false (gap_text gap.0)) gap.1 p.1 p.0 = entries_sound fuel n (in_flow c) false _ 125 gap.1 p.0 p.1 p.2 in
                 let after : gap.1 ≡ entries_text p.0 ++ (125 ∷ rest) = j.0 ∙ ap (λ (t : List ℕ). entries_text p.0 ++ t) q.1 in
                 let regrouped : flow_text (map gap.0 p.0) ++ rest ≡ 123 ∷ (gap_text gap.0 ++ (entries_text p.0 ++ (125 ∷ rest))) = simp append_assoc in
                 subst (FlowFound n c bol text rest) q.0 (
                   head_is 123 text e.0 ∙ (ap (λ (t : List ℕ). 123 ∷ t) g.0 ∙ (ap (λ (t : List ℕ). 123 ∷ (gap_text gap.0 ++ t)) after ∙ sym regrouped)),
                   and_from _ _ (subst (λ (t : List ℕ). canonical_gap n (one_line c) gap.0 t ≡ true) after g.1)
-                      (subst (λ (t : List ℕ). canonical_entries p.0 n (inside c) false (starts_line false (gap_text gap.0)) t ≡ true) q.1 j.1),
+                      (subst (λ (t : List ℕ). canonical_entries p.0 n (in_flow c) false (starts_line false (gap_text gap.0)) t ≡ true) q.1 j.1),
                   refl,
                 ))
             | inr e ↦ (let p = on_parts (read_scalar n c bol text) _ _ e.1 in

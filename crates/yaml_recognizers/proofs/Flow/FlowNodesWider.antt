@@ -3,7 +3,7 @@ use Rattle.std.proofs.Common.{refl, subst, ◌≡◌}
 use Rattle.std.specs.Prelude.{Bool, List, None, Option, Some, cond, false, not, true, ℕ, ◌&&◌, ◌||◌}
 use Rattle.std.proofs.lemmas.Bool.{and_from, and_parts, false≢true}
 use Rattle.yaml_grammar.specs.FlowNodes.{Entries, Entry, Flow, Value, absent, empty, entry, given, last, map, next, none, scalar, seq, single_pair}
-use Rattle.yaml_grammar.specs.FlowScalars.{FlowContext, Scalar, block_key, flow_key, inner, inside, one_line, outer, safe, scalar_fits}
+use Rattle.yaml_grammar.specs.FlowScalars.{FlowContext, Scalar, block_key, flow_key, inner, in_flow, one_line, outer, safe, scalar_fits}
 use Rattle.yaml_grammar.specs.Separation.{Sep, inline, lines}
 use Rattle.yaml_grammar.specs.Texts.{first}
 use Rattle.yaml_recognizers.specs.CanonicalComments.{canonical_gap}
@@ -29,8 +29,8 @@ pub key_line : (c d : FlowContext) → widens c d ≡ true → one_line c ≡ tr
 key_line c d w = widens_cases (λ a b. one_line a ≡ true) c d w refl refl refl refl
 
 -- so are the contexts between brackets in it
-pub wider_inside : (c d : FlowContext) → widens c d ≡ true → widens (inside c) (inside d) ≡ true
-wider_inside c d w = widens_cases (λ a b. widens (inside a) (inside b) ≡ true) c d w refl refl refl refl
+pub wider_in_flow : (c d : FlowContext) → widens c d ≡ true → widens (in_flow c) (in_flow d) ≡ true
+wider_in_flow c d w = widens_cases (λ a b. widens (in_flow a) (in_flow b) ≡ true) c d w refl refl refl refl
 
 -- ---- gaps and scalars
 
@@ -71,10 +71,10 @@ mutual
   flow_wider (scalar s) n m c d bol after w h = scalar_wider s n m c d bol after w h
   flow_wider (seq gap es) n m c d bol after w h =
       let p = and_parts _ _ h in
-      and_from _ _ (gap_wider n m (one_line c) (one_line d) gap _ (key_line c d w) p.0) (entries_wider es n m (inside c) (inside d) true _ _ (wider_inside c d w) p.1)
+      and_from _ _ (gap_wider n m (one_line c) (one_line d) gap _ (key_line c d w) p.0) (entries_wider es n m (in_flow c) (in_flow d) true _ _ (wider_in_flow c d w) p.1)
   flow_wider (map gap es) n m c d bol after w h =
       let p = and_parts _ _ h in
-      and_from _ _ (gap_wider n m (one_line c) (one_line d) gap _ (key_line c d w) p.0) (entries_wider es n m (inside c) (inside d) false _ _ (wider_inside c d w) p.1)
+      and_from _ _ (gap_wider n m (one_line c) (one_line d) gap _ (key_line c d w) p.0) (entries_wider es n m (in_flow c) (in_flow d) false _ _ (wider_in_flow c d w) p.1)
 
   -- so do entries
   entries_wider : (es : Entries) (n m : ℕ) (c d : FlowContext) (in_seq bol : Bool) (after : List ℕ) → widens c d ≡ true → canonical_entries es n c in_seq bol after ≡ true → canonical_entries es m d in_seq bol after ≡ true

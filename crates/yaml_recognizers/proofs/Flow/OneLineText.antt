@@ -6,7 +6,7 @@ use Rattle.std.proofs.lemmas.Bool.{and_from, and_parts, cond_both, false≢true}
 use Rattle.std.proofs.lemmas.Bool.Decides.{nat_tests}
 use Rattle.yaml_chars.specs.Classes.{is_in, line_break, nb_json, ns, white}
 use Rattle.yaml_grammar.specs.FlowNodes.{Entries, Entry, Flow, Value, absent, asked_text, before_colon, empty, entries_text, entry, entry_text, flow_text, given, is_plain, last, map, next, none, scalar, seq, short_key, single_pair, value_text}
-use Rattle.yaml_grammar.specs.FlowScalars.{FlowContext, block_key, inner, outer, QuotedChar, Line, Scalar, double, quoted_char_fits, escape, flow_key, hex_digit, inside, quoted_char_text, line_text, lines_text, number, one_line, plain, plain_line, plain_next, plain_run, plain_text, raw, scalar_fits, scalar_text, single, single_text}
+use Rattle.yaml_grammar.specs.FlowScalars.{FlowContext, block_key, inner, outer, QuotedChar, Line, Scalar, double, quoted_char_fits, escape, flow_key, hex_digit, in_flow, quoted_char_text, line_text, lines_text, number, one_line, plain, plain_line, plain_next, plain_run, plain_text, raw, scalar_fits, scalar_text, single, single_text}
 use Rattle.yaml_grammar.specs.Separation.{Break, Sep, break_text, comment_line_fits, comment_text, comments_fit, comments_text, cr, cr_lf, gap_text, inline, lf, line_end_text, lines, stop_fits}
 use Rattle.yaml_grammar.specs.Texts.{is_empty, optional, starts_line}
 use Rattle.yaml_recognizers.specs.CanonicalComments.{canonical_gap, is_line_end}
@@ -237,11 +237,11 @@ mutual
   flow_one_line (scalar s) n c bol after h = scalar_one_line s n c bol after h
   flow_one_line (seq gap es) n c bol after h =
       let p = and_parts _ _ h in
-      rw (gap_one_line n (one_line c) gap (entries_text es ++ (93 ∷ after)) p.0 (nonempty_after (entries_text es) (93 ∷ after) refl), entries_one_line es n (inside c) true _ (93 ∷ after) p.1 refl)
+      rw (gap_one_line n (one_line c) gap (entries_text es ++ (93 ∷ after)) p.0 (nonempty_after (entries_text es) (93 ∷ after) refl), entries_one_line es n (in_flow c) true _ (93 ∷ after) p.1 refl)
       (sym (bracketed 91 93 (gap_text gap) (entries_text es) refl refl))
   flow_one_line (map gap es) n c bol after h =
       let p = and_parts _ _ h in
-      rw (gap_one_line n (one_line c) gap (entries_text es ++ (125 ∷ after)) p.0 (nonempty_after (entries_text es) (125 ∷ after) refl), entries_one_line es n (inside c) false _ (125 ∷ after) p.1 refl)
+      rw (gap_one_line n (one_line c) gap (entries_text es ++ (125 ∷ after)) p.0 (nonempty_after (entries_text es) (125 ∷ after) refl), entries_one_line es n (in_flow c) false _ (125 ∷ after) p.1 refl)
       (sym (bracketed 123 125 (gap_text gap) (entries_text es) refl refl))
 
   -- entries are on one line just where their text has no break

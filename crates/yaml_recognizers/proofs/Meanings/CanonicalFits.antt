@@ -6,7 +6,7 @@ use Rattle.yaml_chars.specs.Classes.{white}
 use Rattle.yaml_grammar.specs.BlockNodes.{Indented, Items, Node, Pair, Pairs, asked, asked_alone, block, compact_items, compact_pairs, flow, indented_fits, item, item_and, items, items_fit, keyed, keyed_alone, node, node_fits, omitted, pair, pair_and, pair_fits, pairs, pairs_fit}
 use Rattle.yaml_grammar.specs.BlockScalars.{BlockScalar, block_fits}
 use Rattle.yaml_grammar.specs.FlowNodes.{Entries, Entry, Flow, Value, absent, empty, entries_fit, entry, entry_fits, flow_fits, given, last, map, next, none, scalar, seq, single_pair, value_fits}
-use Rattle.yaml_grammar.specs.FlowScalars.{FlowContext, block_key, flow_key, inside, one_line, outer}
+use Rattle.yaml_grammar.specs.FlowScalars.{FlowContext, block_key, flow_key, in_flow, one_line, outer}
 use Rattle.yaml_grammar.specs.Separation.{LineEnd, Sep, comments_fit, gap_fits, indents, inline, lines, sep_fits}
 use Rattle.yaml_grammar.specs.Streams.{Document, Explicit, bare, content, directed, document_fits, explicit, explicit_fits, explicit_text, nothing}
 use Rattle.std.specs.List.{list_all}
@@ -48,10 +48,10 @@ mutual
   flow_fits_too (scalar s) n c bol after h = h
   flow_fits_too (seq gap es) n c bol after h =
       let p = and_parts _ _ h in
-      and_from _ _ (gap_fits_too n (one_line c) gap _ p.0) (entries_fit_too es n (inside c) true _ _ p.1)
+      and_from _ _ (gap_fits_too n (one_line c) gap _ p.0) (entries_fit_too es n (in_flow c) true _ _ p.1)
   flow_fits_too (map gap es) n c bol after h =
       let p = and_parts _ _ h in
-      and_from _ _ (gap_fits_too n (one_line c) gap _ p.0) (entries_fit_too es n (inside c) false _ _ p.1)
+      and_from _ _ (gap_fits_too n (one_line c) gap _ p.0) (entries_fit_too es n (in_flow c) false _ _ p.1)
 
   -- so do canonical entries
   entries_fit_too : (es : Entries) (n : ℕ) (d : FlowContext) (in_seq bol : Bool) (after : List ℕ) → canonical_entries es n d in_seq bol after ≡ true → entries_fit es n d in_seq bol after ≡ true
@@ -160,7 +160,7 @@ explicit_fits_too (nothing comments) bol after h = let p = and_parts _ _ h in an
 pub document_fits_too : (d : Document) (opened bol : Bool) (after : List ℕ) → canonical_document d opened bol after ≡ true → document_fits d bol after ≡ true
 document_fits_too (bare n) opened bol after h = node_fits_too n 0 false bol after (and_parts _ _ h).1
 document_fits_too (explicit x) opened bol after h = explicit_fits_too x bol after h
-document_fits_too (directed blank first_version comments x) opened bol after h =
+document_fits_too (directed blank version comments x) opened bol after h =
     let p : (opened && bol && list_all white blank && not (is_empty blank) && canonical_comments false comments (explicit_text x ++ after) ≡ true) × (canonical_explicit x true after ≡ true) = and_parts _ _ h in
     let q : (opened && bol && list_all white blank && not (is_empty blank) ≡ true) × (canonical_comments false comments (explicit_text x ++ after) ≡ true) = and_parts _ _ p.0 in
     let r : (opened && bol && list_all white blank ≡ true) × (not (is_empty blank) ≡ true) = and_parts _ _ q.0 in

@@ -6,7 +6,7 @@ use Rattle.std.proofs.lemmas.List.Elements.{All-append, All-cons, All-nil}
 use Rattle.yaml_chars.specs.Classes.{ns, white}
 use Rattle.yaml_grammar.specs.BlockNodes.{Indented, Items, Node, Pair, Pairs, asked, asked_alone, block, compact_items, compact_pairs, flow, indented_fits, indented_text, is_omitted, item, item_and, items, items_fit, items_text, keyed, keyed_alone, node, node_fits, node_text, omitted, pair, pair_and, pair_fits, pair_text, pairs, pairs_fit, pairs_text}
 use Rattle.yaml_grammar.specs.FlowNodes.{Entries, Entry, Flow, Value, absent, before_colon, empty, entries_fit, entries_text, entry, entry_fits, entry_text, flow_fits, flow_text, given, is_plain, last, map, next, none, scalar, seq, short_key, single_pair, value_fits, value_text, asked_text}
-use Rattle.yaml_grammar.specs.FlowScalars.{FlowContext, block_key, flow_key, inner, inside, one_line, outer}
+use Rattle.yaml_grammar.specs.FlowScalars.{FlowContext, block_key, flow_key, inner, in_flow, one_line, outer}
 use Rattle.yaml_grammar.specs.Separation.{LineEnd, Sep, comments_fit, comments_text, gap_fits, gap_text, sep_fits, sep_text}
 use Rattle.yaml_grammar.specs.Streams.{Document, Explicit, Part, Stream, bare, content, directed, directive_text, document_fits, document_text, explicit, explicit_fits, fits, further, line, nothing, optional_document_fits, part_fits, part_text, parts_fit, parts_text, suffix_text, suffixes}
 use Rattle.std.specs.List.{list_all}
@@ -14,7 +14,7 @@ use Rattle.yaml_grammar.specs.Texts.{byte_len, first, optional, spaces, starts_l
 use Rattle.yaml_recognizers.specs.CanonicalBlockNodes.{canonical_node, canonical_pairs}
 use Rattle.yaml_recognizers.specs.CanonicalFlowNodes.{canonical_value}
 use Rattle.yaml_recognizers.specs.CanonicalComments.{canonical_comments}
-use Rattle.yaml_recognizers.specs.Ends.{BetweenBrackets, Stops, closing, block_node_stops, in_flow, solid}
+use Rattle.yaml_recognizers.specs.Ends.{BetweenBrackets, Stops, closing, block_node_stops, between_brackets, solid}
 use Rattle.yaml_recognizers.specs.Prefixes.{sign}
 use Rattle.yaml_recognizers.specs.NodePlaces.{NodePlace, NodeStands, block_at, document_places, entries_places, entry_places, explicit_places, flow_at, flow_places, indented_places, items_places, node_places, optional_document_places, pair_places, pairs_places, part_places, parts_places, stream_places, value_places}
 use Rattle.yaml_recognizers.specs.Recognizers.{flow_node_stops}
@@ -26,7 +26,7 @@ use Rattle.yaml_recognizers.proofs.BlockScalars.BlockScalarsForm.{takes, takes_n
 use Rattle.yaml_recognizers.proofs.Separation.CommentsComplete.{not_line_end}
 use Rattle.yaml_recognizers.proofs.Separation.CommentsForm.{comments_form_fit, gap_form, gap_form_fits, gap_form_text, joined_before}
 use Rattle.yaml_recognizers.proofs.Documents.DocumentEnds.{parts_end}
-use Rattle.yaml_recognizers.proofs.Flow.FlowNodesComplete.{closing_solid, closing_stop, inside_flow, value_either, value_stop}
+use Rattle.yaml_recognizers.proofs.Flow.FlowNodesComplete.{closing_solid, closing_stop, in_flow_between_brackets, value_either, value_stop}
 use Rattle.yaml_recognizers.proofs.Flow.FlowNodesForm.{value_form, value_form_fits, value_form_text}
 use Rattle.yaml_recognizers.proofs.Flow.FlowNodesFound.{ends_here}
 use Rattle.yaml_recognizers.proofs.Basics.Prefixes.{every_space}
@@ -59,7 +59,7 @@ between_key block_key after_plain after b = absurd (false≢true b.within)
 between_key flow_key after_plain after b = b
 
 -- what comes after a value ends it
-value_ends : (v : Value) (n : ℕ) (d : FlowContext) (alike after_plain : Bool) (gap : Option Sep) (rest : List ℕ) → in_flow d ≡ true → first closing rest ≡ true
+value_ends : (v : Value) (n : ℕ) (d : FlowContext) (alike after_plain : Bool) (gap : Option Sep) (rest : List ℕ) → between_brackets d ≡ true → first closing rest ≡ true
     → gap_fits n (one_line d) gap rest ≡ true → value_fits v n d (one_line d || alike) after_plain (gap_text gap ++ rest) ≡ true
     → BetweenBrackets d after_plain (value_text v ++ (gap_text gap ++ rest))
 value_ends v n d alike after_plain gap rest i k g h =
@@ -73,7 +73,7 @@ value_ends v n d alike after_plain gap rest i k g h =
     (subst (λ (t : List ℕ). BetweenBrackets d after_plain (value_text (value_form v) ++ (t ++ rest))) (gap_form_text gap) s)
 
 -- what comes after an entry ends it
-entry_ends : (n : ℕ) (d : FlowContext) (after_plain : Bool) (gap : Option Sep) (rest : List ℕ) → in_flow d ≡ true → first closing rest ≡ true
+entry_ends : (n : ℕ) (d : FlowContext) (after_plain : Bool) (gap : Option Sep) (rest : List ℕ) → between_brackets d ≡ true → first closing rest ≡ true
     → gap_fits n (one_line d) gap rest ≡ true → BetweenBrackets d after_plain (gap_text gap ++ rest)
 entry_ends n d after_plain gap rest i k g =
     subst (λ (t : List ℕ). BetweenBrackets d after_plain (t ++ rest)) (gap_form_text gap)
@@ -92,16 +92,16 @@ mutual
   flow_stand (seq gap es) n c bol at after h e =
       let line : Bool = starts_line false (gap_text gap) in
       let place : ℕ = at + 1 + byte_len (gap_text gap) in
-      first_and (flow_at n c bol at (seq gap es) after) (entries_places es n (inside c) true line place (93 ∷ after)) (record { spells = refl; fits = h; ends = e })
-      (entries_stand es n (inside c) true line place 93 after (inside_flow c) refl (and_parts _ _ h).1)
+      first_and (flow_at n c bol at (seq gap es) after) (entries_places es n (in_flow c) true line place (93 ∷ after)) (record { spells = refl; fits = h; ends = e })
+      (entries_stand es n (in_flow c) true line place 93 after (in_flow_between_brackets c) refl (and_parts _ _ h).1)
   flow_stand (map gap es) n c bol at after h e =
       let line : Bool = starts_line false (gap_text gap) in
       let place : ℕ = at + 1 + byte_len (gap_text gap) in
-      first_and (flow_at n c bol at (map gap es) after) (entries_places es n (inside c) false line place (125 ∷ after)) (record { spells = refl; fits = h; ends = e })
-      (entries_stand es n (inside c) false line place 125 after (inside_flow c) refl (and_parts _ _ h).1)
+      first_and (flow_at n c bol at (map gap es) after) (entries_places es n (in_flow c) false line place (125 ∷ after)) (record { spells = refl; fits = h; ends = e })
+      (entries_stand es n (in_flow c) false line place 125 after (in_flow_between_brackets c) refl (and_parts _ _ h).1)
 
   -- the nodes of entries stand
-  entries_stand : (es : Entries) (n : ℕ) (d : FlowContext) (in_seq bol : Bool) (at close : ℕ) (after : List ℕ) → in_flow d ≡ true → first closing (close ∷ after) ≡ true
+  entries_stand : (es : Entries) (n : ℕ) (d : FlowContext) (in_seq bol : Bool) (at close : ℕ) (after : List ℕ) → between_brackets d ≡ true → first closing (close ∷ after) ≡ true
       → entries_fit es n d in_seq bol (close ∷ after) ≡ true → Each (entries_places es n d in_seq bol at (close ∷ after))
   entries_stand none n d in_seq bol at close after i k h = All-nil NodeStands
   entries_stand (last e gap) n d in_seq bol at close after i k h =
@@ -120,7 +120,7 @@ mutual
       (entry_stand e n d in_seq bol at before (44 ∷ rest) i refl r.1 r.0) (entries_stand es n d in_seq line later close after i k p.1)
 
   -- the nodes of an entry stand
-  entry_stand : (e : Entry) (n : ℕ) (d : FlowContext) (in_seq bol : Bool) (at : ℕ) (gap : Option Sep) (rest : List ℕ) → in_flow d ≡ true → first closing rest ≡ true
+  entry_stand : (e : Entry) (n : ℕ) (d : FlowContext) (in_seq bol : Bool) (at : ℕ) (gap : Option Sep) (rest : List ℕ) → between_brackets d ≡ true → first closing rest ≡ true
       → gap_fits n (one_line d) gap rest ≡ true → entry_fits e n d in_seq bol (gap_text gap ++ rest) ≡ true → Each (entry_places e n d in_seq bol at (gap_text gap ++ rest))
   entry_stand (entry ask key value) n d in_seq bol at gap rest i k g h =
       let after : List ℕ = value_text value ++ (gap_text gap ++ rest) in
@@ -140,7 +140,7 @@ mutual
       (value_stand value n d (one_line d || pair) (is_plain key) after_key gap rest i k g p.1)
 
   -- the nodes of a value stand
-  value_stand : (v : Value) (n : ℕ) (d : FlowContext) (key after_plain : Bool) (at : ℕ) (gap : Option Sep) (rest : List ℕ) → in_flow d ≡ true → first closing rest ≡ true
+  value_stand : (v : Value) (n : ℕ) (d : FlowContext) (key after_plain : Bool) (at : ℕ) (gap : Option Sep) (rest : List ℕ) → between_brackets d ≡ true → first closing rest ≡ true
       → gap_fits n (one_line d) gap rest ≡ true → value_fits v n d key after_plain (gap_text gap ++ rest) ≡ true → Each (value_places v n d at (gap_text gap ++ rest))
   value_stand absent n d key after_plain at gap rest i k g h = All-nil NodeStands
   value_stand (empty before) n d key after_plain at gap rest i k g h = All-nil NodeStands
@@ -333,7 +333,7 @@ explicit_stand (nothing comments) bol at after h e = All-nil NodeStands
 document_stand : (d : Document) (bol : Bool) (at : ℕ) (after : List ℕ) → document_fits d bol after ≡ true → EndsNode 0 false after → Each (document_places d bol at after)
 document_stand (bare n) bol at after h e = node_stand n 0 false bol at after h e
 document_stand (explicit x) bol at after h e = explicit_stand x bol at after h e
-document_stand (directed blank first_version comments x) bol at after h e = explicit_stand x true (at + byte_len (directive_text blank first_version comments)) after (and_parts _ _ h).1 e
+document_stand (directed blank version comments x) bol at after h e = explicit_stand x true (at + byte_len (directive_text blank version comments)) after (and_parts _ _ h).1 e
 
 -- the nodes of a document that may be left out stand
 optional_stand : (d : Option Document) (at : ℕ) (after : List ℕ) → optional_document_fits d true after ≡ true → EndsNode 0 false after → Each (optional_document_places d at after)

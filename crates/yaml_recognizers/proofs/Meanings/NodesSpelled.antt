@@ -4,7 +4,7 @@ use Rattle.std.specs.Prelude.{All, Bool, List, None, Option, Some, [], codes, co
 use Rattle.std.proofs.lemmas.List.Elements.{All-append, All-cons, All-nil}
 use Rattle.yaml_grammar.specs.BlockNodes.{Indented, Items, Node, Pair, Pairs, asked, asked_alone, block, compact_items, compact_pairs, flow, indented_text, item, item_and, items, items_text, keyed, keyed_alone, node, node_text, omitted, pair, pair_and, pair_text, pairs, pairs_text}
 use Rattle.yaml_grammar.specs.FlowNodes.{Entries, Entry, Flow, Value, absent, asked_text, empty, entries_text, entry, entry_text, flow_text, given, last, map, next, none, scalar, seq, single_pair, value_text}
-use Rattle.yaml_grammar.specs.FlowScalars.{FlowContext, block_key, flow_key, inside, outer}
+use Rattle.yaml_grammar.specs.FlowScalars.{FlowContext, block_key, flow_key, in_flow, outer}
 use Rattle.yaml_grammar.specs.Separation.{comments_text, gap_text, sep_text}
 use Rattle.yaml_grammar.specs.Streams.{Document, Explicit, Part, Stream, bare, content, directed, directive_text, document_text, explicit, explicit_text, further, line, mark_text, nothing, part_text, parts_text, stream_text, suffix_text, suffixes}
 use Rattle.yaml_grammar.specs.Texts.{byte_len, optional, spaces, starts_line}
@@ -57,7 +57,7 @@ module _ (text : List ℕ) where
         let l = byte_len_joined (codes "[") (gap_text gap) in
         let inner : SpelledAt text place (entries_text es) (codes "]" ++ after) =
         back_to at place open_text (entries_text es) (codes "]" ++ after) (omega (arith, l)) (prefix at (open_text ++ entries_text es) (codes "]") after s) in
-        first_and (flow_at n c bol at (seq gap es) after) (entries_places es n (inside c) true line place (codes "]" ++ after)) s (entries_spelled es n (inside c) true line place (codes "]" ++ after) inner)
+        first_and (flow_at n c bol at (seq gap es) after) (entries_places es n (in_flow c) true line place (codes "]" ++ after)) s (entries_spelled es n (in_flow c) true line place (codes "]" ++ after) inner)
     flow_spelled (map gap es) n c bol at after s =
         let open_text : List ℕ = codes "{" ++ gap_text gap in
         let line : Bool = starts_line false (gap_text gap) in
@@ -65,7 +65,7 @@ module _ (text : List ℕ) where
         let l = byte_len_joined (codes "{") (gap_text gap) in
         let inner : SpelledAt text place (entries_text es) (codes "}" ++ after) =
         back_to at place open_text (entries_text es) (codes "}" ++ after) (omega (arith, l)) (prefix at (open_text ++ entries_text es) (codes "}") after s) in
-        first_and (flow_at n c bol at (map gap es) after) (entries_places es n (inside c) false line place (codes "}" ++ after)) s (entries_spelled es n (inside c) false line place (codes "}" ++ after) inner)
+        first_and (flow_at n c bol at (map gap es) after) (entries_places es n (in_flow c) false line place (codes "}" ++ after)) s (entries_spelled es n (in_flow c) false line place (codes "}" ++ after) inner)
 
     entries_spelled : (es : Entries) (n : ℕ) (d : FlowContext) (in_seq bol : Bool) (at : ℕ) (after : List ℕ) → SpelledAt text at (entries_text es) after
         → Each (entries_places es n d in_seq bol at after)
@@ -213,8 +213,8 @@ module _ (text : List ℕ) where
   document_spelled : (d : Document) (bol : Bool) (at : ℕ) (after : List ℕ) → SpelledAt text at (document_text d) after → Each (document_places d bol at after)
   document_spelled (bare n) bol at after s = node_spelled n 0 false bol at after s
   document_spelled (explicit x) bol at after s = explicit_spelled x at after s
-  document_spelled (directed blank first_version comments x) bol at after s =
-      let words : List ℕ = directive_text blank first_version comments in
+  document_spelled (directed blank version comments x) bol at after s =
+      let words : List ℕ = directive_text blank version comments in
       explicit_spelled x (at + byte_len words) after (back at words (explicit_text x) after s)
 
   optional_spelled : (d : Option Document) (at : ℕ) (after : List ℕ) → SpelledAt text at (optional document_text d) after → Each (optional_document_places d at after)

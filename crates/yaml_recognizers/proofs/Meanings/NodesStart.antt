@@ -6,9 +6,9 @@ use Rattle.std.proofs.lemmas.Bool.Decides.{nat_tests}
 use Rattle.std.proofs.lemmas.List.Elements.{All-append, All-cons, All-nil}
 use Rattle.yaml_chars.specs.Classes.{line_break, ns}
 use Rattle.yaml_grammar.specs.BlockNodes.{Indented, Items, Node, Pair, Pairs, asked, asked_alone, block, compact_items, compact_pairs, flow, indented_fits, indented_text, is_omitted, item, item_and, items, items_fit, items_text, keyed, keyed_alone, node, node_fits, node_text, omitted, pair, pair_and, pair_fits, pair_text, pairs, pairs_fit, pairs_text}
-use Rattle.yaml_grammar.specs.BlockScalars.{BlockScalar, Body, Gap, Header, TextLine, bare_block_text, block_fits, block_text, body_fits, body_text, chomping_text, digit_text, gap_line_text, gaps_text, header_text, text_line_fits, text_line_text, text_lines_fit, text_lines_text, trail_fits}
+use Rattle.yaml_grammar.specs.BlockScalars.{BlockScalar, Body, BlockEmptyLine, Header, TextLine, bare_block_text, block_fits, block_text, body_fits, body_text, chomping_text, digit_text, block_empty_text, block_empties_text, header_text, text_line_fits, text_line_text, text_lines_fit, text_lines_text, trail_fits}
 use Rattle.yaml_grammar.specs.FlowNodes.{Entries, Entry, Flow, Value, absent, empty, entries_text, entry, entry_text, flow_text, given, last, map, next, none, scalar, seq, single_pair, value_text}
-use Rattle.yaml_grammar.specs.FlowScalars.{FlowContext, block_key, flow_key, inside, outer}
+use Rattle.yaml_grammar.specs.FlowScalars.{FlowContext, block_key, flow_key, in_flow, outer}
 use Rattle.yaml_grammar.specs.Separation.{LineEnd, break_text, comments_fit, comments_text, gap_text, line_end_text, sep_text, stop_fits, comment_text}
 use Rattle.yaml_grammar.specs.Streams.{Document, Explicit, Part, Stream, bare, content, directed, directive_text, document_fits, document_text, explicit, explicit_fits, explicit_text, fits, further, line, mark_text, nothing, optional_document_fits, part_fits, part_text, parts_fit, parts_text, stream_text, suffix_fits, suffix_text, suffixes, suffixes_fit}
 use Rattle.yaml_grammar.specs.Texts.{byte_len, first, is_empty, optional, spaces, starts_line}
@@ -86,11 +86,11 @@ line_end_ends : (e : LineEnd) (bol : Bool) (after : List ℕ) → stop_fits e.st
 line_end_ends e bol after h = joined bol (e.blank ++ optional comment_text e.comment) (optional break_text e.stop) after (stop_starts _ e.stop after h)
 
 -- so do empty lines
-gaps_end : (gs : List Gap) (bol : Bool) (after : List ℕ) → line_or_end bol (gaps_text gs ++ after) ≡ true → Ends bol (gaps_text gs) after
-gaps_end [] bol after h = h
-gaps_end (g ∷ gs) bol after h =
-    let start : starts_line bol (gap_line_text g) ≡ true = starts_joined bol (spaces g.width) (break_text g.stop) ∙ break_starts (starts_line bol (spaces g.width)) g.stop in
-    joined bol (gap_line_text g) (gaps_text gs) after (gaps_end gs (starts_line bol (gap_line_text g)) after (or_left _ _ start))
+empties_end : (gs : List BlockEmptyLine) (bol : Bool) (after : List ℕ) → line_or_end bol (block_empties_text gs ++ after) ≡ true → Ends bol (block_empties_text gs) after
+empties_end [] bol after h = h
+empties_end (g ∷ gs) bol after h =
+    let start : starts_line bol (block_empty_text g) ≡ true = starts_joined bol (spaces g.width) (break_text g.stop) ∙ break_starts (starts_line bol (spaces g.width)) g.stop in
+    joined bol (block_empty_text g) (block_empties_text gs) after (empties_end gs (starts_line bol (block_empty_text g)) after (or_left _ _ start))
 
 -- so do text lines
 text_lines_end : (q : ℕ) (ls : List TextLine) (bol : Bool) (after : List ℕ) → text_lines_fit q ls after ≡ true → line_or_end bol (text_lines_text q ls ++ after) ≡ true
@@ -99,10 +99,10 @@ text_lines_end q [] bol after f h = h
 text_lines_end q (l ∷ ls) bol after f h =
     let later : List ℕ = text_lines_text q ls ++ after in
     let p : (text_line_fits q l later ≡ true) × (text_lines_fit q ls after ≡ true) = and_parts _ _ f in
-    let stop : stop_fits l.stop (gaps_text l.gaps ++ later) ≡ true = (and_parts _ _ (and_parts _ _ p.0).0).1 in
+    let stop : stop_fits l.stop (block_empties_text l.empties ++ later) ≡ true = (and_parts _ _ (and_parts _ _ p.0).0).1 in
     let words : List ℕ = spaces q ++ l.text in
-    let one : Ends bol (words ++ optional break_text l.stop) (gaps_text l.gaps ++ later) = joined bol words (optional break_text l.stop) (gaps_text l.gaps ++ later) (stop_starts _ l.stop (gaps_text l.gaps ++ later) stop) in
-    let two : Ends bol (text_line_text q l) later = joined bol (words ++ optional break_text l.stop) (gaps_text l.gaps) later (gaps_end l.gaps _ later one) in
+    let one : Ends bol (words ++ optional break_text l.stop) (block_empties_text l.empties ++ later) = joined bol words (optional break_text l.stop) (block_empties_text l.empties ++ later) (stop_starts _ l.stop (block_empties_text l.empties ++ later) stop) in
+    let two : Ends bol (text_line_text q l) later = joined bol (words ++ optional break_text l.stop) (block_empties_text l.empties) later (empties_end l.empties _ later one) in
     joined bol (text_line_text q l) (text_lines_text q ls) after (text_lines_end q ls (starts_line bol (text_line_text q l)) after p.1 two)
 
 -- so do the comments after a block scalar
@@ -122,9 +122,9 @@ body_end : (digit : Option ℕ) (m : ℕ) (b : Body) (bol : Bool) (after : List 
 body_end digit m b bol after f h =
     let texts : List ℕ = text_lines_text b.indent b.texts in
     let lines : text_lines_fit b.indent b.texts after ≡ true = (and_parts _ _ (and_parts _ _ f).0).1 in
-    let gaps : Ends bol (gaps_text b.gaps) (texts ++ after) =
-    gaps_end b.gaps bol (texts ++ after) (subst (λ (t : List ℕ). line_or_end bol t ≡ true) (append_assoc (gaps_text b.gaps) texts after) h) in
-    joined bol (gaps_text b.gaps) texts after (text_lines_end b.indent b.texts _ after lines gaps)
+    let empties : Ends bol (block_empties_text b.empties) (texts ++ after) =
+    empties_end b.empties bol (texts ++ after) (subst (λ (t : List ℕ). line_or_end bol t ≡ true) (append_assoc (block_empties_text b.empties) texts after) h) in
+    joined bol (block_empties_text b.empties) texts after (text_lines_end b.indent b.texts _ after lines empties)
 
 -- so does a block scalar
 block_end : (m : ℕ) (b : BlockScalar) (bol : Bool) (after : List ℕ) → block_fits m b after ≡ true → Ends bol (block_text b) after
@@ -229,12 +229,12 @@ module _ (mark : Bool) (text : List ℕ) where
         let open_text : List ℕ = codes "[" ++ gap_text gap in
         let line : Bool = starts_line false (gap_text gap) in
         let inner : At line (entries_text es) (codes "]" ++ after) = back bol line open_text (entries_text es) (codes "]" ++ after) refl (prefix bol (open_text ++ entries_text es) (codes "]") after s) in
-        first_and (flow_at n c bol at (seq gap es) after) (entries_places es n (inside c) true line _ (codes "]" ++ after)) s (entries_started es n (inside c) true line _ (codes "]" ++ after) inner)
+        first_and (flow_at n c bol at (seq gap es) after) (entries_places es n (in_flow c) true line _ (codes "]" ++ after)) s (entries_started es n (in_flow c) true line _ (codes "]" ++ after) inner)
     flow_started (map gap es) n c bol at after s =
         let open_text : List ℕ = codes "{" ++ gap_text gap in
         let line : Bool = starts_line false (gap_text gap) in
         let inner : At line (entries_text es) (codes "}" ++ after) = back bol line open_text (entries_text es) (codes "}" ++ after) refl (prefix bol (open_text ++ entries_text es) (codes "}") after s) in
-        first_and (flow_at n c bol at (map gap es) after) (entries_places es n (inside c) false line _ (codes "}" ++ after)) s (entries_started es n (inside c) false line _ (codes "}" ++ after) inner)
+        first_and (flow_at n c bol at (map gap es) after) (entries_places es n (in_flow c) false line _ (codes "}" ++ after)) s (entries_started es n (in_flow c) false line _ (codes "}" ++ after) inner)
 
     entries_started : (es : Entries) (n : ℕ) (d : FlowContext) (in_seq bol : Bool) (at : ℕ) (after : List ℕ) → At bol (entries_text es) after → Each (entries_places es n d in_seq bol at after)
     entries_started none n d in_seq bol at after s = no_places
@@ -378,15 +378,15 @@ module _ (mark : Bool) (text : List ℕ) where
   document_started : (d : Document) (bol : Bool) (at : ℕ) (after : List ℕ) → document_fits d bol after ≡ true → At bol (document_text d) after → Each (document_places d bol at after)
   document_started (bare n) bol at after h s = node_started n 0 false bol at after h s
   document_started (explicit x) bol at after h s = explicit_started x bol bol at after h s
-  document_started (directed blank first_version comments x) bol at after h s =
-      let words : List ℕ = directive_text blank first_version comments in
+  document_started (directed blank version comments x) bol at after h s =
+      let words : List ℕ = directive_text blank version comments in
       explicit_started x true (starts_line bol words) _ after (and_parts _ _ h).1 (back bol (starts_line bol words) words (explicit_text x) after refl s)
 
   document_filled : (d : Document) (bol : Bool) (after : List ℕ) → document_fits d bol after ≡ true → 1 ≤ length (document_text d)
   document_filled (bare n) bol after h = node_filled n 0 false bol after h
   document_filled (explicit (content n)) bol after h = omega arith
   document_filled (explicit (nothing comments)) bol after h = omega arith
-  document_filled (directed blank first_version comments x) bol after h = omega arith
+  document_filled (directed blank version comments x) bol after h = omega arith
 
   -- a document after a text that ends its last line, unless nothing comes after it
   optional_started : (d : Option Document) (bol : Bool) (before : List ℕ) (at : ℕ) (after : List ℕ) → optional_document_fits d true after ≡ true → Ends bol before (optional document_text d ++ after)

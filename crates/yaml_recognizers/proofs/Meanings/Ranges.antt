@@ -327,10 +327,10 @@ explicit_ranges (nothing comments) at =
 one_document_ranges : (d : Document) (at : ℕ) → Within at (document_events d at) (document_text d)
 one_document_ranges (bare n) at = node_ranges n at at (at + byte_len (node_text n)) (omega arith) (omega arith)
 one_document_ranges (explicit x) at = explicit_ranges x at
-one_document_ranges (directed blank first_version comments x) at =
-    let prefix : List ℕ = directive_text blank first_version comments in
+one_document_ranges (directed blank version comments x) at =
+    let prefix : List ℕ = directive_text blank version comments in
     let l = byte_len_joined prefix (explicit_text x) in
-    within at (at + byte_len prefix) (explicit_events x (at + byte_len prefix)) (explicit_text x) (at + byte_len (document_text (directed blank first_version comments x)))
+    within at (at + byte_len prefix) (explicit_events x (at + byte_len prefix)) (explicit_text x) (at + byte_len (document_text (directed blank version comments x)))
     (omega arith) (omega (arith, l)) (explicit_ranges x (at + byte_len prefix))
 
 -- and of a document that may be left out

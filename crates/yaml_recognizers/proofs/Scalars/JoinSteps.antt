@@ -4,7 +4,7 @@ use Rattle.std.proofs.Common.{ap, append-nil, refl, ◌∙◌, ◌≡◌}
 use Rattle.std.specs.Prelude.{Bool, List, None, Some, [], false, true, ℕ, ◌&&◌, ◌++◌, ◌∷◌}
 use Rattle.std.proofs.lemmas.Bool.{cond-false, cond-true}
 use Rattle.yaml_chars.specs.Classes.{white}
-use Rattle.yaml_grammar.specs.FlowScalars.{Empty}
+use Rattle.yaml_grammar.specs.FlowScalars.{FlowEmptyLine}
 use Rattle.yaml_grammar.specs.Separation.{Break, indents}
 use Rattle.yaml_grammar.specs.Texts.{no_marker}
 use Rattle.yaml_recognizers.specs.Comments.{read_break}
@@ -36,7 +36,7 @@ no_break escaped n blank text e = ap (λ (r : Read Break). on r (λ stop' rest. 
 -- ---- empty lines
 
 -- the empty lines from a place on are these, and those from a later place on
-abbrev pub Passed : ℕ → List ℕ → List Empty → List ℕ → Type 0
+abbrev pub Passed : ℕ → List ℕ → List FlowEmptyLine → List ℕ → Type 0
 Passed n start es t = all_of (read_empty n) start ≡ (es ++ (all_of (read_empty n) t).0, (all_of (read_empty n) t).1)
 
 -- no empty line is passed yet
@@ -44,28 +44,28 @@ pub passed_none : (n : ℕ) (start : List ℕ) → Passed n start [] start
 passed_none n start = refl
 
 -- one empty line more is passed
-pub passed_more : (n : ℕ) (start : List ℕ) (es : List Empty) (t : List ℕ) (e : Empty) (t' : List ℕ) → Passed n start es t → read_empty n t ≡ Some (e, t') → Passed n start (es ++ e ∷ []) t'
+pub passed_more : (n : ℕ) (start : List ℕ) (es : List FlowEmptyLine) (t : List ℕ) (e : FlowEmptyLine) (t' : List ℕ) → Passed n start es t → read_empty n t ≡ Some (e, t') → Passed n start (es ++ e ∷ []) t'
 passed_more n start es t e t' p h =
-    p ∙ (ap (λ (found : List Empty × List ℕ). (es ++ found.0, found.1)) (all_some (read_empty n) (empty_shrinks n) t e t' h)
-    ∙ ap (λ (ls : List Empty). (ls, (all_of (read_empty n) t').1)) (regroup es (all_of (read_empty n) t').0))
+    p ∙ (ap (λ (found : List FlowEmptyLine × List ℕ). (es ++ found.0, found.1)) (all_some (read_empty n) (empty_shrinks n) t e t' h)
+    ∙ ap (λ (ls : List FlowEmptyLine). (ls, (all_of (read_empty n) t').1)) (regroup es (all_of (read_empty n) t').0))
   where
-    regroup : (xs ys : List Empty) → xs ++ (e ∷ ys) ≡ (xs ++ e ∷ []) ++ ys
+    regroup : (xs ys : List FlowEmptyLine) → xs ++ (e ∷ ys) ≡ (xs ++ e ∷ []) ++ ys
     regroup [] ys = refl
     regroup (x ∷ xs) ys = ap (λ zs. x ∷ zs) (regroup xs ys)
 
 -- all empty lines are passed
-pub passed_all : (n : ℕ) (start : List ℕ) (es : List Empty) (t : List ℕ) → Passed n start es t → read_empty n t ≡ None → all_of (read_empty n) start ≡ (es, t)
+pub passed_all : (n : ℕ) (start : List ℕ) (es : List FlowEmptyLine) (t : List ℕ) → Passed n start es t → read_empty n t ≡ None → all_of (read_empty n) start ≡ (es, t)
 passed_all n start es t p h =
-    p ∙ (ap (λ (found : List Empty × List ℕ). (es ++ found.0, found.1)) (all_none (read_empty n) t h) ∙ ap (λ (ls : List Empty). (ls, t)) (append-nil es))
+    p ∙ (ap (λ (found : List FlowEmptyLine × List ℕ). (es ++ found.0, found.1)) (all_none (read_empty n) t h) ∙ ap (λ (ls : List FlowEmptyLine). (ls, t)) (append-nil es))
 
 -- ---- the start of the next line
 
 -- a join, from the start of the next line
-pub step_lead : (escaped : Bool) (n : ℕ) (blank : List ℕ) (stop : Break) (es : List Empty) (t : List ℕ) → indents n (take_while white t) && no_marker true t ≡ true
+pub step_lead : (escaped : Bool) (n : ℕ) (blank : List ℕ) (stop : Break) (es : List FlowEmptyLine) (t : List ℕ) → indents n (take_while white t) && no_marker true t ≡ true
     → with_lead escaped n blank stop (es, t) ≡ Some (record { escaped = escaped; blank = blank; stop = stop; empties = es; lead = take_while white t }, drop_while white t)
 step_lead escaped n blank stop es t h = cond-true _ _ _ h
 
 -- without enough indentation there is no join
-pub no_lead : (escaped : Bool) (n : ℕ) (blank : List ℕ) (stop : Break) (es : List Empty) (t : List ℕ) → indents n (take_while white t) && no_marker true t ≡ false
+pub no_lead : (escaped : Bool) (n : ℕ) (blank : List ℕ) (stop : Break) (es : List FlowEmptyLine) (t : List ℕ) → indents n (take_while white t) && no_marker true t ≡ false
     → with_lead escaped n blank stop (es, t) ≡ None
 no_lead escaped n blank stop es t h = cond-false _ _ _ h

@@ -3,7 +3,7 @@ use Rattle.std.proofs.Common.{ap, append-nil, append_assoc, arith, inl, inr, len
 use Rattle.std.specs.Prelude.{Bool, List, None, Some, [], codes, cond, false, flat_map, if◌then◌else◌, length, not, true, ℕ, ◌&&◌, ◌++◌, ◌==◌, ◌||◌, ◌∷◌}
 use Rattle.std.proofs.lemmas.Bool.{and_from, and_parts, cond-false, cond_both, eqb-true, false≢true, not-true, not_from_false, or_cases}
 use Rattle.yaml_chars.specs.Classes.{space, white}
-use Rattle.yaml_grammar.specs.FlowScalars.{Empty, Kind, Line, empties_fit, empties_text, empty_fits, empty_text, ends, join_fits}
+use Rattle.yaml_grammar.specs.FlowScalars.{FlowEmptyLine, Kind, Line, flow_empties_fit, flow_empties_text, flow_empty_fits, flow_empty_text, ends, join_fits}
 use Rattle.yaml_grammar.specs.Separation.{Break, break_fits, break_text, cr, cr_lf, indents, lf}
 use Rattle.std.specs.List.{list_all}
 use Rattle.yaml_grammar.specs.Texts.{begins, first, is_empty, no_marker, spaces}
@@ -21,7 +21,7 @@ use Rattle.yaml_recognizers.proofs.Basics.Repeated.{Each, Shrinks, repeated_read
 -- ---- empty lines
 
 -- an empty line that fits is read
-pub empty_read : (n : ℕ) (e : Empty) (after : List ℕ) → empty_fits n e after ≡ true → read_empty n (empty_text e ++ after) ≡ Some (e, after)
+pub empty_read : (n : ℕ) (e : FlowEmptyLine) (after : List ℕ) → flow_empty_fits n e after ≡ true → read_empty n (flow_empty_text e ++ after) ≡ Some (e, after)
 unfolding read_empty
 empty_read n e after h =
     let p = and_parts _ _ h in
@@ -36,20 +36,20 @@ unfolding read_empty
 no_empty n text h =
     rw (unbroken (drop_while white text) h) (both (begins (spaces n) (take_while white text) || list_all space (take_while white text)))
   where
-    both : (b : Bool) → ◌≡◌ {A = Read Empty} (cond b None None) None
+    both : (b : Bool) → ◌≡◌ {A = Read FlowEmptyLine} (cond b None None) None
     both true = refl
     both false = refl
 
 -- the empty line fits at the start of the text, before the rest
-abbrev pub EmptyOf : ℕ → List ℕ → Empty → List ℕ → Type 0
-EmptyOf n text e rest = (text ≡ empty_text e ++ rest) × (empty_fits n e rest ≡ true)
+abbrev pub EmptyOf : ℕ → List ℕ → FlowEmptyLine → List ℕ → Type 0
+EmptyOf n text e rest = (text ≡ flow_empty_text e ++ rest) × (flow_empty_fits n e rest ≡ true)
 
 -- an empty line that is read fits
 pub empty_sound : (n : ℕ) (text : List ℕ) → Sound (EmptyOf n text) (read_empty n text)
 unfolding read_empty
 empty_sound n text =
     let blank : List ℕ = take_while white text in
-    let made : Break → List ℕ → Read Empty = λ stop rest. Some (record { blank = blank; stop = stop }, rest) in
+    let made : Break → List ℕ → Read FlowEmptyLine = λ stop rest. Some (record { blank = blank; stop = stop }, rest) in
     cond_both (begins (spaces n) blank || list_all space blank) (on (read_break (drop_while white text)) made) None (Sound (EmptyOf n text))
     (λ i. sound_on (BreakOf (drop_while white text)) (EmptyOf n text) (read_break (drop_while white text)) made (break_sound (drop_while white text))
     (λ stop rest b. (
@@ -68,31 +68,31 @@ break_long cr_lf = omega arith
 pub empty_shrinks : (n : ℕ) → Shrinks (read_empty n)
 empty_shrinks n text e rest h =
     let s : EmptyOf n text e rest = sound_is (EmptyOf n text) (read_empty n text) (e, rest) (empty_sound n text) h in
-    rw s.0 (omega (arith, break_long e.stop, length-append (empty_text e) rest, length-append e.blank (break_text e.stop)))
+    rw s.0 (omega (arith, break_long e.stop, length-append (flow_empty_text e) rest, length-append e.blank (break_text e.stop)))
 
 -- empty lines that fit are read one after another
-pub empties_each : (n : ℕ) (es : List Empty) (after : List ℕ) → empties_fit n es after ≡ true → at_break after ≡ false
-    → Each (read_empty n) empty_text es after
+pub empties_each : (n : ℕ) (es : List FlowEmptyLine) (after : List ℕ) → flow_empties_fit n es after ≡ true → at_break after ≡ false
+    → Each (read_empty n) flow_empty_text es after
 empties_each n [] after h f = no_empty n after f
 empties_each n (e ∷ es) after h f = let p = and_parts _ _ h in (empty_read n e _ p.0, empties_each n es after p.1 f)
 
 -- empty lines have at least a character each
-pub empties_long : (es : List Empty) → length es ≤ length (empties_text es)
+pub empties_long : (es : List FlowEmptyLine) → length es ≤ length (flow_empties_text es)
 empties_long [] = omega arith
 empties_long (e ∷ es) =
-    omega (arith, empties_long es, break_long e.stop, length-append (empty_text e) (empties_text es), length-append e.blank (break_text e.stop))
+    omega (arith, empties_long es, break_long e.stop, length-append (flow_empty_text e) (flow_empties_text es), length-append e.blank (break_text e.stop))
 
 -- the empty lines fit at the start of the text, before the rest
-abbrev pub EmptiesOf : ℕ → List ℕ → List Empty → List ℕ → Type 0
-EmptiesOf n text es rest = (text ≡ empties_text es ++ rest) × (empties_fit n es rest ≡ true)
+abbrev pub EmptiesOf : ℕ → List ℕ → List FlowEmptyLine → List ℕ → Type 0
+EmptiesOf n text es rest = (text ≡ flow_empties_text es ++ rest) × (flow_empties_fit n es rest ≡ true)
 
 -- an empty line before others
-empties_step : (n : ℕ) (text : List ℕ) (e : Empty) (t : List ℕ) (es : List Empty) (rest : List ℕ) → read_empty n text ≡ Some (e, t) → EmptiesOf n t es rest
+empties_step : (n : ℕ) (text : List ℕ) (e : FlowEmptyLine) (t : List ℕ) (es : List FlowEmptyLine) (rest : List ℕ) → read_empty n text ≡ Some (e, t) → EmptiesOf n t es rest
     → EmptiesOf n text (e ∷ es) rest
 empties_step n text e t es rest h s =
     let p : EmptyOf n text e t = sound_is (EmptyOf n text) (read_empty n text) (e, t) (empty_sound n text) h in (
-      p.0 ∙ (ap (λ u. empty_text e ++ u) s.0 ∙ sym (append_assoc (empty_text e) (empties_text es) rest)),
-      and_from _ _ (subst (λ (u : List ℕ). empty_fits n e u ≡ true) s.0 p.1) s.1,
+      p.0 ∙ (ap (λ u. flow_empty_text e ++ u) s.0 ∙ sym (append_assoc (flow_empty_text e) (flow_empties_text es) rest)),
+      and_from _ _ (subst (λ (u : List ℕ). flow_empty_fits n e u ≡ true) s.0 p.1) s.1,
     )
 
 -- empty lines that are read fit
@@ -104,26 +104,26 @@ empties_sound n fuel text = repeated_sound (read_empty n) (EmptiesOf n) (λ t. (
 -- what a join has to meet by itself before what the line holds
 pub record Joins (n : ℕ) (j : Join) (rest : List ℕ) : Type 0 where
   pub prefix : cond j.escaped (is_empty j.blank) (list_all white j.blank) ≡ true
-  pub stop : break_fits j.stop (empties_text j.empties ++ (j.lead ++ rest)) ≡ true
-  pub empties : empties_fit n j.empties (j.lead ++ rest) ≡ true
+  pub stop : break_fits j.stop (flow_empties_text j.empties ++ (j.lead ++ rest)) ≡ true
+  pub empties : flow_empties_fit n j.empties (j.lead ++ rest) ≡ true
   pub lead : indents n j.lead ≡ true
   pub unmarked : no_marker true (j.lead ++ rest) ≡ true
 
 -- a join that fits is read from its break on
-pub after_blank_read : (escaped : Bool) (n : ℕ) (blank : List ℕ) (stop : Break) (empties : List Empty) (lead rest : List ℕ) → inked rest ≡ true
-    → break_fits stop (empties_text empties ++ (lead ++ rest)) ≡ true → empties_fit n empties (lead ++ rest) ≡ true → indents n lead ≡ true
+pub after_blank_read : (escaped : Bool) (n : ℕ) (blank : List ℕ) (stop : Break) (empties : List FlowEmptyLine) (lead rest : List ℕ) → inked rest ≡ true
+    → break_fits stop (flow_empties_text empties ++ (lead ++ rest)) ≡ true → flow_empties_fit n empties (lead ++ rest) ≡ true → indents n lead ≡ true
     → no_marker true (lead ++ rest) ≡ true
-    → after_blank escaped n blank (break_text stop ++ (empties_text empties ++ (lead ++ rest)))
+    → after_blank escaped n blank (break_text stop ++ (flow_empties_text empties ++ (lead ++ rest)))
     ≡ Some (record { escaped = escaped; blank = blank; stop = stop; empties = empties; lead = lead }, rest)
 unfolding after_blank
 after_blank_read escaped n blank stop empties lead rest i b e l m =
-    let after : List ℕ = empties_text empties ++ (lead ++ rest) in
+    let after : List ℕ = flow_empties_text empties ++ (lead ++ rest) in
     let w : list_all white lead ≡ true = (and_parts _ _ l).0 in
     let f : first white rest ≡ false = inked_no_white rest i in
     let no_break : at_break (lead ++ rest) ≡ false = white_at_break lead rest w ∙ inked_not_at_break rest i in
     let found : repeated (read_empty n) (length after) after ≡ (empties, lead ++ rest) =
-    repeated_read (read_empty n) empty_text empties (length after) (lead ++ rest)
-    (omega (arith, empties_long empties, length-append (empties_text empties) (lead ++ rest))) (empties_each n empties (lead ++ rest) e no_break) in
+    repeated_read (read_empty n) flow_empty_text empties (length after) (lead ++ rest)
+    (omega (arith, empties_long empties, length-append (flow_empties_text empties) (lead ++ rest))) (empties_each n empties (lead ++ rest) e no_break) in
     rw (break_read stop after b, found, take_while_all white lead rest w f, drop_while_all white lead rest w f, l, m)
 
 -- whitespace is no backslash
@@ -156,9 +156,9 @@ unescaped_read escapes n blank b rest h =
     right false y h = refl
 
 -- a join of parts that fit is read
-join_parts_read : (escapes : Bool) (n : ℕ) (escaped : Bool) (blank : List ℕ) (stop : Break) (empties : List Empty) (lead rest : List ℕ) → inked rest ≡ true
+join_parts_read : (escapes : Bool) (n : ℕ) (escaped : Bool) (blank : List ℕ) (stop : Break) (empties : List FlowEmptyLine) (lead rest : List ℕ) → inked rest ≡ true
     → escapes || not escaped ≡ true → cond escaped (is_empty blank) (list_all white blank) ≡ true
-    → break_fits stop (empties_text empties ++ (lead ++ rest)) ≡ true → empties_fit n empties (lead ++ rest) ≡ true → indents n lead ≡ true
+    → break_fits stop (flow_empties_text empties ++ (lead ++ rest)) ≡ true → flow_empties_fit n empties (lead ++ rest) ≡ true → indents n lead ≡ true
     → no_marker true (lead ++ rest) ≡ true
     → read_join escapes n (join_text_then (record { escaped = escaped; blank = blank; stop = stop; empties = empties; lead = lead }) rest)
     ≡ Some (record { escaped = escaped; blank = blank; stop = stop; empties = empties; lead = lead }, rest)
@@ -185,7 +185,7 @@ pub record JoinOf (escapes : Bool) (n : ℕ) (text : List ℕ) (j : Join) (rest 
   pub allowed : escapes || not j.escaped ≡ true
 
 -- a join that is read fits, from its empty lines on
-lead_sound : (escapes escaped : Bool) (n : ℕ) (blank : List ℕ) (stop : Break) (text : List ℕ) (empties : List Empty × List ℕ)
+lead_sound : (escapes escaped : Bool) (n : ℕ) (blank : List ℕ) (stop : Break) (text : List ℕ) (empties : List FlowEmptyLine × List ℕ)
     → escapes || not escaped ≡ true → cond escaped (is_empty blank) (list_all white blank) ≡ true → EmptiesOf n text empties.0 empties.1
     → break_fits stop text ≡ true
     → Sound (JoinOf escapes n ((blank ++ (if escaped then codes "\\" else []) ++ break_text stop) ++ text)) (with_lead escaped n blank stop empties)
@@ -194,7 +194,7 @@ lead_sound escapes escaped n blank stop text empties a f s b =
     let rest : List ℕ = drop_while white empties.1 in
     let j : Join = record { escaped = escaped; blank = blank; stop = stop; empties = empties.0; lead = lead } in
     let split : empties.1 ≡ lead ++ rest = take_while_split white empties.1 in
-    let whole : text ≡ empties_text empties.0 ++ (lead ++ rest) = s.0 ∙ ap (λ t. empties_text empties.0 ++ t) split in
+    let whole : text ≡ flow_empties_text empties.0 ++ (lead ++ rest) = s.0 ∙ ap (λ t. flow_empties_text empties.0 ++ t) split in
     cond_both (indents n lead && no_marker true empties.1) (Some (j, rest)) None
     (Sound (JoinOf escapes n ((blank ++ (if escaped then codes "\\" else []) ++ break_text stop) ++ text)))
     (λ h. let p : (indents n lead ≡ true) × (no_marker true empties.1 ≡ true) = and_parts _ _ h in
@@ -203,7 +203,7 @@ lead_sound escapes escaped n blank stop text empties a f s b =
       joins = record {
         prefix = f;
         stop = subst (λ (t : List ℕ). break_fits stop t ≡ true) whole b;
-        empties = subst (λ (t : List ℕ). empties_fit n empties.0 t ≡ true) split s.1;
+        empties = subst (λ (t : List ℕ). flow_empties_fit n empties.0 t ≡ true) split s.1;
         lead = p.0;
         unmarked = subst (λ (t : List ℕ). no_marker true t ≡ true) split p.1;
       };
@@ -289,15 +289,15 @@ joins_at_break n j rest h e = from j.escaped j.blank h.prefix e
     broken cr_lf t = refl
 
     from : (escaped : Bool) (blank : List ℕ) → cond escaped (is_empty blank) (list_all white blank) ≡ true → escaped ≡ false
-        → at_break ((blank ++ (if escaped then codes "\\" else []) ++ break_text j.stop) ++ (empties_text j.empties ++ (j.lead ++ rest))) ≡ true
+        → at_break ((blank ++ (if escaped then codes "\\" else []) ++ break_text j.stop) ++ (flow_empties_text j.empties ++ (j.lead ++ rest))) ≡ true
     from true blank f e = absurd (false≢true (sym e))
     from false blank f e =
         ap at_break (prefix_grouped blank j.stop _) ∙ (white_at_break blank _ f ∙ broken j.stop _)
 
 -- the text of a line
 pub line_regrouped : {A : Type 0} (spell : A → List ℕ) (l : Line A) (after : List ℕ)
-    → (prefix_text (join_of l) ++ empties_text l.empties ++ l.lead ++ flat_map spell l.held) ++ after ≡ join_text_then (join_of l) (flat_map spell l.held ++ after)
-line_regrouped spell l after = regroup (prefix_text (join_of l)) (empties_text l.empties) l.lead (flat_map spell l.held) after
+    → (prefix_text (join_of l) ++ flow_empties_text l.empties ++ l.lead ++ flat_map spell l.held) ++ after ≡ join_text_then (join_of l) (flat_map spell l.held ++ after)
+line_regrouped spell l after = regroup (prefix_text (join_of l)) (flow_empties_text l.empties) l.lead (flat_map spell l.held) after
   where
     regroup : (a b c d e : List ℕ) → (a ++ b ++ c ++ d) ++ e ≡ a ++ (b ++ (c ++ (d ++ e)))
     regroup a b c d e = simp append_assoc

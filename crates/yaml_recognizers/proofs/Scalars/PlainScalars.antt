@@ -7,7 +7,7 @@ use Rattle.yaml_chars.specs.Classes.{white}
 use Rattle.std.specs.List.{list_all}
 use Rattle.yaml_grammar.specs.Texts.{first, is_empty, no_marker}
 use Rattle.yaml_grammar.specs.Separation.{break_text}
-use Rattle.yaml_grammar.specs.FlowScalars.{FlowContext, one_line, Line, plain, plain_text, line_text, lines_text, empties_text, ends, join_fits, lines_after, plain_first, plain_next, plain_run, plain_line, plain_more, plain_kind, plain_lines, scalar_fits}
+use Rattle.yaml_grammar.specs.FlowScalars.{FlowContext, one_line, Line, plain, plain_text, line_text, lines_text, flow_empties_text, ends, join_fits, lines_after, plain_first, plain_next, plain_run, plain_line, plain_more, plain_kind, plain_lines, scalar_fits}
 use Rattle.yaml_recognizers.specs.Reading.{Read, on}
 use Rattle.yaml_recognizers.specs.Repeated.{repeated}
 use Rattle.yaml_recognizers.specs.Joins.{Join, join_of, line_of, join_text_then, read_join}
@@ -66,10 +66,10 @@ pub join_stops : (c : FlowContext) (prev : ℕ) (j : Join) (rest : List ℕ) →
 join_stops c prev j rest e f = parts j.escaped j.blank e f
   where
     parts : (escaped : Bool) (blank : List ℕ) → not escaped ≡ true → cond escaped (is_empty blank) (list_all white blank) ≡ true
-        → read_run c prev ((blank ++ (if escaped then codes "\\" else []) ++ break_text j.stop) ++ (empties_text j.empties ++ (j.lead ++ rest))) ≡ []
+        → read_run c prev ((blank ++ (if escaped then codes "\\" else []) ++ break_text j.stop) ++ (flow_empties_text j.empties ++ (j.lead ++ rest))) ≡ []
     parts true blank e f = absurd (false≢true e)
     parts false blank e f =
-        let after : List ℕ = empties_text j.empties ++ (j.lead ++ rest) in
+        let after : List ℕ = flow_empties_text j.empties ++ (j.lead ++ rest) in
         let regrouped : (blank ++ [] ++ break_text j.stop) ++ after ≡ blank ++ (break_text j.stop ++ after) =
         append_assoc (blank ++ []) (break_text j.stop) after ∙ append_assoc blank [] (break_text j.stop ++ after) in
         ap (read_run c prev) regrouped
@@ -158,7 +158,7 @@ lines_each n c before (l ∷ ls) after h e k = (plain_line_read n c before l ls 
 
 -- a further line has a character
 line_long : (l : Line ℕ) → 1 ≤ length (line_text plain_text l)
-line_long l = parts l.blank (if l.escaped then codes "\\" else []) (empties_text l.empties) l.lead (flat_map plain_text l.held)
+line_long l = parts l.blank (if l.escaped then codes "\\" else []) (flow_empties_text l.empties) l.lead (flat_map plain_text l.held)
   where
     parts : (a b c d e : List ℕ) → 1 ≤ length (a ++ b ++ break_text l.stop ++ c ++ d ++ e)
     parts a b c d e =

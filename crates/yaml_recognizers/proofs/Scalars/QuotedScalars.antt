@@ -6,7 +6,7 @@ use Rattle.std.proofs.lemmas.Bool.{and_parts, and_from, false≢true, cond_both,
 use Rattle.yaml_chars.specs.Classes.{white}
 use Rattle.yaml_grammar.specs.Texts.{first, is_empty}
 use Rattle.yaml_grammar.specs.Separation.{Break, break_text}
-use Rattle.yaml_grammar.specs.FlowScalars.{FlowContext, one_line, Line, Kind, line_text, lines_text, empties_text, ends, join_fits, lines_after, quoted_lines}
+use Rattle.yaml_grammar.specs.FlowScalars.{FlowContext, one_line, Line, Kind, line_text, lines_text, flow_empties_text, ends, join_fits, lines_after, quoted_lines}
 use Rattle.yaml_recognizers.specs.Prefixes.{past}
 use Rattle.yaml_recognizers.specs.Reading.{Read, on}
 use Rattle.yaml_recognizers.specs.Repeated.{repeated}
@@ -98,10 +98,10 @@ module _ {A : Type 0} (kind : Kind A) (holds : A → Bool) (escapes : Bool) (rea
   escaped_stops before j rest e b a = parts j.escaped j.blank e b
     where
       parts : (escaped : Bool) (blank : List ℕ) → escaped ≡ true → is_empty blank ≡ true
-          → StopsLine before ((blank ++ (if escaped then codes "\\" else []) ++ break_text j.stop) ++ (empties_text j.empties ++ (j.lead ++ rest)))
+          → StopsLine before ((blank ++ (if escaped then codes "\\" else []) ++ break_text j.stop) ++ (flow_empties_text j.empties ++ (j.lead ++ rest)))
       parts false blank e b = absurd (false≢true e)
       parts true (x ∷ xs) e b = absurd (false≢true b)
-      parts true [] e b = record { none = readable.joins j.stop (empties_text j.empties ++ (j.lead ++ rest)) a; blank = λ i. refl }
+      parts true [] e b = record { none = readable.joins j.stop (flow_empties_text j.empties ++ (j.lead ++ rest)) a; blank = λ i. refl }
 
   join_stops : (n : ℕ) (before : List A) (j : Join) (rest : List ℕ) → Joins n j rest → (j.escaped ≡ false → ends kind.blank before ≡ false)
       → escapes || not j.escaped ≡ true → StopsLine before (join_text_then j rest)
@@ -182,7 +182,7 @@ module _ {A : Type 0} (kind : Kind A) (holds : A → Bool) (escapes : Bool) (rea
   pub lines_long : (ls : List (Line A)) → length ls ≤ length (flat_map (line_text kind.spell) ls)
   lines_long [] = omega arith
   lines_long (l ∷ ls) =
-      omega (arith, lines_long ls, length-append (line_text kind.spell l) (flat_map (line_text kind.spell) ls), line_long l.blank (if l.escaped then codes "\\" else []) l.stop (empties_text l.empties) l.lead (flat_map kind.spell l.held))
+      omega (arith, lines_long ls, length-append (line_text kind.spell l) (flat_map (line_text kind.spell) ls), line_long l.blank (if l.escaped then codes "\\" else []) l.stop (flow_empties_text l.empties) l.lead (flat_map kind.spell l.held))
     where
       line_long : (a b : List ℕ) (s : Break) (c d e : List ℕ) → 1 ≤ length (a ++ b ++ break_text s ++ c ++ d ++ e)
       line_long a b s c d e =

@@ -6,12 +6,12 @@ use Rattle.std.proofs.lemmas.Bool.{and_from, and_left, and_parts, and_right, cas
 use Rattle.yaml_chars.specs.Classes.{line_break, ns, space, white}
 use Rattle.yaml_grammar.specs.BlockScalars.{spaces_before}
 use Rattle.yaml_grammar.specs.FlowNodes.{is_plain, scalar}
-use Rattle.yaml_grammar.specs.FlowScalars.{Empty, FlowContext, Line, Scalar, block_key, double, flow_key, inner, one_line, outer, plain, plain_next, safe, single}
+use Rattle.yaml_grammar.specs.FlowScalars.{FlowEmptyLine, FlowContext, Line, Scalar, block_key, double, flow_key, inner, one_line, outer, plain, plain_next, safe, single}
 use Rattle.yaml_grammar.specs.Separation.{Break, LineEnd, Sep, break_text, comment_fits, comment_line_fits, comment_text, comments_fit, comments_text, gap_fits, gap_text, indents, inline, line_end_text, lines, stop_fits}
 use Rattle.std.specs.List.{list_all}
 use Rattle.yaml_grammar.specs.Texts.{begins, first, is_empty, marker, no_marker, optional, spaces}
 use Rattle.yaml_recognizers.specs.Comments.{read_break}
-use Rattle.yaml_recognizers.specs.Ends.{closing, in_flow, is_colon, less_deep}
+use Rattle.yaml_recognizers.specs.Ends.{closing, between_brackets, is_colon, less_deep}
 use Rattle.yaml_recognizers.specs.FlowScalars.{scalar_ends}
 use Rattle.yaml_recognizers.specs.Prefixes.{drop_while, take_while}
 use Rattle.yaml_recognizers.specs.Joins.{Join, at_break, after_blank, read_empty, read_join, with_lead}
@@ -63,7 +63,7 @@ no_line_after : (n : ℕ) (c : FlowContext) (text : List ℕ) (b : Break) (rest 
     → goes_on n c (repeated (read_empty n) (length rest) rest).1 ≡ false → read_plain_line n c text ≡ None
 unfolding read_plain_line read_join after_blank
 no_line_after n c text b rest e h =
-    let found : List Empty × List ℕ = repeated (read_empty n) (length rest) rest in
+    let found : List FlowEmptyLine × List ℕ = repeated (read_empty n) (length rest) rest in
     let finish : Read Join → Read (Line ℕ) = λ r. on r (λ j t. with_run j t (read_run c 32 t)) in
     ap (λ (r : Read Break). finish (on r (λ stop t. with_lead false n (take_while white text) stop (repeated (read_empty n) (length t) t)))) e
     ∙ last (indents n (take_while white found.1) && no_marker true found.1) _ (drop_while white found.1) h
@@ -114,7 +114,7 @@ closing_is P x h a b d = elim (or_cases (x == 44) _ h) [
 ]
 
 -- between brackets a closing character is not safe
-closing_unsafe : (d : FlowContext) (x : ℕ) → in_flow d ≡ true → closing x ≡ true → safe d x ≡ false
+closing_unsafe : (d : FlowContext) (x : ℕ) → between_brackets d ≡ true → closing x ≡ true → safe d x ≡ false
 closing_unsafe outer x i h = absurd (false≢true i)
 closing_unsafe block_key x i h = absurd (false≢true i)
 closing_unsafe inner x i h = closing_is (λ y. safe inner y ≡ false) x h refl refl refl
@@ -128,7 +128,7 @@ record Barrier (d : FlowContext) (tail : List ℕ) : Type 0 where
   unquoted : first quote tail ≡ false
 
 -- a closing character ends a plain scalar between brackets
-closing_barrier : (d : FlowContext) (tail : List ℕ) → in_flow d ≡ true → first closing tail ≡ true → Barrier d tail
+closing_barrier : (d : FlowContext) (tail : List ℕ) → between_brackets d ≡ true → first closing tail ≡ true → Barrier d tail
 closing_barrier d [] i h = absurd (false≢true h)
 closing_barrier d (x ∷ xs) i h =
     let none : (prev : ℕ) → plain_next d prev x xs ≡ false =
@@ -207,7 +207,7 @@ line_stuck n c bol e rest h =
 
 -- an empty line is a whole line of comments, or none
 empty_or_none : (n : ℕ) (bol : Bool) (e : LineEnd) (rest : List ℕ) → comment_line_fits bol e rest ≡ true
-    → (read_empty n (line_end_text e ++ rest) ≡ None) ⊎ ((x : Empty) × (read_empty n (line_end_text e ++ rest) ≡ Some (x, rest)))
+    → (read_empty n (line_end_text e ++ rest) ≡ None) ⊎ ((x : FlowEmptyLine) × (read_empty n (line_end_text e ++ rest) ≡ Some (x, rest)))
 unfolding read_empty
 empty_or_none n bol e rest h =
     let p = line_parts bol e rest h in
@@ -238,11 +238,11 @@ comments_stuck n c (suc fuel) (e ∷ es) after h b g =
     let f : comment_line_fits true e (comments_text es ++ after) ≡ true = p.0 in
     let rest : List ℕ = comments_text es ++ after in
     let text : List ℕ = line_end_text e ++ rest in
-    let again : List ℕ → List Empty × List ℕ = λ t. repeated (read_empty n) fuel t in
+    let again : List ℕ → List FlowEmptyLine × List ℕ = λ t. repeated (read_empty n) fuel t in
     ap (λ (t : List ℕ). goes_on n c (repeated (read_empty n) (suc fuel) t).1) (append_assoc (line_end_text e) (comments_text es) after)
     ∙ elim (empty_or_none n true e rest f) [
-      | inl i ↦ ap (λ (r : Read Empty). goes_on n c (and_more text again r).1) i ∙ line_stuck n c true e rest f
-      | inr i ↦ ap (λ (r : Read Empty). goes_on n c (and_more text again r).1) i.1 ∙ comments_stuck n c fuel es after p.1 b g
+      | inl i ↦ ap (λ (r : Read FlowEmptyLine). goes_on n c (and_more text again r).1) i ∙ line_stuck n c true e rest f
+      | inr i ↦ ap (λ (r : Read FlowEmptyLine). goes_on n c (and_more text again r).1) i.1 ∙ comments_stuck n c fuel es after p.1 b g
     ]
 
 -- at the end of the text a scalar ends
@@ -314,10 +314,10 @@ colon_after n m d (single prefix more) gap rest g h = not_from_false _ (gap_unqu
 colon_after n m d (double prefix more) gap rest g h = refl
 
 -- after a scalar between brackets: a gap, and then a comma, a closing bracket, or the `:` of a value
-pub ends_in_flow : (n m : ℕ) (d : FlowContext) (s : Scalar) (gap : Option Sep) (rest : List ℕ) → in_flow d ≡ true → gap_fits m false gap rest ≡ true
+pub ends_between_brackets : (n m : ℕ) (d : FlowContext) (s : Scalar) (gap : Option Sep) (rest : List ℕ) → between_brackets d ≡ true → gap_fits m false gap rest ≡ true
     → first closing rest || is_colon d (is_plain (scalar s)) rest ≡ true → scalar_ends n d s (gap_text gap ++ rest) ≡ true
-ends_in_flow n m d s gap [] i g h = absurd (false≢true h)
-ends_in_flow n m d s gap (x ∷ xs) i g h = elim (or_cases (closing x) _ h) [
+ends_between_brackets n m d s gap [] i g h = absurd (false≢true h)
+ends_between_brackets n m d s gap (x ∷ xs) i g h = elim (or_cases (closing x) _ h) [
   | inl k ↦ ends_scalar n d s (gap_text gap ++ (x ∷ xs)) (gap_ends n m d gap (x ∷ xs) g (closing_barrier d (x ∷ xs) i k))
   | inr k ↦ (let p : (x == 58 ≡ true) × (not (is_plain (scalar s) && first (safe d) xs) ≡ true) = and_parts _ _ k in
       let e : x ≡ 58 = eqb-true x 58 p.0 in
@@ -328,19 +328,19 @@ ends_in_flow n m d s gap (x ∷ xs) i g h = elim (or_cases (closing x) _ h) [
 -- ---- in blocks
 
 -- outside brackets a character is safe if it is ns
-wide_safe : (c : FlowContext) (x : ℕ) → in_flow c ≡ false → safe c x ≡ ns x
+wide_safe : (c : FlowContext) (x : ℕ) → between_brackets c ≡ false → safe c x ≡ ns x
 wide_safe outer x h = refl
 wide_safe block_key x h = refl
 wide_safe inner x h = absurd (false≢true (sym h))
 wide_safe flow_key x h = absurd (false≢true (sym h))
 
 -- so a text starts with a safe character if it starts with an ns
-wide_first : (c : FlowContext) (rest : List ℕ) → in_flow c ≡ false → first (safe c) rest ≡ first ns rest
+wide_first : (c : FlowContext) (rest : List ℕ) → between_brackets c ≡ false → first (safe c) rest ≡ first ns rest
 wide_first c [] h = refl
 wide_first c (x ∷ xs) h = wide_safe c x h
 
 -- after a key: white, and a `:` that no ns follows
-pub ends_before_colon : (n : ℕ) (c : FlowContext) (s : Scalar) (gap rest : List ℕ) → in_flow c ≡ false → list_all white gap ≡ true → first ns rest ≡ false
+pub ends_before_colon : (n : ℕ) (c : FlowContext) (s : Scalar) (gap rest : List ℕ) → between_brackets c ≡ false → list_all white gap ≡ true → first ns rest ≡ false
     → scalar_ends n c s (gap ++ (58 ∷ rest)) ≡ true
 ends_before_colon n c s gap rest i g h = ends_scalar n c s (gap ++ (58 ∷ rest)) (colon_ends n c gap rest g (wide_first c rest i ∙ h))
 

@@ -7,7 +7,7 @@ use Rattle.yaml_chars.specs.Classes.{line_break}
 use Rattle.std.specs.List.{list_all}
 use Rattle.yaml_grammar.specs.Texts.{first, is_empty, no_marker}
 use Rattle.yaml_grammar.specs.Separation.{Break, lf, cr, cr_lf, break_text}
-use Rattle.yaml_grammar.specs.FlowScalars.{FlowContext, one_line, Line, Scalar, plain, single, double, safe, plain_text, single_text, quoted_char_text, join_text, empties_text, line_text, lines_text, scalar_text, plain_first, plain_next, plain_run, plain_line, scalar_fits}
+use Rattle.yaml_grammar.specs.FlowScalars.{FlowContext, one_line, Line, Scalar, plain, single, double, safe, plain_text, single_text, quoted_char_text, join_text, flow_empties_text, line_text, lines_text, scalar_text, plain_first, plain_next, plain_run, plain_line, scalar_fits}
 use Rattle.yaml_recognizers.specs.PlainScalars.{read_run, last_char, plain_ends}
 use Rattle.yaml_recognizers.specs.FlowScalars.{read_scalar, scalar_ends, Stands}
 use Rattle.yaml_recognizers.specs.WholeScalars.{stands_on_one_line}
@@ -102,9 +102,9 @@ lines_broken spell prefix l ls h =
     let sign : List ℕ = if l.escaped then codes "\\" else [] in
     let more = every_parts _ (flat_map spell prefix) _ h in
     let line = every_parts _ (line_text spell l) _ more.1 in
-    let a = every_parts _ (join_text l ++ empties_text l.empties ++ l.lead) (flat_map spell l.held) line.0 in
-    let b = every_parts _ (join_text l ++ empties_text l.empties) l.lead a.0 in
-    let c = every_parts _ (join_text l) (empties_text l.empties) b.0 in
+    let a = every_parts _ (join_text l ++ flow_empties_text l.empties ++ l.lead) (flat_map spell l.held) line.0 in
+    let b = every_parts _ (join_text l ++ flow_empties_text l.empties) l.lead a.0 in
+    let c = every_parts _ (join_text l) (flow_empties_text l.empties) b.0 in
     unbroken l.stop (every_parts _ (l.blank ++ sign) (break_text l.stop) c.0).1
   where
     unbroken : (b : Break) → list_all (λ x. not (line_break x)) (break_text b) ≡ true → ⊥

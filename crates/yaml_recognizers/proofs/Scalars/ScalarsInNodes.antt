@@ -15,7 +15,7 @@ use Rattle.yaml_recognizers.specs.Joins.{at_break}
 use Rattle.yaml_recognizers.specs.Scalars.{ReadsScalars}
 use Rattle.yaml_recognizers.proofs.Meanings.CanonicalFits.{gap_fits_too}
 use Rattle.yaml_recognizers.proofs.Scalars.FlowScalars.{scalar_read, sound}
-use Rattle.yaml_recognizers.proofs.Scalars.ScalarEnds.{ends_before_colon, ends_before_comments, ends_in_flow}
+use Rattle.yaml_recognizers.proofs.Scalars.ScalarEnds.{ends_before_colon, ends_before_comments, ends_between_brackets}
 
 -- where no line of comments begins there is no line of white
 no_blank_line : (text : List ℕ) → is_line_end text ≡ false → at_break text ≡ false
@@ -30,7 +30,7 @@ no_blank_line (c ∷ cs) h = unbroken (drop_while white (c ∷ cs)) (or_parts _ 
 between_brackets : (n : ℕ) (c : FlowContext) (s : Scalar) (after : List ℕ) → BetweenBrackets c (is_plain (scalar s)) after → scalar_ends n c s after ≡ true
 between_brackets n c s after b =
     subst (λ (t : List ℕ). scalar_ends n c s t ≡ true) (sym b.is)
-    (ends_in_flow n b.fits.0 c s b.gap b.rest b.within (gap_fits_too b.fits.0 false b.gap b.rest b.fits.1) b.stop)
+    (ends_between_brackets n b.fits.0 c s b.gap b.rest b.within (gap_fits_too b.fits.0 false b.gap b.rest b.fits.1) b.stop)
 
 -- and before the `:` of a key
 before_colon : (n : ℕ) (c : FlowContext) (s : Scalar) (after : List ℕ) → BeforeColon c after → scalar_ends n c s after ≡ true

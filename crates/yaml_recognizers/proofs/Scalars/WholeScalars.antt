@@ -5,7 +5,7 @@ use Rattle.std.proofs.Math.Seq.{drop-append_seam}
 use Rattle.std.specs.Prelude.{ℕ, Bool, true, List, [], ◌∷◌, ◌++◌, length, drop, flat_map, Some, None}
 use Rattle.std.proofs.lemmas.Bool.{and_parts, false≢true, not-true, not_from_false}
 use Rattle.std.proofs.lemmas.List.{append_cancel_right}
-use Rattle.yaml_grammar.specs.FlowScalars.{FlowContext, Line, Scalar, plain, single, double, plain_text, line_text, empties_text, join_text, plain_more, plain_lines, plain_kind, lines_after, scalar_text, scalar_fits, scalar_value, style_of}
+use Rattle.yaml_grammar.specs.FlowScalars.{FlowContext, Line, Scalar, plain, single, double, plain_text, line_text, flow_empties_text, join_text, plain_more, plain_lines, plain_kind, lines_after, scalar_text, scalar_fits, scalar_value, style_of}
 use Rattle.yaml_recognizers.specs.PlainScalars.{read_plain, last_of, last_char, plain_ends}
 use Rattle.yaml_recognizers.specs.FlowScalars.{read_scalar, scalar_ends, Stands}
 use Rattle.yaml_recognizers.specs.WholeScalars.{Longest, StandsWhole, IsScalar, NoScalar}
@@ -45,7 +45,7 @@ unfolding last_char
 last_in_text prefix [] s = ap (last_of 32) (append-nil prefix)
 last_in_text prefix (l ∷ ls) s =
     let more : List ℕ = flat_map (line_text plain_text) ls in
-    let join : List ℕ = join_text l ++ empties_text l.empties ++ l.lead in
+    let join : List ℕ = join_text l ++ flow_empties_text l.empties ++ l.lead in
     let regrouped : prefix ++ ((join ++ flat_map plain_text l.held) ++ more) ≡ (prefix ++ join) ++ (flat_map plain_text l.held ++ more) = simp append_assoc in
     let held : flat_map plain_text l.held ++ more ≡ s.0.0 ∷ (s.0.1 ++ more) = ap (λ t. t ++ more) (plain_texts l.held ∙ s.0.2) in
     ap (last_of 32) (regrouped ∙ ap (λ t. (prefix ++ join) ++ t) held)

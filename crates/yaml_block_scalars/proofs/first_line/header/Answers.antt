@@ -39,7 +39,7 @@ returns-in_default-clause-none c =
     ] in
     let byte = ap (λ x. get_or x c.args.at 0) (sym c.as_bytes-bytes.ensures.value) in
     header_open c.args.text.now c.args.at c.signs_at-digit.result.2 (get_or c.as_bytes-bytes.result.now c.args.at 0) c.signs_at-digit.result.0 (chomping_of c.signs_at-digit.result.1)
-    c.utf8.text l byte sign c.signs_at-digit.ensures c.in_default.ensures
+    c.utf8.text l byte sign c.signs_at-digit.ensures c.in_default.ensures.none
 
 pub returns-clause-found : goal.returns-clause-found
 returns-clause-found c =
@@ -51,16 +51,16 @@ returns-clause-found c =
     ] in
     let byte = ap (λ x. get_or x c.args.at 0) (sym c.as_bytes-bytes.ensures.value) in
     let signs = c.signs_at-digit.ensures.above in
-    let end : IsHeaderEnd c.args.text.now c.signs_at-digit.result.2 c.in-Some.end = c.in-Some.ensures in
+    let end : IsHeaderEnd c.args.text.now c.signs_at-digit.result.2 c.in-Some.end = c.in-Some.ensures.found in
     let further = end.above in
     record {
       above = omega arith;
       boundary = end.boundary;
       says = header_there c.args.text.now c.args.at c.signs_at-digit.result.2 c.in-Some.end (get_or c.as_bytes-bytes.result.now c.args.at 0) c.signs_at-digit.result.0 (chomping_of c.signs_at-digit.result.1)
-          c.utf8.text l byte sign c.signs_at-digit.ensures c.in-Some.ensures;
+          c.utf8.text l byte sign c.signs_at-digit.ensures c.in-Some.ensures.found;
     }
 
 pub returns-clause-line : goal.returns-clause-line
 returns-clause-line c =
-    let end : IsHeaderEnd c.args.text.now c.signs_at-digit.result.2 c.in-Some.end = c.in-Some.ensures in
+    let end : IsHeaderEnd c.args.text.now c.signs_at-digit.result.2 c.in-Some.end = c.in-Some.ensures.found in
     end.starts

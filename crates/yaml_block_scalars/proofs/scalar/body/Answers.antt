@@ -6,7 +6,7 @@ use Rattle.std.proofs.lemmas.Result.{IfOk-weaker, err_from_is_err_and}
 use Rattle.yaml_chars.specs.Places.{rest}
 use Rattle.yaml_events.specs.EventPlaces.{Refuses}
 use Rattle.yaml_recognizers.specs.BlockScalarFacts.{NoBody}
-use Rattle.yaml_recognizers.specs.BlockScalars.{find_indent, gaps_at, lines_at}
+use Rattle.yaml_recognizers.specs.BlockScalars.{find_indent, empties_at, lines_at}
 use Rattle.yaml_scan.specs.Lines.{IsLineStart}
 use Rattle.yaml_scan.proofs.Outcomes.{fault_passed, faults_so}
 use Rattle.yaml_block_scalars.specs.Found.{AreLines, ArePiece, IsBodyAt, IsPieceAt}
@@ -63,6 +63,6 @@ returns-clause-none c =
     let header = c.args.header.now in
     let text = c.args.text.now in
     subst (λ m. IfErr c.lines.result (λ fault. Refuses fault (NoBody header.digit m (rest text c.args.at)))) (least c)
-    (faults_so c.lines.result (lines_at c.in_ok-indent.indent (gaps_at c.in_ok-indent.indent (rest text c.args.at)).1 ≡ None) (NoBody header.digit c.least_indent.result (rest text c.args.at))
+    (faults_so c.lines.result (lines_at c.in_ok-indent.indent (empties_at c.in_ok-indent.indent (rest text c.args.at)).1 ≡ None) (NoBody header.digit c.least_indent.result (rest text c.args.at))
     (no_body_lines header.digit c.least_indent.result c.is_folded.result (chomping_of header.chomping) c.in_ok-indent.indent text c.args.at c.in_ok-indent.ensures.found)
     c.lines.ensures.none)

@@ -3,11 +3,11 @@ use Rattle.std.proofs.Common.{◌+◌, ◌<◌, sym, ap, ◌∙◌, subst, arith
 use Rattle.std.specs.Prelude.{[]}
 use Rattle.std.proofs.lemmas.List.Elements.{All-nil, All-same}
 use Rattle.yaml_events.specs.Meant.{context_of}
-use Rattle.yaml_grammar.specs.FlowScalars.{inside}
+use Rattle.yaml_grammar.specs.FlowScalars.{in_flow}
 use Rattle.yaml_scan.proofs.Outcomes.{fault_passed}
 use Rattle.yaml_flow.specs.declared.collection.Next.TheVariants.{Entry, Node, AfterEntry, Closed}
 use Rattle.yaml_flow.specs.Frames.{BeforeGap, Collection, LineMoves, Onward, Started, WholeRead, place_of, steps_left}
-use Rattle.yaml_flow.proofs.FlowSteps.{inside_twice, opened}
+use Rattle.yaml_flow.proofs.FlowSteps.{in_flow_twice, opened}
 use Rattle.yaml_flow.proofs.Signs.{opener_starts}
 use Rattle.yaml_flow.proofs.Stacks.{before, closed, kept_on, kept_once, outermost, refused, stack_none, started, starts_pop, starts_push, stepped, turned, whole_read}
 use Rattle.yaml_flow.proofs.collection.collection.Goals as goal
@@ -23,22 +23,22 @@ returns-in_err-next-clause-none c =
     let at = c.args.at in
     fault_passed c.from_residual-in_err-next.result c.in_err-next.field-0.0 _ _
     (λ f. f (outermost n outside text at c.args.events.now) c.args.in_seq c.begin.new.events
-    (opened n outside (context_of c.inside.result) text at c.args.in_seq c.args.events.now c.begin.new.events
-    c.inside.ensures c.requires.bracket (c.in_ok-top.ensures.written text)))
+    (opened n outside (context_of c.in_flow.result) text at c.args.in_seq c.args.events.now c.begin.new.events
+    c.in_flow.ensures c.requires.bracket (c.in_ok-top.ensures.written text)))
     c.in_err-next.ensures.none (err_from_is_err_and c.from_residual-in_err-next.result c.from_residual-in_err-next.ensures.1)
 
 pub nodes-init : goal.nodes-init
 nodes-init c =
     let n = c.args.n in
     let outside = context_of c.args.c in
-    let d = context_of c.inside.result in
+    let d = context_of c.in_flow.result in
     let text = c.args.text.now in
     let at = c.args.at in
     let whole : Collection = outermost n outside text at c.args.events.now in
     let top = c.in_ok-top.top in
     let next = c.in_ok-next.next in
     let before : BeforeGap n d text whole c.args.in_seq (at + 1) c.begin.new.events =
-    opened n outside d text at c.args.in_seq c.args.events.now c.begin.new.events c.inside.ensures c.requires.bracket (c.in_ok-top.ensures.written text) in
+    opened n outside d text at c.args.in_seq c.args.events.now c.begin.new.events c.in_flow.ensures c.requires.bracket (c.in_ok-top.ensures.written text) in
     let moves : LineMoves text at (at + 1) c.pass.new.line (place_of next) = c.in_ok-next.ensures.line in
     record {
       reading = record {
@@ -55,7 +55,7 @@ nodes-init c =
         starts = All-same (Started text c.pass.new.line (place_of next)) c.new-outer.result.items []
             c.new-outer.ensures.items (All-nil (Started text c.pass.new.line (place_of next)));
       };
-      inner = ap inside c.inside.ensures ∙ (inside_twice outside ∙ sym c.inside.ensures);
+      inner = ap in_flow c.in_flow.ensures ∙ (in_flow_twice outside ∙ sym c.in_flow.ensures);
     }
 
 pub returns-in_err-next-in-Entry-clause-none : goal.returns-in_err-next-in-Entry-clause-none
@@ -97,8 +97,8 @@ returns-in-None-clause-found c =
     let reading = c.nodes.invariant.reading in
     let on : Onward text (at + 1) (Closed c.in-Closed.end) = subst (λ x. Onward text (at + 1) x) c.in-Closed.is
     reading.onward in
-    let all : WholeRead n (context_of c.inside.result) text whole c.in-Closed.end c.nodes.events =
-    whole_read n (context_of c.inside.result) text whole c.nodes.outer.items c.nodes.top c.nodes.next c.in-Closed.end
+    let all : WholeRead n (context_of c.in_flow.result) text whole c.in-Closed.end c.nodes.events =
+    whole_read n (context_of c.in_flow.result) text whole c.nodes.outer.items c.nodes.top c.nodes.next c.in-Closed.end
     c.nodes.events reading.waits c.in-Closed.is
     (omega (arith, c.in-None.ensures.cases.0, c.nodes.outer.ok.0)) in
     let above = on.above in
@@ -134,7 +134,7 @@ returns-in_err-next-in-Some-clause-none c =
     let p = closed c.nodes.invariant.reading c.pop.new.self.items c.in-Some.frame c.in-Closed.end c.in-Closed.is
     c.in-Some.ensures.items in
     fault_passed c.from_residual-in_err-next-in-Some.result c.in_err-next-in-Some.field-0.0 _ _
-    (λ f. stack_none c.args.n (context_of c.inside.result) c.args.text.now
+    (λ f. stack_none c.args.n (context_of c.in_flow.result) c.args.text.now
     (outermost c.args.n (context_of c.args.c) c.args.text.now c.args.at c.args.events.now) p.around
     c.pop.new.self.items p.outer p.stack (f p.outer p.node))
     c.in_err-next-in-Some.ensures.none (err_from_is_err_and c.from_residual-in_err-next-in-Some.result c.from_residual-in_err-next-in-Some.ensures.1)

@@ -1,6 +1,6 @@
 use Rattle.std.proofs.Common.{◌≡◌}
 use Rattle.yaml_events.specs.Meant.{context_of}
-use Rattle.yaml_grammar.specs.FlowScalars.{inside}
+use Rattle.yaml_grammar.specs.FlowScalars.{in_flow}
 use Rattle.yaml_flow.specs.Frames.{steps_left}
 use Rattle.yaml_flow.proofs.Stacks.{Reading, outermost}
 use Rattle.yaml_flow.proofs.collection.collection.Given as goal
@@ -9,7 +9,7 @@ abbrev pub invariant-nodes : goal.invariant-nodes
 invariant-nodes l = record {
   reading : Reading l.setting.n (context_of l.setting.context) l.text l.fn.at
       (outermost l.fn.n (context_of l.fn.c) l.text l.fn.at l.fn.events) l.outer.items l.top l.next l.events l.line;
-  inner : inside (context_of l.setting.context) ≡ context_of l.setting.context;
+  inner : in_flow (context_of l.setting.context) ≡ context_of l.setting.context;
 }
 
 abbrev pub decreases-nodes : goal.decreases-nodes

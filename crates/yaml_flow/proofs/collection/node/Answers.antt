@@ -1,4 +1,4 @@
-use Rattle.std.proofs.Common.{sym, subst, ap, arith, ◌+◌, ◌-◌, ◌*◌, ◌<◌, refl, length}
+use Rattle.std.proofs.Common.{sym, subst, arith, ◌+◌, ◌-◌, ◌*◌, ◌<◌, refl, length}
 use Rattle.std.specs.Prelude.{◌∷◌}
 use Rattle.yaml_chars.specs.Places.{rest}
 use Rattle.yaml_events.specs.Meant.{context_of}

@@ -10,7 +10,7 @@ use Rattle.yaml_flow.specs.Frames.{AtColon, Collection, LineMoves, NodeRead, NoP
 use Rattle.yaml_flow.proofs.ColonSteps.{colon_read, colon_refused, node_dead}
 use Rattle.yaml_flow.proofs.NodeSteps.{entry_alone, not_value, the_value, value_read}
 use Rattle.yaml_flow.proofs.Results.{ok_two}
-use Rattle.yaml_flow.proofs.Stacks.{inside_widens, kept_then}
+use Rattle.yaml_flow.proofs.Stacks.{in_flow_widens, kept_then}
 use Rattle.yaml_flow.proofs.pair.plug.Goals as goal
 
 pub returns-in_err-after-clause-none : goal.returns-in_err-after-clause-none
@@ -59,7 +59,7 @@ returns-in_err-begin_pair-clause-none c =
     let same : SameLine text line top.start colon = c.in_ok-after.ensures.line.tells top.start c.requires.start c.requires.order c.requires.line in
     fault_passed c.from_residual-in_err-begin_pair.result c.in_err-begin_pair.field-0.0 (NoPair text top line colon) _
     (λ stop. λ w here. colon_refused n d text w top c.args.node_end line c.args.end colon c.args.events.now c.utf8.text c.requires.start c.requires.order
-    (inside_widens d c.requires.inside) c.in_ok-after.ensures.found sign same stop here) c.in_err-begin_pair.ensures.none
+    (in_flow_widens d c.requires.inside) c.in_ok-after.ensures.found sign same stop here) c.in_err-begin_pair.ensures.none
     (err_from_is_err_and c.from_residual-in_err-begin_pair.result c.from_residual-in_err-begin_pair.ensures.1)
 
 -- with its key read, the pair is at its `:`
@@ -79,7 +79,7 @@ pair_begun c =
     let same : SameLine text line top.start colon = c.in_ok-after.ensures.line.tells top.start c.requires.start c.requires.order c.requires.line in
     λ w. colon_read c.args.setting.n (context_of c.args.setting.context) text w top c.args.node_end line c.args.end
     colon c.args.events.now c.begin_pair.new.events c.utf8.text c.requires.start c.requires.end c.requires.order
-    (inside_widens (context_of c.args.setting.context) c.requires.inside) p c.in_ok-after.ensures.found sign same
+    (in_flow_widens (context_of c.args.setting.context) c.requires.inside) p c.in_ok-after.ensures.found sign same
     c.in_ok-begin_pair.ensures.begun
 
 pub returns-clause-stands : goal.returns-clause-stands

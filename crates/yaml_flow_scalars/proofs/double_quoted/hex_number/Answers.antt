@@ -17,20 +17,20 @@ overflow_mul-number c =
     let d = c.loop-end.invariant.digits in
     omega (arith, number_fits (c.loop-end.end - c.args.at) c.loop-end.number 0 (omega (arith, c.requires.few)) d.fits (omega arith))
 
-pub returns-in_err-number-clause-none : goal.returns-in_err-number-clause-none
-returns-in_err-number-clause-none c =
+pub returns-in_default-clause-none : goal.returns-in_default-clause-none
+returns-in_default-clause-none c =
     let d = c.loop-end.invariant.digits in
     let within = d.boundary.0 in
-    rw c.from_residual.ensures (digits_broken c.args.text.now c.args.at c.loop-end.end c.args.count c.loop-end.number c.utf8.text c.requires.at d (omega arith) (omega (arith, c.as_bytes-bytes.ensures.len))
-    (ap (λ t. hex_digit (get_or t c.loop-end.end 0)) (sym c.as_bytes-bytes.ensures.value) ∙ c.in_err-number.ensures.none))
+    (digits_broken c.args.text.now c.args.at c.loop-end.end c.args.count c.loop-end.number c.utf8.text c.requires.at d (omega arith) (omega (arith, c.as_bytes-bytes.ensures.len))
+    (ap (λ t. hex_digit (get_or t c.loop-end.end 0)) (sym c.as_bytes-bytes.ensures.value) ∙ c.in_default.ensures.none))
 
 pub overflow_add-number : goal.overflow_add-number
 overflow_add-number c =
     let d = c.loop-end.invariant.digits in
     omega (
       arith,
-      number_fits (c.loop-end.end - c.args.at) c.loop-end.number c.in_ok-number.field-0 (omega (arith, c.requires.few)) d.fits
-          (digit_fits (get_or c.as_bytes-bytes.result.now c.loop-end.end 0) c.in_ok-number.field-0 c.in_ok-number.ensures.found),
+      number_fits (c.loop-end.end - c.args.at) c.loop-end.number c.in-Some.digit (omega (arith, c.requires.few)) d.fits
+          (digit_fits (get_or c.as_bytes-bytes.result.now c.loop-end.end 0) c.in-Some.digit c.in-Some.ensures.found),
     )
 
 pub loop-end-preserved : goal.loop-end-preserved
@@ -38,7 +38,7 @@ loop-end-preserved c =
     let d = c.loop-end.invariant.digits in
     let within = d.boundary.0 in record {
       few = omega arith;
-      digits = digits_more c.args.text.now c.args.at c.loop-end.end c.loop-end.number c.in_ok-number.field-0 c.utf8.text c.requires.at d (omega (arith, c.as_bytes-bytes.ensures.len)) (subst (λ t. IsDigit (get_or t c.loop-end.end 0) c.in_ok-number.field-0) c.as_bytes-bytes.ensures.value c.in_ok-number.ensures.found);
+      digits = digits_more c.args.text.now c.args.at c.loop-end.end c.loop-end.number c.in-Some.digit c.utf8.text c.requires.at d (omega (arith, c.as_bytes-bytes.ensures.len)) (subst (λ t. IsDigit (get_or t c.loop-end.end 0) c.in-Some.digit) c.as_bytes-bytes.ensures.value c.in-Some.ensures.found);
     }
 
 pub returns-clause-found : goal.returns-clause-found

@@ -40,3 +40,9 @@ pub within-requires-clause-shallow : goal.within-requires-clause-shallow
 within-requires-clause-shallow c =
     let deep = c.in_ok-outline.ensures.1 (tree_of c.in_ok-tree.tree) c.in_ok-tree.ensures in
     omega (arith, deep, c.if-outline-limits.false)
+
+pub within-requires-clause-depth : goal.within-requires-clause-depth
+within-requires-clause-depth c = c.requires.deep
+
+pub within-requires-clause-style : goal.within-requires-clause-style
+within-requires-clause-style c = c.requires.long

@@ -7,7 +7,7 @@ use denote.Param.Weighed.{at_most}
 use Rattle.yaml_grammar.specs.Texts.{spaces}
 use Rattle.yaml_grammar.specs.Trees as grammar
 use Rattle.yaml_grammar.specs.Trees.{depth, elements_depth, members_depth}
-use Rattle.yaml_grammar.specs.Style.{key_lines, elements_at, element_at, members_at, value_at}
+use Rattle.yaml_grammar.specs.Style.{key_lines, elements_at, lines_after_dash, members_at, value_at}
 use Rattle.yaml_data.specs.Seen.{tree_of, elements_of, members_of}
 use Rattle.yaml_data.proofs.ListLemmas.{drop_item}
 use Rattle.yaml_data.proofs.SeenLemmas.{tree_of-Text, tree_of-Seq, tree_of-Map}
@@ -48,6 +48,16 @@ write_elements-returns g t c =
     let first = elements_led-first items c.args.indent (eqb-false _ _ (sym c.if-is_empty.ensures)) in
     let empty = ap (λ ts. elements_led l.lead (elements_of ts) c.args.indent) none in
     none_taken g.S.Sink.Takes g.met.S.Sink.takes_none empty first (l.invariant.1 l.sink)
+
+pub write_elements-write_element-requires : goal.write_elements-write_element-requires
+write_elements-write_element-requires g t c κs within =
+    let l = c.loop-item in
+    let x = c.item-item.result in
+    let here = drop_item c.args.items.now l.item-index x (omega arith) c.item-item.is in
+    let deep = ap (λ ts. elements_depth (elements_of ts)) here in
+    let room : c.args.indent + 2 * depth (tree_of x) < 18446744073709551616 = omega (arith, deep, l.invariant.0) in
+    let falling = c.decreases in
+    (grind (arith, at_most, falling), (within.0, (within.1, room)))
 
 -- ---- mappings
 
@@ -95,13 +105,21 @@ write_members-returns g t c =
 
 -- ---- an element, a value
 
+pub write_element-returns-in-Text : goal.write_element-returns-in-Text
+write_element-returns-in-Text g t c =
+    let text = ap (λ bytes. lines_after_dash (grammar.text (chars bytes)) c.args.indent) c.deref.ensures in
+    let seen = ap (λ tree. lines_after_dash tree c.args.indent) (ap tree_of c.in-Text.is ∙ tree_of-Text c.in-Text.text) in
+    on_ok_weaker c.write_scalar.result
+    (subst (λ cs. g.S.Sink.Takes c.args.sink.now cs c.write_scalar.new.sink) (text ∙ sym seen))
+    c.write_scalar.ensures
+
 pub write_element-returns-in-Map : goal.write_element-returns-in-Map
 write_element-returns-in-Map g t c =
     let seen = ap tree_of c.in-Map.is ∙ tree_of-Map c.in-Map.pairs in
     on_ok_weaker c.write_members.result
     (subst (λ cs. g.S.Sink.Takes c.args.sink.now cs c.write_members.new.sink)
     (ap (λ ms. members_at (members_of ms) (c.args.indent + 2)) c.deref-in-Map.ensures.value
-    ∙ sym (ap (λ tree. element_at tree c.args.indent) seen)))
+    ∙ sym (ap (λ tree. lines_after_dash tree c.args.indent) seen)))
     c.write_members.ensures
 
 pub write_element-returns-in-Seq : goal.write_element-returns-in-Seq
@@ -110,7 +128,7 @@ write_element-returns-in-Seq g t c =
     on_ok_weaker c.write_elements.result
     (subst (λ cs. g.S.Sink.Takes c.args.sink.now cs c.write_elements.new.sink)
     (ap (λ items. elements_at (elements_of items) (c.args.indent + 2)) c.deref-in-Seq.ensures.value
-    ∙ sym (ap (λ tree. element_at tree c.args.indent) seen)))
+    ∙ sym (ap (λ tree. lines_after_dash tree c.args.indent) seen)))
     c.write_elements.ensures
 
 pub write_value_lines-returns-in-Text : goal.write_value_lines-returns-in-Text

@@ -1,4 +1,4 @@
-use Rattle.std.proofs.Common.{arith, refl, sym, ◌∙◌, ap, subst, length, ◌≤◌}
+use Rattle.std.proofs.Common.{arith, refl, sym, ◌∙◌, ap, subst, ◌≤◌}
 use Rattle.std.specs.Prelude.{ℕ, [], ◌∷◌, ◌++◌, Option, IfSome, insert}
 use Rattle.std.proofs.lemmas.Result.{err_from_is_err_and}
 use Rattle.yaml_grammar.specs.FlowScalars.{outer}

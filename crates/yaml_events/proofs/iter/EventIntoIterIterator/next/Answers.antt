@@ -3,9 +3,9 @@ use Rattle.std.specs.Vec.Iter.{into_iter_items}
 use Rattle.yaml_events.proofs.PartLemmas.{borrowed-lacks}
 use Rattle.yaml_events.proofs.iter.EventIntoIterIterator.next.Goals as goal
 
-pub returns-in_err-span-in-Borrowed-clause-steps : goal.returns-in_err-span-in-Borrowed-clause-steps
-returns-in_err-span-in-Borrowed-clause-steps c =
+pub returns-in_default-next-clause-steps : goal.returns-in_default-next-clause-steps
+returns-in_default-next-clause-steps c =
     let parts = c.self.inside in
     let left = c.next.new.self in
     absurd (borrowed-lacks c.in-Borrowed.style left parts.kinds parts.borrowed (into_iter_items parts.owned) c.self.invariant
-    (c.in_ok-next.ensures ∙ ap (λ k. k ∷ left) c.in-Borrowed.is) (ap length c.in_err-span-in-Borrowed.ensures.0))
+    (c.in-Some.ensures ∙ ap (λ k. k ∷ left) c.in-Borrowed.is) (ap length c.in_default-next.ensures.0))

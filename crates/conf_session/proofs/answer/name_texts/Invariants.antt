@@ -4,7 +4,7 @@ use Rattle.conf_record.specs.States.{names_of}
 use Rattle.yaml_data.specs.Seen.{elements_of}
 use Rattle.yaml_data.proofs.SeenLemmas.{join_elements}
 use Rattle.conf_session.specs.Answers.{text_elements}
-use Rattle.conf_session.proofs.answer.names_answer.Given as goal
+use Rattle.conf_session.proofs.answer.name_texts.Given as goal
 
 abbrev pub invariant-loop-name : goal.invariant-loop-name
 invariant-loop-name g l =
