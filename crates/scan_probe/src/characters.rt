@@ -3,7 +3,7 @@ use crate::numbers::number_of;
 use probe_words::{no_order, no_place, shown};
 use std::alloc::{AllocError, Global};
 use yaml_chars::{
-    CharFault, checked, flow_indicator, indicator, nb, nb_json, ns, printable, white,
+    checked, flow_indicator, indicator, nb, nb_json, ns, printable, white,
 };
 use yaml_scan::push_line_feeds;
 
@@ -76,13 +76,10 @@ pub(crate) fn line_feeds_after(
     shown(alloc, &text)
 }
 
-/// The bytes as a text, or the fault and the length of the longest prefix that is one.
+/// The bytes as a text, or the fault in words, with the length of the longest prefix that is one.
 pub(crate) fn text_in(alloc: Global, bytes: &[u8]) -> Result<String, AllocError> {
     match checked(bytes) {
         Ok(text) => format!(in alloc; "{text:?}"),
-        Err(fault) => {
-            let CharFault::NotUtf8 { at } = fault;
-            format!(in alloc; "{fault} {at}")
-        }
+        Err(fault) => format!(in alloc; "{fault}"),
     }
 }
