@@ -2,9 +2,7 @@
 use crate::numbers::number_of;
 use probe_words::{no_order, no_place, shown};
 use std::alloc::{AllocError, Global};
-use yaml_chars::{
-    checked, flow_indicator, indicator, nb, nb_json, ns, printable, white,
-};
+use yaml_chars::{checked, flow_indicator, indicator, nb, nb_json, ns, printable, white};
 use yaml_scan::push_line_feeds;
 
 /// A class of characters.
