@@ -11,13 +11,6 @@ use std::rt::Files;
 use yaml_docs::next_close;
 use yaml_tree::{Limits, read_one};
 
-/// The limits of a piece of a store's file.
-const LIMITS: Limits = Limits {
-    bytes: 67_108_864,
-    depth: 66,
-    style: 67_108_864,
-};
-
 /// Opens the store of a folder, and imports a configuration and sets its value so many times. Returns the store's
 /// count.
 pub(crate) fn fill<R: Files<File = File>>(
@@ -82,7 +75,7 @@ fn pieces(alloc: Global, bytes: &[u8], reads: bool) -> Result<u64, StoresFault> 
     let mut at = 0;
     'pieces: while let Some(end) = next_close(bytes, at) {
         if reads {
-            let _ = read_one(alloc, &bytes[at..end], &LIMITS)?;
+            let _ = read_one(alloc, &bytes[at..end], &Limits::KEPT)?;
         }
         count = count.saturating_add(1);
         at = end;

@@ -23,7 +23,7 @@ use yaml_tree::{Limits, ReadFault, Text, Tree, read_one};
 /// The limits of a command document: its bytes, its depth, and its bytes in the one style.
 const COMMAND_LIMITS: Limits = Limits {
     bytes: PIECE_LIMIT,
-    depth: 66,
+    depth: Limits::KEPT.depth,
     style: 16_777_216,
 };
 

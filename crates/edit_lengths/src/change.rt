@@ -4,6 +4,7 @@ ghost use Rattle.std.specs.Str.{chars};
 ghost use Rattle.yaml_grammar.specs.Texts.{byte_len};
 ghost use Rattle.yaml_grammar.specs.Trees.{depth};
 ghost use Rattle.yaml_grammar.specs.Style.{style_text};
+ghost use Rattle.yaml_data.specs.OwnLimits.{own_limits};
 ghost use Rattle.yaml_data.specs.Seen.{tree_of};
 ghost use Rattle.yaml_writer.specs.Sizes.{length_at};
 ghost use Rattle.edit_lengths.specs.Changes.{growth, reversed_change, shifted_change, shifted_size, slot_in, first_row, child_size, element_row, member_row};
@@ -93,8 +94,8 @@ impl Slot {
 
     /// The size of a value that is there.
     pub(crate) fn size_of(self, tree: &Tree) -> Size
-        requires deep { depth (tree_of tree.now) ≤ 66 }
-        requires long { byte_len (style_text (tree_of tree.now)) ≤ 67108864 }
+        requires deep { depth (tree_of tree.now) ≤ own_limits.depth }
+        requires long { byte_len (style_text (tree_of tree.now)) ≤ own_limits.style }
         ensures size { result ≡ child_size self (tree_of tree.now) }
         ensures small { (result.bytes < 2 ^ 32) × (result.lines < 2 ^ 32) }
     {
@@ -107,8 +108,8 @@ impl Slot {
 
 /// The size of an element that isn't the first, with the spaces before its `- `.
 pub(crate) fn element_row(tree: &Tree) -> Size
-    requires deep { depth (tree_of tree.now) ≤ 66 }
-    requires long { byte_len (style_text (tree_of tree.now)) ≤ 67108864 }
+    requires deep { depth (tree_of tree.now) ≤ own_limits.depth }
+    requires long { byte_len (style_text (tree_of tree.now)) ≤ own_limits.style }
     ensures size { result ≡ element_row (tree_of tree.now) }
     ensures small { (result.bytes < 2 ^ 80) × (result.lines < 2 ^ 33) }
 {
@@ -121,8 +122,8 @@ pub(crate) fn element_row(tree: &Tree) -> Size
 
 /// The size of a member that isn't the first, with the spaces before its key.
 pub(crate) fn member_row(key: &str, tree: &Tree) -> Size
-    requires deep { depth (tree_of tree.now) ≤ 66 }
-    requires long { byte_len (style_text (tree_of tree.now)) ≤ 67108864 }
+    requires deep { depth (tree_of tree.now) ≤ own_limits.depth }
+    requires long { byte_len (style_text (tree_of tree.now)) ≤ own_limits.style }
     ensures size { result ≡ member_row (chars key.now) (tree_of tree.now) }
     ensures small { (result.bytes < 2 ^ 80) × (result.lines < 2 ^ 33) }
 {

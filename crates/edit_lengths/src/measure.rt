@@ -5,6 +5,7 @@ ghost use Rattle.yaml_grammar.specs.Texts.{byte_len};
 ghost use Rattle.yaml_grammar.specs.Trees.{Tree as Meant, depth};
 ghost use Rattle.yaml_grammar.specs.Style.{style_text};
 ghost use Rattle.yaml_tree.specs.Kept.{IsKept};
+ghost use Rattle.yaml_data.specs.OwnLimits.{own_limits};
 ghost use Rattle.yaml_data.specs.Seen.{tree_of};
 ghost use Rattle.edit_lengths.specs.Changes.{Changes, ChangesSmall, Located};
 ghost use Rattle.tree_path.specs.Paths.{at, set, delete, child, put, cut, key_in, last_key};
@@ -175,10 +176,10 @@ fn put_change(
     value: &Tree,
 ) -> Result<Change, Miss>
     requires place { place ≡ key_in (tree_of parent.now.node.now) (chars token.now) }
-    requires deep { depth (tree_of parent.now.node.now) ≤ 66 }
-    requires long { byte_len (style_text (tree_of parent.now.node.now)) ≤ 67108864 }
-    requires value_deep { depth (tree_of value.now) ≤ 66 }
-    requires value_long { byte_len (style_text (tree_of value.now)) ≤ 67108864 }
+    requires deep { depth (tree_of parent.now.node.now) ≤ own_limits.depth }
+    requires long { byte_len (style_text (tree_of parent.now.node.now)) ≤ own_limits.style }
+    requires value_deep { depth (tree_of value.now) ≤ own_limits.depth }
+    requires value_long { byte_len (style_text (tree_of value.now)) ≤ own_limits.style }
     ensures ok { IfOk result (λ change. (new : Meant)
         × (put (tree_of parent.now.node.now) (chars token.now) (tree_of value.now) ≡ Ok new)
         × ChangesSmall parent.now.slot change (tree_of parent.now.node.now) new) }
@@ -211,8 +212,8 @@ fn put_change(
 /// What a value taken out of a node changes in its length, where the place of its key is known.
 fn cut_change(parent: &Parent<'_>, token: &str, place: Option<usize>) -> Result<Change, Miss>
     requires place { place ≡ key_in (tree_of parent.now.node.now) (chars token.now) }
-    requires deep { depth (tree_of parent.now.node.now) ≤ 66 }
-    requires long { byte_len (style_text (tree_of parent.now.node.now)) ≤ 67108864 }
+    requires deep { depth (tree_of parent.now.node.now) ≤ own_limits.depth }
+    requires long { byte_len (style_text (tree_of parent.now.node.now)) ≤ own_limits.style }
     ensures ok { IfOk result (λ change. (new : Meant)
         × (cut (tree_of parent.now.node.now) (chars token.now) ≡ Ok new)
         × ChangesSmall parent.now.slot change (tree_of parent.now.node.now) new) }

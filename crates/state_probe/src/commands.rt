@@ -5,13 +5,6 @@ use conf_record::{Command, State, StoreFault, step};
 use std::alloc::{AllocError, Global};
 use yaml_tree::{Config, Limits, read_one};
 
-/// The limits of a tree: more than a state's configuration may have.
-const LIMITS: Limits = Limits {
-    bytes: 67_108_864,
-    depth: 66,
-    style: 67_108_864,
-};
-
 /// Whether the journal has room for a command's record.
 #[derive(Clone, Copy, PartialEq, Eq)]
 pub(crate) enum Room {
@@ -22,7 +15,7 @@ pub(crate) enum Room {
 /// The configuration that a text gives.
 fn value_of(alloc: Global, text: &str) -> Result<Config, StoreFault> {
     let text = lengthened(alloc, text)?;
-    read_one(alloc, text.as_bytes(), &LIMITS).map_err(StoreFault::Read)
+    read_one(alloc, text.as_bytes(), &Limits::KEPT).map_err(StoreFault::Read)
 }
 
 /// The command that words say. Words that say none are answered as a refused text.

@@ -4,13 +4,6 @@ use probe_words::meant;
 use std::alloc::Global;
 use yaml_tree::{Limits, read_one};
 
-/// The limits of a value: more than a store's configuration may have.
-const LIMITS: Limits = Limits {
-    bytes: 67_108_864,
-    depth: 66,
-    style: 67_108_864,
-};
-
 /// A command that sets the tree of a text at a path.
 pub(crate) fn set(
     alloc: Global,
@@ -21,7 +14,7 @@ pub(crate) fn set(
     let text = meant(alloc, value)?;
     let name = String::from_str(alloc, name)?;
     let path = String::from_str(alloc, path)?;
-    match read_one(alloc, text.as_bytes(), &LIMITS) {
+    match read_one(alloc, text.as_bytes(), &Limits::KEPT) {
         Ok(value) => Ok(Command::Set { name, path, value }),
         Err(fault) => Err(StoreFault::Read(fault)),
     }
