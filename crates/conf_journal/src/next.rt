@@ -1,9 +1,10 @@
 // The procedures that replace the live file by a new one.
-ghost use Rattle.std.specs.Prelude.{◌≡◌, ◌≢◌, ◌⊎◌, [], ◌∷◌, Option, IsSome, OnOk, Some, None, Err};
+ghost use Rattle.std.specs.Prelude.{◌≡◌, ◌⊎◌, [], ◌∷◌, Option, IsSome, OnOk, Some, None};
 ghost use Rattle.conf_disk.specs.Folder.{File, CreateNext, Append, Sync, RenameNext, RemoveNext, SyncFolder, after, bytes_under};
 ghost use Rattle.conf_disk.specs.Image.{IsImage};
 ghost use Rattle.conf_disk.specs.Log.{folder_after};
-ghost use Rattle.conf_disk.specs.Moments.{CountsFailures, LeavesOnly};
+ghost use Rattle.conf_disk.specs.Moments.{LeavesOnly};
+ghost use Rattle.conf_journal.specs.Fails.{FailsAsCalls};
 ghost use Rattle.conf_journal.specs.Store.{IsSynced, LeavesOldStore, LeavesStoreOrStaged, ReadsAs, file_with_bytes};
 ghost use Rattle.conf_journal.specs.Held.{HoldsStaged, HoldsStore};
 
@@ -20,10 +21,7 @@ pub fn begin_next<D: Disk>(disk: &mut D) -> Result<(), DiskFault>
     ensures any_moment { D.honest →
         LeavesOnly D.moment D.left disk.old disk.new
         (IsImage (folder_after (RemoveNext ∷ CreateNext ∷ []) (D.folder disk.old))) }
-    ensures spent { D.honest → D.failure_count disk.old ≡ u64.MAX
-        → D.folder disk.new ≡ D.folder disk.old }
-    ensures failures { CountsFailures (D.failure_count disk.old) (D.failure_count disk.new) result }
-    ensures fault { result ≢ Err DiskFault.OutOfMemory }
+    ensures fails { FailsAsCalls D.honest D.folder D.failure_count disk.old result disk.new }
 
     ensures reads { D.honest →
         OnOk result
@@ -51,10 +49,7 @@ pub fn append_next<D: Disk>(disk: &mut D, bytes: &[u8]) -> Result<(), DiskFault>
     ensures any_moment { D.honest →
         LeavesOnly D.moment D.left disk.old disk.new
         (IsImage (after (Append Name.Next bytes.now) (D.folder disk.old))) }
-    ensures spent { D.honest → D.failure_count disk.old ≡ u64.MAX
-        → D.folder disk.new ≡ D.folder disk.old }
-    ensures failures { CountsFailures (D.failure_count disk.old) (D.failure_count disk.new) result }
-    ensures fault { result ≢ Err DiskFault.OutOfMemory }
+    ensures fails { FailsAsCalls D.honest D.folder D.failure_count disk.old result disk.new }
 
     ensures reads { D.honest →
         OnOk result
@@ -86,10 +81,7 @@ pub fn stage_next<D: Disk>(disk: &mut D, bytes: &[u8]) -> Result<(), DiskFault>
         (IsImage
         (folder_after (RemoveNext ∷ CreateNext ∷ Append Name.Next bytes.now ∷ [])
         (D.folder disk.old))) }
-    ensures spent { D.honest → D.failure_count disk.old ≡ u64.MAX
-        → D.folder disk.new ≡ D.folder disk.old }
-    ensures failures { CountsFailures (D.failure_count disk.old) (D.failure_count disk.new) result }
-    ensures fault { result ≢ Err DiskFault.OutOfMemory }
+    ensures fails { FailsAsCalls D.honest D.folder D.failure_count disk.old result disk.new }
 
     ensures reads { D.honest →
         OnOk result
@@ -121,10 +113,7 @@ pub fn swap_next<D: Disk>(disk: &mut D) -> Result<(), DiskFault>
     ensures any_moment { D.honest →
         LeavesOnly D.moment D.left disk.old disk.new
         (IsImage (after RenameNext (D.folder disk.old))) }
-    ensures spent { D.honest → D.failure_count disk.old ≡ u64.MAX
-        → D.folder disk.new ≡ D.folder disk.old }
-    ensures failures { CountsFailures (D.failure_count disk.old) (D.failure_count disk.new) result }
-    ensures fault { result ≢ Err DiskFault.OutOfMemory }
+    ensures fails { FailsAsCalls D.honest D.folder D.failure_count disk.old result disk.new }
 
     ensures reads { D.honest →
         OnOk result (ReadsAs (D.folder disk.new) (bytes_under (D.folder disk.old) Name.Next) None) }
@@ -153,10 +142,7 @@ pub fn finish_next<D: Disk>(disk: &mut D) -> Result<(), DiskFault>
         (λ image. IsImage (D.folder disk.old) image
         ⊎ IsImage
         (folder_after (Sync Name.Next ∷ RenameNext ∷ []) (D.folder disk.old)) image) }
-    ensures spent { D.honest → D.failure_count disk.old ≡ u64.MAX
-        → D.folder disk.new ≡ D.folder disk.old }
-    ensures failures { CountsFailures (D.failure_count disk.old) (D.failure_count disk.new) result }
-    ensures fault { result ≢ Err DiskFault.OutOfMemory }
+    ensures fails { FailsAsCalls D.honest D.folder D.failure_count disk.old result disk.new }
 
     ensures reads { D.honest →
         OnOk result (ReadsAs (D.folder disk.new) (bytes_under (D.folder disk.old) Name.Next) None) }

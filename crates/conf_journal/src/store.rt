@@ -1,10 +1,11 @@
 // The procedures that append to the live file.
-ghost use Rattle.std.specs.Prelude.{◌≡◌, ◌≢◌, [], ◌∷◌, Option, IsSome, OnOk, Err, option_map};
+ghost use Rattle.std.specs.Prelude.{◌≡◌, [], ◌∷◌, Option, IsSome, OnOk, Err, option_map};
 ghost use Rattle.conf_disk.specs.Folder.{File, Append, Sync, after, with_pending, synced_whole};
 ghost use Rattle.conf_disk.specs.Image.{IsImage, image_now};
 ghost use Rattle.conf_disk.specs.Log.{folder_after};
-ghost use Rattle.conf_disk.specs.Moments.{CountsFailures, LeavesOnly};
+ghost use Rattle.conf_disk.specs.Moments.{LeavesOnly};
 ghost use Rattle.conf_journal.specs.Appends.{LeavesAppended};
+ghost use Rattle.conf_journal.specs.Fails.{FailsAsCalls};
 ghost use Rattle.conf_journal.specs.Store.{ReadsAppended};
 ghost use Rattle.conf_journal.specs.Held.{HoldsStore};
 
@@ -21,10 +22,7 @@ pub fn append_store<D: Disk>(disk: &mut D, bytes: &[u8]) -> Result<(), DiskFault
     // What a crash at any moment leaves, whatever this returns.
     ensures leaves { D.honest
         → LeavesAppended D.folder D.moment D.left bytes.now disk.old disk.new }
-    ensures spent { D.honest → D.failure_count disk.old ≡ u64.MAX
-        → D.folder disk.new ≡ D.folder disk.old }
-    ensures failures { CountsFailures (D.failure_count disk.old) (D.failure_count disk.new) result }
-    ensures fault { result ≢ Err DiskFault.OutOfMemory }
+    ensures fails { FailsAsCalls D.honest D.folder D.failure_count disk.old result disk.new }
 
     ensures reads { D.honest →
         OnOk result (ReadsAppended bytes.now (D.folder disk.old) (D.folder disk.new)) }
@@ -43,10 +41,7 @@ pub fn sync_store<D: Disk>(disk: &mut D) -> Result<(), DiskFault>
         ≡ after (Sync Name.Store) (D.folder disk.old)) }
     ensures any_moment { D.honest → LeavesOnly D.moment D.left disk.old disk.new
         (IsImage (D.folder disk.old)) }
-    ensures spent { D.honest → D.failure_count disk.old ≡ u64.MAX
-        → D.folder disk.new ≡ D.folder disk.old }
-    ensures failures { CountsFailures (D.failure_count disk.old) (D.failure_count disk.new) result }
-    ensures fault { result ≢ Err DiskFault.OutOfMemory }
+    ensures fails { FailsAsCalls D.honest D.folder D.failure_count disk.old result disk.new }
 
     ensures reads { D.honest → image_now (D.folder disk.new) ≡ image_now (D.folder disk.old) }
     ensures holds { D.honest → (file : Option File) → HoldsStore (D.folder disk.old) file →
@@ -68,10 +63,7 @@ pub fn append_closed<D: Disk>(disk: &mut D, bytes: &[u8]) -> Result<(), DiskFaul
     // What a crash at any moment leaves, whatever this returns.
     ensures leaves { D.honest
         → LeavesAppended D.folder D.moment D.left bytes.now disk.old disk.new }
-    ensures spent { D.honest → D.failure_count disk.old ≡ u64.MAX
-        → D.folder disk.new ≡ D.folder disk.old }
-    ensures failures { CountsFailures (D.failure_count disk.old) (D.failure_count disk.new) result }
-    ensures fault { result ≢ Err DiskFault.OutOfMemory }
+    ensures fails { FailsAsCalls D.honest D.folder D.failure_count disk.old result disk.new }
 
     ensures reads { D.honest →
         OnOk result (ReadsAppended bytes.now (D.folder disk.old) (D.folder disk.new)) }

@@ -164,7 +164,7 @@ returns-in-Ok-append_closed-clause-cause g c e = absurd (cc e)
 pub returns-in-Ok-append_closed-clause-risen : goal.returns-in-Ok-append_closed-clause-risen
 returns-in-Ok-append_closed-clause-risen g c =
     let count = g.D.Disk.failure_count in
-    subst (λ (s : StoreView g.row.D.Denot). count s.disk ≤ count c.append_closed.new.disk) c.self.view_is c.append_closed.ensures.failures.never_falls
+    subst (λ (s : StoreView g.row.D.Denot). count s.disk ≤ count c.append_closed.new.disk) c.self.view_is c.append_closed.ensures.fails.failures.never_falls
 
 pub returns-clause-reopen : goal.returns-clause-reopen
 returns-clause-reopen g c =
@@ -180,7 +180,7 @@ returns-clause-device g c e = refl
 pub returns-clause-risen : goal.returns-clause-risen
 returns-clause-risen g c =
     let count = g.D.Disk.failure_count in
-    subst (λ (s : StoreView g.row.D.Denot). count s.disk ≤ count c.append_closed.new.disk) c.self.view_is c.append_closed.ensures.failures.never_falls
+    subst (λ (s : StoreView g.row.D.Denot). count s.disk ≤ count c.append_closed.new.disk) c.self.view_is c.append_closed.ensures.fails.failures.never_falls
 
 pub returns-in-Err-clause-risen : goal.returns-in-Err-clause-risen
 returns-in-Err-clause-risen g c =
