@@ -3,6 +3,8 @@ use Rattle.std.specs.Prelude.{◌≡◌, ◌≢◌, ◌⊎◌, ℕ, ◌≤◌, �
 use Rattle.conf_disk.specs.Folder.{Folder, Step, Performs}
 use Rattle.conf_disk.specs.Image.{Image, IsImage}
 use Rattle.conf_disk.specs.declared.disk.DiskFault.{DiskFault}
+use Rattle.conf_disk.specs.declared.disk.Content.{Content}
+use Rattle.conf_disk.specs.declared.disk.Name.{Name}
 use Rattle.conf_disk.specs.declared.disk.DiskFault.TheVariants.{Device, OutOfMemory}
 
 -- the greatest number of failures that is counted
@@ -29,8 +31,8 @@ pub record CountsFailures {T : Type 0} (before now : ℕ) (result : Result T Dis
   pub spent : before ≡ greatest → IsErrOf result Device
 
 -- How a call that changes something goes, whatever it returns: what it makes of the folder, which is nothing once the
--- failures are at
--- their greatest number; which moments lie within it; and when it fails, which is never for lack of memory.
+-- failures are at their greatest number; which moments lie within it; and when it fails, which is never for lack of
+-- memory.
 pub record IsChange {D : Type 0} (honest : Type 0) (folder : D → Folder) (moment : D → ℕ) (left : D → ℕ → Image → Type 0) (failure_count : D → ℕ)
     (step : Step) (old : D) (result : Result (Unit {0}) DiskFault) (new : D) : Type 0 where
   pub change : honest → Performs step (folder old) (folder new) result
@@ -38,6 +40,15 @@ pub record IsChange {D : Type 0} (honest : Type 0) (folder : D → Folder) (mome
   pub time : honest → TimeGoesOn folder moment left old new
   pub failures : CountsFailures (failure_count old) (failure_count new) result
   pub fault : result ≢ Err OutOfMemory
+
+-- What a disk may promise of a call that changes something: of the disk before it, the step, what it returned, and the
+-- disk after it.
+abbrev pub SaysOfChange : Type 0 → Type 1
+SaysOfChange D = D → Step → Result (Unit {0}) DiskFault → D → Type 0
+
+-- what a disk may promise of a read of a name with a limit
+abbrev pub SaysOfRead : Type 0 → Type 1
+SaysOfRead D = D → Name → ℕ → Result Content DiskFault → D → Type 0
 
 -- A crash at any moment since `old` leaves an image that has P.
 pub record LeavesOnly {D : Type 0} (moment : D → ℕ) (left : D → ℕ → Image → Type 0) (old new : D) (P : Image → Type 0) : Type 0 where

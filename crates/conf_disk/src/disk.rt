@@ -2,7 +2,7 @@
 ghost use Rattle.std.specs.Prelude.{◌≡◌, ◌≢◌, ◌≤◌, ℕ, None, IsSome, IfOk, Result, Err};
 ghost use Rattle.conf_disk.specs.Folder.{Folder, Step, CreateNext, Append, Sync, RenameNext, RemoveNext, SyncFolder, under, Performs, Reads};
 ghost use Rattle.conf_disk.specs.Image.{Image, IsImage, IsWhole};
-ghost use Rattle.conf_disk.specs.Moments.{TimeGoesOn, CountsFailures, IsChange};
+ghost use Rattle.conf_disk.specs.Moments.{TimeGoesOn, CountsFailures, IsChange, SaysOfChange, SaysOfRead};
 ghost use Rattle.conf_disk.specs.declared.disk.DiskFault.{DiskFault};
 ghost use Rattle.conf_disk.specs.declared.disk.Content.{Content};
 ghost use Rattle.conf_disk.specs.declared.disk.Name.{Name};
@@ -68,10 +68,10 @@ pub trait Disk {
 
     /// What a disk promises of a changing call beside the clauses below: the disk before, the call, its result, the
     /// disk after.
-    ghost also_changes: { Self → Step → Result (Unit {0}) DiskFault → Self → Type 0 } = { λ _ _ _ _. Unit {0} };
+    ghost also_changes: { SaysOfChange Self } = { λ _ _ _ _. Unit {0} };
 
     /// The same of a read of a name with a limit.
-    ghost also_reads: { Self → Name → ℕ → Result Content DiskFault → Self → Type 0 } = { λ _ _ _ _ _. Unit {0} };
+    ghost also_reads: { SaysOfRead Self } = { λ _ _ _ _ _. Unit {0} };
 
     /// How often the device has failed, up to 18,446,744,073,709,551,615. At that number every other call fails and
     /// changes nothing.

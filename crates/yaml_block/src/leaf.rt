@@ -60,7 +60,8 @@ impl<'a> Reader<'a> {
         requires at { IsCharBoundary text.now leaf.at }
         requires pairs { IfSome leaf.pairs (λ indent. indent ≤ leaf.at) }
         requires no_bar { first bar (rest text.now leaf.at) ≡ false }
-        requires not_asked { IfSome leaf.pairs (λ indent. sign question (rest text.now leaf.at) ≡ false) }
+        requires not_asked { IfSome leaf.pairs
+            (λ indent. sign question (rest text.now leaf.at) ≡ false) }
         ensures onward { IfOk result (Onward text.now leaf.at (3 * (length text.now - leaf.at))) }
         ensures leads { IfOk result (Leads text.now (BeforeLeaf text.now leaf) self.old self.new) }
         ensures grown { Grown self.old.events self.new.events }
