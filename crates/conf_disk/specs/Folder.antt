@@ -120,15 +120,18 @@ after SyncFolder folder = record { files = folder.files; earlier = []; now = fol
 abbrev pub after_part : ℕ → Step → Folder → Folder
 after_part zero step folder = folder
 after_part (suc k) CreateNext folder = after CreateNext folder
-after_part (suc k) (Append name bytes) folder = with_file folder (under folder.now name) (with_pending (take (suc k) bytes))
+after_part (suc k) (Append name bytes) folder =
+    with_file folder (under folder.now name) (with_pending (take (suc k) bytes))
 after_part (suc k) (Sync name) folder = with_file folder (under folder.now name) (synced_first (suc k))
 after_part (suc k) RenameNext folder = after RenameNext folder
 after_part (suc k) RemoveNext folder = after RemoveNext folder
-after_part (suc k) SyncFolder folder = record { files = folder.files; earlier = drop (suc k) folder.earlier; now = folder.now }
+after_part (suc k) SyncFolder folder =
+    record { files = folder.files; earlier = drop (suc k) folder.earlier; now = folder.now }
 
 -- what a call that changes something makes of the folder
 abbrev pub Performs : {T : Type 0} → Step → Folder → Folder → Result T DiskFault → Type 0
-Performs step old new result = MatchResult result (λ _. new ≡ after step old) (λ _. (k : ℕ) × (new ≡ after_part k step old))
+Performs step old new result =
+    MatchResult result (λ _. new ≡ after step old) (λ _. (k : ℕ) × (new ≡ after_part k step old))
 
 -- the bytes of a file, where there is one
 abbrev pub bytes_at : List File → Option ℕ → Option (List ℕ)

@@ -45,9 +45,12 @@ synced_file bytes = record { synced = bytes; pending = [] }
 -- a folder of these files, all synced
 abbrev pub folder_with_files : Option (List ℕ) → Option (List ℕ) → Folder
 folder_with_files None None = record { files = []; earlier = []; now = record { store = None; next = None } }
-folder_with_files (Some s) None = record { files = synced_file s ∷ []; earlier = []; now = record { store = Some 0; next = None } }
-folder_with_files None (Some n) = record { files = synced_file n ∷ []; earlier = []; now = record { store = None; next = Some 0 } }
-folder_with_files (Some s) (Some n) = record { files = synced_file s ∷ synced_file n ∷ []; earlier = []; now = record { store = Some 0; next = Some 1 } }
+folder_with_files (Some s) None =
+    record { files = synced_file s ∷ []; earlier = []; now = record { store = Some 0; next = None } }
+folder_with_files None (Some n) =
+    record { files = synced_file n ∷ []; earlier = []; now = record { store = None; next = Some 0 } }
+folder_with_files (Some s) (Some n) =
+    record { files = synced_file s ∷ synced_file n ∷ []; earlier = []; now = record { store = Some 0; next = Some 1 } }
 
 -- the folder that a crash leaves: these files, one stage and nothing pending
 abbrev pub folder_of_image : Image → Folder
@@ -68,7 +71,10 @@ abbrev pub image_of_stage : List File → Option Stage → Cuts → Option Image
 image_of_stage files None cuts = None
 image_of_stage files (Some stage) cuts =
     if fits_at files stage.store cuts.store.0 cuts.store.1 && fits_at files stage.next cuts.next.0 cuts.next.1
-    then Some (record { store = torn_at files stage.store cuts.store.0 cuts.store.1; next = torn_at files stage.next cuts.next.0 cuts.next.1 })
+    then Some (record {
+      store = torn_at files stage.store cuts.store.0 cuts.store.1;
+      next = torn_at files stage.next cuts.next.0 cuts.next.1;
+    })
     else None
 
 -- the image of a stage, counted from 0, under these cuts, if the choice is one

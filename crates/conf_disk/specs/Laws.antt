@@ -6,7 +6,8 @@ use Rattle.conf_disk.specs.declared.cuts.Cuts.{Cuts}
 
 -- the stages and their cuts give every image, and nothing else
 abbrev pub ImagesAreCuts : Type 0
-ImagesAreCuts = (folder : Folder) (image : Image) → IsImage folder image ↔ ((stage : ℕ) × ((cuts : Cuts) × (image_at folder stage cuts ≡ Some image)))
+ImagesAreCuts = (folder : Folder) (image : Image)
+    → IsImage folder image ↔ ((stage : ℕ) × ((cuts : Cuts) × (image_at folder stage cuts ≡ Some image)))
 
 -- what a crash leaves reads so
 abbrev pub ImagesRead : Type 0
@@ -22,4 +23,5 @@ ReadingIsAnImage = (folder : Folder) → IsImage folder (image_now folder)
 
 -- a crash within a call, however far it has come, leaves nothing that a crash before or after the call wouldn't
 abbrev pub CallsLeaveNoOther : Type 0
-CallsLeaveNoOther = (k : ℕ) (step : Step) (folder : Folder) (image : Image) → IsImage (after_part k step folder) image → IsImage folder image ⊎ IsImage (after step folder) image
+CallsLeaveNoOther = (k : ℕ) (step : Step) (folder : Folder) (image : Image) → IsImage (after_part k step folder) image
+    → IsImage folder image ⊎ IsImage (after step folder) image

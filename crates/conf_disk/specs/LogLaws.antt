@@ -9,13 +9,16 @@ use Rattle.conf_disk.specs.Image.{Image, IsImage, IsMade, IsApartFrom, IsStage, 
 use Rattle.conf_disk.specs.Log.{folder_after, folder_within, folder_at, IsLeftSince}
 
 -- when all steps are done, the folder is the one after them
-pub folder_at-length : (steps : List Step) (part : ℕ) → folder_at steps (length steps) part ≡ folder_after steps empty_folder
+pub folder_at-length : (steps : List Step) (part : ℕ)
+    → folder_at steps (length steps) part ≡ folder_after steps empty_folder
 folder_at-length steps part =
-    ap (λ (step : Option Step). folder_within step part (folder_after (take (length steps) steps) empty_folder)) (slice_get_past steps (length steps) (omega arith))
+    ap (λ (step : Option Step). folder_within step part (folder_after (take (length steps) steps) empty_folder))
+    (slice_get_past steps (length steps) (omega arith))
     ∙ ap (λ (done : List Step). folder_after done empty_folder) (take_all (length steps) steps (omega arith))
 
 -- an image of the folder now is left at some moment since t
-pub left_now : (steps : List Step) (t : ℕ) (image : Image) → t ≤ length steps → IsImage (folder_after steps empty_folder) image → IsLeftSince steps t image
+pub left_now : (steps : List Step) (t : ℕ) (image : Image) → t ≤ length steps
+    → IsImage (folder_after steps empty_folder) image → IsLeftSince steps t image
 left_now steps t image le is = record {
   done = length steps;
   part = 0;
@@ -25,7 +28,8 @@ left_now steps t image le is = record {
 }
 
 -- since now, only images of the folder now are left
-pub left_only_now : (steps : List Step) (image : Image) → IsLeftSince steps (length steps) image → IsImage (folder_after steps empty_folder) image
+pub left_only_now : (steps : List Step) (image : Image) → IsLeftSince steps (length steps) image
+    → IsImage (folder_after steps empty_folder) image
 left_only_now steps image left =
     let all : left.done ≡ length steps = omega (arith, left.since, left.until) in
     let here = subst (λ (done : ℕ). IsImage (folder_at steps done left.part) image) all left.is in
@@ -64,26 +68,33 @@ IsStage-made n m next le stage is = record {
 IsStage-no_next : (n : ℕ) (next : Option ℕ) (stage : Stage) → IsStage n next stage → IsStage n None stage
 IsStage-no_next n next stage is = record { store = is.store; next = is.next; apart = tt }
 
-with_file-whole : (folder : Folder) (place : Option ℕ) (change : File → File) → IsWhole folder → IsWhole (with_file folder place change)
+with_file-whole : (folder : Folder) (place : Option ℕ) (change : File → File) → IsWhole folder
+    → IsWhole (with_file folder place change)
 with_file-whole folder None change whole = whole
 with_file-whole folder (Some id) change whole =
-    All-weaker (IsStage (length folder.files) folder.now.next) (IsStage (length (with_file folder (Some id) change).files) folder.now.next)
-    (IsStage-more (length folder.files) (length (with_file folder (Some id) change).files) folder.now.next (omega (arith, length-set {A = File}))) (stages folder) whole
+    All-weaker (IsStage (length folder.files) folder.now.next)
+    (IsStage (length (with_file folder (Some id) change).files) folder.now.next)
+    (IsStage-more (length folder.files) (length (with_file folder (Some id) change).files) folder.now.next
+    (omega (arith, length-set {A = File}))) (stages folder) whole
 
 -- with a stage that has no staged file
-with_stage-whole : (folder : Folder) (store : Option ℕ) → IsMade (length folder.files) store → IsWhole folder → IsWhole (with_stage folder (record { store = store; next = None }))
+with_stage-whole : (folder : Folder) (store : Option ℕ) → IsMade (length folder.files) store → IsWhole folder
+    → IsWhole (with_stage folder (record { store = store; next = None }))
 with_stage-whole folder store made whole =
     All-push (IsStage (length folder.files) None) (stages folder) (record { store = store; next = None })
-    (All-weaker (IsStage (length folder.files) folder.now.next) (IsStage (length folder.files) None) (IsStage-no_next (length folder.files) folder.now.next) (stages folder) whole)
+    (All-weaker (IsStage (length folder.files) folder.now.next) (IsStage (length folder.files) None)
+    (IsStage-no_next (length folder.files) folder.now.next) (stages folder) whole)
     (record { store = made; next = tt; apart = tt })
 
-after_rename-whole : (folder : Folder) (place : Option ℕ) → IsMade (length folder.files) place → IsWhole folder → IsWhole (after_rename folder place)
+after_rename-whole : (folder : Folder) (place : Option ℕ) → IsMade (length folder.files) place → IsWhole folder
+    → IsWhole (after_rename folder place)
 after_rename-whole folder None made whole = whole
 after_rename-whole folder (Some id) made whole = with_stage-whole folder (Some id) made whole
 
 after_remove-whole : (folder : Folder) (place : Option ℕ) → IsWhole folder → IsWhole (after_remove folder place)
 after_remove-whole folder None whole = whole
-after_remove-whole folder (Some id) whole = with_stage-whole folder folder.now.store (now_staged folder whole).store whole
+after_remove-whole folder (Some id) whole =
+    with_stage-whole folder folder.now.store (now_staged folder whole).store whole
 
 after_create-whole : (folder : Folder) → IsWhole folder → IsWhole (after_create folder)
 after_create-whole folder whole =
@@ -93,8 +104,13 @@ after_create-whole folder whole =
     let le : n ≤ m = omega (arith, longer) in
     let here = now_staged folder whole in
     All-push (IsStage m (Some n)) (stages folder) (after_create folder).now
-    (All-weaker (IsStage n folder.now.next) (IsStage m (Some n)) (IsStage-made n m folder.now.next le) (stages folder) whole)
-    (record { store = IsMade-more n m folder.now.store le here.store; next = omega (arith, longer); apart = made_apart n folder.now.store here.store })
+    (All-weaker (IsStage n folder.now.next) (IsStage m (Some n)) (IsStage-made n m folder.now.next le)
+    (stages folder) whole)
+    (record {
+      store = IsMade-more n m folder.now.store le here.store;
+      next = omega (arith, longer);
+      apart = made_apart n folder.now.store here.store;
+    })
 
 -- a step leaves a folder whole
 pub after-whole : (step : Step) (folder : Folder) → IsWhole folder → IsWhole (after step folder)
@@ -104,7 +120,8 @@ after-whole (Sync name) folder whole = with_file-whole folder (under folder.now 
 after-whole RenameNext folder whole = after_rename-whole folder folder.now.next (now_staged folder whole).next whole
 after-whole RemoveNext folder whole = after_remove-whole folder folder.now.next whole
 after-whole SyncFolder folder whole =
-    All-push (IsStage (length folder.files) folder.now.next) [] folder.now (All-nil (IsStage (length folder.files) folder.now.next)) (now_staged folder whole)
+    All-push (IsStage (length folder.files) folder.now.next) [] folder.now
+    (All-nil (IsStage (length folder.files) folder.now.next)) (now_staged folder whole)
 
 steps-whole : (steps : List Step) (folder : Folder) → IsWhole folder → IsWhole (folder_after steps folder)
 steps-whole [] folder whole = whole
@@ -113,4 +130,6 @@ steps-whole (step ∷ steps) folder whole = steps-whole steps (after step folder
 -- so do all steps
 pub folder_after-whole : (steps : List Step) → IsWhole (folder_after steps empty_folder)
 folder_after-whole steps =
-    steps-whole steps empty_folder (All-push (IsStage 0 None) [] empty_folder.now (All-nil (IsStage 0 None)) (record { store = tt; next = tt; apart = tt }))
+    steps-whole steps empty_folder
+    (All-push (IsStage 0 None) [] empty_folder.now (All-nil (IsStage 0 None))
+    (record { store = tt; next = tt; apart = tt }))

@@ -33,7 +33,8 @@ pub record CountsFailures {T : Type 0} (before now : ℕ) (result : Result T Dis
 -- How a call that changes something goes, whatever it returns: what it makes of the folder, which is nothing once the
 -- failures are at their greatest number; which moments lie within it; and when it fails, which is never for lack of
 -- memory.
-pub record IsChange {D : Type 0} (honest : Type 0) (folder : D → Folder) (moment : D → ℕ) (left : D → ℕ → Image → Type 0) (failure_count : D → ℕ)
+pub record IsChange {D : Type 0} (honest : Type 0) (folder : D → Folder) (moment : D → ℕ)
+    (left : D → ℕ → Image → Type 0) (failure_count : D → ℕ)
     (step : Step) (old : D) (result : Result (Unit {0}) DiskFault) (new : D) : Type 0 where
   pub change : honest → Performs step (folder old) (folder new) result
   pub spent : honest → failure_count old ≡ greatest → folder new ≡ folder old
@@ -51,7 +52,8 @@ abbrev pub SaysOfRead : Type 0 → Type 1
 SaysOfRead D = D → Name → ℕ → Result Content DiskFault → D → Type 0
 
 -- A crash at any moment since `old` leaves an image that has P.
-pub record LeavesOnly {D : Type 0} (moment : D → ℕ) (left : D → ℕ → Image → Type 0) (old new : D) (P : Image → Type 0) : Type 0 where
+pub record LeavesOnly {D : Type 0} (moment : D → ℕ) (left : D → ℕ → Image → Type 0) (old new : D)
+    (P : Image → Type 0) : Type 0 where
   pub later : moment old ≤ moment new
   pub each : (image : Image) → left new (moment old) image → P image
   -- for a run that began earlier

@@ -5,8 +5,8 @@ use Rattle.conf_disk.specs.Moments.{CountsFailures, greatest}
 use Rattle.conf_disk.specs.declared.disk.DiskFault.{DiskFault}
 use Rattle.conf_disk.specs.declared.disk.DiskFault.TheVariants.{OutOfMemory}
 
--- Failures of the device are counted, and no procedure runs out of memory. A disk that has failed the greatest number of
--- times changes nothing.
+-- Failures of the device are counted, and no procedure runs out of memory. A disk that has failed the greatest number
+-- of times changes nothing.
 pub record FailsAsCalls {D : Type 0} (honest : Type 0) (folder : D → Folder) (failure_count : D → ℕ)
     (old : D) (result : Result (Unit {0}) DiskFault) (new : D) : Type 0 where
   pub spent : honest → failure_count old ≡ greatest → folder new ≡ folder old

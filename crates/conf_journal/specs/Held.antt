@@ -28,21 +28,25 @@ IsLeftOf (Some file) (Some bytes) = IsTorn file bytes
 
 -- a stop leaves of the store what it leaves of the file that is held there
 abbrev pub HeldIsLeft : Type 0
-HeldIsLeft = (folder : Folder) (file : Option File) → HoldsStore folder file → (image : Image) → IsImage folder image → IsLeftOf file image.store
+HeldIsLeft = (folder : Folder) (file : Option File) → HoldsStore folder file → (image : Image) → IsImage folder image
+    → IsLeftOf file image.store
 
 -- and of one of which nothing is pending just its bytes
 abbrev pub SyncedIsLeft : Type 0
-SyncedIsLeft = (folder : Folder) (bytes : List ℕ) → HoldsStore folder (Some (synced_file bytes)) → (image : Image) → IsImage folder image → image.store ≡ Some bytes
+SyncedIsLeft = (folder : Folder) (bytes : List ℕ) → HoldsStore folder (Some (synced_file bytes)) → (image : Image)
+    → IsImage folder image → image.store ≡ Some bytes
 
 -- ---- every stage has the same file with nothing pending, or none has a file: `held` is its bytes
 
 -- a stop leaves just that
 abbrev pub OnlyHeldIsLeft : Type 0
-OnlyHeldIsLeft = (folder : Folder) (held store : Option (List ℕ)) → HoldsStore folder (option_map synced_file held) → IsStoreOf folder store → store ≡ held
+OnlyHeldIsLeft = (folder : Folder) (held store : Option (List ℕ)) → HoldsStore folder (option_map synced_file held)
+    → IsStoreOf folder store → store ≡ held
 
 -- and that is what reads
 abbrev pub HeldIsRead : Type 0
-HeldIsRead = (folder : Folder) (held : Option (List ℕ)) → HoldsStore folder (option_map synced_file held) → bytes_under folder Store ≡ held
+HeldIsRead = (folder : Folder) (held : Option (List ℕ)) → HoldsStore folder (option_map synced_file held)
+    → bytes_under folder Store ≡ held
 
 -- a read that finds no file says that there is none
 abbrev pub MissingIsNone : Type 0

@@ -21,12 +21,15 @@ abbrev pub LeavesOldStore : {D : Type 0} → (D → Folder) → (D → ℕ) → 
 LeavesOldStore folder moment left old new = LeavesOnly moment left old new (λ image. IsStoreOf (folder old) image.store)
 
 -- an old store, or this one
-abbrev pub LeavesStoreOr : {D : Type 0} → (D → Folder) → (D → ℕ) → (D → ℕ → Image → Type 0) → Option (List ℕ) → D → D → Type 0
-LeavesStoreOr folder moment left other old new = LeavesOnly moment left old new (λ image. IsStoreOf (folder old) image.store ⊎ (image.store ≡ other))
+abbrev pub LeavesStoreOr : {D : Type 0} → (D → Folder) → (D → ℕ) → (D → ℕ → Image → Type 0) → Option (List ℕ) → D → D
+    → Type 0
+LeavesStoreOr folder moment left other old new =
+    LeavesOnly moment left old new (λ image. IsStoreOf (folder old) image.store ⊎ (image.store ≡ other))
 
 -- an old store, or the staged file
 abbrev pub LeavesStoreOrStaged : {D : Type 0} → (D → Folder) → (D → ℕ) → (D → ℕ → Image → Type 0) → D → D → Type 0
-LeavesStoreOrStaged folder moment left old new = LeavesStoreOr folder moment left (bytes_under (folder old) Next) old new
+LeavesStoreOrStaged folder moment left old new =
+    LeavesStoreOr folder moment left (bytes_under (folder old) Next) old new
 
 -- the old bytes, a prefix of the new, and zeros, together no more than the old and the new
 pub record IsTail (old : Option (List ℕ)) (bytes : List ℕ) (store : Option (List ℕ)) : Type 0 where

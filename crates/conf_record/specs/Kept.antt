@@ -32,7 +32,8 @@ pub record IsKept (es : List (String Global × Tree)) (count bytes : ℕ) : Type
   pub counted : bytes ≡ entries_length (entries_of es)
 
 -- a configuration was put after the others, under a name that is good and new; it has so many bytes in the base text
-pub record Appended (old new : List (String Global × Tree)) (name : List ℕ) (t : grammar.Tree) (length : ℕ) : Type 0 where
+pub record Appended (old new : List (String Global × Tree)) (name : List ℕ) (t : grammar.Tree)
+    (length : ℕ) : Type 0 where
   pub named : good_name name ≡ true
   pub within : Good t config_limits
   pub absent : config_named (entries_of old) name ≡ None

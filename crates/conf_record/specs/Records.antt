@@ -9,7 +9,8 @@ abbrev pub command_members : Command → Members
 command_members (import_as name tree) = member (codes "import") (text name) (member (codes "tree") tree no_member)
 command_members (set_at name path value) =
     member (codes "set") (text name) (member (codes "path") (text path) (member (codes "value") value no_member))
-command_members (delete_at name path) = member (codes "delete") (text name) (member (codes "path") (text path) no_member)
+command_members (delete_at name path) =
+    member (codes "delete") (text name) (member (codes "path") (text path) no_member)
 
 abbrev pub record_tree : Command → ℕ → Tree
 record_tree command number = mapping (member (codes "at") (text (decimal number)) (command_members command))

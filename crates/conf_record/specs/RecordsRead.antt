@@ -49,7 +49,8 @@ has_good_path (delete_at name path) = is_ok (path_of path)
 -- the command under the number, where its name and its path are good
 abbrev pub command_with_number : Command → List ℕ → Option (Command × ℕ)
 command_with_number command digits =
-    if good_name (name_of command) && has_good_path command then option_map (λ number. (command, number)) (number_from_digits digits) else None
+    if good_name (name_of command) && has_good_path command
+    then option_map (λ number. (command, number)) (number_from_digits digits) else None
 
 abbrev pub import_of : List Tree → Option (Command × ℕ)
 import_of (text digits ∷ text name ∷ tree ∷ []) = command_with_number (import_as name tree) digits
@@ -90,7 +91,9 @@ entries (member name t ms) = (name, t) ∷ entries ms
 
 abbrev pub contents_of : List Tree → Option Contents
 contents_of (text mark ∷ text digits ∷ mapping configs ∷ []) =
-    if same_text mark (codes "confstore-1") then option_map (λ number. record { configs = entries configs; count = number }) (number_from_digits digits) else None
+    if same_text mark (codes "confstore-1")
+    then option_map (λ number. record { configs = entries configs; count = number }) (number_from_digits digits)
+    else None
 contents_of ts = None
 
 -- the state that a base's tree holds, whatever its limits

@@ -44,7 +44,8 @@ with_checked_config configs name t = and_then (checked_tree t) (λ u. Ok (put_co
 -- the empty path takes the configuration out, any other edits it
 abbrev pub configs_after_delete : List Entry → List ℕ → Tree → List (List ℕ) → Result (List Entry) StoreFault
 configs_after_delete configs name t [] = Ok (cut_config configs name)
-configs_after_delete configs name t (token ∷ tokens) = and_then (by_path (delete t (token ∷ tokens))) (with_checked_config configs name)
+configs_after_delete configs name t (token ∷ tokens) =
+    and_then (by_path (delete t (token ∷ tokens))) (with_checked_config configs name)
 
 abbrev pub configs_after : List Entry → Command → Result (List Entry) StoreFault
 configs_after configs (import_as name tree) = with_checked_config configs name tree

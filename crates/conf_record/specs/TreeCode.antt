@@ -34,7 +34,8 @@ abbrev mutual
   stored_members no_member = (2 ∷ []) ∷ []
   stored_members (member key t ms) = stored_members ms ++ (stored t ++ (4 ∷ key) ∷ [])
 
-perform_all-append : (is js : List (List ℕ)) (stack : List Tree) → perform_all (is ++ js) stack ≡ perform_all js (perform_all is stack)
+perform_all-append : (is js : List (List ℕ)) (stack : List Tree)
+    → perform_all (is ++ js) stack ≡ perform_all js (perform_all is stack)
 perform_all-append [] js stack = refl
 perform_all-append (i ∷ is) js stack = perform_all-append is js (perform i stack)
 
@@ -44,7 +45,8 @@ mutual
   built (sequence ts) stack = built_elements ts stack
   built (mapping ms) stack = built_members ms stack
 
-  pub built_elements : (ts : Elements) (stack : List Tree) → perform_all (stored_elements ts) stack ≡ sequence ts ∷ stack
+  pub built_elements : (ts : Elements) (stack : List Tree)
+      → perform_all (stored_elements ts) stack ≡ sequence ts ∷ stack
   built_elements no_element stack = refl
   built_elements (element t ts) stack =
       perform_all-append (stored_elements ts) (stored t ++ (3 ∷ []) ∷ []) stack
@@ -65,7 +67,8 @@ top [] = text []
 top (t ∷ stack) = t
 
 abbrev pub tree_code : Coded Tree
-tree_code = code_by (List (List ℕ)) (coded_list (coded_list coded_ℕ)) stored (λ is. top (perform_all is [])) (λ t. ap top (built t []))
+tree_code = code_by (List (List ℕ)) (coded_list (coded_list coded_ℕ)) stored (λ is. top (perform_all is []))
+    (λ t. ap top (built t []))
 
 abbrev pub contents_code : Coded Contents
 contents_code =

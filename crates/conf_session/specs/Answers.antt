@@ -73,7 +73,8 @@ answer_or_refusal answer (Err fault) = refusal (word fault)
 
 -- the tree at a path, whose text may be that of no path
 abbrev pub value_at_path : Contents → List ℕ → List ℕ → Result Tree StoreFault
-value_at_path s name p = and_then (tree_named s name) (λ t. and_then (by_path (path_of p)) (λ tokens. by_path (at t tokens)))
+value_at_path s name p = and_then (tree_named s name)
+    (λ t. and_then (by_path (path_of p)) (λ tokens. by_path (at t tokens)))
 
 -- the state, and how many bytes `store.yaml` has
 pub record Stored : Type 0 where
@@ -91,7 +92,8 @@ abbrev pub answer : Stored → Request → Tree
 answer now (changing command) = change_answer (outcome now.size now.state command)
 answer now (unread name fault) = refusal (word (unread_fault name fault))
 answer now (getting name p) = answer_or_refusal (one (codes "value")) (value_at_path now.state name p)
-answer now (exporting name) = answer_or_refusal (λ t. one (codes "text") (text (style_text t))) (tree_named now.state name)
+answer now (exporting name) =
+    answer_or_refusal (λ t. one (codes "text") (text (style_text t))) (tree_named now.state name)
 answer now naming = one (codes "names") (sequence (text_elements (names_of now.state.configs)))
 answer now checkpointing = one (codes "ok") (text (decimal now.state.count))
 answer now bad = refusal (codes "BadCommand")
@@ -102,12 +104,14 @@ answer_limit = base_limit
 
 -- no answer on a state that keeps its limits is longer
 abbrev pub AnswersAreShort : Type 0
-AnswersAreShort = (now : Stored) (request : Request) → IsState now.state → length (framed_text_bytes (answer now request)) ≤ answer_limit
+AnswersAreShort = (now : Stored) (request : Request) → IsState now.state
+    → length (framed_text_bytes (answer now request)) ≤ answer_limit
 
 -- ---- what is stored after a request
 
 abbrev pub stored_after_change : Stored → Command → Result Contents StoreFault → Stored
-stored_after_change now command (Ok new) = record { state = new; size = now.size + length (next_record now.state command) }
+stored_after_change now command (Ok new) =
+    record { state = new; size = now.size + length (next_record now.state command) }
 stored_after_change now command (Err fault) = now
 
 abbrev pub stored_after : Stored → Request → Stored
@@ -144,7 +148,8 @@ stored_after_all now (request ∷ requests) = stored_after_all (stored_after now
 
 abbrev pub file_after_all : Option (List ℕ) → Stored → List Request → Option (List ℕ)
 file_after_all file now [] = file
-file_after_all file now (request ∷ requests) = file_after_all (file_after file now request) (stored_after now request) requests
+file_after_all file now (request ∷ requests) =
+    file_after_all (file_after file now request) (stored_after now request) requests
 
 abbrev pub accepted_by : Result Contents StoreFault → Command → List Command
 accepted_by (Ok new) command = command ∷ []
@@ -157,7 +162,8 @@ accepted_command now request = []
 
 abbrev pub accepted_commands : Stored → List Request → List Command
 accepted_commands now [] = []
-accepted_commands now (request ∷ requests) = accepted_command now request ++ accepted_commands (stored_after now request) requests
+accepted_commands now (request ∷ requests) =
+    accepted_command now request ++ accepted_commands (stored_after now request) requests
 
 abbrev pub is_refused : {A : Type 0} → Result A StoreFault → ℕ
 is_refused (Ok x) = 0

@@ -30,11 +30,14 @@ pub record Passed {D : Type 0} (honest : Type 0) (folder : D → Folder) (moment
   pub out : Appends held written (output (stored_of old) requests)
   pub sound : new.reopen ≡ false
   pub stored : stored_of new ≡ stored_after_all (stored_of old) requests
-  pub reads : honest → bytes_under (folder new.disk) Store ≡ file_after_all (bytes_under (folder old.disk) Store) (stored_of old) requests
-  pub any_moment : honest → LeavesOnly moment since old.disk new.disk (λ image. AfterPrefix old.state (accepted_commands (stored_of old) requests) image.store)
+  pub reads : honest → bytes_under (folder new.disk) Store
+      ≡ file_after_all (bytes_under (folder old.disk) Store) (stored_of old) requests
+  pub any_moment : honest → LeavesOnly moment since old.disk new.disk
+      (λ image. AfterPrefix old.state (accepted_commands (stored_of old) requests) image.store)
 
 -- a piece is performed and its answer is written
-pub record Answered {D : Type 0} (honest : Type 0) (folder : D → Folder) (moment : D → ℕ) (since : D → ℕ → Image → Type 0)
+pub record Answered {D : Type 0} (honest : Type 0) (folder : D → Folder) (moment : D → ℕ)
+    (since : D → ℕ → Image → Type 0)
     (held written : Option (List ℕ)) (old new : StoreView D) (piece : List ℕ) (before after : Counts) : Type 0 where
   pub request : Request
   pub asks : Asks piece request
@@ -48,12 +51,15 @@ pub record Answered {D : Type 0} (honest : Type 0) (folder : D → Folder) (mome
   pub short : length (framed_text_bytes (answer (stored_of old) request)) ≤ answer_limit
 
 -- what became of a piece whose answer is not written whole
-abbrev pub Fails : {D : Type 0} → Type 0 → (D → Folder) → (D → ℕ) → (D → ℕ → Image → Type 0) → Option (List ℕ) → Option (List ℕ) → StoreView D → StoreView D → List ℕ → ℕ → SessionFault → Type 0
+abbrev pub Fails : {D : Type 0} → Type 0 → (D → Folder) → (D → ℕ) → (D → ℕ → Image → Type 0) → Option (List ℕ)
+    → Option (List ℕ) → StoreView D → StoreView D → List ℕ → ℕ → SessionFault → Type 0
 Fails honest folder moment since held written old new piece sent fault.OutOfMemory = (new ≡ old) × Keeps held written
 Fails honest folder moment since held written old new piece sent fault.Device =
-    (request : Request) × Asks piece request × (new.reopen ≡ true) × Performs honest folder moment since old new request × Keeps held written
+    (request : Request) × Asks piece request × (new.reopen ≡ true)
+    × Performs honest folder moment since old new request × Keeps held written
 Fails honest folder moment since held written old new piece sent (fault.Write total) =
-    (request : Request) × Asks piece request × (new.reopen ≡ false) × Performs honest folder moment since old new request
+    (request : Request) × Asks piece request × (new.reopen ≡ false)
+    × Performs honest folder moment since old new request
     × (count : ℕ) × (total ≡ sent + count) × (count < length (framed_text_bytes (answer (stored_of old) request)))
     × Appends held written (take count (framed_text_bytes (answer (stored_of old) request)))
     × (length (framed_text_bytes (answer (stored_of old) request)) ≤ answer_limit)

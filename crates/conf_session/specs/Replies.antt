@@ -53,11 +53,14 @@ refuses reply = 0
 
 -- A request is performed: the state, the size and the file are those after it, and a crash leaves the state before it
 -- or after it.
-pub record Performs {D : Type 0} (honest : Type 0) (folder : D → Folder) (moment : D → ℕ) (since : D → ℕ → Image → Type 0) (old new : StoreView D) (request : Request) : Type 0 where
+pub record Performs {D : Type 0} (honest : Type 0) (folder : D → Folder) (moment : D → ℕ)
+    (since : D → ℕ → Image → Type 0) (old new : StoreView D) (request : Request) : Type 0 where
   pub state : new.state ≡ (stored_after (stored_of old) request).state
   pub size : new.reopen ≡ false → new.size ≡ (stored_after (stored_of old) request).size
-  pub reads : honest → new.reopen ≡ false → bytes_under (folder new.disk) Store ≡ file_after (bytes_under (folder old.disk) Store) (stored_of old) request
-  pub any_moment : honest → LeavesOnly moment since old.disk new.disk (λ image. AfterPrefix old.state (accepted_command (stored_of old) request) image.store)
+  pub reads : honest → new.reopen ≡ false
+      → bytes_under (folder new.disk) Store ≡ file_after (bytes_under (folder old.disk) Store) (stored_of old) request
+  pub any_moment : honest → LeavesOnly moment since old.disk new.disk
+      (λ image. AfterPrefix old.state (accepted_command (stored_of old) request) image.store)
 
 -- the answer to the request
 pub record Replies (now : Stored) (request : Request) (reply : Reply) : Type 0 where
@@ -67,22 +70,31 @@ pub record Replies (now : Stored) (request : Request) (reply : Reply) : Type 0 w
   pub short : length (framed_text_bytes (answer now request)) ≤ answer_limit
 
 -- what became of a request
-abbrev pub Did : {D : Type 0} → Type 0 → (D → Folder) → (D → ℕ) → (D → ℕ → Image → Type 0) → StoreView D → StoreView D → Request → Result Reply SessionFault → Type 0
-Did honest folder moment since old new request (Ok reply) = Replies (stored_of old) request reply × (new.reopen ≡ false) × Performs honest folder moment since old new request
-Did honest folder moment since old new request (Err Device) = (new.reopen ≡ true) × Performs honest folder moment since old new request
+abbrev pub Did : {D : Type 0} → Type 0 → (D → Folder) → (D → ℕ) → (D → ℕ → Image → Type 0) → StoreView D → StoreView D
+    → Request → Result Reply SessionFault → Type 0
+Did honest folder moment since old new request (Ok reply) =
+    Replies (stored_of old) request reply × (new.reopen ≡ false) × Performs honest folder moment since old new request
+Did honest folder moment since old new request (Err Device) =
+    (new.reopen ≡ true) × Performs honest folder moment since old new request
 Did honest folder moment since old new request (Err OutOfMemory) = new ≡ old
 Did honest folder moment since old new request (Err fault) = ⊥
 
 -- what became of what a document says; if memory ran out, the request may be unknown
-abbrev pub DidSaid : {D : Type 0} → Type 0 → (D → Folder) → (D → ℕ) → (D → ℕ → Image → Type 0) → StoreView D → StoreView D → Said → Result Reply SessionFault → Type 0
-DidSaid honest folder moment since old new said (Ok reply) = (request : Request) × MeansRequest said request × Did honest folder moment since old new request (Ok reply)
-DidSaid honest folder moment since old new said (Err Device) = (request : Request) × MeansRequest said request × Did honest folder moment since old new request (Err Device)
+abbrev pub DidSaid : {D : Type 0} → Type 0 → (D → Folder) → (D → ℕ) → (D → ℕ → Image → Type 0) → StoreView D
+    → StoreView D → Said → Result Reply SessionFault → Type 0
+DidSaid honest folder moment since old new said (Ok reply) =
+    (request : Request) × MeansRequest said request × Did honest folder moment since old new request (Ok reply)
+DidSaid honest folder moment since old new said (Err Device) =
+    (request : Request) × MeansRequest said request × Did honest folder moment since old new request (Err Device)
 DidSaid honest folder moment since old new said (Err OutOfMemory) = new ≡ old
 DidSaid honest folder moment since old new said (Err fault) = ⊥
 
 -- what became of a piece; if memory ran out, what it asks for may be unknown
-abbrev pub DidPiece : {D : Type 0} → Type 0 → (D → Folder) → (D → ℕ) → (D → ℕ → Image → Type 0) → StoreView D → StoreView D → List ℕ → Result Reply SessionFault → Type 0
-DidPiece honest folder moment since old new piece (Ok reply) = (request : Request) × Asks piece request × Did honest folder moment since old new request (Ok reply)
-DidPiece honest folder moment since old new piece (Err Device) = (request : Request) × Asks piece request × Did honest folder moment since old new request (Err Device)
+abbrev pub DidPiece : {D : Type 0} → Type 0 → (D → Folder) → (D → ℕ) → (D → ℕ → Image → Type 0) → StoreView D
+    → StoreView D → List ℕ → Result Reply SessionFault → Type 0
+DidPiece honest folder moment since old new piece (Ok reply) =
+    (request : Request) × Asks piece request × Did honest folder moment since old new request (Ok reply)
+DidPiece honest folder moment since old new piece (Err Device) =
+    (request : Request) × Asks piece request × Did honest folder moment since old new request (Err Device)
 DidPiece honest folder moment since old new piece (Err OutOfMemory) = new ≡ old
 DidPiece honest folder moment since old new piece (Err fault) = ⊥

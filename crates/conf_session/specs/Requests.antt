@@ -129,7 +129,8 @@ pub data Request : Type 0 where
 abbrev pub MeansRequest : Said → Request → Type 0
 MeansRequest (import_text name source) request =
     ((t : Tree) × Gives source config_limits t × (request ≡ changing (import_as name t)))
-    ⊎ ((fault : ReadFault) × (fault ≢ OutOfMemory) × Refuses (encode_utf8_all source) config_limits fault × (request ≡ unread name fault))
+    ⊎ ((fault : ReadFault) × (fault ≢ OutOfMemory) × Refuses (encode_utf8_all source) config_limits fault
+    × (request ≡ unread name fault))
 MeansRequest (change command) request = request ≡ changing command
 MeansRequest (get_at name path) request = request ≡ getting name path
 MeansRequest (export_of name) request = request ≡ exporting name

@@ -64,7 +64,8 @@ pub record ShowsSessionLong (bytes : List ℕ) (requests : List Request) : Type 
 -- ---- how a run ends, by the requests that were performed, and those of them whose answers were written whole
 
 -- all was read, performed and answered
-pub record EndsWell (given left held written : Option (List ℕ)) (start : Stored) (answered performed : List Request) (tally : Tally) : Type 0 where
+pub record EndsWell (given left held written : Option (List ℕ)) (start : Stored) (answered performed : List Request)
+    (tally : Tally) : Type 0 where
   pub bytes : List ℕ
   pub rest : List ℕ
   pub taken : Consumes given left bytes
@@ -79,7 +80,8 @@ pub record EndsWell (given left held written : Option (List ℕ)) (start : Store
   pub unclosed : tally.rest ≡ length rest
 
 -- all pieces that were closed before the fault are performed and answered
-pub record EndsInInput (given left held written : Option (List ℕ)) (start : Stored) (answered performed : List Request) (Shows : List ℕ → List Request → Type 0) : Type 0 where
+pub record EndsInInput (given left held written : Option (List ℕ)) (start : Stored)
+    (answered performed : List Request) (Shows : List ℕ → List Request → Type 0) : Type 0 where
   pub bytes : List ℕ
   pub taken : Consumes given left bytes
   pub shows : Shows bytes answered
@@ -88,7 +90,8 @@ pub record EndsInInput (given left held written : Option (List ℕ)) (start : St
 
 -- Exactly so many bytes of the answers were written, at most the limit of an answer for each piece. The first piece
 -- whose answer was not written whole is performed, and none after it.
-pub record EndsInOutput (given left held written : Option (List ℕ)) (start : Stored) (answered performed : List Request) (count : ℕ) : Type 0 where
+pub record EndsInOutput (given left held written : Option (List ℕ)) (start : Stored)
+    (answered performed : List Request) (count : ℕ) : Type 0 where
   pub bytes : List ℕ
   pub taken : Consumes given left bytes
   pub last : Request
@@ -100,22 +103,32 @@ pub record EndsInOutput (given left held written : Option (List ℕ)) (start : S
   pub bound : count ≤ length performed * answer_limit
 
 -- a prefix of the pieces is performed and answered, and these are performed without an answer
-pub record EndsEarly (given left held written : Option (List ℕ)) (start : Stored) (answered performed : List Request) (unanswered : List Request) : Type 0 where
+pub record EndsEarly (given left held written : Option (List ℕ)) (start : Stored) (answered performed : List Request)
+    (unanswered : List Request) : Type 0 where
   pub bytes : List ℕ
   pub taken : Consumes given left bytes
   pub begins : BeginsWith bytes (answered ++ unanswered)
   pub all : performed ≡ answered ++ unanswered
   pub out : Appends held written (output start answered)
 
-abbrev pub Ends : Option (List ℕ) → Option (List ℕ) → Option (List ℕ) → Option (List ℕ) → Stored → List Request → List Request → Result Tally SessionFault → Type 0
-Ends given left held written start answered performed (Ok tally) = EndsWell given left held written start answered performed tally
-Ends given left held written start answered performed (Err fault.Read) = EndsInInput given left held written start answered performed AsksAll
-Ends given left held written start answered performed (Err (fault.Write count)) = EndsInOutput given left held written start answered performed count
-Ends given left held written start answered performed (Err fault.TooLong) = EndsInInput given left held written start answered performed ShowsTooLong
-Ends given left held written start answered performed (Err fault.SessionLong) = EndsInInput given left held written start answered performed ShowsSessionLong
-Ends given left held written start answered performed (Err fault.OutOfMemory) = EndsEarly given left held written start answered performed []
-Ends given left held written start answered performed (Err fault.Device) = (last : Request) × EndsEarly given left held written start answered performed (last ∷ [])
-Ends given left held written start answered performed (Err fault.Reopen) = Keeps given left × Keeps held written × (answered ≡ []) × (performed ≡ [])
+abbrev pub Ends : Option (List ℕ) → Option (List ℕ) → Option (List ℕ) → Option (List ℕ) → Stored → List Request
+    → List Request → Result Tally SessionFault → Type 0
+Ends given left held written start answered performed (Ok tally) =
+    EndsWell given left held written start answered performed tally
+Ends given left held written start answered performed (Err fault.Read) =
+    EndsInInput given left held written start answered performed AsksAll
+Ends given left held written start answered performed (Err (fault.Write count)) =
+    EndsInOutput given left held written start answered performed count
+Ends given left held written start answered performed (Err fault.TooLong) =
+    EndsInInput given left held written start answered performed ShowsTooLong
+Ends given left held written start answered performed (Err fault.SessionLong) =
+    EndsInInput given left held written start answered performed ShowsSessionLong
+Ends given left held written start answered performed (Err fault.OutOfMemory) =
+    EndsEarly given left held written start answered performed []
+Ends given left held written start answered performed (Err fault.Device) =
+    (last : Request) × EndsEarly given left held written start answered performed (last ∷ [])
+Ends given left held written start answered performed (Err fault.Reopen) =
+    Keeps given left × Keeps held written × (answered ≡ []) × (performed ≡ [])
 
 -- ---- a run
 
@@ -130,7 +143,8 @@ pub record AfterAtLeast (s : Contents) (least : ℕ) (commands : List Command) (
 -- A run from one value of a store to the next. `given` and `left` are the bytes that the reader has before and after
 -- it, `held` and `written` those that the writer has, where they are known.
 pub record Runs {D : Type 0} (honest : Type 0) (folder : D → Folder) (moment : D → ℕ) (since : D → ℕ → Image → Type 0)
-    (given left held written : Option (List ℕ)) (old new : StoreView D) (result : Result Tally SessionFault) : Type 0 where
+    (given left held written : Option (List ℕ)) (old new : StoreView D)
+    (result : Result Tally SessionFault) : Type 0 where
   pub answered : List Request
   pub performed : List Request
   pub ends : Ends given left held written (stored_of old) answered performed result
@@ -138,10 +152,13 @@ pub record Runs {D : Type 0} (honest : Type 0) (folder : D → Folder) (moment :
   pub size : new.reopen ≡ false → new.size ≡ (stored_after_all (stored_of old) performed).size
   -- each accepted command appended its record to `store.yaml`, and each checkpoint put a base in its place
   pub reads : honest → new.reopen ≡ false
-      → bytes_under (folder new.disk) Store ≡ file_after_all (bytes_under (folder old.disk) Store) (stored_of old) performed
+      → bytes_under (folder new.disk) Store
+      ≡ file_after_all (bytes_under (folder old.disk) Store) (stored_of old) performed
   -- a crash at any moment leaves the state after a prefix of the accepted commands
   pub any_moment : honest → old.reopen ≡ false
-      → LeavesOnly moment since old.disk new.disk (λ image. AfterPrefix old.state (accepted_commands (stored_of old) performed) image.store)
+      → LeavesOnly moment since old.disk new.disk
+      (λ image. AfterPrefix old.state (accepted_commands (stored_of old) performed) image.store)
   -- and a crash after the run leaves one that has every command that was answered
   pub kept : honest → old.reopen ≡ false → (image : Image) → IsImage (folder new.disk) image
-      → AfterAtLeast old.state (length (accepted_commands (stored_of old) answered)) (accepted_commands (stored_of old) performed) image.store
+      → AfterAtLeast old.state (length (accepted_commands (stored_of old) answered))
+      (accepted_commands (stored_of old) performed) image.store

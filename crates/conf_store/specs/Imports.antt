@@ -23,7 +23,8 @@ pub record IsImportOf (name source : List ℕ) (command : Command) : Type 0 wher
 abbrev pub RefusesText : List ℕ → List ℕ → StoreFault → Type 0
 RefusesText name source OutOfMemory = Unit {0}
 RefusesText name source BadName = good_name name ≡ false
-RefusesText name source (Read fault) = (good_name name ≡ true) × (fault ≢ read_faults.OutOfMemory) × Refuses source config_limits fault
+RefusesText name source (Read fault) =
+    (good_name name ≡ true) × (fault ≢ read_faults.OutOfMemory) × Refuses source config_limits fault
 RefusesText name source fault = ⊥
 
 -- the text gives a tree, and the command that imports it was accepted
@@ -33,13 +34,15 @@ pub record Imports {D : Type 0} (old : StoreView D) (name source : List ℕ) (ne
   pub accepts : Accepts old (import_as name tree) new
 
 -- `after` is `before` with the record of that command appended
-pub record AppendsImport {D : Type 0} (old : StoreView D) (name source : List ℕ) (before after : Option (List ℕ)) : Type 0 where
+pub record AppendsImport {D : Type 0} (old : StoreView D) (name source : List ℕ)
+    (before after : Option (List ℕ)) : Type 0 where
   pub tree : Tree
   pub reads : IsRead source config_limits tree
   pub is : after ≡ file_with_bytes before (next_record old.state (import_as name tree))
 
 -- the text gives a tree, and the command that imports it was refused
-pub record RefusesTree {D : Type 0} (old : StoreView D) (name source : List ℕ) (new : StoreView D) (fault : StoreFault) : Type 0 where
+pub record RefusesTree {D : Type 0} (old : StoreView D) (name source : List ℕ) (new : StoreView D)
+    (fault : StoreFault) : Type 0 where
   pub tree : Tree
   pub reads : IsRead source config_limits tree
   pub refuses : RefusesCommand old (import_as name tree) new fault
@@ -50,5 +53,6 @@ abbrev pub RefusesImport : {D : Type 0} → StoreView D → List ℕ → List �
 RefusesImport old name source new Reopen = Unit {0}
 RefusesImport old name source new OutOfMemory = Unit {0}
 RefusesImport old name source new BadName = good_name name ≡ false
-RefusesImport old name source new (Read fault) = (good_name name ≡ true) × (fault ≢ read_faults.OutOfMemory) × Refuses source config_limits fault
+RefusesImport old name source new (Read fault) =
+    (good_name name ≡ true) × (fault ≢ read_faults.OutOfMemory) × Refuses source config_limits fault
 RefusesImport old name source new fault = RefusesTree old name source new fault

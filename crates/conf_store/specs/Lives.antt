@@ -53,7 +53,8 @@ after_call s checkpointing = s
 -- the call's command, if the state accepts it, with whether it is acknowledged
 abbrev pub accepted_in : Contents → Call → Bool → List (Command × Bool)
 accepted_in s opening acknowledged = []
-accepted_in s (performing command) acknowledged = if is_ok (step s command true) then (command, acknowledged) ∷ [] else []
+accepted_in s (performing command) acknowledged =
+    if is_ok (step s command true) then (command, acknowledged) ∷ [] else []
 accepted_in s checkpointing acknowledged = []
 
 -- ---- one life
@@ -63,7 +64,8 @@ accepted_in s checkpointing acknowledged = []
 abbrev pub MayEndBy : Answer → Contents → Call → List Event → (Contents → Type 0) → Contents → Type 0
 MayEndBy ok s call events ends_from end = (next : Contents) × Succeeds s call next × ends_from next
 MayEndBy refused s call events ends_from end = ends_from s
-MayEndBy device s call events ends_from end = MayRemainDuring s call end × AllByRecursion (λ event. event.answer ≡ reopen) events
+MayEndBy device s call events ends_from end =
+    MayRemainDuring s call end × AllByRecursion (λ event. event.answer ≡ reopen) events
 MayEndBy reopen s call events ends_from end = ⊥
 MayEndBy crashed s call events ends_from end = MayRemainDuring s call end × (events ≡ [])
 
@@ -91,7 +93,8 @@ pub record Life : Type 0 where
 -- each life starts in the state in which the one before ended
 abbrev pub AreLives : Contents → List Life → Contents → Type 0
 AreLives s [] end = end ≡ s
-AreLives s (life ∷ lives) end = (life.start ≡ s) × (mid : Contents) × MayEnd life.events life.start mid × AreLives mid lives end
+AreLives s (life ∷ lives) end =
+    (life.start ≡ s) × (mid : Contents) × MayEnd life.events life.start mid × AreLives mid lives end
 
 -- ---- what lives keep
 
@@ -105,7 +108,8 @@ abbrev pub EachKeeps : List Life → List (List Command) → Type 0
 EachKeeps [] [] = Unit {0}
 EachKeeps [] (kept ∷ others) = ⊥
 EachKeeps (life ∷ lives) [] = ⊥
-EachKeeps (life ∷ lives) (kept ∷ others) = Keeps (accepted_commands life.events life.start) kept × EachKeeps lives others
+EachKeeps (life ∷ lives) (kept ∷ others) =
+    Keeps (accepted_commands life.events life.start) kept × EachKeeps lives others
 
 abbrev pub all_commands : List (List Command) → List Command
 all_commands [] = []

@@ -13,7 +13,8 @@ abbrev pub AreRecords : ℕ → List (List ℕ) → List Command → Type 0
 AreRecords count [] [] = Unit {0}
 AreRecords count [] (command ∷ commands) = ⊥
 AreRecords count (piece ∷ pieces) [] = ⊥
-AreRecords count (piece ∷ pieces) (command ∷ commands) = IsRecord piece command (count + 1) × AreRecords (count + 1) pieces commands
+AreRecords count (piece ∷ pieces) (command ∷ commands) =
+    IsRecord piece command (count + 1) × AreRecords (count + 1) pieces commands
 
 -- The first piece is a base and the others are records; performing their commands on the base's state gives `s`.
 pub record PiecesMean (pieces : List (List ℕ)) (s : Contents) : Type 0 where

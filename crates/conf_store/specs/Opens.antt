@@ -121,4 +121,5 @@ RefusedMeansNothing = (bytes : List ℕ) (s : Contents) → Means bytes s
 
 -- what opening recovers is what the bytes mean
 abbrev pub RecoveredIsMeant : Type 0
-RecoveredIsMeant = (bytes : List ℕ) (s : Contents) (records dropped : ℕ) → length bytes ≤ store_limit → RecoversTo bytes s records dropped → Means bytes s
+RecoveredIsMeant = (bytes : List ℕ) (s : Contents) (records dropped : ℕ) → length bytes ≤ store_limit
+    → RecoversTo bytes s records dropped → Means bytes s

@@ -15,4 +15,5 @@ pub record StoreView (D : Type 0) : Type 0 where
 abbrev pub store_view_code : {D : Type 0} → Coded D → Coded (StoreView D)
 store_view_code {D} code =
     code_by (D × (Contents × (ℕ × Bool))) (coded× code (coded× contents_code (coded× coded_ℕ coded_bool)))
-    (λ s. (s.disk, (s.state, (s.size, s.reopen)))) (λ p. record { disk = p.0; state = p.1.0; size = p.1.1.0; reopen = p.1.1.1 }) (λ s. refl)
+    (λ s. (s.disk, (s.state, (s.size, s.reopen))))
+    (λ p. record { disk = p.0; state = p.1.0; size = p.1.1.0; reopen = p.1.1.1 }) (λ s. refl)

@@ -54,17 +54,21 @@ FindsSome given left held written = (count : ℕ) × (0 < count) × Checks given
 
 -- a session on some store answered all commands of the input
 abbrev pub AnswersAll : Option (List ℕ) → Option (List ℕ) → Option (List ℕ) → Option (List ℕ) → Type 0
-AnswersAll given left held written = (start : Stored) × (tally : Tally) × Answers given left held written start (Ok tally)
+AnswersAll given left held written =
+    (start : Stored) × (tally : Tally) × Answers given left held written start (Ok tally)
 
 -- a session on some store ended with a fault, and wrote what `Ends` says of that fault
 abbrev pub AnswersSome : Option (List ℕ) → Option (List ℕ) → Option (List ℕ) → Option (List ℕ) → Type 0
-AnswersSome given left held written = (start : Stored) × (fault : SessionFault) × Answers given left held written start (Err fault)
+AnswersSome given left held written =
+    (start : Stored) × (fault : SessionFault) × Answers given left held written start (Err fault)
 
 -- Where it is done, the input was formatted, or checked and nothing found in it, or its commands were answered, or none
 -- was read, as for help and `export`. At 1 the findings of the input were written, or some answers, or nothing: the
 -- input was refused, or memory ran out. Where the words are wrong, nothing was written.
 pub record Performs (given left held written : Option (List ℕ)) (status : ℕ) : Type 0 where
   pub known : status ≤ 3
-  pub done : status ≡ 0 → Formats given left held written ⊎ Checks given left held written 0 ⊎ AnswersAll given left held written ⊎ Keeps given left
-  pub refused : status ≡ 1 → FindsSome given left held written ⊎ AnswersSome given left held written ⊎ Keeps held written
+  pub done : status ≡ 0 → Formats given left held written ⊎ Checks given left held written 0
+      ⊎ AnswersAll given left held written ⊎ Keeps given left
+  pub refused : status ≡ 1 → FindsSome given left held written ⊎ AnswersSome given left held written
+      ⊎ Keeps held written
   pub wrong : status ≡ 2 → Keeps held written

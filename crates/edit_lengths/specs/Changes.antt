@@ -14,7 +14,8 @@ use Rattle.edit_lengths.specs.declared.change.Slot.TheVariants.{Value, Element}
 -- of the tree by itself and of the tree after the `:` of a key at any indentation.
 pub record Changes (change : Change) (old new : Tree) : Type 0 where
   pub alone : byte_len (style_text new) + change.removed.bytes ≡ byte_len (style_text old) + change.added.bytes
-  pub after_key : (i : ℕ) → byte_len (value_at new i) + length_at change.removed (i + 2) ≡ byte_len (value_at old i) + length_at change.added (i + 2)
+  pub after_key : (i : ℕ) → byte_len (value_at new i) + length_at change.removed (i + 2)
+      ≡ byte_len (value_at old i) + length_at change.added (i + 2)
   pub bytes_fit : change.added.bytes < 2 ^ 100
   pub lines_fit : change.added.lines < 2 ^ 100
 

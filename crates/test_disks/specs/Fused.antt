@@ -77,7 +77,8 @@ fused_inner disk = disk.inner
 
 -- the state of a fuse, from the code's counter
 abbrev pub counter_state : FuseCounter → FuseState
-counter_state counter = record { calls = counter.calls; fuse = counter.fuse; passed = counter.passed; blown = counter.blown }
+counter_state counter = record
+    { calls = counter.calls; fuse = counter.fuse; passed = counter.passed; blown = counter.blown }
 
 -- the state of a disk's fuse
 abbrev pub fuse_of : {D : Type 0} → FusedDisk D → FuseState

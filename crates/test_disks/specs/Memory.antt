@@ -20,7 +20,8 @@ abbrev pub memory_failures : MemoryDisk → ℕ
 memory_failures disk = disk.failures
 
 -- A call that returns Ok is one step more and no failure. One that runs out of memory is a failure and no step.
-pub record Notes {T : Type 0} (old : MemoryDisk) (step : Step) (result : Result T DiskFault) (new : MemoryDisk) : Type 0 where
+pub record Notes {T : Type 0} (old : MemoryDisk) (step : Step) (result : Result T DiskFault)
+    (new : MemoryDisk) : Type 0 where
   pub done : OnOk result (steps_of new ≡ steps_of old ++ step ∷ [])
   pub no_failure : OnOk result (memory_failures new ≡ memory_failures old)
   pub not_done : OnErr result (steps_of new ≡ steps_of old)

@@ -22,7 +22,11 @@ stage_of stage = record { store = stage.store; next = stage.next }
 
 -- a folder of the code
 abbrev pub folder_of : FolderData → Folder
-folder_of folder = record { files = files_of folder.files; earlier = map stage_of folder.earlier.items; now = stage_of folder.current }
+folder_of folder = record {
+  files = files_of folder.files;
+  earlier = map stage_of folder.earlier.items;
+  now = stage_of folder.current;
+}
 
 -- a change of the code
 abbrev pub step_of : Change → Step

@@ -35,7 +35,8 @@ pub data Index : Type 0 where
 -- what a token is in a sequence
 abbrev pub index_of : List ℕ → Index
 index_of token =
-    if same_text token (codes "-") then after_last else (if is_number token then number (number_after 0 token) else no_index)
+    if same_text token (codes "-") then after_last
+    else (if is_number token then number (number_after 0 token) else no_index)
 
 -- ---- one step: the value that it leads to, and the tree with another value there, or without it
 
@@ -70,12 +71,14 @@ value_of (member other t ms) key = if same_text key other then Some t else value
 -- a key that is there keeps its place, a new one goes last
 abbrev pub put_member : Members → List ℕ → Tree → Members
 put_member no_member key v = member key v no_member
-put_member (member other t ms) key v = if same_text key other then member other v ms else member other t (put_member ms key v)
+put_member (member other t ms) key v =
+    if same_text key other then member other v ms else member other t (put_member ms key v)
 
 -- the members without one
 abbrev pub cut_member : Members → List ℕ → Option Members
 cut_member no_member key = None
-cut_member (member other t ms) key = if same_text key other then Some ms else option_map (member other t) (cut_member ms key)
+cut_member (member other t ms) key =
+    if same_text key other then Some ms else option_map (member other t) (cut_member ms key)
 
 -- a value, or the fault that it is missing
 abbrev pub present : {A : Type 0} → Option A → Result A Miss
@@ -133,7 +136,8 @@ at_from step t (token ∷ tokens) = at_step step (child t token) (λ u. at_from 
 abbrev pub edit_from : (Tree → List ℕ → Result Tree Miss) → ℕ → Tree → List ℕ → List (List ℕ) → Result Tree PathFault
 edit_from edit step t token [] = at_step step (edit t token) Ok
 edit_from edit step t token (next ∷ tokens) =
-    at_step step (child t token) (λ u. and_then (edit_from edit (suc step) u next tokens) (λ v. at_step step (put t token v) Ok))
+    at_step step (child t token)
+    (λ u. and_then (edit_from edit (suc step) u next tokens) (λ v. at_step step (put t token v) Ok))
 
 -- the value at the path
 abbrev pub at : Tree → List (List ℕ) → Result Tree PathFault

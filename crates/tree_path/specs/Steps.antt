@@ -41,7 +41,8 @@ Knows Nothing there = Unit {0}
 abbrev pub Lowered : List (List ℕ) → Tree → Tree → Tree → Tree → Type 0
 Lowered [] t above u b = (u ≡ t) × (b ≡ above)
 Lowered (token ∷ tokens) t above u b =
-    (next : Tree) × (left : Tree) × (child t token ≡ Ok next) × (put t token above ≡ Ok left) × Lowered tokens next left u b
+    (next : Tree) × (left : Tree) × (child t token ≡ Ok next) × (put t token above ≡ Ok left)
+    × Lowered tokens next left u b
 
 -- t with v in the place of its value at the path is r
 abbrev pub Rebuilt : List (List ℕ) → Tree → Tree → Tree → Type 0

@@ -26,7 +26,8 @@ pub record AreSigns (text : List ℕ) (at : ℕ) (digit : Option ℕ) (chomping 
   pub boundary : IsCharBoundary text end
   pub fits : digit_fits digit ≡ true
   pub last : Bool
-  pub reads : (folded : Bool) → after_digit folded (read_digit (rest text at)) ≡ header_at folded digit chomping last (rest text end)
+  pub reads : (folded : Bool) → after_digit folded (read_digit (rest text at))
+      ≡ header_at folded digit chomping last (rest text end)
 
 -- the end of a header's line
 pub record IsHeaderEnd (text : List ℕ) (at end : ℕ) : Type 0 where

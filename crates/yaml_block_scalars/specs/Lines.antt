@@ -64,10 +64,12 @@ pub record IsLine (q : ℕ) (text : List ℕ) (at : ℕ) (line : Line) : Type 0 
 -- the value of the text line l and of the lines after it, which are at the start of the text; `prefix` is the value
 -- before them
 abbrev pub value_from : ℕ → Bool → Chomping → List ℕ → TextLine → List ℕ → Read (List ℕ)
-value_from q folded chomping prefix l text = on (lines_at q text) (λ ls after. Some (prefix ++ text_value folded chomping l ls, after))
+value_from q folded chomping prefix l text =
+    on (lines_at q text) (λ ls after. Some (prefix ++ text_value folded chomping l ls, after))
 
 -- the value with the text line first and all lines after it
-pub record ArePushed (q : ℕ) (folded : Bool) (chomping : Chomping) (text : List ℕ) (first_line : Line) (prefix value : List ℕ) (end : ℕ) : Type 0 where
+pub record ArePushed (q : ℕ) (folded : Bool) (chomping : Chomping) (text : List ℕ) (first_line : Line)
+    (prefix value : List ℕ) (end : ℕ) : Type 0 where
   pub above : first_line.next ≤ end
   pub boundary : IsCharBoundary text end
   pub reads : (l : TextLine) → Describes first_line l → l.text ≡ between text first_line.start first_line.end
@@ -91,5 +93,7 @@ pub record IsPiece (q : ℕ) (chomping : Chomping) (text : List ℕ) (empties : 
 -- one of these fails
 abbrev pub IsNoPiece : ℕ → Chomping → List ℕ → ℕ → Line → Type 0
 IsNoPiece q chomping text empties line =
-    (l : TextLine) (gs : List BlockEmptyLine) (ls : List TextLine) (after : List ℕ) → Describes line l → rest text line.end ≡ text_after l ++ rest text line.next
-    → length gs ≡ empties → lines_at q (rest text line.next) ≡ Some (ls, after) → is_one_piece chomping gs (l ∷ ls) ≡ false
+    (l : TextLine) (gs : List BlockEmptyLine) (ls : List TextLine) (after : List ℕ) → Describes line l
+    → rest text line.end ≡ text_after l ++ rest text line.next
+    → length gs ≡ empties → lines_at q (rest text line.next) ≡ Some (ls, after)
+    → is_one_piece chomping gs (l ∷ ls) ≡ false

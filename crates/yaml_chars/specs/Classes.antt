@@ -18,7 +18,8 @@ code_point c = in_range 0 0xd7ff c || in_range 0xe000 0x10ffff c
 -- [1] c-printable, 5.1
 abbrev pub printable : ℕ → Bool
 printable c =
-    is_in c (tab ∷ line_feed ∷ carriage_return ∷ next_line ∷ []) || in_range 0x20 0x7e c || in_range 0xa0 0xd7ff c || in_range 0xe000 0xfffd c
+    is_in c (tab ∷ line_feed ∷ carriage_return ∷ next_line ∷ []) || in_range 0x20 0x7e c || in_range 0xa0 0xd7ff c
+    || in_range 0xe000 0xfffd c
     || in_range 0x10000 0x10ffff c
 
 -- [2] nb-json, 5.1: TAB, and everything from the space on

@@ -12,7 +12,8 @@ pub record Held : Type 0 where
 
 -- the bytes that are held and the limit, as one value
 abbrev pub held_code : Coded Held
-held_code = code_by (List ℕ × ℕ) (coded× (coded_list coded_ℕ) coded_ℕ) (λ h. (h.bytes, h.max)) (λ p. record { bytes = p.0; max = p.1 }) (λ h. refl)
+held_code = code_by (List ℕ × ℕ) (coded× (coded_list coded_ℕ) coded_ℕ) (λ h. (h.bytes, h.max))
+    (λ p. record { bytes = p.0; max = p.1 }) (λ h. refl)
 
 -- no closing line ends in the bytes
 abbrev pub Unclosed : List ℕ → Type 0

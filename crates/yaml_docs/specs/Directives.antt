@@ -19,7 +19,8 @@ pub record IsVersion (text : List ℕ) (at end : ℕ) : Type 0 where
   pub blank : List ℕ
   pub version : Version
   pub spells : rest text at ≡ codes "%YAML" ++ (blank ++ (version_text version ++ rest text end))
-  pub reads : (node_at : Bool → List ℕ → Read Node) → read_directed node_at (rest text at) ≡ directed_with node_at blank version (all_comments false (rest text end))
+  pub reads : (node_at : Bool → List ℕ → Read Node)
+      → read_directed node_at (rest text at) ≡ directed_with node_at blank version (all_comments false (rest text end))
 
 -- whatever the nodes are, no document with a directive begins there
 abbrev pub NoDirective : List ℕ → Type 0

@@ -50,7 +50,8 @@ pub record ExplicitNodeRead (text : List ℕ) (at : ℕ) (old new : List Event) 
   pub boundary : IsCharBoundary text end
   pub starts : IsLineStart text end
   pub document : Explicit
-  pub reads : explicit_with document_node_at (rest text at) (all_comments false (rest text at)) ≡ Some (document, rest text end)
+  pub reads : explicit_with document_node_at (rest text at) (all_comments false (rest text at))
+      ≡ Some (document, rest text end)
   pub appended : Appended text old new (after_dashes document at)
 
 -- the document whose `---` is at the place is read

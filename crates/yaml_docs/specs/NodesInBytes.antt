@@ -11,8 +11,10 @@ use Rattle.yaml_events.specs.EventPlaces.{line_starts}
 
 -- the node is at its place in the bytes, and what comes after it there ends it
 abbrev pub NodeIsAt : List ℕ → NodePlace → Type 0
-NodeIsAt bytes (flow_at n c bol at f after) = IsCharBoundary bytes at × FlowNodeStands n c (line_starts bytes at) (rest bytes at) f after
-NodeIsAt bytes (block_at m shallow bol at node after) = IsCharBoundary bytes at × BlockNodeStands m shallow (line_starts bytes at) (rest bytes at) node after
+NodeIsAt bytes (flow_at n c bol at f after) =
+    IsCharBoundary bytes at × FlowNodeStands n c (line_starts bytes at) (rest bytes at) f after
+NodeIsAt bytes (block_at m shallow bol at node after) =
+    IsCharBoundary bytes at × BlockNodeStands m shallow (line_starts bytes at) (rest bytes at) node after
 
 -- so is each node of each presentation of the whole text
 abbrev pub NodesAreAtTheirPlaces : Type 0

@@ -23,7 +23,8 @@ pub record ReadsAs (bytes : List ℕ) (max : ℕ) (events : List Event) : Type 0
 abbrev pub RefusesBytes : List ℕ → ℕ → ReadFault → Type 0
 RefusesBytes bytes max TooLong = max < length bytes
 RefusesBytes bytes max (NotUtf8 at) = (length bytes ≤ max) × (IsUtf8 bytes → ⊥) × (at ≡ utf8_valid_len bytes)
-RefusesBytes bytes max (Syntax line column why) = IsShortText bytes max × ((events : List grammar.Event) → Reads (chars bytes) events → ⊥)
+RefusesBytes bytes max (Syntax line column why) =
+    IsShortText bytes max × ((events : List grammar.Event) → Reads (chars bytes) events → ⊥)
 RefusesBytes bytes max (Documents count) = ⊥
 RefusesBytes bytes max KeyNotText = ⊥
 RefusesBytes bytes max KeyTwice = ⊥

@@ -9,7 +9,8 @@ use Rattle.yaml_events.specs.declared.event.Style.TheVariants.{Plain, Single, Do
 
 -- Where no break is between the two places, the value is borrowed, and it is what is between them.
 abbrev pub BorrowsOneLine : {A : Type 0} → List ℕ → ℕ → CowStr A → ℕ → Type 0
-BorrowsOneLine text at value end = NoBreak (slice_range text at end) → IsBorrowedStr value × (cow_str_bytes value ≡ slice_range text at end)
+BorrowsOneLine text at value end =
+    NoBreak (slice_range text at end) → IsBorrowedStr value × (cow_str_bytes value ≡ slice_range text at end)
 
 -- a plain scalar does so at its range; of other events nothing is asked
 abbrev pub BorrowsPlain : List ℕ → Event → Type 0

@@ -30,7 +30,8 @@ event_of SeqStart = grammar.seq_start
 event_of SeqEnd = grammar.seq_end
 event_of MapStart = grammar.map_start
 event_of MapEnd = grammar.map_end
-event_of (Scalar style span value) = grammar.scalar_event (style_of style) span.start span.end (chars (cow_str_bytes value))
+event_of (Scalar style span value) =
+    grammar.scalar_event (style_of style) span.start span.end (chars (cow_str_bytes value))
 
 -- the same of an event that is looked at
 abbrev pub event_ref_of : EventRef → grammar.Event

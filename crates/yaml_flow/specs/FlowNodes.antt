@@ -28,7 +28,8 @@ pub record Appended (text : List ℕ) (old new : List Event) (meant : List gramm
   pub borrows : All (BorrowsPlain text) more
 
 -- The recognizer finds a flow node between the two places, and its events are appended.
-pub record FlowNodeRead (n : ℕ) (c : flow.FlowContext) (text : List ℕ) (at end : ℕ) (old new : List Event) : Type 0 where
+pub record FlowNodeRead (n : ℕ) (c : flow.FlowContext) (text : List ℕ) (at end : ℕ)
+    (old new : List Event) : Type 0 where
   pub above : at < end
   pub boundary : IsCharBoundary text end
   pub within : end ≤ length text

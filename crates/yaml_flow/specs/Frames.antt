@@ -158,13 +158,15 @@ abbrev pub part_start : FlowPart → ℕ → ℕ
 part_start (first_node bol) at = at
 part_start (asked_key sep) at = at + byte_len (asked_text (Some sep))
 part_start (pair_value ask bol key before after) at =
-    at + byte_len (asked_text ask) + byte_len (flow_text key) + byte_len (gap_text before) + 1 + byte_len (gap_text after)
+    at + byte_len (asked_text ask) + byte_len (flow_text key) + byte_len (gap_text before) + 1
+    + byte_len (gap_text after)
 
 -- the events of an entry so far
 abbrev pub part_prefix : Bool → FlowPart → ℕ → List Event
 part_prefix in_seq (first_node bol) at = []
 part_prefix in_seq (asked_key sep) at = pair_start in_seq
-part_prefix in_seq (pair_value ask bol key before after) at = pair_start in_seq ++ flow_events key (at + byte_len (asked_text ask))
+part_prefix in_seq (pair_value ask bol key before after) at =
+    pair_start in_seq ++ flow_events key (at + byte_len (asked_text ask))
 
 -- where the node that is being read starts
 abbrev pub node_start : OpenFlow → ℕ → ℕ
@@ -204,7 +206,8 @@ module _ (n : ℕ) (d : FlowContext) (text : List ℕ) where
     pub kind : bracket.in_seq ≡ in_seq
     pub place : entry_start bracket w.start ≡ at
     pub written : Appended text w.kept events (bracket_prefix bracket w.start)
-    pub reads : w.reads ≡ close_with bracket (flow_entries_at n d bracket.in_seq (line_starts text at) (closer bracket.in_seq) (rest text at))
+    pub reads : w.reads ≡ close_with bracket
+        (flow_entries_at n d bracket.in_seq (line_starts text at) (closer bracket.in_seq) (rest text at))
 
   -- the `?` of an entry comes before the place
   pub record AfterQuestion (w : Collection) (in_seq : Bool) (at : ℕ) (events : EventList) : Type 0 where
@@ -246,12 +249,16 @@ module _ (n : ℕ) (d : FlowContext) (text : List ℕ) where
     pub gap : Option Sep
     pub passes : read_gap n (one_line d) follows ≡ (gap, rest text colon)
     pub sign : is_colon d (ends_plain end_is) (rest text colon) ≡ true
-    pub place : entry_start bracket w.start + byte_len (asked_text ask) + byte_len (flow_text key) + byte_len (gap_text gap) ≡ colon
-    pub fits : (v : nodes.Value) (r : List ℕ) → flow_value_at n d (is_plain key) follows ≡ Some (v, r) → key_is_short n d bracket.in_seq bol ask key v r ≡ true
+    pub place : entry_start bracket w.start + byte_len (asked_text ask) + byte_len (flow_text key)
+        + byte_len (gap_text gap) ≡ colon
+    pub fits : (v : nodes.Value) (r : List ℕ) → flow_value_at n d (is_plain key) follows ≡ Some (v, r)
+        → key_is_short n d bracket.in_seq bol ask key v r ≡ true
     pub written : Appended text w.kept events
-        (bracket_prefix bracket w.start ++ (pair_start bracket.in_seq ++ flow_events key (entry_start bracket w.start + byte_len (asked_text ask))))
+        (bracket_prefix bracket w.start
+        ++ (pair_start bracket.in_seq ++ flow_events key (entry_start bracket w.start + byte_len (asked_text ask))))
     pub reads : w.reads ≡ close_with bracket
-        (on (on (flow_value_at n d (is_plain key) follows) (λ v r. entry_if_short n d bracket.in_seq bol ask key v r)) (λ e r. entries_of n d bracket.in_seq e r))
+        (on (on (flow_value_at n d (is_plain key) follows) (λ v r. entry_if_short n d bracket.in_seq bol ask key v r))
+        (λ e r. entries_of n d bracket.in_seq e r))
 
   -- an entry is read, and the gap after it is passed
   pub record EntryRead (w : Collection) (in_seq : Bool) (at : ℕ) (events : EventList) : Type 0 where
@@ -262,7 +269,8 @@ module _ (n : ℕ) (d : FlowContext) (text : List ℕ) where
     pub gap : Option Sep
     pub passes : read_gap n (one_line d) follows ≡ (gap, rest text at)
     pub place : entry_start bracket w.start + byte_len (entry_text entry) + byte_len (gap_text gap) ≡ at
-    pub written : Appended text w.kept events (bracket_prefix bracket w.start ++ entry_events entry bracket.in_seq (entry_start bracket w.start))
+    pub written : Appended text w.kept events
+        (bracket_prefix bracket w.start ++ entry_events entry bracket.in_seq (entry_start bracket w.start))
     pub reads : w.reads ≡ close_with bracket (entries_of n d bracket.in_seq entry follows)
 
   -- the gap after an opening bracket or a comma is to be passed
@@ -272,7 +280,8 @@ module _ (n : ℕ) (d : FlowContext) (text : List ℕ) where
     pub place : at + byte_len (gap_text (read_gap n (one_line d) (rest text at)).0) ≡ entry_start bracket w.start
     pub written : Appended text w.kept events (bracket_prefix bracket w.start)
     pub reads : w.reads ≡ close_with bracket
-        (flow_entries_at n d bracket.in_seq (starts_line false (gap_text (read_gap n (one_line d) (rest text at)).0)) (closer bracket.in_seq)
+        (flow_entries_at n d bracket.in_seq (starts_line false (gap_text (read_gap n (one_line d) (rest text at)).0))
+        (closer bracket.in_seq)
         (read_gap n (one_line d) (rest text at)).1)
 
   -- the collection is read
@@ -304,10 +313,12 @@ module _ (n : ℕ) (d : FlowContext) (text : List ℕ) where
   abbrev pub Stack : Collection → List Collection → List Open → Collection → Type 0
   Stack whole [] opens inner = (opens ≡ []) × (inner ≡ whole)
   Stack whole (outer ∷ around) opens inner =
-      (prefix : List Open) × (top : Open) × (opens ≡ prefix ++ top ∷ []) × Around inner top outer × Stack whole around prefix outer
+      (prefix : List Open) × (top : Open) × (opens ≡ prefix ++ top ∷ []) × Around inner top outer
+      × Stack whole around prefix outer
 
   -- the open brackets around the innermost one wait for it
-  pub record Waits (whole : Collection) (opens : List Open) (top : Open) (next : Next) (events : EventList) : Type 0 where
+  pub record Waits (whole : Collection) (opens : List Open) (top : Open) (next : Next)
+      (events : EventList) : Type 0 where
     pub inner : Collection
     pub around : List Collection
     pub stack : Stack whole around opens inner
@@ -348,7 +359,8 @@ fits_single text line start colon = nat_le line start && nat_le (length (between
 
 -- a single pair fits, and its mapping starts before its key
 pub record BeganPair (text : List ℕ) (top : Open) (line colon : ℕ) (old new : EventList) : Type 0 where
-  pub single : is_single top ≡ true → (fits_single text line top.start colon ≡ true) × (new ≡ insert old top.before MapStart)
+  pub single : is_single top ≡ true
+      → (fits_single text line top.start colon ≡ true) × (new ≡ insert old top.before MapStart)
   pub other : is_single top ≡ false → new ≡ old
 
 -- a single pair whose key is too long, or over several lines

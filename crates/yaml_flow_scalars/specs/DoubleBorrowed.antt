@@ -17,4 +17,5 @@ is_verbatim b = not (line_break b || (b == backslash))
 -- Where no break and no backslash is between the quotes, the value is what is there: borrowed, with no memory taken.
 abbrev pub BorrowsVerbatim : {Z : Type 0} → List ℕ → ℕ → CowStr Z → ℕ → Type 0
 BorrowsVerbatim text at value end =
-    AllPass is_verbatim (between_quotes text at end) → IsBorrowedStr value × (cow_str_bytes value ≡ between_quotes text at end)
+    AllPass is_verbatim (between_quotes text at end)
+    → IsBorrowedStr value × (cow_str_bytes value ≡ between_quotes text at end)

@@ -19,10 +19,12 @@ double_value n c text = quoted_value quoted_char_value (read_quoted read_item do
 -- What was added to the value between two places is what the text between them means.
 pub record Adds (n : ℕ) (c : FlowContext) (text old : List ℕ) (from : ℕ) (new : List ℕ) (to : ℕ) : Type 0 where
   pub boundary : IsCharBoundary text to
-  pub means : with_prefix (chars new) (double_value n c (rest text to)) ≡ with_prefix (chars old) (double_value n c (rest text from))
+  pub means : with_prefix (chars new) (double_value n c (rest text to))
+      ≡ with_prefix (chars old) (double_value n c (rest text from))
 
 -- the value of what is from a place on up to a closing quote, which comes before the end and after the other place
-pub record ClosesAt (n : ℕ) (c : FlowContext) (text : List ℕ) (start beyond : ℕ) (value : List ℕ) (end : ℕ) : Type 0 where
+pub record ClosesAt (n : ℕ) (c : FlowContext) (text : List ℕ) (start beyond : ℕ) (value : List ℕ)
+    (end : ℕ) : Type 0 where
   pub above : beyond + 1 < end
   pub boundary : IsCharBoundary text end
   pub means : double_value n c (rest text start) ≡ Some (chars value, rest text end)
@@ -60,7 +62,8 @@ pub record IsDigit (digit number : ℕ) : Type 0 where
 
 -- so many hexadecimal digits are at the place
 abbrev pub digits_at : List ℕ → ℕ → ℕ → Bool
-digits_at text at count = let digits = take count (rest text at) in (length digits == count) && list_all hex_digit digits
+digits_at text at count = let digits =
+    take count (rest text at) in (length digits == count) && list_all hex_digit digits
 
 -- and they are this number
 pub record IsNumberAt (text : List ℕ) (at count number : ℕ) : Type 0 where
@@ -82,8 +85,10 @@ pub record JoinsAt (n : ℕ) (c : FlowContext) (text : List ℕ) (at empties nex
   pub above : at < next
   pub boundary : IsCharBoundary text next
   pub means : (escaped : Bool) (prefix blank : List ℕ) → BeginsJoin n prefix escaped blank (rest text at)
-      → double_value n c prefix ≡ with_prefix (if escaped then line_feeds empties else folded_break empties) (double_value n c (rest text next))
+      → double_value n c prefix ≡ with_prefix (if escaped then line_feeds empties else folded_break empties)
+      (double_value n c (rest text next))
 
 -- a scalar with a join there has no value
 abbrev pub NoJoinAt : ℕ → FlowContext → List ℕ → ℕ → Type 0
-NoJoinAt n c text at = (escaped : Bool) (prefix blank : List ℕ) → BeginsJoin n prefix escaped blank (rest text at) → double_value n c prefix ≡ None
+NoJoinAt n c text at = (escaped : Bool) (prefix blank : List ℕ) → BeginsJoin n prefix escaped blank (rest text at)
+    → double_value n c prefix ≡ None

@@ -17,7 +17,8 @@ pub record IsFold (n : ℕ) (text : List ℕ) (at empties next : ℕ) : Type 0 w
   pub above : at < next
   pub boundary : IsCharBoundary text next
   pub join : Bool → List ℕ → Join
-  pub found : (escaped : Bool) (blank : List ℕ) → after_blank escaped n blank (rest text at) ≡ Some (join escaped blank, rest text next)
+  pub found : (escaped : Bool) (blank : List ℕ)
+      → after_blank escaped n blank (rest text at) ≡ Some (join escaped blank, rest text next)
   pub escapes : (escaped : Bool) (blank : List ℕ) → (join escaped blank).escaped ≡ escaped
   pub counts : (escaped : Bool) (blank : List ℕ) → length (join escaped blank).empties ≡ empties
 
@@ -32,7 +33,8 @@ pub record IsPrefix (n : ℕ) (text : List ℕ) (at end : ℕ) (indented : Bool)
   pub boundary : IsCharBoundary text end
   pub indent : indents n (take_while white (rest text at)) ≡ indented
   pub skips : indented ≡ true → drop_while white (rest text at) ≡ rest text end
-  pub empty : (stop : Break) (after : List ℕ) → read_break (rest text end) ≡ Some (stop, after) → (line : FlowEmptyLine) × (read_empty n (rest text at) ≡ Some (line, after))
+  pub empty : (stop : Break) (after : List ℕ) → read_break (rest text end) ≡ Some (stop, after)
+      → (line : FlowEmptyLine) × (read_empty n (rest text at) ≡ Some (line, after))
   pub no_empty : read_break (rest text end) ≡ None → read_empty n (rest text at) ≡ None
 
 -- the white at the end of what is between two places

@@ -39,7 +39,8 @@ pub record BeginsPlain (c : FlowContext) (text : List ℕ) (at end : ℕ) : Type
   pub boundary : IsCharBoundary text end
   pub character : ℕ
   pub splits : rest text at ≡ character ∷ rest text end
-  pub begins : no_marker (line_starts text at) (character ∷ rest text end) && plain_first c character (rest text end) ≡ true
+  pub begins : no_marker (line_starts text at) (character ∷ rest text end)
+      && plain_first c character (rest text end) ≡ true
 
 -- no plain scalar starts at the place
 abbrev pub NoPlainBegins : FlowContext → List ℕ → ℕ → Type 0
@@ -51,7 +52,8 @@ NoPlainBegins c text at = begins_plain c (line_starts text at) (rest text at) �
 pub record IsPlainPiece (c : FlowContext) (black : Bool) (text : List ℕ) (at end : ℕ) : Type 0 where
   pub above : at < end
   pub boundary : IsCharBoundary text end
-  pub goes_on : (before last : ℕ) → ns before ≡ black → ns last ≡ true → read_run c before (rest text at) ≡ between text at end ++ read_run c last (rest text end)
+  pub goes_on : (before last : ℕ) → ns before ≡ black → ns last ≡ true
+      → read_run c before (rest text at) ≡ between text at end ++ read_run c last (rest text end)
 
 -- no plain character is at the place
 abbrev pub NoPlainPiece : FlowContext → Bool → List ℕ → ℕ → Type 0
@@ -76,7 +78,8 @@ pub record IsNextLine (n : ℕ) (c : FlowContext) (text : List ℕ) (at empties 
   pub prefix : IsCharBoundary text start
   pub boundary : IsCharBoundary text end
   pub line : Line ℕ
-  pub found : plain_lines_at n c (rest text at) ≡ (line ∷ (plain_lines_at n c (rest text end)).0, (plain_lines_at n c (rest text end)).1)
+  pub found : plain_lines_at n c (rest text at)
+      ≡ (line ∷ (plain_lines_at n c (rest text end)).0, (plain_lines_at n c (rest text end)).1)
   pub means : line_value char_value line ≡ folded_break empties ++ between text start end
 
 -- no further line starts at the place
@@ -89,7 +92,8 @@ lines_value n c text at = flat_map (line_value char_value) (plain_lines_at n c (
 
 -- From the line that ends at the place `at` all further ones go to the end, and the value is added to by what they
 -- mean.
-pub record PushesLines (n : ℕ) (c : FlowContext) (text : List ℕ) (at : ℕ) (line value longer : List ℕ) (end : ℕ) : Type 0 where
+pub record PushesLines (n : ℕ) (c : FlowContext) (text : List ℕ) (at : ℕ) (line value longer : List ℕ)
+    (end : ℕ) : Type 0 where
   pub above : at ≤ end
   pub boundary : IsCharBoundary text end
   pub left : (plain_lines_at n c (rest text at)).1 ≡ rest text end

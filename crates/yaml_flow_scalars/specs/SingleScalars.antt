@@ -22,7 +22,8 @@ is_unchanged b = not (quote b || line_break b)
 
 -- Where neither a quote nor a break is between the quotes the value is borrowed, and is what is there.
 abbrev pub BorrowsContent : {A : Type 0} → List ℕ → ℕ → ℕ → CowStr A → Type 0
-BorrowsContent text from to value = AllPass is_unchanged (slice_range text from to) → IsBorrowedStr value × (cow_str_bytes value ≡ slice_range text from to)
+BorrowsContent text from to value = AllPass is_unchanged (slice_range text from to)
+    → IsBorrowedStr value × (cow_str_bytes value ≡ slice_range text from to)
 
 -- the value of what comes after an opening quote up to the closing one, and what comes after that
 abbrev pub read_inside : ℕ → FlowContext → List ℕ → Read (List ℕ)

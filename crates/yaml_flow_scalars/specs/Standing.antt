@@ -12,7 +12,8 @@ use Rattle.yaml_events.specs.EventPlaces.{line_starts}
 use Rattle.yaml_recognizers.specs.WholeScalars.{StandsWhole, IsScalar}
 
 -- A scalar of this style and value is whole between the two places, and each that is whole at the first is such a one.
-pub record ScalarAt (style : Style) (n : ℕ) (c : FlowContext) (text : List ℕ) (at : ℕ) (value : List ℕ) (end : ℕ) : Type 0 where
+pub record ScalarAt (style : Style) (n : ℕ) (c : FlowContext) (text : List ℕ) (at : ℕ) (value : List ℕ)
+    (end : ℕ) : Type 0 where
   pub above : at < end
   pub boundary : IsCharBoundary text end
   pub scalar : IsScalar n c (line_starts text at) (rest text at) style value (rest text end)
@@ -20,7 +21,8 @@ pub record ScalarAt (style : Style) (n : ℕ) (c : FlowContext) (text : List ℕ
 -- no scalar of this style is whole at the place
 abbrev pub NoScalarAt : Style → ℕ → FlowContext → List ℕ → ℕ → Type 0
 NoScalarAt style n c text at =
-    (s : Scalar) (after : List ℕ) → style_of s ≡ style → StandsWhole n c (line_starts text at) (rest text at) s after → ⊥
+    (s : Scalar) (after : List ℕ) → style_of s ≡ style → StandsWhole n c (line_starts text at) (rest text at) s after
+    → ⊥
 
 -- a value that is borrowed has no break between its places
 abbrev pub IsUnbroken : {A : Type 0} → List ℕ → ℕ → CowStr A → ℕ → Type 0

@@ -124,24 +124,28 @@ abbrev mutual
   -- [188] ns-l-block-map-entry, 8.2.2: the last one
   pairs_fit (pair p) k bol after = pair_fits p k bol after
   -- [187] and [195], 8.2.2: an entry ([188]), the indentation, and further entries
-  pairs_fit (pair_and p ps) k bol after = pair_fits p k bol (spaces k ++ (pairs_text ps k ++ after)) && pairs_fit ps k (k == 0) after
+  pairs_fit (pair_and p ps) k bol after =
+      pair_fits p k bol (spaces k ++ (pairs_text ps k ++ after)) && pairs_fit ps k (k == 0) after
 
   -- [188] ns-l-block-map-entry, 8.2.2
   pub pair_fits : Pair → ℕ → Bool → List ℕ → Bool
   -- [189] c-l-block-map-explicit-entry, 8.2.2: a key ([190]) and a value ([191])
   pair_fits (asked key value) k bol after =
       let rest = spaces k ++ (codes ":" ++ (indented_text value k ++ after)) in
-      not (first ns (indented_text key k ++ rest)) && not (is_omitted key) && indented_fits key k true rest && indented_fits value k true after
+      not (first ns (indented_text key k ++ rest)) && not (is_omitted key) && indented_fits key k true rest
+      && indented_fits value k true after
   -- [189] c-l-block-map-explicit-entry, 8.2.2: a key ([190]), and no value ([106] e-node, 7.2)
   pair_fits (asked_alone key) k bol after =
       not (first ns (indented_text key k ++ after)) && not (is_omitted key) && indented_fits key k true after
   -- [192] ns-l-block-map-implicit-entry, 8.2.2: a key ([193]), and a node as its value ([194])
   pair_fits (keyed key gap value) k bol after =
-      flow_fits key 0 block_key bol (gap ++ (codes ":" ++ (node_text value ++ after))) && list_all white gap && short_key key gap
+      flow_fits key 0 block_key bol (gap ++ (codes ":" ++ (node_text value ++ after))) && list_all white gap
+      && short_key key gap
       && node_fits value (suc k) true false after
   -- [192] ns-l-block-map-implicit-entry, 8.2.2: a key ([193]), and no node after its `:` ([194])
   pair_fits (keyed_alone key gap comments) k bol after =
-      flow_fits key 0 block_key bol (gap ++ (codes ":" ++ (comments_text comments ++ after))) && list_all white gap && short_key key gap
+      flow_fits key 0 block_key bol (gap ++ (codes ":" ++ (comments_text comments ++ after))) && list_all white gap
+      && short_key key gap
       && comments_fit false comments after
 
   -- [185] s-l+block-indented, 8.2.1
@@ -202,7 +206,8 @@ abbrev mutual
   -- the events of items
   pub items_events : Items → ℕ → ℕ → List Event
   items_events (item i) k at = indented_events i k (at + 1)
-  items_events (item_and i is) k at = indented_events i k (at + 1) ++ items_events is k (at + 1 + byte_len (indented_text i k) + k)
+  items_events (item_and i is) k at =
+      indented_events i k (at + 1) ++ items_events is k (at + 1 + byte_len (indented_text i k) + k)
 
   -- the events of pairs
   pub pairs_events : Pairs → ℕ → ℕ → List Event
@@ -211,10 +216,13 @@ abbrev mutual
 
   -- the events of a pair
   pub pair_events : Pair → ℕ → ℕ → List Event
-  pair_events (asked key value) k at = indented_events key k (at + 1) ++ indented_events value k (at + 1 + byte_len (indented_text key k) + k + 1)
+  pair_events (asked key value) k at =
+      indented_events key k (at + 1) ++ indented_events value k (at + 1 + byte_len (indented_text key k) + k + 1)
   pair_events (asked_alone key) k at = indented_events key k (at + 1) ++ omitted_at (indented_end key k (at + 1))
-  pair_events (keyed key gap value) k at = flow_events key at ++ node_events value (at + byte_len (flow_text key) + byte_len gap + 1)
-  pair_events (keyed_alone key gap comments) k at = flow_events key at ++ omitted_at (at + byte_len (flow_text key) + byte_len gap + 1)
+  pair_events (keyed key gap value) k at =
+      flow_events key at ++ node_events value (at + byte_len (flow_text key) + byte_len gap + 1)
+  pair_events (keyed_alone key gap comments) k at =
+      flow_events key at ++ omitted_at (at + byte_len (flow_text key) + byte_len gap + 1)
 
   -- the events of what comes after a sign
   pub indented_events : Indented → ℕ → ℕ → List Event

@@ -102,7 +102,8 @@ block_text b = bare_block_text b ++ comments_text b.trail
 -- [70] l-empty, 6.4: an empty line has at most q spaces, then a break
 abbrev pub block_empties_fit : ℕ → List BlockEmptyLine → List ℕ → Bool
 block_empties_fit q [] after = true
-block_empties_fit q (g ∷ gs) after = nat_le g.width q && break_fits g.stop (block_empties_text gs ++ after) && block_empties_fit q gs after
+block_empties_fit q (g ∷ gs) after =
+    nat_le g.width q && break_fits g.stop (block_empties_text gs ++ after) && block_empties_fit q gs after
 
 -- [171] l-nb-literal-text, 8.1.2, and [175], [177], 8.1.3: a text line has q spaces and at least one character after
 -- them, which may be whitespace, and doesn't start as a marker
@@ -186,7 +187,8 @@ header_fits h after = digit_fits h.digit && line_end_fits false h.line_end after
 -- digit or none; no line after it goes on with it
 abbrev pub body_fits : Option ℕ → ℕ → Body → List ℕ → Bool
 body_fits digit m b after =
-    indent_fits digit m b.indent b.empties b.texts after && block_empties_fit b.indent b.empties (text_lines_text b.indent b.texts ++ after)
+    indent_fits digit m b.indent b.empties b.texts after
+    && block_empties_fit b.indent b.empties (text_lines_text b.indent b.texts ++ after)
     && text_lines_fit b.indent b.texts after && not (goes_on b.indent after)
 
 -- [170] c-l+literal and [174] c-l+folded, 8.1: what a block scalar has to meet

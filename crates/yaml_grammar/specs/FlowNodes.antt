@@ -52,7 +52,8 @@ abbrev mutual
   pub entries_text : Entries → List ℕ
   entries_text none = []
   entries_text (last e gap) = entry_text e ++ gap_text gap
-  entries_text (next e before after es) = entry_text e ++ gap_text before ++ codes "," ++ gap_text after ++ entries_text es
+  entries_text (next e before after es) =
+      entry_text e ++ gap_text before ++ codes "," ++ gap_text after ++ entries_text es
 
   -- the text of an entry
   pub entry_text : Entry → List ℕ
@@ -122,7 +123,8 @@ abbrev mutual
   entries_fit (next e before gap_after es) n d in_seq bol after =
       let rest = gap_text gap_after ++ (entries_text es ++ after) in
       entry_fits e n d in_seq bol (gap_text before ++ (codes "," ++ rest))
-      && gap_fits n (one_line d) before (codes "," ++ rest) && gap_fits n (one_line d) gap_after (entries_text es ++ after)
+      && gap_fits n (one_line d) before (codes "," ++ rest)
+      && gap_fits n (one_line d) gap_after (entries_text es ++ after)
       && entries_fit es n d in_seq (starts_line false (gap_text gap_after)) after
 
   -- [139] ns-flow-seq-entry, [142] ns-flow-map-entry and [150] ns-flow-pair
@@ -133,7 +135,8 @@ abbrev mutual
       gap_fits n (one_line d) ask (flow_text key ++ (value_text value ++ after))
       && (if single_pair in_seq ask value
       then flow_fits key 0 flow_key bol (value_text value ++ after) && short_key key (before_colon value)
-      else flow_fits key n d (if is_some ask then starts_line false (gap_text ask) else bol) (value_text value ++ after))
+      else flow_fits key n d (if is_some ask then starts_line false (gap_text ask) else bol)
+      (value_text value ++ after))
       && value_fits value n d (one_line d || single_pair in_seq ask value) (is_plain key) after
 
   -- [147], [149], 7.4.2. key: the whitespace before the `:` is on its line. after_plain: after a plain key, `:` needs
@@ -170,7 +173,8 @@ abbrev mutual
   entries_events (last e gap) in_seq at = entry_events e in_seq at
   entries_events (next e before after es) in_seq at =
       entry_events e in_seq at
-      ++ entries_events es in_seq (at + byte_len (entry_text e) + byte_len (gap_text before) + 1 + byte_len (gap_text after))
+      ++ entries_events es in_seq (at + byte_len (entry_text e) + byte_len (gap_text before) + 1
+      + byte_len (gap_text after))
 
   -- the events of one entry
   pub entry_events : Entry → Bool → ℕ → List Event
@@ -185,4 +189,5 @@ abbrev mutual
   pub value_events : Value → ℕ → List Event
   value_events absent at = omitted_at at
   value_events (empty gap) at = omitted_at (at + byte_len (gap_text gap) + 1)
-  value_events (given before after f) at = flow_events f (at + byte_len (gap_text before) + 1 + byte_len (gap_text after))
+  value_events (given before after f) at =
+      flow_events f (at + byte_len (gap_text before) + 1 + byte_len (gap_text after))

@@ -104,7 +104,8 @@ scalar_text (double prefix more) = codes "\"" ++ lines_text quoted_char_text pre
 
 -- [70] l-empty, 6.4: an indentation of n and whitespace, or fewer spaces
 abbrev pub flow_empty_fits : ℕ → FlowEmptyLine → List ℕ → Bool
-flow_empty_fits n e after = list_all white e.blank && (begins (spaces n) e.blank || list_all space e.blank) && break_fits e.stop after
+flow_empty_fits n e after = list_all white e.blank && (begins (spaces n) e.blank || list_all space e.blank)
+    && break_fits e.stop after
 
 -- [70] l-empty, 6.4: each of the empty lines fits
 abbrev pub flow_empties_fit : ℕ → List FlowEmptyLine → List ℕ → Bool
@@ -131,7 +132,8 @@ from_lead kind l after = l.lead ++ (flat_map kind.spell l.held ++ after)
 abbrev pub join_fits : {A : Type 0} → Kind A → ℕ → List A → Line A → List ℕ → Bool
 join_fits kind n before l after =
     (if l.escaped then is_empty l.blank else list_all white l.blank && not (ends kind.blank before))
-    && break_fits l.stop (flow_empties_text l.empties ++ from_lead kind l after) && flow_empties_fit n l.empties (from_lead kind l after)
+    && break_fits l.stop (flow_empties_text l.empties ++ from_lead kind l after)
+    && flow_empties_fit n l.empties (from_lead kind l after)
     && indents n l.lead && not (first kind.blank l.held) && no_marker true (from_lead kind l after)
 
 -- the text of further lines, and the text after them
@@ -155,7 +157,8 @@ plain_first c x after = ns x && (not (indicator x) || (is_in x (codes "?:-") && 
 -- not whitespace
 abbrev pub plain_next : FlowContext → ℕ → ℕ → List ℕ → Bool
 plain_next c prev x after =
-    (safe c x && not (is_in x (codes ":#"))) || ((x == colon) && first (safe c) after) || ((x == number_sign) && ns prev)
+    (safe c x && not (is_in x (codes ":#"))) || ((x == colon) && first (safe c) after)
+    || ((x == number_sign) && ns prev)
 
 -- [132] nb-ns-plain-in-line, 7.3.3: after the character prev, whitespace and plain characters, of which a plain
 -- character is the last
@@ -211,7 +214,8 @@ quoted_char_fits (raw c) = nb_json c && not (is_in c (codes "\"\\"))
 quoted_char_fits (escape c) = is_in c (tab ∷ codes "0abtnvfre \"/\\N_LP")
 -- [62] c-ns-esc-char, 5.7: [59] to [61]; a surrogate or a number above x10FFFF is no character
 quoted_char_fits (number c digits) =
-    is_in c (codes "xuU") && (length digits == digits_after c) && list_all hex_digit digits && code_point (hex_value 0 digits)
+    is_in c (codes "xuU") && (length digits == digits_after c) && list_all hex_digit digits
+    && code_point (hex_value 0 digits)
 
 -- whitespace; an escape is none
 abbrev pub is_blank_char : QuotedChar → Bool
@@ -240,14 +244,18 @@ quoted_lines kind p escapes n before (l ∷ ls) after =
 abbrev pub scalar_fits : ℕ → FlowContext → Bool → Scalar → List ℕ → Bool
 -- [131] ns-plain, 7.3.3
 scalar_fits n c bol (plain prefix more) after =
-    no_marker bol (lines_text plain_text prefix more ++ after) && plain_line c prefix (lines_after plain_kind more after)
+    no_marker bol (lines_text plain_text prefix more ++ after)
+    && plain_line c prefix (lines_after plain_kind more after)
     && plain_lines n c prefix more after && (is_empty more || not (one_line c))
 -- [120] c-single-quoted, 7.3.2
 scalar_fits n c bol (single prefix more) after =
-    list_all nb_json prefix && quoted_lines single_kind nb_json false n prefix more (codes "'" ++ after) && (is_empty more || not (one_line c))
+    list_all nb_json prefix && quoted_lines single_kind nb_json false n prefix more (codes "'" ++ after)
+    && (is_empty more || not (one_line c))
 -- [109] c-double-quoted, 7.3.1
 scalar_fits n c bol (double prefix more) after =
-    list_all quoted_char_fits prefix && quoted_lines double_kind quoted_char_fits true n prefix more (codes "\"" ++ after) && (is_empty more || not (one_line c))
+    list_all quoted_char_fits prefix
+    && quoted_lines double_kind quoted_char_fits true n prefix more (codes "\"" ++ after)
+    && (is_empty more || not (one_line c))
 
 -- ---- the value of the lines of a flow scalar
 
@@ -258,10 +266,13 @@ line_feeds n = replicate n line_feed
 -- [42] to [58], 5.7: the character that a backslash and this one mean
 abbrev pub escaped_char : ℕ → ℕ
 escaped_char c =
-    if c == digit_zero then null else if c == small_a then bell else if c == small_b then backspace else if c == small_t then tab
+    if c == digit_zero then null else if c == small_a then bell else if c == small_b then backspace
+    else if c == small_t then tab
     else if c == small_n then line_feed else if c == small_v then vertical_tab else if c == small_f then form_feed
-    else if c == small_r then carriage_return else if c == small_e then escape_char else if c == capital_n then next_line
-    else if c == low_line then no_break_space else if c == capital_l then line_separator else if c == capital_p then paragraph_separator
+    else if c == small_r then carriage_return else if c == small_e then escape_char else if c == capital_n
+    then next_line
+    else if c == low_line then no_break_space else if c == capital_l then line_separator else if c == capital_p
+    then paragraph_separator
     else c
 
 -- the character that one thing between double quotes means
@@ -287,7 +298,8 @@ folded_break (suc k) = line_feeds (suc k)
 -- [73] b-l-folded, 6.5, and [112] s-double-escaped, 7.3.1: what a further line adds; after a backslash the break itself
 -- is nothing
 abbrev pub line_value : {A : Type 0} → (A → ℕ) → Line A → List ℕ
-line_value value l = (if l.escaped then line_feeds (length l.empties) else folded_break (length l.empties)) ++ values value l.held
+line_value value l = (if l.escaped then line_feeds (length l.empties) else folded_break (length l.empties))
+    ++ values value l.held
 
 -- 6.5, line folding: the value of the first line and of all further ones
 abbrev pub flow_fold : {A : Type 0} → (A → ℕ) → List A → List (Line A) → List ℕ

@@ -68,7 +68,8 @@ suffix_text comments = codes "..." ++ comments_text comments
 
 -- the text of a part
 abbrev pub part_text : Part → List ℕ
-part_text (suffixes one more prefix document) = suffix_text one ++ flat_map suffix_text more ++ comments_text prefix ++ optional document_text document
+part_text (suffixes one more prefix document) =
+    suffix_text one ++ flat_map suffix_text more ++ comments_text prefix ++ optional document_text document
 part_text (line e) = line_end_text e
 part_text (further x) = explicit_text x
 
@@ -89,7 +90,8 @@ stream_text s = mark_text s.mark ++ comments_text s.prefix ++ optional document_
 -- `---` is at the start of a line, as a marker
 abbrev pub explicit_fits : Explicit → Bool → List ℕ → Bool
 -- [208] l-explicit-document, 9.1.4: [203] c-directives-end and a node
-explicit_fits (content n) bol after = bol && marker (explicit_text (content n) ++ after) && node_fits n 0 false false after
+explicit_fits (content n) bol after =
+    bol && marker (explicit_text (content n) ++ after) && node_fits n 0 false false after
 -- [208] l-explicit-document, 9.1.4: [203] c-directives-end, [106] e-node and [79] s-l-comments
 explicit_fits (nothing comments) bol after =
     bol && marker (explicit_text (nothing comments) ++ after) && comments_fit false comments after
@@ -102,7 +104,8 @@ document_fits (bare n) bol after = node_fits n 0 false bol after
 document_fits (explicit x) bol after = explicit_fits x bol after
 -- [209] l-directive-document, 9.1.5, with [86] ns-yaml-directive, 6.8.1
 document_fits (directed blank version comments x) bol after =
-    bol && list_all white blank && not (is_empty blank) && comments_fit false comments (explicit_text x ++ after) && explicit_fits x true after
+    bol && list_all white blank && not (is_empty blank) && comments_fit false comments (explicit_text x ++ after)
+    && explicit_fits x true after
 
 -- [211] l-yaml-stream, 9.2: a document that may be left out
 abbrev pub optional_document_fits : Option Document → Bool → List ℕ → Bool
@@ -134,7 +137,8 @@ part_fits (further x) bol after = explicit_fits x bol after
 -- [211] l-yaml-stream, 9.2: each of the parts fits
 abbrev pub parts_fit : List Part → Bool → List ℕ → Bool
 parts_fit [] bol after = is_empty after
-parts_fit (p ∷ ps) bol after = part_fits p bol (parts_text ps ++ after) && parts_fit ps (starts_line bol (part_text p)) after
+parts_fit (p ∷ ps) bol after =
+    part_fits p bol (parts_text ps ++ after) && parts_fit ps (starts_line bol (part_text p)) after
 
 -- [211] l-yaml-stream, 9.2: a stream fits; the place after a byte order mark is the start of a line
 abbrev pub fits : Stream → Bool
@@ -154,7 +158,8 @@ explicit_events (nothing comments) at = as_document (omitted_at (at + 3))
 abbrev pub document_events : Document → ℕ → List Event
 document_events (bare n) at = as_document (node_events n at)
 document_events (explicit x) at = explicit_events x at
-document_events (directed blank version comments x) at = explicit_events x (at + byte_len (directive_text blank version comments))
+document_events (directed blank version comments x) at =
+    explicit_events x (at + byte_len (directive_text blank version comments))
 
 -- the events of a document that may be left out
 abbrev pub optional_document_events : Option Document → ℕ → List Event
@@ -164,7 +169,8 @@ optional_document_events (Some d) at = document_events d at
 -- the events of a part
 abbrev pub part_events : Part → ℕ → List Event
 part_events (suffixes one more prefix document) at =
-    optional_document_events document (at + byte_len (suffix_text one) + byte_len (flat_map suffix_text more) + byte_len (comments_text prefix))
+    optional_document_events document
+    (at + byte_len (suffix_text one) + byte_len (flat_map suffix_text more) + byte_len (comments_text prefix))
 part_events (line e) at = []
 part_events (further x) at = explicit_events x at
 

@@ -28,17 +28,20 @@ is_among value (w ∷ ws) = same_text value w || is_among value ws
 
 -- words that other schemas and versions of YAML take for something other than text
 abbrev pub special_words : List (List ℕ)
-special_words = codes "null" ∷ codes "true" ∷ codes "false" ∷ codes "yes" ∷ codes "no" ∷ codes "on" ∷ codes "off" ∷ codes "y" ∷ codes "n" ∷ []
+special_words = codes "null" ∷ codes "true" ∷ codes "false" ∷ codes "yes" ∷ codes "no" ∷ codes "on" ∷ codes "off"
+    ∷ codes "y" ∷ codes "n" ∷ []
 
 -- a word: it starts with a letter, has at most 128 characters, and is no special word in any letter case
 abbrev pub plain_in_style : List ℕ → Bool
-plain_in_style value = first letter value && list_all word_char value && nat_le (length value) 128 && not (is_among (lower value) special_words)
+plain_in_style value = first letter value && list_all word_char value && nat_le (length value) 128
+    && not (is_among (lower value) special_words)
 
 -- a character that is written as itself between double quotes and in a literal
 abbrev pub shown : ℕ → Bool
 shown c =
     in_range space_char tilde c
-    || (nat_le no_break_space c && printable c && not (is_in c (line_separator ∷ paragraph_separator ∷ byte_order_mark ∷ [])))
+    || (nat_le no_break_space c && printable c
+    && not (is_in c (line_separator ∷ paragraph_separator ∷ byte_order_mark ∷ [])))
 
 -- a shown character or a line feed
 abbrev pub shown_or_feed : ℕ → Bool
@@ -61,7 +64,8 @@ hex d = if nat_lt d 10 then digit_zero + d else 55 + d
 -- the letter of the short escape of a character that has one (5.7)
 abbrev pub letter_escape : ℕ → ℕ
 letter_escape c =
-    if c == null then digit_zero else if c == bell then small_a else if c == backspace then small_b else if c == tab then small_t
+    if c == null then digit_zero else if c == bell then small_a else if c == backspace then small_b else if c == tab
+    then small_t
     else if c == line_feed then small_n else if c == vertical_tab then small_v else if c == form_feed then small_f
     else if c == carriage_return then small_r else small_e
 
@@ -122,7 +126,8 @@ long_key key = nat_lt 1000 (length (key_text key))
 
 -- a key at the indentation i, through its `:`
 abbrev pub key_lines : ℕ → List ℕ → List ℕ
-key_lines i key = if long_key key then codes "? " ++ key_text key ++ codes "\n" ++ spaces i ++ codes ":" else key_text key ++ codes ":"
+key_lines i key = if long_key key then codes "? " ++ key_text key ++ codes "\n" ++ spaces i ++ codes ":"
+    else key_text key ++ codes ":"
 
 -- ---- trees
 

@@ -54,7 +54,8 @@ ends_word (c ∷ cs) = white c || line_break c
 
 -- [206] c-forbidden, 9.1.2: `---` or `...`, then whitespace, a break or the end of the text
 abbrev pub marker : List ℕ → Bool
-marker (a ∷ b ∷ c ∷ rest) = (begins (codes "---") (a ∷ b ∷ c ∷ []) || begins (codes "...") (a ∷ b ∷ c ∷ [])) && ends_word rest
+marker (a ∷ b ∷ c ∷ rest) = (begins (codes "---") (a ∷ b ∷ c ∷ []) || begins (codes "...") (a ∷ b ∷ c ∷ []))
+    && ends_word rest
 marker _ = false
 
 -- [206] c-forbidden, 9.1.2: No marker is at the start of a line inside a node. Here bol says whether a line starts

@@ -49,22 +49,26 @@ pub record TornPieces (ts : List Tree) (prefix : List ℕ) (padding : ℕ) : Typ
 
 -- the same for all lists of trees, and wherever they are cut
 abbrev pub TornInPieces : Type 0
-TornInPieces = (ts : List Tree) (prefix lost : List ℕ) (padding : ℕ) → all_framed_bytes ts ≡ prefix ++ lost → TornPieces ts prefix padding
+TornInPieces = (ts : List Tree) (prefix lost : List ℕ) (padding : ℕ) → all_framed_bytes ts ≡ prefix ++ lost
+    → TornPieces ts prefix padding
 
 -- bytes have only one list of pieces
 abbrev pub OnePieces : Type 0
-OnePieces = (bytes : List ℕ) (ps qs : List (List ℕ)) (rest other : List ℕ) → Pieces bytes ps rest → Pieces bytes qs other → (ps ≡ qs) × (rest ≡ other)
+OnePieces = (bytes : List ℕ) (ps qs : List (List ℕ)) (rest other : List ℕ) → Pieces bytes ps rest
+    → Pieces bytes qs other → (ps ≡ qs) × (rest ≡ other)
 
 -- between the start of a line and the next closing is a piece
 abbrev pub PieceBetween : Type 0
 PieceBetween = (prefix piece after : List ℕ) → IsTrue (ends_line prefix) → 0 < length piece
     → ClosesAt (prefix ++ (piece ++ after)) (length prefix + length piece)
-    → ((place : ℕ) → length prefix < place → ClosesAt (prefix ++ (piece ++ after)) place → length prefix + length piece ≤ place)
+    → ((place : ℕ) → length prefix < place → ClosesAt (prefix ++ (piece ++ after)) place
+    → length prefix + length piece ≤ place)
     → ClosesOnce piece
 
 -- what comes after the start of a line isn't closed where no closing comes after that place
 abbrev pub RestUnclosed : Type 0
-RestUnclosed = (prefix rest : List ℕ) → IsTrue (ends_line prefix) → ((place : ℕ) → length prefix < place → ClosesAt (prefix ++ rest) place → ⊥)
+RestUnclosed = (prefix rest : List ℕ) → IsTrue (ends_line prefix)
+    → ((place : ℕ) → length prefix < place → ClosesAt (prefix ++ rest) place → ⊥)
     → (place : ℕ) → ClosesAt rest place → ⊥
 
 -- all bytes have a list of pieces

@@ -24,8 +24,10 @@ FramedPresents = (t : Tree) → IsTextTree t → CanReadAs (framed_text t) t
 
 -- a good tree's text in the one style gives that tree
 abbrev pub StyleReads : Type 0
-StyleReads = (t : Tree) (limits : Limits) → Good t limits → byte_len (style_text t) ≤ limits.bytes → Gives (style_text t) limits t
+StyleReads = (t : Tree) (limits : Limits) → Good t limits → byte_len (style_text t) ≤ limits.bytes
+    → Gives (style_text t) limits t
 
 -- and so does that text between lines of `---` and `...`
 abbrev pub FramedReads : Type 0
-FramedReads = (t : Tree) (limits : Limits) → Good t limits → byte_len (framed_text t) ≤ limits.bytes → Gives (framed_text t) limits t
+FramedReads = (t : Tree) (limits : Limits) → Good t limits → byte_len (framed_text t) ≤ limits.bytes
+    → Gives (framed_text t) limits t

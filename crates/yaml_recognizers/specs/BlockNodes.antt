@@ -22,7 +22,8 @@ key_after key gap after = if sign colon after && short_key key gap then Some ((k
 
 -- [193] ns-s-block-map-implicit-key, 8.2.2
 abbrev pub block_key_at : (ℕ → FlowContext → Bool → List ℕ → Read Flow) → Bool → List ℕ → Read (Flow × List ℕ)
-block_key_at read_flow bol text = on (read_flow 0 block_key bol text) (λ key rest. key_after key (take_while white rest) (drop_while white rest))
+block_key_at read_flow bol text =
+    on (read_flow 0 block_key bol text) (λ key rest. key_after key (take_while white rest) (drop_while white rest))
 
 -- ---- nodes
 
@@ -76,7 +77,8 @@ abbrev pub indented_node : ℕ → Bool → (List ℕ → Read Node) → List �
 indented_node k shallow again text c =
     if omits (suc k) shallow c then Some (omitted c.0, c.1) else on (again text) (λ n rest'. Some (node n, rest'))
 
-module _ (read_key : Bool → List ℕ → Read (Flow × List ℕ)) (read_flow : ℕ → Bool → List ℕ → Read Flow) (read_block : ℕ → List ℕ → Read BlockScalar) where
+module _ (read_key : Bool → List ℕ → Read (Flow × List ℕ)) (read_flow : ℕ → Bool → List ℕ → Read Flow)
+    (read_block : ℕ → List ℕ → Read BlockScalar) where
   -- a pair starts here: with `?` or a key
   abbrev pub opens_pair : Bool → List ℕ → Bool
   opens_pair bol text = sign question text || is_some (read_key bol text)
@@ -93,7 +95,8 @@ module _ (read_key : Bool → List ℕ → Read (Flow × List ℕ)) (read_flow :
   leaf_at m bol (Some sep) text = leaf_after m bol sep text
 
   -- a node after comments
-  abbrev pub node_below : (ℕ → List ℕ → Read Items) → (ℕ → Bool → List ℕ → Read Pairs) → ℕ → Bool → Bool → List LineEnd × List ℕ → Read Node
+  abbrev pub node_below : (ℕ → List ℕ → Read Items) → (ℕ → Bool → List ℕ → Read Pairs) → ℕ → Bool → Bool
+      → List LineEnd × List ℕ → Read Node
   node_below items_at pairs_at m shallow bol c =
       let s = spaces_before c.1 in
       let rest = past_spaces c.1 in
@@ -108,35 +111,42 @@ module _ (read_key : Bool → List ℕ → Read (Flow × List ℕ)) (read_flow :
     pub read_node : ℕ → ℕ → Bool → Bool → List ℕ → Read Node
     read_node zero m shallow bol text = None
     read_node (suc fuel) m shallow bol text =
-        node_below (λ k rest. read_items fuel k rest) (λ k b rest. read_pairs fuel k b rest) m shallow bol (all_comments bol text)
+        node_below (λ k rest. read_items fuel k rest) (λ k b rest. read_pairs fuel k b rest) m shallow bol
+        (all_comments bol text)
 
     -- [183] l+block-sequence, 8.2.1: the items at k, after the spaces of the first
     pub read_items : ℕ → ℕ → List ℕ → Read Items
     read_items zero k text = None
     read_items (suc fuel) k text =
-        if sign dash text then on (read_indented fuel k false (past text)) (λ i rest. more_items k (λ t. read_items fuel k t) i rest) else None
+        if sign dash text then on (read_indented fuel k false (past text))
+        (λ i rest. more_items k (λ t. read_items fuel k t) i rest) else None
 
     -- [187] l+block-mapping, 8.2.2: the pairs at k, after the spaces of the first
     pub read_pairs : ℕ → ℕ → Bool → List ℕ → Read Pairs
     read_pairs zero k bol text = None
-    read_pairs (suc fuel) k bol text = on (read_pair fuel k bol text) (λ p rest. more_pairs k (λ t. read_pairs fuel k (k == 0) t) p rest)
+    read_pairs (suc fuel) k bol text =
+        on (read_pair fuel k bol text) (λ p rest. more_pairs k (λ t. read_pairs fuel k (k == 0) t) p rest)
 
     -- [188] ns-l-block-map-entry, 8.2.2
     pub read_pair : ℕ → ℕ → Bool → List ℕ → Read Pair
     read_pair zero k bol text = None
     read_pair (suc fuel) k bol text =
         if sign question text
-        then on (read_indented fuel k true (past text)) (λ key rest. asked_key k (λ t. read_indented fuel k true t) key rest)
-        else on (read_key bol text) (λ key rest. key_value k (λ t. read_node fuel (suc k) true false t) key rest (all_comments false rest))
+        then on (read_indented fuel k true (past text))
+        (λ key rest. asked_key k (λ t. read_indented fuel k true t) key rest)
+        else on (read_key bol text) (λ key rest. key_value k (λ t. read_node fuel (suc k) true false t) key rest
+        (all_comments false rest))
 
     -- [185] s-l+block-indented, 8.2.1: after `-`, `?` and `:` at k
     pub read_indented : ℕ → ℕ → Bool → List ℕ → Read Indented
     read_indented zero k shallow text = None
     read_indented (suc fuel) k shallow text =
         if nat_le 1 (spaces_before text) && sign dash (past_spaces text)
-        then on (read_items fuel (k + 1 + spaces_before text) (past_spaces text)) (λ is rest. Some (compact_items (spaces_before text) is, rest))
+        then on (read_items fuel (k + 1 + spaces_before text) (past_spaces text))
+        (λ is rest. Some (compact_items (spaces_before text) is, rest))
         else if nat_le 1 (spaces_before text) && opens_pair false (past_spaces text)
-        then on (read_pairs fuel (k + 1 + spaces_before text) false (past_spaces text)) (λ ps rest. Some (compact_pairs (spaces_before text) ps, rest))
+        then on (read_pairs fuel (k + 1 + spaces_before text) false (past_spaces text))
+        (λ ps rest. Some (compact_pairs (spaces_before text) ps, rest))
         else indented_node k shallow (λ t. read_node fuel (suc k) shallow false t) text (all_comments false text)
 
   -- a node, with all the levels that a text may need
@@ -160,6 +170,8 @@ module _ (read_key : Bool → List ℕ → Read (Flow × List ℕ)) (read_flow :
   deep_indented k shallow text = read_indented (4 * length text + 5) k shallow text
 
 -- a node, over recognizers of scalars
-abbrev pub whole_node : (ℕ → FlowContext → Bool → List ℕ → Read Scalar) → (ℕ → List ℕ → Read BlockScalar) → ℕ → Bool → Bool → List ℕ → Read Node
+abbrev pub whole_node : (ℕ → FlowContext → Bool → List ℕ → Read Scalar) → (ℕ → List ℕ → Read BlockScalar) → ℕ → Bool
+    → Bool → List ℕ → Read Node
 whole_node read_scalar read_block m shallow bol text =
-    deep_node (λ b t. block_key_at (whole_flow read_scalar) b t) (λ n b t. whole_flow read_scalar n outer b t) read_block m shallow bol text
+    deep_node (λ b t. block_key_at (whole_flow read_scalar) b t)
+    (λ n b t. whole_flow read_scalar n outer b t) read_block m shallow bol text

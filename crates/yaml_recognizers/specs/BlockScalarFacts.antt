@@ -17,11 +17,13 @@ pub record HeaderMeans (h : Header) (folded : Bool) (digit : Option ℕ) (chompi
   pub chomps : h.chomping ≡ chomping
 
 -- a header that says this is at the start of the text, and each one there says the same and ends there
-pub record IsHeader (text : List ℕ) (folded : Bool) (digit : Option ℕ) (chomping : Chomping) (rest : List ℕ) : Type 0 where
+pub record IsHeader (text : List ℕ) (folded : Bool) (digit : Option ℕ) (chomping : Chomping)
+    (rest : List ℕ) : Type 0 where
   pub header : Header
   pub stands : HeaderStands text header rest
   pub means : HeaderMeans header folded digit chomping
-  pub only : (h : Header) (after : List ℕ) → HeaderStands text h after → HeaderMeans h folded digit chomping × (after ≡ rest)
+  pub only : (h : Header) (after : List ℕ) → HeaderStands text h after
+      → HeaderMeans h folded digit chomping × (after ≡ rest)
 
 -- no header is at the start of the text
 abbrev pub NoHeader : List ℕ → Type 0
@@ -35,7 +37,8 @@ pub record BodyStands (digit : Option ℕ) (m : ℕ) (text : List ℕ) (b : Body
   pub fits : body_fits digit m b rest ≡ true
 
 -- one body of this value is at the start of the text, and no other
-pub record IsBody (digit : Option ℕ) (m : ℕ) (folded : Bool) (chomping : Chomping) (text value rest : List ℕ) : Type 0 where
+pub record IsBody (digit : Option ℕ) (m : ℕ) (folded : Bool) (chomping : Chomping)
+    (text value rest : List ℕ) : Type 0 where
   pub body : Body
   pub stands : BodyStands digit m text body rest
   pub means : value ≡ block_value folded chomping body.empties body.texts

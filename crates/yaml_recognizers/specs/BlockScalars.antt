@@ -31,7 +31,8 @@ read_header_end (c ∷ cs) = read_line_end false (c ∷ cs)
 -- the header, from its parts and the end of its line
 abbrev pub header_at : Bool → Option ℕ → Chomping → Bool → List ℕ → Read Header
 header_at folded digit chomping last text =
-    on (read_header_end text) (λ e rest. Some (record { folded = folded; digit = digit; chomping = chomping; digit_last = last; line_end = e }, rest))
+    on (read_header_end text) (λ e rest. Some
+    (record { folded = folded; digit = digit; chomping = chomping; digit_last = last; line_end = e }, rest))
 
 -- after a mark other than clip a digit may come
 abbrev pub after_mark : Bool → Chomping × List ℕ → Read Header
@@ -47,12 +48,14 @@ after_digit folded (Some d, text) = (let m = read_mark text in header_at folded 
 -- [162] c-b-block-header, 8.1.1
 abbrev pub read_header : List ℕ → Read Header
 read_header [] = None
-read_header (c ∷ cs) = if c == greater then after_digit true (read_digit cs) else if c == vertical_bar then after_digit false (read_digit cs) else None
+read_header (c ∷ cs) = if c == greater then after_digit true (read_digit cs) else if c == vertical_bar
+    then after_digit false (read_digit cs) else None
 
 -- ---- lines
 
 -- a first empty line, and then as many as the other recognizer finds
-abbrev pub more_empties : ℕ → List ℕ → (List ℕ → List BlockEmptyLine × List ℕ) → Read Break → List BlockEmptyLine × List ℕ
+abbrev pub more_empties : ℕ → List ℕ → (List ℕ → List BlockEmptyLine × List ℕ) → Read Break
+    → List BlockEmptyLine × List ℕ
 more_empties width text again None = ([], text)
 more_empties width text again (Some r) = let more = again r.1 in (record { width = width; stop = r.0 } ∷ more.0, more.1)
 
@@ -79,14 +82,17 @@ all_empties text = empties_of (λ _. true) text
 -- [171], 8.1.2, [175] and [177], 8.1.3: the line after its indentation, and the empty lines after it
 abbrev pub read_text_line : ℕ → List ℕ → Read TextLine
 read_text_line q line =
-    on (read_stop (drop_while nb line)) (λ stop rest. let g = empties_at q rest in Some (record { text = take_while nb line; stop = stop; empties = g.0 }, g.1))
+    on (read_stop (drop_while nb line))
+    (λ stop rest. let g = empties_at q rest in Some
+    (record { text = take_while nb line; stop = stop; empties = g.0 }, g.1))
 
 -- the text lines at the start of the text, up to the first line that is neither a text line nor empty
 abbrev pub read_text_lines : ℕ → ℕ → List ℕ → Read (List TextLine)
 read_text_lines zero q text = None
 read_text_lines (suc fuel) q text =
     if goes_on q text
-    then on (read_text_line q (drop q text)) (λ l rest. on (read_text_lines fuel q rest) (λ ls after. Some (l ∷ ls, after)))
+    then on (read_text_line q (drop q text))
+    (λ l rest. on (read_text_lines fuel q rest) (λ ls after. Some (l ∷ ls, after)))
     else Some ([], text)
 
 -- all text lines at an indentation

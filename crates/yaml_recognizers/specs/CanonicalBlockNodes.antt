@@ -15,7 +15,8 @@ use Rattle.yaml_recognizers.specs.CanonicalBlockScalars.{canonical_block}
 abbrev mutual
   -- [196] s-l+block-node, 8.2.3: a node in its canonical form
   pub canonical_node : Node → ℕ → Bool → Bool → List ℕ → Bool
-  canonical_node (block sep b) m shallow bol after = canonical_sep m false bol sep (block_text b ++ after) && canonical_block m b after
+  canonical_node (block sep b) m shallow bol after =
+      canonical_sep m false bol sep (block_text b ++ after) && canonical_block m b after
   canonical_node (flow sep f comments) m shallow bol after =
       canonical_sep m false bol sep (flow_text f ++ (comments_text comments ++ after))
       && canonical_flow f m outer (starts_line bol (sep_text sep)) (comments_text comments ++ after)
@@ -24,7 +25,8 @@ abbrev mutual
       canonical_comments bol comments (spaces k ++ (items_text is k ++ after))
       && nat_le m (if shallow then suc k else k) && canonical_items is k after
   canonical_node (pairs comments k ps) m shallow bol after =
-      canonical_comments bol comments (spaces k ++ (pairs_text ps k ++ after)) && nat_le m k && canonical_pairs ps k (k == 0) after
+      canonical_comments bol comments (spaces k ++ (pairs_text ps k ++ after)) && nat_le m k
+      && canonical_pairs ps k (k == 0) after
 
   -- [183] and [186], 8.2.1: items in their canonical form
   pub canonical_items : Items → ℕ → List ℕ → Bool
@@ -37,20 +39,24 @@ abbrev mutual
   -- of a line
   pub canonical_pairs : Pairs → ℕ → Bool → List ℕ → Bool
   canonical_pairs (pair p) k bol after = canonical_pair p k bol after
-  canonical_pairs (pair_and p ps) k bol after = canonical_pair p k bol (spaces k ++ (pairs_text ps k ++ after)) && canonical_pairs ps k (k == 0) after
+  canonical_pairs (pair_and p ps) k bol after =
+      canonical_pair p k bol (spaces k ++ (pairs_text ps k ++ after)) && canonical_pairs ps k (k == 0) after
 
   -- [189] to [194], 8.2.2: a pair in its canonical form
   pub canonical_pair : Pair → ℕ → Bool → List ℕ → Bool
   canonical_pair (asked key value) k bol after =
       let rest = spaces k ++ (codes ":" ++ (indented_text value k ++ after)) in
-      not (first ns (indented_text key k ++ rest)) && not (is_omitted key) && canonical_indented key k true rest && canonical_indented value k true after
+      not (first ns (indented_text key k ++ rest)) && not (is_omitted key) && canonical_indented key k true rest
+      && canonical_indented value k true after
   canonical_pair (asked_alone key) k bol after =
       not (first ns (indented_text key k ++ after)) && not (is_omitted key) && canonical_indented key k true after
   canonical_pair (keyed key gap value) k bol after =
-      canonical_flow key 0 block_key bol (gap ++ (codes ":" ++ (node_text value ++ after))) && list_all white gap && short_key key gap
+      canonical_flow key 0 block_key bol (gap ++ (codes ":" ++ (node_text value ++ after))) && list_all white gap
+      && short_key key gap
       && canonical_node value (suc k) true false after
   canonical_pair (keyed_alone key gap comments) k bol after =
-      canonical_flow key 0 block_key bol (gap ++ (codes ":" ++ (comments_text comments ++ after))) && list_all white gap && short_key key gap
+      canonical_flow key 0 block_key bol (gap ++ (codes ":" ++ (comments_text comments ++ after)))
+      && list_all white gap && short_key key gap
       && canonical_comments false comments after
 
   -- [185] s-l+block-indented, 8.2.1: what comes after a sign, in its canonical form

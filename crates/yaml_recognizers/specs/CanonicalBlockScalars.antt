@@ -17,4 +17,5 @@ whole_trail q (e ∷ es) after = not (is_line_end after)
 
 -- [170] c-l+literal and [174] c-l+folded, 8.1: a block scalar in its canonical form
 abbrev pub canonical_block : ℕ → BlockScalar → List ℕ → Bool
-canonical_block m b after = block_fits m b after && canonical_header b.header && whole_trail (b.body).indent b.trail after
+canonical_block m b after = block_fits m b after && canonical_header b.header
+    && whole_trail (b.body).indent b.trail after

@@ -26,7 +26,8 @@ abbrev mutual
   canonical_entries (next e before gap_after es) n d in_seq bol after =
       let rest = gap_text gap_after ++ (entries_text es ++ after) in
       canonical_entry e n d in_seq bol (gap_text before ++ (codes "," ++ rest))
-      && canonical_gap n (one_line d) before (codes "," ++ rest) && canonical_gap n (one_line d) gap_after (entries_text es ++ after)
+      && canonical_gap n (one_line d) before (codes "," ++ rest)
+      && canonical_gap n (one_line d) gap_after (entries_text es ++ after)
       && canonical_entries es n d in_seq (starts_line false (gap_text gap_after)) after
 
   -- [139], [142] and [150], 7.4: an entry in its canonical form
@@ -35,7 +36,8 @@ abbrev mutual
       canonical_gap n (one_line d) ask (flow_text key ++ (value_text value ++ after))
       && (if single_pair in_seq ask value
       then canonical_flow key 0 flow_key bol (value_text value ++ after) && short_key key (before_colon value)
-      else canonical_flow key n d (if is_some ask then starts_line false (gap_text ask) else bol) (value_text value ++ after))
+      else canonical_flow key n d (if is_some ask then starts_line false (gap_text ask) else bol)
+      (value_text value ++ after))
       && canonical_value value n d (one_line d || single_pair in_seq ask value) (is_plain key) after
 
   -- [147] and [149], 7.4.2. key: the whitespace before the `:` is on its line; after_plain: after a plain key, `:`

@@ -52,10 +52,12 @@ canonical_explicit (nothing comments) bol after =
 -- [210] l-any-document, 9.2: A bare document and a directive are at the start of the stream or after a suffix,
 -- perhaps with lines between; opened says so. The lines before a bare document are pieces of their own.
 abbrev pub canonical_document : Document → Bool → Bool → List ℕ → Bool
-canonical_document (bare n) opened bol after = opened && not (is_line_end (node_text n ++ after)) && canonical_node n 0 false bol after
+canonical_document (bare n) opened bol after =
+    opened && not (is_line_end (node_text n ++ after)) && canonical_node n 0 false bol after
 canonical_document (explicit x) opened bol after = canonical_explicit x bol after
 canonical_document (directed blank version comments x) opened bol after =
-    opened && bol && list_all white blank && not (is_empty blank) && canonical_comments false comments (explicit_text x ++ after)
+    opened && bol && list_all white blank && not (is_empty blank)
+    && canonical_comments false comments (explicit_text x ++ after)
     && canonical_explicit x true after
 
 -- [211] l-yaml-stream, 9.2: a piece in its canonical form; `...` is at the start of a line, as a marker
@@ -75,7 +77,8 @@ opens opened (document d) = false
 abbrev pub canonical_pieces : List Piece → Bool → Bool → Bool
 canonical_pieces [] opened bol = true
 canonical_pieces (p ∷ ps) opened bol =
-    canonical_piece p opened bol (pieces_text ps) && canonical_pieces ps (opens opened p) (starts_line bol (piece_text p))
+    canonical_piece p opened bol (pieces_text ps)
+    && canonical_pieces ps (opens opened p) (starts_line bol (piece_text p))
 
 -- [211] l-yaml-stream, 9.2: a flat stream is canonical; the place after a byte order mark is the start of a line
 abbrev pub canonical_stream : FlatStream → Bool

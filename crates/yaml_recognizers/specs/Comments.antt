@@ -21,7 +21,8 @@ read_break (c ∷ cs) = if c == line_feed then Some (lf, cs) else if c == carria
 -- [76] b-comment, 6.6: a break, or the end of the text
 abbrev pub read_stop : List ℕ → Read (Option Break)
 read_stop [] = Some (None, [])
-read_stop (c ∷ cs) = if c == line_feed then Some (Some lf, cs) else if c == carriage_return then (let r = read_cr cs in Some (Some r.0, r.1)) else None
+read_stop (c ∷ cs) = if c == line_feed then Some (Some lf, cs) else if c == carriage_return
+    then (let r = read_cr cs in Some (Some r.0, r.1)) else None
 
 -- a line's end, from its whitespace, its comment and its stop
 abbrev pub line_end_with_stop : List ℕ → Option (List ℕ) → Read (Option Break) → Read LineEnd
@@ -34,7 +35,8 @@ line_end_with_stop blank comment (Some r) =
 abbrev pub read_after_blank : Bool → List ℕ → List ℕ → Read LineEnd
 read_after_blank bol blank [] = line_end_with_stop blank None (read_stop [])
 read_after_blank bol blank (c ∷ cs) =
-    if (c == number_sign) && (bol || not (is_empty blank)) then line_end_with_stop blank (Some (take_while nb cs)) (read_stop (drop_while nb cs))
+    if (c == number_sign) && (bol || not (is_empty blank))
+    then line_end_with_stop blank (Some (take_while nb cs)) (read_stop (drop_while nb cs))
     else line_end_with_stop blank None (read_stop (c ∷ cs))
 
 -- [77] s-b-comment, 6.6

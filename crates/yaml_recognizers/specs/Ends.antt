@@ -78,4 +78,5 @@ Stops n c after_plain after = BetweenBrackets c after_plain after ⊎ (BeforeCol
 abbrev pub block_node_stops : ℕ → Bool → List ℕ → Bool
 block_node_stops m shallow text =
     is_empty text || marker text || is_line_end text
-    || (nat_lt (spaces_before text) m && not (shallow && nat_le m (suc (spaces_before text)) && sign dash (past_spaces text)))
+    || (nat_lt (spaces_before text) m
+    && not (shallow && nat_le m (suc (spaces_before text)) && sign dash (past_spaces text)))

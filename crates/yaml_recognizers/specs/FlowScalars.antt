@@ -11,7 +11,8 @@ use Rattle.yaml_recognizers.specs.PlainScalars.{read_plain, last_char, plain_end
 unfoldable pub read_scalar : ℕ → FlowContext → Bool → List ℕ → Read Scalar
 read_scalar n c bol [] = None
 read_scalar n c bol (x ∷ xs) =
-    if x == single_quote then read_single n c xs else if x == double_quote then read_double n c xs else read_plain n c bol (x ∷ xs)
+    if x == single_quote then read_single n c xs else if x == double_quote then read_double n c xs
+    else read_plain n c bol (x ∷ xs)
 
 -- The scalar ends before this text: a plain one goes no further, and a single quote is not followed by another.
 unfoldable pub scalar_ends : ℕ → FlowContext → Scalar → List ℕ → Bool

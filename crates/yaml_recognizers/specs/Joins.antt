@@ -26,7 +26,14 @@ join_of l = record { escaped = l.escaped; blank = l.blank; stop = l.stop; emptie
 
 -- a line with this join
 abbrev pub line_of : {A : Type 0} → Join → List A → Line A
-line_of j held = record { escaped = j.escaped; blank = j.blank; stop = j.stop; empties = j.empties; lead = j.lead; held = held }
+line_of j held = record {
+  escaped = j.escaped;
+  blank = j.blank;
+  stop = j.stop;
+  empties = j.empties;
+  lead = j.lead;
+  held = held;
+}
 
 -- what it spells up to its empty lines
 abbrev pub prefix_text : Join → List ℕ
@@ -45,14 +52,24 @@ unfoldable pub read_empty : ℕ → List ℕ → Read FlowEmptyLine
 read_empty n text =
     let blank = take_while white text in
     if begins (spaces n) blank || list_all space blank
-    then on (read_break (drop_while white text)) (λ stop rest. Some (record { blank = blank; stop = stop }, rest)) else None
+    then on (read_break (drop_while white text)) (λ stop rest. Some (record { blank = blank; stop = stop }, rest))
+    else None
 
 -- after the empty lines: the start of the next line
 abbrev pub with_lead : Bool → ℕ → List ℕ → Break → List FlowEmptyLine × List ℕ → Read Join
 with_lead escaped n blank stop empties =
     let lead = take_while white empties.1 in
     if indents n lead && no_marker true empties.1
-    then Some (record { escaped = escaped; blank = blank; stop = stop; empties = empties.0; lead = lead }, drop_while white empties.1) else None
+    then Some (
+      record {
+        escaped = escaped;
+        blank = blank;
+        stop = stop;
+        empties = empties.0;
+        lead = lead;
+      },
+      drop_while white empties.1,
+    ) else None
 
 -- the join, from the break on
 unfoldable pub after_blank : Bool → ℕ → List ℕ → List ℕ → Read Join

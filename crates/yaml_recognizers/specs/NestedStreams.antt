@@ -16,7 +16,8 @@ abbrev mutual
   -- where a document may come without `---`
   pub opened_pieces : List Piece → Opened
   opened_pieces [] = record { prefix = []; document = None; parts = [] }
-  opened_pieces (line e ∷ ps) = let more = opened_pieces ps in record { prefix = e ∷ more.prefix; document = more.document; parts = more.parts }
+  opened_pieces (line e ∷ ps) =
+      let more = opened_pieces ps in record { prefix = e ∷ more.prefix; document = more.document; parts = more.parts }
   opened_pieces (document d ∷ ps) = record { prefix = []; document = Some d; parts = closed_pieces ps }
   opened_pieces (suffix comments ∷ ps) =
       let more = opened_pieces ps in
@@ -34,4 +35,5 @@ abbrev mutual
 
 -- the stream of a flat stream
 abbrev pub nested_stream : FlatStream → Stream
-nested_stream s = let o = opened_pieces s.pieces in record { mark = s.mark; prefix = o.prefix; document = o.document; parts = o.parts }
+nested_stream s = let o = opened_pieces s.pieces in record
+    { mark = s.mark; prefix = o.prefix; document = o.document; parts = o.parts }

@@ -23,10 +23,12 @@ abbrev mutual
   flow_places (scalar s) n c bol at after = flow_at n c bol at (scalar s) after ∷ []
   flow_places (seq gap es) n c bol at after =
       flow_at n c bol at (seq gap es) after
-      ∷ entries_places es n (in_flow c) true (starts_line false (gap_text gap)) (at + 1 + byte_len (gap_text gap)) (codes "]" ++ after)
+      ∷ entries_places es n (in_flow c) true (starts_line false (gap_text gap)) (at + 1 + byte_len (gap_text gap))
+      (codes "]" ++ after)
   flow_places (map gap es) n c bol at after =
       flow_at n c bol at (map gap es) after
-      ∷ entries_places es n (in_flow c) false (starts_line false (gap_text gap)) (at + 1 + byte_len (gap_text gap)) (codes "}" ++ after)
+      ∷ entries_places es n (in_flow c) false (starts_line false (gap_text gap)) (at + 1 + byte_len (gap_text gap))
+      (codes "}" ++ after)
 
   -- the nodes in entries
   pub entries_places : Entries → ℕ → FlowContext → Bool → Bool → ℕ → List ℕ → List NodePlace
@@ -34,7 +36,8 @@ abbrev mutual
   entries_places (last e gap) n d in_seq bol at after = entry_places e n d in_seq bol at (gap_text gap ++ after)
   entries_places (next e before gap_after es) n d in_seq bol at after =
       let later = at + byte_len (entry_text e) + byte_len (gap_text before) + 1 + byte_len (gap_text gap_after) in
-      entry_places e n d in_seq bol at (gap_text before ++ (codes "," ++ (gap_text gap_after ++ (entries_text es ++ after))))
+      entry_places e n d in_seq bol at
+      (gap_text before ++ (codes "," ++ (gap_text gap_after ++ (entries_text es ++ after))))
       ++ entries_places es n d in_seq (starts_line false (gap_text gap_after)) later after
 
   -- the nodes in an entry; the key of a single pair is at 0 in flow_key
@@ -52,7 +55,8 @@ abbrev mutual
   value_places absent n d at after = []
   value_places (empty gap) n d at after = []
   value_places (given before gap_after f) n d at after =
-      flow_places f n d (starts_line false (gap_text gap_after)) (at + byte_len (gap_text before) + 1 + byte_len (gap_text gap_after)) after
+      flow_places f n d (starts_line false (gap_text gap_after))
+      (at + byte_len (gap_text before) + 1 + byte_len (gap_text gap_after)) after
 
 -- ---- in block nodes: a leaf is a flow node at m in outer, a key of a block mapping one at 0 in block_key
 
@@ -62,11 +66,14 @@ abbrev mutual
   node_places (block sep b) m shallow bol at after = block_at m shallow bol at (block sep b) after ∷ []
   node_places (flow sep f comments) m shallow bol at after =
       block_at m shallow bol at (flow sep f comments) after
-      ∷ flow_places f m outer (starts_line bol (sep_text sep)) (at + byte_len (sep_text sep)) (comments_text comments ++ after)
+      ∷ flow_places f m outer (starts_line bol (sep_text sep)) (at + byte_len (sep_text sep))
+      (comments_text comments ++ after)
   node_places (items comments k is) m shallow bol at after =
-      block_at m shallow bol at (items comments k is) after ∷ items_places is k (at + byte_len (comments_text comments) + k) after
+      block_at m shallow bol at (items comments k is) after
+      ∷ items_places is k (at + byte_len (comments_text comments) + k) after
   node_places (pairs comments k ps) m shallow bol at after =
-      block_at m shallow bol at (pairs comments k ps) after ∷ pairs_places ps k (k == 0) (at + byte_len (comments_text comments) + k) after
+      block_at m shallow bol at (pairs comments k ps) after
+      ∷ pairs_places ps k (k == 0) (at + byte_len (comments_text comments) + k) after
 
   -- the nodes in items
   pub items_places : Items → ℕ → ℕ → List ℕ → List NodePlace
@@ -79,7 +86,8 @@ abbrev mutual
   pub pairs_places : Pairs → ℕ → Bool → ℕ → List ℕ → List NodePlace
   pairs_places (pair p) k bol at after = pair_places p k bol at after
   pairs_places (pair_and p ps) k bol at after =
-      pair_places p k bol at (spaces k ++ (pairs_text ps k ++ after)) ++ pairs_places ps k (k == 0) (at + byte_len (pair_text p k) + k) after
+      pair_places p k bol at (spaces k ++ (pairs_text ps k ++ after))
+      ++ pairs_places ps k (k == 0) (at + byte_len (pair_text p k) + k) after
 
   -- the nodes in a pair
   pub pair_places : Pair → ℕ → Bool → ℕ → List ℕ → List NodePlace
@@ -111,7 +119,8 @@ explicit_places (nothing comments) at after = []
 abbrev pub document_places : Document → Bool → ℕ → List ℕ → List NodePlace
 document_places (bare n) bol at after = node_places n 0 false bol at after
 document_places (explicit x) bol at after = explicit_places x at after
-document_places (directed blank version comments x) bol at after = explicit_places x (at + byte_len (directive_text blank version comments)) after
+document_places (directed blank version comments x) bol at after =
+    explicit_places x (at + byte_len (directive_text blank version comments)) after
 
 -- the nodes of a document that may be left out
 abbrev pub optional_document_places : Option Document → ℕ → List ℕ → List NodePlace
@@ -121,7 +130,8 @@ optional_document_places (Some d) at after = document_places d true at after
 -- the nodes of a part
 abbrev pub part_places : Part → ℕ → List ℕ → List NodePlace
 part_places (suffixes one more prefix document) at after =
-    optional_document_places document (at + byte_len (suffix_text one) + byte_len (flat_map suffix_text more) + byte_len (comments_text prefix)) after
+    optional_document_places document
+    (at + byte_len (suffix_text one) + byte_len (flat_map suffix_text more) + byte_len (comments_text prefix)) after
 part_places (line e) at after = []
 part_places (further x) at after = explicit_places x at after
 
@@ -134,7 +144,8 @@ parts_places (p ∷ ps) at = part_places p at (parts_text ps) ++ parts_places ps
 abbrev pub stream_places : Stream → List NodePlace
 stream_places s =
     let at = (if s.mark then 3 else 0) + byte_len (comments_text s.prefix) in
-    optional_document_places s.document at (parts_text s.parts) ++ parts_places s.parts (at + byte_len (optional document_text s.document))
+    optional_document_places s.document at (parts_text s.parts)
+    ++ parts_places s.parts (at + byte_len (optional document_text s.document))
 
 -- ---- what holds of each
 

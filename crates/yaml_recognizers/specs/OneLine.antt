@@ -35,7 +35,8 @@ abbrev mutual
   pub entries_on_one_line : Entries → Bool
   entries_on_one_line none = true
   entries_on_one_line (last e gap) = entry_on_one_line e && gap_on_one_line gap
-  entries_on_one_line (next e before after es) = entry_on_one_line e && gap_on_one_line before && gap_on_one_line after && entries_on_one_line es
+  entries_on_one_line (next e before after es) =
+      entry_on_one_line e && gap_on_one_line before && gap_on_one_line after && entries_on_one_line es
 
   -- the entry has no break
   pub entry_on_one_line : Entry → Bool

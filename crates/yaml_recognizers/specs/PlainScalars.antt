@@ -52,4 +52,5 @@ last_char prefix (l ∷ ls) = last_char l.held ls
 
 -- after its last character the line goes on with no plain character, and outside a key no further line does
 unfoldable pub plain_ends : ℕ → FlowContext → ℕ → List ℕ → Bool
-plain_ends n c last after = is_empty (read_run c last after) && (one_line c || not (is_some (read_plain_line n c after)))
+plain_ends n c last after = is_empty (read_run c last after)
+    && (one_line c || not (is_some (read_plain_line n c after)))

@@ -30,8 +30,10 @@ apart [] = true
 apart (l ∷ ls) = (is_empty ls || not (is_empty l.held)) && apart ls
 
 -- the scalar, if the closing quote comes next
-abbrev pub read_closing_quote : {A : Type 0} → (List ℕ → Bool) → List A → List (Line A) × List ℕ → Read (List A × List (Line A))
-read_closing_quote closes prefix more = if closes more.1 && apart more.0 then Some ((prefix, more.0), past more.1) else None
+abbrev pub read_closing_quote : {A : Type 0} → (List ℕ → Bool) → List A → List (Line A) × List ℕ
+    → Read (List A × List (Line A))
+read_closing_quote closes prefix more =
+    if closes more.1 && apart more.0 then Some ((prefix, more.0), past more.1) else None
 
 -- all further lines; none in a key
 abbrev pub further : {A : Type 0} → (List ℕ → Read A) → Bool → ℕ → FlowContext → List ℕ → List (Line A) × List ℕ
@@ -39,7 +41,8 @@ further read_one escapes n c text =
     if one_line c then ([], text) else all_of (read_quoted_line read_one escapes n) text
 
 -- from the opening quote up to the closing one, which `closes` finds
-unfoldable pub read_quoted : {A : Type 0} → (List ℕ → Read A) → (List ℕ → Bool) → Bool → ℕ → FlowContext → List ℕ → Read (List A × List (Line A))
+unfoldable pub read_quoted : {A : Type 0} → (List ℕ → Read A) → (List ℕ → Bool) → Bool → ℕ → FlowContext → List ℕ
+    → Read (List A × List (Line A))
 read_quoted read_one closes escapes n c text =
     let prefix = line_things read_one text in read_closing_quote closes prefix.0 (further read_one escapes n c prefix.1)
 
@@ -53,7 +56,8 @@ quote c = c == single_quote
 unfoldable pub read_single_one : List ℕ → Read ℕ
 read_single_one [] = None
 read_single_one (c ∷ cs) =
-    if c == single_quote then (if first quote cs then Some (single_quote, past cs) else None) else if nb_json c then Some (c, cs) else None
+    if c == single_quote then (if first quote cs then Some (single_quote, past cs) else None) else if nb_json c
+    then Some (c, cs) else None
 
 -- a quote, and none after it
 unfoldable pub single_closes : List ℕ → Bool
@@ -76,12 +80,14 @@ read_number c cs =
 abbrev pub read_escape : List ℕ → Read QuotedChar
 read_escape [] = None
 read_escape (c ∷ cs) =
-    if is_in c (codes "xuU") then read_number c cs else if quoted_char_fits (escape c) then Some (escape c, cs) else None
+    if is_in c (codes "xuU") then read_number c cs else if quoted_char_fits (escape c) then Some (escape c, cs)
+    else None
 
 -- one thing between double quotes
 unfoldable pub read_item : List ℕ → Read QuotedChar
 read_item [] = None
-read_item (c ∷ cs) = if c == backslash then read_escape cs else if quoted_char_fits (raw c) then Some (raw c, cs) else None
+read_item (c ∷ cs) = if c == backslash then read_escape cs else if quoted_char_fits (raw c) then Some (raw c, cs)
+    else None
 
 -- `"`
 unfoldable pub double_closes : List ℕ → Bool
@@ -89,4 +95,5 @@ double_closes text = first (λ x. x == double_quote) text
 
 -- [109] c-double-quoted
 unfoldable pub read_double : ℕ → FlowContext → List ℕ → Read Scalar
-read_double n c text = on (read_quoted read_item double_closes true n c text) (λ found rest. Some (double found.0 found.1, rest))
+read_double n c text = on (read_quoted read_item double_closes true n c text)
+    (λ found rest. Some (double found.0 found.1, rest))

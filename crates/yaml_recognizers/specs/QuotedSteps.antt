@@ -7,9 +7,11 @@ use Rattle.yaml_recognizers.specs.Joins.{Join, line_of}
 use Rattle.yaml_recognizers.specs.QuotedScalars.{read_quoted}
 
 -- after a join: the next join comes only after something
-unfoldable pub read_after_join : {A : Type 0} → (List ℕ → Read A) → (List ℕ → Bool) → Bool → ℕ → FlowContext → List ℕ → Read (List A × List (Line A))
+unfoldable pub read_after_join : {A : Type 0} → (List ℕ → Read A) → (List ℕ → Bool) → Bool → ℕ → FlowContext → List ℕ
+    → Read (List A × List (Line A))
 read_after_join read_one closes escapes n c text =
-    on (read_quoted read_one closes escapes n c text) (λ found rest. if is_empty found.1 || not (is_empty found.0) then Some (found, rest) else None)
+    on (read_quoted read_one closes escapes n c text)
+    (λ found rest. if is_empty found.1 || not (is_empty found.0) then Some (found, rest) else None)
 
 -- one thing more at the start of the first line
 abbrev pub with_thing : {A : Type 0} → A → Read (List A × List (Line A)) → Read (List A × List (Line A))

@@ -6,7 +6,8 @@ use Rattle.yaml_grammar.specs.Events.{Event, document_start, document_end, seq_s
 -- or after it, and the last ends at `to` or before it.
 abbrev pub RangesInOrder : ℕ → List Event → ℕ → Type 0
 RangesInOrder from [] to = from ≤ to
-RangesInOrder from (scalar_event style start end value ∷ events) to = (from ≤ start) × (start ≤ end) × RangesInOrder end events to
+RangesInOrder from (scalar_event style start end value ∷ events) to =
+    (from ≤ start) × (start ≤ end) × RangesInOrder end events to
 RangesInOrder from (document_start ∷ events) to = RangesInOrder from events to
 RangesInOrder from (document_end ∷ events) to = RangesInOrder from events to
 RangesInOrder from (seq_start ∷ events) to = RangesInOrder from events to

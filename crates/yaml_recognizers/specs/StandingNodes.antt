@@ -13,7 +13,8 @@ use Rattle.yaml_recognizers.specs.Recognizers.{flow_node_stops}
 -- ---- flow nodes
 
 -- the flow node is at the start of the text, and ends before the rest; the law `flow_node_ends` says what ends it
-pub record FlowNodeStands (n : ℕ) (c : FlowContext) (bol : Bool) (text : List ℕ) (f : Flow) (rest : List ℕ) : Type 0 where
+pub record FlowNodeStands (n : ℕ) (c : FlowContext) (bol : Bool) (text : List ℕ) (f : Flow)
+    (rest : List ℕ) : Type 0 where
   pub spells : text ≡ flow_text f ++ rest
   pub fits : flow_fits f n c bol rest ≡ true
   pub ends : flow_node_stops n c f rest ≡ true
@@ -26,7 +27,8 @@ pub record SameFlowNode (f g : Flow) : Type 0 where
 -- It is there, and each one that is there has its text, its events and its end.
 pub record IsFlowNode (n : ℕ) (c : FlowContext) (bol : Bool) (text : List ℕ) (f : Flow) (rest : List ℕ) : Type 0 where
   pub stands : FlowNodeStands n c bol text f rest
-  pub only : (other : Flow) (after : List ℕ) → FlowNodeStands n c bol text other after → SameFlowNode other f × (after ≡ rest)
+  pub only : (other : Flow) (after : List ℕ) → FlowNodeStands n c bol text other after
+      → SameFlowNode other f × (after ≡ rest)
 
 -- no flow node is there
 abbrev pub NoFlowNode : ℕ → FlowContext → Bool → List ℕ → Type 0

@@ -32,11 +32,13 @@ order_mark c = c == byte_order_mark
 
 -- after `---`: comments and the end of the document, or a node
 abbrev pub explicit_with : (Bool → List ℕ → Read Node) → List ℕ → List LineEnd × List ℕ → Read Explicit
-explicit_with node_at text c = if omits 0 false c then Some (nothing c.0, c.1) else on (node_at false text) (λ n rest. Some (content n, rest))
+explicit_with node_at text c =
+    if omits 0 false c then Some (nothing c.0, c.1) else on (node_at false text) (λ n rest. Some (content n, rest))
 
 -- [208] l-explicit-document, 9.1.4, after its `---`
 unfoldable pub read_explicit : (Bool → List ℕ → Read Node) → List ℕ → Read Explicit
-read_explicit node_at text = if marker_of dash text then explicit_with node_at (drop 3 text) (all_comments false (drop 3 text)) else None
+read_explicit node_at text =
+    if marker_of dash text then explicit_with node_at (drop 3 text) (all_comments false (drop 3 text)) else None
 
 -- [87] ns-yaml-version, 6.8.1
 abbrev pub read_version : List ℕ → Read Version
@@ -59,7 +61,8 @@ version_with node_at blank text =
 -- [209] l-directive-document, 9.1.5
 abbrev pub read_directed : (Bool → List ℕ → Read Node) → List ℕ → Read Document
 read_directed node_at text =
-    if begins (codes "%YAML") text then version_with node_at (take_while white (drop 5 text)) (drop_while white (drop 5 text)) else None
+    if begins (codes "%YAML") text
+    then version_with node_at (take_while white (drop 5 text)) (drop_while white (drop 5 text)) else None
 
 -- ---- pieces
 
@@ -72,7 +75,8 @@ unfoldable pub read_piece : (Bool → List ℕ → Read Node) → Bool → Bool 
 read_piece node_at opened bol text =
     if is_line_end text then on (read_line_end bol text) (λ e rest. Some (line e, rest))
     else if bol && marker_of dot text then suffix_with (all_comments false (drop 3 text))
-    else if bol && marker_of dash text then on (read_explicit node_at text) (λ x rest. Some (document (explicit x), rest))
+    else if bol && marker_of dash text
+    then on (read_explicit node_at text) (λ x rest. Some (document (explicit x), rest))
     else if opened && bol && first percent text then on (read_directed node_at text) (λ d rest. Some (document d, rest))
     else if opened then on (node_at bol text) (λ n rest. Some (document (bare n), rest))
     else None
@@ -92,7 +96,8 @@ unfoldable pub read_pieces : (Bool → List ℕ → Read Node) → ℕ → Bool 
 read_pieces node_at zero opened bol text = None
 read_pieces node_at (suc fuel) opened bol text =
     if is_empty text then Some []
-    else more_pieces (λ p rest. read_pieces node_at fuel (opens opened p) (starts_line bol (piece_text p)) rest) (read_piece node_at opened bol text)
+    else more_pieces (λ p rest. read_pieces node_at fuel (opens opened p) (starts_line bol (piece_text p)) rest)
+    (read_piece node_at opened bol text)
 
 -- ---- streams
 
@@ -108,5 +113,6 @@ stream_of node_at text =
     else with_mark false (read_pieces node_at (suc (length text)) true true text)
 
 -- a whole text, over recognizers of scalars
-abbrev pub read_stream : (ℕ → FlowContext → Bool → List ℕ → Read Scalar) → (ℕ → List ℕ → Read BlockScalar) → List ℕ → Option FlatStream
+abbrev pub read_stream : (ℕ → FlowContext → Bool → List ℕ → Read Scalar) → (ℕ → List ℕ → Read BlockScalar) → List ℕ
+    → Option FlatStream
 read_stream read_scalar read_block text = stream_of (λ bol t. whole_node read_scalar read_block 0 false bol t) text

@@ -18,20 +18,23 @@ IsWhole n c bol text (single prefix more) rest = first quote rest ≡ false
 IsWhole n c bol text (double prefix more) rest = Unit {0}
 
 -- the scalar is whole at the start of the text, before the rest
-pub record StandsWhole (n : ℕ) (c : FlowContext) (bol : Bool) (text : List ℕ) (s : Scalar) (rest : List ℕ) : Type 0 where
+pub record StandsWhole (n : ℕ) (c : FlowContext) (bol : Bool) (text : List ℕ) (s : Scalar)
+    (rest : List ℕ) : Type 0 where
   pub spells : text ≡ scalar_text s ++ rest
   pub fits : scalar_fits n c bol s rest ≡ true
   pub whole : IsWhole n c bol text s rest
 
 -- A scalar of this style and value is whole at the start of the text, before the rest, and each whole one is such a
 -- scalar.
-pub record IsScalar (n : ℕ) (c : FlowContext) (bol : Bool) (text : List ℕ) (style : Style) (value rest : List ℕ) : Type 0 where
+pub record IsScalar (n : ℕ) (c : FlowContext) (bol : Bool) (text : List ℕ) (style : Style)
+    (value rest : List ℕ) : Type 0 where
   pub scalar : Scalar
   pub stands : StandsWhole n c bol text scalar rest
   pub styled : style_of scalar ≡ style
   pub means : scalar_value scalar ≡ value
   pub only : (other : Scalar) (after : List ℕ) → StandsWhole n c bol text other after
-      → (scalar_text other ≡ scalar_text scalar) × (style_of other ≡ style) × (scalar_value other ≡ value) × (after ≡ rest)
+      → (scalar_text other ≡ scalar_text scalar) × (style_of other ≡ style) × (scalar_value other ≡ value)
+      × (after ≡ rest)
 
 -- no scalar is whole there
 abbrev pub NoScalar : ℕ → FlowContext → Bool → List ℕ → Type 0

@@ -53,7 +53,8 @@ found true rule line = record { rule = rule; line = line } ∷ []
 -- on the line of this number, in the order of the rules
 abbrev pub on_line : ℕ → List ℕ → List Finding
 on_line number line =
-    found (ends_in_white (content line)) TrailingWhitespace number ++ found (ends_otherwise (line_end line)) LineEnd number
+    found (ends_in_white (content line)) TrailingWhitespace number
+    ++ found (ends_otherwise (line_end line)) LineEnd number
     ++ found (is_long (content line)) LongLine number
 
 -- on lines that are numbered from here on
@@ -64,7 +65,8 @@ line_findings number (line ∷ more) = on_line number line ++ line_findings (suc
 -- the finding of S4 among the others: before the first one on a later line
 abbrev pub with_style : Option ℕ → List Finding → List Finding
 with_style None others = others
-with_style (Some line) others = insert others (position_or_len (λ f. nat_lt line f.line) others) record { rule = NotInStyle; line = line }
+with_style (Some line) others =
+    insert others (position_or_len (λ f. nat_lt line f.line) others) record { rule = NotInStyle; line = line }
 
 -- all findings of a text, given that of its tree in the one style
 abbrev pub findings : List ℕ → List ℕ → List Finding

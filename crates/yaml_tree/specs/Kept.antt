@@ -21,6 +21,7 @@ IsKept t = Good t own_limits
 abbrev pub IsFirstFault : grammar.Limits → Tree → ReadFault → Type 0
 IsFirstFault limits t KeyTwice = distinct t ≡ false
 IsFirstFault limits t TooDeep = IsTrue (distinct t) × (limits.depth < depth t)
-IsFirstFault limits t LargeInStyle = IsTrue (distinct t) × (depth t ≤ limits.depth) × (limits.style < byte_len (style_text t))
+IsFirstFault limits t LargeInStyle =
+    IsTrue (distinct t) × (depth t ≤ limits.depth) × (limits.style < byte_len (style_text t))
 IsFirstFault limits t OutOfMemory = Unit {0}
 IsFirstFault limits t _ = ⊥

@@ -103,7 +103,8 @@ part_lines (at_key no_member) fs = []
 part_lines (at_key (member key t ms)) fs = opening fs ++ members_at (member key t ms) (indent_in fs)
 part_lines (at_value no_member name) fs = opening fs ++ key_lines (indent_in fs) name
 part_lines (at_value (member key t ms) name) fs =
-    opening fs ++ members_at (member key t ms) (indent_in fs) ++ (spaces (indent_in fs) ++ key_lines (indent_in fs) name)
+    opening fs ++ members_at (member key t ms) (indent_in fs)
+    ++ (spaces (indent_in fs) ++ key_lines (indent_in fs) name)
 
 -- the text of the parts so far
 abbrev pub text_of : List Frame → List ℕ

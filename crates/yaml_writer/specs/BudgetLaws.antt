@@ -29,7 +29,8 @@ byte_len-append [] ys = omega arith
 byte_len-append (x ∷ xs) ys = let after = byte_len-append xs ys in omega (arith, after)
 
 -- a text, and then another
-pub left_after-more : (a b c : Option ℕ) (xs ys : List ℕ) → b ≡ left_after a (byte_len xs) → c ≡ left_after b (byte_len ys)
+pub left_after-more : (a b c : Option ℕ) (xs ys : List ℕ) → b ≡ left_after a (byte_len xs)
+    → c ≡ left_after b (byte_len ys)
     → c ≡ left_after a (byte_len (xs ++ ys))
 left_after-more a b c xs ys first second =
     second ∙ ap (λ left. left_after left (byte_len ys)) first ∙ left_after-both a (byte_len xs) (byte_len ys)

@@ -17,7 +17,8 @@ had_room : (left : Option ℕ) (n : ℕ) → left_after left n ≢ None → left
 had_room left n room none = room (ap (λ o. left_after o n) none)
 
 -- two texts, one after the other
-pub TakesLimited-both : (a b c : LimitedText) (xs ys : List ℕ) → TakesLimited a xs b → TakesLimited b ys c → TakesLimited a (xs ++ ys) c
+pub TakesLimited-both : (a b c : LimitedText) (xs ys : List ℕ) → TakesLimited a xs b → TakesLimited b ys c
+    → TakesLimited a (xs ++ ys) c
 TakesLimited-both a b c xs ys first second = (
   left_after-more a.budget.left b.budget.left c.budget.left xs ys first.0 second.0,
   λ room. encoded_both (string_bytes a.text) (string_bytes b.text) (string_bytes c.text) xs ys
