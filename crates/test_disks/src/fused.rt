@@ -107,7 +107,7 @@ impl FuseCounter {
     fn next_outcome(&mut self, failures: u64) -> Outcome
         ensures outcome { result ≡ outcome_of failures (counter_state self.old) }
         ensures state { counter_state self.new ≡ state_after failures (counter_state self.old) }
-        ensures counted { failures ≢ greatest → failed_calls (counter_state self.old) ≤ failures →
+        ensures failed { failures ≢ greatest → failed_calls (counter_state self.old) ≤ failures →
             failed_calls (counter_state self.new)
             ≡ failed_after result (failed_calls (counter_state self.old)) }
     {
@@ -181,7 +181,7 @@ impl<D: Disk> FusedDisk<D> {
             (fuse_of self.old) }
         ensures state { fuse_of self.new ≡ state_after (fused_failures D.failure_count self.old)
             (fuse_of self.old) }
-        ensures counted { fused_failures D.failure_count self.old ≢ greatest →
+        ensures failed { fused_failures D.failure_count self.old ≢ greatest →
             failed_calls (fuse_of self.new)
             ≡ failed_after result (failed_calls (fuse_of self.old)) }
         ensures inner { fused_inner self.new ≡ fused_inner self.old }
