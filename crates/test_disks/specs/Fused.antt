@@ -1,5 +1,5 @@
 -- A disk with a fuse: which calls pass to the disk below, and what becomes of the others.
-use Rattle.std.specs.Prelude.{◌≡◌, ◌≢◌, ℕ, ◌+◌, min, true, false, Result, Err, ◌==◌, nat_lt, if◌then◌else◌}
+use Rattle.std.specs.Prelude.{◌≡◌, ◌≢◌, ℕ, ◌+◌, ◌-◌, min, Result, Err, ◌==◌, nat_lt, if◌then◌else◌}
 use Rattle.conf_disk.specs.Folder.{Folder, Step, CreateNext, Append, Sync, RenameNext, RemoveNext, SyncFolder, Performs}
 use Rattle.conf_disk.specs.Moments.{CountsFailures, greatest}
 use Rattle.conf_disk.specs.declared.disk.Name.{Name}
@@ -24,36 +24,55 @@ call_step call.RenameNext = RenameNext
 call_step call.RemoveNext = RemoveNext
 call_step call.SyncFolder = SyncFolder
 
--- How many calls pass before it is the fuse's turn, and the fuse, which both stay as they are; how many calls passed,
--- and how many the fuse failed, each up to the greatest number.
+-- How many calls pass before it is the fuse's turn, and the fuse, which both stay as they are; and the number of the
+-- next call. Calls are numbered from 0, so it is how many were made.
 pub record FuseState : Type 0 where
   pub calls : ℕ
   pub fuse : Fuse
-  pub passed : ℕ
-  pub blown : ℕ
+  pub number : ℕ
 
--- What a fuse that failed so many calls makes of the next one: `Stop` fails each, and `FailOnce` the first.
-abbrev pub outcome_of_fuse : Fuse → ℕ → Outcome
-outcome_of_fuse Stop blown = Fails
-outcome_of_fuse (FailOnce false) blown = if blown == 0 then Fails else Passes
-outcome_of_fuse (FailOnce true) blown = if blown == 0 then FailsDone else Passes
+-- What becomes of the call with a number. Calls with a number below `calls` pass. With `Stop` every other one fails.
+-- With `FailOnce` the call with the number `calls` fails, with its effect where `done`, and all others pass.
+abbrev pub outcome_of_number : Fuse → ℕ → ℕ → Outcome
+outcome_of_number Stop calls number = if nat_lt number calls then Passes else Fails
+outcome_of_number (FailOnce done) calls number = if number == calls then (if done then FailsDone else Fails) else Passes
 
--- the first calls pass, and the fuse decides on the others
-abbrev pub outcome_of_call : FuseState → Outcome
-outcome_of_call state = if nat_lt state.passed state.calls then Passes else outcome_of_fuse state.fuse state.blown
+-- how many of the calls with a smaller number fail
+abbrev pub failed_below : Fuse → ℕ → ℕ → ℕ
+failed_below Stop calls number = number - calls
+failed_below (FailOnce done) calls number = if nat_lt calls number then 1 else 0
 
--- the call is counted among those that passed, or among the fuse's own failures
-abbrev pub with_outcome : Outcome → FuseState → FuseState
-with_outcome Passes state = record state { passed = min (state.passed + 1) greatest }
-with_outcome Fails state = record state { blown = min (state.blown + 1) greatest }
-with_outcome FailsDone state = record state { blown = min (state.blown + 1) greatest }
+-- how many calls the fuse failed
+abbrev pub failed_calls : FuseState → ℕ
+failed_calls state = failed_below state.fuse state.calls state.number
 
--- a disk that has failed the greatest number of times does nothing more, and counts no call
+-- how many calls passed, up to the greatest number of 64 bits
+abbrev pub passed_calls : FuseState → ℕ
+passed_calls state = min (state.number - failed_calls state) greatest
+
+-- what becomes of the next call: a disk that has failed the greatest number of times does nothing more
 abbrev pub outcome_of : ℕ → FuseState → Outcome
-outcome_of failures state = if failures == greatest then Fails else outcome_of_call state
+outcome_of failures state =
+    if failures == greatest then Fails else outcome_of_number state.fuse state.calls state.number
 
+-- The greatest number of 128 bits, at which the number of the call stays. With `Stop` the disk has failed the greatest
+-- number of times long before, and with `FailOnce` every call from there on passes, whatever its number.
+abbrev pub greatest_number : ℕ
+greatest_number = 340282366920938463463374607431768211455
+
+-- the call is counted
+abbrev pub counted : FuseState → FuseState
+counted state = record state { number = min (state.number + 1) greatest_number }
+
+-- a disk that has failed the greatest number of times counts no call
 abbrev pub state_after : ℕ → FuseState → FuseState
-state_after failures state = if failures == greatest then state else with_outcome (outcome_of_call state) state
+state_after failures state = if failures == greatest then state else counted state
+
+-- how many calls the fuse failed, after one more with this outcome
+abbrev pub failed_after : Outcome → ℕ → ℕ
+failed_after Passes failed = failed
+failed_after Fails failed = failed + 1
+failed_after FailsDone failed = failed + 1
 
 -- what the trait's clauses say of a call of the disk below that changes something
 pub record IsCall {D : Type 0} (honest : Type 0) (folder : D → Folder) (failure_count : D → ℕ)
@@ -77,8 +96,7 @@ fused_inner disk = disk.inner
 
 -- the state of a fuse, from the code's counter
 abbrev pub counter_state : FuseCounter → FuseState
-counter_state counter = record
-    { calls = counter.calls; fuse = counter.fuse; passed = counter.passed; blown = counter.blown }
+counter_state counter = record { calls = counter.calls; fuse = counter.fuse; number = counter.number }
 
 -- the state of a disk's fuse
 abbrev pub fuse_of : {D : Type 0} → FusedDisk D → FuseState
@@ -86,11 +104,11 @@ fuse_of disk = counter_state disk.counter
 
 -- how many calls went through to the disk below, up to the greatest number
 abbrev pub passed_count : {D : Type 0} → FusedDisk D → ℕ
-passed_count disk = disk.counter.passed
+passed_count disk = passed_calls (fuse_of disk)
 
 -- the failures of the disk below and the fuse's own, up to the greatest number
 abbrev pub fused_failures : {D : Type 0} → (D → ℕ) → FusedDisk D → ℕ
-fused_failures failure_count disk = min (failure_count disk.inner + disk.counter.blown) greatest
+fused_failures failure_count disk = min (failure_count disk.inner + failed_calls (fuse_of disk)) greatest
 
 -- how a call that changes something goes
 pub record FusesChange {D : Type 0} (honest : Type 0) (folder : D → Folder) (failure_count : D → ℕ)

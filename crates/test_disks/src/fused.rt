@@ -1,8 +1,8 @@
 // A disk that fails from a call on, or once.
-ghost use Rattle.std.specs.Prelude.{◌≡◌, ℕ};
+ghost use Rattle.std.specs.Prelude.{◌≡◌, ◌≢◌, ◌≤◌, ℕ, min};
 ghost use Rattle.conf_disk.specs.Folder.{MayBeMade};
-ghost use Rattle.test_disks.specs.Fused.{outcome_of, outcome_of_call, state_after, counter_state, call_step};
-ghost use Rattle.conf_disk.specs.Moments.{IsChange};
+ghost use Rattle.test_disks.specs.Fused.{outcome_of, outcome_of_number, failed_below, failed_calls, passed_calls, state_after, failed_after, counter_state, call_step};
+ghost use Rattle.conf_disk.specs.Moments.{IsChange, greatest};
 
 use conf_disk::{Content, Disk, DiskFault, Name};
 use std::alloc::Global;
@@ -27,13 +27,13 @@ pub struct FusedDisk<D> {
     counter: FuseCounter,
 }
 
-// How many calls pass before it is the fuse's turn, and the fuse; how many calls passed, and how many the fuse failed.
+// How many calls pass before it is the fuse's turn, and the fuse; the number of the next call, from 0 on. It has 128
+// bits, since `Stop` may fail as many calls as 64 bits count, after the first `calls` passed.
 #[derive(Clone, Copy, Debug, PartialEq, Eq)]
 pub(crate) struct FuseCounter {
     pub(crate) calls: u64,
     pub(crate) fuse: Fuse,
-    pub(crate) passed: u64,
-    pub(crate) blown: u64,
+    pub(crate) number: u128,
 }
 
 // What becomes of a call.
@@ -73,43 +73,72 @@ impl Call<'_> {
     }
 }
 
+impl Fuse {
+    // What becomes of the call with a number: those below `calls` pass, and the fuse decides on the others.
+    fn outcome(self, calls: u64, number: u128) -> Outcome
+        ensures { result ≡ outcome_of_number self calls number }
+    {
+        let calls = u128::from(calls);
+        if number < calls {
+            return Outcome::Passes;
+        }
+        match self {
+            Fuse::Stop => Outcome::Fails,
+            Fuse::FailOnce { .. } if number > calls => Outcome::Passes,
+            Fuse::FailOnce { done: true } => Outcome::FailsDone,
+            Fuse::FailOnce { done: false } => Outcome::Fails,
+        }
+    }
+
+    // How many calls with a smaller number fail.
+    fn failed(self, calls: u64, number: u128) -> u128
+        ensures { result ≡ failed_below self calls number }
+    {
+        let calls = u128::from(calls);
+        match self {
+            Fuse::Stop => number.saturating_sub(calls),
+            Fuse::FailOnce { .. } => u128::from(number > calls),
+        }
+    }
+}
+
 impl FuseCounter {
     // What becomes of the next call of a disk that failed so often. At the greatest number it does nothing more.
     fn next_outcome(&mut self, failures: u64) -> Outcome
         ensures outcome { result ≡ outcome_of failures (counter_state self.old) }
         ensures state { counter_state self.new ≡ state_after failures (counter_state self.old) }
+        ensures failed { failures ≢ greatest → failed_calls (counter_state self.old) ≤ failures →
+            failed_calls (counter_state self.new)
+            ≡ failed_after result (failed_calls (counter_state self.old)) }
     {
         if failures == u64::MAX {
             return Outcome::Fails;
         }
-        let outcome = self.outcome();
-        match outcome {
-            Outcome::Passes => self.passed = self.passed.saturating_add(1),
-            Outcome::Fails | Outcome::FailsDone => self.blown = self.blown.saturating_add(1),
-        }
+        let outcome = self.fuse.outcome(self.calls, self.number);
+        self.number = self.number.saturating_add(1);
         outcome
     }
 
-    // What becomes of the next call: the first calls pass, and the fuse decides on the others.
-    fn outcome(&self) -> Outcome
-        ensures { result ≡ outcome_of_call (counter_state self.now) }
+    // How many calls the fuse failed.
+    fn failed(&self) -> u128
+        ensures { result ≡ failed_calls (counter_state self.now) }
     {
-        if self.passed < self.calls {
-            return Outcome::Passes;
-        }
-        match self.fuse {
-            Fuse::Stop => Outcome::Fails,
-            Fuse::FailOnce { done } => {
-                if self.blown > 0 {
-                    Outcome::Passes
-                } else if done {
-                    Outcome::FailsDone
-                } else {
-                    Outcome::Fails
-                }
-            }
-        }
+        self.fuse.failed(self.calls, self.number)
     }
+
+    // How many calls passed, up to the greatest number.
+    fn passed(&self) -> u64
+        ensures { result ≡ passed_calls (counter_state self.now) }
+    {
+        at_most_greatest(self.number.saturating_sub(self.failed()))
+    }
+}
+
+// The count, up to the greatest number of 64 bits.
+fn at_most_greatest(count: u128) -> u64
+    ensures { result ≡ min count greatest }
+{
+    u64::try_from(count).unwrap_or(u64::MAX)
 }
 
 impl<D: Disk> FusedDisk<D> {
@@ -119,15 +148,14 @@ impl<D: Disk> FusedDisk<D> {
     pub fn new(inner: D, calls: u64, fuse: Fuse) -> Self
         ensures inner { fused_inner result ≡ inner }
         ensures fuse { fuse_of result ≡ record
-            { calls = calls; fuse = fuse; passed = 0; blown = 0 } }
+            { calls = calls; fuse = fuse; number = 0 } }
     {
         FusedDisk {
             inner,
             counter: FuseCounter {
                 calls,
                 fuse,
-                passed: 0,
-                blown: 0,
+                number: 0,
             },
         }
     }
@@ -137,7 +165,7 @@ impl<D: Disk> FusedDisk<D> {
     pub fn passed(&self) -> u64
         ensures { result ≡ passed_count self.now }
     {
-        self.counter.passed
+        self.counter.passed()
     }
 
     /// The disk below.
@@ -153,6 +181,9 @@ impl<D: Disk> FusedDisk<D> {
             (fuse_of self.old) }
         ensures state { fuse_of self.new ≡ state_after (fused_failures D.failure_count self.old)
             (fuse_of self.old) }
+        ensures failed { fused_failures D.failure_count self.old ≢ greatest →
+            failed_calls (fuse_of self.new)
+            ≡ failed_after result (failed_calls (fuse_of self.old)) }
         ensures inner { fused_inner self.new ≡ fused_inner self.old }
     {
         let failures = self.failures();
@@ -207,7 +238,8 @@ impl<D: Disk> Disk for FusedDisk<D> {
     ghost whole = { λ disk honest. D.whole disk.inner honest };
 
     fn failures(&self) -> u64 {
-        self.inner.failures().saturating_add(self.counter.blown)
+        let below = u128::from(self.inner.failures());
+        at_most_greatest(self.counter.failed().saturating_add(below))
     }
 
     fn read(&mut self, alloc: Global, name: Name, max: u64) -> Result<Content, DiskFault> {
