@@ -27,7 +27,7 @@ use Rattle.yaml_flow.specs.declared.collection.Open.{Open}
 use Rattle.yaml_flow.specs.declared.collection.Part.TheVariants.{Value as ValuePart}
 use Rattle.yaml_flow.specs.FlowNodes.{Appended}
 use Rattle.yaml_scan.proofs.ByteSigns.{IsSign}
-use Rattle.yaml_flow.specs.Frames.{AtColon, AtNode, BeganPair, Collection, EntryRead, EventList, NoPair, NodeRead, PartFits, Passes, SameLine, bracket_prefix, ends_plain, entry_start, fits_single, frame_prefix, is_first, is_single, pair_end, pair_start, part_prefix, part_of}
+use Rattle.yaml_flow.specs.Frames.{AtColon, AtNode, BeganPair, Collection, EntryRead, EventList, NoPair, NodeRead, PartFits, Passes, SameLine, bracket_prefix, ends_plain, entry_start, fits_single, frame_prefix, in_sequence, is_first, is_single, pair_end, pair_start, part_prefix, part_of}
 use Rattle.yaml_scan.specs.Gaps.{NoGap}
 use Rattle.yaml_flow.proofs.Appends.{appended_as, appended_between, appended_then, appended_to}
 use Rattle.yaml_flow.proofs.EntryEvents.{empty_length, entry_length, pair_events, with_colon}
@@ -107,7 +107,7 @@ module _ (n : ℕ) (d : FlowContext) (text : List ℕ) where
   pub colon_read : (w : Collection) (top : Open) (node_end : NodeEnd) (line end colon : ℕ) (events new : EventList) → IsUtf8 text → IsCharBoundary text top.start → IsCharBoundary text end
       → top.start ≤ end → widens flow_key d ≡ true → (top.part ≡ ValuePart → ⊥) → Passes n d text end colon → is_colon d (ends_plain node_end) (rest text colon) ≡ true
       → SameLine text line top.start colon → BeganPair text top line colon events new → NodeRead n d text w top node_end end events
-      → AtColon n d text w top.in_seq node_end colon new
+      → AtColon n d text w (in_sequence top.kind) node_end colon new
   colon_read w top node_end line end colon events new u b c l wide p gap i same begun here =
       let o : OpenFlow = here.waits.frame in
       let k : Bracket = o.bracket in
@@ -237,7 +237,7 @@ module _ (n : ℕ) (d : FlowContext) (text : List ℕ) where
         }
 
     -- after a `:` a value is awaited
-    pub value_waits : (top : Open) (at : ℕ) → top.in_seq ≡ in_seq → top.part ≡ ValuePart → line_starts text (colon + 1) ≡ false → IsSign text colon 58 → Passes n d text (colon + 1) at
+    pub value_waits : (top : Open) (at : ℕ) → in_sequence top.kind ≡ in_seq → top.part ≡ ValuePart → line_starts text (colon + 1) ≡ false → IsSign text colon 58 → Passes n d text (colon + 1) at
         → left_out (ends_plain key_end) (gap_from (colon + 1)) ≡ false → AtNode n d text w top at events
     value_waits top at kind p starts sign gap h =
         let k : Bracket = here.bracket in

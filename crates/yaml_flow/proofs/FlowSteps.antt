@@ -25,7 +25,7 @@ use Rattle.yaml_flow.specs.declared.collection.Open.{Open}
 use Rattle.yaml_flow.specs.declared.collection.Part.TheVariants.{First, Asked}
 use Rattle.yaml_flow.specs.FlowNodes.{Appended}
 use Rattle.yaml_scan.proofs.ByteSigns.{IsSign}
-use Rattle.yaml_flow.specs.Frames.{AfterQuestion, AtEntry, AtNode, BeforeGap, Collection, EntryRead, EventList, IsBracket, Passes, WholeRead, bracket_end, bracket_prefix, bracket_start, entries_start, entry_start, pair_start}
+use Rattle.yaml_flow.specs.Frames.{AfterQuestion, AtEntry, AtNode, BeforeGap, Collection, EntryRead, EventList, IsBracket, Passes, WholeRead, bracket_end, bracket_prefix, bracket_start, entries_start, entry_start, in_sequence, pair_start}
 use Rattle.yaml_scan.specs.Gaps.{NoGap, stuck, used_up}
 use Rattle.yaml_flow.proofs.Appends.{appended_as, appended_then}
 use Rattle.yaml_flow.proofs.EntryEvents.{collection_events, done_end_more, done_more}
@@ -234,7 +234,7 @@ module _ (n : ℕ) (d : FlowContext) (text : List ℕ) where
       ∙ closes_at in_seq b none at here.kind sign))
 
   -- else an entry starts
-  pub begins : (w : Collection) (top : Open) (in_seq : Bool) (at : ℕ) (events : EventList) → top.in_seq ≡ in_seq → top.part ≡ First
+  pub begins : (w : Collection) (top : Open) (in_seq : Bool) (at : ℕ) (events : EventList) → in_sequence top.kind ≡ in_seq → top.part ≡ First
       → first (λ x. x == closer in_seq) (rest text at) ≡ false → is_asked d (rest text at) ≡ false → AtEntry n d text w in_seq at events → AtNode n d text w top at events
   begins w top in_seq at events k p h a here =
       let b : Bracket = here.bracket in
@@ -256,7 +256,7 @@ module _ (n : ℕ) (d : FlowContext) (text : List ℕ) where
   after_sign at prefix e x sign = ap past sign.splits ∙ ap (λ k. rest text k) e
 
   -- after its gap the key is awaited
-  pub asks : (w : Collection) (top : Open) (in_seq : Bool) (at end : ℕ) (events new : EventList) → top.in_seq ≡ in_seq → top.part ≡ Asked
+  pub asks : (w : Collection) (top : Open) (in_seq : Bool) (at end : ℕ) (events new : EventList) → in_sequence top.kind ≡ in_seq → top.part ≡ Asked
       → line_starts text at ≡ false → at < end → Passes n d text at end → Appended text events new (pair_start in_seq) → AfterQuestion n d text w in_seq at events
       → AtNode n d text w top end new
   asks w top in_seq at end events new k p same_line l gap e here =

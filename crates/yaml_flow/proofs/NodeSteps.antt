@@ -22,7 +22,7 @@ use Rattle.yaml_flow.specs.declared.collection.Open.{Open}
 use Rattle.yaml_flow.specs.declared.collection.Part.{Part}
 use Rattle.yaml_flow.specs.declared.collection.Part.TheVariants.{First, Asked, Value as ValuePart}
 use Rattle.yaml_flow.specs.FlowNodes.{Appended}
-use Rattle.yaml_flow.specs.Frames.{AtNode, Collection, EntryRead, EventList, NodeRead, PartFits, Passes, absent_events, bracket_prefix, ends_plain, entry_start, frame_prefix, is_first, is_single, is_value as is_value_part, node_start, pair_end, pair_start, part_prefix, part_of, part_start}
+use Rattle.yaml_flow.specs.Frames.{AtNode, Collection, EntryRead, EventList, NodeRead, PartFits, Passes, absent_events, bracket_prefix, ends_plain, entry_start, frame_prefix, in_sequence, is_first, is_single, is_value as is_value_part, node_start, pair_end, pair_start, part_prefix, part_of, part_start}
 use Rattle.yaml_flow.proofs.Appends.{appended_as, appended_then}
 use Rattle.yaml_flow.proofs.EntryEvents.{entry_length, given_length, pair_events, with_colon}
 use Rattle.yaml_flow.proofs.FlowSteps.{absent_fits, ask_of, bol_of, is_value, keyed, keyed_fits, no_node_at_end, plug_key, value_entry}
@@ -140,8 +140,8 @@ module _ (n : ℕ) (d : FlowContext) (text : List ℕ) where
 
   -- with its value a pair is read
   pub value_read : (w : Collection) (top : Open) (node_end : NodeEnd) (end after : ℕ) (events new : EventList) → IsUtf8 text → IsCharBoundary text top.start → IsCharBoundary text end
-      → top.part ≡ ValuePart → Passes n d text end after → Appended text events new (pair_end top.in_seq) → NodeRead n d text w top node_end end events
-      → EntryRead n d text w top.in_seq after new
+      → top.part ≡ ValuePart → Passes n d text end after → Appended text events new (pair_end (in_sequence top.kind)) → NodeRead n d text w top node_end end events
+      → EntryRead n d text w (in_sequence top.kind) after new
   value_read w top node_end end after events new u b c p gap a here =
       let o : OpenFlow = here.waits.frame in
       let k : Bracket = o.bracket in
@@ -196,13 +196,13 @@ module _ (n : ℕ) (d : FlowContext) (text : List ℕ) where
   absent_written in_seq (pair_value ask bol key before after) key' at start end v s e = absurd (false≢true (sym v))
 
   -- the code's test says whether the pair is a single one
-  pub single_is : (top : Open) (in_seq : Bool) (part : FlowPart) → in_seq ≡ top.in_seq → part_of part ≡ top.part → is_single top ≡ in_seq && is_first (part_of part)
+  pub single_is : (top : Open) (in_seq : Bool) (part : FlowPart) → in_seq ≡ in_sequence top.kind → part_of part ≡ top.part → is_single top ≡ in_seq && is_first (part_of part)
   single_is top in_seq part k p = ap (λ x. x && is_first top.part) (sym k) ∙ ap (λ x. in_seq && is_first x) (sym p)
 
   -- without a value the entry is the node
   pub entry_alone : (w : Collection) (top : Open) (node_end : NodeEnd) (end after : ℕ) (events new : EventList) → IsUtf8 text → IsCharBoundary text top.start → IsCharBoundary text end
       → (top.part ≡ ValuePart → ⊥) → Passes n d text end after → is_colon d (ends_plain node_end) (rest text after) ≡ false
-      → Appended text events new (absent_events (is_single top) top.in_seq end) → NodeRead n d text w top node_end end events → EntryRead n d text w top.in_seq after new
+      → Appended text events new (absent_events (is_single top) (in_sequence top.kind) end) → NodeRead n d text w top node_end end events → EntryRead n d text w (in_sequence top.kind) after new
   entry_alone w top node_end end after events new u b c p gap i a here =
       let o : OpenFlow = here.waits.frame in
       let k : Bracket = o.bracket in
@@ -227,7 +227,7 @@ module _ (n : ℕ) (d : FlowContext) (text : List ℕ) where
             ∙ ap (λ es. bracket_prefix k w.start ++ es) (absent_written k.in_seq o.part key (entry_start k w.start) top.start end v start (sym long)))
             (appended_then text w.kept events new (frame_prefix o w.start ++ flow_events key top.start) (absent_events (k.in_seq && is_first (part_of o.part)) k.in_seq end)
             (appended_then text w.kept here.before events (frame_prefix o w.start) (flow_events key top.start) here.waits.written here.written)
-            (appended_as text events new _ _ (ap (λ x. absent_events x top.in_seq end) (single_is top k.in_seq o.part here.waits.keeps.kind here.waits.keeps.part)
+            (appended_as text events new _ _ (ap (λ x. absent_events x (in_sequence top.kind) end) (single_is top k.in_seq o.part here.waits.keeps.kind here.waits.keeps.part)
             ∙ ap (λ x. absent_events (k.in_seq && is_first (part_of o.part)) x end) (sym here.waits.keeps.kind)) a));
         reads = plugged w top node_end end events here
             ∙ (plug_key n d o key (rest text end) v

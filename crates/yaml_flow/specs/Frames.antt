@@ -27,6 +27,8 @@ use Rattle.yaml_flow.specs.FlowNodes.{Appended}
 use Rattle.yaml_scan.specs.ScanPlaces.{unbroken_between}
 use Rattle.yaml_chars.specs.Signs.{question, open_bracket, open_brace}
 use Rattle.yaml_scan.proofs.ByteSigns.{IsSign}
+use Rattle.yaml_flow.specs.declared.collection.BracketKind.{BracketKind}
+use Rattle.yaml_flow.specs.declared.collection.BracketKind.TheVariants.{Sequence, Mapping}
 use Rattle.yaml_flow.specs.declared.collection.NodeEnd.{NodeEnd}
 use Rattle.yaml_flow.specs.declared.collection.NodeEnd.TheVariants.{Plain, Delimited}
 use Rattle.yaml_flow.specs.declared.collection.Part.{Part}
@@ -44,6 +46,11 @@ EventList = List ListedEvent
 -- the first k events stay
 abbrev pub Kept : ℕ → EventList → EventList → Type 0
 Kept k old new = k ≤ length old → (k ≤ length new) × (take k new ≡ take k old)
+
+-- the bracket is a sequence's
+abbrev pub in_sequence : BracketKind → Bool
+in_sequence Sequence = true
+in_sequence Mapping = false
 
 -- which part of an entry is being read
 abbrev pub part_of : FlowPart → Part
@@ -186,7 +193,7 @@ pub record Collection : Type 0 where
 
 -- the code's frame keeps the kind of the bracket and of the part
 pub record Keeps (top : Open) (o : OpenFlow) : Type 0 where
-  pub kind : o.bracket.in_seq ≡ top.in_seq
+  pub kind : o.bracket.in_seq ≡ in_sequence top.kind
   pub part : part_of o.part ≡ top.part
 
 -- one step of the code
@@ -294,9 +301,9 @@ module _ (n : ℕ) (d : FlowContext) (text : List ℕ) where
 
   -- how far the collection is, by what is next
   abbrev pub Stands : Collection → Open → Next → EventList → Type 0
-  Stands w top (Entry at) events = AtEntry w top.in_seq at events
+  Stands w top (Entry at) events = AtEntry w (in_sequence top.kind) at events
   Stands w top (Node at) events = AtNode w top at events
-  Stands w top (AfterEntry at) events = EntryRead w top.in_seq at events
+  Stands w top (AfterEntry at) events = EntryRead w (in_sequence top.kind) at events
   Stands w top (Closed end) events = WholeRead w end events
 
   -- ---- the collections around
@@ -346,7 +353,7 @@ pub record Passes (n : ℕ) (d : FlowContext) (text : List ℕ) (at end : ℕ) :
 
 -- the node of a sequence's entry is its key, should a `:` follow: the entry has no `?`
 abbrev pub is_single : Open → Bool
-is_single top = top.in_seq && is_first top.part
+is_single top = in_sequence top.kind && is_first top.part
 
 -- of a node, or a key, that ends at a place and has no `:`
 abbrev pub absent_events : Bool → Bool → ℕ → List Event

@@ -10,7 +10,7 @@ ghost use Rattle.yaml_events.specs.Meant.{context_of, event_of, style_of};
 ghost use Rattle.yaml_events.specs.EventPlaces.{line_starts, Refuses};
 ghost use Rattle.yaml_recognizers.specs.FlowFrames.{closer};
 ghost use Rattle.yaml_flow.specs.FlowNodes.{Appended, FlowNodeRead, NoFlowNodeFound};
-ghost use Rattle.yaml_flow.specs.Frames.{Collection, Stack, Stands, Waits, AfterQuestion, AtEntry, EventList, Kept, Pushes, ends_plain, is_plain_style, AtNode, EntryRead, BeforeGap, IsBracket, LineMoves, Onward, Passes, bracket_start, bracket_end, steps_left, opener, pair_start, place_of};
+ghost use Rattle.yaml_flow.specs.Frames.{Collection, Stack, Stands, Waits, AfterQuestion, AtEntry, EventList, Kept, Pushes, ends_plain, is_plain_style, AtNode, EntryRead, BeforeGap, IsBracket, LineMoves, Onward, Passes, bracket_start, bracket_end, in_sequence, steps_left, opener, pair_start, place_of};
 ghost use Rattle.yaml_events.specs.Borrowed.{BorrowsPlain};
 ghost use Rattle.yaml_scan.specs.Gaps.{NoGap};
 
@@ -32,11 +32,19 @@ pub(crate) enum Part {
     Value,
 }
 
+/// Which collection an open bracket begins.
+#[derive(Clone, Copy)]
+pub(crate) enum BracketKind {
+    /// `[`: a flow sequence (7.4.1).
+    Sequence,
+    /// `{`: a flow mapping (7.4.2).
+    Mapping,
+}
+
 /// An open bracket, with what waits in it for the node that is being read.
 #[derive(Clone, Copy)]
 pub(crate) struct Open {
-    /// Whether it is a sequence's.
-    pub(crate) in_seq: bool,
+    pub(crate) kind: BracketKind,
     pub(crate) part: Part,
     /// Where that node starts, and how many events are before it.
     pub(crate) start: usize,
@@ -76,28 +84,33 @@ pub(crate) fn fault(at: usize, why: Why) -> ScanFault {
     ScanFault::At { at, why }
 }
 
-fn closing(in_seq: bool) -> u8
-    ensures { result ≡ closer in_seq }
+fn closing(kind: BracketKind) -> u8
+    ensures { result ≡ closer (in_sequence kind) }
 {
-    if in_seq { b']' } else { b'}' }
-}
-
-fn start_event<'a>(in_seq: bool) -> Event<'a>
-    ensures meant { event_of result ≡ bracket_start in_seq }
-    ensures borrowed { (text : List ℕ) → BorrowsPlain text result }
-{
-    if in_seq {
-        Event::SeqStart
-    } else {
-        Event::MapStart
+    match kind {
+        BracketKind::Sequence => b']',
+        BracketKind::Mapping => b'}',
     }
 }
 
-fn end_event<'a>(in_seq: bool) -> Event<'a>
-    ensures meant { event_of result ≡ bracket_end in_seq }
+fn start_event<'a>(kind: BracketKind) -> Event<'a>
+    ensures meant { event_of result ≡ bracket_start (in_sequence kind) }
     ensures borrowed { (text : List ℕ) → BorrowsPlain text result }
 {
-    if in_seq { Event::SeqEnd } else { Event::MapEnd }
+    match kind {
+        BracketKind::Sequence => Event::SeqStart,
+        BracketKind::Mapping => Event::MapStart,
+    }
+}
+
+fn end_event<'a>(kind: BracketKind) -> Event<'a>
+    ensures meant { event_of result ≡ bracket_end (in_sequence kind) }
+    ensures borrowed { (text : List ℕ) → BorrowsPlain text result }
+{
+    match kind {
+        BracketKind::Sequence => Event::SeqEnd,
+        BracketKind::Mapping => Event::MapEnd,
+    }
 }
 
 /// Passes the gap at a place, which may be empty: returns the place after it. Where it goes over lines, `line`
@@ -131,7 +144,8 @@ fn pass(text: &str, at: usize, setting: Setting, line: &mut usize) -> Result<Nex
         steps_left text.now next ≤ 2 * (length text.now - at) + 1) }
     ensures line { IfOk result (λ next. LineMoves text.now line.old at line.new (place_of next)) }
     ensures stands { IfOk result (λ next. (w : Collection) (top : Open) (events : EventList)
-        → BeforeGap setting.n (context_of setting.context) text.now w top.in_seq at events
+        → BeforeGap setting.n (context_of setting.context) text.now w (in_sequence top.kind) at
+        events
         → Stands setting.n (context_of setting.context) text.now w top next events) }
     ensures none { IfErr result (λ fault.
         Refuses fault ((w : Collection) (in_seq : Bool) (events : EventList)
@@ -157,17 +171,17 @@ fn entry(
         steps_left text.now next < 2 * (length text.now - at) + 1) }
     ensures line { IfOk result (λ next. LineMoves text.now line.old at line.new (place_of next)) }
     ensures stands { IfOk result (λ next. (w : Collection)
-        → AtEntry setting.n (context_of setting.context) text.now w top.old.in_seq at
+        → AtEntry setting.n (context_of setting.context) text.now w (in_sequence top.old.kind) at
         events.old
         → Stands setting.n (context_of setting.context) text.now w top.new next events.new) }
     ensures none { IfErr result (λ fault. Refuses fault ((w : Collection)
-        → AtEntry setting.n (context_of setting.context) text.now w top.old.in_seq at
+        → AtEntry setting.n (context_of setting.context) text.now w (in_sequence top.old.kind) at
         events.old
         → w.reads ≡ None)) }
     ensures kept { (k : ℕ) → Kept k events.old events.new }
 {
-    if stands_at(text, at, closing(top.in_seq)) {
-        push(events, end_event(top.in_seq))?;
+    if stands_at(text, at, closing(top.kind)) {
+        push(events, end_event(top.kind))?;
         return Ok(Next::Closed { end: at + 1 });
     }
     if !stands_at(text, at, b'?') || safe_at(text, at + 1, setting.context) {
@@ -192,34 +206,34 @@ fn asked(
     ensures less { IfOk result (λ next. steps_left text.now next ≤ 2 * (length text.now - at)) }
     ensures line { IfOk result (λ next. LineMoves text.now line.old at line.new (place_of next)) }
     ensures stands { IfOk result (λ next. (w : Collection)
-        → AfterQuestion setting.n (context_of setting.context) text.now w top.old.in_seq at
-        events.old
+        → AfterQuestion setting.n (context_of setting.context) text.now w
+        (in_sequence top.old.kind) at events.old
         → Stands setting.n (context_of setting.context) text.now w top.new next events.new) }
     ensures none { IfErr result (λ fault. Refuses fault ((w : Collection)
-        → AfterQuestion setting.n (context_of setting.context) text.now w top.old.in_seq at
-        events.old → w.reads ≡ None)) }
+        → AfterQuestion setting.n (context_of setting.context) text.now w
+        (in_sequence top.old.kind) at events.old → w.reads ≡ None)) }
     ensures kept { (k : ℕ) → Kept k events.old events.new }
 {
     let key = pass_gap(text, at, setting, line)?;
     if key == at {
         return Err(fault(at, Why::OmittedKey));
     }
-    start_pair(events, top.in_seq)?;
+    start_pair(events, top.kind)?;
     top.part = Part::Asked;
     Ok(Next::Node { at: key })
 }
 
 /// Starts the mapping that a pair of a sequence is.
-fn start_pair(events: &mut Events<'_>, in_seq: bool) -> Result<(), ScanFault>
-    ensures written { OnOk result
-        ((text : List ℕ) → Appended text events.old events.new (pair_start in_seq)) }
+fn start_pair(events: &mut Events<'_>, kind: BracketKind) -> Result<(), ScanFault>
+    ensures written { OnOk result ((text : List ℕ)
+        → Appended text events.old events.new (pair_start (in_sequence kind))) }
     ensures none { IfErr result (λ fault. Refuses fault ⊥) }
     ensures kept { (k : ℕ) → Kept k events.old events.new }
 {
-    if in_seq {
-        push(events, Event::MapStart)?;
+    match kind {
+        BracketKind::Sequence => push(events, Event::MapStart),
+        BracketKind::Mapping => Ok(()),
     }
-    Ok(())
 }
 
 /// Reads the comma or the closing bracket after an entry and its gap.
@@ -236,18 +250,20 @@ fn after_entry(
     ensures less { IfOk result (λ next. steps_left text.now next < 2 * (length text.now - at)) }
     ensures line { IfOk result (λ next. LineMoves text.now line.old at line.new (place_of next)) }
     ensures stands { IfOk result (λ next. (w : Collection)
-        → EntryRead setting.n (context_of setting.context) text.now w top.in_seq at events.old
+        → EntryRead setting.n (context_of setting.context) text.now w (in_sequence top.kind) at
+        events.old
         → Stands setting.n (context_of setting.context) text.now w top next events.new) }
     ensures none { IfErr result (λ fault. Refuses fault ((w : Collection)
-        → EntryRead setting.n (context_of setting.context) text.now w top.in_seq at events.old
+        → EntryRead setting.n (context_of setting.context) text.now w (in_sequence top.kind) at
+        events.old
         → w.reads ≡ None)) }
     ensures kept { (k : ℕ) → Kept k events.old events.new }
 {
     if stands_at(text, at, b',') {
         return pass(text, at + 1, setting, line);
     }
-    if stands_at(text, at, closing(top.in_seq)) {
-        push(events, end_event(top.in_seq))?;
+    if stands_at(text, at, closing(top.kind)) {
+        push(events, end_event(top.kind))?;
         return Ok(Next::Closed { end: at + 1 });
     }
     Err(fault(at, Why::Flow))
@@ -262,35 +278,35 @@ fn in_flow(c: FlowContext) -> FlowContext
     }
 }
 
-/// Returns whether a bracket opens here, and then whether a sequence's.
-pub(crate) fn bracket_at(text: &str, at: usize) -> Option<bool>
+/// Returns the kind of the bracket that opens here, if one does.
+pub(crate) fn bracket_at(text: &str, at: usize) -> Option<BracketKind>
     requires { IsCharBoundary text.now at }
-    ensures found { IfSome result (IsBracket text.now at) }
+    ensures found { IfSome result (λ kind. IsBracket text.now at (in_sequence kind)) }
     ensures none { IfNone result
         ((first (λ x. x == open_bracket) (rest text.now at) ≡ false)
         × (first (λ x. x == open_brace) (rest text.now at) ≡ false)) }
 {
     if stands_at(text, at, b'[') {
-        return Some(true);
+        return Some(BracketKind::Sequence);
     }
     if stands_at(text, at, b'{') {
-        return Some(false);
+        return Some(BracketKind::Mapping);
     }
     None
 }
 
 /// Opens the bracket at a place.
-fn begin(events: &mut Events<'_>, at: usize, in_seq: bool) -> Result<Open, ScanFault>
-    ensures kind { IfOk result (λ top. top.in_seq ≡ in_seq) }
-    ensures written { OnOk result
-        ((text : List ℕ) → Appended text events.old events.new (bracket_start in_seq ∷ [])) }
+fn begin(events: &mut Events<'_>, at: usize, kind: BracketKind) -> Result<Open, ScanFault>
+    ensures kind { IfOk result (λ top. top.kind ≡ kind) }
+    ensures written { OnOk result ((text : List ℕ)
+        → Appended text events.old events.new (bracket_start (in_sequence kind) ∷ [])) }
     ensures none { IfErr result (λ fault. Refuses fault ⊥) }
     ensures kept { (k : ℕ) → Kept k events.old events.new }
 {
     let before = events.len();
-    push(events, start_event(in_seq))?;
+    push(events, start_event(kind))?;
     Ok(Open {
-        in_seq,
+        kind,
         part: Part::First,
         start: at,
         before,
@@ -340,11 +356,11 @@ fn node<'a>(
     }
     top.start = at;
     top.before = events.len();
-    let Some(in_seq) = bracket_at(text, at) else {
+    let Some(kind) = bracket_at(text, at) else {
         return scalar(alloc, events, text, setting, top, line);
     };
     push_open(outer, *top)?;
-    *top = begin(events, at, in_seq)?;
+    *top = begin(events, at, kind)?;
     pass(text, at + 1, setting, line)
 }
 
@@ -405,12 +421,12 @@ pub(crate) fn collection<'a>(
     events: &mut Events<'a>,
     text: &'a str,
     at: usize,
-    in_seq: bool,
+    kind: BracketKind,
     n: u64,
     c: FlowContext,
 ) -> Result<usize, ScanFault>
     requires at { IsCharBoundary text.now at }
-    requires bracket { IsBracket text.now at in_seq }
+    requires bracket { IsBracket text.now at (in_sequence kind) }
     ensures found { IfOk result (λ end.
         FlowNodeRead n (context_of c) text.now at end events.old events.new) }
     ensures none { IfErr result (λ fault.
@@ -425,7 +441,7 @@ pub(crate) fn collection<'a>(
     let mut outer: Vec<Open> = Vec::new(alloc);
     // No break is between this place and the reader, and in each node that started before it there is one.
     let mut line = at;
-    let mut top = begin(events, at, in_seq)?;
+    let mut top = begin(events, at, kind)?;
     let mut next = pass(text, at + 1, setting, &mut line)?;
     'nodes: loop {
         next = match next {

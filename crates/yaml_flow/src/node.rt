@@ -69,8 +69,8 @@ fn read_node<'a>(
         Refuses fault (NoFlowNodeFound n (context_of c) text.now at)) }
     ensures kept { (k : ℕ) → Kept k events.old events.new }
 {
-    if let Some(in_seq) = bracket_at(text, at) {
-        return collection(alloc, events, text, at, in_seq, n, c);
+    if let Some(kind) = bracket_at(text, at) {
+        return collection(alloc, events, text, at, kind, n, c);
     }
     let found = scalar_at(alloc, text, at, n, c)?;
     let end = found.end;

@@ -11,10 +11,10 @@ ghost use Rattle.yaml_events.specs.EventPlaces.{line_starts, Refuses};
 ghost use Rattle.yaml_recognizers.specs.Ends.{is_colon};
 ghost use Rattle.yaml_recognizers.specs.FlowNodes.{ends_entry};
 ghost use Rattle.yaml_flow.specs.FlowNodes.{Appended};
-ghost use Rattle.yaml_flow.specs.Frames.{Collection, Stands, NodeRead, AtColon, BeganPair, Kept, NoPair, absent_events, is_single, is_value, is_value, LineMoves, Onward, SameLine, ends_plain, steps_left, pair_end, place_of};
+ghost use Rattle.yaml_flow.specs.Frames.{Collection, Stands, NodeRead, AtColon, BeganPair, Kept, NoPair, absent_events, in_sequence, is_single, is_value, LineMoves, Onward, SameLine, ends_plain, steps_left, pair_end, place_of};
 ghost use Rattle.yaml_flow.specs.declared.collection.Next.TheVariants.{AfterEntry};
 
-use crate::collection::{Next, NodeEnd, Open, Part, Setting, fault, pass_gap};
+use crate::collection::{BracketKind, Next, NodeEnd, Open, Part, Setting, fault, pass_gap};
 use crate::push::{insert_map_start, omitted, push};
 use yaml_events::{Event, Events, FlowContext, ScanFault, Why};
 use yaml_scan::{at_most_chars, safe_at, stands_at};
@@ -96,13 +96,14 @@ fn colon_at(text: &str, at: usize, key_end: NodeEnd, context: FlowContext) -> bo
 /// Ends a pair that is read, with the gap after it.
 fn close_pair(events: &mut Events<'_>, top: Open, after: usize) -> Result<Next, ScanFault>
     ensures next { IfOk result (λ next. next ≡ AfterEntry after) }
-    ensures written { OnOk result
-        ((text : List ℕ) → Appended text events.old events.new (pair_end top.in_seq)) }
+    ensures written { OnOk result ((text : List ℕ)
+        → Appended text events.old events.new (pair_end (in_sequence top.kind))) }
     ensures none { IfErr result (λ fault. Refuses fault ⊥) }
     ensures kept { (k : ℕ) → Kept k events.old events.new }
 {
-    if top.in_seq {
-        push(events, Event::MapEnd)?;
+    match top.kind {
+        BracketKind::Sequence => push(events, Event::MapEnd)?,
+        BracketKind::Mapping => {}
     }
     Ok(Next::AfterEntry { at: after })
 }
@@ -111,9 +112,9 @@ fn close_pair(events: &mut Events<'_>, top: Open, after: usize) -> Result<Next, 
 fn is_single(top: Open) -> bool
     ensures { result ≡ is_single top }
 {
-    match top.part {
-        Part::First => top.in_seq,
-        Part::Asked | Part::Value => false,
+    match (top.kind, top.part) {
+        (BracketKind::Sequence, Part::First) => true,
+        _ => false,
     }
 }
 
@@ -127,7 +128,7 @@ fn without_value(
     ensures next { IfOk result (λ next. next ≡ AfterEntry after) }
     ensures written { OnOk result
         ((text : List ℕ) → Appended text events.old events.new
-        (absent_events (is_single top) top.in_seq end)) }
+        (absent_events (is_single top) (in_sequence top.kind) end)) }
     ensures none { IfErr result (λ fault. Refuses fault ⊥) }
     ensures kept { (k : ℕ) → Kept k events.old events.new }
 {
@@ -181,12 +182,12 @@ fn value(
     ensures line { IfOk result (λ next.
         LineMoves text.now line.old colon line.new (place_of next)) }
     ensures stands { IfOk result (λ next. (w : Collection)
-        → AtColon setting.n (context_of setting.context) text.now w top.old.in_seq key_end colon
-        events.old
+        → AtColon setting.n (context_of setting.context) text.now w (in_sequence top.old.kind)
+        key_end colon events.old
         → Stands setting.n (context_of setting.context) text.now w top.new next events.new) }
     ensures none { IfErr result (λ fault. Refuses fault ((w : Collection)
-        → AtColon setting.n (context_of setting.context) text.now w top.old.in_seq key_end colon
-        events.old → w.reads ≡ None)) }
+        → AtColon setting.n (context_of setting.context) text.now w (in_sequence top.old.kind)
+        key_end colon events.old → w.reads ≡ None)) }
     ensures kept { (k : ℕ) → Kept k events.old events.new }
 {
     let at = pass_gap(text, colon + 1, setting, line)?;

@@ -5,7 +5,7 @@ use Rattle.yaml_events.specs.Meant.{context_of}
 use Rattle.yaml_grammar.specs.Texts.{first}
 use Rattle.yaml_recognizers.specs.FlowFrames.{closer}
 use Rattle.yaml_scan.proofs.Outcomes.{refuses, faults_so, ok_so}
-use Rattle.yaml_flow.specs.Frames.{Onward, bracket_end, place_of, steps_left}
+use Rattle.yaml_flow.specs.Frames.{Onward, bracket_end, in_sequence, place_of, steps_left}
 use Rattle.yaml_flow.proofs.Appends.{appended_one}
 use Rattle.yaml_flow.proofs.FlowSteps.{closes_entry, comma_passed, no_closing}
 use Rattle.yaml_flow.proofs.SameLines.{closer_line, sign_then}
@@ -35,7 +35,7 @@ returns-then-stands_at-clause-stands c =
     let text = c.args.text.now in
     let s = sign_there text c.args.at 44 c.utf8.text c.requires (omega arith) (sym c.stands_at.ensures ∙ c.if-stands_at.true) in
     ok_so c.pass.result _ _
-    (λ next h. λ w here. h w c.args.top c.args.events.now (comma_passed n d text w c.args.top.in_seq c.args.at c.args.events.now s here)) c.pass.ensures.stands
+    (λ next h. λ w here. h w c.args.top c.args.events.now (comma_passed n d text w (in_sequence c.args.top.kind) c.args.at c.args.events.now s here)) c.pass.ensures.stands
 
 pub returns-then-stands_at-clause-none : goal.returns-then-stands_at-clause-none
 returns-then-stands_at-clause-none c =
@@ -44,37 +44,37 @@ returns-then-stands_at-clause-none c =
     let text = c.args.text.now in
     let s = sign_there text c.args.at 44 c.utf8.text c.requires (omega arith) (sym c.stands_at.ensures ∙ c.if-stands_at.true) in
     faults_so c.pass.result _ _
-    (λ h. λ w here. h w c.args.top.in_seq c.args.events.now (comma_passed n d text w c.args.top.in_seq c.args.at c.args.events.now s here)) c.pass.ensures.none
+    (λ h. λ w here. h w (in_sequence c.args.top.kind) c.args.events.now (comma_passed n d text w (in_sequence c.args.top.kind) c.args.at c.args.events.now s here)) c.pass.ensures.none
 
 pub returns-then-stands_at-2-clause-onward : goal.returns-then-stands_at-2-clause-onward
 returns-then-stands_at-2-clause-onward c =
     let text = c.args.text.now in
-    let h : first (λ x. x == closer c.args.top.in_seq) (rest text c.args.at) ≡ true =
+    let h : first (λ x. x == closer (in_sequence c.args.top.kind)) (rest text c.args.at) ≡ true =
     ap (λ k. first (λ x. x == k) (rest text c.args.at)) (sym c.closing.ensures) ∙ (sym c.stands_at-2.ensures ∙ c.if-stands_at-2.true) in
-    let s = closer_there text c.args.at c.args.top.in_seq c.utf8.text c.requires h in
+    let s = closer_there text c.args.at (in_sequence c.args.top.kind) c.utf8.text c.requires h in
     record { boundary = s.boundary; above = omega arith; within = omega (arith, s.below) }
 
 pub returns-then-stands_at-2-clause-less : goal.returns-then-stands_at-2-clause-less
 returns-then-stands_at-2-clause-less c =
     let text = c.args.text.now in
-    let h : first (λ x. x == closer c.args.top.in_seq) (rest text c.args.at) ≡ true =
+    let h : first (λ x. x == closer (in_sequence c.args.top.kind)) (rest text c.args.at) ≡ true =
     ap (λ k. first (λ x. x == k) (rest text c.args.at)) (sym c.closing.ensures) ∙ (sym c.stands_at-2.ensures ∙ c.if-stands_at-2.true) in
-    let s = closer_there text c.args.at c.args.top.in_seq c.utf8.text c.requires h in
+    let s = closer_there text c.args.at (in_sequence c.args.top.kind) c.utf8.text c.requires h in
     omega (arith, s.below)
 
 pub returns-then-stands_at-2-clause-line : goal.returns-then-stands_at-2-clause-line
 returns-then-stands_at-2-clause-line c =
     let text = c.args.text.now in
-    let h : first (λ x. x == closer c.args.top.in_seq) (rest text c.args.at) ≡ true =
+    let h : first (λ x. x == closer (in_sequence c.args.top.kind)) (rest text c.args.at) ≡ true =
     ap (λ k. first (λ x. x == k) (rest text c.args.at)) (sym c.closing.ensures) ∙ (sym c.stands_at-2.ensures ∙ c.if-stands_at-2.true) in
-    closer_line text c.args.line.now c.args.at c.args.top.in_seq c.utf8.text c.requires (closer_there text c.args.at c.args.top.in_seq c.utf8.text c.requires h)
+    closer_line text c.args.line.now c.args.at (in_sequence c.args.top.kind) c.utf8.text c.requires (closer_there text c.args.at (in_sequence c.args.top.kind) c.utf8.text c.requires h)
 
 pub returns-then-stands_at-2-clause-stands : goal.returns-then-stands_at-2-clause-stands
 returns-then-stands_at-2-clause-stands c =
     let n = c.args.setting.n in
     let d = context_of c.args.setting.context in
     let text = c.args.text.now in
-    let in_seq = c.args.top.in_seq in
+    let in_seq = in_sequence c.args.top.kind in
     let h : first (λ x. x == closer in_seq) (rest text c.args.at) ≡ true =
     ap (λ k. first (λ x. x == k) (rest text c.args.at)) (sym c.closing.ensures) ∙ (sym c.stands_at-2.ensures ∙ c.if-stands_at-2.true) in
     let s = closer_there text c.args.at in_seq c.utf8.text c.requires h in
@@ -87,7 +87,7 @@ returns-clause-none c =
     let d = context_of c.args.setting.context in
     let text = c.args.text.now in
     refuses c.fault.result _
-    (λ w here. no_closing n d text w c.args.top.in_seq c.args.at c.args.events.now (sym c.stands_at.ensures ∙ c.if-stands_at.false)
+    (λ w here. no_closing n d text w (in_sequence c.args.top.kind) c.args.at c.args.events.now (sym c.stands_at.ensures ∙ c.if-stands_at.false)
     (ap (λ k. first (λ x. x == k) (rest text c.args.at)) (sym c.closing.ensures) ∙ (sym c.stands_at-2.ensures ∙ c.if-stands_at-2.false)) here)
 
 pub returns-then-stands_at-clause-onward : goal.returns-then-stands_at-clause-onward

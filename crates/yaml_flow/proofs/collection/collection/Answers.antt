@@ -6,14 +6,14 @@ use Rattle.yaml_events.specs.Meant.{context_of}
 use Rattle.yaml_grammar.specs.FlowScalars.{in_flow}
 use Rattle.yaml_scan.proofs.Outcomes.{fault_passed}
 use Rattle.yaml_flow.specs.declared.collection.Next.TheVariants.{Entry, Node, AfterEntry, Closed}
-use Rattle.yaml_flow.specs.Frames.{BeforeGap, Collection, LineMoves, Onward, Started, WholeRead, place_of, steps_left}
+use Rattle.yaml_flow.specs.Frames.{BeforeGap, Collection, LineMoves, Onward, Started, WholeRead, in_sequence, place_of, steps_left}
 use Rattle.yaml_flow.proofs.FlowSteps.{in_flow_twice, opened}
 use Rattle.yaml_flow.proofs.Signs.{opener_starts}
 use Rattle.yaml_flow.proofs.Stacks.{before, closed, kept_on, kept_once, outermost, refused, stack_none, started, starts_pop, starts_push, stepped, turned, whole_read}
 use Rattle.yaml_flow.proofs.collection.collection.Goals as goal
 
 pub pass-requires-clause-inside_line : goal.pass-requires-clause-inside_line
-pass-requires-clause-inside_line c = opener_starts c.args.text.now c.args.at c.args.in_seq c.utf8.text c.requires.at c.requires.bracket
+pass-requires-clause-inside_line c = opener_starts c.args.text.now c.args.at (in_sequence c.args.kind) c.utf8.text c.requires.at c.requires.bracket
 
 pub returns-in_err-next-clause-none : goal.returns-in_err-next-clause-none
 returns-in_err-next-clause-none c =
@@ -22,8 +22,8 @@ returns-in_err-next-clause-none c =
     let text = c.args.text.now in
     let at = c.args.at in
     fault_passed c.from_residual-in_err-next.result c.in_err-next.field-0.0 _ _
-    (λ f. f (outermost n outside text at c.args.events.now) c.args.in_seq c.begin.new.events
-    (opened n outside (context_of c.in_flow.result) text at c.args.in_seq c.args.events.now c.begin.new.events
+    (λ f. f (outermost n outside text at c.args.events.now) (in_sequence c.args.kind) c.begin.new.events
+    (opened n outside (context_of c.in_flow.result) text at (in_sequence c.args.kind) c.args.events.now c.begin.new.events
     c.in_flow.ensures c.requires.bracket (c.in_ok-top.ensures.written text)))
     c.in_err-next.ensures.none (err_from_is_err_and c.from_residual-in_err-next.result c.from_residual-in_err-next.ensures.1)
 
@@ -37,8 +37,8 @@ nodes-init c =
     let whole : Collection = outermost n outside text at c.args.events.now in
     let top = c.in_ok-top.top in
     let next = c.in_ok-next.next in
-    let before : BeforeGap n d text whole c.args.in_seq (at + 1) c.begin.new.events =
-    opened n outside d text at c.args.in_seq c.args.events.now c.begin.new.events c.in_flow.ensures c.requires.bracket (c.in_ok-top.ensures.written text) in
+    let before : BeforeGap n d text whole (in_sequence c.args.kind) (at + 1) c.begin.new.events =
+    opened n outside d text at (in_sequence c.args.kind) c.args.events.now c.begin.new.events c.in_flow.ensures c.requires.bracket (c.in_ok-top.ensures.written text) in
     let moves : LineMoves text at (at + 1) c.pass.new.line (place_of next) = c.in_ok-next.ensures.line in
     record {
       reading = record {
@@ -47,7 +47,7 @@ nodes-init c =
           around = [];
           stack = (c.new-outer.ensures.items, refl);
           stands = c.in_ok-next.ensures.stands whole top c.begin.new.events
-              (subst (λ s. BeforeGap n d text whole s (at + 1) c.begin.new.events) (sym c.in_ok-top.ensures.kind)
+              (subst (λ s. BeforeGap n d text whole (in_sequence s) (at + 1) c.begin.new.events) (sym c.in_ok-top.ensures.kind)
               before);
         };
         onward = c.in_ok-next.ensures.onward;

@@ -7,7 +7,7 @@ use Rattle.yaml_recognizers.specs.FlowFrames.{closer}
 use Rattle.yaml_recognizers.specs.FlowNodes.{is_asked}
 use Rattle.yaml_scan.proofs.Outcomes.{faults_so, ok_so}
 use Rattle.yaml_flow.specs.declared.collection.Part.TheVariants.{First}
-use Rattle.yaml_flow.specs.Frames.{Onward, bracket_end, place_of, steps_left}
+use Rattle.yaml_flow.specs.Frames.{Onward, bracket_end, in_sequence, place_of, steps_left}
 use Rattle.yaml_flow.proofs.Appends.{appended_one}
 use Rattle.yaml_flow.proofs.FlowSteps.{begins, closes, question}
 use Rattle.yaml_flow.proofs.SameLines.{closer_line, sign_then}
@@ -19,7 +19,7 @@ use Rattle.yaml_flow.proofs.collection.entry.Goals.{then-not-stands_at-via-then-
 pub returns-then-stands_at-clause-onward : goal.returns-then-stands_at-clause-onward
 returns-then-stands_at-clause-onward c =
     let text = c.args.text.now in
-    let in_seq = c.args.top.now.in_seq in
+    let in_seq = in_sequence c.args.top.now.kind in
     let h : first (λ x. x == closer in_seq) (rest text c.args.at) ≡ true =
     ap (λ k. first (λ x. x == k) (rest text c.args.at)) (sym c.closing.ensures) ∙ (sym c.stands_at.ensures ∙ c.if-stands_at.true) in
     let s = closer_there text c.args.at in_seq c.utf8.text c.requires h in
@@ -28,7 +28,7 @@ returns-then-stands_at-clause-onward c =
 pub returns-then-stands_at-clause-less : goal.returns-then-stands_at-clause-less
 returns-then-stands_at-clause-less c =
     let text = c.args.text.now in
-    let in_seq = c.args.top.now.in_seq in
+    let in_seq = in_sequence c.args.top.now.kind in
     let h : first (λ x. x == closer in_seq) (rest text c.args.at) ≡ true =
     ap (λ k. first (λ x. x == k) (rest text c.args.at)) (sym c.closing.ensures) ∙ (sym c.stands_at.ensures ∙ c.if-stands_at.true) in
     let s = closer_there text c.args.at in_seq c.utf8.text c.requires h in
@@ -37,7 +37,7 @@ returns-then-stands_at-clause-less c =
 pub returns-then-stands_at-clause-line : goal.returns-then-stands_at-clause-line
 returns-then-stands_at-clause-line c =
     let text = c.args.text.now in
-    let in_seq = c.args.top.now.in_seq in
+    let in_seq = in_sequence c.args.top.now.kind in
     let h : first (λ x. x == closer in_seq) (rest text c.args.at) ≡ true =
     ap (λ k. first (λ x. x == k) (rest text c.args.at)) (sym c.closing.ensures) ∙ (sym c.stands_at.ensures ∙ c.if-stands_at.true) in
     closer_line text c.args.line.now c.args.at in_seq c.utf8.text c.requires (closer_there text c.args.at in_seq c.utf8.text c.requires h)
@@ -47,7 +47,7 @@ returns-then-stands_at-clause-stands c =
     let n = c.args.setting.n in
     let d = context_of c.args.setting.context in
     let text = c.args.text.now in
-    let in_seq = c.args.top.now.in_seq in
+    let in_seq = in_sequence c.args.top.now.kind in
     let h : first (λ x. x == closer in_seq) (rest text c.args.at) ≡ true =
     ap (λ k. first (λ x. x == k) (rest text c.args.at)) (sym c.closing.ensures) ∙ (sym c.stands_at.ensures ∙ c.if-stands_at.true) in
     let s = closer_there text c.args.at in_seq c.utf8.text c.requires h in
@@ -63,7 +63,7 @@ returns-then-not-stands_at-clause-stands c =
     let n = c.args.setting.n in
     let text = c.args.text.now in
     let d = context_of c.args.setting.context in
-    let in_seq = c.args.top.now.in_seq in
+    let in_seq = in_sequence c.args.top.now.kind in
     let asked : is_asked d (rest text c.args.at) ≡ false = elim c.then-not-stands_at.branch [
       | then-not-stands_at-via-then-not-stands_at w ↦ no_question d (rest text c.args.at) (sym c.stands_at-2.ensures ∙ w.if-not-stands_at.true)
       | then-not-stands_at-via-else-not-stands_at+then-safe_at w ↦ safe_after d text c.args.at
@@ -95,7 +95,7 @@ returns-clause-stands c =
     let text = c.args.text.now in
     let s = sign_there text c.args.at 63 c.utf8.text c.requires (omega arith) (sym c.stands_at-2.ensures ∙ c.if-not-stands_at.false) in
     ok_so c.asked.result _ _
-    (λ next h. λ w here. h w (question n d text w c.args.top.now.in_seq c.args.at c.args.events.now s
+    (λ next h. λ w here. h w (question n d text w (in_sequence c.args.top.now.kind) c.args.at c.args.events.now s
     (question_asks d text c.args.at s (sym c.safe_at.ensures ∙ c.if-safe_at.false))
     (ap (λ k. first (λ x. x == k) (rest text c.args.at)) (sym c.closing.ensures) ∙ (sym c.stands_at.ensures ∙ c.if-stands_at.false)) here)) c.asked.ensures.stands
 
@@ -106,7 +106,7 @@ returns-clause-none c =
     let text = c.args.text.now in
     let s = sign_there text c.args.at 63 c.utf8.text c.requires (omega arith) (sym c.stands_at-2.ensures ∙ c.if-not-stands_at.false) in
     faults_so c.asked.result _ _
-    (λ h. λ w here. h w (question n d text w c.args.top.now.in_seq c.args.at c.args.events.now s
+    (λ h. λ w here. h w (question n d text w (in_sequence c.args.top.now.kind) c.args.at c.args.events.now s
     (question_asks d text c.args.at s (sym c.safe_at.ensures ∙ c.if-safe_at.false))
     (ap (λ k. first (λ x. x == k) (rest text c.args.at)) (sym c.closing.ensures) ∙ (sym c.stands_at.ensures ∙ c.if-stands_at.false)) here)) c.asked.ensures.none
 

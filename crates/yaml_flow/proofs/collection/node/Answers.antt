@@ -5,7 +5,7 @@ use Rattle.yaml_events.specs.Meant.{context_of}
 use Rattle.yaml_events.specs.EventPlaces.{line_starts}
 use Rattle.yaml_recognizers.specs.Recognizers.{flow_node_at}
 use Rattle.yaml_scan.proofs.Outcomes.{faults_so, ok_so, refuses}
-use Rattle.yaml_flow.specs.Frames.{BeforeGap, Collection, Onward, place_of, steps_left}
+use Rattle.yaml_flow.specs.Frames.{BeforeGap, Collection, Onward, in_sequence, place_of, steps_left}
 use Rattle.yaml_flow.proofs.FlowSteps.{opened}
 use Rattle.yaml_flow.proofs.NodeSteps.{at_start, node_at_end, node_missing}
 use Rattle.yaml_flow.proofs.SameLines.{opener_then}
@@ -28,13 +28,13 @@ returns-in_default-clause-none c =
     (λ h. λ w here. h w (at_start n d text w c.args.top.now c.args.at c.len-top.result c.args.events.now here)) c.scalar.ensures.none
 
 pub pass-requires-clause-inside_line : goal.pass-requires-clause-inside_line
-pass-requires-clause-inside_line c = opener_starts c.args.text.now c.args.at c.in-Some.in_seq c.utf8.text c.requires.at c.in-Some.ensures.found
+pass-requires-clause-inside_line c = opener_starts c.args.text.now c.args.at (in_sequence c.in-Some.kind) c.utf8.text c.requires.at c.in-Some.ensures.found
 
 pub returns-clause-line : goal.returns-clause-line
 returns-clause-line c =
     let text = c.args.text.now in
     ok_so c.pass.result _ _
-    (λ next h. opener_then text c.args.line.now c.args.at c.in-Some.in_seq c.pass.new.line (place_of next) c.utf8.text c.requires.at c.in-Some.ensures.found h) c.pass.ensures.line
+    (λ next h. opener_then text c.args.line.now c.args.at (in_sequence c.in-Some.kind) c.pass.new.line (place_of next) c.utf8.text c.requires.at c.in-Some.ensures.found h) c.pass.ensures.line
 
 pub returns-clause-stands : goal.returns-clause-stands
 returns-clause-stands c =
@@ -57,8 +57,8 @@ returns-clause-stands c =
         stack,
       );
       stands = h opens c.in_ok-top.field-0 c.begin.new.events
-          (subst (λ s. BeforeGap n d text opens s (at + 1) c.begin.new.events) (sym c.in_ok-top.ensures.kind)
-          (opened n d d text at c.in-Some.in_seq events c.begin.new.events (sym c.requires.inside) c.in-Some.ensures.found (c.in_ok-top.ensures.written text)));
+          (subst (λ s. BeforeGap n d text opens (in_sequence s) (at + 1) c.begin.new.events) (sym c.in_ok-top.ensures.kind)
+          (opened n d d text at (in_sequence c.in-Some.kind) events c.begin.new.events (sym c.requires.inside) c.in-Some.ensures.found (c.in_ok-top.ensures.written text)));
     }) c.pass.ensures.stands
 
 pub returns-clause-none : goal.returns-clause-none
@@ -71,8 +71,8 @@ returns-clause-none c =
     let opens : Collection = record { reads = flow_node_at n d (line_starts text at) (rest text at); start = at; kept = events } in
     faults_so c.pass.result _ _
     (λ h. λ w here. node_missing n d text w c.args.top.now at events
-    (h opens c.in-Some.in_seq c.begin.new.events
-    (opened n d d text at c.in-Some.in_seq events c.begin.new.events (sym c.requires.inside) c.in-Some.ensures.found (c.in_ok-top.ensures.written text))) here) c.pass.ensures.none
+    (h opens (in_sequence c.in-Some.kind) c.begin.new.events
+    (opened n d d text at (in_sequence c.in-Some.kind) events c.begin.new.events (sym c.requires.inside) c.in-Some.ensures.found (c.in_ok-top.ensures.written text))) here) c.pass.ensures.none
 
 pub returns-clause-onward : goal.returns-clause-onward
 returns-clause-onward c =

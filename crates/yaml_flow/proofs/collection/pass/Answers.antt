@@ -3,6 +3,7 @@ use Rattle.yaml_chars.specs.Places.{rest}
 use Rattle.yaml_events.specs.Meant.{context_of}
 use Rattle.yaml_scan.specs.Gaps.{NoGap}
 use Rattle.yaml_scan.proofs.Outcomes.{fault_passed}
+use Rattle.yaml_flow.specs.Frames.{in_sequence}
 use Rattle.yaml_flow.proofs.FlowSteps.{not_passed, passed}
 use Rattle.yaml_flow.proofs.collection.pass.Goals as goal
 
@@ -19,4 +20,4 @@ pub returns-clause-stands : goal.returns-clause-stands
 returns-clause-stands c =
     let n = c.args.setting.n in
     let d = context_of c.args.setting.context in
-    λ w top events here. passed n d c.args.text.now w top.in_seq c.args.at c.in_ok-end.end events c.in_ok-end.ensures.found c.requires.inside_line here
+    λ w top events here. passed n d c.args.text.now w (in_sequence top.kind) c.args.at c.in_ok-end.end events c.in_ok-end.ensures.found c.requires.inside_line here

@@ -6,7 +6,7 @@ use Rattle.yaml_recognizers.specs.Ends.{is_colon}
 use Rattle.yaml_scan.specs.Gaps.{NoGap}
 use Rattle.yaml_scan.proofs.Outcomes.{fault_passed, faults_so, ok_so}
 use Rattle.yaml_flow.specs.declared.collection.Part.TheVariants.{Value}
-use Rattle.yaml_flow.specs.Frames.{AtColon, Collection, LineMoves, NodeRead, NoPair, Onward, SameLine, Stands, ends_plain, place_of, steps_left}
+use Rattle.yaml_flow.specs.Frames.{AtColon, Collection, LineMoves, NodeRead, NoPair, Onward, SameLine, Stands, ends_plain, in_sequence, place_of, steps_left}
 use Rattle.yaml_flow.proofs.ColonSteps.{colon_read, colon_refused, node_dead}
 use Rattle.yaml_flow.proofs.NodeSteps.{entry_alone, not_value, the_value, value_read}
 use Rattle.yaml_flow.proofs.Results.{ok_two}
@@ -66,7 +66,7 @@ returns-in_err-begin_pair-clause-none c =
 pair_begun : (c : goal.After-value) → (w : Collection)
     → NodeRead c.args.setting.n (context_of c.args.setting.context) c.args.text.now w c.args.top.now c.args.node_end
     c.args.end c.args.events.now
-    → AtColon c.args.setting.n (context_of c.args.setting.context) c.args.text.now w c.args.top.now.in_seq
+    → AtColon c.args.setting.n (context_of c.args.setting.context) c.args.text.now w (in_sequence c.args.top.now.kind)
     c.args.node_end c.in_ok-after.after c.begin_pair.new.events
 pair_begun c =
     let text = c.args.text.now in

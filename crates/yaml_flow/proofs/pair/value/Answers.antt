@@ -10,7 +10,7 @@ use Rattle.yaml_recognizers.specs.Gaps.{read_gap}
 use Rattle.yaml_scan.specs.Gaps.{NoGap}
 use Rattle.yaml_scan.proofs.Outcomes.{fault_passed, ok_so}
 use Rattle.yaml_flow.specs.declared.collection.Part.TheVariants.{Value}
-use Rattle.yaml_flow.specs.Frames.{LineMoves, Onward, Passes, Stands, ends_plain, pair_end, place_of, steps_left}
+use Rattle.yaml_flow.specs.Frames.{LineMoves, Onward, Passes, Stands, ends_plain, in_sequence, pair_end, place_of, steps_left}
 use Rattle.yaml_flow.proofs.Appends.{appended_one, appended_then}
 use Rattle.yaml_flow.proofs.ColonSteps.{pair_without_value, value_dead, value_waits}
 use Rattle.yaml_flow.proofs.Results.{ok_two}
@@ -37,7 +37,7 @@ returns-in_err-at-clause-none c =
     let text = c.args.text.now in
     let s = sign_there text c.args.colon 58 c.utf8.text c.requires.at (omega arith) c.requires.stands in
     fault_passed c.from_residual.result c.in_err-at.field-0.0 (NoGap n d (rest text (c.args.colon + 1))) _
-    (λ stop. λ w here. value_dead n d text w c.args.top.now.in_seq c.args.key_end c.args.colon c.args.events.now here s stop) c.in_err-at.ensures.none
+    (λ stop. λ w here. value_dead n d text w (in_sequence c.args.top.now.kind) c.args.key_end c.args.colon c.args.events.now here s stop) c.in_err-at.ensures.none
     (err_from_is_err_and c.from_residual.result c.from_residual.ensures.1)
 
 pub returns-then-is_left_out-clause-line : goal.returns-then-is_left_out-clause-line
@@ -55,7 +55,7 @@ returns-then-is_left_out-clause-stands c =
     let text = c.args.text.now in
     let s = sign_there text c.args.colon 58 c.utf8.text c.requires.at (omega arith) c.requires.stands in
     let gap = c.in_ok-at.ensures.found in
-    let in_seq = c.args.top.now.in_seq in
+    let in_seq = in_sequence c.args.top.now.kind in
     let after = c.args.colon + 1 in
     let test : left_out (ends_plain c.args.key_end) (read_gap n (one_line d) (rest text after)) ≡ true =
     test_is n d text after c.in_ok-at.at (ends_plain c.args.key_end) gap ∙ (sym c.is_left_out.ensures ∙ c.if-is_left_out.true) in
@@ -81,7 +81,7 @@ returns-clause-stands c =
     let gap = c.in_ok-at.ensures.found in
     let test : left_out (ends_plain c.args.key_end) (read_gap n (one_line d) (rest text (c.args.colon + 1))) ≡ false =
     test_is n d text (c.args.colon + 1) c.in_ok-at.at (ends_plain c.args.key_end) gap ∙ (sym c.is_left_out.ensures ∙ c.if-is_left_out.false) in
-    λ w here. value_waits n d text w c.args.top.now.in_seq c.args.key_end c.args.colon c.args.events.now here (record c.args.top.now { part = Value }) c.in_ok-at.at refl refl
+    λ w here. value_waits n d text w (in_sequence c.args.top.now.kind) c.args.key_end c.args.colon c.args.events.now here (record c.args.top.now { part = Value }) c.in_ok-at.at refl refl
     (not_starting text c.args.colon 58 c.utf8.text c.requires.at s refl refl) s gap test
 
 pub returns-then-is_left_out-clause-onward : goal.returns-then-is_left_out-clause-onward

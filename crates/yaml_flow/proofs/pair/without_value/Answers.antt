@@ -2,13 +2,13 @@ use Rattle.std.proofs.Common.{ap, sym, ◌∙◌}
 use Rattle.std.specs.Prelude.{[], ◌++◌}
 use Rattle.yaml_grammar.specs.Events.{omitted_at, omitted_style, scalar_event}
 use Rattle.yaml_scan.proofs.Outcomes.{ok_so}
-use Rattle.yaml_flow.specs.Frames.{absent_events, pair_end}
+use Rattle.yaml_flow.specs.Frames.{absent_events, in_sequence, pair_end}
 use Rattle.yaml_flow.proofs.Appends.{appended_as, appended_one, appended_then}
 use Rattle.yaml_flow.proofs.pair.without_value.Goals as goal
 
 pub returns-clause-written : goal.returns-clause-written
 returns-clause-written c =
-    let in_seq = c.args.top.in_seq in
+    let in_seq = in_sequence c.args.top.kind in
     let end = c.args.end in
     ok_so c.close_pair.result _ _
     (λ next h. λ text. appended_as text c.args.events.now c.close_pair.new.events (omitted_at end ++ pair_end in_seq) _
