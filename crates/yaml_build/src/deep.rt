@@ -88,8 +88,8 @@ impl KeyCheck {
     }
 }
 
-/// Whether in each mapping of a document the keys differ from one another. The document may be of any depth: no value is
-/// kept.
+/// Whether in each mapping of a document the keys differ from one another. The document may be of any depth: no value
+/// is kept.
 ///
 /// # Errors
 ///

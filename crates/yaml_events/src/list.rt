@@ -10,8 +10,8 @@ use std::marker::Model;
 
 /// The events of a text, or of a part of it, in order. Contracts see the list of the events.
 ///
-/// The kinds of all events are in one list, with two bytes each. The values of the scalars are in lists of their own, in
-/// the same order, so an event without a value takes no room for one.
+/// The kinds of all events are in one list, with two bytes each. The values of the scalars are in lists of their own,
+/// in the same order, so an event without a value takes no room for one.
 #[derive(Drop)]
 pub struct Events<'a> {
     kinds: Vec<Kind>,

@@ -3,7 +3,8 @@ ghost use Rattle.std.specs.Prelude.{◌≡◌, ℕ, List, [], ◌∷◌, ◌++�
 ghost use Rattle.std.specs.Str.{chars};
 ghost use Rattle.yaml_grammar.specs.Texts.{spaces};
 
-/// Takes a text piece by piece, as a buffer that grows or as a count. After a fault nothing is promised of what it holds.
+/// Takes a text piece by piece, as a buffer that grows or as a count. After a fault nothing is promised of what it
+/// holds.
 pub trait Sink {
     /// Why a piece isn't taken.
     type Fault;
