@@ -11,8 +11,7 @@ use Rattle.yaml_events.specs.declared.event.Event.{Event}
 use Rattle.yaml_scan.specs.Lines.{IsLineStart}
 use Rattle.yaml_flow.specs.FlowNodes.{Appended}
 
--- The block node at the place is read up to the end, where a line starts or the text ends, and its
--- events are appended.
+-- The block node at the place is read up to the end, where a line starts or the text ends, and its events are appended.
 pub record BlockNodeRead (m : ℕ) (shallow : Bool) (text : List ℕ) (at : ℕ) (old new : List Event) (end : ℕ) : Type 0
   where
     pub above : at ≤ end

@@ -90,7 +90,7 @@ pub record IsPiece (q : ℕ) (chomping : Chomping) (text : List ℕ) (empties : 
   pub boundary : IsCharBoundary text end
   pub spells : (l : TextLine) → Describes line l → between text line.end end ≡ trailing_line_feeds chomping l
 
--- one of these fails
+-- the value of the lines is not there in one piece
 abbrev pub IsNoPiece : ℕ → Chomping → List ℕ → ℕ → Line → Type 0
 IsNoPiece q chomping text empties line =
     (l : TextLine) (gs : List BlockEmptyLine) (ls : List TextLine) (after : List ℕ) → Describes line l

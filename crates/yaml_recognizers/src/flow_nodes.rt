@@ -54,7 +54,7 @@ pub fn flow_node_missing()
 {}
 
 /// Decides the flow nodes at the start of a text, in whatever form. For each, one is found with the same text and
-/// meaning and the same rest. What is found is there, and is the only one but for its form. If none is found, there
+/// meaning and the same rest. What is found is there, and is the only one except for its form. If none is found, there
 /// is none.
 pub fn flow_node_stands()
     ensures found { (n : ℕ) (c : FlowContext) (bol : Bool) (text : List ℕ) (f : Flow)
@@ -74,7 +74,7 @@ pub fn flow_node_any_depth()
         → read_flow read_scalar fuel n c bol text ≡ flow_node_at n c bol text }
 {}
 
-/// What the recognizers of flow nodes and their parts find, said by one another: how deep they go is no matter.
+/// The recognizers of flow nodes and their parts in terms of one another, without a bound on how deep they go.
 pub fn flow_node_steps()
     ensures node { (n : ℕ) (c : FlowContext) (bol : Bool) (text : List ℕ)
         → flow_node_at n c bol text

@@ -37,14 +37,13 @@ pub fn break_end(text: &str, at: usize) -> Option<usize>
 /// How a line ends.
 #[derive(Clone, Copy, Debug, PartialEq, Eq)]
 pub struct Stop {
-    /// Whether a break ends it, and not the end of the text.
+    /// Whether it ends with a break, and not with the end of the text.
     pub has_break: bool,
-    /// The place after it.
+    /// The place after the break, or the end of the text.
     pub next: usize,
 }
 
-/// Returns how a line ends at `at`: by a break or by the end of the text. Returns None where
-/// neither is.
+/// Returns how a line ends at `at`: with a break or with the end of the text. Returns None if neither is there.
 pub fn stop_at(text: &str, at: usize) -> Option<Stop>
     requires { IsCharBoundary text.now at }
     ensures found { IfSome result (λ stop. IsStop text.now at stop.has_break stop.next) }
@@ -93,8 +92,8 @@ fn is_byte_order_mark(text: &str) -> bool
     text == "\u{feff}"
 }
 
-/// Returns whether there is a line break between two places. Each byte between them is looked at once, up
-/// to the first break.
+/// Returns whether there is a line break between two places. It looks at each byte between them once, up to the first
+/// break.
 pub fn has_break(text: &str, from: usize, to: usize) -> bool
     requires order { from ≤ to }
     requires from { IsCharBoundary text.now from }
@@ -110,8 +109,8 @@ pub fn has_break(text: &str, from: usize, to: usize) -> bool
     false
 }
 
-/// Returns whether at most `limit` characters are between two places. They are counted only where
-/// the number of bytes does not decide.
+/// Returns whether at most `limit` characters are between two places. It counts them only if the number of bytes does
+/// not decide.
 pub fn at_most_chars(text: &str, from: usize, to: usize, limit: usize) -> bool
     requires order { from ≤ to }
     requires from { IsCharBoundary text.now from }
