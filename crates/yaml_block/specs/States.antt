@@ -33,7 +33,7 @@ abbrev pub is_shallow : BlockContext → Bool
 is_shallow Bin = false
 is_shallow Bout = true
 
--- a sequence after so many spaces is deep enough for a node at m
+-- a sequence after s spaces is deep enough for a node at m
 abbrev pub is_deep : ℕ → BlockContext → ℕ → Bool
 is_deep m context s = nat_le m (if is_shallow context then suc s else s)
 

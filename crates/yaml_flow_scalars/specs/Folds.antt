@@ -11,8 +11,8 @@ use Rattle.yaml_recognizers.specs.Comments.{read_break}
 use Rattle.yaml_recognizers.specs.Prefixes.{take_while, drop_while}
 use Rattle.yaml_recognizers.specs.Joins.{Join, after_blank, read_empty}
 
--- The fold begins with the break at the place `at`, has so many empty lines, and what the next line holds is at the
--- place `next`.
+-- The fold begins with the break at the place `at`, has this number of empty lines, and what the next line holds is at
+-- the place `next`.
 pub record IsFold (n : ℕ) (text : List ℕ) (at empties next : ℕ) : Type 0 where
   pub above : at < next
   pub boundary : IsCharBoundary text next

@@ -67,8 +67,8 @@ pub record IsPlainRun (c : FlowContext) (black : Bool) (text : List ℕ) (from t
 
 -- ---- further lines
 
--- A further line begins after a line that ends at the place `at`. A break and so many empty lines lead to it; what it
--- holds is between `start` and `end`.
+-- A further line begins after a line that ends at the place `at`. A break and this number of empty lines lead to it;
+-- what it holds is between `start` and `end`.
 pub record IsNextLine (n : ℕ) (c : FlowContext) (text : List ℕ) (at empties start end : ℕ) : Type 0 where
   pub stop : ℕ
   pub after : at ≤ stop

@@ -48,7 +48,7 @@ pub(crate) fn fold_at(text: &str, at: usize, indent: u64) -> Option<Fold>
     }
 }
 
-/// The white space at the start of a line.
+/// The whitespace at the start of a line.
 #[derive(Clone, Copy)]
 struct Prefix {
     /// Where it ends. In a line that is indented too little, where its spaces end.
@@ -57,7 +57,7 @@ struct Prefix {
     indented: bool,
 }
 
-/// Returns the white space at the start of the line that starts at `at`.
+/// Returns the whitespace at the start of the line that starts at `at`.
 fn line_prefix(text: &str, at: usize, indent: u64) -> Prefix
     requires { IsCharBoundary text.now at }
     ensures { IsPrefix indent text.now at result.end result.indented }

@@ -147,7 +147,7 @@ fn why_not_first(character: char) -> Why {
 /// What is before a place of a plain scalar.
 #[derive(Clone, Copy)]
 enum Before {
-    /// A character of the scalar that is not white space.
+    /// A character of the scalar that is not whitespace.
     Content,
     /// Whitespace or a break.
     Blank,

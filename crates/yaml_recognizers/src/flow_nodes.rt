@@ -137,7 +137,7 @@ pub fn block_key_fits()
         → block_key_in bol text ≡ Some ((key, gap), rest) → IsBlockKey bol text key gap rest }
 {}
 
-/// A flow node before comments, with a line less deep after them, is no key.
+/// A flow node is not a key if comments follow it, and after them a line that is less deep.
 pub fn block_key_missing()
     ensures { (f : Flow) (m : ℕ) (bol start : Bool) (comments : List LineEnd) (after : List ℕ)
         → canonical_flow f m outer bol (comments_text comments ++ after) ≡ true

@@ -11,7 +11,7 @@ use Rattle.yaml_scan.specs.declared.classes.Class.TheVariants.{Words, WordsInsid
 abbrev pub simple : FlowContext → ℕ → Bool
 simple c x = nat_lt x 128 && (safe c x && not (is_in x (codes ":#")))
 
--- such a character, or white space
+-- such a character, or whitespace
 abbrev pub word : FlowContext → ℕ → Bool
 word c x = simple c x || white x
 

@@ -44,7 +44,7 @@ pub record IsLineEnd (bol : Bool) (text : List ℕ) (at end : ℕ) : Type 0 wher
   pub reads : read_line_end bol (rest text at) ≡ Some (line_end, rest text end)
   pub starts : IsLineStart text end
 
--- the line ends at the last place, where white space and perhaps a comment go to the second
+-- the line ends at the last place, if whitespace and perhaps a comment go up to the second
 abbrev pub EndsLineAfter : List ℕ → ℕ → ℕ → ℕ → Type 0
 EndsLineAfter text at content end =
     (bol : Bool) → IsContentEnd bol text at content → IsLineEnd bol text at end

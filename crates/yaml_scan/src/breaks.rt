@@ -7,8 +7,8 @@ ghost use Rattle.yaml_events.specs.EventPlaces.{line_starts};
 ghost use Rattle.yaml_recognizers.specs.Comments.{read_break, read_stop};
 ghost use Rattle.yaml_scan.specs.ScanPlaces.{IsBreak, IsStop, byte_order_mark_bytes, unbroken_between};
 
-/// Returns the end of the break at `at`: a line feed, a carriage return, or both in this order
-/// (5.4, `b-break`). Returns None if there is no line break.
+/// Returns the end of the break at `at`: LF, CR LF, or a CR that no LF follows (5.4, `b-break`). Returns None if there
+/// is none.
 pub fn break_end(text: &str, at: usize) -> Option<usize>
     requires { IsCharBoundary text.now at }
     ensures found { IfSome result (IsBreak text.now at) }
@@ -70,8 +70,7 @@ fn is_break(byte: u8) -> bool
     matches!(byte, b'\n' | b'\r')
 }
 
-/// Returns whether a line starts at `at`: at the start of the text, after a byte order mark there,
-/// or after a break.
+/// Returns whether a line starts at `at`: at the start of the text, after a byte order mark there, or after a break.
 pub fn line_starts(text: &str, at: usize) -> bool
     requires { IsCharBoundary text.now at }
     ensures { result ≡ line_starts text.now at }

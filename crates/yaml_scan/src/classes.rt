@@ -7,7 +7,7 @@ ghost use Rattle.yaml_scan.specs.Classes.{test_of, bit_of, line_ascii, ArePassed
 /// A class of characters. A byte decides it: the characters from U+0080 on are all in the class or all outside of it.
 #[derive(Clone, Copy, Debug, PartialEq, Eq)]
 pub enum Class {
-    /// White space, and the ASCII characters that are plain anywhere after the first character of a plain scalar
+    /// Whitespace, and the ASCII characters that are plain anywhere after the first character of a plain scalar
     /// outside of brackets (7.3.3).
     Words,
     /// The same between brackets.
@@ -124,8 +124,8 @@ fn last_passed_end(bytes: &[u8], at: usize, class: Class) -> usize
     end
 }
 
-/// Returns the end of as many bytes from `at` on as can be taken sixteen by sixteen, where each is by itself a
-/// character that a line may hold.
+/// Returns the end of the bytes from `at` on that can be taken sixteen at a time, each of them by itself a character
+/// that a line may hold.
 fn sixteens_end(bytes: &[u8], at: usize) -> usize
     requires { at ≤ length bytes.now }
     ensures { ArePassed line_ascii bytes.now at result }
@@ -137,8 +137,8 @@ fn sixteens_end(bytes: &[u8], at: usize) -> usize
     end
 }
 
-/// Returns whether each of sixteen bytes from `at` on is by itself a character that a line may hold. It looks at all of
-/// them, so that they can be looked at together.
+/// Returns whether each of sixteen bytes from `at` on is by itself a character that a line may hold. It tests all of
+/// them, so that the compiler can test them together.
 #[inline(always)]
 fn are_sixteen(bytes: &[u8], at: usize) -> bool
     requires { at + 16 ≤ length bytes.now }

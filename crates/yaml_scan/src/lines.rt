@@ -9,7 +9,7 @@ use crate::breaks::stop_at;
 use crate::runs::{nb_end, spaces_end, white_end};
 use crate::signs::{solid_at, stands_at};
 
-/// A line that holds more than white space and a comment, or the end of the text.
+/// A line that holds more than whitespace and a comment, or the end of the text.
 #[derive(Clone, Copy, Debug, PartialEq, Eq)]
 pub struct Line {
     /// Where it starts.

@@ -26,7 +26,7 @@ pub fn stands_at(text: &str, at: usize, character: u8) -> bool
     at < bytes.len() && bytes[at] == character
 }
 
-/// Returns whether white space is at `at` (5.5, `s-white`).
+/// Returns whether whitespace is at `at` (5.5, `s-white`).
 pub fn white_at(text: &str, at: usize) -> bool
     requires { IsCharBoundary text.now at }
     ensures { result ≡ first white (rest text.now at) }
@@ -41,7 +41,7 @@ fn is_solid(byte: u8) -> bool
     !matches!(byte, b' ' | b'\t' | b'\n' | b'\r' | b'#')
 }
 
-/// Returns whether a character is at `at` that is neither white space, a break nor `#`.
+/// Returns whether a character is at `at` that is neither whitespace, a break nor `#`.
 pub fn solid_at(text: &str, at: usize) -> bool
     requires { IsCharBoundary text.now at }
     ensures { result ≡ first solid (rest text.now at) }
