@@ -14,8 +14,8 @@ pub(crate) const LINE_AND_CLOSING_LINE: &[u8] = b"\n...\n";
 /// Returns None if there is none. Places count bytes from 0. A line has to start at `at`, as at 0 and after each
 /// closing line, so the next one can be searched from the place that is returned.
 ///
-/// A `...` with CR and LF, or with a comment, ends a document (9.1.2) and closes nothing. So cutting
-/// bytes short makes no new closing line.
+/// A `...` with CR and LF, or with a comment, ends a document (9.1.2) and closes nothing. So cutting bytes
+/// short makes no new closing line.
 pub fn next_close(bytes: &[u8], at: usize) -> Option<usize>
     requires { StartsLine bytes.now at }
     ensures found { IfSome result (IsNextClosing bytes.now at) }
