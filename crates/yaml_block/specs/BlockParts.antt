@@ -28,9 +28,8 @@ part_at (Some mapping) m bol sep text =
     then close_pairs mapping.0 [] (block_pairs_at mapping.1 bol text)
     else leaf_part m bol sep text
 
--- After a sign at k. Compact says whether a collection may be on the line of the sign: it may
--- after `-`, after `?` and after the
--- `:` of its value. Shallow says whether a sequence may be as deep as the sign: it may not after `-`.
+-- After a sign at k. Compact says whether a collection may be on the line of the sign: it may after `-`, after `?` and
+-- after the `:` of its value. Shallow says whether a sequence may be as deep as the sign: it may not after `-`.
 abbrev pub part_after_sign : Bool → Bool → ℕ → List ℕ → Read Indented
 part_after_sign true shallow k text = block_indented_at k shallow text
 part_after_sign false shallow k text = indented_node k shallow (λ t. block_node_at (suc k) shallow false t) text

@@ -11,8 +11,7 @@ use Rattle.yaml_events.specs.declared.event.Event.{Event}
 use Rattle.yaml_scan.specs.Lines.{IsLineStart}
 use Rattle.yaml_flow.specs.FlowNodes.{Appended}
 
--- The block node at the place is read up to the end, where a line starts or the text ends, and its
--- events are appended.
+-- The block node at the place is read up to the end, where a line starts or the text ends, and its events are appended.
 pub record BlockNodeRead (m : ℕ) (shallow : Bool) (text : List ℕ) (at : ℕ) (old new : List Event) (end : ℕ) : Type 0
   where
     pub above : at ≤ end
@@ -23,8 +22,8 @@ pub record BlockNodeRead (m : ℕ) (shallow : Bool) (text : List ℕ) (at : ℕ)
     pub found : block_node_at m shallow (line_starts text at) (rest text at) ≡ Some (node, rest text end)
     pub appended : Appended text old new (node_events node at)
 
--- A block node is between the two places, each that is at the first is the same but for its form, and its events are
--- appended. The end is after the lines of white space and comments that follow it, or before them.
+-- A block node is between the two places, each node at the first place is the same except for its form, and its events
+-- are appended. The end is after the lines of whitespace and comments that follow it, or before them.
 pub record BlockNodeIs (m : ℕ) (shallow : Bool) (text : List ℕ) (at : ℕ) (old new : List Event) (end : ℕ) : Type 0
   where
     pub node : Node

@@ -1,5 +1,5 @@
--- The state of the scanner of block nodes: the open collections around a place, what is read of
--- each, and their events so far.
+-- The state of the scanner of block nodes: the open collections around a place, what is read of each, and their events
+-- so far.
 use Rattle.std.specs.Prelude.{◌≡◌, ℕ, ◌+◌, Bool, true, false, not, ◌||◌, ◌==◌, List, [], ◌∷◌, ◌++◌, Option, Some, None}
 use Rattle.yaml_chars.specs.Places.{rest}
 use Rattle.yaml_grammar.specs.Texts.{is_empty, starts_line, byte_len}
@@ -40,7 +40,7 @@ waits_of (waits_item sits k done) = Item
 waits_of (waits_key sits k done) = Key
 waits_of (waits_value sits k done key) = Value
 
--- the sign after which the part is
+-- the sign before the value of this key
 abbrev pub sign_after : PairKey → Sign
 sign_after (key_asked key) = Asked
 sign_after (key_on_line key gap) = Colon
@@ -57,9 +57,8 @@ is_colon Dash = false
 is_colon Asked = false
 is_colon Colon = true
 
--- A collection at k sits in the part that the innermost frame waits for: a compact one follows that
--- frame's sign, which is no `:`
--- of a key on its line.
+-- A collection at k is in the part that the innermost frame waits for: a compact one follows the sign of that frame,
+-- which is not the `:` of a key on its line.
 abbrev pub Seated : Sits → ℕ → List BlockFrame → Type 0
 Seated (on_lines comments j) k fs = j ≡ k
 Seated (on_sign_line s) k [] = ⊥
@@ -75,7 +74,7 @@ abbrev pub Awaits : Sign → ℕ → List BlockFrame → Type 0
 Awaits sign k [] = ⊥
 Awaits sign k (f ∷ fs) = (sign_of f ≡ sign) × (indent_of f ≡ k)
 
--- the part may be the one that the innermost frame waits for
+-- the part is a compact collection
 abbrev pub is_compact : Indented → Bool
 is_compact (compact_items s is) = true
 is_compact (compact_pairs s ps) = true
@@ -106,12 +105,12 @@ abbrev pub sits_place : Sits → ℕ → ℕ
 sits_place (on_sign_line s) at = at + s
 sits_place (on_lines comments k) at = at + byte_len (comments_text comments) + k
 
--- the events of a pair's key, and where its value begins, from where the pair begins
+-- the events of a pair's key, from where the pair begins
 abbrev pub key_events : ℕ → PairKey → ℕ → List Event
 key_events k (key_asked key) at = indented_events key k (at + 1)
 key_events k (key_on_line key gap) at = flow_events key at
 
--- the place of a pair's value, from that of its key
+-- where a pair's value begins, from where the pair begins
 abbrev pub value_place : ℕ → PairKey → ℕ → ℕ
 value_place k (key_asked key) at = at + 1 + byte_len (indented_text key k) + k + 1
 value_place k (key_on_line key gap) at = at + byte_len (flow_text key) + byte_len gap + 1

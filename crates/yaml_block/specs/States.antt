@@ -33,7 +33,7 @@ abbrev pub is_shallow : BlockContext → Bool
 is_shallow Bin = false
 is_shallow Bout = true
 
--- a sequence after so many spaces is deep enough for a node at m
+-- a sequence after s spaces is deep enough for a node at m
 abbrev pub is_deep : ℕ → BlockContext → ℕ → Bool
 is_deep m context s = nat_le m (if is_shallow context then suc s else s)
 
@@ -79,7 +79,7 @@ place_of (next.After at indent sign) = at
 place_of (next.Pair at indent) = at
 place_of (next.Line after) = after.line.start
 
--- what is left to do: at one place a line comes after a part, and a pair after a line
+-- a bound of the steps that are left: at one place a line comes after a part, and a pair after a line
 abbrev pub steps_left : List ℕ → Next → ℕ
 steps_left text (next.After at indent sign) = 3 * (length text - at) + 2
 steps_left text (next.Pair at indent) = 3 * (length text - at)
@@ -173,6 +173,6 @@ Fails text Holding old =
     (W : Read Indented) (from : ℕ) (base : List Event) (fs : List BlockFrame) (evs : List grammar.Event)
     → Holds text base fs evs old → Holding W from fs evs → W ≡ None
 
--- a step that refuses, but where there is no memory, reads nothing
+-- a step that refuses, other than for memory, reads nothing
 abbrev pub FailsBy : List ℕ → Before → Reader → ScanFault → Type 0
 FailsBy text Holding old fault = Refuses fault (Fails text Holding old)

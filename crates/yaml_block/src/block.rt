@@ -57,7 +57,7 @@ impl<'a> Reader<'a> {
     }
 }
 
-/// Returns the indentation below which a node has this least indentation; -1 is that of a document's top.
+/// Returns the indentation below which a node has this least indentation. It is -1 at the top of a document.
 fn indentation_below(least: usize) -> i64
     requires { least ≤ 2 ^ 63 }
     ensures low { negsuc 0 ≤ℤ result }
@@ -101,8 +101,8 @@ fn body_at<'a>(
     })
 }
 
-/// Returns the line after a block scalar whose lines end at `at`. A comment line belongs to the scalar where no TAB
-/// is before its `#`, and then all lines of comments after it do. Other lines of white space or comments end all
+/// Returns the line after a block scalar whose lines end at `at`. A comment line belongs to the scalar if no TAB is
+/// before its `#`, and then all comment lines after it do. Any other line of whitespace or a comment ends all
 /// collections.
 fn line_after_scalar(text: &str, at: usize) -> NextLine
     requires at { IsCharBoundary text.now at }

@@ -18,9 +18,11 @@ pub(crate) enum Waits {
 pub(crate) enum Sign {
     /// `-`: a compact collection may be on its line.
     Dash,
-    /// `?`, or the `:` of its value: the same, and a sequence may be as deep as the mapping.
+    /// `?`, or the `:` of its value: a compact collection may be on its line, and a sequence may be as deep as the
+    /// mapping.
     Asked,
-    /// The `:` of a key on its line: no compact collection may be there.
+    /// The `:` of a key on its line: no compact collection may be on that line, but a sequence may be as deep as the
+    /// mapping.
     Colon,
 }
 
@@ -36,7 +38,7 @@ pub(crate) struct Collection {
 #[derive(Clone, Copy)]
 pub(crate) struct NextLine {
     pub line: Line,
-    /// Whether it holds more than white space and a comment. Only after a block scalar may it hold no more.
+    /// Whether it holds more than whitespace and a comment. Only after a block scalar may it hold no more.
     pub is_solid: bool,
 }
 
@@ -58,12 +60,12 @@ pub(crate) enum Next {
     Line(NextLine),
 }
 
-/// How far a node at the start of a line is indented.
+/// The least indentations of a node that starts on a line of its own.
 #[derive(Clone, Copy)]
 pub(crate) struct Indentation {
     /// The least indentation of the node's lines.
     pub least: usize,
-    /// The least number of spaces before a leaf on this line: none where no line of comments is before it.
+    /// The least number of spaces before a leaf on this line: 0 if no comment line is before it.
     pub margin: usize,
     pub context: BlockContext,
 }

@@ -110,8 +110,8 @@ fn begins_block_scalar(text: &str, at: usize) -> bool
 }
 
 /// Returns the indentation of the mapping whose first key is the flow node of the leaf, which ends at `end` and has
-/// its `:` at `colon`. Returns an error where no mapping may begin there, and where the node has a further line or
-/// is too long.
+/// its `:` at `colon`. Returns an error if no mapping may begin there, or if the node has a further line or is too
+/// long.
 fn key_indent(text: &str, leaf: Leaf, end: usize, colon: usize) -> Result<usize, ScanFault>
     requires at { IsCharBoundary text.now leaf.at }
     requires end { IsCharBoundary text.now end }

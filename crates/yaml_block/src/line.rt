@@ -14,7 +14,7 @@ use yaml_events::{BlockContext, Event, ScanFault};
 use yaml_scan::{Line, sign_at, white_end};
 
 impl Indentation {
-    /// Returns whether a sequence may be indented by so many spaces.
+    /// Returns whether a sequence may be indented by this number of spaces.
     fn fits_sequence(self, spaces: usize) -> bool
         ensures { result ≡ is_deep self.least self.context spaces }
     {
@@ -35,7 +35,7 @@ impl Indentation {
 }
 
 impl<'a> Reader<'a> {
-    /// Reads the start of a node at the start of a line. Returns what is read next.
+    /// Reads the start of a node that is on a line of its own. Returns what is read next.
     pub(crate) fn on_line(
         &mut self,
         text: &'a str,

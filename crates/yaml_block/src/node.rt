@@ -88,7 +88,7 @@ impl<'a> Reader<'a> {
             (BeforeNode text.now least (is_shallow context) at) self.old) }
     {
         let line = solid_line(text, at);
-        // With no line of comments before it, a leaf needs no spaces.
+        // Without a comment line before it, a leaf needs no spaces.
         let margin = if line.start == at { 0 } else { least };
         self.on_line(
             text,
@@ -139,13 +139,13 @@ impl<'a> Reader<'a> {
 /// Reads the block node at `at`, appends its events, and returns the place after it (YAML 1.2.2, 8.2).
 ///
 /// `at` counts bytes from 0 and is on a boundary of a character. The node is below an indentation of `n`, which is -1
-/// at the top of a document. In the context `Bout` it may also be a sequence as deep as `n`. The place that is returned
-/// is after the comments that belong to the node: a line starts there, or the text ends.
+/// at the top of a document. In the context `Bout` it may also be a sequence at the indentation `n`. The place that is
+/// returned is after the comments that belong to the node: a line starts there, or the text ends.
 ///
 /// # Errors
 ///
-/// [`ScanFault::At`] where no block node is at `at`, and [`ScanFault::OutOfMemory`] where there is no memory for
-/// events, for values or for the stack of open collections. The events are then as they were.
+/// [`ScanFault::At`] only if no block node is at `at`, and [`ScanFault::OutOfMemory`] if there is no memory for events,
+/// for values or for the stack of open collections. The list of events is then as it was.
 pub fn block_node<'a>(
     alloc: Global,
     events: &mut Events<'a>,

@@ -18,7 +18,7 @@ pub(crate) struct Reader<'a> {
     pub events: Events<'a>,
     /// The open collections, the innermost last.
     pub collections: Vec<Collection>,
-    /// Where the last part ended: its last scalar or closing bracket, or the place where a value is left out.
+    /// Where the last part ended: its last scalar or closing bracket, or the place of an omitted value.
     pub end: usize,
 }
 
@@ -36,7 +36,7 @@ impl<'a> Reader<'a> {
         }
     }
 
-    /// Puts an event after all others.
+    /// Appends an event.
     #[inline(always)]
     pub(crate) fn put(&mut self, event: Event<'a>) -> Result<(), ScanFault>
         ensures events { OnOk result (self.new.events ≡ self.old.events ++ event.entry ∷ []) }
@@ -51,7 +51,7 @@ impl<'a> Reader<'a> {
         }
     }
 
-    /// Puts the start of a mapping before the event at `place`, counted from 0.
+    /// Inserts the start of a mapping before the event at `place`, counted from 0.
     pub(crate) fn start_map_before(&mut self, place: usize) -> Result<(), ScanFault>
         requires place { place ≤ length self.old.events }
         ensures events { OnOk result (self.new.events ≡ insert self.old.events place MapStart) }
@@ -66,7 +66,7 @@ impl<'a> Reader<'a> {
         }
     }
 
-    /// Opens a collection with this indentation, or goes on with it.
+    /// Opens a collection with this indentation, or goes on with one. It appends no event.
     pub(crate) fn wait(&mut self, waits: Waits, indent: usize) -> Result<(), ScanFault>
         ensures collections { OnOk result (IsOpened waits indent self.old self.new) }
         ensures events { self.new.events ≡ self.old.events }

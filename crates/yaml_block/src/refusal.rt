@@ -10,7 +10,7 @@ pub(crate) fn refusal(at: usize, why: Why) -> ScanFault {
     ScanFault::At { at, why }
 }
 
-/// Returns the refusal where white space is missing at `at`.
+/// Returns the refusal of a text in which whitespace is missing at `at`.
 pub(crate) fn no_white(text: &str, at: usize) -> ScanFault
     requires { IsCharBoundary text.now at }
 {
@@ -20,7 +20,7 @@ pub(crate) fn no_white(text: &str, at: usize) -> ScanFault
     }
 }
 
-/// Returns the refusal where the line of a node goes on at `at` with something else than a comment.
+/// Returns the refusal of a line that goes on at `at` after a node with something other than a comment.
 pub(crate) fn line_goes_on(text: &str, at: usize) -> ScanFault
     requires { IsCharBoundary text.now at }
 {
@@ -45,7 +45,7 @@ pub(crate) fn too_shallow(text: &str, line: Line) -> ScanFault
     }
 }
 
-/// Returns the refusal of a node at `at`: where a `:` is there, its key is left out.
+/// Returns the refusal where no flow node was found at `at`: if a `:` is there, its key is omitted. Else it is `fault`.
 pub(crate) fn no_node(text: &str, at: usize, fault: ScanFault) -> ScanFault
     requires { IsCharBoundary text.now at }
     ensures { fault ≡ ScanFault.OutOfMemory → result ≡ ScanFault.OutOfMemory }

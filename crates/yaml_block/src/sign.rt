@@ -37,8 +37,8 @@ impl Sign {
     }
 }
 
-/// Returns whether the part after a sign of a collection at `indent` is left out, where this line follows the
-/// sign's. The end of the text and a marker need no test: they have no spaces and no `-` before white space.
+/// Returns whether the part after a sign of a collection at `indent` is omitted, if this line follows the line of the
+/// sign. The end of the text and a marker need no test: they have no spaces, and no `-` before whitespace.
 fn is_omitted(text: &str, line: Line, indent: usize, context: BlockContext) -> bool
     requires line { IsLine text.now line }
     requires solid { is_line_end (rest text.now line.start) ≡ false }
@@ -56,7 +56,7 @@ fn is_omitted(text: &str, line: Line, indent: usize, context: BlockContext) -> b
 }
 
 impl<'a> Reader<'a> {
-    /// Reads the start of the part after a sign: on its line, on a later one, or left out. Returns what is read next.
+    /// Reads the start of the part after a sign: on its line, on a later one, or omitted. Returns what is read next.
     pub(crate) fn after_sign(
         &mut self,
         text: &'a str,
@@ -79,7 +79,8 @@ impl<'a> Reader<'a> {
         }
     }
 
-    /// Reads the start of the part after a sign whose line holds no more: on the next line that does, or left out.
+    /// Reads the start of the part after a sign with nothing but a comment after it: the part is at `line`, or omitted.
+    /// Returns what is read next.
     fn on_later_line(
         &mut self,
         text: &'a str,
@@ -120,7 +121,7 @@ impl<'a> Reader<'a> {
         self.on_line(text, line, node)
     }
 
-    /// Reads the start of the part after a sign on the sign's line.
+    /// Reads the start of the part after a sign on the line of the sign. Returns what is read next.
     fn on_sign_line(
         &mut self,
         text: &'a str,

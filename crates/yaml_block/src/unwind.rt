@@ -33,7 +33,7 @@ impl<'a> Reader<'a> {
     }
 
     /// Returns what is read next in this collection, whose part has been read: its next item, the value of its key, or
-    /// its next pair. Where it has none, closes it and returns None.
+    /// its next pair. If it has none, closes it and returns None.
     fn after_part(
         &mut self,
         text: &str,
@@ -76,7 +76,7 @@ impl<'a> Reader<'a> {
         }
     }
 
-    /// Goes on with the next pair of a mapping, or closes it.
+    /// Returns the next pair of a mapping. If it has none, closes it and returns None.
     fn after_pair(
         &mut self,
         text: &str,

@@ -1,4 +1,4 @@
--- What the scanner answers.
+-- What the scanner finds at a place.
 use Rattle.std.specs.Prelude.{◌≡◌, ℕ, ◌≤◌, Bool, true, List, Some}
 use Rattle.std.specs.Str.{IsCharBoundary, chars}
 use Rattle.yaml_chars.specs.Places.{rest}
@@ -39,7 +39,7 @@ pub record AreLines (q : ℕ) (folded : Bool) (chomping : grammar.Chomping) (tex
       (λ ls after. Some (block_value folded chomping (empties_at q (rest text at)).0 ls, after))
       ≡ Some (chars value, rest text end)
 
--- what they are where their value is in one piece
+-- the value of the lines at the start of the text is there in one piece
 abbrev pub ArePiece : ℕ → grammar.Chomping → List ℕ → Type 0
 ArePiece q chomping text =
     (ls : List TextLine) × (after : List ℕ) × (lines_at q (empties_at q text).1 ≡ Some (ls, after))

@@ -22,7 +22,7 @@ pub record AreEmpties (q : ℕ) (text : List ℕ) (at count end : ℕ) : Type 0 
   pub counts : length (empties_at q (rest text at)).0 ≡ count
   pub leaves : (empties_at q (rest text at)).1 ≡ rest text end
 
--- all lines of spaces from a place on, of which the widest has so many
+-- all lines of spaces from a place on, of which the widest has this width
 pub record AreLeading (text : List ℕ) (at width end : ℕ) : Type 0 where
   pub above : at ≤ end
   pub boundary : IsCharBoundary text end
@@ -75,7 +75,7 @@ pub record ArePushed (q : ℕ) (folded : Bool) (chomping : Chomping) (text : Lis
   pub reads : (l : TextLine) → Describes first_line l → l.text ≡ between text first_line.start first_line.end
       → value_from q folded chomping (chars prefix) l (rest text first_line.next) ≡ Some (chars value, rest text end)
 
--- so many line feeds from a place on
+-- a number of line feeds from a place on
 pub record AreFeeds (text : List ℕ) (at count end : ℕ) : Type 0 where
   pub above : at ≤ end
   pub boundary : IsCharBoundary text end
@@ -90,7 +90,7 @@ pub record IsPiece (q : ℕ) (chomping : Chomping) (text : List ℕ) (empties : 
   pub boundary : IsCharBoundary text end
   pub spells : (l : TextLine) → Describes line l → between text line.end end ≡ trailing_line_feeds chomping l
 
--- one of these fails
+-- the value of the lines is not there in one piece
 abbrev pub IsNoPiece : ℕ → Chomping → List ℕ → ℕ → Line → Type 0
 IsNoPiece q chomping text empties line =
     (l : TextLine) (gs : List BlockEmptyLine) (ls : List TextLine) (after : List ℕ) → Describes line l

@@ -31,7 +31,8 @@ fn digit_at(text: &str, at: usize) -> (Option<u8>, usize)
     (Some(byte - b'0'), at + 1)
 }
 
-/// Returns what the chomping mark at `at` says, which may be missing, and the place after it.
+/// Returns the chomping that the mark at `at` says, and the place after it. Without a mark it is `Clip`, and that place
+/// is `at`.
 fn chomping_at(text: &str, at: usize) -> (Chomping, usize)
     requires { IsCharBoundary text.now at }
     ensures { IsMark text.now at (chomping_of result.0) result.1 }
@@ -68,8 +69,8 @@ fn signs_at(text: &str, at: usize) -> (Option<u8>, Chomping, usize)
     }
 }
 
-/// Returns the place after the rest of the line of a header at `at`: white space, a comment after white
-/// space, and a break or the end of the text. Returns None where anything else is there.
+/// Returns the place after the rest of the line of a header at `at`: whitespace, a comment after whitespace, and a
+/// break or the end of the text. Returns None if anything else is there.
 fn header_end(text: &str, at: usize) -> Option<usize>
     requires { IsCharBoundary text.now at }
     ensures found { IfSome result (IsHeaderEnd text.now at) }
@@ -81,16 +82,14 @@ fn header_end(text: &str, at: usize) -> Option<usize>
     rest_of_line_end(text, at)
 }
 
-/// Returns the header of the block scalar at `at`, and the place after its line, its break included
-/// (YAML 1.2.2, 8.1.1).
+/// Returns the header of the block scalar at `at`, and the place after its line and its break (YAML 1.2.2, 8.1.1).
 ///
 /// The header is `|` or `>`, then at most one digit from 1 to 9 and at most one of `-` and `+`, in either order. Then
-/// the line ends, with a comment after white space if there is one.
+/// the line ends, perhaps after whitespace and a comment.
 ///
 /// # Errors
 ///
-/// [`ScanFault::At`] with [`Why::BlockHeader`] where no header is at `at`. It is never
-/// [`ScanFault::OutOfMemory`].
+/// [`ScanFault::At`] with [`Why::BlockHeader`] if no header is at `at`. It is never [`ScanFault::OutOfMemory`].
 pub fn header(text: &str, at: usize) -> Result<(Header, usize), ScanFault>
     requires { IsCharBoundary text.now at }
     ensures found { IfOk result (λ found. IsHeaderAt text.now at found.0 found.1) }

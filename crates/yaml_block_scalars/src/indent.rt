@@ -9,8 +9,8 @@ ghost use Rattle.yaml_block_scalars.specs.Lines.{AreLeading};
 use yaml_events::{ScanFault, Why};
 use yaml_scan::{break_end, is_marker, nb_at, spaces_end};
 
-/// Returns the number of spaces of the widest line of spaces, of all such lines in a row from `at` on,
-/// and where these lines end.
+/// Returns the number of spaces of the widest of the consecutive lines of spaces from `at` on, and where these lines
+/// end.
 fn leading_lines(text: &str, at: usize) -> (usize, usize)
     requires { IsCharBoundary text.now at }
     ensures { AreLeading text.now at result.0 result.1 }
@@ -27,8 +27,14 @@ fn leading_lines(text: &str, at: usize) -> (usize, usize)
     }
 }
 
-/// Returns the indentation that the lines at `at` set, which is `least` or more: that of the first line
-/// that holds anything but spaces.
+/// Returns the indentation that the lines at `at` set, which is `least` or more: that of the first line that holds
+/// anything but spaces. If that line sets none, it is the width of the widest line of spaces, or `least` if that is
+/// more.
+///
+/// # Errors
+///
+/// [`ScanFault::At`] if a line of spaces is wider than the indentation, or if the first other line begins with a
+/// character that no line may hold.
 pub(crate) fn detected(text: &str, at: usize, least: usize) -> Result<usize, ScanFault>
     requires { IsCharBoundary text.now at }
     ensures found { IfOk result (λ indent. find_indent None least (rest text.now at)

@@ -16,18 +16,18 @@ pub(crate) struct Line {
     /// Where its text starts, after the indentation, and where it ends.
     pub(crate) start: usize,
     pub(crate) end: usize,
-    /// Whether its text begins with white space.
+    /// Whether its text begins with whitespace.
     pub(crate) white: bool,
     /// Whether it has a break.
     pub(crate) has_break: bool,
     /// The number of empty lines after it.
     pub(crate) empties: usize,
-    /// Where the line after those starts.
+    /// Where the line after these starts.
     pub(crate) next: usize,
 }
 
-/// Returns the number of empty lines at `at`, and the place after them: lines of at most `indent` spaces
-/// and a break.
+/// Returns the number of empty lines at `at`, and the place after them. An empty line has at most `indent` spaces and a
+/// break.
 pub(crate) fn empty_lines(text: &str, at: usize, indent: usize) -> (usize, usize)
     requires { IsCharBoundary text.now at }
     ensures { AreEmpties indent text.now at result.0 result.1 }
@@ -47,8 +47,8 @@ pub(crate) fn empty_lines(text: &str, at: usize, indent: usize) -> (usize, usize
     }
 }
 
-/// Returns where the text of the text line at `at` starts. Returns None where no text line is there. No
-/// empty line is at `at`.
+/// Returns where the text of the text line at `at` starts. Returns None if no text line is there. No empty line is at
+/// `at`.
 pub(crate) fn text_start(text: &str, at: usize, indent: usize) -> Option<usize>
     requires boundary { IsCharBoundary text.now at }
     requires past { IsPastEmpties indent (rest text.now at) }
@@ -71,11 +71,11 @@ pub(crate) fn text_start(text: &str, at: usize, indent: usize) -> Option<usize>
     Some(at + indent)
 }
 
-/// Returns the text line at `at`. Returns None where no text line is there. No empty line is at `at`.
+/// Returns the text line at `at`. Returns None if no text line is there. No empty line is at `at`.
 ///
 /// # Errors
 ///
-/// [`ScanFault::At`] where the text of the line ends neither in a break nor at the end of the text.
+/// [`ScanFault::At`] if the text of the line ends neither with a break nor with the end of the text.
 pub(crate) fn text_line(text: &str, at: usize, indent: usize) -> Result<Option<Line>, ScanFault>
     requires boundary { IsCharBoundary text.now at }
     requires past { IsPastEmpties indent (rest text.now at) }

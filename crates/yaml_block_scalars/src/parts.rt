@@ -1,13 +1,13 @@
-// What a block scalar's header says.
+// The header of a block scalar.
 
-/// What becomes of the breaks at a block scalar's end (YAML 1.2.2, 8.1.1.2).
+/// Which breaks at the end of a block scalar its value keeps (YAML 1.2.2, 8.1.1.2).
 #[derive(Clone, Copy, Debug, PartialEq, Eq)]
 pub enum Chomping {
-    /// `-`: none is kept.
+    /// `-`: it keeps none.
     Strip,
-    /// No mark: the last text line's break is kept.
+    /// No mark: it keeps the break of the last text line.
     Clip,
-    /// `+`: that break is kept, and those of the empty lines after it.
+    /// `+`: it keeps that break, and those of the empty lines after it.
     Keep,
 }
 
@@ -18,6 +18,6 @@ pub struct Header {
     pub folded: bool,
     /// The indentation that it gives, from 1 to 9.
     pub digit: Option<u8>,
-    /// What becomes of the last breaks.
+    /// Which of the last breaks are kept.
     pub chomping: Chomping,
 }

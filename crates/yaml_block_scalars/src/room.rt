@@ -7,8 +7,8 @@ use std::alloc::AllocError;
 /// The bytes that a value has room for at first, beyond its first text line and the line feeds before it.
 const FIRST_ROOM: usize = 128;
 
-/// The bytes that a value gets room for at least where its first room is not enough. A still longer value grows as any
-/// `String` does.
+/// The least number of bytes that a value gets room for if its first room is not enough. A still longer value grows as
+/// any `String` does.
 const LONG_ROOM: usize = 4_096;
 
 /// Returns how many bytes a value has room for at first.
@@ -20,7 +20,7 @@ pub(crate) fn first_room(empties: usize, line: Line) -> usize
         .saturating_add(line.end - line.start)
 }
 
-/// Appends the text of a line to a value. Where there is no room for it, the value gets room for many lines at once.
+/// Appends the text of a line to a value. If there is no room for it, the value gets room for many lines at once.
 pub(crate) fn push_text(value: &mut String, text: &str) -> Result<(), AllocError>
     ensures { OnOk result (string_bytes value.new ≡ string_bytes value.old ++ text.now) }
 {

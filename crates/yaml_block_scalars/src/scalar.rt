@@ -57,7 +57,7 @@ fn push_lines(
     }
 }
 
-/// Returns the end of `count` line feeds at `at`. Returns None where anything else is there.
+/// Returns the end of `count` line feeds at `at`. Returns None if anything else is there.
 fn feeds_end(text: &str, at: usize, count: usize) -> Option<usize>
     requires { IsCharBoundary text.now at }
     ensures found { IfSome result (AreFeeds text.now at count) }
@@ -77,9 +77,8 @@ fn feeds_end(text: &str, at: usize, count: usize) -> Option<usize>
     Some(end)
 }
 
-/// Returns where the value ends in the text, if the text has it in one piece from the start of `line`
-/// on. Returns None otherwise. `line` is the first text line, and `empties` counts the empty lines before
-/// it.
+/// Returns where the value ends in the text, if the text has it in one piece from the start of `line` on. Returns None
+/// otherwise. `line` is the first text line, and `empties` counts the empty lines before it.
 fn piece_end(
     text: &str,
     empties: usize,
@@ -131,7 +130,7 @@ fn lines<'a>(
     joined_lines(alloc, text, empties, line, indent, style)
 }
 
-/// Returns the value of so many empty lines, the text line `first` and all lines after it, and where they end.
+/// Returns the value of `empties` empty lines, the text line `first` and all lines after it, and where they end.
 fn joined_lines<'a>(
     alloc: Global,
     text: &str,
@@ -228,8 +227,8 @@ fn body<'a>(
 /// Returns the value of the literal scalar whose header ends at `at`, and its end (YAML 1.2.2, 8.1.2). The end is after
 /// its last text line or empty line, or `at` where it has neither.
 ///
-/// The scalar is below an indentation of `n`, which is -1 at the top of a document. The digit of the header, from 1 to
-/// 9, and its chomping count; its `folded` does not. Each break in the value is one line feed. The value is borrowed
+/// The scalar is below an indentation of `n`, which is -1 at the top of a document. Of the header, the digit, from 1 to
+/// 9, and the chomping are used; `folded` is not. Each break in the value is one line feed. The value is borrowed
 /// where the text has it in one piece. That is where it is the text of the only text line with the line feeds that
 /// follow it, or where it is empty and there is no text line. Memory for any other value is allocated once, or a second
 /// time where it is much longer than its first line. A value of more than 4 KiB grows as any `String` does. What a long
@@ -237,9 +236,9 @@ fn body<'a>(
 ///
 /// # Errors
 ///
-/// [`ScanFault::At`] where no such scalar is at `at`: where a line of spaces before the first text line is
-/// too wide, or a line holds a character that none may hold. [`ScanFault::OutOfMemory`] if there is no
-/// memory for the value.
+/// [`ScanFault::At`] only if no such scalar is at `at`: if a line of spaces before the first text line is too wide, or
+/// a line holds a character that no line may hold. [`ScanFault::OutOfMemory`] if there is no memory for a value that is
+/// not borrowed.
 pub fn literal<'a>(
     alloc: Global,
     text: &'a str,
@@ -264,8 +263,8 @@ pub fn literal<'a>(
 /// Returns the value of the folded scalar whose header ends at `at`, and its end (YAML 1.2.2, 8.1.3). The end is after
 /// its last text line or empty line, or `at` where it has neither.
 ///
-/// The same as [`literal`], but a break between two text lines that do not begin with white space is folded. It is a
-/// space, or a line feed for each empty line there.
+/// The same as [`literal`], errors included, but a break between two text lines that do not begin with whitespace is
+/// folded: it is one space, or a line feed for each empty line there.
 pub fn folded<'a>(
     alloc: Global,
     text: &'a str,

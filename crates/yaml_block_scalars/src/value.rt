@@ -27,7 +27,7 @@ pub(crate) fn feeds_after(chomping: Chomping, line: Line) -> usize
     }
 }
 
-/// Returns how many line feeds the value has where there is no text line.
+/// Returns how many line feeds the value has if there is no text line.
 fn kept_feeds(chomping: Chomping, empties: usize) -> usize
     ensures { line_feeds result ≡ value_without_lines (chomping_of chomping) empties }
 {
@@ -57,7 +57,7 @@ pub(crate) fn push_between(
     push_line_feeds(value, line.empties)
 }
 
-/// Returns the value where there are so many empty lines and no text line.
+/// Returns the value of `empties` empty lines without a text line.
 pub(crate) fn no_lines<'a>(
     alloc: Global,
     chomping: Chomping,

@@ -17,7 +17,7 @@ ghost use Rattle.yaml_chars.specs.Breaks.{StartsWithBreak, NoBreak, IsNextBreak,
 
 use thiserror::Error;
 
-/// Why bytes are no text.
+/// Why bytes are not a text.
 #[derive(Clone, Copy, Debug, PartialEq, Eq, Error)]
 pub enum CharFault {
     /// The bytes are not UTF-8.
@@ -28,7 +28,7 @@ pub enum CharFault {
     },
 }
 
-/// The bytes as a text. Of the encodings of YAML 1.2.2, 5.2, UTF-8 alone is read.
+/// Returns the bytes as a text. Of the encodings of YAML 1.2.2, 5.2, only UTF-8 is read.
 ///
 /// Returns [`CharFault::NotUtf8`] exactly if the bytes are not UTF-8, with the length in bytes of the longest prefix
 /// that is.
@@ -42,8 +42,8 @@ pub fn checked(bytes: &[u8]) -> Result<&str, CharFault>
     })
 }
 
-/// Whether a character is printable (5.1, `c-printable`): TAB, LF, CR, NEL, or one that is no control, U+FFFE or
-/// U+FFFF.
+/// Returns whether a character is printable (5.1, `c-printable`): TAB, LF, CR or NEL, or one that is neither a control
+/// nor U+FFFE nor U+FFFF.
 pub fn printable(character: char) -> bool
     ensures { result ≡ printable character }
 {
@@ -66,28 +66,28 @@ pub fn nb_json(character: char) -> bool
     character == '\t' || character >= ' '
 }
 
-/// Whether a character is printable and neither a break nor a byte order mark (5.4, `nb-char`).
+/// Returns whether a character is printable and neither a break nor a byte order mark (5.4, `nb-char`).
 pub fn nb(character: char) -> bool
     ensures { result ≡ nb character }
 {
     printable(character) && !matches!(character, '\n' | '\r' | '\u{feff}')
 }
 
-/// Whether a character is the space or TAB (5.5, `s-white`).
+/// Returns whether a character is the space or TAB (5.5, `s-white`).
 pub fn white(character: char) -> bool
     ensures { result ≡ white character }
 {
     matches!(character, ' ' | '\t')
 }
 
-/// Whether a character is [`nb`] and not [`white`] (5.5, `ns-char`).
+/// Returns whether a character is [`nb`] and not [`white`] (5.5, `ns-char`).
 pub fn ns(character: char) -> bool
     ensures { result ≡ ns character }
 {
     nb(character) && !white(character)
 }
 
-/// Whether a character has a meaning of its own in YAML: one of ``-?:,[]{}#&*!|>'"%@` `` (5.3, `c-indicator`).
+/// Returns whether a character has a meaning of its own in YAML: one of ``-?:,[]{}#&*!|>'"%@` `` (5.3, `c-indicator`).
 pub fn indicator(character: char) -> bool
     ensures { result ≡ indicator character }
 {
@@ -114,7 +114,8 @@ pub fn indicator(character: char) -> bool
     )
 }
 
-/// Whether a character has a meaning of its own in flow collections: one of `,[]{}` (5.3, `c-flow-indicator`).
+/// Returns whether a character has a meaning of its own in flow collections: one of `,[]{}` (5.3,
+/// `c-flow-indicator`).
 pub fn flow_indicator(character: char) -> bool
     ensures { result ≡ flow_indicator character }
 {
@@ -124,7 +125,7 @@ pub fn flow_indicator(character: char) -> bool
 /// Returns the first line break at or after `at`: where it starts, and its length, both in bytes.
 ///
 /// A break is CR LF, LF, or a CR that no LF follows (5.4, `b-break`); between CR and LF, the LF is the first.
-/// Answers None where there is none. `at` is on a boundary of a character, the end of the text included.
+/// Returns None if there is none. `at` is on a boundary of a character, the end of the text included.
 pub fn next_break(text: &str, at: usize) -> Option<(usize, usize)>
     requires { IsCharBoundary text.now at }
 
@@ -141,7 +142,7 @@ pub fn next_break(text: &str, at: usize) -> Option<(usize, usize)>
     Some((start, break_len(&bytes[start..])))
 }
 
-/// The length in bytes of the break at the start.
+/// Returns the length in bytes of the break at the start.
 fn break_len(text: &[u8]) -> usize
     requires { IsTrue (line_break (slice_index text.now 0)) }
     ensures { StartsWithBreak text.now result (drop result text.now) }
@@ -152,7 +153,7 @@ fn break_len(text: &[u8]) -> usize
     }
 }
 
-/// The character at `at`, and its length in bytes; None at the end of the text.
+/// Returns the character at `at`, and its length in bytes. Returns None at the end of the text.
 ///
 /// `at` is on a boundary of a character, the end of the text included.
 pub fn next_char(text: &str, at: usize) -> Option<(char, usize)>

@@ -19,19 +19,19 @@ held_code = code_by (List ℕ × ℕ) (coded× (coded_list coded_ℕ) coded_ℕ)
 abbrev pub Unclosed : List ℕ → Type 0
 Unclosed bytes = (place : ℕ) → ClosesAt bytes place → ⊥
 
--- So many of the further bytes are taken: up to the first closing, if there is one, which is then the only one and the
--- end; else all.
+-- This number of the further bytes is taken: up to the end of the first closing line, if there is one, which is then
+-- the only one; else all.
 abbrev pub Takes : List ℕ → List ℕ → ℕ → Bool → Type 0
 Takes held more taken true = (taken ≤ length more) × ClosesOnce (held ++ take taken more)
 Takes held more taken false = (taken ≡ length more) × Unclosed (held ++ more)
 
--- what is held then
+-- what is held after bytes are taken
 pub record Feeds (old : Held) (more : List ℕ) (new : Held) (fed : Fed) : Type 0 where
   pub takes : Takes old.bytes more fed.taken fed.closed
   pub held : new.bytes ≡ old.bytes ++ take fed.taken more
   pub max : new.max ≡ old.max
 
--- what would be held then are more bytes than may be
+-- more bytes would be held than the limit
 pub record Overfeeds (old : Held) (more : List ℕ) : Type 0 where
   pub taken : ℕ
   pub closed : Bool

@@ -13,7 +13,7 @@ use Rattle.yaml_recognizers.specs.Streams.{directed_with, read_directed, read_ex
 use Rattle.yaml_scan.specs.Lines.{IsLineStart}
 use Rattle.yaml_scan.specs.declared.lines.Line.{Line}
 
--- `%YAML`, white space and a version, from a place up to another
+-- `%YAML`, whitespace and a version, from a place up to another
 pub record IsVersion (text : List ℕ) (at end : ℕ) : Type 0 where
   pub boundary : IsCharBoundary text end
   pub blank : List ℕ

@@ -2,7 +2,7 @@
 use Rattle.std.specs.Prelude.{◌≡◌, ◌≤◌, ℕ, List, ◌++◌, take, drop, codes, IsTrue}
 use Rattle.yaml_grammar.specs.Closings.{ends_line}
 
--- a line starts before the last so many bytes, which are dots, at most three
+-- the last bytes are this number of dots, at most three, and a line starts before them
 pub record IsBegun (held : List ℕ) (dots : ℕ) : Type 0 where
   pub prefix : List ℕ
   pub few : dots ≤ 3

@@ -9,17 +9,17 @@ use Rattle.yaml_events.specs.declared.event.Event.{Event}
 use Rattle.yaml_faults.specs.declared.fault.ReadFault.{ReadFault}
 use Rattle.yaml_faults.specs.declared.fault.ReadFault.TheVariants.{TooLong, NotUtf8, Syntax, Documents, KeyNotText, KeyTwice, TooDeep, LargeInStyle, OutOfMemory}
 
--- the bytes are a text, and at most so many
+-- the bytes are a text, of at most `max` bytes
 pub record IsShortText (bytes : List ℕ) (max : ℕ) : Type 0 where
   pub short : length bytes ≤ max
   pub utf8 : IsUtf8 bytes
 
--- the bytes are a text of at most so many bytes, which reads as the events and as no others
+-- the bytes are a text of at most `max` bytes, which reads as the events and as no others
 pub record ReadsAs (bytes : List ℕ) (max : ℕ) (events : List Event) : Type 0 where
   pub text : IsShortText bytes max
   pub reads : Reads (chars bytes) (events_of events)
 
--- What bytes are refused for as a stream, where no earlier fault holds. Faults of trees are none of a stream.
+-- What bytes are refused for as a stream, where no earlier fault holds. A stream has no faults of trees.
 abbrev pub RefusesBytes : List ℕ → ℕ → ReadFault → Type 0
 RefusesBytes bytes max TooLong = max < length bytes
 RefusesBytes bytes max (NotUtf8 at) = (length bytes ≤ max) × (IsUtf8 bytes → ⊥) × (at ≡ utf8_valid_len bytes)

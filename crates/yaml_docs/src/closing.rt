@@ -1,4 +1,4 @@
-// Closing lines: where one text of a row ends and the next begins.
+// Closing lines: where one of several consecutive texts ends and the next begins.
 ghost use Rattle.std.specs.Prelude.{IfSome, IfNone};
 ghost use Rattle.yaml_docs.specs.NextClosing.{StartsLine, IsNextClosing, NoClosingAfter};
 
@@ -10,12 +10,12 @@ pub(crate) const CLOSING_LINE: &[u8] = b"...\n";
 /// The same after the end of another line.
 pub(crate) const LINE_AND_CLOSING_LINE: &[u8] = b"\n...\n";
 
-/// Returns the first place after `at` that is just past a closing line: a line of exactly `...` and a line feed.
-/// Places count bytes from 0. A line has to start at `at`, as at 0 and after each closing line, so that the next one
-/// can be searched from there.
+/// Returns the first place after `at` that is just after a closing line: a line of exactly `...` and a line feed.
+/// Returns None if there is none. Places count bytes from 0. A line has to start at `at`, as at 0 and after each
+/// closing line, so the next one can be searched from the place that is returned.
 ///
-/// A `...` with CR and LF, or with a comment, ends a document (9.1.4) and closes nothing. So of a text that was cut
-/// short no prefix is closed that it doesn't contain whole.
+/// A `...` with CR and LF, or with a comment, ends a document (9.1.2) and closes nothing. So cutting bytes
+/// short makes no new closing line.
 pub fn next_close(bytes: &[u8], at: usize) -> Option<usize>
     requires { StartsLine bytes.now at }
     ensures found { IfSome result (IsNextClosing bytes.now at) }

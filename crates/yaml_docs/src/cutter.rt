@@ -15,11 +15,11 @@ use thiserror::Error;
 pub struct Fed {
     /// How many of the bytes were taken, from the first.
     pub taken: usize,
-    /// Whether they end with the closing line of a piece. If not, all bytes were taken.
+    /// Whether the bytes that were taken end with the closing line of a piece. If not, all bytes were taken.
     pub closed: bool,
 }
 
-/// Why a [`Cutter`] takes no bytes. `Display` says it in a sentence.
+/// Why a [`Cutter`] takes no bytes. `Display` shows it as a sentence.
 #[derive(Clone, Copy, Debug, PartialEq, Eq, Error)]
 pub enum CutFault {
     /// The piece would have more bytes than it may.
@@ -41,8 +41,8 @@ impl From<AllocError> for CutFault {
 }
 
 /// Holds the bytes after the last closing line of a stream that comes in parts. A closing line is a line of exactly
-/// `...` and a line feed, as [`next_close`](crate::next_close) finds it. Contracts see the bytes and the most that
-/// it may hold.
+/// `...` and a line feed, as [`next_close`](crate::next_close) finds it. Contracts see the bytes that it holds, and the
+/// most bytes that it may hold.
 #[derive(Debug, Drop)]
 pub struct Cutter {
     held: Vec<u8>,
@@ -64,7 +64,8 @@ impl Model for Cutter {
 }
 
 impl Cutter {
-    /// A cutter that holds nothing, for pieces of at most `max` bytes. It takes no memory, and keeps the allocator.
+    /// Returns a cutter that holds nothing, for pieces of at most `max` bytes. It allocates nothing, and keeps the
+    /// allocator.
     pub fn new(alloc: Global, max: u64) -> Self
         ensures { result ≡ record { bytes = []; max = max } }
     {
@@ -74,12 +75,13 @@ impl Cutter {
         }
     }
 
-    /// Takes bytes up to and including the first closing line, or all of them if there is none. A closed piece has
-    /// to be [cleared](Cutter::clear) before. It looks at each byte once, and copies it once.
+    /// Takes bytes up to and including the first closing line, or all of them if there is none. A piece that is closed
+    /// has to be [cleared](Cutter::clear) before the next call. Each byte is copied once.
     ///
     /// # Errors
-    /// `TooLong` if what is held and what would be taken have more than the most bytes together; `OutOfMemory`. In both
-    /// cases nothing is taken.
+    ///
+    /// [`CutFault::TooLong`] only if the bytes that are held and those that would be taken are together more than the
+    /// limit. [`CutFault::OutOfMemory`] if there is no memory for them. In both cases nothing is taken.
     pub fn feed(&mut self, bytes: &[u8]) -> Result<Fed, CutFault>
         requires { Unclosed self.old.bytes }
         ensures ok { IfOk result (Feeds self.old bytes.now self.new) }
@@ -95,7 +97,8 @@ impl Cutter {
         Ok(fed)
     }
 
-    /// The bytes that are held.
+    /// Returns the bytes that are held: a whole piece if the last call of [`feed`](Cutter::feed) returned `closed`, else
+    /// the first bytes of one.
     pub fn piece(&self) -> &[u8]
         ensures { result.now ≡ self.now.bytes }
     {
@@ -110,7 +113,7 @@ impl Cutter {
     }
 }
 
-/// How many of the bytes are taken after those that are held.
+/// Returns how many of the bytes are taken after those that are held.
 fn first_closing(held: &[u8], bytes: &[u8]) -> Fed
     requires { Unclosed held.now }
     ensures takes { Takes held.now bytes.now result.taken result.closed }
@@ -134,7 +137,8 @@ fn first_closing(held: &[u8], bytes: &[u8]) -> Fed
     }
 }
 
-/// How many of the bytes complete a closing line that is begun in what is held, or that begins right after it.
+/// Returns how many of the bytes complete a closing line that begins in the bytes that are held, or right after them.
+/// Returns None if they complete none.
 fn completed_line(held: &[u8], bytes: &[u8]) -> Option<usize>
     ensures found { IfSome result (λ taken. (dots : ℕ) × Completes held.now bytes.now dots
         × (taken + dots ≡ 4)) }
@@ -148,7 +152,7 @@ fn completed_line(held: &[u8], bytes: &[u8]) -> Option<usize>
     None
 }
 
-/// Whether the bytes complete a closing line of which so many dots are held.
+/// Returns whether the bytes complete a closing line of which `dots` dots are held.
 fn completes(held: &[u8], bytes: &[u8], dots: usize) -> bool
     requires { dots ≤ 3 }
     ensures completes { result ≡ true → Completes held.now bytes.now dots }
@@ -157,7 +161,7 @@ fn completes(held: &[u8], bytes: &[u8], dots: usize) -> bool
     is_begun(held, dots) && bytes.starts_with(&CLOSING_LINE[dots..])
 }
 
-/// Whether the last line that is held is so many dots.
+/// Returns whether the last line that is held is `dots` dots.
 fn is_begun(held: &[u8], dots: usize) -> bool
     requires { dots ≤ 3 }
     ensures begun { result ≡ true → IsBegun held.now dots }
@@ -169,7 +173,7 @@ fn is_begun(held: &[u8], dots: usize) -> bool
     }
 }
 
-/// Whether a line starts after the bytes.
+/// Returns whether a line starts after the bytes.
 fn ends_line(bytes: &[u8]) -> bool
     ensures { result ≡ ends_line bytes.now }
 {

@@ -8,7 +8,7 @@ ghost use Rattle.yaml_docs.specs.Directives.{IsDirective, NoDirective, IsVersion
 
 use yaml_scan::{Line, line_after, white_end};
 
-/// Returns the first line after the `%YAML` directive at `at` that holds more than white space and a comment.
+/// Returns the first line after the `%YAML` directive at `at` that holds more than whitespace and a comment.
 /// Returns None if there is no such directive there, or its version is neither 1.1 nor 1.2.
 pub(crate) fn directive_end(text: &str, at: usize) -> Option<Line>
     requires { IsCharBoundary text.now at }
@@ -21,7 +21,7 @@ pub(crate) fn directive_end(text: &str, at: usize) -> Option<Line>
     line_after(text, version)
 }
 
-/// Returns the place after `%YAML`, white space and a version that is known.
+/// Returns the place after `%YAML`, whitespace, and the version 1.1 or 1.2. Returns None if these are not at `at`.
 fn version_end(text: &str, at: usize) -> Option<usize>
     requires { IsCharBoundary text.now at }
     ensures found { IfSome result (IsVersion text.now at) }

@@ -23,7 +23,7 @@ use yaml_events::{BlockContext, Event, Events, ScanFault, Why};
 use yaml_flow::omitted;
 use yaml_scan::{Line, Marker, is_marker, is_marker_of, line_after, solid_line, stands_at};
 
-/// What begins at a line of a stream that holds more than white space and a comment.
+/// What begins at a line of a stream that holds more than whitespace and a comment.
 #[derive(Clone, Copy, Debug, PartialEq, Eq)]
 pub(crate) enum Piece {
     /// `...`, which ends a document (9.1.2).
@@ -75,7 +75,8 @@ fn mark_end(text: &str) -> usize
     if character == '\u{feff}' { len } else { 0 }
 }
 
-/// Returns what begins at a solid line. A bare document or a directive may begin there only if `opened` says so.
+/// Returns what begins at a line that holds more than whitespace and a comment. A bare document or a directive may
+/// begin there only if `opened` is true.
 fn piece_at(text: &str, line: Line, opened: bool) -> Result<Piece, ScanFault>
     requires at { IsCharBoundary text.now line.start }
     requires first { IsCharBoundary text.now line.first }
@@ -102,7 +103,7 @@ fn piece_at(text: &str, line: Line, opened: bool) -> Result<Piece, ScanFault>
     Ok(Piece::Bare)
 }
 
-/// Why neither a bare document nor a directive may begin at a line after a document.
+/// Returns why neither a bare document nor a directive may begin at a line after a document.
 fn why_not_opened(text: &str, line: Line) -> Why
     requires { IsCharBoundary text.now line.first }
 {
@@ -207,7 +208,8 @@ fn explicit_node_end<'a>(
     Ok(end)
 }
 
-/// Returns the end of the document if nothing but comments follows its `---`, which ends at `at`.
+/// Returns the end of the document if nothing but comments follows its `---`, which ends at `at`. Returns None if a
+/// node follows.
 fn omitted_end(text: &str, at: usize) -> Option<usize>
     requires { IsCharBoundary text.now at }
     ensures found { IfSome result (IsOmitted text.now at) }

@@ -1,4 +1,4 @@
-//! Streams of documents (YAML 1.2.2, chapter 9), and where texts in a row are closed.
+//! Streams of documents (YAML 1.2.2, chapter 9), and the closing lines between consecutive texts.
 //!
 //! [`events`] reads bytes as a stream, and returns its events or the reason why they are refused. [`next_close`] finds
 //! closing lines, and a [`Cutter`] cuts bytes that come in parts after each of them.

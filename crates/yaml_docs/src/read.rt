@@ -11,18 +11,20 @@ use yaml_chars::{CharFault, checked, next_break};
 use yaml_events::{Events, ScanFault, Why};
 use yaml_faults::ReadFault;
 
-/// The events of all documents of a text, in order.
+/// Returns the events of all documents of a text, in order.
 ///
-/// `bytes` are UTF-8 (YAML 1.2.2, 5.2), with at most `max` bytes; a byte order mark at their start is skipped. A
-/// stream holds any number of documents (9.2). The ranges of scalars count bytes from 0, and a plain scalar on one
-/// line borrows its value.
+/// The text is UTF-8 (YAML 1.2.2, 5.2), and has at most `max` bytes. A byte order mark at its start is skipped. A
+/// stream holds any number of documents (9.2). The ranges of scalars count bytes from 0, the byte order mark included.
+/// The value of a plain scalar on one line is borrowed.
 ///
 /// # Errors
 ///
-/// - [`ReadFault::TooLong`] if there are more than `max` bytes.
-/// - [`ReadFault::NotUtf8`] if they are not UTF-8.
-/// - [`ReadFault::Syntax`] if they are no stream of documents without aliases, anchors and tags.
+/// - [`ReadFault::TooLong`] exactly if there are more than `max` bytes.
+/// - [`ReadFault::NotUtf8`] only if they are not UTF-8, with the length in bytes of the longest prefix that is.
+/// - [`ReadFault::Syntax`] only if they are not a stream of the profile, as `docs/READING.md` describes it.
 /// - [`ReadFault::OutOfMemory`] if there is no memory for the events.
+///
+/// It returns no other fault.
 pub fn events<'a>(alloc: Global, bytes: &'a [u8], max: u64) -> Result<Events<'a>, ReadFault>
     ensures reads { IfOk result (λ events. ReadsAs bytes.now max events) }
     ensures too_long { (result ≡ Err ReadFault.TooLong) ↔ (max < length bytes.now) }
@@ -45,7 +47,7 @@ pub fn events<'a>(alloc: Global, bytes: &'a [u8], max: u64) -> Result<Events<'a>
     }
 }
 
-/// The fault at byte `at`, with its line and column.
+/// Returns the fault at byte `at`, with its line and column. No contract says which these are.
 fn syntax(text: &str, at: usize, why: Why) -> ReadFault
     ensures { IsSyntax result }
 {
@@ -63,7 +65,7 @@ fn syntax(text: &str, at: usize, why: Why) -> ReadFault
     ReadFault::Syntax { line, column, why }
 }
 
-/// How many characters begin in these bytes of a text.
+/// Returns how many characters begin in these bytes of a text.
 fn code_points(bytes: &[u8]) -> u64
     ensures { result ≤ length bytes.now }
 {

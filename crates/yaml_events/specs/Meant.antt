@@ -33,7 +33,7 @@ event_of MapEnd = grammar.map_end
 event_of (Scalar style span value) =
     grammar.scalar_event (style_of style) span.start span.end (chars (cow_str_bytes value))
 
--- the same of an event that is looked at
+-- the same of an event by reference
 abbrev pub event_ref_of : EventRef → grammar.Event
 event_ref_of ref.DocStart = grammar.document_start
 event_ref_of ref.DocEnd = grammar.document_end

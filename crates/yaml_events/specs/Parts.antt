@@ -1,4 +1,4 @@
--- The events that the parts of a list of events stand for.
+-- The events that are kept in the parts of a list of events.
 use Rattle.std.specs.Prelude.{◌≡◌, ℕ, List, [], ◌∷◌, length, drop}
 use Rattle.std.specs.List.{sum_by}
 use Rattle.std.specs.declared.borrow.CowStr.TheVariants as text
@@ -82,6 +82,6 @@ abbrev pub events_in : List Kind → List BorrowedScalar → List OwnedScalar �
 events_in [] bs os = []
 events_in (k ∷ ks) bs os = event_at k bs os ∷ events_in ks (drop (borrows k) bs) (drop (owns k) os)
 
--- each list has as many values as the kinds tell
+-- each list has as many values as the kinds say
 abbrev pub Fits : List Kind → List BorrowedScalar → List OwnedScalar → Type 0
 Fits ks bs os = (sum_by borrows ks ≡ length bs) × (sum_by owns ks ≡ length os)

@@ -1,6 +1,6 @@
 // The context of a node.
 
-/// The context of a flow node (YAML 1.2.2, 7.1): it says which characters end a plain scalar, and whether the node
+/// The context of a flow node (YAML 1.2.2, 4.2): it says which characters end a plain scalar, and whether the node
 /// may run over lines.
 #[derive(Clone, Copy, Debug, PartialEq, Eq)]
 pub enum FlowContext {
@@ -14,11 +14,11 @@ pub enum FlowContext {
     FlowKey,
 }
 
-/// The context of a block node (YAML 1.2.2, 8.2): it says how far a sequence in it is indented at least.
+/// The context of a block node (YAML 1.2.2, 4.2 and 8.2): it says the least indentation of a sequence in it.
 #[derive(Clone, Copy, Debug, PartialEq, Eq)]
 pub enum BlockContext {
-    /// In a sequence, or at a document's top (`block-in`).
+    /// In a sequence, or at the top of a document (`block-in`): a sequence is deeper than what is around it.
     Bin,
-    /// In a mapping (`block-out`), where a sequence may be as deep as its key.
+    /// In a mapping (`block-out`): a sequence may be as deep as its key.
     Bout,
 }

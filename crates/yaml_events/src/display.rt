@@ -16,7 +16,7 @@ impl fmt::Display for Style {
     }
 }
 
-/// Returns the sign of an event: all of it, but for a scalar.
+/// Returns how an event is written, or how it begins if it is a scalar.
 fn sign_of(event: &EventRef<'_>) -> &'static str {
     match event {
         EventRef::DocStart => "+D",
@@ -56,7 +56,7 @@ impl fmt::Debug for Event<'_> {
     }
 }
 
-/// The events in order, with a space between each and the next.
+/// The events in order, with one space between two of them.
 impl fmt::Display for Events<'_> {
     fn fmt<W: fmt::Write>(&self, f: &mut fmt::Formatter<W>) -> fmt::Result {
         let mut is_first = true;

@@ -7,19 +7,25 @@ use std::borrow::CowStr;
 /// How a scalar is written (YAML 1.2.2, 3.2.3.1).
 #[derive(Clone, Copy, Debug, PartialEq, Eq)]
 pub enum Style {
+    /// Without quotes (7.3.3).
     Plain,
-    /// In single quotes.
+    /// In single quotes (7.3.2).
     Single,
-    /// In double quotes.
+    /// In double quotes (7.3.1).
     Double,
+    /// A block scalar after `|` (8.1.2).
     Literal,
+    /// A block scalar after `>` (8.1.3).
     Folded,
-    /// Not at all: an omitted value is the empty text.
+    /// Not at all: an omitted value is the empty text (7.2).
     Omitted,
 }
 
-/// Which bytes of a text a scalar is written in: from `start` on, up to `end`, which is not among them. Both count
-/// from 0.
+/// The range of bytes of a text that a scalar is written in: from `start` up to `end`, which is the place after it.
+/// Both count bytes from 0.
+///
+/// Quotes belong to the range. That of a block scalar goes from its `|` or `>` through its last text line or empty
+/// line, or through the line of its header. That of an omitted scalar is empty.
 #[derive(Clone, Copy, Debug, PartialEq, Eq)]
 pub struct Span {
     pub start: usize,
@@ -43,7 +49,7 @@ pub enum Event<'a> {
     },
 }
 
-/// An event that is looked at in a list: an [`Event`] whose value stays in the list or in the text.
+/// An [`Event`] by reference: its value stays in the list or in the text.
 #[derive(Clone, Copy, Debug)]
 pub enum EventRef<'e> {
     DocStart,
@@ -60,7 +66,7 @@ pub enum EventRef<'e> {
 }
 
 impl Event<'_> {
-    /// Returns the event with its value where it is.
+    /// Returns the event by reference. The value is not copied.
     pub fn as_ref(&self) -> EventRef<'_>
         ensures { event_ref_of result ≡ event_of self.now }
     {

@@ -5,8 +5,8 @@ use std::alloc::{AllocError, AllocFailed};
 use std::fmt;
 use thiserror::Error;
 
-/// Why no node is where one is looked for. Which of them a text gets is no promise: it only helps the
-/// writer of the text. `Display` says it in words, `Debug` by the name.
+/// Why no node is where one is looked for. No contract says which reason a text gets: it only helps the person who
+/// writes the text. `Display` shows it in words, `Debug` by its name.
 #[derive(Clone, Copy, Debug, PartialEq, Eq)]
 pub enum Why {
     /// An alias (`*name`), which the profile leaves out.
@@ -29,11 +29,11 @@ pub enum Why {
     Indent,
     /// A quote that is not closed.
     Quote,
-    /// A flow collection that is not closed, or an entry that is none.
+    /// A flow collection that is not closed, or has a malformed entry.
     Flow,
     /// A key that is too long or runs over lines, or a second one on its line.
     Key,
-    /// A block scalar's header that is none.
+    /// A malformed header of a block scalar.
     BlockHeader,
     /// A document marker inside a node.
     Marker,
@@ -55,9 +55,9 @@ impl Why {
             Why::Escape => "an unknown escape",
             Why::Indent => "a line with too few or too many spaces",
             Why::Quote => "a quote that is not closed",
-            Why::Flow => "a flow collection that is not closed, or an entry that is none",
+            Why::Flow => "a flow collection that is not closed, or has a malformed entry",
             Why::Key => "a key that is too long or runs over lines, or a second one on its line",
-            Why::BlockHeader => "a block scalar's header that is none",
+            Why::BlockHeader => "a malformed header of a block scalar",
             Why::Marker => "a document marker inside a node",
             Why::Other => "no node",
         }
@@ -72,13 +72,13 @@ impl fmt::Display for Why {
 
 impl std::error::Error for Why {}
 
-/// Why a scanner fails.
+/// Why a scanner found nothing.
 #[derive(Clone, Copy, Debug, PartialEq, Eq, Error)]
 pub enum ScanFault {
-    /// No node is there. `at` counts bytes of the text from 0.
+    /// What is looked for is not there. `at` is the place at fault, in bytes from 0.
     #[error("no node at byte {at}: {why}")]
     At { at: usize, why: Why },
-    /// There is no memory for a value.
+    /// Out of memory.
     #[error("out of memory")]
     OutOfMemory,
 }
@@ -93,7 +93,7 @@ impl From<AllocError> for ScanFault {
     }
 }
 
-/// A value that was handed back because there was no memory for it is dropped, so `events.push(event)?` works.
+/// The value that comes back because there was no memory for it is dropped. So `events.push(event)?` works.
 impl<T: Drop> From<AllocFailed<T>> for ScanFault {
     ghost use Rattle.yaml_events.specs.declared.fault.ScanFault.TheVariants.{OutOfMemory};
 

@@ -11,7 +11,8 @@ use std::borrow::CowStr;
 use std::marker::Model;
 use std::{slice, vec};
 
-/// An iterator that looks at the events of a list. Contracts see the list of what the events mean that are left.
+/// An iterator over the events of a list, by reference. Contracts see the list of the meanings of the events that are
+/// left.
 #[derive(Drop)]
 pub struct EventIter<'e> {
     kinds: slice::Iter<'e, Kind>,
@@ -35,7 +36,7 @@ impl<'e> Model for EventIter<'e> {
 }
 
 impl<'e> EventIter<'e> {
-    /// Returns an iterator over the events that these parts stand for.
+    /// Returns an iterator over the events that are kept in these parts.
     #[inline(always)]
     pub(crate) fn new(
         kinds: &'e [Kind],
@@ -91,7 +92,7 @@ impl<'e> Iterator for EventIter<'e> {
     }
 }
 
-/// An iterator that hands over the events of a list. Contracts see the list of the events that are left.
+/// An iterator that moves the events out of a list. Contracts see the list of the events that are left.
 #[derive(Drop)]
 pub struct EventIntoIter<'a> {
     kinds: Rest<Kind>,
@@ -115,7 +116,7 @@ impl<'a> Model for EventIntoIter<'a> {
 }
 
 impl<'a> EventIntoIter<'a> {
-    /// Returns an iterator over the events that these parts stand for.
+    /// Returns an iterator over the events that are kept in these parts.
     #[inline(always)]
     pub(crate) fn new(
         kinds: Vec<Kind>,

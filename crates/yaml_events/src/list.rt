@@ -10,8 +10,8 @@ use std::marker::Model;
 
 /// The events of a text, or of a part of it, in order. Contracts see the list of the events.
 ///
-/// The kinds of all events are in one list, with two bytes each. The values of the scalars are in lists of their own,
-/// in the same order, so an event without a value takes no room for one.
+/// The kinds of all events are in one list, two bytes each. The values of the scalars are in lists of their own, in the
+/// same order. So an event without a value takes no room for one.
 #[derive(Drop)]
 pub struct Events<'a> {
     kinds: Vec<Kind>,
@@ -51,7 +51,7 @@ impl<'a> Events<'a> {
         self.kinds.len()
     }
 
-    /// Returns an iterator that looks at the events, in order.
+    /// Returns an iterator over the events, in order, by reference.
     #[inline(always)]
     pub fn iter(&self) -> EventIter<'_>
         ensures events { result ≡ events_of self.now }
@@ -64,7 +64,7 @@ impl<'a> Events<'a> {
         )
     }
 
-    /// Appends an event. If there is no memory for it, it is handed back, and the list is unchanged.
+    /// Appends an event. If there is no memory for it, the error holds the event, and the list is unchanged.
     #[inline(always)]
     pub fn push(&mut self, event: Event<'a>) -> Result<(), AllocFailed<Event<'a>>>
         ensures ok { OnOk result (self.new ≡ self.old ++ event.entry ∷ []) }

@@ -19,11 +19,11 @@ pub(crate) enum Edge {
     MapEnd,
 }
 
-/// What an event is. A scalar's kind tells which list its value is in.
+/// The kind of an event. That of a scalar says which list its value is in.
 #[derive(Clone, Copy)]
 pub(crate) enum Kind {
     Edge(Edge),
-    /// A scalar whose value the text has in one piece.
+    /// A scalar whose value is borrowed from the text.
     Borrowed(Style),
     /// A scalar whose value has memory of its own.
     Owned(Style),
@@ -63,7 +63,7 @@ impl Edge {
         }
     }
 
-    /// Returns the event, to be looked at.
+    /// Returns the event, by reference.
     #[inline(always)]
     pub(crate) fn event_ref<'e>(self) -> EventRef<'e>
         ensures { event_ref_of result ≡ event_of (edge_event self) }
@@ -100,8 +100,8 @@ impl Kind {
     }
 }
 
-/// Appends the value of a scalar to the list that its kind tells; other events have none. If there is no memory for
-/// it, the event is handed back, and the lists are unchanged.
+/// Appends the value of a scalar to the list of its kind. Other events have no value. If there is no memory for it, the
+/// error holds the event, and the lists are unchanged.
 #[inline(always)]
 pub(crate) fn keep_value<'a>(
     borrowed: &mut Vec<BorrowedScalar<'a>>,
@@ -149,7 +149,7 @@ pub(crate) fn keep_value<'a>(
     }
 }
 
-/// Returns how many of the kinds are of scalars whose values are borrowed, and of how many they are owned.
+/// Returns how many of the kinds are scalars with a borrowed value, and how many are scalars with a value of their own.
 pub(crate) fn value_counts(kinds: &[Kind]) -> (usize, usize)
     ensures borrowed { result.0 ≡ sum_by borrows kinds.now }
     ensures owned { result.1 ≡ sum_by owns kinds.now }

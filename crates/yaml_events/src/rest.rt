@@ -1,13 +1,13 @@
-// A list of values that is gone through from its front.
+// A list whose values are taken from the front.
 ghost use Rattle.std.specs.Prelude.{◌≡◌, [], ◌∷◌, MatchOption};
 
 use std::marker::Model;
 
-/// A list of values, of which some were handed over. Contracts see the list of those that are left.
+/// A list of values, of which some were taken. Contracts see the list of those that are left.
 #[derive(Drop)]
 pub(crate) struct Rest<T> {
     items: Vec<T>,
-    /// How many were handed over.
+    /// How many were taken.
     taken: usize,
 }
 
@@ -22,7 +22,7 @@ impl<T> Model for Rest<T> {
 }
 
 impl<T: Copy> Rest<T> {
-    /// Nothing of the list was handed over.
+    /// Returns the whole list, of which no value was taken yet.
     #[inline(always)]
     pub(crate) fn of(items: Vec<T>) -> Self
         ensures { result ≡ items.items }
@@ -30,7 +30,7 @@ impl<T: Copy> Rest<T> {
         Rest { items, taken: 0 }
     }
 
-    /// Hands over the first value that is left.
+    /// Takes the first value that is left, and returns it. Returns None if none is left.
     #[inline(always)]
     pub(crate) fn next(&mut self) -> Option<T>
         ensures { MatchOption result

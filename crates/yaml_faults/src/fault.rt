@@ -6,8 +6,8 @@ use std::fmt;
 use thiserror::Error;
 use yaml_events::Why;
 
-/// Why a text or a tree is refused. A later one is returned only where no earlier one holds; out of memory may come at
-/// any point. `Display` says it in a sentence, and [`brief`](ReadFault::brief) by its name.
+/// Why a text or a tree is refused. A fault is returned only if none above it in this list holds; `OutOfMemory` may
+/// come at any point. `Display` shows it as a sentence, and [`brief`](ReadFault::brief) by its name.
 #[derive(Clone, Copy, Debug, PartialEq, Eq, Error)]
 pub enum ReadFault {
     /// The text has more bytes than the limit.
@@ -16,10 +16,10 @@ pub enum ReadFault {
     /// The bytes are not UTF-8; `at` is the length of their longest prefix that is.
     #[error("the text is not UTF-8 after its first {at} bytes")]
     NotUtf8 { at: usize },
-    /// The text has no events. Lines and columns count from 1, a column in code points.
+    /// The text is not a stream of the profile. Lines and columns count from 1, a column in code points.
     #[error("line {line}, column {column}: {why}")]
     Syntax { line: u64, column: u64, why: Why },
-    /// The text has this many documents, and not one.
+    /// The text has this number of documents, which is not 1.
     #[error("the text has {count} documents, and not one")]
     Documents { count: u64 },
     /// Some key is a collection.
@@ -40,7 +40,7 @@ pub enum ReadFault {
 }
 
 impl ReadFault {
-    /// The fault by its name.
+    /// Returns the fault by its name.
     pub fn brief(&self) -> Brief
         ensures { result.0 ≡ self.now }
     {

@@ -1,4 +1,4 @@
-//! Why a text or a tree is refused: [`ReadFault`], and by its name, [`Brief`].
+//! Why a text or a tree is refused: [`ReadFault`], and [`Brief`], which shows it by its name.
 #![tactic(auto)]
 
 mod fault;

@@ -38,8 +38,8 @@ pub record FlowNodeRead (n : ℕ) (c : flow.FlowContext) (text : List ℕ) (at e
   pub found : flow_node_at n c (line_starts text at) (rest text at) ≡ Some (node, rest text end)
   pub appended : Appended text old new (flow_events node at)
 
--- A flow node is between the two places, each that is at the first is the same but for its form, and its events are
--- appended.
+-- A flow node is between the two places, each node at the first place is the same except for its form, and its events
+-- are appended.
 pub record FlowNodeIs (n : ℕ) (c : flow.FlowContext) (text : List ℕ) (at end : ℕ) (old new : List Event) : Type 0 where
   pub node : Flow
   pub is : IsFlowNode n c (line_starts text at) (rest text at) node (rest text end)

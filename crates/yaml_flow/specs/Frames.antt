@@ -72,7 +72,7 @@ abbrev pub ends_plain : NodeEnd → Bool
 ends_plain Plain = true
 ends_plain Delimited = false
 
--- an entry of a sequence that has no `?`: it is a pair only where a `:` follows its node
+-- the part is the first node of an entry without `?`
 abbrev pub is_first : Part → Bool
 is_first First = true
 is_first Asked = false
@@ -91,7 +91,7 @@ place_of (Node at) = at
 place_of (AfterEntry at) = at
 place_of (Closed end) = end
 
--- what is left to do
+-- a bound of the steps that are left
 abbrev pub steps_left : List ℕ → Next → ℕ
 steps_left text (Entry at) = 2 * (length text - at) + 1
 steps_left text (Node at) = 2 * (length text - at)
@@ -106,18 +106,18 @@ pub record Onward (text : List ℕ) (at : ℕ) (next : Next) : Type 0 where
 
 -- ---- brackets
 
--- a bracket opens at the place, of this kind
+-- the opening bracket of a sequence or of a mapping
 abbrev pub opener : Bool → ℕ
 opener true = open_bracket
 opener false = open_brace
 
--- an opening bracket is at the place
+-- the opening bracket of this kind is at the place
 abbrev pub IsBracket : List ℕ → ℕ → Bool → Type 0
 IsBracket text at in_seq = IsSign text at (opener in_seq)
 
 -- ---- lines
 
--- no break is between the line's start and the other place
+-- the start of the line is at `from` or before it exactly if no break is between the two places
 abbrev pub SameLine : List ℕ → ℕ → ℕ → ℕ → Type 0
 SameLine text line from to = nat_le line from ≡ unbroken_between text from to
 
@@ -138,17 +138,17 @@ abbrev pub bracket_end : Bool → Event
 bracket_end true = seq_end
 bracket_end false = map_end
 
--- in a sequence a pair is a mapping of its own
+-- the event at the start of a pair in a sequence, which is a mapping of its own; in a mapping there is none
 abbrev pub pair_start : Bool → List Event
 pair_start true = map_start ∷ []
 pair_start false = []
 
--- the event at the end of a single pair
+-- the event at the end of such a pair
 abbrev pub pair_end : Bool → List Event
 pair_end true = map_end ∷ []
 pair_end false = []
 
--- the place of the first entry of a bracket, and of the one that is read
+-- where the first entry of a bracket starts
 abbrev pub entries_start : Bracket → ℕ → ℕ
 entries_start b from = from + 1 + byte_len (gap_text b.gap)
 
@@ -160,7 +160,7 @@ entry_start b from = done_end b.done (entries_start b from)
 abbrev pub bracket_prefix : Bracket → ℕ → List Event
 bracket_prefix b from = bracket_start b.in_seq ∷ done_events b.done b.in_seq (entries_start b from)
 
--- the place of the node of an entry that starts at a place, and the entry's events before it
+-- the place of the node that is being read, from where its entry starts
 abbrev pub part_start : FlowPart → ℕ → ℕ
 part_start (first_node bol) at = at
 part_start (asked_key sep) at = at + byte_len (asked_text (Some sep))
@@ -185,7 +185,7 @@ frame_prefix o from = bracket_prefix o.bracket from ++ part_prefix o.bracket.in_
 
 -- ---- a collection that is being read
 
--- What is read at its place in all, this place, and the events before it.
+-- what is read of it in all, where it starts, and the events before it
 pub record Collection : Type 0 where
   pub reads : Read Flow
   pub start : ℕ
@@ -196,7 +196,7 @@ pub record Keeps (top : Open) (o : OpenFlow) : Type 0 where
   pub kind : o.bracket.in_seq ≡ in_sequence top.kind
   pub part : part_of o.part ≡ top.part
 
--- one step of the code
+-- the states of the scanner, at n, in the context d between the brackets of one text
 module _ (n : ℕ) (d : FlowContext) (text : List ℕ) where
   -- what is known of the part before its node is read at the place: of a single pair, that its key fits whatever its
   -- value is
@@ -355,7 +355,7 @@ pub record Passes (n : ℕ) (d : FlowContext) (text : List ℕ) (at end : ℕ) :
 abbrev pub is_single : Open → Bool
 is_single top = in_sequence top.kind && is_first top.part
 
--- of a node, or a key, that ends at a place and has no `:`
+-- the events after a node, or after a key, that ends at a place and has no `:`
 abbrev pub absent_events : Bool → Bool → ℕ → List Event
 absent_events true in_seq end = []
 absent_events false in_seq end = omitted_at end ++ pair_end in_seq

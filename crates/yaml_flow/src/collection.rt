@@ -1,4 +1,4 @@
-// Flow collections, by an explicit stack of open brackets (YAML 1.2.2, 7.4).
+// Flow collections, read with an explicit stack of open brackets (YAML 1.2.2, 7.4).
 ghost use Rattle.std.specs.Prelude.{◌≡◌, ℕ, Bool, ◌+◌, ◌-◌, ◌*◌, ◌==◌, true, ◌<◌, ◌≤◌, false, List, ◌++◌, [], ◌∷◌, Some, None, length, IfOk, IfErr, OnOk, IfSome, IfNone};
 ghost use Rattle.std.specs.Str.{IsCharBoundary};
 ghost use Rattle.yaml_chars.specs.Places.{rest};
@@ -46,12 +46,14 @@ pub(crate) enum BracketKind {
 pub(crate) struct Open {
     pub(crate) kind: BracketKind,
     pub(crate) part: Part,
-    /// Where that node starts, and how many events are before it.
+    /// Where that node starts.
     pub(crate) start: usize,
+    /// How many events are before it.
     pub(crate) before: usize,
 }
 
-/// What goes for all brackets of one call: the indentation, and the context between them.
+/// What is the same for all brackets of one call: the least number of spaces of a further line, and the context between
+/// the brackets.
 #[derive(Clone, Copy)]
 pub(crate) struct Setting {
     pub(crate) n: u64,
@@ -67,14 +69,14 @@ pub(crate) enum NodeEnd {
     Delimited,
 }
 
-/// Where the reader is.
+/// What is read next.
 #[derive(Clone, Copy)]
 pub(crate) enum Next {
     /// The closing bracket, or an entry, may start here.
     Entry { at: usize },
-    /// The node starts here that the innermost bracket waits for.
+    /// The node that the innermost bracket waits for starts here.
     Node { at: usize },
-    /// An entry is read, and the gap after it.
+    /// An entry and the gap after it have been read.
     AfterEntry { at: usize },
     /// The innermost bracket is closed.
     Closed { end: usize },
@@ -113,8 +115,8 @@ fn end_event<'a>(kind: BracketKind) -> Event<'a>
     }
 }
 
-/// Passes the gap at a place, which may be empty: returns the place after it. Where it goes over lines, `line`
-/// is moved after it.
+/// Returns the place after the gap at a place, which may be empty. If the gap goes over lines, `line` becomes the place
+/// after it.
 pub(crate) fn pass_gap(
     text: &str,
     at: usize,
@@ -135,7 +137,7 @@ pub(crate) fn pass_gap(
     Ok(gap.end)
 }
 
-/// Passes the gap after an opening bracket or a comma.
+/// Reads the gap after an opening bracket or a comma.
 fn pass(text: &str, at: usize, setting: Setting, line: &mut usize) -> Result<Next, ScanFault>
     requires at { IsCharBoundary text.now at }
     requires inside_line { line_starts text.now at ≡ false }
@@ -223,7 +225,7 @@ fn asked(
     Ok(Next::Node { at: key })
 }
 
-/// Starts the mapping that a pair of a sequence is.
+/// Appends the start of the mapping that a pair in a sequence is. In a mapping there is none.
 fn start_pair(events: &mut Events<'_>, kind: BracketKind) -> Result<(), ScanFault>
     ensures written { OnOk result ((text : List ℕ)
         → Appended text events.old events.new (pair_start (in_sequence kind))) }
@@ -278,7 +280,7 @@ fn in_flow(c: FlowContext) -> FlowContext
     }
 }
 
-/// Returns the kind of the bracket that opens here, if one does.
+/// Returns the kind of the opening bracket at `at`. Returns None if there is none.
 pub(crate) fn bracket_at(text: &str, at: usize) -> Option<BracketKind>
     requires { IsCharBoundary text.now at }
     ensures found { IfSome result (λ kind. IsBracket text.now at (in_sequence kind)) }
@@ -295,7 +297,7 @@ pub(crate) fn bracket_at(text: &str, at: usize) -> Option<BracketKind>
     None
 }
 
-/// Opens the bracket at a place.
+/// Appends the start of the collection whose bracket opens at `at`, and returns the open bracket.
 fn begin(events: &mut Events<'_>, at: usize, kind: BracketKind) -> Result<Open, ScanFault>
     ensures kind { IfOk result (λ top. top.kind ≡ kind) }
     ensures written { OnOk result ((text : List ℕ)
@@ -439,7 +441,8 @@ pub(crate) fn collection<'a>(
     };
     // The brackets around the innermost one, the outermost first.
     let mut outer: Vec<Open> = Vec::new(alloc);
-    // No break is between this place and the reader, and in each node that started before it there is one.
+    // No break is between this place and the place that is read. Each open node that started before it has a break
+    // after its start.
     let mut line = at;
     let mut top = begin(events, at, kind)?;
     let mut next = pass(text, at + 1, setting, &mut line)?;

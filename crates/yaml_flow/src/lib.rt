@@ -1,7 +1,7 @@
 //! The scanner of flow nodes: scalars and the collections between brackets (YAML 1.2.2, 7.4 and 7.5).
 //!
-//! [`flow_node`] reads the flow node at a place of a text, which counts bytes from 0, and appends its events.
-//! It does not recurse: the open brackets are a stack, so a deeper text needs more memory, and no deeper call
+//! [`flow_node`] reads the flow node at a place of a text, which counts bytes from 0, and appends its events. It does
+//! not recurse: the open brackets are on a stack of its own. So deeper nesting takes more memory, but no deeper call
 //! stack.
 #![tactic(auto)]
 

@@ -15,12 +15,16 @@ use std::alloc::Global;
 use yaml_events::{Events, FlowContext, ScanFault};
 use yaml_recognizers::flow_nodes::flow_node_stands;
 
-/// Reads the flow node at a place of a text (YAML 1.2.2, 7.4 and 7.5): appends its events, and returns the
-/// place after it.
+/// Reads the flow node at `at` in the context `c` (YAML 1.2.2, 7.4 and 7.5), appends its events, and returns the place
+/// after it.
 ///
-/// Places count bytes from 0. Further lines of the node are indented by `n` spaces or more; in a key there are none. It
-/// fails with [`ScanFault::At`] exactly if there is no flow node, and with [`ScanFault::OutOfMemory`] where there is no
-/// memory for the events, a value or the open brackets. The events are then as they were.
+/// Places count bytes from 0 and are on a boundary of a character. Further lines of the node are indented by `n` spaces
+/// or more; a key has none.
+///
+/// # Errors
+///
+/// [`ScanFault::At`] only if no flow node is at `at`, and [`ScanFault::OutOfMemory`] if there is no memory for the
+/// events, a value or the open brackets. The list of events is then as it was.
 pub fn flow_node<'a>(
     alloc: Global,
     events: &mut Events<'a>,
@@ -52,7 +56,7 @@ pub fn flow_node<'a>(
     }
 }
 
-/// Reads the flow node at a place; where it fails, events may have been appended.
+/// Reads the flow node at a place. If it fails, events may have been appended.
 #[inline(always)]
 fn read_node<'a>(
     alloc: Global,

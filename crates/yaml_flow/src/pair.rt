@@ -19,17 +19,17 @@ use crate::push::{insert_map_start, omitted, push};
 use yaml_events::{Event, Events, FlowContext, ScanFault, Why};
 use yaml_scan::{at_most_chars, safe_at, stands_at};
 
-/// How many characters may be between the start of a key on one line and its `:` (YAML 1.2.2, 7.4.2 and
+/// The most characters between the start of a key on one line and its `:`, in code points (YAML 1.2.2, 7.4.2 and
 /// 8.2.2).
 pub const KEY_LIMIT: usize = 1024;
 
-/// A key is short where with the white space before its `:` it has at most [`KEY_LIMIT`] characters.
+/// A key is short if it has at most [`KEY_LIMIT`] characters, with the whitespace before its `:`.
 pub fn key_limit()
     ensures { (key : Flow) (gap : List ℕ) → short_key key gap
         ≡ nat_le (length (flow_text key ++ gap)) KEY_LIMIT }
 {}
 
-/// Goes on after the node that the innermost bracket waited for, which ends here.
+/// Reads what follows the node that the innermost bracket waited for, which ends at `end`: the gap, and perhaps a `:`.
 pub(crate) fn plug(
     events: &mut Events<'_>,
     text: &str,
@@ -93,7 +93,7 @@ fn colon_at(text: &str, at: usize, key_end: NodeEnd, context: FlowContext) -> bo
     }
 }
 
-/// Ends a pair that is read, with the gap after it.
+/// Ends a pair that is read, as is the gap after it. In a sequence its mapping ends.
 fn close_pair(events: &mut Events<'_>, top: Open, after: usize) -> Result<Next, ScanFault>
     ensures next { IfOk result (λ next. next ≡ AfterEntry after) }
     ensures written { OnOk result ((text : List ℕ)
@@ -108,7 +108,7 @@ fn close_pair(events: &mut Events<'_>, top: Open, after: usize) -> Result<Next, 
     Ok(Next::AfterEntry { at: after })
 }
 
-/// Returns whether the node is an entry of a sequence without `?`: it is a pair only where a `:` follows.
+/// Returns whether the node is an entry of a sequence without `?`: it is a pair only if a `:` follows.
 fn is_single(top: Open) -> bool
     ensures { result ≡ is_single top }
 {
@@ -139,8 +139,8 @@ fn without_value(
     close_pair(events, top, after)
 }
 
-/// Begins the mapping of a pair in a sequence, once its `:` is seen: the key is on one line with it, and is
-/// short.
+/// Begins the mapping of a pair in a sequence without `?`, once its `:` is found. Fails if the key is not on one line
+/// with the `:`, or is too long. For other pairs it does nothing.
 fn begin_pair(
     events: &mut Events<'_>,
     text: &str,
@@ -199,8 +199,8 @@ fn value(
     Ok(Next::Node { at })
 }
 
-/// Returns whether the value is left out after a `:` and the gap from `start` to `at`: the entry ends there, or
-/// there is no gap after a plain key's `:`.
+/// Returns whether the value is omitted after a `:` and the gap from `start` to `at`: the entry ends there, or there is
+/// no gap after the `:` of a plain key.
 fn is_left_out(text: &str, start: usize, at: usize, key_end: NodeEnd) -> bool
     requires { IsCharBoundary text.now at }
     ensures { result ≡ (ends_entry (rest text.now at) || (ends_plain key_end

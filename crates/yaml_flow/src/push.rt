@@ -1,4 +1,4 @@
-// Events that are put into a list of events.
+// Appending and inserting events, with the fault of a scanner.
 ghost use Rattle.std.specs.Prelude.{◌≡◌, ℕ, ◌≤◌, List, [], ◌∷◌, ◌++◌, length, insert, OnOk, IfErr};
 ghost use Rattle.yaml_grammar.specs.Events.{scalar_event, omitted_style};
 ghost use Rattle.yaml_events.specs.Meant.{event_of};
@@ -10,7 +10,7 @@ ghost use Rattle.yaml_events.specs.Borrowed.{BorrowsPlain};
 use std::borrow::CowStr;
 use yaml_events::{Event, Events, ScanFault, Span, Style};
 
-/// Puts an event after all others.
+/// Appends an event.
 #[inline(always)]
 pub(crate) fn push<'a>(events: &mut Events<'a>, event: Event<'a>) -> Result<(), ScanFault>
     ensures ok { OnOk result (events.new ≡ events.old ++ event.entry ∷ []) }
@@ -23,7 +23,7 @@ pub(crate) fn push<'a>(events: &mut Events<'a>, event: Event<'a>) -> Result<(), 
     }
 }
 
-/// Puts the start of a mapping before the event at `at`, counted from 0.
+/// Inserts the start of a mapping before the event at `at`, counted from 0.
 pub(crate) fn insert_map_start(events: &mut Events<'_>, at: usize) -> Result<(), ScanFault>
     requires { at ≤ length events.old }
     ensures ok { OnOk result (events.new ≡ insert events.old at MapStart) }
@@ -36,8 +36,8 @@ pub(crate) fn insert_map_start(events: &mut Events<'_>, at: usize) -> Result<(),
     }
 }
 
-/// Returns the event of a node that is left out at a place, which counts bytes from 0: the empty text, in no
-/// bytes (YAML 1.2.2, 7.2).
+/// Returns the event of a node that is omitted at a place, which counts bytes from 0: the empty text, with an empty
+/// range (YAML 1.2.2, 7.2).
 pub fn omitted<'a>(at: usize) -> Event<'a>
     ensures event { event_of result ≡ scalar_event omitted_style at at [] }
     ensures borrowed { (text : List ℕ) → BorrowsPlain text result }

@@ -40,8 +40,8 @@ impl<'a> FlowScalar<'a> {
         }
     }
 
-    /// Returns whether the scalar, which starts at `start`, runs over lines. A borrowed value has no break, so
-    /// only others are looked through.
+    /// Returns whether the scalar, which starts at `start`, runs over lines. A scalar whose value is borrowed has no
+    /// break, so only the others are searched for one.
     pub fn is_over_lines(&self, text: &str, start: usize) -> bool
         requires order { start ≤ self.now.end }
         requires from { IsCharBoundary text.now start }
@@ -57,12 +57,13 @@ impl<'a> FlowScalar<'a> {
     }
 }
 
-/// Reads the flow scalar at a place (YAML 1.2.2, 7.3), by its first character: after `"` and `'` a quoted one,
-/// else a plain one.
+/// Returns the flow scalar at `at` in the context `c` (YAML 1.2.2, 7.3): a quoted one if its first character is `"` or
+/// `'`, else a plain one. Further lines are indented by `n` spaces or more; a key has none.
 ///
-/// Further lines are indented by `n` spaces or more; in a key there are none. It fails with [`ScanFault::At`]
-/// exactly if there is no flow scalar, and with [`ScanFault::OutOfMemory`] where there is no memory for
-/// the value.
+/// # Errors
+///
+/// [`ScanFault::At`] only if no flow scalar is at `at`, and [`ScanFault::OutOfMemory`] if there is no memory for the
+/// value.
 #[inline(always)]
 pub fn scalar_at<'a>(
     alloc: Global,

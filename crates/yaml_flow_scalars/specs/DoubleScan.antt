@@ -60,12 +60,12 @@ pub record IsDigit (digit number : ℕ) : Type 0 where
   pub allowed : hex_digit digit ≡ true
   pub means : digit_of digit ≡ number
 
--- so many hexadecimal digits are at the place
+-- this number of hexadecimal digits is at the place
 abbrev pub digits_at : List ℕ → ℕ → ℕ → Bool
 digits_at text at count = let digits =
     take count (rest text at) in (length digits == count) && list_all hex_digit digits
 
--- and they are this number
+-- and this is the number that they give
 pub record IsNumberAt (text : List ℕ) (at count number : ℕ) : Type 0 where
   pub digits : digits_at text at count ≡ true
   pub boundary : IsCharBoundary text (at + count)
@@ -80,7 +80,7 @@ pub record BeginsJoin (n : ℕ) (prefix : List ℕ) (escaped : Bool) (blank afte
   pub open_still : double_closes prefix ≡ false
   pub join : read_join true n prefix ≡ after_blank escaped n blank after
 
--- The join whose break is at the place goes on to the other, and means so many empty lines.
+-- The join whose break is at the place goes on to the other, and has this number of empty lines.
 pub record JoinsAt (n : ℕ) (c : FlowContext) (text : List ℕ) (at empties next : ℕ) : Type 0 where
   pub above : at < next
   pub boundary : IsCharBoundary text next

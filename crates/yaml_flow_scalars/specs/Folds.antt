@@ -1,5 +1,5 @@
 -- Folds between two lines of a flow scalar, at a place of a text: what the recognizer of joins finds there, whatever
--- comes before the break (a backslash, or white).
+-- comes before the break (a backslash, or whitespace).
 use Rattle.std.specs.Prelude.{◌≡◌, ℕ, ◌<◌, ◌≤◌, Bool, true, false, List, length, Some, None}
 use Rattle.std.specs.Str.{IsCharBoundary}
 use Rattle.yaml_chars.specs.Places.{rest, between}
@@ -11,8 +11,8 @@ use Rattle.yaml_recognizers.specs.Comments.{read_break}
 use Rattle.yaml_recognizers.specs.Prefixes.{take_while, drop_while}
 use Rattle.yaml_recognizers.specs.Joins.{Join, after_blank, read_empty}
 
--- The fold begins with the break at the place `at`, has so many empty lines, and what the next line holds is at the
--- place `next`.
+-- The fold begins with the break at the place `at`, has this number of empty lines, and what the next line holds is at
+-- the place `next`.
 pub record IsFold (n : ℕ) (text : List ℕ) (at empties next : ℕ) : Type 0 where
   pub above : at < next
   pub boundary : IsCharBoundary text next
@@ -26,8 +26,8 @@ pub record IsFold (n : ℕ) (text : List ℕ) (at empties next : ℕ) : Type 0 w
 abbrev pub NoFold : ℕ → List ℕ → ℕ → Type 0
 NoFold n text at = (escaped : Bool) (blank : List ℕ) → after_blank escaped n blank (rest text at) ≡ None
 
--- After the white of a line that is indented by n spaces or more, or after the spaces of one that is not: whether it is
--- indented, and that it is an empty line where a break is there.
+-- The place after the whitespace of a line that is indented by n spaces or more, or after the spaces of one that is
+-- not. It says whether the line is indented, and that it is an empty line if a break is there.
 pub record IsPrefix (n : ℕ) (text : List ℕ) (at end : ℕ) (indented : Bool) : Type 0 where
   pub above : at ≤ end
   pub boundary : IsCharBoundary text end
@@ -37,7 +37,7 @@ pub record IsPrefix (n : ℕ) (text : List ℕ) (at end : ℕ) (indented : Bool)
       → (line : FlowEmptyLine) × (read_empty n (rest text at) ≡ Some (line, after))
   pub no_empty : read_break (rest text end) ≡ None → read_empty n (rest text at) ≡ None
 
--- the white at the end of what is between two places
+-- the whitespace at the end of what is between two places
 pub record IsWhiteStart (text : List ℕ) (from start end : ℕ) : Type 0 where
   pub above : from ≤ start
   pub below : start ≤ end

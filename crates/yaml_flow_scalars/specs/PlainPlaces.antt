@@ -1,5 +1,5 @@
 -- Plain scalars at places of a text: the first character, a line's run of characters, and further lines.
--- Here black says whether the character before a place is neither white nor a break.
+-- Here black says whether the character before a place is neither whitespace nor a break.
 use Rattle.std.specs.Prelude.{◌≡◌, ℕ, ◌<◌, ◌≤◌, Bool, true, false, ◌&&◌, ◌||◌, List, [], ◌∷◌, ◌++◌, flat_map, slice_index}
 use Rattle.std.specs.Str.{IsCharBoundary, chars}
 use Rattle.yaml_chars.specs.Classes.{line_break, ns}
@@ -14,7 +14,7 @@ use Rattle.yaml_recognizers.specs.PlainScalars.{read_run, plain_lines_at}
 
 -- ---- characters
 
--- what comes before a place is a character that is no white space
+-- what comes before a place is a character that is not whitespace
 abbrev pub is_content : Before → Bool
 is_content Content = true
 is_content Blank = false
@@ -48,7 +48,7 @@ NoPlainBegins c text at = begins_plain c (line_starts text at) (rest text at) �
 
 -- ---- runs of a line
 
--- What is between the two places is read, and the run goes on after it, there after a character that is no white.
+-- What is between the two places is read, and the run goes on after it, where the last character is not whitespace.
 pub record IsPlainPiece (c : FlowContext) (black : Bool) (text : List ℕ) (at end : ℕ) : Type 0 where
   pub above : at < end
   pub boundary : IsCharBoundary text end
@@ -59,7 +59,7 @@ pub record IsPlainPiece (c : FlowContext) (black : Bool) (text : List ℕ) (at e
 abbrev pub NoPlainPiece : FlowContext → Bool → List ℕ → ℕ → Type 0
 NoPlainPiece c black text at = (before : ℕ) → ns before ≡ black → goes_on_plain c before (rest text at) ≡ false
 
--- The run of white and plain characters from the one place goes to the other.
+-- The run of whitespace and plain characters from the one place goes to the other.
 pub record IsPlainRun (c : FlowContext) (black : Bool) (text : List ℕ) (from to : ℕ) : Type 0 where
   pub above : from ≤ to
   pub boundary : IsCharBoundary text to
@@ -67,8 +67,8 @@ pub record IsPlainRun (c : FlowContext) (black : Bool) (text : List ℕ) (from t
 
 -- ---- further lines
 
--- A further line begins after a line that ends at the place `at`. A break and so many empty lines lead to it; what it
--- holds is between `start` and `end`.
+-- A further line begins after a line that ends at the place `at`. A break and this number of empty lines lead to it;
+-- what it holds is between `start` and `end`.
 pub record IsNextLine (n : ℕ) (c : FlowContext) (text : List ℕ) (at empties start end : ℕ) : Type 0 where
   pub stop : ℕ
   pub after : at ≤ stop

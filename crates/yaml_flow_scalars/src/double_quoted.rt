@@ -28,15 +28,15 @@ struct Escape {
     end: usize,
 }
 
-/// Returns the value of the scalar in double quotes at `at` (7.3.1), and the place after its closing
-/// quote. A further line is indented by `n` spaces or more; a key has none. The value of a scalar with
-/// neither a break nor a backslash in it is borrowed from the text, and takes no memory.
+/// Returns the value of the scalar in double quotes at `at` (7.3.1), and the place after its closing quote. Further
+/// lines are indented by `n` spaces or more; a key has none. The value of a scalar with neither a break nor a backslash
+/// in it is borrowed from the text, and takes no memory.
 ///
 /// # Errors
 ///
-/// [`ScanFault::At`] exactly where no such scalar is at `at`. The reason is a missing quote at its start or end, an
-/// unknown escape, a control character, a break in a key, or a line that is indented too little or is a document
-/// marker. [`ScanFault::OutOfMemory`] if there is no memory for a value that is not borrowed.
+/// [`ScanFault::At`] only if no such scalar is at `at`. The reason is a missing quote at its start or end, an unknown
+/// escape, a control character, a break in a key, or a line that is indented too little or is a document marker.
+/// [`ScanFault::OutOfMemory`] if there is no memory for a value that is not borrowed.
 #[inline(never)]
 pub fn double<'a>(
     alloc: Global,
@@ -69,8 +69,8 @@ pub fn double<'a>(
     Ok((CowStr::Owned(value), end))
 }
 
-/// Returns the value of a scalar whose first run of characters goes from `start` to `first`, and the
-/// place after its closing quote.
+/// Returns the value of a scalar whose first run of characters goes from `start` to `first`, and the place after its
+/// closing quote.
 fn unescaped(
     alloc: Global,
     text: &str,
@@ -98,8 +98,7 @@ fn unescaped(
     Ok((value, end + 1))
 }
 
-/// Appends a run of characters, and what the escape or the break after it means. Returns the place
-/// after that.
+/// Appends a run of characters, and what the escape or the break after it means. Returns the place after that.
 fn push_run(
     value: &mut String,
     text: &str,
@@ -163,8 +162,7 @@ fn push_escape(
     Ok(fold.next)
 }
 
-/// Returns the fold whose break is at `at`, where lines may be joined there. No other join follows it at
-/// once.
+/// Returns the fold whose break is at `at`, if lines may be joined there. No other join follows it at once.
 fn line_after(text: &str, at: usize, n: u64, context: FlowContext) -> Result<Fold, ScanFault>
     requires { IsCharBoundary text.now at }
     ensures ok { IfOk result (λ fold.
@@ -235,7 +233,7 @@ fn escape_at(text: &str, at: usize) -> Option<Escape>
     })
 }
 
-/// Returns how many digits follow the sign of an escape: 0 where it is a whole escape or none.
+/// Returns how many digits follow the sign of an escape: 0 if it takes none, or if it begins no escape.
 fn digits_after(sign: u8) -> usize
     ensures { result ≡ (if is_in sign (codes "xuU") then digits_after sign else 0) }
 {
@@ -247,7 +245,7 @@ fn digits_after(sign: u8) -> usize
     }
 }
 
-/// Returns what a sign after a backslash means, where it takes no digits.
+/// Returns what a sign after a backslash means. Returns None if it takes digits, or if it begins no escape.
 fn escaped_char(sign: u8) -> Option<char>
     ensures found { IfSome result (IsEscape sign) }
     ensures none { IfNone result (quoted_char_fits (escape sign) ≡ false) }
@@ -274,7 +272,7 @@ fn escaped_char(sign: u8) -> Option<char>
     }
 }
 
-/// Returns the number that `count` hexadecimal digits from `at` on are.
+/// Returns the number that `count` hexadecimal digits from `at` on give. Returns None if there are fewer.
 fn hex_number(text: &str, at: usize, count: usize) -> Option<u32>
     requires at { IsCharBoundary text.now at }
     requires few { count ≤ 8 }

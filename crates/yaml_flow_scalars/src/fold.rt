@@ -9,8 +9,7 @@ use std::alloc::AllocError;
 use yaml_events::{ScanFault, Why};
 use yaml_scan::{break_end, is_marker, is_white, push_line_feeds, spaces_end, white_end};
 
-/// A break inside a scalar, with the empty lines after it and the white space at the start of the
-/// next line.
+/// A break inside a scalar, with the empty lines after it and the whitespace at the start of the next line.
 #[derive(Clone, Copy)]
 pub(crate) struct Fold {
     /// The number of empty lines.
@@ -19,9 +18,8 @@ pub(crate) struct Fold {
     pub(crate) next: usize,
 }
 
-/// Returns the fold whose break is at `at`: empty lines follow the break, and then a line that is
-/// indented by `indent` spaces or more and is no document marker. Returns None where no break is at
-/// `at`, or no such line follows.
+/// Returns the fold whose break is at `at`: empty lines follow the break, and then a line that is indented by `indent`
+/// spaces or more and is not a document marker. Returns None if no break is at `at`, or if no such line follows.
 #[inline(always)]
 pub(crate) fn fold_at(text: &str, at: usize, indent: u64) -> Option<Fold>
     requires { IsCharBoundary text.now at }
@@ -50,7 +48,7 @@ pub(crate) fn fold_at(text: &str, at: usize, indent: u64) -> Option<Fold>
     }
 }
 
-/// The white space at the start of a line.
+/// The whitespace at the start of a line.
 #[derive(Clone, Copy)]
 struct Prefix {
     /// Where it ends. In a line that is indented too little, where its spaces end.
@@ -59,7 +57,7 @@ struct Prefix {
     indented: bool,
 }
 
-/// Returns the white space at the start of the line that starts at `at`.
+/// Returns the whitespace at the start of the line that starts at `at`.
 fn line_prefix(text: &str, at: usize, indent: u64) -> Prefix
     requires { IsCharBoundary text.now at }
     ensures { IsPrefix indent text.now at result.end result.indented }
@@ -77,8 +75,8 @@ fn line_prefix(text: &str, at: usize, indent: u64) -> Prefix
     }
 }
 
-/// Returns why no fold begins with the break at `at`, and the start of the line at fault: the first
-/// line after it that is not empty. No contract says it: it only helps the writer of the text.
+/// Returns why no fold begins with the break at `at`, and the start of the line at fault: the first line after it that
+/// is not empty. No contract says this: it only helps the person who writes the text.
 pub(crate) fn fold_fault(text: &str, at: usize) -> ScanFault
     requires { IsCharBoundary text.now at }
 {
@@ -111,7 +109,7 @@ pub(crate) fn push_fold(value: &mut String, empties: usize) -> Result<(), AllocE
     push_line_feeds(value, empties)
 }
 
-/// Returns where the white space starts that ends at `end`, but not before `from`.
+/// Returns where the whitespace that ends at `end` starts, but no place before `from`.
 pub(crate) fn white_start(text: &str, from: usize, end: usize) -> usize
     requires order { from ≤ end }
     requires from { IsCharBoundary text.now from }

@@ -35,15 +35,14 @@ struct PlainLine {
     end: usize,
 }
 
-/// Returns the value of the longest plain scalar at `at` (7.3.3, `ns-plain`), and the place after its
-/// last character. A further line is indented by `n` spaces or more; a key has none. The value of a
-/// scalar on one line is borrowed from the text.
+/// Returns the value of the longest plain scalar at `at` (7.3.3, `ns-plain`), and the place after its last character.
+/// Further lines are indented by `n` spaces or more; a key has none. The value of a scalar on one line is borrowed from
+/// the text.
 ///
 /// # Errors
 ///
-/// [`ScanFault::At`] exactly where no plain scalar is at `at`, with that place and the reason as far as
-/// the first character shows it. [`ScanFault::OutOfMemory`] if there is no memory for a value that goes
-/// over lines.
+/// [`ScanFault::At`] only if no plain scalar is at `at`, with that place and the reason as far as the first character
+/// shows it. [`ScanFault::OutOfMemory`] if there is no memory for a value that goes over lines.
 #[inline(always)]
 pub fn plain<'a>(
     alloc: Global,
@@ -118,8 +117,7 @@ fn is_letter_or_digit(byte: u8) -> bool
     byte.is_ascii_lowercase() || matches!(byte, b'0'..=b'9' | b'A'..=b'Z')
 }
 
-/// Returns whether a plain scalar may begin with a character that ends at `after`
-/// (`ns-plain-first`).
+/// Returns whether a plain scalar may begin with a character that ends at `after` (`ns-plain-first`).
 fn is_first(character: char, text: &str, after: usize, context: FlowContext) -> bool
     requires { IsCharBoundary text.now after }
     ensures { result ≡ plain_first (context_of context) character (rest text.now after) }
@@ -149,14 +147,13 @@ fn why_not_first(character: char) -> Why {
 /// What is before a place of a plain scalar.
 #[derive(Clone, Copy)]
 enum Before {
-    /// A character of the scalar that is not white space.
+    /// A character of the scalar that is not whitespace.
     Content,
-    /// White space or a break.
+    /// Whitespace or a break.
     Blank,
 }
 
-/// Returns what is before `stop`, where words go from `end` to `words`, and white space from there to
-/// `stop`.
+/// Returns what is before `stop`, where words go from `end` to `words`, and whitespace from there to `stop`.
 fn before_stop(before: Before, end: usize, words: usize, stop: usize) -> Before
     requires { words ≤ stop }
     ensures { is_content result ≡ ((nat_lt end words || is_content before) && (stop == words)) }
@@ -170,7 +167,7 @@ fn before_stop(before: Before, end: usize, words: usize, stop: usize) -> Before
     }
 }
 
-/// Returns the class of words: white space, and ASCII characters that are plain wherever they are.
+/// Returns the class of words: whitespace, and ASCII characters that are plain wherever they are after the first one.
 fn words_of(context: FlowContext) -> Class
     ensures { test_of result ≡ word (context_of context) }
 {
@@ -180,8 +177,8 @@ fn words_of(context: FlowContext) -> Class
     }
 }
 
-/// Returns the end of the plain character at `at`, where no word goes on (`ns-plain-char`): a `:` or a
-/// `#` where one is allowed, or a character that is not ASCII.
+/// Returns the end of the plain character at `at`, where no word goes on (`ns-plain-char`): a `:` or a `#` where one is
+/// allowed, or a character that is not ASCII.
 #[inline(always)]
 fn special_end(text: &str, at: usize, before: Before, context: FlowContext) -> Option<usize>
     requires at { IsCharBoundary text.now at }
@@ -242,8 +239,8 @@ fn is_plain_next(
     }
 }
 
-/// Returns the end of the plain characters from `from` on that are on its line, with the white space
-/// between them; `from` where there is none.
+/// Returns the end of the plain characters from `from` on that are on its line, with the whitespace between them. It is
+/// `from` if there is none.
 #[inline(always)]
 fn plain_run_end(text: &str, from: usize, before: Before, context: FlowContext) -> usize
     requires { IsCharBoundary text.now from }
@@ -274,7 +271,8 @@ fn further_run_end(text: &str, from: usize, context: FlowContext) -> usize
     plain_run_end(text, from, Before::Blank, context)
 }
 
-/// Returns the further line of a plain scalar after a line that ends at `at`. A key has none.
+/// Returns the further line of a plain scalar after a line that ends at `at`. Returns None if there is none, and in a
+/// key.
 #[inline(always)]
 fn next_line(text: &str, at: usize, n: u64, context: FlowContext) -> Option<PlainLine>
     requires { IsCharBoundary text.now at }

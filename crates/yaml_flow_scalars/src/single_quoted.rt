@@ -19,16 +19,16 @@ use std::borrow::CowStr;
 use yaml_events::{FlowContext, ScanFault, Why};
 use yaml_scan::{Class, break_end, is_on_one_line, run_end, stands_at};
 
-/// Returns the value of the scalar in single quotes at `at` (7.3.2), and the place after its closing
-/// quote. A further line is indented by `n` spaces or more; a key has none. The value of a scalar on one
-/// line without a pair of quotes in it is borrowed from the text, and takes no memory.
+/// Returns the value of the scalar in single quotes at `at` (7.3.2), and the place after its closing quote. Further
+/// lines are indented by `n` spaces or more; a key has none. The value of a scalar on one line without a pair of quotes
+/// in it is borrowed from the text, and takes no memory.
 ///
 /// # Errors
 ///
-/// [`ScanFault::At`] where no such scalar is at `at`, with the place at fault and the reason, which is no
-/// promise: `Quote` where no quote opens or closes it, `Character` at a control character, `Key` where a
-/// key goes over lines, `Indent` or `Marker` where a further line is indented too little or is a document
-/// marker. [`ScanFault::OutOfMemory`] if there is no memory for the value.
+/// [`ScanFault::At`] only if no such scalar is at `at`, with the place at fault and the reason: `Quote` if no quote
+/// opens or closes it, `Character` at a control character, `Key` if a key goes over lines, `Indent` or `Marker` if a
+/// further line is indented too little or is a document marker. [`ScanFault::OutOfMemory`] if there is no memory for a
+/// value that is not borrowed.
 #[inline(never)]
 pub fn single<'a>(
     alloc: Global,
@@ -55,8 +55,7 @@ pub fn single<'a>(
     unquoted(alloc, text, at + 1, n, context)
 }
 
-/// Returns the value between the quotes, from the place after the opening one on, and the place after
-/// the closing one.
+/// Returns the value between the quotes, from the place after the opening one on, and the place after the closing one.
 fn unquoted<'a>(
     alloc: Global,
     text: &'a str,
@@ -98,7 +97,7 @@ fn unquoted<'a>(
     }
 }
 
-/// Returns the fold whose break is at `at`. A key has none.
+/// Returns the fold whose break is at `at`. Returns None if there is none, and in a key.
 fn fold_in(text: &str, at: usize, n: u64, context: FlowContext) -> Option<Fold>
     requires { IsCharBoundary text.now at }
     ensures lines { IfSome result (λ fold. one_line (context_of context) ≡ false) }
@@ -111,7 +110,7 @@ fn fold_in(text: &str, at: usize, n: u64, context: FlowContext) -> Option<Fold>
     fold_at(text, at, n)
 }
 
-/// Returns why a scalar does not go on at `at`, where no quote and no fold is.
+/// Returns why a scalar does not go on at `at`, where neither a quote nor a fold is.
 fn fault_at(text: &str, at: usize, context: FlowContext) -> ScanFault
     requires { IsCharBoundary text.now at }
 {

@@ -40,8 +40,8 @@ mutual
     keyed : Flow → List ℕ → Node → Pair
     keyed_alone : Flow → List ℕ → List LineEnd → Pair
 
-  -- [185] s-l+block-indented, 8.2.1: what comes after `-`, `?` or `:`: a compact sequence or mapping after so many
-  -- spaces, a node, or nothing
+  -- [185] s-l+block-indented, 8.2.1: what comes after `-`, `?` or `:`: a compact sequence or mapping after a number
+  -- of spaces, a node, or nothing
   pub data Indented : Type 0 where
     compact_items : ℕ → Items → Indented
     compact_pairs : ℕ → Pairs → Indented

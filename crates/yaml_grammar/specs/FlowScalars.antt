@@ -1,4 +1,4 @@
--- Flow scalars: plain, single-quoted and double-quoted (YAML 1.2.2, 6.5, 7.3, and the contexts of 7.4).
+-- Flow scalars: plain, single-quoted and double-quoted (YAML 1.2.2, 6.5 and 7.3, and the contexts of 4.2 and 7.4).
 -- The number n is the least number of spaces at the start of a further line.
 use Rattle.std.specs.Prelude.{ℕ, zero, suc, ◌+◌, ◌-◌, ◌*◌, Bool, true, false, not, ◌&&◌, ◌||◌, nat_lt, ◌==◌, List, [], ◌∷◌, ◌++◌, length, replicate, codes, flat_map, if◌then◌else◌}
 use Rattle.std.specs.List.{list_all}
@@ -8,7 +8,7 @@ use Rattle.yaml_grammar.specs.Texts.{is_empty, first, begins, spaces, byte_len, 
 use Rattle.yaml_grammar.specs.Separation.{Break, break_text, break_fits, indents}
 use Rattle.yaml_grammar.specs.Events.{Style, plain_style, single_style, double_style, Event, scalar_event}
 
--- ---- contexts (7.4): outside and inside a flow collection, in a block key, in a flow key
+-- ---- contexts (4.2): outside and inside a flow collection, in a block key, in a flow key
 
 -- the context c of the standard's productions, without block-in and block-out
 pub data FlowContext : Type 0 where

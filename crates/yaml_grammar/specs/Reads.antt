@@ -23,7 +23,7 @@ pub record Reads (text : List ℕ) (events : List Event) : Type 0 where
   pub some : CanRead text events
   pub every : (p : Stream) → Presents p text → stream_events p ≡ events
 
--- at most so many bytes of text, so much depth, and so many bytes in the one style
+-- the most bytes of a text, the greatest depth of its tree, and the most bytes of the tree in the one style
 pub record Limits : Type 0 where
   pub bytes : ℕ
   pub depth : ℕ

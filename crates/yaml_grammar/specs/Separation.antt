@@ -32,7 +32,7 @@ stop_fits None after = is_empty after
 -- [28] b-break, 5.4
 stop_fits (Some b) after = break_fits b after
 
--- ---- the end of a line: white, a comment, and a break or the end of the text (6.6)
+-- ---- the end of a line: whitespace, a comment, and a break or the end of the text (6.6)
 
 -- [77] s-b-comment, 6.6: whitespace, perhaps a comment, and a break or the end of the text
 pub record LineEnd : Type 0 where

@@ -1,4 +1,4 @@
--- Trees of texts, and the events that are a tree's (YAML 1.2.2, 3.2.1 and 10.1: sequences, mappings and strings alone).
+-- Trees of texts, and the events of a tree (YAML 1.2.2, 3.2.1 and 10.1: only sequences, mappings and strings).
 use Rattle.std.specs.Prelude.{◌≡◌, ℕ, suc, max, Bool, true, false, not, ◌&&◌, ◌||◌, List, [], ◌∷◌, ◌++◌}
 use Rattle.yaml_grammar.specs.Texts.{IsText, same_text}
 use Rattle.yaml_grammar.specs.Events.{Event, document_start, document_end, seq_start, seq_end, map_start, map_end, scalar_event}

@@ -1,4 +1,4 @@
-//! The profile of YAML 1.2.2 that texts are read by, as definitions, and laws of them.
+//! The profile of YAML 1.2.2 by which texts are read, as definitions, and laws about them.
 #![tactic(auto)]
 
 ghost use Rattle.std.specs.Prelude.{◌≡◌, ℕ, List};

@@ -17,7 +17,7 @@ framed_text_bytes t = encode_utf8_all (framed_text t)
 abbrev pub all_framed_bytes : List Tree → List ℕ
 all_framed_bytes ts = concat (map framed_text_bytes ts)
 
--- at the place one of the texts in a row ends, no further than the first `kept` bytes reach
+-- one of the consecutive texts ends at the place, which is within the first `kept` bytes
 pub record EndsWhole (ts : List Tree) (kept place : ℕ) : Type 0 where
   pub before : List Tree
   pub one : Tree
@@ -26,7 +26,7 @@ pub record EndsWhole (ts : List Tree) (kept place : ℕ) : Type 0 where
   pub ends : place ≡ length (all_framed_bytes (before ++ (one ∷ [])))
   pub within : place ≤ kept
 
--- each closes once, at its end
+-- each such text closes once, at its end
 abbrev pub ClosedOnce : Type 0
 ClosedOnce = (t : Tree) → ClosesOnce (framed_text_bytes t)
 

@@ -107,7 +107,7 @@ module _ (read_key : Bool → List ℕ → Read (Flow × List ℕ)) (read_flow :
       else leaf_at m bol (sep_at m bol c.0 (take_while white c.1)) (drop_while white c.1)
 
   unfoldable mutual
-    -- [196] s-l+block-node, 8.2.3, over so many levels at most
+    -- [196] s-l+block-node, 8.2.3, with at most this number of levels
     pub read_node : ℕ → ℕ → Bool → Bool → List ℕ → Read Node
     read_node zero m shallow bol text = None
     read_node (suc fuel) m shallow bol text =

@@ -59,7 +59,7 @@ abbrev pub more_empties : ℕ → List ℕ → (List ℕ → List BlockEmptyLine
 more_empties width text again None = ([], text)
 more_empties width text again (Some r) = let more = again r.1 in (record { width = width; stop = r.0 } ∷ more.0, more.1)
 
--- the lines of spaces at the start of the text whose widths pass p, at most so many
+-- the lines of spaces at the start of the text whose widths pass p, at most this number
 abbrev pub read_empties : ℕ → (ℕ → Bool) → List ℕ → List BlockEmptyLine × List ℕ
 read_empties zero p text = ([], text)
 read_empties (suc fuel) p text =

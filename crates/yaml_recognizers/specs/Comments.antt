@@ -48,7 +48,7 @@ abbrev pub more_comments : List ℕ → (List ℕ → List LineEnd × List ℕ) 
 more_comments text again None = ([], text)
 more_comments text again (Some r) = let more = again r.1 in (r.0 ∷ more.0, more.1)
 
--- the comment lines at the start of the text, at most so many
+-- the comment lines at the start of the text, at most this number
 abbrev pub read_comments : ℕ → Bool → List ℕ → List LineEnd × List ℕ
 read_comments zero bol text = ([], text)
 read_comments (suc fuel) bol text = more_comments text (λ rest. read_comments fuel true rest) (read_line_end bol text)

@@ -81,7 +81,7 @@ some_value d after_plain gap_at again text before =
 
 module _ (read_scalar : ℕ → FlowContext → Bool → List ℕ → Read Scalar) where
   unfoldable mutual
-    -- a flow node, over so many levels at most
+    -- a flow node, with at most this number of levels
     pub read_flow : ℕ → ℕ → FlowContext → Bool → List ℕ → Read Flow
     read_flow zero n c bol text = None
     read_flow (suc fuel) n c bol text =

@@ -154,7 +154,7 @@ abbrev pub NodeStands : NodePlace → Type 0
 NodeStands (flow_at n c bol at f after) = FlowNodeStands n c bol (flow_text f ++ after) f after
 NodeStands (block_at m shallow bol at n after) = BlockNodeStands m shallow bol (node_text n ++ after) n after
 
--- so many bytes of the text come before the part, and the rest of the text after it
+-- the part is in the text at this place, and the rest of the text after it
 pub record SpelledAt (text : List ℕ) (at : ℕ) (part after : List ℕ) : Type 0 where
   pub before : List ℕ
   pub is : text ≡ before ++ (part ++ after)

@@ -7,7 +7,7 @@ abbrev pub and_more : {A : Type 0} → List ℕ → (List ℕ → List A × List
 and_more text again None = ([], text)
 and_more text again (Some r) = let more = again r.1 in (r.0 ∷ more.0, more.1)
 
--- all values one after another from the start of the text, at most so many
+-- all values one after another from the start of the text, at most this number
 unfoldable pub repeated : {A : Type 0} → (List ℕ → Read A) → ℕ → List ℕ → List A × List ℕ
 repeated read zero text = ([], text)
 repeated read (suc fuel) text = and_more text (λ rest. repeated read fuel rest) (read text)

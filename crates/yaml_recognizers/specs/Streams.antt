@@ -91,7 +91,7 @@ abbrev pub more_pieces : (Piece → List ℕ → Option (List Piece)) → Read P
 more_pieces again None = None
 more_pieces again (Some r) = piece_and r.0 (again r.0 r.1)
 
--- all pieces up to the end of the text, fewer than so many
+-- all pieces up to the end of the text, fewer than this number
 unfoldable pub read_pieces : (Bool → List ℕ → Read Node) → ℕ → Bool → Bool → List ℕ → Option (List Piece)
 read_pieces node_at zero opened bol text = None
 read_pieces node_at (suc fuel) opened bol text =

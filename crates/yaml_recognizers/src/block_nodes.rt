@@ -40,8 +40,8 @@ pub fn block_node_once()
 
 /// For each block node at the start of a text, in whatever form, one that means the same is found. The rest is what
 /// comes after the comment lines that follow the node, or these lines too, if they follow a block scalar that can't
-/// have them. All block nodes there mean the same, and have the same rest after the comment lines. What is found
-/// fits as the grammar says, and is the only one but for its form. If none is found, there is none.
+/// have them. All block nodes there mean the same, and have the same rest after the comment lines. What is found fits
+/// as the grammar says, and is the only one except for its form. If none is found, there is none.
 pub fn block_node_stands()
     ensures found { (m : ℕ) (shallow bol : Bool) (text : List ℕ) (node : Node) (rest : List ℕ)
         (stands : BlockNodeStands m shallow bol text node rest)
@@ -59,7 +59,7 @@ pub fn block_node_stands()
         → block_node_at m shallow bol text ≡ None → NoBlockNode m shallow bol text }
 {}
 
-/// What the recognizers of block nodes and their parts find, said by one another: how deep they go is no matter.
+/// The recognizers of block nodes and their parts in terms of one another, without a bound on how deep they go.
 pub fn block_node_steps()
     ensures node { (m : ℕ) (shallow bol : Bool) (text : List ℕ) → block_node_at m shallow bol text
         ≡ node_below block_key_in flow_leaf_at read_block block_items_at block_pairs_at m shallow

@@ -19,7 +19,7 @@ pub fn block_scalar_fits()
         → (text ≡ block_text b ++ rest) × (canonical_block m b rest ≡ true) }
 {}
 
-/// All block scalars that fit at the start of a text have the same text but for the comments after them, and mean
+/// All block scalars that fit at the start of a text have the same text except for the comments after them, and mean
 /// the same.
 pub fn block_scalar_once()
     ensures { (m : ℕ) (text : List ℕ) (b c : BlockScalar) (rest after : List ℕ)

@@ -43,7 +43,7 @@ pub fn gap_fits()
         → canonical_gap n key (read_gap n key text).0 (read_gap n key text).1 ≡ true }
 {}
 
-/// What the recognizers of comments and gaps find, said by their steps: how many lines there are is no matter.
+/// The recognizers of comments and gaps in terms of their steps, without a bound on the number of lines.
 pub fn comments_steps()
     ensures comments { (bol : Bool) (text : List ℕ)
         → all_comments bol text ≡ more_comments text (λ rest.

@@ -54,7 +54,7 @@ pub fn flow_node_missing()
 {}
 
 /// Decides the flow nodes at the start of a text, in whatever form. For each, one is found with the same text and
-/// meaning and the same rest. What is found is there, and is the only one but for its form. If none is found, there
+/// meaning and the same rest. What is found is there, and is the only one except for its form. If none is found, there
 /// is none.
 pub fn flow_node_stands()
     ensures found { (n : ℕ) (c : FlowContext) (bol : Bool) (text : List ℕ) (f : Flow)
@@ -74,7 +74,7 @@ pub fn flow_node_any_depth()
         → read_flow read_scalar fuel n c bol text ≡ flow_node_at n c bol text }
 {}
 
-/// What the recognizers of flow nodes and their parts find, said by one another: how deep they go is no matter.
+/// The recognizers of flow nodes and their parts in terms of one another, without a bound on how deep they go.
 pub fn flow_node_steps()
     ensures node { (n : ℕ) (c : FlowContext) (bol : Bool) (text : List ℕ)
         → flow_node_at n c bol text
@@ -137,7 +137,7 @@ pub fn block_key_fits()
         → block_key_in bol text ≡ Some ((key, gap), rest) → IsBlockKey bol text key gap rest }
 {}
 
-/// A flow node before comments, with a line less deep after them, is no key.
+/// A flow node is not a key if comments follow it, and after them a line that is less deep.
 pub fn block_key_missing()
     ensures { (f : Flow) (m : ℕ) (bol start : Bool) (comments : List LineEnd) (after : List ℕ)
         → canonical_flow f m outer bol (comments_text comments ++ after) ≡ true

@@ -1,4 +1,4 @@
-//! Recognizers of the productions of YAML 1.2.2, as definitions over lists of code points, and laws of them.
+//! Recognizers of the productions of YAML 1.2.2, as definitions over lists of code points, and laws about them.
 //!
 //! A recognizer reads the one presentation of its production at the start of a text, and returns the rest of the
 //! text. For each production there are three laws. What fits before a text that ends it is found. What is found is a
@@ -13,8 +13,8 @@
 //! there is one means the same, and where none is found there is none. `document_node_ends` says that what follows a
 //! document ends its node.
 //!
-//! Their result is in `texts`: all presentations of a text, in whatever form, mean the same. The recognizer of streams
-//! decides whether a text has one, and finds what it means.
+//! What follows from them is in `texts`: all presentations of a text, in whatever form, mean the same. The recognizer
+//! of streams decides whether a text has one, and finds what it means.
 #![tactic(auto)]
 
 pub mod block_nodes;

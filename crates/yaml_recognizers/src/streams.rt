@@ -1,4 +1,4 @@
-//! Laws of streams (YAML 1.2.2, 6.8 and 9).
+//! Laws of streams (YAML 1.2.2, 6.8 and chapter 9).
 
 ghost use Rattle.std.specs.Prelude.{◌≡◌, ℕ, Bool, true, false, if◌then◌else◌, drop, List, [], ◌++◌, Some, None};
 ghost use Rattle.yaml_grammar.specs.Texts.{is_empty, first, starts_line};
@@ -16,13 +16,13 @@ pub fn stream_found()
         → stream_at (flat_text stream) ≡ Some stream }
 {}
 
-/// What is found as a stream has the whole text, and is canonical.
+/// What is found as a stream spells the whole text, and is canonical.
 pub fn stream_fits()
     ensures { (text : List ℕ) (stream : FlatStream) → stream_at text ≡ Some stream
         → (text ≡ flat_text stream) × (canonical_stream stream ≡ true) }
 {}
 
-/// Where no stream is found the text has none.
+/// If no stream is found, the text has none.
 pub fn stream_missing()
     ensures { (text : List ℕ) (stream : FlatStream) → stream_at text ≡ None
         → canonical_stream stream ≡ true → flat_text stream ≡ text → ⊥ }
@@ -34,7 +34,7 @@ pub fn stream_once()
         → flat_text one ≡ flat_text other → one ≡ other }
 {}
 
-/// What the recognizers of streams and their pieces find, said by one another: how many pieces there are is no matter.
+/// The recognizers of streams and their pieces in terms of one another, without a bound on the number of pieces.
 pub fn stream_steps()
     ensures stream { (text : List ℕ) → stream_at text
         ≡ (if first order_mark text then with_mark true (pieces_at true true (drop 1 text))
@@ -60,7 +60,7 @@ pub fn stream_can_be_read()
 {}
 
 /// In a stream that fits, what follows its first document, or any of its parts, ends the node of a document. It is
-/// lines of white or comments, and then the end of the text or a marker.
+/// lines of whitespace or comments, and then the end of the text or a marker.
 pub fn document_node_ends()
     ensures { (stream : Stream) (before after : List Part) → fits stream ≡ true
         → stream.parts ≡ before ++ after → EndsNode 0 false (parts_text after) }

@@ -16,14 +16,14 @@ pub fn canonical_forms()
     ensures { HaveCanonicalForms }
 {}
 
-/// In what a presentation means the ranges of scalars are in order, and within its text.
+/// In the events of a presentation, the ranges of scalars are in order and within its text.
 pub fn ranges_in_order()
     ensures { (presentation : Stream)
         → RangesInOrder 0 (stream_events presentation) (byte_len (stream_text presentation)) }
 {}
 
 /// The nodes of a presentation, each with its place in the text, are spelled there. If the presentation fits, a line
-/// starts at each of them where this is said of it, each fits at its place, and what comes after it ends it. So the
+/// starts at exactly those of which this is said, each node fits at its place, and what comes after it ends it. So the
 /// laws about the node that is found at a place hold for each node of a whole text.
 pub fn nodes_stand()
     ensures spelled { (presentation : Stream)

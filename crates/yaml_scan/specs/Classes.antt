@@ -11,11 +11,11 @@ use Rattle.yaml_scan.specs.declared.classes.Class.TheVariants.{Words, WordsInsid
 abbrev pub simple : FlowContext → ℕ → Bool
 simple c x = nat_lt x 128 && (safe c x && not (is_in x (codes ":#")))
 
--- such a character, or white space
+-- such a character, or whitespace
 abbrev pub word : FlowContext → ℕ → Bool
 word c x = simple c x || white x
 
--- characters that mean themselves in quotes
+-- characters that mean themselves in single quotes
 abbrev pub single_quoted : ℕ → Bool
 single_quoted x = nb_json x && not (x == single_quote)
 

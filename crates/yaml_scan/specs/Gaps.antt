@@ -19,8 +19,7 @@ use Rattle.yaml_scan.specs.declared.gap.Gap.{Gap}
 abbrev pub after_comments : List ℕ → ℕ → List ℕ
 after_comments text at = (all_comments true (rest text at)).1
 
--- After the first line of a gap that goes over lines: the comments, and the white space of the last
--- line, go to the end.
+-- After the first line of a gap that goes over lines: the comments, and the whitespace of the last line, go to the end.
 pub record IsLinesGap (n : ℕ) (text : List ℕ) (at : ℕ) (found : Gap) : Type 0 where
   pub above : at ≤ found.end
   pub boundary : IsCharBoundary text found.end
@@ -45,8 +44,7 @@ pub record IsGap (n : ℕ) (d : FlowContext) (text : List ℕ) (at : ℕ) (found
   pub over_lines : found.is_over_lines ≡ not (gap_on_one_line gap)
   pub breaks : found.is_over_lines ≡ not (unbroken_between text at found.end)
 
--- A gap after which nothing can go on: its last line has too few spaces, or the text ends after its
--- lines.
+-- A gap after which nothing can go on: its last line has too few spaces, or the text ends after its lines.
 pub data NoGap (n : ℕ) (d : FlowContext) (text : List ℕ) : Type 0 where
   stuck : (x : ℕ) (xs : List ℕ) → text ≡ x ∷ xs → white x || line_break x ≡ true
       → read_gap n (one_line d) text ≡ (None, text) → NoGap n d text

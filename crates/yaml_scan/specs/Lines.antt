@@ -1,5 +1,4 @@
--- The end of a line, and the next line that is not white space or a comment (YAML 1.2.2, 6.6 and
--- 6.7).
+-- The end of a line, and the next line that is not whitespace or a comment (YAML 1.2.2, 6.6 and 6.7).
 use Rattle.std.specs.Prelude.{◌≡◌, ℕ, ◌<◌, ◌≤◌, Bool, true, false, if◌then◌else◌, List, [], ◌++◌, Option, Some, None}
 use Rattle.std.proofs.Math.Logic.{◌⊎◌}
 use Rattle.std.specs.Str.{IsCharBoundary}
@@ -28,16 +27,16 @@ pub record IsCommentEnd (text : List ℕ) (at end : ℕ) : Type 0 where
   pub boundary : IsCharBoundary text end
   pub leaves : past_comment (rest text at) ≡ rest text end
 
--- White space and perhaps a comment are between the two places, so that the line ends where a
--- break or the text's end follows.
+-- Whitespace and perhaps a comment are between the two places, so that the line ends if a break or the end of the text
+-- follows.
 pub record IsContentEnd (bol : Bool) (text : List ℕ) (at end : ℕ) : Type 0 where
   pub blank : List ℕ
   pub comment : Option (List ℕ)
   pub reads : read_line_end bol (rest text at) ≡ line_end_with_stop blank comment (read_stop (rest text end))
   pub spells : between text at end ≡ blank ++ optional comment_text comment
 
--- The end of a line: white space, perhaps a comment, and a break or the end of the text, not all
--- empty. Here bol says whether a comment may be at the place itself.
+-- The end of a line: whitespace, perhaps a comment, and a break or the end of the text, not all empty. Here bol says
+-- whether a comment may be at the place itself.
 pub record IsLineEnd (bol : Bool) (text : List ℕ) (at end : ℕ) : Type 0 where
   pub above : at < end
   pub boundary : IsCharBoundary text end
@@ -45,7 +44,7 @@ pub record IsLineEnd (bol : Bool) (text : List ℕ) (at end : ℕ) : Type 0 wher
   pub reads : read_line_end bol (rest text at) ≡ Some (line_end, rest text end)
   pub starts : IsLineStart text end
 
--- the line ends at the last place, where white space and perhaps a comment go to the second
+-- the line ends at the last place, if whitespace and perhaps a comment go up to the second
 abbrev pub EndsLineAfter : List ℕ → ℕ → ℕ → ℕ → Type 0
 EndsLineAfter text at content end =
     (bol : Bool) → IsContentEnd bol text at content → IsLineEnd bol text at end

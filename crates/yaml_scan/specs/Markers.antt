@@ -1,4 +1,4 @@
--- The two markers of documents (YAML 1.2.2, 9.1.1 and 9.1.2).
+-- The two markers of documents (YAML 1.2.2, 9.1.2).
 use Rattle.std.specs.Prelude.{ℕ}
 use Rattle.yaml_chars.specs.Signs.{dash, dot}
 use Rattle.yaml_scan.specs.declared.signs.Marker.{Marker}

@@ -65,7 +65,7 @@ unbroken_between text from to = list_all no_break (between text from to)
 
 -- ---- signs
 
--- the sign x, at the start of a text
+-- the character is the sign x
 abbrev pub is_sign : ℕ → ℕ → Bool
 is_sign x c = c == x
 

@@ -7,8 +7,8 @@ ghost use Rattle.yaml_events.specs.EventPlaces.{line_starts};
 ghost use Rattle.yaml_recognizers.specs.Comments.{read_break, read_stop};
 ghost use Rattle.yaml_scan.specs.ScanPlaces.{IsBreak, IsStop, byte_order_mark_bytes, unbroken_between};
 
-/// Returns the end of the break at `at`: a line feed, a carriage return, or both in this order
-/// (5.4, `b-break`). Returns None if there is no line break.
+/// Returns the end of the break at `at`: LF, CR LF, or a CR that no LF follows (5.4, `b-break`). Returns None if there
+/// is none.
 pub fn break_end(text: &str, at: usize) -> Option<usize>
     requires { IsCharBoundary text.now at }
     ensures found { IfSome result (IsBreak text.now at) }
@@ -37,14 +37,13 @@ pub fn break_end(text: &str, at: usize) -> Option<usize>
 /// How a line ends.
 #[derive(Clone, Copy, Debug, PartialEq, Eq)]
 pub struct Stop {
-    /// Whether a break ends it, and not the end of the text.
+    /// Whether it ends with a break, and not with the end of the text.
     pub has_break: bool,
-    /// The place after it.
+    /// The place after the break, or the end of the text.
     pub next: usize,
 }
 
-/// Returns how a line ends at `at`: by a break or by the end of the text. Returns None where
-/// neither is.
+/// Returns how a line ends at `at`: with a break or with the end of the text. Returns None if neither is there.
 pub fn stop_at(text: &str, at: usize) -> Option<Stop>
     requires { IsCharBoundary text.now at }
     ensures found { IfSome result (λ stop. IsStop text.now at stop.has_break stop.next) }
@@ -71,8 +70,7 @@ fn is_break(byte: u8) -> bool
     matches!(byte, b'\n' | b'\r')
 }
 
-/// Returns whether a line starts at `at`: at the start of the text, after a byte order mark there,
-/// or after a break.
+/// Returns whether a line starts at `at`: at the start of the text, after a byte order mark there, or after a break.
 pub fn line_starts(text: &str, at: usize) -> bool
     requires { IsCharBoundary text.now at }
     ensures { result ≡ line_starts text.now at }
@@ -93,8 +91,8 @@ fn is_byte_order_mark(text: &str) -> bool
     text == "\u{feff}"
 }
 
-/// Returns whether there is a line break between two places. Each byte between them is looked at once, up
-/// to the first break.
+/// Returns whether there is a line break between two places. It looks at each byte between them once, up to the first
+/// break.
 pub fn has_break(text: &str, from: usize, to: usize) -> bool
     requires order { from ≤ to }
     requires from { IsCharBoundary text.now from }
@@ -110,8 +108,8 @@ pub fn has_break(text: &str, from: usize, to: usize) -> bool
     false
 }
 
-/// Returns whether at most `limit` characters are between two places. They are counted only where
-/// the number of bytes does not decide.
+/// Returns whether at most `limit` characters are between two places. It counts them only if the number of bytes does
+/// not decide.
 pub fn at_most_chars(text: &str, from: usize, to: usize, limit: usize) -> bool
     requires order { from ≤ to }
     requires from { IsCharBoundary text.now from }

@@ -7,7 +7,7 @@ ghost use Rattle.yaml_scan.specs.Classes.{test_of, bit_of, line_ascii, ArePassed
 /// A class of characters. A byte decides it: the characters from U+0080 on are all in the class or all outside of it.
 #[derive(Clone, Copy, Debug, PartialEq, Eq)]
 pub enum Class {
-    /// White space, and the ASCII characters that are plain anywhere after the first character of a plain scalar
+    /// Whitespace, and the ASCII characters that are plain anywhere after the first character of a plain scalar
     /// outside of brackets (7.3.3).
     Words,
     /// The same between brackets.
@@ -21,7 +21,7 @@ pub enum Class {
 }
 
 impl Class {
-    /// Its bit in the table.
+    /// Returns its bit in the table.
     fn bit(self) -> u8
         ensures { result ≡ bit_of self }
     {
@@ -34,7 +34,7 @@ impl Class {
         }
     }
 
-    /// Whether the byte is one of a character of the class.
+    /// Returns whether the byte belongs to a character of the class.
     fn has(self, byte: u8) -> bool
         ensures { result ≡ test_of self byte }
     {
@@ -57,7 +57,7 @@ static CLASSES: [u8; 256] = [
     12, 12, 12, 12, 12, 12, 12, 12, 12,
 ];
 
-/// Returns the end of the characters of a class at `at`.
+/// Returns the end of the run of characters of a class from `at` on, which is `at` if there are none.
 pub fn run_end(text: &str, at: usize, class: Class) -> usize
     requires { IsCharBoundary text.now at }
     ensures { IsRun (test_of class) text.now at result }
@@ -65,8 +65,8 @@ pub fn run_end(text: &str, at: usize, class: Class) -> usize
     passed_end(text.as_bytes(), at, class)
 }
 
-/// Returns the end of the ASCII characters at `at` that a line may hold. Lines are long, so it looks at sixteen bytes
-/// at once as far as it can.
+/// Returns the end of the run of ASCII characters from `at` on that a line may hold. Lines are long, so it looks at
+/// sixteen bytes at once as long as it can.
 pub(crate) fn line_run_end(text: &str, at: usize) -> usize
     requires { IsCharBoundary text.now at }
     ensures { IsRun line_ascii text.now at result }
@@ -94,8 +94,8 @@ fn passed_end(bytes: &[u8], at: usize, class: Class) -> usize
     last_passed_end(bytes, end, class)
 }
 
-/// Returns how many of eight bytes from `at` on are of the class before one that is not. Eight looks with no test for
-/// the end of the text between them cost half of what they cost with one.
+/// Returns how many of the eight bytes from `at` on are of the class, before the first one that is not. Without a test
+/// for the end of the text at each byte, eight bytes take half the time.
 #[inline(always)]
 fn count_of_eight(bytes: &[u8], at: usize, class: Class) -> usize
     requires { at + 8 ≤ length bytes.now }
@@ -124,8 +124,8 @@ fn last_passed_end(bytes: &[u8], at: usize, class: Class) -> usize
     end
 }
 
-/// Returns the end of as many bytes from `at` on as can be taken sixteen by sixteen, where each is by itself a
-/// character that a line may hold.
+/// Returns the end of the bytes from `at` on that can be taken sixteen at a time, each of them by itself a character
+/// that a line may hold.
 fn sixteens_end(bytes: &[u8], at: usize) -> usize
     requires { at ≤ length bytes.now }
     ensures { ArePassed line_ascii bytes.now at result }
@@ -137,8 +137,8 @@ fn sixteens_end(bytes: &[u8], at: usize) -> usize
     end
 }
 
-/// Returns whether each of sixteen bytes from `at` on is by itself a character that a line may hold. It looks at all of
-/// them, so that they can be looked at together.
+/// Returns whether each of sixteen bytes from `at` on is by itself a character that a line may hold. It tests all of
+/// them, so that the compiler can test them together.
 #[inline(always)]
 fn are_sixteen(bytes: &[u8], at: usize) -> bool
     requires { at + 16 ≤ length bytes.now }

@@ -5,8 +5,7 @@ ghost use Rattle.yaml_grammar.specs.FlowScalars.{line_feeds};
 
 use std::alloc::AllocError;
 
-/// Appends so many line feeds to a value. If it runs out of memory, the value may have some of
-/// them.
+/// Appends `count` line feeds to a value. If memory runs out, the value may have some of them.
 pub fn push_line_feeds(value: &mut String, count: usize) -> Result<(), AllocError>
     ensures { OnOk result (string_bytes value.new ≡ string_bytes value.old ++ line_feeds count) }
 {

@@ -21,7 +21,7 @@ pub struct Gap {
     pub is_over_lines: bool,
 }
 
-/// Returns whether what is in the context is on one line, as a key is.
+/// Returns whether a node in this context has to be on one line, as a key has.
 pub fn is_on_one_line(context: FlowContext) -> bool
     ensures { result ≡ one_line (context_of context) }
 {
@@ -31,12 +31,13 @@ pub fn is_on_one_line(context: FlowContext) -> bool
     }
 }
 
-/// Returns the gap at `at` between two parts of a flow node whose lines have at least `n` spaces (6.7, `s-separate`).
-/// It is white space, and outside of keys also comments and breaks. It may be empty.
+/// Returns the gap at `at` between two parts of a flow node whose further lines have at least `n` spaces (6.7,
+/// `s-separate`). It is whitespace, and outside of keys also comments and breaks. It may be empty.
 ///
-/// Where nothing of the node can follow, it fails with [`ScanFault::At`]: [`Why::Flow`] where the
-/// text ends after the lines of the gap, and [`Why::Indent`] where its last line has fewer than `n`
-/// spaces. It never fails with [`ScanFault::OutOfMemory`].
+/// # Errors
+///
+/// [`ScanFault::At`] if nothing of the node can follow: with [`Why::Flow`] if the text ends after the lines of the gap,
+/// and with [`Why::Indent`] if its last line has fewer than `n` spaces. It is never [`ScanFault::OutOfMemory`].
 pub fn gap_end(text: &str, at: usize, n: u64, context: FlowContext) -> Result<Gap, ScanFault>
     requires { IsCharBoundary text.now at }
     ensures found { IfOk result (IsGap n (context_of context) text.now at) }
@@ -58,7 +59,7 @@ pub fn gap_end(text: &str, at: usize, n: u64, context: FlowContext) -> Result<Ga
     }
 }
 
-/// Returns the gap that goes over lines, of which the first ends at `next`.
+/// Returns the gap that goes over lines, whose first line ends at `next`.
 fn gap_over_lines(text: &str, next: usize, n: u64) -> Result<Gap, ScanFault>
     requires { IsCharBoundary text.now next }
     ensures found { IfOk result (IsLinesGap n text.now next) }

@@ -1,5 +1,4 @@
-//! What a scanner of YAML 1.2.2 asks about a place of a text: white space, breaks, signs, markers,
-//! comments and gaps.
+//! What a scanner of YAML 1.2.2 asks about a place of a text: whitespace, breaks, signs, markers, comments and gaps.
 //!
 //! A place counts the bytes of a text from 0, and is on a boundary of a character. The end of the text is such a place.
 //! The contracts speak of the characters from a place on, in the words of the recognizers of `yaml_recognizers`. Lemmas

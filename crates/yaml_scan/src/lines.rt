@@ -9,7 +9,7 @@ use crate::breaks::stop_at;
 use crate::runs::{nb_end, spaces_end, white_end};
 use crate::signs::{solid_at, stands_at};
 
-/// A line that holds more than white space and a comment, or the end of the text.
+/// A line that holds more than whitespace and a comment, or the end of the text.
 #[derive(Clone, Copy, Debug, PartialEq, Eq)]
 pub struct Line {
     /// Where it starts.
@@ -29,9 +29,8 @@ fn comment_end(text: &str, at: usize) -> usize
     nb_end(text, at + 1)
 }
 
-/// Returns the end of the line that starts at `at` if it holds nothing but white space and a
-/// comment (6.6, `l-comment`): the place after its break, or the end of the text. Returns None
-/// where it holds more, and at the end of the text.
+/// Returns the end of the line that starts at `at` if it holds nothing but whitespace and a comment (6.6, `l-comment`):
+/// the place after its break, or the end of the text. Returns None if it holds more, and at the end of the text.
 pub fn comment_line_end(text: &str, at: usize) -> Option<usize>
     requires { IsCharBoundary text.now at }
     ensures found { IfSome result (IsLineEnd true text.now at) }
@@ -41,9 +40,9 @@ pub fn comment_line_end(text: &str, at: usize) -> Option<usize>
     after_content(text, at, content)
 }
 
-/// Returns the end of the line of a part that ends at `at`, if nothing but white space and, after
-/// white space, a comment follows it there (6.6, `s-b-comment`): the place after its break, or the
-/// end of the text. Returns None where more follows, and at the end of the text.
+/// Returns the end of the line of a part that ends at `at`, if nothing follows it on its line but whitespace and, after
+/// whitespace, a comment (6.6, `s-b-comment`): the place after its break, or the end of the text. Returns None if more
+/// follows, and at the end of the text.
 pub fn rest_of_line_end(text: &str, at: usize) -> Option<usize>
     requires { IsCharBoundary text.now at }
     ensures found { IfSome result (IsLineEnd false text.now at) }
@@ -76,9 +75,8 @@ fn after_content(text: &str, at: usize, content: usize) -> Option<usize>
     Some(stop.next)
 }
 
-/// Returns the first line from the line at `at` on that holds more than white space and a comment,
-/// or the end of the text (6.7, `s-l-comments`). A line starts at `at`, or the text ends there.
-/// Each line before it is read once.
+/// Returns the first line from the line at `at` on that holds more than whitespace and a comment, or the end of the
+/// text (6.6, `s-l-comments`). A line starts at `at`, or the text ends there. Each line before it is read once.
 #[inline(always)]
 pub fn solid_line(text: &str, at: usize) -> Line
     requires { IsCharBoundary text.now at }
@@ -98,9 +96,8 @@ pub fn solid_line(text: &str, at: usize) -> Line
     }
 }
 
-/// Returns the first line after a part that ends at `at` that holds more than white space and a
-/// comment, or the end of the text (6.7, `s-l-comments`). Returns None where anything but white
-/// space and a comment follows the part on its line.
+/// Returns the first line after a part that ends at `at` that holds more than whitespace and a comment, or the end of
+/// the text (6.6, `s-l-comments`). Returns None if anything but whitespace and a comment follows the part on its line.
 #[inline(always)]
 pub fn line_after(text: &str, at: usize) -> Option<Line>
     requires { IsCharBoundary text.now at }

@@ -8,14 +8,14 @@ ghost use Rattle.yaml_scan.specs.ScanPlaces.{AreSpaces, AreTaken, IsNb};
 
 use crate::classes::{is_line_byte, line_run_end};
 
-/// Returns whether a byte is the space or a tab (5.5, `s-white`).
+/// Returns whether a byte is a space or a TAB (5.5, `s-white`).
 pub fn is_white(byte: u8) -> bool
     ensures { result ≡ white byte }
 {
     matches!(byte, b' ' | b'\t')
 }
 
-/// Returns the end of the white space at `at`, spaces and tabs (5.5, `s-white`).
+/// Returns the end of the whitespace at `at`, which is spaces and TABs (5.5, `s-white`).
 pub fn white_end(text: &str, at: usize) -> usize
     requires { IsCharBoundary text.now at }
     ensures run { IsRun white text.now at result }
@@ -48,8 +48,7 @@ pub fn spaces_end(text: &str, at: usize) -> usize
     end
 }
 
-/// Returns the end of the character at `at` if a line may hold it (5.4, `nb-char`), and None
-/// otherwise.
+/// Returns the end of the character at `at` if a line may hold it (5.4, `nb-char`), and None otherwise.
 pub fn nb_at(text: &str, at: usize) -> Option<usize>
     requires { IsCharBoundary text.now at }
     ensures found { IfSome result (IsNb text.now at) }

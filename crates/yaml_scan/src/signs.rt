@@ -26,7 +26,7 @@ pub fn stands_at(text: &str, at: usize, character: u8) -> bool
     at < bytes.len() && bytes[at] == character
 }
 
-/// Returns whether white space is at `at` (5.5, `s-white`).
+/// Returns whether whitespace is at `at` (5.5, `s-white`).
 pub fn white_at(text: &str, at: usize) -> bool
     requires { IsCharBoundary text.now at }
     ensures { result ≡ first white (rest text.now at) }
@@ -41,7 +41,7 @@ fn is_solid(byte: u8) -> bool
     !matches!(byte, b' ' | b'\t' | b'\n' | b'\r' | b'#')
 }
 
-/// Returns whether a character is at `at` that is neither white space, a break nor `#`.
+/// Returns whether a character is at `at` that is neither whitespace, a break nor `#`.
 pub fn solid_at(text: &str, at: usize) -> bool
     requires { IsCharBoundary text.now at }
     ensures { result ≡ first solid (rest text.now at) }
@@ -50,8 +50,8 @@ pub fn solid_at(text: &str, at: usize) -> bool
     at < bytes.len() && is_solid(bytes[at])
 }
 
-/// Returns whether a character is at `at` that is printable, no white space and no break (5.5,
-/// `ns-char`).
+/// Returns whether a character is at `at` that is printable, and neither whitespace, a break nor a byte order mark
+/// (5.5, `ns-char`).
 #[inline(always)]
 pub fn ns_at(text: &str, at: usize) -> bool
     requires { IsCharBoundary text.now at }
@@ -63,7 +63,7 @@ pub fn ns_at(text: &str, at: usize) -> bool
     }
 }
 
-/// Returns whether this sign is at `at`, and no `ns-char` after it: `-`, `?` and `:` of a block
+/// Returns whether this sign is at `at` and no `ns-char` is after it, as with the `-`, `?` and `:` of a block
 /// collection (8.2).
 #[inline(always)]
 pub fn sign_at(text: &str, at: usize, character: u8) -> bool
@@ -77,8 +77,7 @@ pub fn sign_at(text: &str, at: usize, character: u8) -> bool
     !ns_at(text, at + 1)
 }
 
-/// Returns whether a character is at `at` that is safe in a plain scalar in this context
-/// (7.3.3, `ns-plain-safe`).
+/// Returns whether a character is at `at` that is safe in a plain scalar in this context (7.3.3, `ns-plain-safe`).
 pub fn safe_at(text: &str, at: usize, context: FlowContext) -> bool
     requires { IsCharBoundary text.now at }
     ensures { result ≡ first (safe (context_of context)) (rest text.now at) }
@@ -105,9 +104,8 @@ pub fn is_safe(character: char, context: FlowContext) -> bool
     }
 }
 
-/// Returns whether a marker begins at `at`: `---` or `...` before white space, a break or the end
-/// of the text (9.1.2, `c-forbidden`). It is a marker only where a line starts, which this does not
-/// ask.
+/// Returns whether a marker begins at `at`: `---` or `...` before whitespace, a break or the end of the text (9.1.2,
+/// `c-forbidden`). It is a marker only if a line starts at `at`, which this function does not check.
 pub fn is_marker(text: &str, at: usize) -> bool
     requires { IsCharBoundary text.now at }
     ensures { result ≡ marker (rest text.now at) }
@@ -115,7 +113,7 @@ pub fn is_marker(text: &str, at: usize) -> bool
     is_marker_of(text, at, Marker::DirectivesEnd) || is_marker_of(text, at, Marker::DocumentEnd)
 }
 
-/// A marker of a document (9.1.1, 9.1.2).
+/// A marker of a document (9.1.2).
 #[derive(Clone, Copy, Debug, PartialEq, Eq)]
 pub enum Marker {
     /// `---`, after the directives (`c-directives-end`).
@@ -124,8 +122,8 @@ pub enum Marker {
     DocumentEnd,
 }
 
-/// Returns whether this marker begins at `at`: its three signs before white space, a break or the
-/// end of the text. It is a marker only where a line starts, which this does not ask.
+/// Returns whether this marker begins at `at`: its three signs before whitespace, a break or the end of the text. It is
+/// a marker only if a line starts at `at`, which this function does not check.
 pub fn is_marker_of(text: &str, at: usize, marker: Marker) -> bool
     requires { IsCharBoundary text.now at }
     ensures { result ≡ marker_of (sign_of marker) (rest text.now at) }
