@@ -10,7 +10,7 @@ pub trait Answers {
     fn answer(&mut self, alloc: Global, order: &str) -> io::Result<String>;
 }
 
-/// Answers each line of standard input in a line. Returns 0, or 1 where reading, printing or an answer failed.
+/// Answers each line of standard input in a line. Returns the status 0, or 1 if reading, printing or an answer failed.
 pub fn answer_lines<R: Input + Print + AllocGlobal, A: Answers>(
     rt: &R,
     answers: &mut A,

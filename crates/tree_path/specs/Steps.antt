@@ -15,7 +15,7 @@ use Rattle.tree_path.specs.declared.place.Miss.TheVariants.{Absent}
 abbrev pub number_of : List ℕ → Option ℕ
 number_of token = if is_number token then Some (number_after 0 token) else None
 
--- a number as a `usize` has it: at most the greatest one
+-- a number as a `usize`: at most the greatest one
 abbrev pub as_usize : ℕ → ℕ
 as_usize n = min n 0xffff_ffff_ffff_ffff
 

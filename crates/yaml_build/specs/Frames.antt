@@ -11,7 +11,7 @@ pub data Frame : Type 0 where
   at_key : Members → Frame
   at_value : Members → List ℕ → Frame
 
--- the value of a key is next in the innermost part
+-- the innermost part is a mapping where the value of a key is next
 abbrev pub awaits_value : List Frame → Bool
 awaits_value [] = false
 awaits_value (awaiting ∷ fs) = false
@@ -41,19 +41,21 @@ frame_with (at_key ms) (sequence ts) = None
 frame_with (at_key ms) (mapping ns) = None
 frame_with (at_value ms key) t = Some (at_key (members_and ms key t))
 
+-- a part, if there is one, inside others
 abbrev pub inside : Option Frame → List Frame → Option (List Frame)
 inside None fs = None
 inside (Some f) fs = Some (f ∷ fs)
 
--- the parts with a change of the innermost one
+-- the parts with the innermost one changed
 abbrev pub innermost : (Frame → Option Frame) → List Frame → Option (List Frame)
 innermost change [] = None
 innermost change (f ∷ fs) = inside (change f) fs
 
+-- the parts with a further value in the innermost one
 abbrev pub frames_with : List Frame → Tree → Option (List Frame)
 frames_with fs t = innermost (λ f. frame_with f t) fs
 
--- the document, the sequence, the mapping that ends
+-- the parts after the end of a document, a sequence, a mapping
 abbrev pub after_document_end : List Frame → Option (List Frame)
 after_document_end [] = None
 after_document_end (awaiting ∷ fs) = None

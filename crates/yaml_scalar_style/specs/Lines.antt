@@ -4,7 +4,7 @@ use Rattle.std.specs.Str.{NonePass}
 use Rattle.yaml_chars.specs.Signs.{line_feed}
 use Rattle.yaml_grammar.specs.Texts.{spaces}
 
--- there is no line feed in it
+-- the text has no line feed
 abbrev pub IsOneLine : List ℕ → Type 0
 IsOneLine cs = NonePass (λ d. d == line_feed) cs
 
