@@ -26,7 +26,7 @@ abbrev pub put_config : List Entry → List ℕ → Tree → List Entry
 put_config [] name t = (name, t) ∷ []
 put_config (e ∷ es) name t = if same_text name e.0 then (e.0, t) ∷ es else e ∷ put_config es name t
 
--- without the configuration under a name, where there is one
+-- without the configuration under a name, if there is one
 abbrev pub cut_config : List Entry → List ℕ → List Entry
 cut_config [] name = []
 cut_config (e ∷ es) name = if same_text name e.0 then es else e ∷ cut_config es name

@@ -23,8 +23,8 @@ use yaml_tree::{ByteCount, Config, Sink, write_key, write_text, write_value};
 /// the value of a set (`value`). It takes time linear in the text's length, and memory once, for the text. It fails
 /// only if memory runs out.
 ///
-/// [`records_read`](crate::records_read) says that the text reads as that command under that number, where the
-/// command is accepted.
+/// [`records_read`](crate::records_read) says that the text reads as that command under that number, if some state
+/// accepts the command.
 pub fn record_text(alloc: Global, command: &Command, number: u64) -> Result<String, AllocError>
     ensures text { IfOk result (λ text.
         chars (string_bytes text) ≡ record_text (command_of command.now) number) }

@@ -3,7 +3,7 @@
 //!
 //! - `show;TEXT`: the events of a text. `checks/cases.py` asks for it too. The text has escapes and no runs.
 //! - `plain;AT;N;CONTEXT;TEXT`: the plain scalar at a place: whether its value is borrowed or owned, the value, and
-//!   its end. So do `single` and `double`. `scalar` takes any of them, and says its style and whether it is over
+//!   its end. `single` and `double` do the same. `scalar` takes any of them, and adds its style and whether it is over
 //!   lines.
 //! - `gap_end` and `safe_at`, with the same words: what the call returns. A gap's fault is given in a sentence.
 //! - `is_safe;CONTEXT;TEXT`: the characters of a text that are safe in a context.

@@ -4,7 +4,7 @@ use std::io;
 use std::io::{BufRead, BufReader};
 use std::process::ExitCode;
 
-/// What answers orders, and holds what one order leaves to the next.
+/// Answers orders. It holds what one order leaves for the next.
 pub trait Answers {
     /// The answer to an order.
     fn answer(&mut self, alloc: Global, order: &str) -> io::Result<String>;

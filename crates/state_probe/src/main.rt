@@ -14,7 +14,8 @@
 //! - `fault;NAME`: the message of a fault.
 //!
 //! In a `TEXT` and a `TREE` `\n` means a line feed, and `*COUNT` at the end that many letters `x`; the `TEXT` of a name
-//! has neither. A tree is a text of YAML. `probe_words` says how `BYTES` are written, what a heading is, and how the program ends.
+//! has neither. A tree is a text of YAML. `probe_words` says how `BYTES` are written, what a heading is, and how the
+//! program ends.
 #![tactic(auto)]
 
 mod commands;

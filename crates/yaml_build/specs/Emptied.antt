@@ -59,7 +59,7 @@ open_frames parts = frames_onto open_frame parts []
 
 -- ---- what becomes of emptied parts
 
--- a part with a further collection in it, where there is a place for it
+-- a part with a further collection in it, if it has a place for it
 abbrev pub value_placed : Frame → Option Frame
 value_placed awaiting = Some (root nothing)
 value_placed (root t) = None

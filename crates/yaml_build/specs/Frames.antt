@@ -30,7 +30,7 @@ abbrev pub members_and : Members → List ℕ → Tree → Members
 members_and no_member name u = member name u no_member
 members_and (member key t ms) name u = member key t (members_and ms name u)
 
--- the part with a further value in it, where there is a place for it
+-- the part with a further value in it, if it has a place for it
 abbrev pub frame_with : Frame → Tree → Option Frame
 frame_with awaiting t = Some (root t)
 frame_with (root u) t = None
@@ -83,7 +83,7 @@ after_map_end (in_seq ts ∷ fs) = None
 after_map_end (at_key ms ∷ fs) = frames_with fs (mapping ms)
 after_map_end (at_value ms key ∷ fs) = None
 
--- the open parts after one event more, where it has a place
+-- the open parts after one more event, if it has a place
 abbrev pub step : List Frame → Shape → Option (List Frame)
 step fs document_from = Some (awaiting ∷ fs)
 step fs document_to = after_document_end fs
@@ -93,7 +93,7 @@ step fs map_from = Some (at_key no_member ∷ fs)
 step fs map_to = after_map_end fs
 step fs (scalar_of value) = frames_with fs (text value)
 
--- the tree of the document, where nothing else is open
+-- the tree of the document, if it has ended and nothing else is open
 abbrev pub finished_tree : List Frame → Option Tree
 finished_tree [] = None
 finished_tree (awaiting ∷ fs) = None

@@ -34,7 +34,7 @@ pub(crate) enum Part {
 #[derive(Drop)]
 pub(crate) struct OpenMap {
     pub(crate) pairs: Vec<(Text, Tree)>,
-    /// The key whose value is next. Where there is none, a key is next.
+    /// The key whose value is next. If there is none, a key is next.
     pub(crate) key: Option<Text>,
 }
 

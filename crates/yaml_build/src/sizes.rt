@@ -3,7 +3,7 @@
 use std::alloc::{AllocError, Global};
 
 /// How many values each collection of a document has, in the order in which the collections start. It is a hint of how
-/// much memory to take: a wrong number costs memory or time, and changes no result.
+/// much memory to take: a wrong number costs memory or time, and changes no tree.
 #[derive(Drop)]
 pub struct Sizes {
     counts: Vec<u32>,

@@ -33,8 +33,8 @@ const MOST_INDENT: u64 = 4_294_967_295;
 ///
 /// # Errors
 ///
-/// Those of [`read_one`](crate::read_one): each fault of [`ReadFault`] is returned only where it holds and no earlier
-/// one does; [`ReadFault::OutOfMemory`] may come at any point.
+/// Those of [`read_one`](crate::read_one): each fault of [`ReadFault`] is returned only if it holds and no earlier one
+/// does; [`ReadFault::OutOfMemory`] may come at any point.
 pub fn format_one(alloc: Global, bytes: &[u8], limits: &Limits) -> Result<String, ReadFault>
     ensures given { IfOk result (λ text.
         IsFormatted bytes.now (limits_of limits.now) (string_bytes text)) }

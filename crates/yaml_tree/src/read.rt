@@ -22,7 +22,7 @@ use yaml_faults::ReadFault;
 ///
 /// # Errors
 ///
-/// Each fault of [`ReadFault`] is returned only where it holds and no earlier one does; [`ReadFault::OutOfMemory`] may
+/// Each fault of [`ReadFault`] is returned only if it holds and no earlier one does; [`ReadFault::OutOfMemory`] may
 /// come at any point.
 pub fn read_one(alloc: Global, bytes: &[u8], limits: &Limits) -> Result<Config, ReadFault>
     requires deep { limits.now.depth ≤ own_limits.depth }

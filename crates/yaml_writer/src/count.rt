@@ -141,7 +141,7 @@ impl ByteBudget {
         self.left.is_some()
     }
 
-    /// Counts so many bytes.
+    /// Counts `bytes` more bytes.
     pub(crate) fn spend(&mut self, bytes: u64)
         ensures { self.new.left ≡ left_after self.old.left bytes }
     {

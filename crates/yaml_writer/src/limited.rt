@@ -40,7 +40,7 @@ impl LimitedText {
         if budget.is_kept() { Some(text) } else { None }
     }
 
-    /// Counts so many bytes, and returns whether there is room for them.
+    /// Counts `bytes` more bytes, and returns whether there is room for them and all before.
     fn spend(&mut self, bytes: u64) -> bool
         ensures left { self.new.budget.left ≡ left_after self.old.budget.left bytes }
         ensures room { result ≡ is_some self.new.budget.left }
