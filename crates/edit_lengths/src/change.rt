@@ -29,7 +29,7 @@ pub struct Change {
 
 impl Change {
     /// The length in bytes, after the change, of a text that had `before` bytes, where the tree's indentation is
-    /// `indent` spaces.
+    /// `indent` spaces, at most 4. The change takes out no more than there is then.
     pub fn length_after(self, before: u64, indent: u64) -> u128
         requires bytes { self.added.bytes < 2 ^ 100 }
         requires lines { self.added.lines < 2 ^ 100 }

@@ -26,7 +26,7 @@ pub fn write_style<S: Sink>(tree: &Tree, sink: &mut S) -> Result<(), S::Fault>
 }
 
 /// Writes a text as the value after the `:` of its key, with the end of its last line. The key's line is indented by
-/// `indent` spaces. It fails only if the sink does.
+/// `indent` spaces, and two more fit in a `u64`. It fails only if the sink does.
 pub fn write_text<S: Sink>(text: &str, indent: u64, sink: &mut S) -> Result<(), S::Fault>
     requires { indent + 2 < 2 ^ 64 }
     ensures { OnOk result (S.Takes sink.old (value_at
@@ -158,7 +158,7 @@ fn write_members<S: Sink>(pairs: &[(Text, Tree)], indent: u64, sink: &mut S) -> 
 }
 
 /// Writes a value after the `:` of its key, with the end of its last line. The key's line is indented by `indent`
-/// spaces. It fails only if the sink does. The call stack grows with the depth, which therefore is at most 66;
+/// spaces, and 132 more fit in a `u64`. It fails only if the sink does. The call stack grows with the depth, which therefore is at most 66;
 /// [`is_deeper_than`](Tree::is_deeper_than) tests that.
 pub fn write_value<S: Sink>(tree: &Tree, indent: u64, sink: &mut S) -> Result<(), S::Fault>
     requires deep { depth (tree_of tree.now) ≤ own_limits.depth }
