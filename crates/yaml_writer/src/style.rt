@@ -158,8 +158,8 @@ fn write_members<S: Sink>(pairs: &[(Text, Tree)], indent: u64, sink: &mut S) -> 
 }
 
 /// Writes a value after the `:` of its key, with the end of its last line. The key's line is indented by `indent`
-/// spaces, and 132 more fit in a `u64`. It fails only if the sink does. The call stack grows with the depth, which therefore is at most 66;
-/// [`is_deeper_than`](Tree::is_deeper_than) tests that.
+/// spaces, and 132 more fit in a `u64`. It fails only if the sink does. The call stack grows with the depth, which
+/// therefore is at most 66; [`is_deeper_than`](Tree::is_deeper_than) tests that.
 pub fn write_value<S: Sink>(tree: &Tree, indent: u64, sink: &mut S) -> Result<(), S::Fault>
     requires deep { depth (tree_of tree.now) ≤ own_limits.depth }
     requires room { indent + 132 < 2 ^ 64 }
