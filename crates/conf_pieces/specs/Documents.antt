@@ -1,4 +1,4 @@
--- Records and bases as bytes: which bytes are one, and how those that are written are cut.
+-- Records and bases as bytes: which bytes are one, and what is left of written ones that a crash cuts.
 use Rattle.std.specs.Prelude.{◌≡◌, ◌≤◌, ℕ, ◌+◌, List, [], ◌∷◌, ◌++◌, length, take, replicate, Bool, Ok}
 use Rattle.std.specs.List.{concat}
 use Rattle.std.specs.Str.{chars, IsUtf8}
@@ -21,9 +21,11 @@ pub record IsBase (bytes : List ℕ) (state : Contents) : Type 0 where
   pub utf8 : IsUtf8 bytes
   pub reads : ReadsBase (chars bytes) state
 
+-- the bytes are no record
 abbrev pub IsNoRecord : List ℕ → Type 0
 IsNoRecord bytes = (command : Command) (number : ℕ) → IsRecord bytes command number → ⊥
 
+-- the bytes are no base
 abbrev pub IsNoBase : List ℕ → Type 0
 IsNoBase bytes = (state : Contents) → IsBase bytes state → ⊥
 
@@ -32,6 +34,7 @@ abbrev pub record_pieces : ℕ → List Command → List (List ℕ)
 record_pieces count [] = []
 record_pieces count (command ∷ commands) = record_bytes command (count + 1) ∷ record_pieces (count + 1) commands
 
+-- the same in a row
 abbrev pub records_bytes : ℕ → List Command → List ℕ
 records_bytes count commands = concat (record_pieces count commands)
 
@@ -56,11 +59,11 @@ RecordsAreRead = (s new : Contents) (command : Command) (fits : Bool) (number : 
 abbrev pub BasesFit : Type 0
 BasesFit = (s : Contents) → IsState s → length (base_bytes s) ≤ base_limit
 
--- any bytes are the base of one state at most
+-- any bytes are the base of at most one state
 abbrev pub OneBase : Type 0
 OneBase = (bytes : List ℕ) (s other : Contents) → IsBase bytes s → IsBase bytes other → other ≡ s
 
--- any bytes are the record of one command at most, with one number
+-- any bytes are the record of at most one command, with one number
 abbrev pub OneRecord : Type 0
 OneRecord = (bytes : List ℕ) (command other : Command) (number another : ℕ)
     → IsRecord bytes command number → IsRecord bytes other another → (other ≡ command) × (another ≡ number)

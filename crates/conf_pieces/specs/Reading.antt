@@ -19,6 +19,7 @@ AreKept (t ∷ ts) = IsKept t × AreKept ts
 abbrev pub trees_of : List Pair → List Tree
 trees_of ps = map (λ p. tree_of p.1) ps
 
+-- texts of the code as their characters
 abbrev pub texts : List (List ℕ) → List (List ℕ)
 texts [] = []
 texts (t ∷ ts) = chars t ∷ texts ts

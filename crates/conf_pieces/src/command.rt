@@ -15,7 +15,7 @@ use conf_record::{Command, good_name};
 use std::alloc::{AllocError, Global};
 use yaml_tree::{Text, Tree};
 
-/// The command and the number of a record's tree; None where it is no record's.
+/// The command and the number of a record's tree; `None` if it is no record's. It fails only if memory runs out.
 pub(crate) fn command_from(alloc: Global, tree: Tree) -> Result<Option<(Command, u64)>, AllocError>
     requires kept { IsKept (tree_of tree) }
     ensures { IfOk result (λ read. command_and_number read ≡ record_of (tree_of tree)) }
@@ -36,7 +36,7 @@ pub(crate) fn command_from(alloc: Global, tree: Tree) -> Result<Option<(Command,
     }
 }
 
-/// The import of these values: the number, the name and the tree.
+/// The import with these values: the number, the name and the tree. Returns `None` if one of them is not good.
 fn import_from(
     alloc: Global,
     pairs: Vec<(Text, Tree)>,
@@ -59,7 +59,7 @@ fn import_from(
     Ok(Some((Command::Import { name, tree }, number)))
 }
 
-/// The values of an import; `None` if they are others.
+/// The values of an import: two texts and a tree; `None` if they are others.
 fn import_values(pairs: Vec<(Text, Tree)>) -> Option<(Text, Text, Tree)>
     ensures { MatchOption result (import_of (values (members_of pairs.items)) ≡ None)
         (λ v. values (members_of pairs.items)
@@ -81,7 +81,7 @@ fn import_values(pairs: Vec<(Text, Tree)>) -> Option<(Text, Text, Tree)>
     Some((digits, name, tree))
 }
 
-/// The set of these values: the number, the name, the path and the value.
+/// The set with these values: the number, the name, the path and the value. Returns `None` if one of them is not good.
 fn set_from(alloc: Global, pairs: Vec<(Text, Tree)>) -> Result<Option<(Command, u64)>, AllocError>
     requires kept { AreKept (values (members_of pairs.items)) }
     ensures { IfOk result (λ read. command_and_number read
@@ -99,7 +99,7 @@ fn set_from(alloc: Global, pairs: Vec<(Text, Tree)>) -> Result<Option<(Command, 
     Ok(Some((Command::Set { name, path, value }, number)))
 }
 
-/// The values of a set; `None` if they are others.
+/// The values of a set: three texts and a tree; `None` if they are others.
 fn set_values(pairs: Vec<(Text, Tree)>) -> Option<(Text, Text, Text, Tree)>
     ensures { MatchOption result (set_of (values (members_of pairs.items)) ≡ None)
         (λ v. values (members_of pairs.items)
@@ -125,7 +125,7 @@ fn set_values(pairs: Vec<(Text, Tree)>) -> Option<(Text, Text, Text, Tree)>
     Some((digits, name, path, value))
 }
 
-/// The delete of these values: the number, the name and the path.
+/// The delete with these values: the number, the name and the path. Returns `None` if one of them is not good.
 fn delete_from(
     alloc: Global,
     pairs: Vec<(Text, Tree)>,
@@ -144,7 +144,7 @@ fn delete_from(
     Ok(Some((Command::Delete { name, path }, number)))
 }
 
-/// The values of a delete; `None` if they are others.
+/// The values of a delete: three texts; `None` if they are others.
 fn delete_values(pairs: Vec<(Text, Tree)>) -> Option<(Text, Text, Text)>
     ensures { MatchOption result (delete_of (values (members_of pairs.items)) ≡ None)
         (λ v. values (members_of pairs.items)

@@ -1,8 +1,8 @@
 //! The pieces of a store's file as bytes: a base, which holds a whole state, and records, which hold one command each.
 //!
 //! [`base_text`] and [`record_text`] write them, [`read_base`] and [`read_record`] read them, in any spelling. The laws
-//! say that what is written reads back, and that bytes mean one thing at most. They also say where pieces end, in a
-//! file that a crash has cut too.
+//! say that what is written is read back, and that bytes are at most one base and one record. They also say where
+//! pieces end, even in a file that a crash has cut.
 //!
 //! [`keys_are`], [`next_text`], [`next_value`] and [`part`] take such a document's mapping apart, for readers of other
 //! documents.

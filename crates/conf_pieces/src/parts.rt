@@ -9,8 +9,8 @@ ghost use Rattle.conf_pieces.specs.Reading.{AreKept, trees_of};
 use std::alloc::{AllocError, Global};
 use yaml_tree::{ByteCount, Config, Text, Tree, write_style};
 
-/// A part of a configuration's tree as a configuration of its own. It keeps all limits of a [`Config`]. Its length is
-/// counted, and no memory is taken.
+/// A part of a configuration's tree as a configuration of its own, which keeps all limits of a [`Config`] too. Its
+/// length is counted. It takes no memory.
 pub fn part(tree: Tree) -> Config
     requires { IsKept (tree_of tree) }
     ensures { result ≡ tree }
@@ -22,7 +22,7 @@ pub fn part(tree: Tree) -> Config
     }
 }
 
-/// The same for the values of a mapping, under their keys.
+/// The same for the values of a mapping, under their keys. It fails only if memory runs out.
 pub(crate) fn configurations(
     alloc: Global,
     pairs: Vec<(Text, Tree)>,

@@ -15,14 +15,14 @@ use yaml_tree::{Limits, ReadFault, Tree, bytes_give_one, read_one, refused_bytes
 
 /// Reads a record: the command and its number. The bytes may spell the document in any way (YAML 1.2.2).
 ///
-/// None where the bytes are no record:
+/// It returns `None` if the bytes are no record:
 /// - they are not one document of texts, sequences and mappings, or are over the limits: 67,108,864 bytes, also in the
 ///   one style, and a depth of 66;
 /// - the mapping has other keys, or the same in another order;
 /// - the number is not decimal digits without a leading zero, or is more than 18,446,744,073,709,551,615;
 /// - the name or the path (RFC 6901) is not good.
 ///
-/// Only running out of memory can fail. It is linear in the bytes, and moves the texts and trees that were read.
+/// It fails only if memory runs out. It takes time linear in the bytes, and moves the texts and trees that were read.
 pub fn read_record(alloc: Global, bytes: &[u8]) -> Result<Option<(Command, u64)>, AllocError>
     ensures some { IfOk result (λ read. IfSome read (λ r.
         IsRecord bytes.now (command_of r.0) r.1)) }
@@ -37,13 +37,13 @@ pub fn read_record(alloc: Global, bytes: &[u8]) -> Result<Option<(Command, u64)>
 
 /// Reads a base: the state that it holds. The bytes may spell the document in any way (YAML 1.2.2).
 ///
-/// None where the bytes are no base:
+/// It returns `None` if the bytes are no base:
 /// - they are not such a document, as for [`read_record`];
 /// - the mapping has other keys, or the same in another order, or the format is not `confstore-1`;
 /// - the count is not decimal digits without a leading zero, or is more than 18,446,744,073,709,551,615;
 /// - no state holds the configurations, as for [`State::from_parts`].
 ///
-/// Only running out of memory can fail. It is linear in the bytes, and moves the names and trees that were read.
+/// It fails only if memory runs out. It takes time linear in the bytes, and moves the names and trees that were read.
 pub fn read_base(alloc: Global, bytes: &[u8]) -> Result<Option<State>, AllocError>
     ensures some { IfOk result (λ read. IfSome read (λ state. IsBase bytes.now state)) }
     ensures none { IfOk result (λ read. IfNone read (IsNoBase bytes.now)) }
@@ -62,7 +62,7 @@ pub fn read_base(alloc: Global, bytes: &[u8]) -> Result<Option<State>, AllocErro
     }
 }
 
-/// The tree that bytes give within the limits; None where they give none.
+/// The tree that bytes give within the limits of a [`Config`](yaml_tree::Config); `None` if they give none.
 fn read_tree(alloc: Global, bytes: &[u8]) -> Result<Option<Tree>, AllocError>
     ensures some { IfOk result (λ read. IfSome read
         (λ tree. IsRead bytes.now own_limits (tree_of tree))) }
@@ -78,7 +78,7 @@ fn read_tree(alloc: Global, bytes: &[u8]) -> Result<Option<Tree>, AllocError>
     }
 }
 
-/// Any fault but out of memory says that the bytes give no tree.
+/// Fails if the fault is out of memory. Any other fault says that the bytes give no tree.
 fn unless_out_of_memory(fault: ReadFault) -> Result<(), AllocError>
     ensures { OnOk result (fault ≢ ReadFault.OutOfMemory) }
 {

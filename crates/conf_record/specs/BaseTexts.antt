@@ -10,6 +10,7 @@ abbrev pub members : List Entry → Members
 members [] = no_member
 members (e ∷ es) = member e.0 e.1 (members es)
 
+-- the mapping of a base text
 abbrev pub base_tree : Contents → Tree
 base_tree s =
     mapping (member (codes "store") (text (codes "confstore-1"))
@@ -27,6 +28,7 @@ base_text s = closed_document (base_tree s)
 unfoldable pub base_bytes : Contents → List ℕ
 base_bytes s = encode_utf8_all (base_text s)
 
+-- its bytes
 unfoldable pub base_length : Contents → ℕ
 base_length s = byte_len (base_text s)
 

@@ -7,7 +7,7 @@ use Rattle.yaml_data.specs.Seen.{tree_of}
 use Rattle.conf_record.specs.declared.command.Command as code
 use Rattle.conf_record.specs.declared.command.Command.TheVariants.{Import, Set, Delete}
 
--- a tree put under a name; a value set, or what is there taken out, at a path in the configuration under a name
+-- a tree is put under a name; a value is set, or what is there is removed, at a path in the configuration under a name
 pub data Command : Type 0 where
   import_as : (name : List ℕ) (tree : Tree) → Command
   set_at : (name path : List ℕ) (value : Tree) → Command
@@ -18,11 +18,11 @@ name_of (import_as name tree) = name
 name_of (set_at name path value) = name
 name_of (delete_at name path) = name
 
--- the characters of a text of the code
+-- the characters of a string of the code
 abbrev pub text_of : String Global → List ℕ
 text_of text = chars (string_bytes text)
 
--- what a command of the code says
+-- a command of the code
 abbrev pub command_of : code.Command → Command
 command_of (Import name tree) = import_as (text_of name) (tree_of tree)
 command_of (Set name path value) = set_at (text_of name) (text_of path) (tree_of value)

@@ -21,7 +21,7 @@ abbrev pub tree_after_edit : Edit → Tree → List (List ℕ) → Result Tree P
 tree_after_edit (Set value) t path = set t path (tree_of value)
 tree_after_edit Delete t path = delete t path
 
--- the configurations with a tree, edited at a path, under a name
+-- the configurations with an edited tree under a name, or the refusal of the edit
 abbrev pub configs_with_edit : List Entry → List ℕ → Edit → Tree → List (List ℕ) → Result (List Entry) StoreFault
 configs_with_edit configs name edit t path =
     and_then (by_path (tree_after_edit edit t path)) (with_checked_config configs name)

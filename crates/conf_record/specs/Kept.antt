@@ -12,6 +12,7 @@ use Rattle.yaml_tree.specs.Limits.{config_limits}
 use Rattle.conf_record.specs.Limits.{IsState}
 use Rattle.conf_record.specs.BaseTexts.{entry_length, entries_length}
 
+-- names, and configurations under their names, of the code
 abbrev pub names_from : List (String Global) → List (List ℕ)
 names_from [] = []
 names_from (k ∷ ks) = text_of k ∷ names_from ks
@@ -25,7 +26,7 @@ abbrev pub ArePlain : List (String Global × Tree) → Type 0
 ArePlain [] = Unit {0}
 ArePlain (e ∷ es) = IsAscii (string_bytes e.0) × ArePlain es
 
--- the configurations have so many bytes in the base text
+-- the configurations and the count are a state, and the configurations have so many bytes in the base text
 pub record IsKept (es : List (String Global × Tree)) (count bytes : ℕ) : Type 0 where
   pub plain : ArePlain es
   pub state : IsState (record { configs = entries_of es; count = count })

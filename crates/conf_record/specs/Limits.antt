@@ -6,11 +6,12 @@ use Rattle.conf_record.specs.States.{Entry, Contents, names_of, names_differ, ba
 use Rattle.yaml_tree.specs.Limits.{config_limits}
 use Rattle.conf_record.specs.BaseTexts.{base_length}
 
--- each name is good, and each tree keeps to the limits of a configuration
+-- each name is good, and each tree is within the limits of a configuration
 abbrev pub AreConfigs : List Entry → Type 0
 AreConfigs [] = Unit {0}
 AreConfigs (e ∷ es) = (good_name e.0 ≡ true) × Good e.1 config_limits × AreConfigs es
 
+-- the state keeps its limits
 pub record IsState (s : Contents) : Type 0 where
   pub configs : AreConfigs s.configs
   pub distinct : names_differ (names_of s.configs) ≡ true

@@ -4,12 +4,14 @@ use Rattle.yaml_chars.specs.Classes.{in_range, is_in}
 use Rattle.std.specs.List.{list_all}
 use Rattle.yaml_grammar.specs.Texts.{first}
 
+-- a lowercase ASCII letter
 abbrev pub small_letter : ℕ → Bool
 small_letter c = in_range 97 122 c
 
+-- a character of a name
 abbrev pub name_char : ℕ → Bool
 name_char c = small_letter c || in_range 48 57 c || is_in c (codes "_-")
 
--- 1 to 64 small letters, digits, `_` and `-`, a letter first
+-- 1 to 64 lowercase letters, digits, `_` and `-`, starting with a letter
 abbrev pub good_name : List ℕ → Bool
 good_name name = first small_letter name && list_all name_char name && nat_le (length name) 64

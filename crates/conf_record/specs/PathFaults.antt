@@ -1,4 +1,4 @@
--- Which refusal of a store the fault of a path is.
+-- The fault of a path as a fault of a store.
 use Rattle.json_pointer.specs.declared.fault.PathFault as path
 use Rattle.json_pointer.specs.declared.fault.PathFault.TheVariants as path_faults
 use Rattle.conf_record.specs.declared.fault.StoreFault.{StoreFault}

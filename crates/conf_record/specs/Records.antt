@@ -1,4 +1,4 @@
--- Records: the documents that tell commands, each with the number that it was accepted under.
+-- Records: the documents that hold commands, each with the number under which it was accepted.
 use Rattle.std.specs.Prelude.{ℕ, List, codes, decimal, encode_utf8_all}
 use Rattle.yaml_grammar.specs.Trees.{Tree, text, mapping, Members, no_member, member}
 use Rattle.conf_record.specs.Commands.{Command, import_as, set_at, delete_at}
@@ -12,9 +12,11 @@ command_members (set_at name path value) =
 command_members (delete_at name path) =
     member (codes "delete") (text name) (member (codes "path") (text path) no_member)
 
+-- the mapping of a record
 abbrev pub record_tree : Command → ℕ → Tree
 record_tree command number = mapping (member (codes "at") (text (decimal number)) (command_members command))
 
+-- the record of a command under a number
 unfoldable pub record_text : Command → ℕ → List ℕ
 record_text command number = closed_document (record_tree command number)
 

@@ -1,5 +1,5 @@
--- Which texts are records and bases, and what they say. Any spelling counts; other keys, another order, a number, a
--- name or a path that is none make it no record and no base.
+-- Which texts are records and bases, and what they hold. The document may be spelled in any way. With other keys, keys
+-- in another order, or a number, a name or a path that is not good, it is neither.
 use Rattle.std.specs.Prelude.{◌≡◌, ℕ, Bool, true, false, ◌&&◌, nat_le, if◌then◌else◌, List, [], ◌∷◌, codes, decimal, Option, Some, None, option_map, is_ok}
 use Rattle.std.specs.Str.Parse.{digits_value}
 use Rattle.yaml_grammar.specs.Texts.{IsText, same_text}
@@ -14,12 +14,13 @@ use Rattle.conf_record.specs.Limits.{IsState}
 
 -- ---- the parts of a document
 
--- the number whose decimal text this is, where it is no greater than the greatest count
+-- the number whose decimal text this is, if it is at most the greatest count
 abbrev pub number_from_digits : List ℕ → Option ℕ
 number_from_digits digits =
     let number = digits_value 10 digits in
     if nat_le number count_limit && same_text digits (decimal number) then Some number else None
 
+-- the keys of the members are these, in this order
 abbrev pub keys_are : List (List ℕ) → Members → Bool
 keys_are [] no_member = true
 keys_are [] (member key t ms) = false
@@ -46,7 +47,7 @@ has_good_path (import_as name tree) = true
 has_good_path (set_at name path value) = is_ok (path_of path)
 has_good_path (delete_at name path) = is_ok (path_of path)
 
--- the command under the number, where its name and its path are good
+-- the command with the number, if its name, its path and the digits are good
 abbrev pub command_with_number : Command → List ℕ → Option (Command × ℕ)
 command_with_number command digits =
     if good_name (name_of command) && has_good_path command

@@ -21,12 +21,12 @@ abbrev pub config_named : List Entry → List ℕ → Option Tree
 config_named [] name = None
 config_named (e ∷ es) name = if same_text name e.0 then Some e.1 else config_named es name
 
--- a name that is there keeps its place, a new one goes last
+-- with a tree under a name: a name that is there keeps its place, and a new one goes last
 abbrev pub put_config : List Entry → List ℕ → Tree → List Entry
 put_config [] name t = (name, t) ∷ []
 put_config (e ∷ es) name t = if same_text name e.0 then (e.0, t) ∷ es else e ∷ put_config es name t
 
--- without the configuration under a name, where there is one
+-- without the configuration under a name, if there is one
 abbrev pub cut_config : List Entry → List ℕ → List Entry
 cut_config [] name = []
 cut_config (e ∷ es) name = if same_text name e.0 then es else e ∷ cut_config es name
@@ -41,6 +41,7 @@ base_limit = 67108864
 abbrev pub count_limit : ℕ
 count_limit = 18446744073709551615
 
+-- one of the names is this one
 abbrev pub has_name : List ℕ → List (List ℕ) → Bool
 has_name name [] = false
 has_name name (n ∷ ns) = same_text name n || has_name name ns

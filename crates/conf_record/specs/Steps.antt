@@ -22,26 +22,28 @@ and_then (Err fault) next = Err fault
 
 -- ---- the configurations after a command whose name is good
 
+-- the configuration that a command needs
 abbrev pub found : Option Tree → Result Tree StoreFault
 found (Some t) = Ok t
 found None = Err NoConfig
 
--- what a path returns, as the store returns it
+-- the outcome of an operation at a path, as an outcome of the store
 abbrev pub by_path : {A : Type 0} → Result A PathFault → Result A StoreFault
 by_path (Ok x) = Ok x
 by_path (Err fault) = Err (Path fault)
 
--- a tree that keeps to the limits of a configuration
+-- a tree that is within the limits of a configuration, or the fault that it is not
 abbrev pub checked_tree : Tree → Result Tree StoreFault
 checked_tree t =
     if nat_lt config_limits.depth (depth t) then Err TooDeep
     else if nat_lt config_limits.style (byte_len (style_text t)) then Err ConfigLarge
     else Ok t
 
+-- the configurations with a tree under a name, if it is within the limits
 abbrev pub with_checked_config : List Entry → List ℕ → Tree → Result (List Entry) StoreFault
 with_checked_config configs name t = and_then (checked_tree t) (λ u. Ok (put_config configs name u))
 
--- the empty path takes the configuration out, any other edits it
+-- at the empty path the configuration is removed, at any other it is edited
 abbrev pub configs_after_delete : List Entry → List ℕ → Tree → List (List ℕ) → Result (List Entry) StoreFault
 configs_after_delete configs name t [] = Ok (cut_config configs name)
 configs_after_delete configs name t (token ∷ tokens) =
@@ -59,8 +61,8 @@ configs_after configs (delete_at name path) =
 
 -- ---- the state after a command
 
--- the state with these configurations, one command on; `fits` says whether the journal has room for the command's
--- record
+-- the state with these configurations after one more command; `fits` says whether the journal has room for the
+-- command's record
 abbrev pub next_state : Contents → Bool → List Entry → Result Contents StoreFault
 next_state s fits configs =
     let new : Contents = record { configs = configs; count = s.count + 1 } in

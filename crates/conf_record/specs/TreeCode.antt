@@ -1,4 +1,4 @@
--- A code for what a state holds, by which proofs tell the values of states apart. A tree is stored as instructions that
+-- A code for what a state holds: states with the same code are equal. A tree is stored as instructions that
 -- build it on a stack of trees; each is a list of numbers, of which the first says what it does.
 use Rattle.std.specs.Prelude.{◌≡◌, ℕ, zero, suc, List, [], ◌∷◌, ◌++◌, refl}
 use Rattle.std.specs.Coded.{Coded, code_by, coded_list, coded×, coded_ℕ}

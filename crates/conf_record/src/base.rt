@@ -14,20 +14,20 @@ pub(crate) const BASE_LIMIT: u64 = 67_108_864;
 /// and `...`, and a line feed after each but `configs:`.
 const FRAME: u64 = 42;
 
-/// The bytes of ` {}` and a line feed, which follow `configs:` where there are no configurations.
+/// The bytes of ` {}` and a line feed, which follow `configs:` if there are no configurations.
 const NO_CONFIGS: u64 = 4;
 
-/// The line feed that follows it otherwise, before the first configuration.
+/// The bytes of the line feed that follows `configs:` otherwise, before the first configuration.
 const LINE_FEED: u64 = 1;
 
-/// A count of bytes as a `u64`, which stays at the greatest `u64`.
+/// A count of bytes as a `u64`; at most the greatest one.
 pub(crate) fn capped(bytes: u128) -> u64
     ensures { result ≡ min bytes u64.MAX }
 {
     bytes.min(u128::from(u64::MAX)) as u64
 }
 
-/// Writes a configuration under its name as a base text has it, at the indentation 2.
+/// Writes a configuration under its name as a base text has it, at the indentation 2. It fails only if the sink does.
 pub(crate) fn write_entry<S: Sink>(
     name: &str,
     config: &Config,
@@ -53,7 +53,8 @@ pub(crate) fn entry_length(name: &str, config: &Config) -> u64
     }
 }
 
-/// How many bytes a base text has with this count and this many bytes of configurations; at most the greatest `u64`.
+/// How many bytes a base text has with this count, and with configurations of `entries` bytes in all; at most the
+/// greatest `u64`.
 pub(crate) fn base_length(count: u128, entries: u64) -> u64
     ensures { result ≡ min (framed_length count entries) u64.MAX }
 {

@@ -10,8 +10,8 @@ use yaml_tree::Sink;
 
 /// The base text of a state: an explicit document (YAML 1.2.2, 9.1.4). It is a line of `---`, a mapping in the one
 /// style and a line of `...`. The mapping holds, in this order, the format (`store`), the count of accepted commands as
-/// decimal digits (`at`), and the configurations by name, in their order (`configs`). It is linear in the text's
-/// length, and takes memory once, for the text, which has at most 67,108,864 bytes. It fails only if memory runs out.
+/// decimal digits (`at`), and the configurations by name, in their order (`configs`). It takes time linear in the
+/// text's length, and memory once, for the text, which has at most 67,108,864 bytes. It fails only if memory runs out.
 pub fn base_text(alloc: Global, state: &State) -> Result<String, AllocError>
     ensures text { IfOk result (λ text. chars (string_bytes text) ≡ base_text state.now) }
     ensures bytes { IfOk result (λ text. string_bytes text ≡ base_bytes state.now) }
@@ -21,6 +21,7 @@ pub fn base_text(alloc: Global, state: &State) -> Result<String, AllocError>
     Ok(text)
 }
 
+/// Writes the base text of a state. It fails only if the sink does.
 fn write_base<S: Sink>(state: &State, sink: &mut S) -> Result<(), S::Fault>
     ensures { OnOk result (S.Takes sink.old (base_text state.now) sink.new) }
 {

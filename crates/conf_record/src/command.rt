@@ -4,8 +4,8 @@ ghost use Rattle.std.specs.Str.{chars};
 
 use yaml_tree::Config;
 
-/// A change of one configuration. Each tree in it is a [`Config`]. A caller learns that it keeps the limits of one from
-/// the clause `kept` of [`record_text`](crate::record_text).
+/// A change of one configuration. Each tree in it is a [`Config`]; that it keeps the limits of one is said by the
+/// clause `kept` of [`record_text`](crate::record_text). Names and paths are checked when the command is performed.
 #[derive(Debug, Drop)]
 pub enum Command {
     /// Puts a tree under a name: last if the name is new; otherwise it replaces the tree that is there.
@@ -13,13 +13,15 @@ pub enum Command {
         name: String,
         tree: Config,
     },
-    /// Sets a value in the configuration under a name, at a path (RFC 6901).
+    /// Sets a value in the configuration under a name, at a path (RFC 6901). At the empty path it replaces the whole
+    /// configuration.
     Set {
         name: String,
         path: String,
         value: Config,
     },
-    /// Removes what is at a path of the configuration under a name; at the empty path, the configuration itself.
+    /// Removes what is at a path (RFC 6901) of the configuration under a name; at the empty path, the configuration
+    /// itself.
     Delete {
         name: String,
         path: String,

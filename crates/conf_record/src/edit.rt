@@ -1,4 +1,4 @@
-// Edits inside a configuration: the lengths that they leave, and the edits themselves.
+// Edits inside a configuration: the lengths after them, and the edits themselves.
 ghost use Rattle.std.specs.Prelude.{◌≡◌, ◌⊎◌, ◌<◌, ◌≤◌, true, Ok, Err, OnOk, OnErr, IfOk, IfErr, length, nat_le};
 ghost use Rattle.yaml_grammar.specs.Reads.{Good};
 ghost use Rattle.yaml_grammar.specs.Texts.{byte_len};
@@ -51,7 +51,7 @@ impl Edit {
         }
     }
 
-    /// Whether a configuration that is at most 64 deep still is after the edit.
+    /// Whether a configuration that is at most 64 deep is so after the edit too.
     pub(crate) fn keeps_depth(&self, path: &Path) -> bool
         ensures { (t new : Meant) → depth t ≤ DEPTH_LIMIT
             → tree_after_edit self.now t path.now ≡ Ok new
@@ -65,8 +65,8 @@ impl Edit {
         }
     }
 
-    /// Makes the edit, which leaves so many bytes in the one style, where the place of the path's last key is known.
-    /// Only running out of memory can fail, and changes nothing.
+    /// Makes the edit, where the place of the path's last key is known. The configuration then has `bytes` bytes in the
+    /// one style, and is within the limits. It fails only if memory runs out, and then changes nothing.
     pub(crate) fn perform(
         self,
         alloc: Global,
@@ -101,6 +101,7 @@ impl Edit {
         }
     }
 
+    /// Makes the edit in a tree, where the place of the path's last key is known. A fault changes nothing.
     fn edit_tree(
         self,
         alloc: Global,

@@ -7,8 +7,8 @@ use std::fmt;
 use tree_path::PathFault;
 use yaml_tree::ReadFault;
 
-/// Why a command is refused. `Reopen` comes before all others; of the others the first in this list is returned.
-/// `OutOfMemory` may come at any point. The message is the innermost fault's own name.
+/// Why a command is refused. `Reopen` comes before all others; of the others the first in this list that holds is
+/// returned. `OutOfMemory` may come at any point. The message is the innermost fault's own name.
 #[derive(Clone, Copy, Debug, PartialEq, Eq)]
 pub enum StoreFault {
     /// The name isn't 1 to 64 lowercase letters, digits, `_` and `-`, starting with a letter.
@@ -33,7 +33,7 @@ pub enum StoreFault {
     Reopen,
     /// The device failed.
     Device,
-    /// There was no memory. It is never inside `Path` or `Read`.
+    /// Out of memory. It is never inside `Path` or `Read`.
     OutOfMemory,
 }
 

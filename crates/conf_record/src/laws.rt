@@ -18,9 +18,9 @@ pub fn accepted_commands_are_counted()
         → after s commands ≡ Ok new → new.count ≡ s.count + length commands }
 {}
 
-/// A command is accepted only where the journal has room for its record, and the count then rises by one. Where it is
-/// refused, the fault is one of the command and the state. It is never one of a text that is read, of the disk or of
-/// memory, nor that the store has to be opened again.
+/// A command is accepted only if the journal has room for its record, and the count then rises by one. The fault of a
+/// refused one is of the command and the state. It is never a fault of a text that is read, of the disk or of memory,
+/// nor that the store has to be opened again.
 pub fn steps_are_counted_or_refused()
     ensures room { (s new : Contents) (command : Command) (fits : Bool)
         → step s command fits ≡ Ok new → fits ≡ true }
@@ -30,7 +30,7 @@ pub fn steps_are_counted_or_refused()
         → step s command fits ≡ Err fault → IsRefusal fault }
 {}
 
-/// Commands performed in one run leave what they leave in two.
+/// Commands performed in one run leave the same state as in two runs, one after the other.
 pub fn runs_are_joined()
     ensures { (s : Contents) (first second : List Command)
         → after s (first ++ second) ≡ and_then (after s first) (λ between. after between second) }

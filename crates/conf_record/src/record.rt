@@ -1,4 +1,4 @@
-// The text of a record: the document that holds a command and the number that it was accepted under.
+// The text of a record: the document that holds a command and the number under which it was accepted.
 ghost use Rattle.std.specs.Prelude.{◌≡◌, ◌++◌, min, codes, decimal, string_bytes, IfOk, OnOk};
 ghost use Rattle.std.specs.Str.{chars};
 ghost use Rattle.yaml_grammar.specs.Texts.{byte_len};
@@ -20,11 +20,11 @@ use yaml_tree::{ByteCount, Config, Sink, write_key, write_text, write_value};
 /// The text of a command's record: an explicit document (YAML 1.2.2, 9.1.4). It is a line of `---`, a mapping in the
 /// one style and a line of `...`. The mapping holds, in this order, the number as decimal digits (`at`), the name
 /// (`import`, `set` or `delete`), and the path of a set or a delete (`path`). Last is the tree of an import (`tree`) or
-/// the value of a set (`value`). It is linear in the text's length, and takes memory once, for the text. It fails only
-/// if memory runs out.
+/// the value of a set (`value`). It takes time linear in the text's length, and memory once, for the text. It fails
+/// only if memory runs out.
 ///
-/// [`records_read`](crate::records_read) says that the text reads as that command under that number, where the
-/// command is accepted.
+/// [`records_read`](crate::records_read) says that the text reads as that command under that number, if some state
+/// accepts the command.
 pub fn record_text(alloc: Global, command: &Command, number: u64) -> Result<String, AllocError>
     ensures text { IfOk result (λ text.
         chars (string_bytes text) ≡ record_text (command_of command.now) number) }
@@ -48,6 +48,7 @@ fn record_length(command: &Command, number: u64) -> u64
     }
 }
 
+/// Writes a record. It fails only if the sink does.
 fn write_record<S: Sink>(command: &Command, number: u64, sink: &mut S) -> Result<(), S::Fault>
     ensures takes { OnOk result (S.Takes sink.old (record_text
         (command_of command.now) number) sink.new) }
@@ -59,7 +60,7 @@ fn write_record<S: Sink>(command: &Command, number: u64, sink: &mut S) -> Result
     sink.put_text("...\n")
 }
 
-/// Writes the first lines of a record, with its number.
+/// Writes the line of a number (`at`), as decimal digits in double quotes.
 pub(crate) fn write_number<S: Sink>(number: u64, sink: &mut S) -> Result<(), S::Fault>
     ensures { OnOk result (S.Takes sink.old
         (key_lines 0 (codes "at") ++ value_at (text (decimal number)) 0) sink.new) }
@@ -93,6 +94,7 @@ fn write_command<S: Sink>(command: &Command, sink: &mut S) -> Result<(), S::Faul
     }
 }
 
+/// Writes a key and a text as its value.
 fn write_text_member<S: Sink>(key: &str, text: &str, sink: &mut S) -> Result<(), S::Fault>
     ensures { OnOk result (S.Takes sink.old
         (key_lines 0 (chars key.now) ++ value_at (grammar.text (chars text.now)) 0) sink.new) }
@@ -101,6 +103,7 @@ fn write_text_member<S: Sink>(key: &str, text: &str, sink: &mut S) -> Result<(),
     write_text(text, 0, sink)
 }
 
+/// Writes a key and a configuration as its value.
 fn write_member<S: Sink>(key: &str, value: &Config, sink: &mut S) -> Result<(), S::Fault>
     ensures takes { OnOk result (S.Takes sink.old (key_lines 0 (chars key.now)
         ++ value_at (tree_of value.now) 0) sink.new) }

@@ -31,8 +31,8 @@ use yaml_tree::{Config, Sink};
 /// The indentation of a configuration in a base text: two more than that of its name.
 const ENTRY_INDENT: u64 = 4;
 
-/// How many bytes there are after an edit, of the configuration in the one style and of all configurations in the base
-/// text, and the place of the last key of the edit's path.
+/// How many bytes there are after an edit: of the configuration in the one style, and of all configurations in the base
+/// text. And the place of the last key of the edit's path.
 #[derive(Clone, Copy)]
 struct EditPlan {
     config: u64,
@@ -40,9 +40,9 @@ struct EditPlan {
     place: Option<usize>,
 }
 
-/// The configurations of a store by name, in order, and how many commands were accepted. It keeps how many bytes the
-/// configurations have in the base text. Contracts see the list of configurations, with each name as its characters,
-/// and the count. A caller learns that a state keeps its limits from the clause `limits` of [`State::count`].
+/// The configurations of a store by name, in order, and how many commands were accepted. The number of bytes that the
+/// configurations have in the base text is kept with them. Contracts see the list of configurations, with each name as
+/// its characters, and the count. That a state keeps its limits is said by the clause `limits` of [`State::count`].
 #[derive(Drop)]
 pub struct State {
     configs: IndexMap<String, Config>,
@@ -77,10 +77,10 @@ impl State {
         }
     }
 
-    /// The state that holds these configurations, in this order, after this many accepted commands. Returns `None`
-    /// if no state does: a name is not good or comes twice, a configuration is over its limits, or the base text
-    /// would have more than 67,108,864 bytes. It is linear in the configurations, and moves them; only running out
-    /// of memory can fail.
+    /// The state that holds these configurations, in this order, after this many accepted commands. Returns `None` if
+    /// no state does: a name is not good or comes twice, a configuration is over its limits, or the base text would
+    /// have more than 67,108,864 bytes. It takes time linear in the configurations, and moves them. It fails only if
+    /// memory runs out.
     pub fn from_parts(
         alloc: Global,
         parts: Vec<(String, Config)>,
@@ -117,7 +117,7 @@ impl State {
         self.count
     }
 
-    /// The configuration under a name.
+    /// The configuration under a name; `None` if no configuration has the name.
     pub fn get(&self, name: &str) -> Option<&Config>
         ensures { option_map (λ config. tree_of config.now) result
             ≡ config_named self.now.configs (chars name.now) }
@@ -134,7 +134,7 @@ impl State {
         }
     }
 
-    /// Puts a configuration under a name, where the store has room for it.
+    /// Puts a configuration under a name, if the store has room for it. A refusal changes nothing.
     pub(crate) fn put(&mut self, name: String, config: Config, fits: bool) -> Result<(), StoreFault>
         requires named { good_name (text_of name) ≡ true }
         requires within { Good (tree_of config) config_limits }
@@ -190,7 +190,7 @@ impl State {
         Ok(())
     }
 
-    /// What an edit of one of the configurations would leave, where it then keeps to its limits.
+    /// The lengths after an edit of one of the configurations, if that then keeps its limits.
     fn plan_edit(&self, config: &Config, path: &Path, edit: &Edit) -> Result<EditPlan, StoreFault>
         requires steps { 0 < length path.now }
         requires there { (name : List ℕ)
@@ -219,7 +219,7 @@ impl State {
         })
     }
 
-    /// Removes the configuration under a name.
+    /// Removes the configuration under a name, if there is one. A refusal changes nothing.
     pub(crate) fn take_out(&mut self, name: &str, fits: bool) -> Result<(), StoreFault>
         ensures ok { OnOk result (next_state self.old fits
             (cut_config self.old.configs (chars name.now)) ≡ Ok self.new) }
@@ -270,7 +270,7 @@ impl State {
         self.entries
     }
 
-    /// How many bytes the base text has, at most 67,108,864. It is kept, and not counted anew.
+    /// How many bytes the base text has, at most 67,108,864. The configurations are not counted again.
     pub fn base_length(&self) -> u64
         ensures { result ≡ base_length self.now }
     {
@@ -292,7 +292,7 @@ impl State {
         Ok(())
     }
 
-    /// How many bytes the configuration under a name has in the base text; 0 where there is none.
+    /// How many bytes the configuration under a name has in the base text; 0 if there is none.
     fn length_of(&self, name: &str) -> u64
         ensures { result + entries_length (cut_config self.now.configs (chars name.now))
             ≡ entries_length self.now.configs }
@@ -322,7 +322,7 @@ impl State {
 }
 
 /// Puts a configuration after the others, and returns how many bytes it has in the base text, at most the greatest
-/// `u64`. Returns `None` if its name is not good or is taken, or the configuration is over its limits.
+/// `u64`. Returns `None` if its name is not good or is there, or the configuration is over its limits.
 fn append(
     configs: &mut IndexMap<String, Config>,
     name: String,
@@ -341,7 +341,7 @@ fn append(
     Ok(Some(length))
 }
 
-/// Whether a configuration may be put after the others: its name is good and new, and it keeps to its limits.
+/// Whether a configuration may be put after the others: its name is good and new, and it keeps its limits.
 fn is_fit(configs: &IndexMap<String, Config>, name: &str, config: &Config) -> bool
     requires { ArePlain configs.now.entries }
     ensures fit { result ≡ true

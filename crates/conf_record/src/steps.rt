@@ -14,11 +14,11 @@ use std::alloc::Global;
 use yaml_tree::Config;
 
 /// Performs a command. A refused command leaves the state unchanged, and is dropped. `fits` says whether the journal
-/// has room for the command's record. If it hasn't, the command is refused with [`StoreFault::JournalLong`], unless one
-/// of the refusals before that in the list holds.
+/// has room for the command's record. If it hasn't, the command is refused with [`StoreFault::JournalLong`], unless a
+/// fault that is before it in [`StoreFault`] holds.
 ///
 /// An import under a new name goes last; under an existing name it replaces the tree. A set or a delete edits the tree
-/// under the name, and a delete at the empty path removes the configuration.
+/// under the name. At the empty path a set replaces the configuration, and a delete removes it.
 pub fn step(
     alloc: Global,
     state: &mut State,
@@ -103,7 +103,8 @@ fn delete(
     state.take_out(name, fits)
 }
 
-/// Whether a configuration keeps to the limits of a store's configurations.
+/// Checks that a configuration is within the limits of a store's configurations. Returns `TooDeep` or `ConfigLarge` if
+/// it isn't.
 pub(crate) fn check_limits(config: &Config) -> Result<(), StoreFault>
     ensures ok { OnOk result (checked_tree (tree_of config.now) ≡ Ok (tree_of config.now)) }
     ensures within { OnOk result (Good (tree_of config.now) config_limits) }

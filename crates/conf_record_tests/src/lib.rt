@@ -1,4 +1,4 @@
-//! Tests of states: a command that is refused memory changes nothing. What each command leaves and refuses, the names
+//! Tests of states: a command that runs out of memory changes nothing. What each command changes and refuses, the names
 //! of faults, and the records and bases that are written and read, are tested by the run of `state_probe`.
 #![tactic(auto)]
 

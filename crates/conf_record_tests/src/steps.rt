@@ -1,4 +1,4 @@
-// A run of commands of which each allocation may be refused.
+// A run of commands in which any allocation may be refused.
 ghost use Rattle.std.specs.Prelude.{⊤};
 
 use conf_pieces::read_record;
@@ -9,7 +9,7 @@ use std::process::Abort;
 use tree_path::PathFault;
 use yaml_tree::{Config, Sink, write_style};
 
-/// Compares what is written with a text, and takes no memory for it.
+/// A sink that compares what is written with a text, and takes no memory.
 #[derive(Drop)]
 struct Comparison<'a> {
     rest: &'a str,
@@ -77,7 +77,7 @@ struct Held {
     d: Option<&'static str>,
 }
 
-/// Whether the configuration under a name has this text; `None` if no configuration has the name.
+/// Whether the configuration under a name has this text, or, for `None`, whether no configuration has the name.
 fn has(state: &State, name: &str, expected: Option<&str>) -> bool {
     match (state.get(name), expected) {
         (Some(config), Some(text)) => is_written_as(config, text),
@@ -104,7 +104,7 @@ fn holds(state: &State, held: Held) -> bool {
         && state.count() == held.count
 }
 
-/// A command of the run as its record, and what is held after it. It is refused where the count stays.
+/// A command of the run as its record, and what is held after it. The command is refused if the count stays the same.
 type Row = (&'static str, Held);
 
 impl Held {
@@ -154,7 +154,7 @@ fn run() -> [Row; 8] {
     ]
 }
 
-/// What the command between two states is answered. A refused one leads to no place at its second step.
+/// The expected result of the command between two states. A refused one leads to no place at its second step.
 fn answer_between(before: Held, after: Held) -> Result<(), StoreFault> {
     if before.count == after.count {
         return Err(StoreFault::Path(PathFault::NoSuchPlace { step: 2 }));
@@ -162,7 +162,7 @@ fn answer_between(before: Held, after: Held) -> Result<(), StoreFault> {
     Ok(())
 }
 
-/// Reads a record and performs its command. Reading may be refused memory too.
+/// Reads a record and performs its command. Reading may run out of memory too.
 fn perform(alloc: Global, state: &mut State, record: &str) -> Result<(), StoreFault> {
     match read_record(alloc, record.as_bytes())? {
         Some((command, _)) => step(alloc, state, command, true),
@@ -170,8 +170,8 @@ fn perform(alloc: Global, state: &mut State, record: &str) -> Result<(), StoreFa
     }
 }
 
-/// Performs the run, and answers how many commands were refused memory. Such a command has to leave the state as it
-/// was, and to be answered as ever when it is asked again.
+/// Performs the run, and returns how many commands ran out of memory. Such a command has to leave the state as it was,
+/// and to have its expected result when it is performed again.
 fn refusals(rt: &impl Abort, alloc: Global) -> u32 {
     let mut state = State::new(alloc);
     let mut before = Held::new(0, None, None);
@@ -190,8 +190,8 @@ fn refusals(rt: &impl Abort, alloc: Global) -> u32 {
     refusals
 }
 
-// A script runs these two with each allocation refused in turn. The first has to hold all the same, and the second
-// exactly where none of the run's allocations was refused.
+// A script runs these two tests with each allocation refused in turn. The first has to pass each time, and the second
+// exactly if none of the run's allocations was refused.
 #[test]
 fn a_step_without_memory_changes_nothing(rt: HostRuntime) {
     let refused = refusals(&rt, rt.alloc());

@@ -33,7 +33,7 @@ node_at (text value) n = scalar_lines n value
 node_at (sequence ts) n = elements_at ts n
 node_at (mapping ms) n = members_at ms n
 
--- 1 for a collection that holds something, which begins a line of its own after the `:` of a key
+-- 1 for a collection that is not empty, which begins a line of its own after the `:` of a key
 abbrev pub own_line : Tree → ℕ
 own_line (text value) = 0
 own_line (sequence no_element) = 0
@@ -93,7 +93,7 @@ abbrev pub first_row : Slot → Size → Size
 first_row Value row = row
 first_row Element row = record { bytes = row.bytes; lines = row.lines - 1 }
 
--- a row more in a collection of that many, of which an empty one is `[]` or `{}` with a line feed
+-- one more row in a collection of that many values; an empty one is `[]` or `{}` with a line feed
 abbrev pub growth : ℕ → Size → Slot → Change
 growth count row slot =
     if count == 0 then record { removed = record { bytes = 3; lines = 0 }; added = first_row slot row }
@@ -103,10 +103,10 @@ growth count row slot =
 abbrev pub reversed_change : Change → Change
 reversed_change change = record { removed = change.added; added = change.removed }
 
--- a part, and a change, that is made n spaces further in
+-- a part at an indentation that is n spaces more
 abbrev pub shifted_size : ℕ → Size → Size
 shifted_size n size = record { bytes = size.bytes + n * size.lines; lines = size.lines }
 
--- the change n columns further to the right
+-- the change at an indentation that is n spaces more
 abbrev pub shifted_change : ℕ → Change → Change
 shifted_change n change = record { removed = shifted_size n change.removed; added = shifted_size n change.added }

@@ -14,10 +14,11 @@ use yaml_tree::{Size, Tree};
 /// The bytes of `[]` or `{}` with a line feed.
 const EMPTY: Size = Size { bytes: 3, lines: 0 };
 
+/// No bytes, and no lines.
 const NOTHING: Size = Size { bytes: 0, lines: 0 };
 
-/// What an edit takes out of a tree's text in the one style, and what it puts in. Both are at the indentation of the
-/// whole tree. It is 0 for a tree by itself, and two more than its key's for the value of a key.
+/// What an edit takes out of a tree's text in the one style, and what it puts in. Both grow with the indentation of the
+/// whole tree, which is 0 for a tree by itself, and two more than its key's for the value of a key.
 #[derive(Clone, Copy, Debug, PartialEq, Eq)]
 pub struct Change {
     /// What is taken out.
@@ -27,7 +28,8 @@ pub struct Change {
 }
 
 impl Change {
-    /// The length after the change of a text that has `before` bytes, where the tree is at `indent`.
+    /// The length in bytes, after the change, of a text that had `before` bytes, where the tree's indentation is
+    /// `indent` spaces, at most 4. The change takes out no more than there is then.
     pub fn length_after(self, before: u64, indent: u64) -> u128
         requires bytes { self.added.bytes < 2 ^ 100 }
         requires lines { self.added.lines < 2 ^ 100 }
@@ -40,6 +42,7 @@ impl Change {
         u128::from(before) + added - (self.removed.bytes + indent * self.removed.lines)
     }
 
+    /// The change back: what was put in is taken out.
     pub(crate) fn reversed(self) -> Change
         ensures { result ≡ reversed_change self }
     {
@@ -49,7 +52,7 @@ impl Change {
         }
     }
 
-    /// The same change, made `by` spaces further in.
+    /// The same change at an indentation that is `by` spaces more.
     pub(crate) fn shifted(self, by: u128) -> Change
         requires removed { self.removed.bytes + by * self.removed.lines < 2 ^ 128 }
         requires added { self.added.bytes + by * self.added.lines < 2 ^ 128 }
@@ -62,6 +65,7 @@ impl Change {
     }
 }
 
+/// The same size at an indentation that is `by` spaces more.
 fn shifted_size(size: Size, by: u128) -> Size
     requires { size.bytes + by * size.lines < 2 ^ 128 }
     ensures { result ≡ shifted_size by size }
@@ -92,7 +96,7 @@ impl Slot {
         }
     }
 
-    /// The size of a value that is there.
+    /// The size of a value in this context.
     pub(crate) fn size_of(self, tree: &Tree) -> Size
         requires deep { depth (tree_of tree.now) ≤ own_limits.depth }
         requires long { byte_len (style_text (tree_of tree.now)) ≤ own_limits.style }
@@ -135,7 +139,8 @@ pub(crate) fn member_row(key: &str, tree: &Tree) -> Size
     }
 }
 
-/// The change of a collection of that many values in this slot that gets one more, with this row.
+/// What one more row changes in a collection of `count` values in this slot. The row is the new value's, as one that
+/// isn't the first; an empty collection is `[]` or `{}` before.
 pub(crate) fn growth(count: usize, row: Size, slot: Slot) -> Change
     requires { 0 < row.lines }
     ensures { result ≡ growth count row slot }
@@ -152,7 +157,7 @@ pub(crate) fn growth(count: usize, row: Size, slot: Slot) -> Change
     }
 }
 
-/// A row where it is the first: in a collection after a `- ` no spaces are before it.
+/// The size of a row that is the first: in a collection after a `- ` it has no spaces before it.
 fn first_row(slot: Slot, row: Size) -> Size
     requires { 0 < row.lines }
     ensures { result ≡ first_row slot row }

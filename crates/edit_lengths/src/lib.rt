@@ -1,5 +1,5 @@
-//! How many bytes a configuration has in the one style after an edit, found without making the edit. An edit can be
-//! planned so, and then be made without a second search for its key.
+//! How many bytes a configuration has in the one style after an edit, found without making the edit. The plan of an
+//! edit also has the place of its key, so that the edit can be made without a second search.
 #![tactic(auto)]
 
 mod change;

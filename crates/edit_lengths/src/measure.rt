@@ -28,14 +28,16 @@ struct Parent<'t> {
 pub struct Plan {
     /// What the edit changes.
     pub change: Change,
-    /// Where the key is; none where it is missing, or where the last step leads into a sequence.
+    /// Where the key is, from 0; `None` if it is missing, or the last step leads into a sequence.
     pub place: Option<usize>,
 }
 
 /// What [`set`](tree_path::set) changes in the length of a configuration, without setting anything, and where the
 /// path's last key is, for [`set_planned`](tree_path::set_planned). The path is not empty, and the value is the tree of
-/// a configuration. It takes no memory, and costs what the path, the value and what it replaces cost, not what the
-/// configuration does. To find a key among many it compares them one by one.
+/// a configuration. The faults are those of `set`, but for running out of memory.
+///
+/// It takes no memory. Its time grows with the path, the value and what the value replaces, and not with the
+/// configuration, except that a key is compared with the keys of its mapping one by one.
 pub fn plan_set(config: &Config, path: &Path, value: &Tree) -> Result<Plan, PathFault>
     requires steps { 0 < length path.now }
     requires kept { IsKept (tree_of value.now) }
@@ -52,9 +54,11 @@ pub fn plan_set(config: &Config, path: &Path, value: &Tree) -> Result<Plan, Path
 }
 
 /// What [`delete`](tree_path::delete) changes in the length of a configuration, without deleting anything, and where
-/// the path's last key is, for [`delete_planned`](tree_path::delete_planned). The path is not empty. It takes no
-/// memory, and costs what the path and what is deleted cost, not what the configuration does. To find a key among many
-/// it compares them one by one.
+/// the path's last key is, for [`delete_planned`](tree_path::delete_planned). The path is not empty. The faults are
+/// those of `delete`.
+///
+/// It takes no memory. Its time grows with the path and with what is deleted, and not with the configuration, except
+/// that a key is compared with the keys of its mapping one by one.
 pub fn plan_delete(config: &Config, path: &Path) -> Result<Plan, PathFault>
     requires { 0 < length path.now }
     ensures ok { IfOk result (λ plan. (new : Meant)
@@ -69,8 +73,8 @@ pub fn plan_delete(config: &Config, path: &Path) -> Result<Plan, PathFault>
 }
 
 /// How many bytes a configuration has in the one style after [`set`](tree_path::set), without setting anything. The
-/// value is the tree of a configuration. It takes no memory; what it costs is said at [`plan_set`]. The faults are
-/// those of `set`.
+/// value is the tree of a configuration, and the path may be empty. It takes no memory, and the time of [`plan_set`].
+/// The faults are those of `set`, but for running out of memory.
 pub fn set_len(config: &Config, path: &Path, value: &Tree) -> Result<u128, PathFault>
     requires { IsKept (tree_of value.now) }
     ensures ok { IfOk result (λ bytes. (new : Meant)
@@ -87,8 +91,7 @@ pub fn set_len(config: &Config, path: &Path, value: &Tree) -> Result<u128, PathF
 }
 
 /// How many bytes a configuration has in the one style after [`delete`](tree_path::delete), without deleting anything.
-/// The path is not empty. It takes no memory; what it costs is said at [`plan_delete`]. The faults are those of
-/// `delete`.
+/// The path is not empty. It takes no memory, and the time of [`plan_delete`]. The faults are those of `delete`.
 pub fn delete_len(config: &Config, path: &Path) -> Result<u128, PathFault>
     requires { 0 < length path.now }
     ensures ok { IfOk result (λ bytes. (new : Meant)
@@ -168,7 +171,7 @@ fn parent_at<'t>(tree: &'t Tree, tokens: &[CowStr<'_>]) -> Result<Parent<'t>, Pa
     Ok(Parent { node, slot })
 }
 
-/// What a value put into a node changes in its length, where the place of its key is known.
+/// What putting a value into a node changes in its length, where the place of its key is known.
 fn put_change(
     parent: &Parent<'_>,
     token: &str,
@@ -209,7 +212,7 @@ fn put_change(
     }
 }
 
-/// What a value taken out of a node changes in its length, where the place of its key is known.
+/// What taking a value out of a node changes in its length, where the place of its key is known.
 fn cut_change(parent: &Parent<'_>, token: &str, place: Option<usize>) -> Result<Change, Miss>
     requires place { place ≡ key_in (tree_of parent.now.node.now) (chars token.now) }
     requires deep { depth (tree_of parent.now.node.now) ≤ own_limits.depth }

@@ -21,12 +21,13 @@ pub enum EditFault {
     /// The edited tree is over the limits of a configuration.
     #[error("the result is refused: {0}")]
     Result(ReadFault),
-    /// An allocation was refused.
+    /// Out of memory.
     #[error("out of memory")]
     OutOfMemory(#[from] AllocError),
 }
 
-/// Sets the value at a pointer (RFC 6901) of a YAML text to a text, and returns the whole in the one style.
+/// Reads a YAML text within the limits of a configuration, puts a text at a pointer (RFC 6901) of its tree, and returns
+/// the whole in the one style.
 pub fn edited(alloc: Global, bytes: &[u8], pointer: &str, value: &str) -> Result<String, EditFault>
     ensures { IfOk result (λ text.
         IsEdited bytes.now (chars pointer.now) (chars value.now) (chars (string_bytes text))) }

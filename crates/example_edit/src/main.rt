@@ -1,8 +1,8 @@
 //! Shows how a program uses the libraries. It reads a YAML text, sets one value by a JSON pointer (RFC 6901), and
 //! prints the result in the one style.
 //!
-//! Its words are the pointer and the new value; the text comes on standard input. It ends with 0, with 1 where
-//! something was refused, and with 2 for wrong words.
+//! Its arguments are the pointer and the new value; the text comes on standard input. The exit status is 0, or 1 if
+//! something was refused or failed, or 2 for wrong arguments.
 #![tactic(auto)]
 
 mod edit;

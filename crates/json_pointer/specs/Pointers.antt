@@ -30,14 +30,14 @@ abbrev pub pointer_text : List (List ℕ) → List ℕ
 pointer_text [] = []
 pointer_text (token ∷ tokens) = slash ∷ (token_text token ++ pointer_text tokens)
 
--- ---- texts that are no path's
+-- ---- texts that are no pointers
 
 -- the text begins with a `~` that isn't before `0` or `1`
 abbrev pub stray : List ℕ → Bool
 stray [] = false
 stray (c ∷ cs) = (c == tilde) && not (first (λ d. (d == digit_zero) || (d == digit_one)) cs)
 
--- where the first such `~` is, in bytes
+-- the place of the first such `~`, in bytes
 abbrev pub first_stray : List ℕ → Option ℕ
 first_stray [] = None
 first_stray (c ∷ cs) = if stray (c ∷ cs) then Some 0 else option_map (λ n. len_utf8 c + n) (first_stray cs)

@@ -1,4 +1,4 @@
--- Tokens as the code has them.
+-- The tokens of the code, as texts.
 use Rattle.std.specs.Prelude.{◌==◌, ℕ, List, Option, Some, None, if◌then◌else◌, map}
 use Rattle.std.specs.Cow.{cow_str_bytes}
 use Rattle.std.specs.declared.borrow.CowStr.{CowStr}
@@ -7,7 +7,7 @@ use Rattle.std.specs.Str.{chars}
 use Rattle.yaml_chars.specs.Signs.{digit_zero, digit_one, tilde}
 use Rattle.json_pointer.specs.Pointers.{slash}
 
--- tokens of the code as texts
+-- each token as its characters
 abbrev pub texts : List (CowStr Global) → List (List ℕ)
 texts tokens = map (λ token. chars (cow_str_bytes token)) tokens
 

@@ -5,17 +5,18 @@ use thiserror::Error;
 /// Why a text is no path, or a path leads to no place in a tree. Steps count from 1.
 #[derive(Clone, Copy, Debug, PartialEq, Eq, Error)]
 pub enum PathFault {
-    /// The text is no pointer (RFC 6901, 3). `at` counts bytes: 0 where the text begins with something else than
-    /// `/`, else the place of the first `~` that isn't before `0` or `1`.
+    /// The text is no pointer (RFC 6901, 3). `at` counts bytes from 0: it is 0 if the text begins with something else
+    /// than `/`, and otherwise the place of the first `~` that isn't before `0` or `1`.
     #[error("BadPath")]
     BadPath { at: usize },
-    /// The step leads to nothing: into a text, to a key that isn't there, or to an index that has no element.
+    /// The step leads to nothing: into a text, to a key that isn't there, to an index that has no element, or to the
+    /// place after the last element (`-`) where a value has to be there.
     #[error("NoSuchPlace")]
     NoSuchPlace { step: usize },
     /// The step leads into a sequence and is neither an index nor `-` (RFC 6901, 4).
     #[error("NotIndex")]
     NotIndex { step: usize },
-    /// There was no memory.
+    /// Out of memory.
     #[error("OutOfMemory")]
     OutOfMemory,
 }

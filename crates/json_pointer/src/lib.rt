@@ -1,5 +1,5 @@
 //! Pointers into a tree, as JSON Pointer (RFC 6901) writes them: a [`Path`] is a list of tokens, and [`Path::parse`]
-//! reads one. [`PathFault`] says why a text is no pointer, or at which step it leads to nothing.
+//! reads one. [`PathFault`] says why a text is no pointer, or which step of a path leads to nothing.
 #![tactic(auto)]
 
 mod fault;

@@ -27,8 +27,13 @@ impl<'t> Model for Path<'t> {
 }
 
 impl<'t> Path<'t> {
-    /// Reads a pointer (RFC 6901, 3 and 4): empty, or tokens each led by `/`, in which `~1` means `/` and `~0` means
-    /// `~`. Any other text is refused by `BadPath`, which says where it is wrong.
+    /// Reads a pointer (RFC 6901, 3 and 4): empty, or tokens with a `/` before each, in which `~1` means `/` and `~0`
+    /// means `~`.
+    ///
+    /// # Errors
+    ///
+    /// - [`PathFault::BadPath`] if the text is no pointer. It says where the text is wrong.
+    /// - [`PathFault::OutOfMemory`] may come at any point.
     pub fn parse(alloc: Global, text: &'t str) -> Result<Path<'t>, PathFault>
         ensures met { (result ≡ Err PathFault.OutOfMemory) ⊎ (result ≡ path_of (chars text.now)) }
         ensures ok { IfOk result (λ path. chars text.now ≡ pointer_text path) }
@@ -63,14 +68,14 @@ impl<'t> Path<'t> {
         Ok(Path { tokens })
     }
 
-    /// How many tokens the path has.
+    /// The number of tokens of the path. The empty pointer has none.
     pub fn steps(&self) -> usize
         ensures { result ≡ length self.now }
     {
         self.tokens.len()
     }
 
-    /// The tokens, in order, without the escapes of the pointer.
+    /// The tokens, in order, with the escapes of the pointer replaced by what they mean.
     pub fn tokens(&self) -> &[CowStr<'t>]
         ensures { texts result.now ≡ self.now }
     {
@@ -83,7 +88,7 @@ impl<'t> Path<'t> {
     }
 }
 
-/// Returns where the characters that a pointer writes as themselves end, from the start of the text.
+/// Returns the length in bytes of the characters at the start of a text that a pointer writes as themselves.
 fn unescaped_end(text: &str) -> usize
     ensures { IsRun unescaped text.now 0 result }
 {
@@ -102,7 +107,7 @@ fn is_unescaped(byte: u8) -> bool
     !matches!(byte, b'/' | b'~')
 }
 
-/// The character that a `~` before this one means.
+/// The character that a `~` before this one means; `None` if it is neither `0` nor `1`, or not there.
 fn escaped(digit: Option<char>) -> Option<char>
     ensures { result ≡ escaped_by digit }
 {
@@ -113,7 +118,7 @@ fn escaped(digit: Option<char>) -> Option<char>
     }
 }
 
-/// Appends a character to the last token.
+/// Appends a character to the last token. It fails only if memory runs out; that token may then be gone.
 fn lengthen(alloc: Global, tokens: &mut Vec<CowStr<'_>>, c: char) -> Result<(), AllocError>
     requires { 0 < length tokens.old.items }
     ensures ok { OnOk result

@@ -4,7 +4,7 @@ use std::borrow::CowStr;
 use yaml_events::{Event, Events, Span, Style};
 use yaml_flow::omitted;
 
-/// The number of events after some steps, the list, and the events that are handed over.
+/// The number of events after some steps, the list, and its events one by one.
 pub(crate) fn list_of(alloc: Global, steps: &str) -> Result<String, AllocError> {
     let events = after(alloc, steps)?;
     let told = format!(in alloc; "{} [{events}]", events.len())?;
@@ -28,7 +28,7 @@ fn take_step<'a>(alloc: Global, events: &mut Events<'a>, step: &'a str) -> Resul
     }
 }
 
-/// What is told, and after it the events one by one.
+/// The answer so far, and after it the events one by one.
 fn handed_over(alloc: Global, told: String, events: Events<'_>) -> Result<String, AllocError> {
     let mut told = told;
     for event in events {

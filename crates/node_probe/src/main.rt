@@ -3,9 +3,9 @@
 //!
 //! - `show;TEXT`: the events of a text. `checks/cases.py` asks for it too. The text has escapes and no runs.
 //! - `plain;AT;N;CONTEXT;TEXT`: the plain scalar at a place: whether its value is borrowed or owned, the value, and
-//!   its end. So do `single` and `double`. `scalar` takes any of them, and says its style and whether it is over
+//!   its end. `single` and `double` do the same. `scalar` takes any of them, and adds its style and whether it is over
 //!   lines.
-//! - `gap_end` and `safe_at`, with the same words: what the call returns. A gap's fault is told in a sentence.
+//! - `gap_end` and `safe_at`, with the same words: what the call returns. A gap's fault is given in a sentence.
 //! - `is_safe;CONTEXT;TEXT`: the characters of a text that are safe in a context.
 //! - `flow;AT;N;CONTEXT;TEXT` and `block;AT;N;CONTEXT;TEXT`: the end of the node at a place, how many events the list
 //!   then has, and the list, which holds `+D` before. `flow_end` and `block_end` leave the list out.
@@ -14,7 +14,7 @@
 //! - `events;LIMIT;BYTES`: the events of a stream. `closings;BYTES`: the places after its closing lines.
 //!   `cut;MOST;BYTES;BYTES`: what a cutter for at most so many bytes takes of the first and of the second part, what
 //!   it holds then, and what after it was cleared. It is also cleared after a first part that closes a piece.
-//! - `list;STEP;..`: a list of events after some steps, and the events that are then handed over. A step is an event
+//! - `list;STEP;..`: a list of events after some steps, and then its events one by one. A step is an event
 //!   without a value, `=VALUE` for a plain scalar with a borrowed value, `"VALUE` for one in double quotes with an
 //!   owned value, `omitted AT`, `insert AT` for the start of a mapping, or `keep COUNT`.
 //!

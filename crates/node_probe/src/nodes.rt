@@ -9,7 +9,7 @@ use yaml_block::block_node;
 use yaml_events::{Event, Events, ScanFault};
 use yaml_flow::flow_node;
 
-/// What is told of a node that is read.
+/// What is answered for a node that is read.
 #[derive(Clone, Copy)]
 pub(crate) enum Told {
     /// Its end, the number of events, and the events.
@@ -72,7 +72,7 @@ fn started<'a>(alloc: Global) -> Result<Events<'a>, AllocError> {
     Ok(events)
 }
 
-/// Tells where a node ends or why there is none, and what the list of events is then.
+/// The answer for a node: where it ends or why there is none, and what the list of events is then.
 fn tell(
     alloc: Global,
     end: Result<usize, ScanFault>,

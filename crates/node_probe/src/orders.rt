@@ -9,7 +9,7 @@ use probe_words::{Answers, bytes_of, no_place};
 use std::alloc::{AllocError, Global};
 use std::io;
 
-/// What answers the orders. No order leaves anything to the next.
+/// Answers the orders. Nothing is kept from one order to the next.
 #[derive(Drop)]
 pub(crate) struct Reader;
 

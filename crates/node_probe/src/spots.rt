@@ -15,7 +15,7 @@ pub(crate) struct FlowSpot {
 }
 
 impl FlowSpot {
-    /// What three words say.
+    /// The spot that three words give.
     pub(crate) fn of(words: &str) -> Option<FlowSpot> {
         let (at, words) = words.split_once(';')?;
         let (n, context) = words.split_once(';')?;
@@ -47,13 +47,13 @@ pub(crate) struct BlockSpot {
 }
 
 impl BlockSpot {
-    /// What three words say.
+    /// The spot that three words give.
     pub(crate) fn of(words: &str) -> Option<BlockSpot> {
         let (words, context) = words.rsplit_once(';')?;
         BlockSpot::with(words, block_context(context)?)
     }
 
-    /// What two words say, in a context.
+    /// The spot that two words give, in a context.
     pub(crate) fn with(words: &str, context: BlockContext) -> Option<BlockSpot> {
         let (at, n) = words.split_once(';')?;
         Some(BlockSpot {

@@ -1,4 +1,4 @@
-// What several orders answer with.
+// Answers that several probes give.
 use std::alloc::{AllocError, Global};
 use std::fmt::Debug;
 
@@ -12,7 +12,7 @@ pub fn no_order(alloc: Global) -> Result<String, AllocError> {
     String::from_str(alloc, "no order")
 }
 
-/// The answer where a text is written wrongly, or has no such place.
+/// The answer if a text is written wrongly, or has no such place.
 pub fn no_place(alloc: Global) -> Result<String, AllocError> {
     String::from_str(alloc, "no place")
 }

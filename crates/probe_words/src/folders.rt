@@ -4,7 +4,7 @@ use std::fs::File;
 use std::rt::Files;
 use std::{fs, io};
 
-/// Makes a folder.
+/// Makes a folder, and those around it.
 pub fn make_folder<R: Files<File = File> + Alloc>(
     rt: &R,
     alloc: Global,
@@ -22,7 +22,7 @@ pub fn remove_folder<R: Files<File = File> + Alloc>(
     ended(alloc, fs::remove_dir_all(rt, name))
 }
 
-/// How a call of the system ended.
+/// The answer for how a call of the system ended.
 pub fn ended(alloc: Global, outcome: io::Result<()>) -> Result<String, AllocError> {
     match outcome {
         Ok(()) => String::from_str(alloc, "ok"),

@@ -1,12 +1,12 @@
 //! What the probes share: programs that answer orders, so that the gate can compare the answers with expected ones.
 //!
-//! [`answer_lines`] answers each line of standard input. What answers orders is an [`Answers`]. A line that begins with
-//! `#` is a heading, and is answered by itself.
+//! [`answer_lines`] answers each line of standard input, by an [`Answers`]. A line that begins with `#` is a heading,
+//! and is answered by itself.
 //!
 //! In texts and bytes of an order `\n`, `\r`, `\t` and `\0` mean a line feed, a carriage return, a tab and a zero
 //! byte, `\\` and `\s` a backslash, and `\xHH` a byte: a `;` is written as `\x3b`. [`escaped`] reads them. [`text_of`]
-//! and [`bytes_of`] read runs, too. A run stands between two `\*`, and is a count, a space, and what is there so many
-//! times, as in `\*1024 x\*`. So a backslash before a star is `\x5c` there.
+//! and [`bytes_of`] read runs, too. A run is between two `\*`: a count, a space, and what is repeated so many times, as
+//! in `\*1024 x\*`. So a backslash before a star is `\x5c` there.
 //!
 //! The orders on stores write runs in another way, which [`meant`] reads: `*COUNT*` is so many letters `x`. [`Source`]
 //! and [`Sink`] are readers and writers that go in parts, end, or fail.

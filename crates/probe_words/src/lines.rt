@@ -4,13 +4,13 @@ use std::io;
 use std::io::{BufRead, BufReader};
 use std::process::ExitCode;
 
-/// What answers orders, and holds what one order leaves to the next.
+/// Answers orders. It holds what one order leaves for the next.
 pub trait Answers {
     /// The answer to an order.
     fn answer(&mut self, alloc: Global, order: &str) -> io::Result<String>;
 }
 
-/// Answers each line of standard input in a line. Returns 0, or 1 where reading, printing or an answer failed.
+/// Answers each line of standard input in a line. Returns the status 0, or 1 if reading, printing or an answer failed.
 pub fn answer_lines<R: Input + Print + AllocGlobal, A: Answers>(
     rt: &R,
     answers: &mut A,

@@ -27,7 +27,7 @@ fn push_parts(bytes: &mut Vec<u8>, written: &str) -> Result<bool, AllocError> {
     Ok(true)
 }
 
-/// Appends the bytes of a part: each second one is a run. Returns whether it is written rightly.
+/// Appends the bytes of the part at an index, from 0: the odd ones are runs. Returns whether it is written rightly.
 fn push_part(bytes: &mut Vec<u8>, index: usize, part: &str) -> Result<bool, AllocError> {
     if index % 2 == 0 {
         push_escaped(bytes, part)

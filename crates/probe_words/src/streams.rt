@@ -1,9 +1,9 @@
-// Readers and writers that go in parts, end, or fail.
+// Readers and writers that work in parts, end, or fail.
 use std::alloc::Global;
 use std::io;
 use std::io::{ErrorKind, Read, Write};
 
-/// Gives at most so many bytes at a time, and then the end or a fault.
+/// A reader that gives at most `step` bytes at a time, and after the last one its end, or a fault if there is one.
 #[derive(Drop)]
 pub struct Source<'a> {
     pub rest: &'a [u8],
@@ -12,7 +12,7 @@ pub struct Source<'a> {
 }
 
 impl<'a> Source<'a> {
-    /// Gives these bytes, and fails at the next read.
+    /// A reader that gives these bytes, and fails at the read after them.
     pub fn broken(bytes: &'a [u8]) -> Source<'a> {
         Source {
             rest: bytes,
@@ -32,7 +32,7 @@ impl Read for Source<'_> {
     }
 }
 
-/// Keeps so many bytes, and then takes none or fails.
+/// A writer that keeps bytes while there is room, and then takes none, or fails if there is a fault.
 #[derive(Drop)]
 pub struct Sink {
     pub kept: Vec<u8>,
@@ -41,7 +41,7 @@ pub struct Sink {
 }
 
 impl Sink {
-    /// Keeps so many bytes, and then takes none.
+    /// A writer that keeps `room` bytes, and then takes none.
     pub fn new(alloc: Global, room: usize) -> Sink {
         Sink {
             kept: Vec::new(alloc),
@@ -50,7 +50,7 @@ impl Sink {
         }
     }
 
-    /// Takes no byte, and fails.
+    /// A writer that takes no byte, and fails.
     pub fn full(alloc: Global) -> Sink {
         Sink {
             kept: Vec::new(alloc),

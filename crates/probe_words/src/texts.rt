@@ -2,7 +2,8 @@
 use crate::escapes::push_escaped;
 use std::alloc::{AllocError, Global};
 
-/// The text that is meant: `*COUNT*` is that many letters `x`, and the rest has escapes, up to a wrong one.
+/// The text that is meant: `*COUNT*` is that many letters `x`, and the rest has escapes. What comes after a wrong
+/// escape is left out, and bytes that are not UTF-8 are the empty text.
 pub fn meant(alloc: Global, written: &str) -> Result<String, AllocError> {
     let (before, rest) = written.split_once('*').unwrap_or((written, "0"));
     let (count, after) = rest.split_once('*').unwrap_or((rest, ""));
@@ -26,7 +27,7 @@ fn push_meant(
     Ok(())
 }
 
-/// The number that a word says; 0 if it says none.
+/// The number that a word is; 0 if it is none.
 pub fn number_of(word: &str) -> u64 {
     word.parse::<u64>().unwrap_or(0)
 }

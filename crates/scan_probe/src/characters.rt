@@ -74,7 +74,7 @@ pub(crate) fn line_feeds_after(
     shown(alloc, &text)
 }
 
-/// The bytes as a text, or the fault in words, with the length of the longest prefix that is one.
+/// The bytes as a text, or the fault in a sentence, with the length of their longest prefix that is a text.
 pub(crate) fn text_in(alloc: Global, bytes: &[u8]) -> Result<String, AllocError> {
     match checked(bytes) {
         Ok(text) => format!(in alloc; "{text:?}"),

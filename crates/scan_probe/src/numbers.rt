@@ -7,7 +7,7 @@ pub(crate) fn number_of(word: &str) -> Option<usize> {
     word.parse::<usize>().ok()
 }
 
-/// The place of a text that a word says.
+/// The place of a text that a word gives; `None` if the text has no such place.
 pub(crate) fn place_in(text: &str, word: &str) -> Option<usize>
     ensures { IfSome result (λ at. IsCharBoundary text.now at) }
 {
@@ -19,7 +19,7 @@ pub(crate) fn place_in(text: &str, word: &str) -> Option<usize>
     }
 }
 
-/// The two places of a text that words say, the first not after the second.
+/// The two places of a text that words give, the first not after the second.
 pub(crate) fn places_in(text: &str, words: &str) -> Option<(usize, usize)>
     ensures from { IfSome result (λ places. IsCharBoundary text.now places.0) }
     ensures to { IfSome result (λ places. IsCharBoundary text.now places.1) }

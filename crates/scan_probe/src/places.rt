@@ -51,7 +51,7 @@ fn holds_at(call: &str, text: &str, at: usize) -> Option<bool>
     }
 }
 
-/// Where something that begins at a place ends.
+/// The end of something that begins at a place, or what is there.
 fn ends_from(alloc: Global, call: &str, text: &str, at: usize) -> Result<String, AllocError>
     requires { IsCharBoundary text.now at }
 {
@@ -104,7 +104,7 @@ fn signed_in(
     }
 }
 
-/// The first character of a word, or NUL where that is not ASCII or not there.
+/// The first character of a word; NUL if it is not ASCII, or not there.
 fn ascii_of(word: &str) -> u8
     ensures { result < 128 }
 {
@@ -114,7 +114,7 @@ fn ascii_of(word: &str) -> u8
     }
 }
 
-/// Where the characters of a class end that begin at a place.
+/// The end of the run of characters of a class at a place.
 fn run_at(alloc: Global, text: &str, at: usize, class: &str) -> Result<String, AllocError>
     requires { IsCharBoundary text.now at }
 {

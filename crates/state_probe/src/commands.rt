@@ -18,7 +18,7 @@ fn value_of(alloc: Global, text: &str) -> Result<Config, StoreFault> {
     read_one(alloc, text.as_bytes(), &Limits::KEPT).map_err(StoreFault::Read)
 }
 
-/// The command that words say. Words that say none are answered as a refused text.
+/// The command that words give; `None` if they give none.
 pub(crate) fn command_of(alloc: Global, words: &[&str]) -> Result<Option<Command>, StoreFault> {
     Ok(match words {
         ["import", name, tree] => Some(Command::Import {
@@ -38,7 +38,7 @@ pub(crate) fn command_of(alloc: Global, words: &[&str]) -> Result<Option<Command
     })
 }
 
-/// Performs the command that words say.
+/// Performs the command that words give.
 pub(crate) fn perform(
     alloc: Global,
     state: &mut State,
@@ -65,7 +65,7 @@ pub(crate) fn perform_record(
     }
 }
 
-/// Performs a command. Returns the count after it, or why it is refused.
+/// Performs a command. The answer is the count after it, or why it is refused.
 fn answer_to(
     alloc: Global,
     state: &mut State,

@@ -1,11 +1,11 @@
-// How the faults of a store are told.
+// The messages of a store's faults.
 use conf_record::StoreFault;
 use probe_words::no_order;
 use std::alloc::{AllocError, Global};
 use tree_path::PathFault;
 use yaml_tree::ReadFault;
 
-/// How the fault of a store that a word names is told.
+/// The message of the store's fault that a word names.
 pub(crate) fn store_fault(alloc: Global, name: &str) -> Result<String, AllocError> {
     match fault_named(name) {
         Some(fault) => fault.to_string(alloc),

@@ -11,10 +11,11 @@
 //! - `open;TEXT`: the state of a base is taken; `new`: an empty state.
 //! - `show`: the count, and each configuration in the one style, in order. `length`: the bytes of the base text, as the
 //!   state keeps them. `base`: the length of the base text, and the base text.
-//! - `fault;NAME`: how a fault is told.
+//! - `fault;NAME`: the message of a fault.
 //!
-//! In a `TEXT` and a `TREE` `\n` means a line feed, and `*COUNT` at the end that many letters `x`. A tree is a text of
-//! YAML. `probe_words` says how `BYTES` are written, what a heading is, and how the program ends.
+//! In a `TEXT` and a `TREE` `\n` means a line feed, and `*COUNT` at the end that many letters `x`; the `TEXT` of a name
+//! has neither. A tree is a text of YAML. `probe_words` says how `BYTES` are written, what a heading is, and how the
+//! program ends.
 #![tactic(auto)]
 
 mod commands;

@@ -71,7 +71,7 @@ fn answer_to_one(
     }
 }
 
-/// Takes an empty state.
+/// Takes an empty state in place of the one that is held.
 fn renew(alloc: Global, state: &mut State) -> Result<String, AllocError> {
     *state = State::new(alloc);
     String::from_str(alloc, "new")
@@ -125,7 +125,7 @@ fn bytes_read(alloc: Global, written: &str) -> Result<String, AllocError> {
     }
 }
 
-/// Takes the state of a base.
+/// Takes the state of a base in place of the one that is held.
 fn open(alloc: Global, state: &mut State, text: &str) -> Result<String, AllocError> {
     let text = lengthened(alloc, text)?;
     match read_base(alloc, text.as_bytes())? {

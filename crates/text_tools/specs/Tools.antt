@@ -1,5 +1,5 @@
--- What a tool has read from its reader, and what it has written to its writer. Each knows its bytes, or says nothing of
--- them.
+-- What a tool has read from its reader, and what it has written to its writer. The bytes of a reader or a writer are
+-- known, or nothing is said of them (`None`).
 use Rattle.std.specs.Prelude.{◌≡◌, ℕ, ◌+◌, ◌<◌, ◌≤◌, List, [], ◌∷◌, ◌++◌, Option, length, codes, decimal, encode_utf8_all}
 use Rattle.std.specs.Io.KnownBytes.{Consumes, IsAtEnd, Keeps, Appends}
 use Rattle.yaml_grammar.specs.Style.{style_text}
@@ -37,7 +37,7 @@ abbrev pub report : List Finding → List ℕ
 report [] = []
 report (f ∷ fs) = report_line f ++ report fs
 
--- the reader's bytes, to its end, give a tree, and the lines of their findings were written, which are so many
+-- the reader's bytes, to its end, give a tree, and the lines of their findings were written; count is their number
 pub record Checks (given left held written : Option (List ℕ)) (count : ℕ) : Type 0 where
   pub bytes : List ℕ
   pub found : List Finding
@@ -54,7 +54,7 @@ pub record RefusesInput (given left held written : Option (List ℕ)) (fault : R
   pub refuses : Refuses bytes config_limits fault
   pub keeps : Keeps held written
 
--- the reader's bytes give a tree, and what was to be written could not be written whole
+-- the reader's bytes give a tree, and the writer failed
 pub record StopsInOutput (given left : Option (List ℕ)) : Type 0 where
   pub bytes : List ℕ
   pub tree : Tree
@@ -62,7 +62,7 @@ pub record StopsInOutput (given left : Option (List ℕ)) : Type 0 where
   pub at_end : IsAtEnd left
   pub reads : IsRead bytes config_limits tree
 
--- what holds where a tool ends with a fault; it may run out of memory before everything is read
+-- what holds if a tool ends with a fault; memory may run out before everything is read
 abbrev pub Stops : Option (List ℕ) → Option (List ℕ) → Option (List ℕ) → Option (List ℕ) → ToolFault → Type 0
 Stops given left held written Input = Keeps held written
 Stops given left held written Output = StopsInOutput given left

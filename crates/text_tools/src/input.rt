@@ -10,9 +10,13 @@ use yaml_tree::ReadFault;
 /// The most bytes that are read at once.
 const CHUNK: usize = 65_536;
 
-/// The bytes that the reader gives up to its end, or its first `most`. A read that was interrupted is tried again.
+/// The bytes that the reader gives up to its end, or the first `most` of them. A read that was interrupted is tried
+/// again.
 ///
-/// `Input` where a read fails, and `Read(OutOfMemory)` where there is no memory for the bytes.
+/// # Errors
+///
+/// - [`ToolFault::Input`] if a read fails.
+/// - [`ToolFault::Read`] with `OutOfMemory` if there is no memory for the bytes.
 pub fn read_up_to<R: Read>(alloc: Global, reader: &mut R, most: usize) -> Result<Vec<u8>, ToolFault>
     ensures ok { IfOk result (λ bytes.
         HasRead (R.remaining reader.old) (R.remaining reader.new) bytes.items most) }

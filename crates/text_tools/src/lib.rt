@@ -1,5 +1,5 @@
 //! The tools for texts, over any reader and writer: [`format_text`] writes a text's tree in the one style, and
-//! [`check_text`] tells where a text departs from it.
+//! [`check_text`] reports where a text departs from it.
 #![tactic(auto)]
 
 mod input;

@@ -6,7 +6,7 @@ use itoa::Buffer;
 use std::alloc::{AllocError, Global};
 use yaml_style::Finding;
 
-/// The lines of findings, in their order.
+/// A line for each finding, in their order. It fails only if memory runs out.
 pub(crate) fn report(alloc: Global, findings: &[Finding]) -> Result<Vec<u8>, AllocError>
     ensures { IfOk result (λ lines. lines.items ≡ report findings.now) }
 {
@@ -17,7 +17,7 @@ pub(crate) fn report(alloc: Global, findings: &[Finding]) -> Result<Vec<u8>, All
     Ok(lines)
 }
 
-/// Appends the line of one finding.
+/// Appends the line of one finding: the rule's name, a space, and the number of the line.
 fn push_line(lines: &mut Vec<u8>, finding: &Finding) -> Result<(), AllocError>
     ensures { OnOk result (lines.new.items ≡ lines.old.items ++ report_line finding.now) }
 {

@@ -11,7 +11,7 @@ use thiserror::Error;
 use yaml_style::check;
 use yaml_tree::{Limits, ReadFault, format_one};
 
-/// One byte more than a text may have: who has read as many knows that there are too many.
+/// The most bytes that are read: one more than a text may have, by which a text that is too long is found.
 const MOST_INPUT: usize = Limits::CONFIGURATION.bytes as usize + 1;
 
 /// Why a tool stopped.
@@ -23,7 +23,7 @@ pub enum ToolFault {
     /// The writer failed. Some of the text may have been written.
     #[error("Output")]
     Output,
-    /// The text was refused, or there was no memory. Nothing was written.
+    /// The text was refused, or memory ran out. Nothing was written.
     #[error("{}", .0.brief())]
     Read(ReadFault),
 }
@@ -42,8 +42,11 @@ impl From<AllocError> for ToolFault {
 /// Reads a text from `reader` to its end, and writes its tree in the one style to `writer`. It reads at most one
 /// byte more than the 1,048,576 that a text may have.
 ///
-/// `Input` where the reader fails, `Read` where the text is refused or there is no memory: nothing is written then.
-/// `Output` where the writer fails.
+/// # Errors
+///
+/// - [`ToolFault::Input`] if the reader fails. Nothing is written.
+/// - [`ToolFault::Read`] if the text is refused, or memory runs out. Nothing is written.
+/// - [`ToolFault::Output`] if the writer fails. Some of the text may be written.
 pub fn format_text<R: Read, W: Write>(
     alloc: Global,
     reader: &mut R,
@@ -65,11 +68,14 @@ pub fn format_text<R: Read, W: Write>(
 
 /// Reads a text from `reader` to its end, and writes a line to `writer` for each of its findings, in the order of
 /// [`check`]. The line has the rule's name, a space, and the number of the line, from 1. Returns how many findings
-/// there are. It reads at most one byte more than the 1,048,576 that a text may have. The lines are written at once:
-/// they have at most some 12 MB, since a text has at most two findings more than bytes.
+/// there are. It reads at most one byte more than the 1,048,576 that a text may have. The lines are held in memory and
+/// written at once. They have at most some 12 MB, since a text has at most two findings more than bytes.
 ///
-/// `Input` where the reader fails, `Read` where the text is refused or there is no memory: nothing is written then.
-/// `Output` where the writer fails.
+/// # Errors
+///
+/// - [`ToolFault::Input`] if the reader fails. Nothing is written.
+/// - [`ToolFault::Read`] if the text is refused, or memory runs out. Nothing is written.
+/// - [`ToolFault::Output`] if the writer fails. Some of the lines may be written.
 pub fn check_text<R: Read, W: Write>(
     alloc: Global,
     reader: &mut R,
@@ -90,9 +96,8 @@ pub fn check_text<R: Read, W: Write>(
     Ok(findings.len() as u64)
 }
 
-/// Writes all bytes, and flushes the writer.
-///
-/// `Output` where the writer fails; some of the bytes may have been written.
+/// Writes all bytes, and flushes the writer. Returns [`ToolFault::Output`] if the writer fails; some of the bytes may
+/// then be written.
 pub fn write_whole<W: Write>(writer: &mut W, bytes: &[u8]) -> Result<(), ToolFault>
     ensures ok { OnOk result (Appends (W.contents writer.old) (W.contents writer.new) bytes.now) }
     ensures fault { IfErr result (λ fault. fault ≡ ToolFault.Output) }

@@ -148,7 +148,7 @@ abbrev pub set : Tree → List (List ℕ) → Tree → Result Tree PathFault
 set t [] v = Ok v
 set t (token ∷ tokens) v = edit_from (λ u last. put u last v) 1 t token tokens
 
--- The tree without the value at the path. The whole can't be taken out of itself: no caller asks for it, and it stays.
+-- The tree without the value at the path. The empty path leaves the tree as it is; no caller has one.
 abbrev pub delete : Tree → List (List ℕ) → Result Tree PathFault
 delete t [] = Ok t
 delete t (token ∷ tokens) = edit_from cut 1 t token tokens
@@ -160,7 +160,7 @@ abbrev pub place_of : Members → List ℕ → Option ℕ
 place_of no_member key = None
 place_of (member other t ms) key = if same_text key other then Some 0 else option_map suc (place_of ms key)
 
--- the place of a key in a mapping; none where it is missing, or where the tree is no mapping
+-- the place of a key in a mapping; none if it is missing, or the tree is no mapping
 abbrev pub key_in : Tree → List ℕ → Option ℕ
 key_in (text value) key = None
 key_in (sequence ts) key = None
@@ -171,6 +171,7 @@ abbrev pub in_child : Result Tree Miss → (Tree → Option ℕ) → Option ℕ
 in_child (Ok t) next = next t
 in_child (Err miss) next = None
 
+-- the same by a token and those after it
 abbrev pub last_key_from : Tree → List ℕ → List (List ℕ) → Option ℕ
 last_key_from t token [] = key_in t token
 last_key_from t token (next ∷ tokens) = in_child (child t token) (λ u. last_key_from u next tokens)

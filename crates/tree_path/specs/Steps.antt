@@ -15,11 +15,11 @@ use Rattle.tree_path.specs.declared.place.Miss.TheVariants.{Absent}
 abbrev pub number_of : List ℕ → Option ℕ
 number_of token = if is_number token then Some (number_after 0 token) else None
 
--- a number as a `usize` has it: at most the greatest one
+-- a number as a `usize`: at most the greatest one
 abbrev pub as_usize : ℕ → ℕ
 as_usize n = min n 0xffff_ffff_ffff_ffff
 
--- the index of an element of a sequence of that many, or why the token leads to none
+-- the index of an element in a sequence of that many elements, or why the token leads to none
 abbrev pub index_below : List ℕ → ℕ → Result ℕ Miss
 index_below token count = at_index (index_of token) (λ n. if nat_lt n count then Some n else None) (Err Absent)
 

@@ -1,6 +1,6 @@
 // The value at a path, and the edits of a tree there. An edit goes down to the parent of its place and back up in
-// loops: on the way down each value is taken out of its parent, and what is above it is kept in the place that so
-// comes free.
+// loops, so the call stack doesn't grow with the path. On the way down each value is taken out of its parent, and what
+// is above it is kept in the place that this leaves free.
 ghost use Rattle.std.specs.Prelude.{◌≡◌, ◌⊎◌, ◌<◌, IfOk, IfErr, OnOk, OnErr, Ok, Err, length};
 ghost use Rattle.std.specs.Str.{chars};
 ghost use Rattle.std.specs.Vec.{vec_len, vec_capacity};
@@ -17,8 +17,14 @@ use std::borrow::CowStr;
 use std::mem;
 use yaml_data::{Text, Tree};
 
-/// The value at a path (RFC 6901, 4). Refused are a step that leads to nothing (`NoSuchPlace`), and one into a
-/// sequence that is no index (`NotIndex`).
+/// The value at a path (RFC 6901, 4). In a mapping a token is a key; in a sequence it is an index, from 0.
+///
+/// # Errors
+///
+/// The fault is that of the first step that leads nowhere, with its number, from 1:
+///
+/// - [`PathFault::NoSuchPlace`] if the step leads to nothing.
+/// - [`PathFault::NotIndex`] if it leads into a sequence, and is neither an index nor `-`.
 pub fn at<'t>(tree: &'t Tree, path: &Path) -> Result<&'t Tree, PathFault>
     ensures ok { IfOk result (λ value. at (tree_of tree.now) path.now ≡ Ok (tree_of value.now)) }
     ensures refused { IfErr result (λ fault. at (tree_of tree.now) path.now ≡ Err fault) }
@@ -28,8 +34,12 @@ pub fn at<'t>(tree: &'t Tree, path: &Path) -> Result<&'t Tree, PathFault>
 
 /// Puts a value at a path, in place. Every step but the last leads to a value that is there, as in [`at`]. At the last
 /// one a key that is there keeps its place in the mapping, and a new key goes last. An index replaces its element, and
-/// `-` means a new element after the last one. The empty path replaces the whole tree. A refusal, and running out of
-/// memory, hands the value back and leaves the tree as it was.
+/// `-` means a new element after the last one. The empty path replaces the whole tree.
+///
+/// # Errors
+///
+/// The value is returned with the fault, and the tree is as it was. The faults are those of [`at`], where the last step
+/// may lead to a new key or be `-`; [`PathFault::OutOfMemory`] may come at any point.
 pub fn set(
     alloc: Global,
     tree: &mut Tree,
@@ -47,8 +57,8 @@ pub fn set(
     set_at(alloc, tree, path.tokens(), Known::Nothing, value)
 }
 
-/// The edit of [`set`], where the place of the path's last key in its mapping is known. `edit_lengths::plan_set`
-/// returns it, so that the key is searched for once.
+/// The edit of [`set`], where the place, from 0, of the path's last key in its mapping is known, or that the key is not
+/// there. `edit_lengths::plan_set` returns it, so that the key is searched for once. The faults are those of [`set`].
 pub fn set_planned(
     alloc: Global,
     tree: &mut Tree,
@@ -68,8 +78,12 @@ pub fn set_planned(
     set_at(alloc, tree, path.tokens(), Known::Place(place), value)
 }
 
-/// Takes the value at a path out of the tree: the pair with its key, or the element, whose followers close up. The
-/// path is not empty. Steps lead on as in [`at`]. A refusal leaves the tree as it was.
+/// Removes the value at a path, with its key, and returns it. In a sequence the elements after it move up. The path is
+/// not empty.
+///
+/// # Errors
+///
+/// Those of [`at`]. The tree is then as it was.
 pub fn delete(tree: &mut Tree, path: &Path) -> Result<Tree, PathFault>
     requires { 0 < length path.now }
     ensures ok { OnOk result (delete (tree_of tree.old) path.now ≡ Ok (tree_of tree.new)) }
@@ -81,8 +95,9 @@ pub fn delete(tree: &mut Tree, path: &Path) -> Result<Tree, PathFault>
     delete_at(path.allocator(), tree, path.tokens(), Known::Nothing)
 }
 
-/// The edit of [`delete`], where the place of the path's last key in its mapping is known. `edit_lengths::plan_delete`
-/// returns it, so that the key is searched for once.
+/// The edit of [`delete`], where the place, from 0, of the path's last key in its mapping is known, or that the key is
+/// not there. `edit_lengths::plan_delete` returns it, so that the key is searched for once. The faults are those of
+/// [`delete`].
 pub fn delete_planned(tree: &mut Tree, path: &Path, place: Option<usize>) -> Result<Tree, PathFault>
     requires steps { 0 < length path.now }
     requires place { place ≡ last_key (tree_of tree.old) path.now }
@@ -172,7 +187,7 @@ fn delete_at(
 }
 
 /// Goes down a tree by each token. The tree becomes the value that they lead to, and what is above it goes into
-/// `above`, together with what was there. A refusal changes neither.
+/// `above`, together with what was there. A refusal leaves the tree as it was.
 fn descend(tree: &mut Tree, above: &mut Tree, tokens: &[CowStr<'_>]) -> Result<(), PathFault>
     ensures ok { OnOk result
         (Lowered (texts tokens.now) (tree_of tree.old) (tree_of above.old) (tree_of tree.new)
@@ -192,7 +207,8 @@ fn descend(tree: &mut Tree, above: &mut Tree, tokens: &[CowStr<'_>]) -> Result<(
     Ok(())
 }
 
-/// Goes back up by the tokens that `descend` took: the tree becomes the one above, with what it was in its place.
+/// Goes back up by the tokens of [`descend`]: the tree becomes the one that it was taken out of, with what it was in
+/// its place. `above` becomes what it was before `descend`.
 fn ascend(tree: &mut Tree, above: &mut Tree, tokens: &[CowStr<'_>])
     requires { (t a u : Meant) × Lowered (texts tokens.now) t a u (tree_of above.old) }
     ensures { (t a u : Meant) → Lowered (texts tokens.now) t a u (tree_of above.old)
@@ -207,8 +223,8 @@ fn ascend(tree: &mut Tree, above: &mut Tree, tokens: &[CowStr<'_>])
     }
 }
 
-/// Puts a value where a path's last step leads, counted from 1, where the place of its key is known. A refusal hands
-/// the value back and changes nothing.
+/// Puts a value where a path's last step leads, where the place of its key is known. `step` is that step's number, from
+/// 1. On a fault the value is returned, and nothing is changed.
 fn put(
     alloc: Global,
     tree: &mut Tree,
@@ -310,7 +326,7 @@ fn make_room<T>(list: &mut Vec<T>) -> Result<(), AllocError>
     list.reserve_exact(list.len() / 8 + 1)
 }
 
-/// Takes out the value to which a step leads, where the place of its key is known.
+/// Removes the value to which a step leads, where the place of its key is known. A miss changes nothing.
 fn cut(tree: &mut Tree, token: &str, place: Option<usize>) -> Result<Tree, Miss>
     requires { place ≡ key_in (tree_of tree.old) (chars token.now) }
     ensures ok { OnOk result (cut (tree_of tree.old) (chars token.now) ≡ Ok (tree_of tree.new)) }
@@ -326,7 +342,7 @@ fn cut(tree: &mut Tree, token: &str, place: Option<usize>) -> Result<Tree, Miss>
     }
 }
 
-/// Takes out the element at an index.
+/// Removes the element at an index.
 fn cut_element(items: &mut Vec<Tree>, token: &str) -> Result<Tree, Miss>
     ensures ok { OnOk result
         (cut (sequence (elements_of items.old.items)) (chars token.now)
@@ -342,7 +358,7 @@ fn cut_element(items: &mut Vec<Tree>, token: &str) -> Result<Tree, Miss>
     Ok(items.remove(index))
 }
 
-/// Takes out the first pair with the key, at its place.
+/// Removes the first pair with the key, whose place is known.
 fn cut_pair(pairs: &mut Vec<(Text, Tree)>, key: &str, place: Option<usize>) -> Result<Tree, Miss>
     requires { place ≡ key_place (chars key.now) pairs.old.items }
     ensures ok { OnOk result

@@ -9,7 +9,7 @@ pub fn set_is_found()
         → set t (parents ++ last ∷ []) v ≡ Ok u → at u (parents ++ last ∷ []) ≡ Ok v }
 {}
 
-/// Where no mapping holds a key twice, none does after an edit.
+/// If no mapping of a tree holds a key twice, and none of a value that is set, none of the tree does after an edit.
 pub fn keys_stay_distinct()
     ensures set { (t u v : Tree) (path : List (List ℕ)) → distinct t ≡ true → distinct v ≡ true
         → set t path v ≡ Ok u

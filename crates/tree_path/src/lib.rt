@@ -1,5 +1,5 @@
 //! What paths do in trees of texts: the value at a path, and the edits of a tree there. A path is what a JSON Pointer
-//! (RFC 6901) says.
+//! (RFC 6901) means.
 #![tactic(auto)]
 
 mod edit;

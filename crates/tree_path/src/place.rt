@@ -15,12 +15,12 @@ use yaml_data::{Text, Tree};
 pub enum Miss {
     /// No value is there.
     Absent,
-    /// The step leads into a sequence, and is no index.
+    /// The step leads into a sequence, and is neither an index nor `-`.
     NoIndex,
 }
 
 impl Miss {
-    /// The fault of a path at whose step, counted from 1, this is so.
+    /// The fault of a path whose step of this number, from 1, leads to nothing.
     pub fn at_step(self, step: usize) -> PathFault
         ensures { result ≡ refusal self step }
     {
@@ -31,8 +31,8 @@ impl Miss {
     }
 }
 
-/// The number that an index is: `0`, or digits without a leading zero (RFC 6901, 4). Beyond what a `usize` holds it
-/// is the greatest `usize`, which is past the end of each sequence.
+/// The number of an index: `0`, or digits without a leading zero (RFC 6901, 4); `None` for any other token. A number
+/// that a `usize` can't hold is the greatest `usize`, which is past the end of every sequence.
 fn number(token: &str) -> Option<usize>
     ensures { result ≡ option_map as_usize (number_of (chars token.now)) }
 {
@@ -48,7 +48,7 @@ fn number(token: &str) -> Option<usize>
     number
 }
 
-/// The index, from 0, of the element to which a token leads in a sequence of that many.
+/// The index, from 0, of the element to which a token leads in a sequence of `count` elements.
 pub fn element_index(token: &str, count: usize) -> Result<usize, Miss>
     ensures { result ≡ index_below (chars token.now) count }
 {
@@ -62,7 +62,7 @@ pub fn element_index(token: &str, count: usize) -> Result<usize, Miss>
     }
 }
 
-/// The place, from 0, of the first pair with the key.
+/// The place, from 0, of the first pair with the key; `None` if no pair has it.
 pub fn key_place(pairs: &[(Text, Tree)], key: &str) -> Option<usize>
     ensures { result ≡ place_of (chars key.now) pairs.now }
 {
@@ -74,7 +74,7 @@ pub fn key_place(pairs: &[(Text, Tree)], key: &str) -> Option<usize>
     None
 }
 
-/// The place, from 0, of a key in a mapping; none where it is missing, or where the tree is no mapping.
+/// The place, from 0, of a key in a mapping; `None` if it is missing, or the tree is no mapping.
 pub fn key_in(tree: &Tree, key: &str) -> Option<usize>
     ensures { result ≡ key_in (tree_of tree.now) (chars key.now) }
 {
@@ -87,7 +87,7 @@ pub fn key_in(tree: &Tree, key: &str) -> Option<usize>
 /// What is known of the place of a key in a tree.
 #[derive(Clone, Copy)]
 pub enum Known {
-    /// The key is there, or it is missing.
+    /// The place, from 0, or that the key is missing.
     Place(Option<usize>),
     /// It was not searched for.
     Nothing,
@@ -106,7 +106,8 @@ impl Known {
     }
 }
 
-/// The value to which a step leads.
+/// The value to which a step leads. It returns [`Miss::Absent`] if there is none, as in a text, and [`Miss::NoIndex`]
+/// if a token in a sequence is neither an index nor `-`.
 pub fn child<'t>(tree: &'t Tree, token: &str) -> Result<&'t Tree, Miss>
     ensures ok { IfOk result (λ value. child (tree_of tree.now) (chars token.now)
         ≡ Ok (tree_of value.now)) }
@@ -115,7 +116,7 @@ pub fn child<'t>(tree: &'t Tree, token: &str) -> Result<&'t Tree, Miss>
     child_at(tree, token, key_in(tree, token))
 }
 
-/// The value to which a step leads, where the place of its key is known.
+/// The same where the place of the token as a key is known, as [`key_in`] returns it.
 pub fn child_at<'t>(tree: &'t Tree, token: &str, place: Option<usize>) -> Result<&'t Tree, Miss>
     requires { place ≡ key_in (tree_of tree.now) (chars token.now) }
     ensures ok { IfOk result (λ value. child (tree_of tree.now) (chars token.now)
@@ -135,7 +136,7 @@ pub fn child_at<'t>(tree: &'t Tree, token: &str, place: Option<usize>) -> Result
     }
 }
 
-/// Swaps the value to which a step leads with another one.
+/// Swaps the value to which a step leads with another one. A miss changes neither.
 pub fn exchange(tree: &mut Tree, token: &str, other: &mut Tree) -> Result<(), Miss>
     ensures taken { OnOk result (child (tree_of tree.old) (chars token.now)
         ≡ Ok (tree_of other.new)) }

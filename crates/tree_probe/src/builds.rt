@@ -4,12 +4,12 @@ use std::alloc::{AllocError, Global};
 use std::mem;
 use yaml_tree::{Text, Tree};
 
-/// The tree out of its place, where the empty text is left.
+/// Takes the tree, and leaves the empty text in its place.
 pub(crate) fn taken(tree: &mut Tree) -> Tree {
     mem::replace(tree, Tree::Text(Text::empty()))
 }
 
-/// The answer where a tree is built.
+/// The answer after a tree was built.
 fn built(alloc: Global) -> Result<String, AllocError> {
     String::from_str(alloc, "built")
 }

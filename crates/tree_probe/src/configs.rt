@@ -46,7 +46,7 @@ fn answer_to_words(
     }
 }
 
-/// Whether the tree is more than so deep.
+/// Whether the tree is deeper than this.
 fn is_deeper(alloc: Global, tree: &Tree, depth: &str) -> Result<String, AllocError> {
     match depth.parse::<u8>() {
         Ok(depth) => shown(alloc, &tree.is_deeper_than(depth)),
@@ -54,7 +54,7 @@ fn is_deeper(alloc: Global, tree: &Tree, depth: &str) -> Result<String, AllocErr
     }
 }
 
-/// The length of the tree in the one style, if it is at most so much.
+/// The length of the tree in the one style, if it is at most `most`.
 fn length_to(alloc: Global, tree: &Tree, most: &str) -> Result<String, AllocError> {
     match most.parse::<u64>() {
         Ok(most) if !tree.is_deeper_than(66) => shown(alloc, &style_len(tree, most)),

@@ -30,7 +30,7 @@ pub(crate) fn set_path(
     }
 }
 
-/// What deleting at a path takes out of a tree. The empty path leads to no element.
+/// The value that deleting at a path removes from a tree. The empty path is refused.
 fn deleted(alloc: Global, tree: &mut Tree, path: &str) -> Result<Tree, PathFault> {
     let path = Path::parse(alloc, path)?;
     if path.steps() == 0 {
@@ -62,7 +62,7 @@ pub(crate) fn set_len_at(alloc: Global, whole: &str, words: &str) -> Result<Stri
     }
 }
 
-/// The length after the edit, or `None` where a word is written wrongly.
+/// The length after the edit, or `None` if a word is written wrongly.
 fn length_after_set(
     alloc: Global,
     whole: &str,
@@ -83,7 +83,7 @@ pub(crate) fn delete_len_at(alloc: Global, whole: &str, path: &str) -> Result<St
     }
 }
 
-/// The length after the edit, or `None` where a word is written wrongly. The empty path leads to no element.
+/// The length after the edit, or `None` if a word is written wrongly or the path is empty.
 fn length_after_delete(alloc: Global, whole: &str, path: &str) -> Option<Result<u128, PathFault>> {
     let path = Path::parse(alloc, path).ok()?;
     if path.steps() == 0 {

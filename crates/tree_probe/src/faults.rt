@@ -1,4 +1,4 @@
-// How refusals are told.
+// How refusals are shown.
 use probe_words::{bytes_of, shown, wrong_escape};
 use std::alloc::{AllocError, Global};
 use yaml_style::check;

@@ -5,7 +5,7 @@
 //!   `checks/fuzz_texts.py` asks for it too. The text has escapes and no runs.
 //!
 //! The group `tree`, trees and the texts that are trees. In a `TEXT`, `\n`, `\r` and `\t` mean a line feed, a carriage
-//! return and a tab; a `TREE` and a `VALUE` are texts of YAML as they stand.
+//! return and a tab; a `TREE` and a `VALUE` are texts of YAML without escapes.
 //!
 //! - `emit;TREE`: the length of the tree's text in the one style, and the text. `format;TEXT` answers the same, and
 //!   builds no tree.

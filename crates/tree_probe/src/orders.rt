@@ -14,7 +14,7 @@ pub(crate) struct Held<'r> {
 }
 
 impl<'r> Held<'r> {
-    /// The tree of an empty text.
+    /// Holds the empty text as the tree.
     pub(crate) fn new(rt: &'r HostRuntime) -> Self {
         Held {
             rt,

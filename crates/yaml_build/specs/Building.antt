@@ -1,4 +1,4 @@
--- What the open parts of src/build.rt mean, and how events of no tree are refused.
+-- What the open parts of src/build.rt mean, and when events are refused.
 use Rattle.std.specs.Prelude.{◌≡◌, true, false, List, [], ◌∷◌, Option, Some, None}
 use Rattle.std.specs.Str.{chars}
 use Rattle.yaml_faults.specs.declared.fault.ReadFault.{ReadFault}
@@ -14,6 +14,7 @@ use Rattle.yaml_data.specs.Seen.{tree_of, elements_of, members_of}
 use Rattle.yaml_data.specs.TextBytes.{text_bytes}
 use Rattle.yaml_data.specs.declared.text.Text.{Text}
 
+-- a mapping of these members, with or without a key whose value is next
 abbrev pub frame_by_key : Members → Option Text → Frame
 frame_by_key ms None = at_key ms
 frame_by_key ms (Some key) = at_value ms (chars (text_bytes key))
@@ -28,7 +29,7 @@ frame_of (Whole tree) = whole (tree_of tree)
 frame_of (Seq items) = in_seq (elements_of items.items)
 frame_of (Map map) = map_frame map
 
--- those of a list whose last one is the innermost, put before others
+-- the frames of a list whose last one is the innermost, put before others
 abbrev pub frames_onto : {A : Type 0} → (A → Frame) → List A → List Frame → List Frame
 frames_onto frame [] fs = fs
 frames_onto frame (x ∷ xs) fs = frames_onto frame xs (frame x ∷ fs)
@@ -36,7 +37,7 @@ frames_onto frame (x ∷ xs) fs = frames_onto frame xs (frame x ∷ fs)
 abbrev pub frames_of : List Part → List Frame
 frames_of parts = frames_onto frame_of parts []
 
--- there is no such part, or no memory
+-- the fault of a call that has no result: `KeyNotText` if there is no such part; memory may run out at any time
 abbrev pub HasNone : {A : Type 0} → Option A → ReadFault → Type 0
 HasNone o KeyNotText = o ≡ None
 HasNone o OutOfMemory = Unit {0}
@@ -48,7 +49,7 @@ HasNone o KeyTwice = ⊥
 HasNone o TooDeep = ⊥
 HasNone o LargeInStyle = ⊥
 
--- the events are those of no tree, or there is no memory
+-- the fault of events: `KeyNotText` if they are those of no tree; memory may run out at any time
 abbrev pub HasNoTree : List Event → ReadFault → Type 0
 HasNoTree events KeyNotText = (t : grammar.Tree) → IsTreeOf events t → ⊥
 HasNoTree events OutOfMemory = Unit {0}
@@ -60,7 +61,7 @@ HasNoTree events KeyTwice = ⊥
 HasNoTree events TooDeep = ⊥
 HasNoTree events LargeInStyle = ⊥
 
--- what events are refused for that are too deep, if they are those of a tree
+-- the fault of events that are too deep: `KeyNotText`, `KeyTwice`, and else `TooDeep`; memory may run out at any time
 abbrev pub RefusesDeep : List Event → ReadFault → Type 0
 RefusesDeep events KeyNotText = (t : grammar.Tree) → IsTreeOf events t → ⊥
 RefusesDeep events KeyTwice = (t : grammar.Tree) × IsTreeOf events t × (distinct t ≡ false)

@@ -9,7 +9,7 @@ use Rattle.yaml_build.specs.Building.{frames_onto}
 use Rattle.yaml_build.specs.Frames.{Frame, awaiting, root, whole, in_seq, at_key, at_value, members_and}
 use Rattle.yaml_data.specs.Keys.{nothing, key_members, values_distinct}
 
--- ---- what is kept of open parts: of a sequence whether it has elements, of a mapping the keys, and of a value nothing
+-- ---- what is kept of open parts: whether a sequence has elements, and the keys of a mapping, but no values
 
 abbrev pub emptied_elements : Elements → Elements
 emptied_elements no_element = no_element
@@ -34,10 +34,12 @@ emptied_frames (f ∷ fs) = emptied_frame f ∷ emptied_frames fs
 
 -- ---- the parts of src/open_part.rt
 
+-- a sequence, by whether it is empty
 abbrev pub seq_frame : Bool → Frame
 seq_frame true = in_seq no_element
 seq_frame false = in_seq (element nothing no_element)
 
+-- a mapping, by whether the value of its last key is next
 abbrev pub frame_by_next : Members → Bool → Frame
 frame_by_next ms true = at_value ms []
 frame_by_next ms false = at_key ms
@@ -57,7 +59,7 @@ open_frames parts = frames_onto open_frame parts []
 
 -- ---- what becomes of emptied parts
 
--- a part with a further collection in it, where there is a place for it
+-- a part with a further collection in it, if it has a place for it
 abbrev pub value_placed : Frame → Option Frame
 value_placed awaiting = Some (root nothing)
 value_placed (root t) = None
@@ -75,7 +77,7 @@ scalar_placed value (in_seq ts) = Some (in_seq (element nothing no_element))
 scalar_placed value (at_key ms) = Some (at_value (members_and ms value nothing) [])
 scalar_placed value (at_value ms key) = Some (at_key ms)
 
--- the parts around a sequence, around a mapping where a key is next
+-- the parts around the innermost one, if that is a sequence; if it is a mapping where a key is next
 abbrev pub seq_ended : List Frame → Option (List Frame)
 seq_ended [] = None
 seq_ended (awaiting ∷ fs) = None
@@ -109,12 +111,12 @@ abbrev pub frames_distinct : List Frame → Bool
 frames_distinct [] = true
 frames_distinct (f ∷ fs) = frame_distinct f && frames_distinct fs
 
--- a check that has come to these open parts
+-- a check after the events that opened these parts
 pub record Keeps (check : KeyCheck) (fs : List Frame) : Type 0 where
   pub frames : open_frames check.open.parts.items ≡ emptied_frames fs
   pub differ : check.keys_differ ≡ frames_distinct fs
 
--- a check that has come to the open parts which there are
+-- the event has a place, and this is the check after it
 pub record Took (check : KeyCheck) (o : Option (List Frame)) : Type 0 where
   pub parts : List Frame
   pub are : o ≡ Some parts

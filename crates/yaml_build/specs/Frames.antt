@@ -11,7 +11,7 @@ pub data Frame : Type 0 where
   at_key : Members → Frame
   at_value : Members → List ℕ → Frame
 
--- the value of a key is next in the innermost part
+-- the innermost part is a mapping where the value of a key is next
 abbrev pub awaits_value : List Frame → Bool
 awaits_value [] = false
 awaits_value (awaiting ∷ fs) = false
@@ -30,7 +30,7 @@ abbrev pub members_and : Members → List ℕ → Tree → Members
 members_and no_member name u = member name u no_member
 members_and (member key t ms) name u = member key t (members_and ms name u)
 
--- the part with a further value in it, where there is a place for it
+-- the part with a further value in it, if it has a place for it
 abbrev pub frame_with : Frame → Tree → Option Frame
 frame_with awaiting t = Some (root t)
 frame_with (root u) t = None
@@ -41,19 +41,21 @@ frame_with (at_key ms) (sequence ts) = None
 frame_with (at_key ms) (mapping ns) = None
 frame_with (at_value ms key) t = Some (at_key (members_and ms key t))
 
+-- a part, if there is one, inside others
 abbrev pub inside : Option Frame → List Frame → Option (List Frame)
 inside None fs = None
 inside (Some f) fs = Some (f ∷ fs)
 
--- the parts with a change of the innermost one
+-- the parts with the innermost one changed
 abbrev pub innermost : (Frame → Option Frame) → List Frame → Option (List Frame)
 innermost change [] = None
 innermost change (f ∷ fs) = inside (change f) fs
 
+-- the parts with a further value in the innermost one
 abbrev pub frames_with : List Frame → Tree → Option (List Frame)
 frames_with fs t = innermost (λ f. frame_with f t) fs
 
--- the document, the sequence, the mapping that ends
+-- the parts after the end of a document, a sequence, a mapping
 abbrev pub after_document_end : List Frame → Option (List Frame)
 after_document_end [] = None
 after_document_end (awaiting ∷ fs) = None
@@ -81,7 +83,7 @@ after_map_end (in_seq ts ∷ fs) = None
 after_map_end (at_key ms ∷ fs) = frames_with fs (mapping ms)
 after_map_end (at_value ms key ∷ fs) = None
 
--- the open parts after one event more, where it has a place
+-- the open parts after one more event, if it has a place
 abbrev pub step : List Frame → Shape → Option (List Frame)
 step fs document_from = Some (awaiting ∷ fs)
 step fs document_to = after_document_end fs
@@ -91,7 +93,7 @@ step fs map_from = Some (at_key no_member ∷ fs)
 step fs map_to = after_map_end fs
 step fs (scalar_of value) = frames_with fs (text value)
 
--- the tree of the document, where nothing else is open
+-- the tree of the document, if it has ended and nothing else is open
 abbrev pub finished_tree : List Frame → Option Tree
 finished_tree [] = None
 finished_tree (awaiting ∷ fs) = None

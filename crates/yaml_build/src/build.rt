@@ -24,7 +24,7 @@ pub(crate) enum Part {
     Root(Tree),
     /// A document that has ended.
     Whole(Tree),
-    /// A sequence of these elements so far.
+    /// A sequence, with its elements so far.
     Seq(Vec<Tree>),
     /// A mapping.
     Map(OpenMap),
@@ -34,12 +34,12 @@ pub(crate) enum Part {
 #[derive(Drop)]
 pub(crate) struct OpenMap {
     pub(crate) pairs: Vec<(Text, Tree)>,
-    /// The key whose value is next. Where there is none, a key is next.
+    /// The key whose value is next. If there is none, a key is next.
     pub(crate) key: Option<Text>,
 }
 
 impl OpenMap {
-    /// A mapping of no pairs yet, with room for so many.
+    /// A mapping of no pairs yet, with memory for `pairs` of them. It fails only if memory runs out.
     fn with_capacity(alloc: Global, pairs: usize) -> Result<Self, AllocError>
         ensures { IfOk result (λ map. map_frame map ≡ at_key no_member) }
     {
@@ -49,7 +49,8 @@ impl OpenMap {
         })
     }
 
-    /// Puts in a key or a value. Returns `KeyNotText` if a key is next and the tree is a collection.
+    /// Puts in a key or a value. Returns `KeyNotText` if a key is next and the tree is a collection, and `OutOfMemory`
+    /// if there is no memory for the pair.
     #[inline(always)]
     fn put(&mut self, tree: Tree) -> Result<(), ReadFault>
         ensures { MatchResult result
@@ -97,7 +98,8 @@ impl Part {
     }
 }
 
-/// The parts of a document that are open, the innermost one last.
+/// The parts of a document that are open, the innermost one last. After a fault nothing is promised of them. Each call
+/// that takes memory may return `OutOfMemory`.
 #[derive(Drop)]
 pub(crate) struct Builder {
     pub(crate) alloc: Global,
@@ -106,7 +108,7 @@ pub(crate) struct Builder {
 }
 
 impl Builder {
-    /// Nothing is open. `sizes` tells how many values the collections will have.
+    /// A builder before the first event. `sizes` says how many values the collections will have.
     fn new(alloc: Global, sizes: Sizes) -> Self
         ensures { frames_of result.parts.items ≡ [] }
     {
@@ -243,8 +245,8 @@ impl Builder {
         self.put(Tree::Map(pairs))
     }
 
-    /// Takes the next event of the document. Returns `KeyNotText` if the event has no place there, as
-    /// the end of a collection that is a key.
+    /// Takes the next event of the document. Returns `KeyNotText` if the event has no place there, as the end of a
+    /// collection that is a key.
     #[inline(always)]
     fn take(&mut self, event: Event<'_>) -> Result<(), ReadFault>
         ensures { MatchResult result
@@ -266,7 +268,7 @@ impl Builder {
         }
     }
 
-    /// The tree of the document. Returns `KeyNotText` if the document has not ended.
+    /// The tree of the document. Returns `KeyNotText` if the document has not ended, or something else is open.
     fn finish(&mut self) -> Result<Tree, ReadFault>
         ensures { MatchResult result
             (λ tree. finished_tree (frames_of self.old.parts.items) ≡ Some (tree_of tree))
@@ -283,7 +285,7 @@ impl Builder {
     }
 }
 
-/// The text of a scalar. One that owns its memory hands it over.
+/// The text of a scalar. A value that has memory of its own is moved. It fails only if memory runs out.
 #[inline(always)]
 pub(crate) fn text_of(alloc: Global, value: CowStr<'_>) -> Result<Text, AllocError>
     ensures { IfOk result (λ text. text_bytes text ≡ cow_str_bytes value.entry) }
@@ -294,12 +296,12 @@ pub(crate) fn text_of(alloc: Global, value: CowStr<'_>) -> Result<Text, AllocErr
     }
 }
 
-/// The tree of the one document whose events these are. The events are read by a loop with a stack: memory, and not the
-/// call stack, grows with the depth. `sizes` tells how many values the collections have.
+/// The tree of the one document whose events these are. The events are read by a loop with a stack in memory: the call
+/// stack doesn't grow with the depth. `sizes` says how many values the collections have.
 ///
 /// # Errors
 ///
-/// - [`ReadFault::KeyNotText`] if some key is a collection.
+/// - [`ReadFault::KeyNotText`] if some key is a collection, or the events are not those of one document.
 /// - [`ReadFault::OutOfMemory`] if there is no memory for the tree.
 pub fn document_tree(alloc: Global, events: Events<'_>, sizes: Sizes) -> Result<Tree, ReadFault>
     ensures { MatchResult result

@@ -17,7 +17,8 @@ use yaml_data::keys_differ;
 use yaml_events::{Event, Events};
 use yaml_faults::ReadFault;
 
-/// A walk over a document that keeps the keys of the mappings that are open, and no values.
+/// A walk over a document that keeps the keys of the mappings that are open, and no values. After a fault nothing is
+/// promised of what it holds.
 #[derive(Drop)]
 pub struct KeyCheck {
     /// The parts of the document that are open.
@@ -27,7 +28,7 @@ pub struct KeyCheck {
 }
 
 impl KeyCheck {
-    /// Nothing is open. `sizes` tells how many values the collections will have.
+    /// A walk before the first event. `sizes` says how many values the collections will have.
     pub fn new(alloc: Global, sizes: Sizes) -> Self
         ensures { Keeps result [] }
     {
@@ -37,7 +38,8 @@ impl KeyCheck {
         }
     }
 
-    /// Takes the next event of the document. Returns `KeyNotText` if the event has no place there.
+    /// Takes the next event of the document. Returns `KeyNotText` if the event has no place there, as the end of a
+    /// collection that is a key, and `OutOfMemory` if there is no memory for what it keeps.
     #[inline(always)]
     pub fn take(&mut self, event: Event<'_>) -> Result<(), ReadFault>
         ensures { (fs : List Frame) → Keeps self.old fs → MatchResult result
@@ -55,7 +57,7 @@ impl KeyCheck {
         }
     }
 
-    /// Takes a scalar, of which it keeps the text where it is a key. Returns `KeyNotText` if it has no place there.
+    /// Takes a scalar, and keeps its text if it is a key. Returns `KeyNotText` if it has no place there.
     #[inline(always)]
     fn scalar(&mut self, value: CowStr<'_>) -> Result<(), ReadFault>
         ensures { (fs : List Frame) → Keeps self.old fs → MatchResult result
@@ -93,7 +95,7 @@ impl KeyCheck {
 ///
 /// # Errors
 ///
-/// - [`ReadFault::KeyNotText`] if some key is a collection.
+/// - [`ReadFault::KeyNotText`] if some key is a collection, or the events are not those of one document.
 /// - [`ReadFault::OutOfMemory`] if there is no memory for the keys.
 pub fn document_keys_differ(alloc: Global, events: Events<'_>) -> Result<bool, ReadFault>
     ensures { MatchResult result

@@ -15,7 +15,7 @@ use std::borrow::CowStr;
 use yaml_data::Text;
 use yaml_faults::ReadFault;
 
-/// A part of a document that is open. Of its values nothing is kept.
+/// A part of a document that is open. None of its values is kept.
 #[derive(Drop)]
 pub enum OpenPart {
     /// A document whose value is next.
@@ -38,12 +38,12 @@ pub enum OpenPart {
 pub struct OpenKeys {
     /// The pairs so far, without their values.
     pub pairs: Vec<(Text, ())>,
-    /// Whether the value of the last key is next. Else a key is next.
+    /// Whether the value of the last key is next. Otherwise a key is next.
     pub awaits_value: bool,
 }
 
 impl OpenKeys {
-    /// No keys yet, with room for so many.
+    /// No keys yet, with memory for `keys` of them. It fails only if memory runs out.
     fn with_capacity(alloc: Global, keys: usize) -> Result<Self, AllocError>
         ensures { IfOk result (λ map. keys_frame map ≡ at_key no_member) }
     {
@@ -53,7 +53,7 @@ impl OpenKeys {
         })
     }
 
-    /// Puts in a scalar: a value, or else a key, which is kept.
+    /// Puts in a scalar: a value if one is next, else a key, which is kept. It fails only if memory runs out.
     #[inline(always)]
     fn put_scalar(&mut self, alloc: Global, value: CowStr<'_>) -> Result<(), ReadFault>
         ensures { MatchResult result
@@ -73,7 +73,7 @@ impl OpenKeys {
 }
 
 impl OpenPart {
-    /// Whether the value of a key is next in it.
+    /// Whether the part is a mapping in which the value of a key is next.
     pub fn awaits_value(&self) -> bool
         ensures { (fs : List Frame) → result ≡ awaits_value (open_frame self.now ∷ fs) }
     {
@@ -110,7 +110,7 @@ impl OpenPart {
         }
     }
 
-    /// Puts in a scalar, of which the text is kept where it is a key. Returns `KeyNotText` if no value may follow.
+    /// Puts in a scalar, and keeps its text if it is a key. Returns `KeyNotText` if no value may follow.
     #[inline(always)]
     fn put_scalar(&mut self, alloc: Global, value: CowStr<'_>) -> Result<(), ReadFault>
         ensures { MatchResult result
@@ -134,7 +134,8 @@ impl OpenPart {
     }
 }
 
-/// The parts of a document that are open, the innermost one last, without their values.
+/// The parts of a document that are open, the innermost one last, without their values. After a fault nothing is
+/// promised of them. Each call that takes memory may return `OutOfMemory`.
 #[derive(Drop)]
 pub struct OpenParts {
     pub(crate) alloc: Global,
@@ -144,7 +145,7 @@ pub struct OpenParts {
 }
 
 impl OpenParts {
-    /// Nothing is open. `sizes` tells how many values the collections will have.
+    /// No part is open yet. `sizes` says how many values the collections will have.
     pub fn new(alloc: Global, sizes: Sizes) -> Self
         ensures { open_frames result.parts.items ≡ [] }
     {
@@ -179,7 +180,7 @@ impl OpenParts {
         }
     }
 
-    /// Opens a document.
+    /// Opens a document. It fails only if memory runs out.
     pub fn start_document(&mut self) -> Result<(), ReadFault>
         ensures { MatchResult result
             (λ _. open_frames self.new.parts.items
@@ -189,19 +190,19 @@ impl OpenParts {
         self.push(OpenPart::Document)
     }
 
-    /// Opens a sequence.
+    /// Opens a sequence inside the innermost part. It fails only if memory runs out.
     pub fn start_seq(&mut self) -> Result<(), ReadFault>
         ensures { MatchResult result
             (λ _. open_frames self.new.parts.items
             ≡ in_seq no_element ∷ open_frames self.old.parts.items)
             (λ fault. fault ≡ ReadFault.OutOfMemory) }
     {
-        // its elements take no memory
+        // the size is passed over: the elements take no memory
         let _ = self.sizes.next_size();
         self.push(OpenPart::Seq { is_empty: true })
     }
 
-    /// Opens a mapping.
+    /// Opens a mapping inside the innermost part. It fails only if memory runs out.
     pub fn start_map(&mut self) -> Result<(), ReadFault>
         ensures { MatchResult result
             (λ _. open_frames self.new.parts.items
@@ -273,7 +274,8 @@ impl OpenParts {
         }
     }
 
-    /// Puts a scalar into the innermost part. Returns `KeyNotText` if it has no place there.
+    /// Puts a scalar into the innermost part, and keeps its text if it is a key. Returns `KeyNotText` if it has no
+    /// place there.
     #[inline(always)]
     pub fn put_scalar(&mut self, value: CowStr<'_>) -> Result<(), ReadFault>
         ensures { MatchResult result
@@ -289,7 +291,7 @@ impl OpenParts {
         }
     }
 
-    /// Ends all. Returns `KeyNotText` if the document has not ended.
+    /// Ends the walk. Returns `KeyNotText` if the document has not ended, or something else is open.
     pub fn finish(mut self) -> Result<(), ReadFault>
         ensures { MatchResult result
             (λ _. finished_tree (open_frames self.parts.items) ≡ Some nothing)

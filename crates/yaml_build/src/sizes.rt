@@ -2,8 +2,8 @@
 
 use std::alloc::{AllocError, Global};
 
-/// How many values each collection of a document has, in the order in which the collections start. It says how much
-/// memory to take, and nothing goes wrong where it is off.
+/// How many values each collection of a document has, in the order in which the collections start. It is a hint of how
+/// much memory to take: a wrong number costs memory or time, and changes no tree.
 #[derive(Drop)]
 pub struct Sizes {
     counts: Vec<u32>,
@@ -19,7 +19,7 @@ impl Sizes {
         }
     }
 
-    /// How many values the collection has that starts next, a mapping's keys counted too; 0 if it isn't known.
+    /// The number of values of the collection that starts next, where a mapping's keys count too; 0 if it isn't known.
     pub(crate) fn next_size(&mut self) -> usize {
         match self.counts.get(self.next) {
             Some(count) => {
@@ -34,12 +34,12 @@ impl Sizes {
 /// A collection whose end is still to come, and how many values it has so far.
 #[derive(Clone, Copy)]
 struct Counted {
-    /// The place of its count.
+    /// The place of its count in the list of counts.
     place: usize,
     values: u32,
 }
 
-/// The counting of the values, as a document's events are gone through.
+/// Counts the values of each collection while a document's events are read.
 #[derive(Drop)]
 pub struct SizeCounter {
     counts: Vec<u32>,
@@ -61,13 +61,13 @@ impl SizeCounter {
         }
     }
 
-    /// A scalar comes next.
+    /// Counts a scalar, a key or a value.
     #[inline]
     pub fn count(&mut self) {
         self.innermost.values = self.innermost.values.saturating_add(1);
     }
 
-    /// A collection starts. It fails only if memory runs out.
+    /// Counts a collection, and begins to count its values. It fails only if memory runs out.
     pub fn start(&mut self) -> Result<(), AllocError> {
         self.count();
         self.outer.push(self.innermost)?;
@@ -79,7 +79,7 @@ impl SizeCounter {
         Ok(())
     }
 
-    /// The innermost collection ends.
+    /// Ends the innermost collection.
     pub fn end(&mut self) {
         if let Some(count) = self.counts.get_mut(self.innermost.place) {
             *count = self.innermost.values;
@@ -89,7 +89,7 @@ impl SizeCounter {
         }
     }
 
-    /// What was counted.
+    /// The sizes of the collections that have ended.
     pub fn sizes(self) -> Sizes {
         Sizes {
             counts: self.counts,

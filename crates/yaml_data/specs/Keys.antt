@@ -1,4 +1,4 @@
--- What `distinct` asks of a mapping: of its own keys, and of its values.
+-- The two parts of `distinct` of a mapping: its own keys differ, and so do those in its values.
 use Rattle.std.specs.Prelude.{ℕ, ◌+◌, Bool, true, not, ◌&&◌, List, [], ◌∷◌}
 use Rattle.yaml_grammar.specs.Trees.{Tree, text, sequence, mapping, Elements, no_element, element, Members, no_member, member, has_key, distinct, elements_distinct}
 use Rattle.std.specs.Str.{chars}
@@ -8,7 +8,7 @@ use Rattle.yaml_data.specs.declared.keys.Level.{Level}
 use Rattle.yaml_data.specs.declared.keys.Level.TheVariants as levels
 use Rattle.yaml_data.specs.declared.text.Text.{Text as Words}
 
--- what stands for a value of which nothing is kept
+-- the tree in place of a value that is not kept
 abbrev pub nothing : Tree
 nothing = text []
 
@@ -17,10 +17,12 @@ abbrev pub key_members : {A : Type 0} → List (Words × A) → Members
 key_members [] = no_member
 key_members (m ∷ ms) = member (chars (text_bytes m.0)) nothing (key_members ms)
 
+-- the keys of one mapping differ
 abbrev pub keys_differ : Members → Bool
 keys_differ no_member = true
 keys_differ (member key t ms) = not (has_key key ms) && keys_differ ms
 
+-- in each mapping inside the values the keys differ
 abbrev pub values_distinct : Members → Bool
 values_distinct no_member = true
 values_distinct (member key t ms) = distinct t && values_distinct ms
@@ -31,11 +33,12 @@ own_keys_differ (text value) = true
 own_keys_differ (sequence ts) = true
 own_keys_differ (mapping ms) = keys_differ ms
 
--- in each value of a level
+-- in each mapping inside the values of a level the keys differ
 abbrev pub level_distinct : Level → Bool
 level_distinct (levels.Elements items) = elements_distinct (elements_of items.now)
 level_distinct (levels.Values pairs) = values_distinct (members_of pairs.now)
 
+-- the same of several levels
 abbrev pub levels_distinct : List Level → Bool
 levels_distinct [] = true
 levels_distinct (l ∷ ls) = level_distinct l && levels_distinct ls
@@ -60,7 +63,8 @@ abbrev pub level_nodes : Level → ℕ
 level_nodes (levels.Elements items) = element_nodes (elements_of items.now)
 level_nodes (levels.Values pairs) = member_nodes (members_of pairs.now)
 
--- each level counts once more, and each node twice: a step takes a level off and puts two smaller ones on
+-- A bound on the steps of the walk over these levels. Each level counts 1 and each of its nodes 2: a step takes a level
+-- off and puts two on that count less together.
 abbrev pub steps_left : List Level → ℕ
 steps_left [] = 0
 steps_left (l ∷ ls) = 1 + level_nodes l + level_nodes l + steps_left ls

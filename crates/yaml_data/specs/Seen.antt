@@ -11,6 +11,7 @@ use Rattle.yaml_data.specs.declared.tree.Tree.TheOpen.{Tree-F}
 abbrev pub Pair : Type 0
 Pair = Text × Tree
 
+-- trees as elements, and pairs as members
 abbrev pub elements_from : List grammar.Tree → grammar.Elements
 elements_from [] = grammar.no_element
 elements_from (t ∷ ts) = grammar.element t (elements_from ts)
@@ -19,12 +20,13 @@ abbrev pub members_from : List (Text × grammar.Tree) → grammar.Members
 members_from [] = grammar.no_member
 members_from (m ∷ ms) = grammar.member (chars (text_bytes m.0)) m.1 (members_from ms)
 
--- one level, with each tree inside already seen
+-- one level of a tree, whose inner trees are the grammar's already
 abbrev pub level : Tree-F grammar.Tree → grammar.Tree
 level (Tree-F.Text s) = grammar.text (chars (text_bytes s))
 level (Tree-F.Seq items) = grammar.sequence (elements_from items.items)
 level (Tree-F.Map pairs) = grammar.mapping (members_from pairs.items)
 
+-- a tree, the elements of a sequence, and the members of a mapping
 abbrev pub tree_of : Tree → grammar.Tree
 tree_of = fold-Tree grammar.Tree level
 

@@ -5,6 +5,7 @@ use Rattle.yaml_data.specs.declared.text.Node.{Node}
 use Rattle.yaml_data.specs.declared.text.Node.TheVariants as node
 use Rattle.yaml_data.specs.declared.text.Text.{Text}
 
+-- of a text that is stored in the value itself
 abbrev pub short_bytes : Short → List ℕ
 short_bytes s = take s.len s.bytes
 

@@ -9,11 +9,11 @@ use crate::{Text, Tree};
 use std::alloc::{AllocError, Global};
 use std::collections::BTreeSet;
 
-/// How many pairs a mapping has at most whose keys are compared one by one.
+/// The most pairs of a mapping whose keys are compared one by one.
 const FEW: usize = 8;
 
-/// Whether in each mapping of a tree the keys differ from one another. The walk keeps its way on a stack of its own,
-/// so the tree may have any depth. Only running out of memory can fail.
+/// Whether in each mapping of a tree the keys differ from one another (YAML 1.2.2, 3.2.1.3). The walk has a stack in
+/// memory and does not use the call stack, so the tree may have any depth. It fails only if memory runs out.
 pub fn has_distinct_keys(alloc: Global, tree: &Tree) -> Result<bool, AllocError>
     ensures { IfOk result (λ answer. answer ≡ distinct (tree_of tree.now)) }
 {
@@ -53,7 +53,7 @@ impl<'t> Level<'t> {
         }
     }
 
-    /// The first value and those after it.
+    /// The first value and those after it; `None` if there is no value.
     fn split_first(self) -> Option<(&'t Tree, Level<'t>)>
         ensures { MatchOption result
             ((level_distinct self.entry ≡ true))
@@ -73,8 +73,8 @@ impl<'t> Level<'t> {
         }
     }
 
-    /// Whether the own keys of its first value differ. What comes after that value and what is inside it are then put
-    /// onto the levels that are left.
+    /// Whether the own keys of its first value differ. If they do, the values after it and the values inside it are
+    /// pushed onto the levels that are left.
     #[inline(always)]
     fn first_differs(self, alloc: Global, left: &mut Vec<Level<'t>>) -> Result<bool, AllocError>
         ensures keys { IfOk result (λ answer.
@@ -95,7 +95,7 @@ impl<'t> Level<'t> {
     }
 }
 
-/// Whether the keys of a tree differ, where it is a mapping; those deeper inside don't count.
+/// Whether a tree's own keys differ: true unless it is a mapping. Keys deeper inside don't count.
 fn have_own_keys_distinct(alloc: Global, tree: &Tree) -> Result<bool, AllocError>
     ensures { IfOk result (λ answer. answer ≡ own_keys_differ (tree_of tree.now)) }
 {
@@ -105,8 +105,8 @@ fn have_own_keys_distinct(alloc: Global, tree: &Tree) -> Result<bool, AllocError
     }
 }
 
-/// Whether the keys of one mapping differ. What they map to is not looked at, so it may have any type. Only running out
-/// of memory can fail.
+/// Whether the keys of one mapping differ. Its values are not looked at, so they may have any type. Up to 8 pairs take
+/// no memory. It fails only if memory runs out.
 pub fn keys_differ<T>(alloc: Global, pairs: &[(Text, T)]) -> Result<bool, AllocError>
     ensures { IfOk result (λ answer. answer ≡ keys_differ (key_members pairs.now)) }
 {
@@ -142,7 +142,7 @@ fn has_key<T>(pairs: &[(Text, T)], key: &str) -> bool
     false
 }
 
-/// Whether the keys of one mapping differ. Each is looked up among those before it, which are in order.
+/// Whether the keys of one mapping differ. Each is looked up in a sorted set of those before it.
 fn many_keys_differ<T>(alloc: Global, pairs: &[(Text, T)]) -> Result<bool, AllocError>
     ensures { IfOk result (λ answer. answer ≡ keys_differ (key_members pairs.now)) }
 {

@@ -1,4 +1,4 @@
-// At most 23 bytes of UTF-8, which lie in the value itself.
+// At most 23 bytes of UTF-8, stored in the value itself.
 ghost use Rattle.std.specs.Prelude.{◌≡◌, ◌≤◌, ◌<◌, take, length, [], IsUtf8, MatchOption};
 
 use std::str;
@@ -29,7 +29,7 @@ impl Short {
         }
     }
 
-    /// A copy of a text, if it is short enough.
+    /// A copy of a text; `None` if it has more than 23 bytes.
     #[inline]
     pub(crate) fn new(text: &str) -> Option<Short>
         ensures { MatchOption result (23 < length text.now)
@@ -47,6 +47,7 @@ impl Short {
         })
     }
 
+    /// The text as a `str`.
     #[inline]
     pub(crate) fn as_str(&self) -> &str
         ensures { result.now ≡ short_bytes self.now }

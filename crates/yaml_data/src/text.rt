@@ -7,7 +7,7 @@ use std::alloc::{AllocError, Global};
 use std::fmt;
 use std::ops::DerefStr;
 
-/// A text of a tree. A text of at most 23 bytes lies in the value itself; a longer one has memory of its own.
+/// A text of a tree. A text of at most 23 bytes is stored in the value itself; a longer one has memory of its own.
 #[derive(Drop)]
 pub struct Text {
     node: Node,
@@ -32,7 +32,7 @@ impl Text {
         }
     }
 
-    /// A copy of a text.
+    /// A copy of a text. One of at most 23 bytes takes no memory. It fails only if memory runs out.
     #[inline]
     pub fn new(alloc: Global, text: &str) -> Result<Text, AllocError>
         ensures { IfOk result (λ copy. text_bytes copy ≡ text.now) }
@@ -44,7 +44,8 @@ impl Text {
         Ok(Text { node })
     }
 
-    /// The text that a string holds. A string of more than 23 bytes is taken over as it is.
+    /// The text of a string. A string of more than 23 bytes is moved, with its memory; a shorter one is copied,
+    /// and then dropped.
     #[inline]
     pub fn from_string(string: String) -> Text
         ensures { text_bytes result ≡ string_bytes string }
@@ -56,7 +57,7 @@ impl Text {
         Text { node }
     }
 
-    /// The text.
+    /// The text as a `str`.
     #[inline]
     pub fn as_str(&self) -> &str
         ensures { result.now ≡ text_bytes self.now }
@@ -67,7 +68,7 @@ impl Text {
         }
     }
 
-    /// How many bytes the text has.
+    /// The length of the text, in bytes of UTF-8.
     #[inline]
     pub fn len(&self) -> usize
         ensures { result ≡ length (text_bytes self.now) }
@@ -75,7 +76,8 @@ impl Text {
         self.as_str().len()
     }
 
-    /// The text as a string. A text of more than 23 bytes is handed over as it is.
+    /// The text as a string. A text of more than 23 bytes is moved, with its memory; a shorter one is copied. It fails
+    /// only if memory runs out, and the text is then dropped.
     pub fn into_string(self, alloc: Global) -> Result<String, AllocError>
         ensures { IfOk result (λ string. string_bytes string ≡ text_bytes self) }
     {
@@ -85,7 +87,7 @@ impl Text {
         }
     }
 
-    /// A copy of the text. Only running out of memory can fail.
+    /// A copy of the text. One of at most 23 bytes takes no memory. It fails only if memory runs out.
     #[inline]
     pub fn try_copy(&self, alloc: Global) -> Result<Text, AllocError>
         ensures { IfOk result (λ copy. text_bytes copy ≡ text_bytes self.now) }
@@ -107,7 +109,7 @@ impl DerefStr for Text {
     }
 }
 
-/// As a `str` has it.
+/// Formats the text as a `str` is formatted: in quotes, with escapes.
 impl fmt::Debug for Text {
     fn fmt<W: fmt::Write>(&self, f: &mut fmt::Formatter<W>) -> fmt::Result {
         fmt::Debug::fmt(&self.as_str(), f)

@@ -10,7 +10,7 @@ use std::alloc::{AllocError, Global};
 /// A tree of texts (YAML 1.2.2, 3.2.1).
 ///
 /// Dropping a tree grows the call stack with its depth. The owner of a tree that may be tens of thousands of levels
-/// deep takes it apart from the outside, level by level.
+/// deep should take it apart from the outside, level by level.
 #[derive(Debug, Drop)]
 pub enum Tree {
     /// A text.
@@ -24,8 +24,8 @@ pub enum Tree {
 const _: () = prove!(size_of::<Tree>() == 40);
 
 impl Tree {
-    /// Whether the tree is more than `limit` deep. It looks no deeper than that, so the call stack stays small for
-    /// every tree.
+    /// Whether the tree is more than `limit` deep, as [`depth`](Tree::depth) counts. It looks no deeper than that, so
+    /// the call stack stays small for every tree.
     #[cycle(deeper)]
     pub fn is_deeper_than(&self, limit: u8) -> bool
         ensures { result ≡ nat_lt limit (depth (tree_of self.now)) }
@@ -40,7 +40,7 @@ impl Tree {
         }
     }
 
-    /// How deep the tree is: a text has 1, a collection 1 more than its deepest value, or 1 where it is empty. Keys
+    /// How deep the tree is: a text has 1, a collection 1 more than its deepest value, or 1 if it is empty. Keys
     /// don't count. The call stack grows with the depth, which therefore is at most 66;
     /// [`is_deeper_than`](Tree::is_deeper_than) tests that.
     pub fn depth(&self) -> u64
@@ -50,8 +50,8 @@ impl Tree {
         depth_of(self)
     }
 
-    /// A copy: a tree of the same texts in the same order. Only running out of memory can fail. The call stack grows
-    /// with the depth, which therefore is at most 66; [`is_deeper_than`](Tree::is_deeper_than) tests that.
+    /// A copy: a tree of the same texts in the same order. It fails only if memory runs out. The call stack grows with
+    /// the depth, which therefore is at most 66; [`is_deeper_than`](Tree::is_deeper_than) tests that.
     pub fn try_copy(&self, alloc: Global) -> Result<Tree, AllocError>
         requires { depth (tree_of self.now) ≤ own_limits.depth }
         ensures { IfOk result (λ copy. tree_of copy ≡ tree_of self.now) }

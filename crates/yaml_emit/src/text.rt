@@ -7,8 +7,8 @@ ghost use Rattle.yaml_data.specs.Seen.{tree_of};
 use std::alloc::{AllocError, Global};
 use yaml_tree::{Config, write_style};
 
-/// The text of a configuration in the one style, through the end of its last line. It is linear in the text's
-/// length, and allocates once, for the text. It fails only if out of memory.
+/// The text of a configuration in the one style, through the end of its last line. It takes time linear in the text's
+/// length, and memory once, for the text. It fails only if memory runs out.
 pub fn style_text(alloc: Global, config: &Config) -> Result<String, AllocError>
     ensures { IfOk result (λ text. chars (string_bytes text) ≡ style_text (tree_of config.now)) }
 {

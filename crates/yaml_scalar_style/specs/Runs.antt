@@ -4,7 +4,7 @@ use Rattle.yaml_chars.specs.Classes.{in_range}
 use Rattle.yaml_chars.specs.Signs.{backslash, double_quote, line_feed}
 use Rattle.yaml_grammar.specs.Style.{hex}
 
--- an ASCII character that means itself
+-- an ASCII character that is written as itself between double quotes
 abbrev pub stands_alone : ℕ → Bool
 stands_alone c = in_range 0x20 0x7e c && not ((c == double_quote) || (c == backslash))
 

@@ -4,15 +4,17 @@ use Rattle.yaml_grammar.specs.Style.{plain_in_style, literal_in_style, feeds_at_
 use Rattle.yaml_scalar_style.specs.declared.scalar.ScalarStyle.{ScalarStyle}
 use Rattle.yaml_scalar_style.specs.declared.scalar.ScalarStyle.TheVariants.{Plain, Double, LiteralStrip, LiteralClip, LiteralKeep}
 
--- by the line feeds that end the text
+-- of a literal, by the number of line feeds that end the text
 abbrev pub literal_style : ℕ → ScalarStyle
 literal_style zero = LiteralStrip
 literal_style (suc zero) = LiteralClip
 literal_style (suc (suc n)) = LiteralKeep
 
+-- of a key
 abbrev pub key_style : List ℕ → ScalarStyle
 key_style key = if plain_in_style key then Plain else Double
 
+-- of a value
 abbrev pub value_style : List ℕ → ScalarStyle
 value_style value =
     if plain_in_style value then Plain

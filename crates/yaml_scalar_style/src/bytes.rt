@@ -1,4 +1,4 @@
-// Tests of bytes, many of which are looked at together.
+// Tests of bytes, many of them at once.
 ghost use Rattle.std.specs.Prelude.{◌≡◌};
 ghost use Rattle.std.specs.List.{list_all};
 ghost use Rattle.yaml_grammar.specs.Style.{word_char};
@@ -12,7 +12,7 @@ pub(crate) fn is_word_byte(byte: u8) -> bool
     WORD_BYTES[byte as usize] != 0
 }
 
-/// For each byte whether it is an ASCII letter or digit, or one of `_`, `-`, `.` and `/`.
+/// 1 for each byte that is an ASCII letter or digit, or one of `_`, `-`, `.` and `/`; 0 for the others.
 static WORD_BYTES: [u8; 256] = [
     0, 0, 0, 0, 0, 0, 0, 0, 0, 0, 0, 0, 0, 0, 0, 0, 0, 0, 0, 0, 0, 0, 0, 0, 0, 0, 0, 0, 0, 0, 0, 0,
     0, 0, 0, 0, 0, 0, 0, 0, 0, 0, 0, 0, 0, 1, 1, 1, 1, 1, 1, 1, 1, 1, 1, 1, 1, 1, 0, 0, 0, 0, 0, 0,
@@ -24,8 +24,8 @@ static WORD_BYTES: [u8; 256] = [
     0, 0, 0, 0, 0, 0, 0, 0, 0, 0, 0, 0, 0, 0, 0, 0, 0, 0, 0, 0, 0, 0, 0, 0, 0, 0, 0, 0, 0, 0, 0, 0,
 ];
 
-/// Whether each byte is an ASCII character that needs no escape between double quotes. It looks at all of them, so that
-/// they can be looked at together.
+/// Whether each byte is an ASCII character that needs no escape between double quotes. It does not stop at the first
+/// that is none, so that many bytes can be tested at once.
 #[inline(always)]
 pub(crate) fn are_alone(bytes: &[u8]) -> bool
     ensures { result ≡ list_all stands_alone bytes.now }
@@ -44,8 +44,8 @@ pub(crate) fn is_alone(byte: u8) -> bool
     matches!(byte, b' '..=b'~') & (byte != b'"') & (byte != b'\\')
 }
 
-/// Whether each byte is an ASCII character that a literal shows, or a line feed. It looks at all of them, so that they
-/// can be looked at together.
+/// Whether each byte is an ASCII character that a literal shows, or a line feed. It does not stop at the first that is
+/// none, so that many bytes can be tested at once.
 pub(crate) fn are_in_lines(bytes: &[u8]) -> bool
     ensures { result ≡ list_all ascii_in_lines bytes.now }
 {

@@ -1,6 +1,6 @@
 //! How the one style writes a text: the style of its scalar, and its characters in double quotes or as a literal.
 //!
-//! What is written goes to a [`Sink`], as a `String` is.
+//! What is written goes to a [`Sink`], for example a `String`.
 #![tactic(auto)]
 
 mod bytes;

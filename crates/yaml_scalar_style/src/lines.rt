@@ -4,7 +4,7 @@ ghost use Rattle.std.specs.Str.{chars};
 ghost use Rattle.yaml_chars.specs.Signs.{line_feed};
 ghost use Rattle.yaml_scalar_style.specs.Lines.{IsOneLine};
 
-/// The first line of a text, and what comes after its line feed; None where the text has no line feed.
+/// The first line of a text, and what comes after its line feed; `None` if the text has no line feed.
 pub(crate) fn split_line(text: &str) -> Option<(&str, &str)>
     ensures { MatchOption result (IsOneLine (chars text.now))
         (λ cut. (text.now ≡ cut.0.now ++ line_feed ∷ cut.1.now) × IsOneLine (chars cut.0.now)) }

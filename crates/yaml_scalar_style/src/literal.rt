@@ -23,6 +23,7 @@ pub fn write_literal_lines<S: Sink>(text: &str, indent: u64, sink: &mut S) -> Re
     write_line(rest, indent, sink)
 }
 
+/// Writes one line of a literal: after `indent` spaces, or with none if it is empty, and with its line feed.
 fn write_line<S: Sink>(line: &str, indent: u64, sink: &mut S) -> Result<(), S::Fault>
     ensures { OnOk result (S.Takes sink.old (line_text indent (chars line.now)) sink.new) }
 {

@@ -51,7 +51,7 @@ fn run_len(text: &str) -> usize
     len
 }
 
-/// How many bytes at the start are such characters, as far as they can be taken sixteen by sixteen.
+/// The same, counted sixteen bytes at a time: the length of the whole groups of sixteen at the start.
 fn sixteens_len(bytes: &[u8]) -> usize
     ensures within { result ≤ length bytes.now }
     ensures alone { list_all stands_alone (take result bytes.now) ≡ true }
@@ -63,6 +63,7 @@ fn sixteens_len(bytes: &[u8]) -> usize
     len
 }
 
+/// Writes a character between the quotes: as itself, or as an escape (YAML 1.2.2, 5.7).
 fn write_quoted_char<S: Sink>(c: char, sink: &mut S) -> Result<(), S::Fault>
     ensures { OnOk result (S.Takes sink.old (quoted_char c) sink.new) }
 {
@@ -85,7 +86,7 @@ fn write_escape<S: Sink>(c: char, sink: &mut S) -> Result<(), S::Fault>
     sink.put_char(c)
 }
 
-/// The letter that means a control character after a backslash, if there is one.
+/// The letter that means a character after a backslash (YAML 1.2.2, 5.7); `None` if it has no such letter.
 fn escape_letter(c: char) -> Option<char>
     ensures { MatchOption result
         ((c == null) || in_range bell carriage_return c || (c == escape_char) ≡ false)
@@ -106,7 +107,8 @@ fn escape_letter(c: char) -> Option<char>
     }
 }
 
-/// Writes a character's number, by two hexadecimal digits where it is below 256, else by four.
+/// Writes a character by its number: `\x` and two hexadecimal digits if it is below 256, else `\u` and four. All
+/// characters from x10000 on are shown, so none of them comes here.
 fn write_number<S: Sink>(c: char, sink: &mut S) -> Result<(), S::Fault>
     requires { c < 2 ^ 16 }
     ensures { OnOk result (S.Takes sink.old (number_escape c) sink.new) }
@@ -121,7 +123,7 @@ fn write_number<S: Sink>(c: char, sink: &mut S) -> Result<(), S::Fault>
     write_two_digits(number % 256, sink)
 }
 
-/// Writes a number below 256 by two hexadecimal digits.
+/// Writes a number below 256 as two hexadecimal digits.
 fn write_two_digits<S: Sink>(number: u32, sink: &mut S) -> Result<(), S::Fault>
     requires { number < 256 }
     ensures { OnOk result (S.Takes sink.old (hex (number / 16) ∷ hex (number % 16) ∷ []) sink.new) }
@@ -130,6 +132,7 @@ fn write_two_digits<S: Sink>(number: u32, sink: &mut S) -> Result<(), S::Fault>
     write_digit(number % 16, sink)
 }
 
+/// Writes a number below 16 as a hexadecimal digit in upper case.
 fn write_digit<S: Sink>(digit: u32, sink: &mut S) -> Result<(), S::Fault>
     requires { digit < 16 }
     ensures { OnOk result (S.Takes sink.old (hex digit ∷ []) sink.new) }

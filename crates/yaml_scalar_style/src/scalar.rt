@@ -27,7 +27,7 @@ pub enum ScalarStyle {
     LiteralKeep,
 }
 
-/// How the one style writes a text as a value, or as a key. A key is plain or double-quoted.
+/// How the one style writes a text: as a key if `is_key`, else as a value. A key is plain or double-quoted.
 pub fn scalar_style(text: &str, is_key: bool) -> ScalarStyle
     ensures { result ≡ (if is_key then key_style (chars text.now)
         else value_style (chars text.now)) }
@@ -41,14 +41,14 @@ pub fn scalar_style(text: &str, is_key: bool) -> ScalarStyle
     }
 }
 
-/// A letter of ASCII.
+/// Whether a character is an ASCII letter.
 fn is_letter(c: char) -> bool
     ensures { result ≡ letter c }
 {
     matches!(c, 'A'..='Z' | 'a'..='z')
 }
 
-/// Whether a character is written as itself between double quotes and in a literal.
+/// Whether a character is shown: written as itself in a literal, and between double quotes unless it is `"` or `\`.
 pub(crate) fn is_shown(c: char) -> bool
     ensures { result ≡ shown c }
 {
@@ -83,7 +83,7 @@ fn has_word_chars(text: &str) -> bool
     text.bytes().all(is_word_byte)
 }
 
-/// Whether a word is special in any letter case.
+/// Whether a text of ASCII is, in any letter case, a word that other readers of YAML take for something else.
 fn is_special(text: &str) -> bool
     requires { chars text.now ≡ text.now }
     ensures { result ≡ is_among (lower (chars text.now)) special_words }
@@ -102,7 +102,7 @@ fn is_special(text: &str) -> bool
     }
 }
 
-/// Whether two words are the same but for the case of their letters.
+/// Whether a text of ASCII is this word, in any letter case.
 fn is_same_word(text: &str, word: &str) -> bool
     requires { chars text.now ≡ text.now }
     ensures { result ≡ same_text (lower (chars text.now)) (lower word.now) }
@@ -116,7 +116,7 @@ fn is_literal(text: &str) -> bool
     has_feed(text) && !starts_with_space_or_feed(text) && is_shown_in_lines(text)
 }
 
-/// Whether each character is shown in a literal or is a line feed. A text of ASCII needs no look at its characters.
+/// Whether each character is shown or is a line feed. Bytes are tested first, which is enough for a text of ASCII.
 fn is_shown_in_lines(text: &str) -> bool
     ensures { result ≡ list_all shown_or_feed (chars text.now) }
 {
@@ -141,7 +141,7 @@ fn starts_with_space_or_feed(text: &str) -> bool
     text.chars().next().is_some_and(|c| matches!(c, ' ' | '\n'))
 }
 
-/// The style of a literal, by the line feeds that end it.
+/// The style of a literal, by the number of line feeds that end it (YAML 1.2.2, 8.1.1.2).
 fn literal_style(text: &str) -> ScalarStyle
     ensures { result ≡ literal_style (feeds_at_end (chars text.now)) }
 {

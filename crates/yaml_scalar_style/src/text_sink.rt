@@ -1,4 +1,4 @@
-// A text in memory takes what is written at its end.
+// A string as a sink: what is written comes at its end.
 ghost use Rattle.std.specs.Prelude.{◌≡◌, ◌++◌, string_bytes, OnOk};
 ghost use Rattle.yaml_grammar.specs.Texts.{spaces};
 
@@ -33,9 +33,10 @@ impl Sink for String {
     }
 }
 
-/// As many spaces as are appended at once.
+/// The most spaces that are appended at once.
 const SPACES: &str = "                                                                ";
 
+/// Appends `count` spaces. It fails only if memory runs out; some of them may then be there.
 fn push_spaces(text: &mut String, count: usize) -> Result<(), AllocError>
     ensures { OnOk result (string_bytes text.new ≡ string_bytes text.old ++ spaces count) }
 {

@@ -2,7 +2,7 @@
 -- whether all that is written is that prefix.
 use Rattle.std.specs.Prelude.{ℕ, Bool, true, false, ◌==◌, List, [], ◌∷◌, if◌then◌else◌}
 
--- what more is written, where so much of the text is left, and all that was written so far agreed with it or did not
+-- the comparison after more is written: what is left of the text, and whether all that was written agrees with it
 abbrev pub comparison_after : List ℕ → Bool → List ℕ → List ℕ × Bool
 comparison_after left false written = (left, false)
 comparison_after left true [] = (left, true)

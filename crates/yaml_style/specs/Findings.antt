@@ -38,8 +38,8 @@ common [] ds = []
 common (c ∷ cs) [] = []
 common (c ∷ cs) (d ∷ ds) = if c == d then c ∷ common cs ds else []
 
--- S4, of a text and that of its tree in the one style: the line on which they first differ. No break is cut in the
--- middle there, since the one style has no CR.
+-- S4, of a text and that of its tree in the one style: the line on which they first differ, from 1. The prefix that
+-- they share doesn't end inside a CR LF, since the one style has no CR.
 abbrev pub style_line : List ℕ → List ℕ → Option ℕ
 style_line text styled = if same_text text styled then None else Some (suc (breaks (common text styled)))
 

@@ -8,7 +8,7 @@ use std::convert::Infallible;
 use yaml_chars::next_char;
 use yaml_tree::Sink;
 
-/// A text, as far as it is not found in what is written.
+/// A sink that compares what is written with a text.
 #[derive(Drop)]
 pub(crate) struct Comparison<'a> {
     /// What is left of the text after the longest prefix that it shares with what is written.
@@ -18,7 +18,7 @@ pub(crate) struct Comparison<'a> {
 }
 
 impl<'a> Comparison<'a> {
-    /// Nothing is written yet.
+    /// A comparison with a text, before anything is written.
     pub(crate) fn new(text: &'a str) -> Comparison<'a>
         ensures rest { result.rest.now ≡ text.now }
         ensures agrees { result.agrees ≡ true }
@@ -85,7 +85,7 @@ fn compare<'a>(text: &'a str, written: &str) -> (&'a str, bool)
     }
 }
 
-/// What is left of a text that begins with this character.
+/// What is left of a text after this character; `None` if it doesn't begin with it.
 fn strip_char(text: &str, c: char) -> Option<&str>
     ensures found { IfSome result (λ left. comparison_after (chars text.now) true (c ∷ [])
         ≡ (chars left.now, true)) }
@@ -112,7 +112,7 @@ fn after_common<'a>(text: &'a str, other: &str) -> &'a str
     &text[at..]
 }
 
-/// The length in bytes of the character that both texts have at a place; None where they differ there, or one ends.
+/// The length in bytes of the character that both texts have at a place; `None` if they differ there, or one ends.
 fn common_char(text: &str, other: &str, at: usize) -> Option<usize>
     requires here { IsCharBoundary text.now at }
     requires there { IsCharBoundary other.now at }

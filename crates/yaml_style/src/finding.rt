@@ -11,7 +11,8 @@ pub enum Rule {
     LineEnd,
     /// The line has more than 120 code points, its break not counted.
     LongLine,
-    /// The text is not that of its tree in the one style, and first differs from it on this line.
+    /// The text is not that of its tree in the one style, and first differs from it on this line. At most one line of a
+    /// text breaks this rule.
     NotInStyle,
 }
 
@@ -32,6 +33,7 @@ impl Rule {
 /// A line that breaks a rule.
 #[derive(Clone, Copy, Debug, PartialEq, Eq)]
 pub struct Finding {
+    /// The rule that the line breaks.
     pub rule: Rule,
     /// The number of the line, from 1.
     pub line: u64,

@@ -20,9 +20,8 @@ use yaml_tree::{Config, Limits, ReadFault, read_one, write_style};
 /// The findings of a text, ordered by line, and on one line by rule.
 ///
 /// The text is read as [`read_one`] reads it, within the limits of a configuration ([`Limits::CONFIGURATION`]). Its
-/// lines are looked at once, and the text of its tree in the one style is compared with it as it is written, and
-/// never held. A byte order mark counts as a character of the first line. Breaks are LF, CR LF and CR (YAML 1.2.2,
-/// 5.4).
+/// lines are looked at once. The text of its tree in the one style is compared with it piece by piece, and never held
+/// whole. A byte order mark counts as a character of the first line. Breaks are LF, CR LF and CR (YAML 1.2.2, 5.4).
 ///
 /// # Errors
 ///
@@ -39,7 +38,7 @@ pub fn check(alloc: Global, bytes: &[u8]) -> Result<Vec<Finding>, ReadFault>
     Ok(findings)
 }
 
-/// The line on which a text first differs from its tree's in the one style; None where it doesn't.
+/// The line, from 1, on which a text first differs from its tree's in the one style; `None` if it doesn't.
 fn style_line(text: &str, config: &Config) -> Option<u64>
     requires { length text.now ≤ config_limits.bytes }
     ensures { result ≡ style_line (chars text.now) (style_text (tree_of config.now)) }

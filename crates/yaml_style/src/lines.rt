@@ -28,21 +28,21 @@ fn ends_in_white(content: &str) -> bool
     content.ends_with(' ') || content.ends_with('\t')
 }
 
-/// Whether a break is another than LF, or none.
+/// Whether a line ends in something else than LF.
 fn ends_otherwise(ending: &str) -> bool
     ensures { result ≡ ends_otherwise (chars ending.now) }
 {
     ending != "\n"
 }
 
-/// Whether a line without its break has more code points than it may have.
+/// Whether a line without its break has more than 120 code points.
 fn is_long(content: &str) -> bool
     ensures { result ≡ is_long (chars content.now) }
 {
     content.len() > LONGEST_LINE && content.chars().count() > LONGEST_LINE
 }
 
-/// The first line of a text, and the text after it.
+/// The first line of a text that is not empty, and the text after it.
 fn split_line(text: &str) -> (Line<'_>, &str)
     requires { 0 < length text.now }
     ensures cut { lines (chars text.now) ≡ line_chars result.0 ∷ lines (chars result.1.now) }
@@ -64,7 +64,7 @@ fn split_line(text: &str) -> (Line<'_>, &str)
     (line, &text[start + len..])
 }
 
-/// The findings of all lines, but for the comparison with the one style.
+/// The findings of all lines by the rules S1 to S3, in order.
 pub(crate) fn line_findings(alloc: Global, text: &str) -> Result<Vec<Finding>, AllocError>
     ensures { IfOk result (λ found. found.items ≡ line_findings 1 (lines (chars text.now))) }
 {
@@ -101,7 +101,7 @@ fn push_findings(
     push_where(findings, Rule::LongLine, number, is_long(line.content))
 }
 
-/// Adds the finding that a line breaks a rule, if it does.
+/// Adds the finding that a line breaks a rule, if `is_broken`.
 fn push_where(
     findings: &mut Vec<Finding>,
     rule: Rule,
@@ -116,7 +116,7 @@ fn push_where(
     Ok(())
 }
 
-/// How many breaks a text has.
+/// The number of line breaks in a text.
 pub(crate) fn break_count(text: &str) -> u64
     ensures count { result ≡ breaks (chars text.now) }
     ensures within { result ≤ length text.now }

@@ -1,4 +1,4 @@
--- A document that is written while its events come, and what is left of it at the end.
+-- A document that is written while its events come, and what was written of it at the end.
 use Rattle.std.specs.Prelude.{◌≡◌, ℕ, ◌<◌, List, Option, Some, ◌-◌, ◌+◌, encode_utf8_all}
 use Rattle.yaml_grammar.specs.Events.{Event}
 use Rattle.yaml_grammar.specs.Reads.{Limits}
@@ -29,7 +29,7 @@ indent_after i map_from = i + 2
 indent_after i map_to = i - 2
 indent_after i (scalar_of value) = i
 
--- a writer that began with a text and has come to these open parts
+-- a writer that began with a text, after the events that opened these parts
 pub record Writes (start : LimitedText) (writer : DocumentWriter) (fs : List Frame) : Type 0 where
   pub keeps : Keeps writer.check fs
   pub indent : writer.indent ≡ indent_in fs
@@ -37,7 +37,7 @@ pub record Writes (start : LimitedText) (writer : DocumentWriter) (fs : List Fra
   pub texts : AreTextFrames fs
   pub text : TakesLimited start (text_of fs) writer.text
 
--- a writer that has come to the open parts which there are
+-- the event has a place, and this is the writer after it
 pub record Wrote (start : LimitedText) (writer : DocumentWriter) (o : Option (List Frame)) : Type 0 where
   pub parts : List Frame
   pub are : o ≡ Some parts

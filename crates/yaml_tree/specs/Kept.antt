@@ -1,4 +1,4 @@
--- Which trees are within limits, and what is wrong with the others.
+-- Which trees are within limits, and the faults of the others.
 use Rattle.std.specs.Prelude.{◌≡◌, ◌<◌, ◌≤◌, IsTrue, false}
 use Rattle.yaml_grammar.specs.Reads as grammar
 use Rattle.yaml_grammar.specs.Reads.{Good}
@@ -10,6 +10,7 @@ use Rattle.yaml_tree.specs.declared.limits.Limits.{Limits}
 use Rattle.yaml_faults.specs.declared.fault.ReadFault.{ReadFault}
 use Rattle.yaml_faults.specs.declared.fault.ReadFault.TheVariants.{KeyTwice, TooDeep, LargeInStyle, OutOfMemory}
 
+-- limits of the code as the grammar's
 abbrev pub limits_of : Limits → grammar.Limits
 limits_of limits = record { bytes = limits.bytes; depth = limits.depth; style = limits.style }
 
@@ -17,7 +18,7 @@ limits_of limits = record { bytes = limits.bytes; depth = limits.depth; style = 
 abbrev pub IsKept : Tree → Type 0
 IsKept t = Good t own_limits
 
--- What a tree is refused for: no earlier fault holds. Memory may run out with any tree.
+-- The fault of a tree: it holds, and no earlier one does. Memory may run out with any tree.
 abbrev pub IsFirstFault : grammar.Limits → Tree → ReadFault → Type 0
 IsFirstFault limits t KeyTwice = distinct t ≡ false
 IsFirstFault limits t TooDeep = IsTrue (distinct t) × (limits.depth < depth t)

@@ -1,4 +1,4 @@
--- What a document holds, where keys may be of any kind: a text, a sequence, or a mapping of keys to values
+-- What a document holds if keys may be of any kind: a text, a sequence, or a mapping of keys to values
 -- (YAML 1.2.2, 3.2.1).
 use Rattle.std.specs.Prelude.{◌≡◌, ℕ, Bool, true, false, ◌||◌, List, [], ◌∷◌, ◌++◌, IsTrue}
 use Rattle.yaml_grammar.specs.Events.{Event}

@@ -28,7 +28,7 @@ empty_line brackets fs = if awaits_value fs then codes " " ++ brackets else brac
 abbrev pub line_start : Bool → List Frame → List ℕ
 line_start is_first fs = if is_first then opening fs else spaces (indent_in fs)
 
--- what a value begins with in the innermost part: in a sequence the spaces of its line, and `- `
+-- what comes before a value in the innermost part: in a sequence the spaces of its line, and `- `
 abbrev pub dash : Frame → List Frame → List ℕ
 dash awaiting fs = []
 dash (root t) fs = []

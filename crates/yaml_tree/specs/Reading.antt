@@ -1,4 +1,4 @@
--- Which tree bytes give, and what they are refused for.
+-- Which tree bytes give, and the faults of bytes that give none.
 use Rattle.std.specs.Prelude.{◌≡◌, ◌≢◌, ℕ, suc, ◌<◌, ◌≤◌, List, [], ◌∷◌, length}
 use Rattle.std.specs.Str.{chars, IsUtf8}
 use Rattle.std.specs.Str.Lossy.{utf8_valid_len}
@@ -16,6 +16,7 @@ pub record IsRead (bytes : List ℕ) (limits : Limits) (t : Tree) : Type 0 where
   pub utf8 : IsUtf8 bytes
   pub gives : Gives (chars bytes) limits t
 
+-- the number of documents of a stream
 abbrev pub document_count : List Event → ℕ
 document_count [] = 0
 document_count (document_start ∷ es) = suc (document_count es)
@@ -30,7 +31,7 @@ pub record RefusesTree (bytes : List ℕ) (limits : Limits) (fault : ReadFault) 
   pub is_tree : IsTreeOf events tree
   pub first : IsFirstFault limits tree fault
 
--- what bytes are refused for, where no earlier fault holds
+-- the fault of bytes: it holds, and no earlier one does; memory may run out with any bytes
 abbrev pub Refuses : List ℕ → Limits → ReadFault → Type 0
 Refuses bytes limits TooLong = limits.bytes < length bytes
 Refuses bytes limits (NotUtf8 at) = (length bytes ≤ limits.bytes) × (IsUtf8 bytes → ⊥) × (at ≡ utf8_valid_len bytes)

@@ -18,7 +18,7 @@ use yaml_writer::style_len;
 const EMPTY_LENGTH: u64 = 3;
 
 /// A tree in whose mappings no key comes twice, which is at most 66 deep and has at most 67,108,864 bytes in the one
-/// style. It keeps how many these are. Contracts see the tree.
+/// style. Its length in the one style is kept with it. Contracts see the tree.
 #[derive(Debug, Drop)]
 pub struct Config {
     tree: Tree,
@@ -46,10 +46,17 @@ impl Model for Config {
 }
 
 impl Config {
-    /// The configuration that a tree is. Any other tree comes back with the first of these faults: a mapping holds a
-    /// key twice ([`ReadFault::KeyTwice`]), the tree is more than 66 deep ([`ReadFault::TooDeep`]), it has more than
-    /// 67,108,864 bytes in the one style ([`ReadFault::LargeInStyle`]); or with [`ReadFault::OutOfMemory`], if there
-    /// is no memory to look keys up. The tree may have any depth.
+    /// The configuration of a tree. The tree may have any depth.
+    ///
+    /// # Errors
+    ///
+    /// The tree is returned with the first of these faults that holds:
+    ///
+    /// - [`ReadFault::KeyTwice`] if a mapping holds a key twice.
+    /// - [`ReadFault::TooDeep`] if the tree is more than 66 deep.
+    /// - [`ReadFault::LargeInStyle`] if it has more than 67,108,864 bytes in the one style.
+    ///
+    /// [`ReadFault::OutOfMemory`] may come at any point: keys are looked up in memory.
     pub fn new(alloc: Global, tree: Tree) -> Result<Config, (Tree, ReadFault)>
         ensures ok { IfOk result (λ config. (config ≡ tree) × IsKept (tree_of tree)) }
         ensures refused { IfErr result (λ refused. (refused.0 ≡ tree)
@@ -62,8 +69,7 @@ impl Config {
         Config::within(alloc, tree, &Limits::KEPT)
     }
 
-    /// The same within limits that are at most a configuration's own, of a tree that is known to keep to the limit of
-    /// depth.
+    /// The same within limits that are at most a configuration's own. The tree is known to keep the limit of depth.
     pub(crate) fn within(
         alloc: Global,
         tree: Tree,
@@ -83,8 +89,8 @@ impl Config {
         }
     }
 
-    /// The configuration that a tree is, by a tree that a configuration may hold and its length in the one style. It
-    /// takes no memory and counts nothing.
+    /// The configuration of a tree within the limits, whose length in the one style, in bytes, is known. It takes no
+    /// memory, and counts nothing.
     pub fn from_parts(tree: Tree, length: u64) -> Config
         requires kept { IsKept (tree_of tree) }
         requires length { length ≡ byte_len (style_text (tree_of tree)) }
@@ -93,7 +99,7 @@ impl Config {
         Config { tree, length }
     }
 
-    /// The configuration that is the empty text. It takes no memory.
+    /// The empty text as a configuration. It takes no memory.
     pub fn empty() -> Config
         ensures { tree_of result ≡ text [] }
     {
@@ -111,7 +117,7 @@ impl Config {
         &self.tree
     }
 
-    /// The tree, which may then be changed.
+    /// The tree, taken out of the configuration, so that it can be changed.
     pub fn into_tree(self) -> Tree
         ensures same { result ≡ self }
         ensures kept { IsKept (tree_of self) }
@@ -120,14 +126,14 @@ impl Config {
         tree
     }
 
-    /// How many bytes the tree has in the one style, at most 67,108,864. It is kept, and not counted anew.
+    /// How many bytes the tree has in the one style, at most 67,108,864. They are not counted again.
     pub fn style_length(&self) -> u64
         ensures { result ≡ byte_len (style_text (tree_of self.now)) }
     {
         self.length
     }
 
-    /// How deep the tree is, at most 66.
+    /// How deep the tree is, at most 66, as [`Tree::depth`] counts.
     pub fn depth(&self) -> u64
         ensures depth { result ≡ depth (tree_of self.now) }
         ensures kept { IsKept (tree_of self.now) }
@@ -135,7 +141,7 @@ impl Config {
         self.tree.depth()
     }
 
-    /// A copy: a configuration of the same texts in the same order. It fails only if memory runs out.
+    /// A copy: the same texts in the same order. It fails only if memory runs out.
     pub fn try_copy(&self, alloc: Global) -> Result<Config, AllocError>
         ensures { IfOk result (λ copy. tree_of copy ≡ tree_of self.now) }
     {
@@ -147,7 +153,7 @@ impl Config {
     }
 }
 
-/// What a tree is refused for that is too deep: keys are looked at first.
+/// The fault of a tree that is too deep: `KeyTwice` if that holds, else `TooDeep`; or memory ran out.
 fn deep_fault(alloc: Global, tree: &Tree) -> ReadFault
     requires { own_limits.depth < depth (tree_of tree.now) }
     ensures { IsFirstFault own_limits (tree_of tree.now) result }
@@ -159,8 +165,8 @@ fn deep_fault(alloc: Global, tree: &Tree) -> ReadFault
     }
 }
 
-/// The length in the one style of a tree that keeps to the limit of depth, where it keeps to that of style too; else
-/// what it is refused for.
+/// The length in the one style of a tree that is known to keep the limit of depth, if it keeps the other limits too;
+/// else the first fault that holds.
 fn checked_length(alloc: Global, tree: &Tree, limits: &Limits) -> Result<u64, ReadFault>
     requires shallow { depth (tree_of tree.now) ≤ limits.now.depth }
     requires depth { limits.now.depth ≤ own_limits.depth }

@@ -8,13 +8,12 @@ use std::alloc::{AllocError, Global};
 use yaml_build::{SizeCounter, Sizes};
 use yaml_events::{EventRef, Events};
 
-/// What one pass over the events of a text tells before a tree is built.
+/// What one pass over the events of a text finds, before a tree is built.
 #[derive(Drop)]
 pub(crate) struct Outline {
     /// The number of documents.
     pub(crate) documents: u64,
-    /// The depth of the tree whose events these are. A key is no deeper than its value, so keys need no case of their
-    /// own.
+    /// The depth of the tree whose events these are. A key is no deeper than its value, so it is counted as a value is.
     pub(crate) depth: u64,
     /// How many values each collection has.
     pub(crate) sizes: Sizes,

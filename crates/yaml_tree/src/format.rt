@@ -21,20 +21,20 @@ use yaml_events::{Event, Events};
 use yaml_faults::ReadFault;
 use yaml_writer::LimitedText;
 
-/// The greatest indentation that is written. A document for which it isn't enough has more than 2,147,483,647
-/// collections open at once, and counts as one for which there is no memory.
+/// The greatest indentation that is written. A document that needs more has more than 2,147,483,647 collections open at
+/// once, and is refused as one for which there is no memory.
 const MOST_INDENT: u64 = 4_294_967_295;
 
-/// The text in the one style of the tree that a text has. It is what writing the tree of [`read_one`](crate::read_one)
-/// gives, but no tree is built: the text is written from the events.
+/// Reads a text that is one document, and returns its tree in the one style. The result is the same as that of writing
+/// the tree of [`read_one`](crate::read_one), but no tree is built: the text is written from the events.
 ///
 /// `bytes` are UTF-8 (YAML 1.2.2, 5.2), read by the failsafe schema (10.1) without aliases, anchors and tags. The call
 /// stack doesn't grow with the text.
 ///
 /// # Errors
 ///
-/// Those of [`read_one`](crate::read_one): each fault of [`ReadFault`] is returned only where it holds and no earlier
-/// one does; [`ReadFault::OutOfMemory`] may come at any point.
+/// Those of [`read_one`](crate::read_one): each fault of [`ReadFault`] is returned only if it holds and no earlier one
+/// does; [`ReadFault::OutOfMemory`] may come at any point.
 pub fn format_one(alloc: Global, bytes: &[u8], limits: &Limits) -> Result<String, ReadFault>
     ensures given { IfOk result (λ text.
         IsFormatted bytes.now (limits_of limits.now) (string_bytes text)) }
@@ -73,11 +73,12 @@ pub(crate) struct WrittenDocument {
     pub(crate) text: LimitedText,
 }
 
-/// Writes the one document whose events these are after a text. `sizes` tells how many values the collections have.
+/// Writes the one document whose events these are at the end of a text. `sizes` says how many values the collections
+/// have.
 ///
 /// # Errors
 ///
-/// - [`ReadFault::KeyNotText`] if some key is a collection.
+/// - [`ReadFault::KeyNotText`] if some key is a collection, or the events are not those of one document.
 /// - [`ReadFault::OutOfMemory`] if there is no memory for the keys or the text.
 fn write_document(
     alloc: Global,
@@ -106,7 +107,7 @@ pub(crate) struct DocumentWriter {
 }
 
 impl DocumentWriter {
-    /// Nothing is open. The document comes after a text.
+    /// A writer before the first event. The document comes at the end of a text.
     fn new(alloc: Global, sizes: Sizes, text: LimitedText) -> DocumentWriter
         ensures { Writes text result [] }
     {
@@ -117,7 +118,8 @@ impl DocumentWriter {
         }
     }
 
-    /// Takes the next event of the document. Returns `KeyNotText` if the event has no place there.
+    /// Takes the next event of the document. Returns `KeyNotText` if the event has no place there, and `OutOfMemory` if
+    /// there is no memory for the keys or the text.
     #[inline(always)]
     fn take(&mut self, event: Event<'_>) -> Result<(), ReadFault>
         requires indent { self.old.indent

@@ -1,8 +1,8 @@
 //! Trees of texts, the ones that may be kept, and how the one style writes them.
 //!
-//! A [`Tree`] is any tree, a [`Config`] one within limits in whose mappings no key is there twice. [`write_style`]
-//! writes a tree's text in the one style to a [`Sink`], which may be a buffer or a count; [`style_len`] is the
-//! text's length.
+//! A [`Tree`] is any tree, a [`Config`] one within limits in whose mappings no key comes twice. [`read_one`] reads a
+//! text as one, and [`format_one`] writes a text in the one style without building its tree. [`write_style`] writes a
+//! tree's text in the one style to a [`Sink`], which may be a buffer or a count; [`style_len`] is the text's length.
 #![tactic(auto)]
 
 mod config;

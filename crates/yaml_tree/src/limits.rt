@@ -24,7 +24,7 @@ impl Limits {
     };
 
     /// The limits that every [`Config`](crate::Config) keeps: it is at most 66 deep, and has at most 67,108,864 bytes
-    /// in the one style. A text that is read within them may have as many.
+    /// in the one style. A text that is read within them has at most 67,108,864 bytes too.
     pub const KEPT: Limits = Limits {
         bytes: 67_108_864,
         depth: 66,

@@ -65,8 +65,8 @@ fn awaits_value(parts: &[OpenPart]) -> bool
     }
 }
 
-/// Writes what comes before a line of a collection at `indent`. The first line is on the line of the collection's
-/// start, but after a key it is not.
+/// Writes what comes before a line of a collection at `indent`. The first line continues the line on which the
+/// collection starts, except after a key, where it is a line of its own.
 fn write_line_start<S: Sink>(
     is_first: bool,
     outer: &[OpenPart],
@@ -87,7 +87,7 @@ fn write_line_start<S: Sink>(
     sink.put_spaces(indent)
 }
 
-/// Writes what an element begins with, where the innermost part is a sequence.
+/// Writes what comes before an element, with its `- `, if the innermost part is a sequence; else nothing.
 fn write_dash<S: Sink>(
     innermost: &OpenPart,
     outer: &[OpenPart],
@@ -152,7 +152,7 @@ fn write_in_map<S: Sink>(
     write_key(text, indent, sink)
 }
 
-/// Writes what the end of a sequence adds: its line, where it is empty.
+/// Writes what the end of a sequence adds: `[]` if it is empty, else nothing.
 fn write_seq_end<S: Sink>(
     innermost: &OpenPart,
     outer: &[OpenPart],
@@ -170,7 +170,7 @@ fn write_seq_end<S: Sink>(
     write_empty("[]\n", outer, sink)
 }
 
-/// Writes what the end of a mapping adds: its line, where it is empty.
+/// Writes what the end of a mapping adds: `{}` if it is empty, else nothing.
 fn write_map_end<S: Sink>(
     innermost: &OpenPart,
     outer: &[OpenPart],
@@ -191,7 +191,7 @@ fn write_map_end<S: Sink>(
     write_empty("{}\n", outer, sink)
 }
 
-/// Writes the line of an empty collection.
+/// Writes an empty collection, with a space before it after a key.
 fn write_empty<S: Sink>(brackets: &str, outer: &[OpenPart], sink: &mut S) -> Result<(), S::Fault>
     ensures { OnOk result (S.Takes sink.old
         (empty_line (chars brackets.now) (open_frames outer.now)) sink.new) }

@@ -14,7 +14,7 @@ use yaml_docs::events;
 use yaml_events::Events;
 use yaml_faults::ReadFault;
 
-/// The tree of a text that is one document, within limits.
+/// Reads a text that is one document, and returns its tree, within limits.
 ///
 /// `bytes` are UTF-8 (YAML 1.2.2, 5.2), read by the failsafe schema (10.1) without aliases, anchors and tags. The
 /// limits of depth and style are at most those of a [`Config`]. No tree deeper than the limit is built, and the call
@@ -22,7 +22,7 @@ use yaml_faults::ReadFault;
 ///
 /// # Errors
 ///
-/// Each fault of [`ReadFault`] is returned only where it holds and no earlier one does; [`ReadFault::OutOfMemory`] may
+/// Each fault of [`ReadFault`] is returned only if it holds and no earlier one does; [`ReadFault::OutOfMemory`] may
 /// come at any point.
 pub fn read_one(alloc: Global, bytes: &[u8], limits: &Limits) -> Result<Config, ReadFault>
     requires deep { limits.now.depth ≤ own_limits.depth }
@@ -49,7 +49,8 @@ pub fn read_one(alloc: Global, bytes: &[u8], limits: &Limits) -> Result<Config, 
     }
 }
 
-/// What a document is refused for that is too deep: keys are looked at first.
+/// The fault of a document that is too deep: the first of `KeyNotText`, `KeyTwice` and `TooDeep` that holds; or memory
+/// ran out.
 fn deep_fault(alloc: Global, events: Events<'_>) -> ReadFault
     ensures { RefusesDeep (events_of events.entry) result }
 {

@@ -6,7 +6,7 @@ ghost use Rattle.yaml_faults.specs.declared.fault.ReadFault.{ReadFault};
 ghost use Rattle.yaml_faults.specs.declared.fault.ReadFault.TheVariants.{OutOfMemory};
 ghost use Rattle.yaml_tree.specs.Reading.{IsRead, Refuses, GivesNone};
 
-/// Bytes give one tree at most.
+/// Bytes give at most one tree.
 pub fn bytes_give_one()
     ensures { (bytes : List ℕ) (limits : Limits) (t u : Tree)
         → IsRead bytes limits t → IsRead bytes limits u → t ≡ u }

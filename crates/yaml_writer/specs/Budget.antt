@@ -1,4 +1,4 @@
--- What is left of a number of bytes: none once more were spent than there were.
+-- What is left of a number of bytes: none after more were spent than there were.
 use Rattle.std.specs.Prelude.{ℕ, ◌-◌, nat_le, Option, Some, None, if◌then◌else◌}
 
 abbrev pub left_after : Option ℕ → ℕ → Option ℕ

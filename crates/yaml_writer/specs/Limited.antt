@@ -1,10 +1,10 @@
--- A text of at most so many bytes.
+-- A text of limited length.
 use Rattle.std.specs.Prelude.{◌≡◌, ◌≢◌, ℕ, List, ◌++◌, Option, None, encode_utf8_all, string_bytes}
 use Rattle.yaml_grammar.specs.Texts.{byte_len}
 use Rattle.yaml_writer.specs.Budget.{left_after}
 use Rattle.yaml_writer.specs.declared.limited.LimitedText.{LimitedText}
 
--- how many bytes it may still take; None once more came than it may have
+-- how many bytes it may still take; None after more came than its limit
 abbrev pub room_left : LimitedText → Option ℕ
 room_left limited = limited.budget.left
 

@@ -1,4 +1,4 @@
--- A text that takes one text after another takes both in a row.
+-- A text of limited length that takes one text after another takes both in a row.
 use Rattle.std.specs.Prelude.{◌≢◌, ℕ, List, [], ◌++◌, Option, None, string_bytes}
 use Rattle.std.proofs.Common.{ap, ◌∙◌}
 use Rattle.yaml_grammar.specs.Texts.{byte_len}

@@ -13,18 +13,19 @@ length_at size i = size.bytes + i * size.lines
 
 -- ---- how many lines are indented
 
--- of a literal those that hold something; fresh: here a line begins
+-- of a literal, those that are not empty; fresh: a line begins here
 abbrev pub indented_literal_lines : Bool → List ℕ → ℕ
 indented_literal_lines fresh [] = 0
 indented_literal_lines fresh (c ∷ cs) =
     if c == line_feed then indented_literal_lines true cs
     else (if fresh then 1 else 0) + indented_literal_lines false cs
 
+-- of a scalar, those of a literal
 abbrev pub indented_scalar_lines : List ℕ → ℕ
 indented_scalar_lines value =
     if plain_in_style value then 0 else if literal_in_style value then indented_literal_lines true value else 0
 
--- of a long key the line of its `:`
+-- of a long key, the line of its `:`
 abbrev pub indented_key_lines : List ℕ → ℕ
 indented_key_lines key = if long_key key then 1 else 0
 

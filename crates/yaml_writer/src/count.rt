@@ -14,7 +14,7 @@ use std::convert::Infallible;
 use yaml_data::Tree;
 use yaml_scalar_style::Sink;
 
-/// A count of characters, which stays at the greatest `u64`.
+/// A count of characters, which stops at the greatest `u64`.
 #[derive(Drop)]
 struct CharCount {
     count: u64,
@@ -49,10 +49,11 @@ impl Sink for CharCount {
     }
 }
 
-/// The most bytes of a key that needs no count: each character has at most six in quotes.
+/// The most bytes of a key that is surely not long: with its quotes it has at most 998 characters, since each byte has
+/// at most six.
 const SHORT_KEY: usize = 166;
 
-/// Whether a key's spelling, quotes counted, has more than 1,000 characters.
+/// Whether a key as it is written, with its quotes, has more than 1,000 characters.
 pub(crate) fn is_long_key(key: &str) -> bool
     ensures { result ≡ long_key (chars key.now) }
 {
@@ -119,28 +120,28 @@ impl Sink for ByteCount {
     }
 }
 
-/// How many bytes may still come; None once more came than might.
+/// How many bytes may still come; `None` after more came than the limit.
 #[derive(Drop)]
 pub(crate) struct ByteBudget {
     left: Option<u64>,
 }
 
 impl ByteBudget {
-    /// So many bytes may come.
+    /// A budget of `limit` bytes.
     pub(crate) fn new(limit: u64) -> ByteBudget
         ensures { result.left ≡ Some limit }
     {
         ByteBudget { left: Some(limit) }
     }
 
-    /// Whether no more bytes came than might.
+    /// Whether no more bytes came than the limit.
     pub(crate) fn is_kept(&self) -> bool
         ensures { result ≡ is_some self.now.left }
     {
         self.left.is_some()
     }
 
-    /// Counts so many bytes.
+    /// Counts `bytes` more bytes.
     pub(crate) fn spend(&mut self, bytes: u64)
         ensures { self.new.left ≡ left_after self.old.left bytes }
     {
@@ -182,7 +183,7 @@ impl Sink for ByteBudget {
     }
 }
 
-/// How many bytes a tree has in the one style; None where these are more than `max`. It takes no memory. The call
+/// How many bytes a tree has in the one style; `None` if it has more than `max`. It takes no memory. The call
 /// stack grows with the depth, which therefore is at most 66; [`is_deeper_than`](Tree::is_deeper_than) tests that.
 pub fn style_len(tree: &Tree, max: u64) -> Option<u64>
     requires { depth (tree_of tree.now) ≤ own_limits.depth }

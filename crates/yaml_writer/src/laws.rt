@@ -5,8 +5,8 @@ ghost use Rattle.yaml_grammar.specs.Trees.{Tree};
 ghost use Rattle.yaml_grammar.specs.Style.{key_lines, lines_after_dash, value_at};
 ghost use Rattle.yaml_writer.specs.Sizes.{length_at, key_size, element_size, value_size};
 
-/// The length of a key, an element and a value at each indentation follows from its size. It has the bytes that it has
-/// at the indentation 0, and the indentation once more for each of its lines that is indented.
+/// The length of a key, an element and a value at each indentation follows from its [`Size`](crate::Size). It is the
+/// length at the indentation 0, and the indentation once more for each line that is indented.
 pub fn lengths_follow_indentation()
     ensures key { (key : List ℕ) (i : ℕ) → byte_len (key_lines i key) ≡ length_at (key_size key) i }
     ensures element { (t : Tree) (i : ℕ) → byte_len (lines_after_dash t i)

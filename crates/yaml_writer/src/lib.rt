@@ -1,7 +1,7 @@
 //! The one style of trees: it writes a tree's text, and counts its bytes without writing it.
 //!
-//! [`write_style`] writes to a `Sink`, which may be a buffer, a count ([`ByteCount`]) or a text that takes only so
-//! many bytes ([`LimitedText`]). [`style_len`] is the length of a tree's text, and a [`Size`] says how the length of a
+//! [`write_style`] writes to a `Sink`, which may be a buffer, a count ([`ByteCount`]) or a text of limited length
+//! ([`LimitedText`]). [`style_len`] is the length of a tree's text, and a [`Size`] says how the length of a
 //! part grows with its indentation.
 #![tactic(auto)]
 

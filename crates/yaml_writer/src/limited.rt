@@ -1,4 +1,4 @@
-// A text of at most so many bytes.
+// A text of limited length.
 ghost use Rattle.std.specs.Prelude.{◌≡◌, ◌≢◌, [], Some, None, is_some, IfOk, IfNone, IfSome, string_bytes};
 ghost use Rattle.yaml_writer.specs.Budget.{left_after};
 ghost use Rattle.yaml_writer.specs.Limited.{room_left, taken};
@@ -7,7 +7,7 @@ use crate::count::ByteBudget;
 use std::alloc::{AllocError, Global};
 use yaml_scalar_style::Sink;
 
-/// A text that takes at most so many bytes. Once more came than it may have, it takes none, and is no text any more.
+/// A text that takes bytes up to a limit. After more bytes came than that, it takes no others, and there is no text.
 #[derive(Drop)]
 pub struct LimitedText {
     text: String,
@@ -15,8 +15,8 @@ pub struct LimitedText {
 }
 
 impl LimitedText {
-    /// An empty text that takes at most `limit` bytes. There is memory for `capacity` bytes of them. It fails
-    /// only if memory runs out.
+    /// An empty text that takes at most `limit` bytes, with memory for `capacity` bytes. It fails only if memory runs
+    /// out.
     pub fn with_capacity(
         alloc: Global,
         capacity: usize,
@@ -30,7 +30,7 @@ impl LimitedText {
         })
     }
 
-    /// The text; None if more came than it may have.
+    /// The text; `None` if more bytes came than the limit.
     pub fn into_text(self) -> Option<String>
         ensures some { IfSome result (λ text. (room_left self ≢ None)
             × (string_bytes text ≡ taken self)) }
@@ -40,7 +40,7 @@ impl LimitedText {
         if budget.is_kept() { Some(text) } else { None }
     }
 
-    /// Counts so many bytes, and tells whether there is room for them.
+    /// Counts `bytes` more bytes, and returns whether there is room for them and all before.
     fn spend(&mut self, bytes: u64) -> bool
         ensures left { self.new.budget.left ≡ left_after self.old.budget.left bytes }
         ensures room { result ≡ is_some self.new.budget.left }

@@ -16,7 +16,7 @@ use yaml_data::Tree;
 /// `bytes + i * lines`.
 #[derive(Clone, Copy, Debug, PartialEq, Eq)]
 pub struct Size {
-    /// The bytes where nothing is indented.
+    /// The bytes at the indentation 0.
     pub bytes: u128,
     /// How many lines are indented. The first line isn't, nor are the empty lines of a literal.
     pub lines: u128,
@@ -53,7 +53,7 @@ impl Size {
         }
     }
 
-    /// The size of a key through its `:`, where it is at the indentation.
+    /// The size of a key through its `:`, which is at the indentation.
     pub fn of_key(key: &str) -> Size
         ensures size { result ≡ key_size (chars key.now) }
         ensures small { (result.bytes < 2 ^ 70) × (result.lines ≤ 1) }

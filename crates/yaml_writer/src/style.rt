@@ -12,8 +12,8 @@ use crate::count::is_long_key;
 use yaml_data::{Text, Tree};
 use yaml_scalar_style::{ScalarStyle, Sink, scalar_style, write_literal_lines, write_quoted};
 
-/// Writes a tree in the one style: the text, with the end of its last line. The call stack grows with the depth,
-/// which therefore is at most 66; [`is_deeper_than`](Tree::is_deeper_than) tests that.
+/// Writes a tree in the one style: the text, with the end of its last line. It fails only if the sink does. The call
+/// stack grows with the depth, which therefore is at most 66; [`is_deeper_than`](Tree::is_deeper_than) tests that.
 pub fn write_style<S: Sink>(tree: &Tree, sink: &mut S) -> Result<(), S::Fault>
     requires { depth (tree_of tree.now) ≤ own_limits.depth }
     ensures { OnOk result (S.Takes sink.old (style_text (tree_of tree.now)) sink.new) }
@@ -25,7 +25,8 @@ pub fn write_style<S: Sink>(tree: &Tree, sink: &mut S) -> Result<(), S::Fault>
     }
 }
 
-/// Writes a text as the value after the `:` of its key at `indent`, with the end of its last line.
+/// Writes a text as the value after the `:` of its key, with the end of its last line. The key's line is indented by
+/// `indent` spaces, and two more fit in a `u64`. It fails only if the sink does.
 pub fn write_text<S: Sink>(text: &str, indent: u64, sink: &mut S) -> Result<(), S::Fault>
     requires { indent + 2 < 2 ^ 64 }
     ensures { OnOk result (S.Takes sink.old (value_at
@@ -55,6 +56,7 @@ pub fn write_scalar<S: Sink>(text: &str, indent: u64, sink: &mut S) -> Result<()
     }
 }
 
+/// Writes a literal: its header, and its lines after `indent` spaces.
 fn write_literal<S: Sink>(
     header: &str,
     text: &str,
@@ -78,7 +80,9 @@ pub(crate) fn write_key_text<S: Sink>(key: &str, sink: &mut S) -> Result<(), S::
     }
 }
 
-/// Writes a key through its `:`, a long one after `? ` on a line of its own.
+/// Writes a key through its `:`, without the spaces before its line. A key that has more than 1,000 characters as
+/// written comes after `? `, and its `:` on the next line after `indent` spaces (YAML 1.2.2, 8.2.2). It fails only if
+/// the sink does.
 pub fn write_key<S: Sink>(key: &str, indent: u64, sink: &mut S) -> Result<(), S::Fault>
     ensures { OnOk result (S.Takes sink.old (key_lines indent (chars key.now)) sink.new) }
 {
@@ -89,6 +93,7 @@ pub fn write_key<S: Sink>(key: &str, indent: u64, sink: &mut S) -> Result<(), S:
     sink.put_char(':')
 }
 
+/// Writes a long key after `? `, and its `:` on the next line.
 fn write_long_key<S: Sink>(key: &str, indent: u64, sink: &mut S) -> Result<(), S::Fault>
     ensures { OnOk result (S.Takes sink.old
         (codes "? " ++ key_text (chars key.now) ++ codes "\n" ++ spaces indent ++ codes ":")
@@ -152,8 +157,9 @@ fn write_members<S: Sink>(pairs: &[(Text, Tree)], indent: u64, sink: &mut S) -> 
     Ok(())
 }
 
-/// Writes a value after the `:` of its key at `indent`. The call stack grows with the depth, which therefore is at
-/// most 66; [`is_deeper_than`](Tree::is_deeper_than) tests that.
+/// Writes a value after the `:` of its key, with the end of its last line. The key's line is indented by `indent`
+/// spaces, and 132 more fit in a `u64`. It fails only if the sink does. The call stack grows with the depth, which
+/// therefore is at most 66; [`is_deeper_than`](Tree::is_deeper_than) tests that.
 pub fn write_value<S: Sink>(tree: &Tree, indent: u64, sink: &mut S) -> Result<(), S::Fault>
     requires deep { depth (tree_of tree.now) ≤ own_limits.depth }
     requires room { indent + 132 < 2 ^ 64 }
