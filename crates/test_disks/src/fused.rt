@@ -28,7 +28,7 @@ pub struct FusedDisk<D> {
     counter: FuseCounter,
 }
 
-/// The number of calls that pass before the fuse decides, the fuse, and the number of the next call, from 0. That number
+/// The number of calls that pass before the fuse decides, the fuse, and the number of the next call, from 0. The latter
 /// has 128 bits: after `calls` calls have passed, `Stop` may fail as many as 64 bits count.
 #[derive(Clone, Copy, Debug, PartialEq, Eq)]
 pub(crate) struct FuseCounter {
