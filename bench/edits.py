@@ -3,7 +3,7 @@
 
 A pair is set after all others and deleted again, over and over: in a tree by itself, and in a configuration of a
 store's state by commands. It prints the processor time of an edit, the least of nine runs, beside the tree's size:
-what a run of many edits takes more than a run of one round, which builds the same tree. With `-i` it counts
+what a run of many rounds takes more than a run of one round, which builds the same tree. With `-i` it counts
 instructions instead, as valgrind does (`apt-get install valgrind`). They are the same in each run, however busy the
 machine is. After each shape it prints how many times as much an edit takes by a command as in the tree; it may be 3.
 

@@ -1,10 +1,12 @@
 #!/usr/bin/env python3
 """Times `confstore format` and `confstore check` on inputs of several sizes, beside `wc -c` on the same file.
 
-For each form of text that is read, and each size, it prints the least processor time of fifteen runs, the speed without the
-start of the program, and the greatest memory; and the time and the memory of `check` over those of `format`.
-It says at the end whether the time a byte grew by more than a quarter from the smallest size to the largest, whether the
-memory stayed below 12 times the input, and whether `check` took at most 1.3 times the time of `format` at the largest size. Run it from the repository's root after the program is built:
+For each form of text that is read, and each size, it prints the least processor time of fifteen runs, the speed
+without the start of the program, and the greatest memory; then the time of `check`, also as a multiple of that of
+`format`, and its memory. At the end it says whether the time a byte grew by at most a quarter from the smallest size to
+the largest, whether the memory was at most 12 times the input, and whether `check` took at most 1.3 times the time of
+`format` at the largest size. The status is 0 if all three hold. Run it from the repository's root after the program is
+built:
 
     python3 bench/format.py
 """

@@ -2,15 +2,15 @@
 """Says where the time that a byte takes grows with the length of a text.
 
 It reads the corpora of `bench/read.py`, and hostile texts, to events in a loop inside one process, at 64 KiB, 1 MiB
-and 16 MiB. It prints the nanoseconds a byte, and how many times those at 64 KiB the others are. `GROWS` stands where
-that is more than 1.25 times.
+and 16 MiB. It prints the nanoseconds a byte, and how many times those at 64 KiB the others are, with `GROWS` where that
+is more than 1.25 times.
 
 A process keeps the memory of a small text from round to round. That of a large one it gives back, and the system
 hands it out anew, page by page; for a text of signs alone that are up to 26 bytes for each byte. What the system takes
 for a page differs much between machines, so it is printed first. The times come twice:
 
-- `kept`: malloc is told to keep what it has, at each size, and to ask for huge pages. This is the reader's own time.
-- `anew`: malloc does as it does by itself. The processor's time for the process stands beside that for the system.
+- `kept`: malloc is set to keep what it has, at each size, and to ask for huge pages. This is the reader's own time.
+- `anew`: malloc has its own settings. The processor's time for the process is printed beside that for the system.
 
 The runs of the three sizes come by turns, and the growth is the median over the turns, so that a machine whose speed
 moves shows the same. The nanoseconds are medians too. What a process takes to start, and for its first round, is taken
@@ -18,7 +18,7 @@ away.
 
     python3 bench/growth.py [-i] [WORD]
 
-At the end of a line stands how many events the largest text has, or why it is refused; with `-i` also the instructions
+A line ends with the number of events of the largest text, or with why it is refused; with `-i` also the instructions
 a byte at 64 KiB and 1 MiB, as valgrind counts them. With a word only the texts are read whose names have it. Run it on
 a quiet machine with glibc 2.35 or later, from the repository's root, after `bench_driver` is built as `bench/read.py`
 says. It takes some 25 minutes.
@@ -41,7 +41,7 @@ MOST = 1.25
 ROUNDS = 4
 # How many turns there are.
 TURNS = 9
-# What glibc's malloc is told.
+# The settings of glibc's malloc.
 KEPT = {"GLIBC_TUNABLES": "glibc.malloc.hugetlb=1:glibc.malloc.mmap_max=0:glibc.malloc.trim_threshold=17179869184"}
 ANEW = {}
 

@@ -1,17 +1,18 @@
 #!/usr/bin/env python3
 """Times the reading of texts, beside libyaml and libfyaml.
 
-It makes six corpora of 1 MiB each, and reads them to events and to a tree in a loop inside one process, as the peers do, and
-once by `confstore format` beside what libyaml takes to read and write the same text. It prints MB/s, the ratio to the best
-peer, the greatest memory, and with `-i` instructions a byte as valgrind counts them. How the time a byte grows with the length
-of a text is what `bench/growth.py` says.
+It makes six corpora of 1 MiB each, and reads them to events and to a tree in a loop inside one process, as the peers
+do, and once by `confstore format` beside what libyaml takes to read and write the same text. It prints MB/s, the ratio
+to the best peer, the greatest memory, and with `-i` instructions a byte as valgrind counts them. `bench/growth.py` says
+how the time a byte grows with the length of a text.
 
-A time is the least processor time of several runs, less that of a run with fewer rounds. Run it on a quiet machine from the
-repository's root, after the programs are built:
+A time is the least processor time of several runs, less that of a run with fewer rounds. Run it on a quiet machine from
+the repository's root, after the programs are built:
 
     ./confstore --version && (cd crates/bench_driver && rt run -- store run) && python3 bench/read.py [-i]
 
-The peers are left out where they are not there: `apt-get install libyaml-dev libfyaml-dev` installs them, and `valgrind`.
+A peer that is not installed is left out: `apt-get install libyaml-dev libfyaml-dev valgrind` installs both, and
+valgrind.
 """
 
 import math

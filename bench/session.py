@@ -1,9 +1,10 @@
 #!/usr/bin/env python3
 """Times sessions of the built program beside a stub in C that appends and syncs as many bytes and parses nothing.
 
-Each command sets one value. They are sent all at once, and one by one, each after the answer to the one before. It does so
-in a folder of the disk that holds the temporary files, and in one in memory (/dev/shm), and prints commands a second and the
-time beside the stub's. Run it from the repository's root after the program is built; it takes about a minute:
+Each command sets one value. They are sent all at once, and one by one, each after the answer to the one before. It
+does so in a folder of the disk that holds the temporary files, and in one in memory (/dev/shm), and prints commands a
+second and the time beside the stub's. Run it from the repository's root after the program is built; it takes about a
+minute:
 
     ./confstore --version && python3 bench/session.py
 """

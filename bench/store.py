@@ -5,7 +5,7 @@ A journal of 10,000 and of 100,000 edits of one value of 100 bytes is made by a 
 synced. It is opened in a loop inside one process, beside two loops over the same file: one that looks for the
 closing lines alone, and one that also reads each piece to a tree, which is the least that opening can do. Then
 stores of 1 to 10,000 configurations take edits over a disk in memory: an edit has to cost the same in each.
-With `-i` instructions, as valgrind counts them, stand beside the times.
+With `-i` instructions, as valgrind counts them, are printed beside the times.
 
 SQLite (in WAL mode, with its default checkpoints and full syncs) and LMDB take the same edits, each in a
 transaction of its own, and are opened as a crash would leave them. Their times include those of Python's calls.
@@ -15,8 +15,8 @@ repository's root, after the program is built:
 
     (cd crates/bench_driver && rt run -- store run) && python3 bench/store.py [-i]
 
-LMDB is left out where it is not there: `apt-get install python3-lmdb` installs it for /usr/bin/python3, and
-`valgrind`.
+LMDB is left out if it is not installed: `apt-get install python3-lmdb valgrind` installs it for the system's Python,
+and valgrind.
 """
 
 import os

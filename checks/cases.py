@@ -3,8 +3,8 @@
 
 A case is some lines, and an empty line ends it. Each begins with a word:
 
-    text      the text. `\\n`, `\\r`, `\\t`, `\\\\` and `\\xHH` stand for bytes, and `\\{k*9}` for k nine times
-    events    its events, as `show` of `node_probe` tells them; without this line the text is refused when it is read
+    text      the text. `\\n`, `\\r`, `\\t`, `\\\\` and `\\xHH` mean bytes, and `\\{k*9}` means k nine times
+    events    its events, as `show` of `node_probe` prints them; without this line the text is refused when it is read
     format    what `confstore format` prints, escaped as a text is
     fault     or the fault that it names
     check     what `confstore check` prints, its lines joined by commas; it is left out where the program has no `check`
@@ -35,7 +35,7 @@ def long_runs(line):
 
 
 def bytes_of(line):
-    """The bytes that a line stands for."""
+    """The bytes that a line means."""
 
     def byte(found):
         word = found[1].decode()
@@ -70,7 +70,7 @@ def run(words, text):
 
 
 def shown_events(cases):
-    """What `show` of `node_probe` tells of the text of each case."""
+    """What `show` of `node_probe` prints for the text of each case."""
     lines = "".join(f"show;{case['text']}\n" for case in cases)
     status, shown, errors = run([PROBE], lines.encode())
     if status != 0:

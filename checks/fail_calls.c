@@ -1,4 +1,4 @@
-// Lets one system call of a program go wrong. Load it with LD_PRELOAD; the environment says what happens. Writes to
+// Lets one system call of a program fail. Load it with LD_PRELOAD; the environment says what happens. Writes to
 // standard error are neither counted nor changed.
 //
 //   FAULT_CALL    the number of the call, from 1; without it every call is made as it is
@@ -24,7 +24,7 @@
 #define STATUS_OF_EXIT 99
 #define HANDLES 64
 
-// How a call goes: as it is, by the fault, or after the fault with every call failing.
+// What becomes of a call: it is made as it is, it has the fault, or it fails because the fault came before.
 enum turn { CLEAR, HIT, LATER };
 
 // The name that each handle was opened under, without its folder.

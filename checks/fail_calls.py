@@ -38,8 +38,9 @@ INPUT = (3, "confstore: Input\n")
 OUTPUT = (3, "confstore: Output\n")
 STOPPED = (ENDED, "")
 
-# The calls that change the folder or make a change last, of the session over a new folder, by docs/DISK.md and
-# docs/STORE.md: opening writes a base, and each of the three changes appends and syncs a record before its answer.
+# The calls of the session over a new folder that change the folder, sync a change, or answer, as docs/DISK.md and
+# docs/STORE.md have them: opening writes a base, and each of the three changes appends and syncs a record before its
+# answer.
 CHANGES_OF_NEW = [
     "fsync folder", "unlink next.yaml", "create next.yaml", "write next.yaml", "fsync next.yaml", "rename next.yaml",
     "fsync folder",
@@ -260,7 +261,7 @@ def try_story(top, story, most, failures):
 
 
 def is_change(call):
-    """Whether a call changes the folder, makes a change last, or answers."""
+    """Whether a call changes the folder, syncs a change, or answers."""
     return call.name in ("fsync", "unlink", "create", "rename", "write")
 
 

@@ -52,12 +52,12 @@ TIME_A_BYTE = 500
 AGAIN = 20
 
 # The most memory of the process in bytes, in the same way: for the program, and for each byte of the longest text. A
-# process that wants more is refused it, and answers 'OutOfMemory'.
+# process that asks for more is refused it, and answers 'OutOfMemory'.
 MEMORY = 16 * 1024 * 1024
 MEMORY_A_BYTE = 200
 LONGEST_SHORT = 8 * 1024
 
-# Nothing is read for so many seconds: the process hangs.
+# If nothing is read for so many seconds, the process hangs.
 HANGS = 60
 
 # How many answers are compared at once.
@@ -73,7 +73,7 @@ OLD_BREAKS = re.compile("[\x85\u2028\u2029]")
 # a `?` for a value. At the top, a block scalar has no text in a first line that begins with `#`.
 OTHER_RULES = re.compile(r"\?[^ \t\r\n]|\?\s+:|[|>][^\r\n]*[\r\n]\s*#")
 
-# How the bytes that are no printable characters stand in a line.
+# How the bytes that are no printable characters are written in a line.
 ESCAPES = {byte: f"\\x{byte:02x}" for byte in (*range(32), *range(127, 256))}
 ESCAPES.update({0x0A: "\\n", 0x0D: "\\r", 0x09: "\\t", 0x5C: "\\\\"})
 

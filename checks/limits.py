@@ -37,7 +37,7 @@ def ok(count):
 
 
 def streamed(folder, parts):
-    """A session whose input comes in parts: its status, its answers and its faults."""
+    """A session whose input comes in parts: its status, its answers, and what it wrote to standard error."""
     process = subprocess.Popen([PROGRAM, "run", folder], stdin=subprocess.PIPE, stdout=subprocess.PIPE, stderr=subprocess.PIPE)
     try:
         for part in parts:

@@ -3,8 +3,8 @@
 
 In the lists of RULES.md `File.name` is a definition, `crate::name` a function or a test, and `crate::name` in `file.rt`
 a function and its file. `crate/name` is a must-fail edit, and a bare name a law (a public function) or a crate. In the
-tables of claims in README.md each name is looked for in the sources of the crates of its row. It takes less than a
-second.
+tables of claims in README.md each name is looked for in the sources of the crates of its row. It takes a second, and
+the status is 1 if a name is gone.
 """
 
 import glob

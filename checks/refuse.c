@@ -1,5 +1,5 @@
-// Refuses the allocation whose number REFUSE_ALLOCATION gives, counted from 1. If it came to that, it makes the file
-// that REFUSED_FILE names.
+// Refuses the allocation whose number REFUSE_ALLOCATION gives, counted from 1. If there is such an allocation, it makes
+// the file that REFUSED_FILE names. Load it with LD_PRELOAD.
 #define _GNU_SOURCE
 #include <dlfcn.h>
 #include <fcntl.h>

@@ -1,7 +1,8 @@
 #!/usr/bin/env bash
-# Refuses each allocation of `confstore format` in turn, on a text that has every form of node, and of `confstore check`, and looks
-# at the answer: out of memory alone, and nothing written; or, where the program can do without that allocation, as when a buffer
-# was to be made smaller, the whole answer. It needs the built program (./confstore --version builds it) and a C compiler.
+# Refuses each allocation of `confstore format` in turn, on a text that has every form of node, and of `confstore
+# check`, and looks at the answer: the fault OutOfMemory, and nothing written; or, if the program can do without that
+# allocation, as when a buffer was to be made smaller, the whole answer. It needs a C compiler, and the built program
+# (./confstore --version builds it).
 set -u
 top=$(cd "$(dirname "${BASH_SOURCE[0]}")/.." && pwd)
 program=$top/crates/confstore/out/confstore
@@ -12,7 +13,8 @@ work=$(mktemp -d) || exit 1
 trap 'rm -rf "$work"' EXIT
 cc -shared -fPIC -O1 -o "$work/refuse.so" "$top/checks/refuse.c" -ldl || exit 1
 
-# Takes the word of the program and its status with all memory. Its input is $work/input, and $work/wanted what it has to write.
+# Takes the word of the program, and the status that it has if no allocation is refused. The input is $work/input, and
+# $work/wanted is what the program has to write.
 refuse_each() {
     local word=$1 done_status=$2 wrong=0 spared=0 number status
     for ((number = 1; number <= 10000; number++)); do

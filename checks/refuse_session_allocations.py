@@ -6,7 +6,7 @@ session ends with 'confstore: OutOfMemory' and the status 1, or does without tha
 Its output is the answers to the commands before the one that met it. A new session has to find the state after
 exactly these commands: the one that met it changed nothing.
 
-Run it from the repository's root after the program is built. It takes some seconds, and needs a C compiler:
+Run it from the repository's root after the program is built. It takes some 15 seconds, and needs a C compiler:
 
     ./confstore --version && python3 checks/refuse_session_allocations.py
 
@@ -51,7 +51,7 @@ def expect_prefix(story, name, output, left, failures):
 
 
 def refuse_each(top, story, failures):
-    """Refuses each allocation of a story in turn, until there is none more."""
+    """Refuses each allocation of a story in turn, until there are no more."""
     refused = spared = 0
     for number in itertools.count(1):
         was_refused, ended, output, left = refuse(top, story, number)

@@ -1,7 +1,7 @@
 #!/usr/bin/env bash
 # Refuses each allocation of a fixed run of calls on a store in turn, and looks at what each call returned and what
 # the store then held. A call that is refused memory has to leave the store as it was, and has to succeed when it is
-# made once more. Where the disk in memory finds none for a change, the call returns Device; the store that is
+# made once more. If the disk in memory runs out of memory for a change, the call returns Device; the store that is
 # opened then has to be in the state before the call or after it. It needs the built program and a C compiler:
 #
 #   (cd crates/bench_driver && rt run -- store run) && checks/refuse_store_allocations.sh

@@ -1,8 +1,8 @@
 #!/usr/bin/env bash
 # Refuses each allocation of reading a text to its tree in turn, on a text that has every form of node, and looks at the
-# answer: out of memory, or, where an allocation could be done without, the length of the tree's text in the one style.
-# Allocations for the words of the order and for the file come before the reading: they end the program with status 1
-# and no output. It needs the built program and a C compiler:
+# answer: OutOfMemory, or, if the program can do without that allocation, the length of the tree in the one style.
+# Allocations for the words of the order and for the file come before the reading: without one of them the program ends
+# with status 1 and no output. It needs the built program and a C compiler:
 #
 #   (cd crates/bench_driver && rt run -- store run) && checks/refuse_tree_allocations.sh
 set -u

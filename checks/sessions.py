@@ -8,7 +8,7 @@
 - A small store with each of its bytes changed in turn is opened, or refused by name and left as it is.
 - Where strace is installed: one command is appended, synced and answered, in this order.
 
-Run it from the repository's root after the program is built; it takes about a minute:
+Run it from the repository's root after the program is built; it takes some 10 seconds:
 
     ./confstore --version && python3 checks/sessions.py
 

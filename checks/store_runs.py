@@ -1,4 +1,4 @@
-"""What the scripts on stores share: the built program, a worked session, and how what went wrong is kept."""
+"""What the scripts on stores share: the built program, a worked session, and a list of what went wrong."""
 
 import os
 import subprocess
@@ -50,7 +50,7 @@ def need_program():
 
 
 def session(folder, commands, **more):
-    """A session from start to end: its status, its answers and its faults."""
+    """A session from start to end: its status, its answers, and what it wrote to standard error."""
     words = [PROGRAM, "run", folder]
     done = subprocess.run(words, input=commands, capture_output=True, check=False, **more)
     return done.returncode, done.stdout, done.stderr.decode()

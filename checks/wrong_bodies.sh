@@ -1,10 +1,10 @@
 #!/usr/bin/env bash
-# Tries the wrong bodies of checks/wrong_bodies/CRATE: edits that the prover has to refuse, beside those that the gate tries
-# (crates/CRATE/must-fail). They are tried in a copy of the repository, so nothing here is changed.
+# Tries the wrong bodies of checks/wrong_bodies/CRATE: edits that the prover has to refuse, beside those that the gate
+# tries (crates/CRATE/must-fail). They are tried in a copy of the repository, so nothing here is changed.
 #
 #   checks/wrong_bodies.sh [CRATE..]     the crates that are named, or all
 #
-# A crate takes from one to some ten minutes. The last line is 'N refused, M not'; the status is 0 where M is 0.
+# A crate takes 1 to 10 minutes. The last line is 'N refused, M not'; the status is 0 if M is 0.
 set -u
 top=$(cd "$(dirname "${BASH_SOURCE[0]}")/.." && pwd) || exit 1
 edits=$top/checks/wrong_bodies

@@ -1,7 +1,7 @@
 // Reads a file many times by libfyaml: to events, to a document, or to a document that is written again.
 //
-// Words: `events`, `tree` or `copy`, the file, and how often. It prints how many events, nodes or bytes the last round gave, or
-// "refused".
+// Words: `events`, `tree` or `copy`, the file, and how often. It prints how many events or bytes the last round gave, 1
+// for a document, or "refused".
 #include <libfyaml.h>
 #include <stdio.h>
 #include <stdlib.h>

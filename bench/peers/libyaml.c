@@ -1,7 +1,7 @@
 // Reads a file many times by libyaml: to events, to a document, or to events that are written again.
 //
-// Words: `events`, `tree` or `copy`, the file, and how often. It prints how many events, nodes or bytes the last round gave, or
-// "refused".
+// Words: `events`, `tree` or `copy`, the file, and how often. It prints how many events, nodes or bytes the last round
+// gave, or "refused".
 #include <stdio.h>
 #include <stdlib.h>
 #include <string.h>

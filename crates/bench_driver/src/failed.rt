@@ -1,10 +1,10 @@
-// Why a run of the program gives up.
+// Why a run of the program ends early.
 use bench_edits::EditFault;
 use bench_stores::StoresFault;
 use std::io;
 use thiserror::Error;
 
-/// Why a run of the program gives up.
+/// Why a run of the program ends early.
 #[derive(Debug, Drop, Error)]
 pub(crate) enum Failed {
     #[error("wrong words")]

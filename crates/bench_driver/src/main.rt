@@ -1,7 +1,6 @@
-//! Works on texts, trees and stores, so that their speed can be measured and what reading and a store do without memory
-//! can be looked at. It is a program for scripts of `bench/`, `checks/refuse_tree_allocations.sh` and
-//! `checks/refuse_store_allocations.sh` alone. Its words are orders, performed one after another, with `then` between
-//! them:
+//! Works on texts, trees and stores, for the scripts of `bench/`, which measure its speed, and for
+//! `checks/refuse_tree_allocations.sh` and `checks/refuse_store_allocations.sh`, which refuse it memory. Its words are
+//! orders, performed one after another, with `then` between them:
 //!
 //! - `read events FILE ROUNDS` and `read tree FILE ROUNDS` read a file that many times in one process, to its events
 //!   or to its tree. They print how many events there are, or how many bytes the tree has in the one style, or why

@@ -1,11 +1,11 @@
-// Why edits give up.
+// Why edits end early.
 use conf_record::StoreFault;
 use std::alloc::AllocError;
 use thiserror::Error;
 use tree_path::PathFault;
 use yaml_tree::ReadFault;
 
-/// Why edits give up.
+/// Why edits end early.
 #[derive(Debug, Drop, Error)]
 pub enum EditFault {
     #[error("{0}")]

@@ -24,7 +24,8 @@ pub fn length_in_style(alloc: Global, order: &Order) -> Result<u64, EditFault> {
 /// Makes the edits of an order.
 ///
 /// # Errors
-/// The fault of the first edit that is refused. `Memory`, and `Read` where the tree of a state keeps no limits.
+/// The fault of the first edit that is refused. `Read` if the tree of a state is too deep or too long for a
+/// configuration, and `Memory`.
 pub fn run(alloc: Global, order: &Order) -> Result<(), EditFault> {
     let tree = order.shape.tree(alloc)?;
     let pointer = order.shape.end(alloc)?;
@@ -45,7 +46,7 @@ fn edit_tree(alloc: Global, mut tree: Tree, pointer: &str, rounds: u32) -> Resul
 fn set_and_delete(alloc: Global, tree: &mut Tree, path: &Path) -> Result<(), EditFault> {
     let value = Tree::Text(Text::new(alloc, "set")?);
     set(alloc, tree, path, value).map_err(|(_, fault)| fault)?;
-    // The pointer to the end has steps; of an empty one nothing could be deleted.
+    // The pointer to the end has steps; `delete` requires one.
     if path.steps() > 0 {
         let _ = delete(tree, path)?;
     }

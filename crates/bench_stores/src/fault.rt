@@ -1,4 +1,4 @@
-// Why work on stores gives up.
+// Why work on stores ends early.
 use conf_folder::FolderFault;
 use conf_record::StoreFault;
 use conf_store::OpenFault;
@@ -7,7 +7,7 @@ use std::io;
 use thiserror::Error;
 use yaml_tree::ReadFault;
 
-/// Why work on stores gives up.
+/// Why work on stores ends early.
 #[derive(Debug, Drop, Error)]
 pub enum StoresFault {
     #[error("{0}")]

@@ -69,7 +69,7 @@ fn read<R: Files<File = File> + AllocGlobal>(
     pieces(alloc, &bytes, what == What::Trees)
 }
 
-/// How many pieces the bytes have; each is read to a tree where that is asked.
+/// How many pieces the bytes have. Each is read to a tree if `reads` is true.
 fn pieces(alloc: Global, bytes: &[u8], reads: bool) -> Result<u64, StoresFault> {
     let mut count = 0u64;
     let mut at = 0;

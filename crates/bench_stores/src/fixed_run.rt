@@ -52,8 +52,8 @@ impl Action {
     }
 }
 
-/// Performs the run, and prints a line for each call. A call that found no memory is made once more. A disk in memory
-/// says that it found none by a fault of the device; after one, the store is opened again first.
+/// Performs the run, and prints a line for each call. A call that runs out of memory is made once more. Where a disk in
+/// memory runs out of memory it returns `Device`; then the store is opened again first.
 pub(crate) fn perform_all<R: Print>(rt: &R, alloc: Global) -> Result<(), StoresFault> {
     let mut store = open_twice(rt, alloc, MemoryDisk::new(alloc))?;
     for action in ACTIONS {

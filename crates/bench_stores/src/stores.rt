@@ -8,7 +8,7 @@ use std::rt::Files;
 /// Does what an order says, and prints a number, or the lines of the fixed run.
 ///
 /// # Errors
-/// The first fault of a call, which is not made again. Only the fixed run makes a call that found no memory once more.
+/// The first fault of a call, which is not made again. Only the fixed run repeats a call that ran out of memory.
 pub fn perform<R: Files<File = File> + Print + AllocGlobal>(
     rt: &R,
     alloc: Global,

@@ -72,7 +72,7 @@ with_file folder (Some id) change = record {
   now = folder.now;
 }
 
--- the folder with one stage more
+-- the folder after a change of its names: this stage is added
 abbrev pub with_stage : Folder → Stage → Folder
 with_stage folder stage = record { files = folder.files; earlier = stages folder; now = stage }
 
@@ -84,7 +84,7 @@ with_pending bytes file = record { synced = file.synced; pending = file.pending 
 abbrev pub synced_whole : File → File
 synced_whole file = record { synced = file.synced ++ file.pending; pending = [] }
 
--- so many of the pending bytes are synced
+-- the file with so many of its pending bytes synced
 abbrev pub synced_first : ℕ → File → File
 synced_first count file = record { synced = file.synced ++ take count file.pending; pending = drop count file.pending }
 
@@ -96,7 +96,7 @@ after_create folder = record {
   now = record { store = folder.now.store; next = Some (length folder.files) };
 }
 
--- the file of the one name is put under the other
+-- the file under `next.yaml` is put under `store.yaml`
 abbrev pub after_rename : Folder → Option ℕ → Folder
 after_rename folder None = folder
 after_rename folder (Some id) = with_stage folder (record { store = Some id; next = None })
@@ -115,8 +115,9 @@ after RenameNext folder = after_rename folder folder.now.next
 after RemoveNext folder = after_remove folder folder.now.next
 after SyncFolder folder = record { files = folder.files; earlier = []; now = folder.now }
 
--- The folder after a call that failed when it had come so far: nowhere at 0, and else to its end, or to a part of it:
--- of an append a prefix of the bytes, of a sync a prefix of the bytes or of the stages.
+-- The folder after a call that failed on its way. At 0 nothing was done. At k + 1 a creation, a rename or a removal was
+-- done whole; an append added the first k + 1 bytes; a sync synced the first k + 1 pending bytes, or dropped as many of
+-- the earlier stages.
 abbrev pub after_part : ℕ → Step → Folder → Folder
 after_part zero step folder = folder
 after_part (suc k) CreateNext folder = after CreateNext folder

@@ -3,17 +3,17 @@ use Rattle.std.specs.Prelude.{ℕ, ◌≤◌, List, [], ◌∷◌, length, slice
 use Rattle.conf_disk.specs.Folder.{Folder, empty_folder, Step, after, after_part}
 use Rattle.conf_disk.specs.Image.{Image, IsImage}
 
--- the first of them first
+-- the folder after these steps, from the first to the last
 abbrev pub folder_after : List Step → Folder → Folder
 folder_after [] folder = folder
 folder_after (step ∷ steps) folder = folder_after steps (after step folder)
 
--- the folder when a step has come so far, if there is one
+-- the folder when a part of a step is done, as `after_part` counts parts; without a step, as it is
 abbrev pub folder_within : Option Step → ℕ → Folder → Folder
 folder_within None part folder = folder
 folder_within (Some step) part folder = after_part part step folder
 
--- the folder when so many of the steps are done, and the one after them has come so far
+-- the folder when the first `done` steps are done, and a part of the next one
 abbrev pub folder_at : List Step → ℕ → ℕ → Folder
 folder_at steps done part = folder_within (slice_get steps done) part (folder_after (take done steps) empty_folder)
 

@@ -1,4 +1,4 @@
--- What a disk that keeps a log of its steps owes: the moments now, and that its folder is whole.
+-- What the trait asks of a disk that keeps a list of its steps: the images of now, and that its folder is whole.
 use Rattle.std.specs.Prelude.{◌≡◌, ℕ, ◌+◌, ◌≤◌, List, [], ◌∷◌, ◌++◌, length, take, Option, Some, None}
 use Rattle.std.proofs.Common.{refl, sym, ◌∙◌, ap, subst, arith, length-append}
 use Rattle.std.proofs.lemmas.List.{take_all, length-set}
@@ -127,7 +127,7 @@ steps-whole : (steps : List Step) (folder : Folder) → IsWhole folder → IsWho
 steps-whole [] folder whole = whole
 steps-whole (step ∷ steps) folder whole = steps-whole steps (after step folder) (after-whole step folder whole)
 
--- so do all steps
+-- the folder after any steps is whole
 pub folder_after-whole : (steps : List Step) → IsWhole (folder_after steps empty_folder)
 folder_after-whole steps =
     steps-whole steps empty_folder

@@ -17,12 +17,12 @@ pub record Elapses (before now : ℕ) (past since : ℕ → Image → Type 0) (m
   pub nothing_else : (t : ℕ) (image : Image) → t ≤ before → since t image → past t image ⊎ may_leave image
   pub keeps : (t : ℕ) (image : Image) → t ≤ before → past t image → since t image
 
--- how a call goes on from the one value of a disk to the next
+-- time goes on from one value of a disk to the next
 abbrev pub TimeGoesOn : {D : Type 0} → (D → Folder) → (D → ℕ) → (D → ℕ → Image → Type 0) → D → D → Type 0
 TimeGoesOn folder moment left old new = Elapses (moment old) (moment new) (left old) (left new) (IsImage (folder new))
 
--- A device's failures are counted, up to the greatest number. There every call fails, and a call that returns Ok
--- leaves them as they were.
+-- A device's failures are counted, up to the greatest number. From then on every call fails. A call that returns Ok
+-- leaves the number as it was.
 pub record CountsFailures {T : Type 0} (before now : ℕ) (result : Result T DiskFault) : Type 0 where
   pub never_falls : before ≤ now
   pub within : now ≤ greatest
@@ -31,7 +31,7 @@ pub record CountsFailures {T : Type 0} (before now : ℕ) (result : Result T Dis
   pub spent : before ≡ greatest → IsErrOf result Device
 
 -- How a call that changes something goes, whatever it returns: what it makes of the folder, which is nothing once the
--- failures are at their greatest number; which moments lie within it; and when it fails, which is never for lack of
+-- failures are at their greatest number; what a crash during it may leave; and when it fails. It never runs out of
 -- memory.
 pub record IsChange {D : Type 0} (honest : Type 0) (folder : D → Folder) (moment : D → ℕ)
     (left : D → ℕ → Image → Type 0) (failure_count : D → ℕ)
@@ -51,10 +51,10 @@ SaysOfChange D = D → Step → Result (Unit {0}) DiskFault → D → Type 0
 abbrev pub SaysOfRead : Type 0 → Type 1
 SaysOfRead D = D → Name → ℕ → Result Content DiskFault → D → Type 0
 
--- A crash at any moment since `old` leaves an image that has P.
+-- A crash at any moment from `old` to `new` leaves an image of which P holds.
 pub record LeavesOnly {D : Type 0} (moment : D → ℕ) (left : D → ℕ → Image → Type 0) (old new : D)
     (P : Image → Type 0) : Type 0 where
   pub later : moment old ≤ moment new
   pub each : (image : Image) → left new (moment old) image → P image
-  -- for a run that began earlier
+  -- since an earlier moment: what was left up to `old`, or an image of which P holds
   pub before : (t : ℕ) (image : Image) → t ≤ moment old → left new t image → left old t image ⊎ P image

@@ -3,8 +3,8 @@
 /// under which the stage has no file it is `(0, 0)`.
 #[derive(Clone, Copy, Debug, Default, PartialEq, Eq)]
 pub struct Cuts {
-    /// Kept bytes and zeros of the file under `Store`.
+    /// How many pending bytes of the file under `Store` are kept, and how many zeros follow.
     pub store: (usize, usize),
-    /// Kept bytes and zeros of the file under `Next`.
+    /// The same of the file under `Next`.
     pub next: (usize, usize),
 }

@@ -1,4 +1,4 @@
-// The trait: what a call returns, what it changes in the folder, and which moments a crash within it may come at.
+// The trait: what a call returns, what it changes in the folder, and what a crash during it may leave.
 ghost use Rattle.std.specs.Prelude.{◌≡◌, ◌≢◌, ◌≤◌, ℕ, None, IsSome, IfOk, Result, Err};
 ghost use Rattle.conf_disk.specs.Folder.{Folder, Step, CreateNext, Append, Sync, RenameNext, RemoveNext, SyncFolder, under, Performs, Reads};
 ghost use Rattle.conf_disk.specs.Image.{Image, IsImage, IsWhole};
@@ -24,19 +24,20 @@ pub enum Name {
 pub enum Content {
     /// There is no file.
     Missing,
-    /// The file, whole: all of its bytes.
+    /// All bytes of the file, synced and pending.
     Bytes(Vec<u8>),
-    /// The file has more bytes than were asked for.
+    /// The file has more bytes than the limit of the read.
     TooLong,
 }
 
 /// Why a call failed.
 #[derive(Clone, Copy, Debug, PartialEq, Eq, Error)]
 pub enum DiskFault {
-    /// The device failed. A call that changes something may have taken effect or not.
+    /// The device failed. A call that changes something may have had its whole effect, a part of it, or none. A read
+    /// changes nothing.
     #[error("Device")]
     Device,
-    /// There was no memory for the bytes that were read. Only a read returns this.
+    /// Out of memory for the bytes that were read. Only a read returns this, and it changes nothing.
     #[error("OutOfMemory")]
     OutOfMemory,
 }
@@ -48,8 +49,12 @@ pub enum DiskFault {
 /// of them.
 ///
 /// The clauses on what the disk holds, reads and leaves have the premise that the disk is `honest`, and so have the
-/// conditions on callers. A disk that isn't, as one over a real folder, returns [`DiskFault::Device`] where such a
-/// condition does not hold. The clauses on faults have no premise.
+/// conditions on callers. A disk over a real folder does not claim it; where such a condition does not hold, it returns
+/// [`DiskFault::Device`]. The clauses on faults have no premise.
+///
+/// # Errors
+/// Any call but `failures` may return [`DiskFault::Device`]; then what it was to change may have changed in whole, in
+/// part or not at all. Of an append a part is a prefix of the bytes, and of a sync a part of what it was to sync.
 pub trait Disk {
     /// Whether the disk is one that the clauses below speak of. It does not depend on the value, so no call changes it.
     ghost honest: { Type 0 };
@@ -73,12 +78,15 @@ pub trait Disk {
     /// The same of a read of a name with a limit.
     ghost also_reads: { SaysOfRead Self } = { λ _ _ _ _ _. Unit {0} };
 
-    /// How often the device has failed, up to 18,446,744,073,709,551,615. At that number every other call fails and
-    /// changes nothing.
+    /// How often the device has failed, up to 18,446,744,073,709,551,615. From then on every other call returns
+    /// `Device` and changes nothing.
     fn failures(&self) -> u64
         ensures { result ≡ failure_count self.now };
 
-    /// The bytes under a name, if they are at most `max`. A read changes nothing, whatever it answers.
+    /// The bytes under a name, if they are at most `max`. A read changes nothing, whatever it returns.
+    ///
+    /// # Errors
+    /// `Device`, and `OutOfMemory` if there is no memory for the bytes.
     fn read(&mut self, alloc: Global, name: Name, max: u64) -> Result<Content, DiskFault>
         ensures content { honest → IfOk result (λ content.
             Reads (folder self.old) name max content) }
@@ -87,14 +95,14 @@ pub trait Disk {
         ensures failures { CountsFailures (failure_count self.old) (failure_count self.new) result }
         ensures also { also_reads self.old name max result self.new };
 
-    /// Makes an empty file under the name `Next`, where there is none.
+    /// Makes an empty file under the name `Next`. There may be none before.
     fn create_next(&mut self) -> Result<(), DiskFault>
         requires { honest → (folder self.old).now.next ≡ None }
         ensures goes { IsChange honest folder moment left failure_count
             CreateNext self.old result self.new }
         ensures also { also_changes self.old CreateNext result self.new };
 
-    /// Appends bytes to the file under a name. They are pending until the file is synced.
+    /// Appends bytes to the file under a name, which has to be there. They are pending until the file is synced.
     fn append(&mut self, name: Name, bytes: &[u8]) -> Result<(), DiskFault>
         requires { honest → IsSome (under (folder self.old).now name) }
         ensures goes { IsChange honest folder moment left failure_count
@@ -108,7 +116,7 @@ pub trait Disk {
             (Sync name) self.old result self.new }
         ensures also { also_changes self.old (Sync name) result self.new };
 
-    /// Renames `Next` to `Store`, and so replaces the file that is there.
+    /// Renames the file under `Next`, which has to be there, to `Store`. It replaces the file there, if there is one.
     fn rename_next(&mut self) -> Result<(), DiskFault>
         requires { honest → IsSome (folder self.old).now.next }
         ensures goes { IsChange honest folder moment left failure_count
@@ -121,7 +129,7 @@ pub trait Disk {
             RemoveNext self.old result self.new }
         ensures also { also_changes self.old RemoveNext result self.new };
 
-    /// Syncs the folder: after `Ok`, a crash leaves the names as they are.
+    /// Syncs the folder: after `Ok`, a crash leaves each name with the file that it has now.
     fn sync_folder(&mut self) -> Result<(), DiskFault>
         ensures goes { IsChange honest folder moment left failure_count
             SyncFolder self.old result self.new }

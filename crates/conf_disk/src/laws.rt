@@ -1,12 +1,12 @@
-// Facts about the model, each the contract of a function that does nothing.
+// Laws of the model, each the contract of a function that does nothing.
 ghost use Rattle.std.specs.Prelude.{◌≤◌, ℕ};
 ghost use Rattle.conf_disk.specs.Image.{image_now};
 ghost use Rattle.conf_disk.specs.Laws.{ImagesAreCuts, ImagesRead, ImagesAreStable, ReadingIsAnImage, CallsLeaveNoOther};
 
 use crate::Disk;
 
-/// A law: the choices that [`MemoryDisk::image`](crate::MemoryDisk::image) takes give every image that a crash may
-/// leave, and nothing else.
+/// A law: a stage, counted from 0, and [`Cuts`](crate::Cuts) that fit it give an image that a crash may leave, and
+/// every image comes from such a choice.
 pub fn images_are_cuts()
     ensures { ImagesAreCuts }
 {}

@@ -1,6 +1,6 @@
 //! A folder with two files as the store sees it: what is read, and what a crash of the machine may leave.
 //!
-//! [`Disk`] states the model. [`Cuts`] says how a crash cuts the files of one of its images.
+//! [`Disk`] states the model. [`Cuts`] says where a crash cuts the files of a stage.
 #![tactic(auto)]
 
 mod cuts;

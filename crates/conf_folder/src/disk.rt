@@ -1,4 +1,4 @@
-// The calls of a disk, by those of the system.
+// The calls of a disk, each by calls of the system.
 ghost use Rattle.std.specs.Prelude.{◌≡◌, ◌≢◌, ◌<◌, Err, min, ◌+◌};
 ghost use Rattle.conf_disk.specs.Moments.{CountsFailures};
 
@@ -68,7 +68,7 @@ fn is_folder<R: Files<File = File>>(rt: &R, folder: &str) -> bool {
     }
 }
 
-/// The bytes of a file, at most `max`.
+/// The bytes of a file, or `TooLong` if it has more than `max`.
 fn read_up_to(alloc: Global, file: File, max: u64) -> io::Result<Content> {
     if file.metadata()?.len() > max {
         return Ok(Content::TooLong);
@@ -82,12 +82,12 @@ fn read_up_to(alloc: Global, file: File, max: u64) -> io::Result<Content> {
 }
 
 impl<'r, R: Files<File = File>> FolderDisk<'r, R> {
-    /// The disk of the folder at a path. It looks for the folder first, then takes the lock on its `store.lock`,
-    /// which it makes where it is missing.
+    /// The disk of the folder at a path. It looks for the folder first, and then takes the lock on its `store.lock`
+    /// without waiting. It makes that file if it is missing.
     ///
     /// # Errors
-    /// `Device` if there is no such folder or a call of the system fails, `Locked` if another run holds the lock,
-    /// `OutOfMemory`.
+    /// `Device` if there is no folder at the path or a call of the system fails, `Locked` if another run holds the
+    /// lock, and `OutOfMemory`.
     pub fn new(rt: &'r R, alloc: Global, folder: &str) -> Result<Self, FolderFault> {
         if !is_folder(rt, folder) {
             return Err(FolderFault::Device);
@@ -111,7 +111,8 @@ impl<'r, R: Files<File = File>> FolderDisk<'r, R> {
         }
     }
 
-    /// Takes the handle for appending to a file, and opens the file if there is no handle.
+    /// Takes out the handle for appending to a file, or opens the file if there is none. A caller that succeeds gives
+    /// the handle back to `keep_handle`; after a failure it is closed.
     fn take_handle(&mut self, name: Name) -> io::Result<File>
         ensures { self.new.failures ≡ self.old.failures }
     {
@@ -193,7 +194,7 @@ impl<'r, R: Files<File = File>> FolderDisk<'r, R> {
         File::open(self.rt, self.paths.folder.as_str())?.sync_all()
     }
 
-    /// Reads a file of at most `max` bytes. One that is longer is not read whole.
+    /// Reads the file under a name, if there is one. A file of more than `max` bytes is `TooLong`.
     fn try_read(&self, alloc: Global, name: Name, max: u64) -> io::Result<Content> {
         match File::open(self.rt, self.path(name)) {
             Ok(file) => read_up_to(alloc, file, max),
@@ -202,7 +203,7 @@ impl<'r, R: Files<File = File>> FolderDisk<'r, R> {
         }
     }
 
-    /// Counts a failure, where a call failed.
+    /// Counts a failure if a call failed, and returns it as `Device`.
     fn count(&mut self, done: io::Result<()>) -> Result<(), DiskFault>
         requires { self.old.failures < u64.MAX }
         ensures failures { CountsFailures self.old.failures self.new.failures result }

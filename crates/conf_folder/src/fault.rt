@@ -1,11 +1,11 @@
-// Why a folder is not taken as a disk.
+// Why a folder can't be used as a disk.
 use std::alloc::AllocError;
 use thiserror::Error;
 
-/// Why a folder is not taken as a disk. The folder is as it was, but for an empty `store.lock` that may be there.
+/// Why a folder can't be used as a disk. The folder is unchanged, except that an empty `store.lock` may be new in it.
 #[derive(Clone, Copy, Debug, PartialEq, Eq, Error)]
 pub enum FolderFault {
-    /// There is no such folder, it is no folder, or the system refused a call on it.
+    /// There is no folder at the path, or a call of the system on it failed.
     #[error("Device")]
     Device,
     /// Another run holds the lock on `store.lock`.

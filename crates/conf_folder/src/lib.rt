@@ -1,8 +1,8 @@
 //! A disk over a real folder.
 //!
 //! [`FolderDisk`] makes the calls of [`Disk`](conf_disk::Disk) on the files `store.yaml` and `next.yaml` of a folder.
-//! It holds a lock on `store.lock` as long as it lives. It claims nothing of what the folder keeps: that a real folder
-//! is an honest disk is a premise of whoever uses it.
+//! It holds a lock on `store.lock` until it is dropped. Its contract says nothing of what the folder keeps: that a real
+//! folder is an honest disk is a premise that nothing here proves.
 #![tactic(auto)]
 
 mod disk;

@@ -3,7 +3,8 @@ use crate::FolderFault;
 use std::fs::{File, OpenOptions, TryLockError};
 use std::rt::Files;
 
-/// Takes the lock on the file at a path, which is made where it is missing. The lock is held until the file is closed.
+/// Takes the lock on the file at a path without waiting. A missing file is made. The lock is held until the file is
+/// closed.
 pub(crate) fn lock_file<R: Files<File = File>>(rt: &R, path: &str) -> Result<File, FolderFault> {
     let opened = OpenOptions::new()
         .read(true)

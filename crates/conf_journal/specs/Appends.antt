@@ -15,6 +15,6 @@ pub record LeavesAppended {D : Type 0} (folder : D → Folder) (moment : D → �
   pub store : IsSynced (folder old) Store
       → LeavesOnly moment left old new
       (λ image. IsStoreOf (folder old) image.store ⊎ IsTail (bytes_under (folder old) Store) bytes image.store)
-  -- If every stage has the same file there: what it leaves of that file with the bytes after it.
+  -- If every stage has the same file there: what a crash leaves of that file with the bytes pending after it.
   pub held : (file : Option File) → HoldsStore (folder old) file
       → LeavesOnly moment left old new (λ image. IsLeftOf (option_map (with_pending bytes) file) image.store)

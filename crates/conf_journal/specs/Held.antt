@@ -6,6 +6,7 @@ use Rattle.conf_disk.specs.declared.disk.Content.TheVariants.{Missing}
 use Rattle.conf_disk.specs.declared.disk.Name.TheVariants.{Store, Next}
 use Rattle.conf_journal.specs.Store.{IsStoreOf}
 
+-- the file at a place among the folder's files, if a name has one
 abbrev pub file_at : List File → Option ℕ → Option File
 file_at files None = None
 file_at files (Some id) = Some (get_or files id empty_file)
@@ -15,30 +16,30 @@ pub record HoldsStore (folder : Folder) (file : Option File) : Type 0 where
   pub same : All (λ (stage : Stage). stage.store ≡ folder.now.store) (stages folder)
   pub is : file_at folder.files folder.now.store ≡ file
 
--- the store holds the bytes that were staged, and nothing of them is pending
+-- the new folder has the bytes that were under `next.yaml` under `store.yaml` in every stage, and none are pending
 abbrev pub HoldsStaged : Folder → Folder → Type 0
 HoldsStaged old new = (bytes : List ℕ) → bytes_under old Next ≡ Some bytes → HoldsStore new (Some (synced_file bytes))
 
--- what a stop leaves of a file, where there is one
+-- what a crash leaves of a file, if there is one
 abbrev pub IsLeftOf : Option File → Option (List ℕ) → Type 0
 IsLeftOf None None = Unit {0}
 IsLeftOf None (Some bytes) = ⊥
 IsLeftOf (Some file) None = ⊥
 IsLeftOf (Some file) (Some bytes) = IsTorn file bytes
 
--- a stop leaves of the store what it leaves of the file that is held there
+-- a crash leaves of the store what it leaves of the file that every stage has there
 abbrev pub HeldIsLeft : Type 0
 HeldIsLeft = (folder : Folder) (file : Option File) → HoldsStore folder file → (image : Image) → IsImage folder image
     → IsLeftOf file image.store
 
--- and of one of which nothing is pending just its bytes
+-- if nothing of that file is pending, it leaves exactly its bytes
 abbrev pub SyncedIsLeft : Type 0
 SyncedIsLeft = (folder : Folder) (bytes : List ℕ) → HoldsStore folder (Some (synced_file bytes)) → (image : Image)
     → IsImage folder image → image.store ≡ Some bytes
 
 -- ---- every stage has the same file with nothing pending, or none has a file: `held` is its bytes
 
--- a stop leaves just that
+-- a crash leaves exactly that
 abbrev pub OnlyHeldIsLeft : Type 0
 OnlyHeldIsLeft = (folder : Folder) (held store : Option (List ℕ)) → HoldsStore folder (option_map synced_file held)
     → IsStoreOf folder store → store ≡ held
@@ -48,6 +49,6 @@ abbrev pub HeldIsRead : Type 0
 HeldIsRead = (folder : Folder) (held : Option (List ℕ)) → HoldsStore folder (option_map synced_file held)
     → bytes_under folder Store ≡ held
 
--- a read that finds no file says that there is none
+-- a read returns `Missing` only if there is no file
 abbrev pub MissingIsNone : Type 0
 MissingIsNone = (folder : Folder) (max : ℕ) → Reads folder Store max Missing → bytes_under folder Store ≡ None

@@ -1,4 +1,4 @@
--- What a stop may leave under `store.yaml`, in plain words.
+-- What a crash may leave under `store.yaml`, in plain words.
 use Rattle.std.specs.Prelude.{◌≡◌, ◌⊎◌, ℕ, ◌+◌, ◌≤◌, List, [], ◌++◌, length, get_or, take, replicate, Option, Some, None, option_map}
 use Rattle.conf_disk.specs.Folder.{File, empty_file, Folder, under, bytes_under}
 use Rattle.conf_disk.specs.Image.{Image, IsImage, image_now}
@@ -10,7 +10,7 @@ use Rattle.conf_disk.specs.declared.disk.Name.TheVariants.{Store, Next}
 abbrev pub store_limit : ℕ
 store_limit = 1073741824
 
--- some image of the folder has this under `store.yaml`
+-- a crash now may leave this under `store.yaml`
 pub record IsStoreOf (folder : Folder) (store : Option (List ℕ)) : Type 0 where
   pub image : Image
   pub is : IsImage folder image
@@ -31,7 +31,7 @@ abbrev pub LeavesStoreOrStaged : {D : Type 0} → (D → Folder) → (D → ℕ)
 LeavesStoreOrStaged folder moment left old new =
     LeavesStoreOr folder moment left (bytes_under (folder old) Next) old new
 
--- the old bytes, a prefix of the new, and zeros, together no more than the old and the new
+-- the old bytes, a prefix of the new ones, and zeros; the prefix and the zeros are no longer than the new bytes
 pub record IsTail (old : Option (List ℕ)) (bytes : List ℕ) (store : Option (List ℕ)) : Type 0 where
   pub start : List ℕ
   pub was : old ≡ Some start
@@ -48,11 +48,11 @@ IsSyncedAt files (Some id) = (get_or files id empty_file).pending ≡ []
 abbrev pub IsSynced : Folder → Name → Type 0
 IsSynced folder name = IsSyncedAt folder.files (under folder.now name)
 
--- with more bytes after those of a file, where there is one
+-- the bytes of a file with more after them, if there is a file
 abbrev pub file_with_bytes : Option (List ℕ) → List ℕ → Option (List ℕ)
 file_with_bytes old bytes = option_map (λ (start : List ℕ). start ++ bytes) old
 
--- the folder reads so under the two names
+-- what the two names read as
 abbrev pub ReadsAs : Folder → Option (List ℕ) → Option (List ℕ) → Type 0
 ReadsAs folder store next = image_now folder ≡ record { store = store; next = next }
 

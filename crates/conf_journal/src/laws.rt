@@ -1,4 +1,4 @@
-// Facts about the model, each the contract of a function that does nothing.
+// Laws of the model, each the contract of a function that does nothing.
 ghost use Rattle.std.specs.Prelude.{ℕ, List, Option};
 ghost use Rattle.conf_disk.specs.Folder.{Folder};
 ghost use Rattle.conf_disk.specs.Image.{IsImage};
@@ -8,15 +8,15 @@ ghost use Rattle.conf_journal.specs.Store.{LeavesOldStore, LeavesStoreOr};
 
 use conf_disk::Disk;
 
-/// A law: where every stage has the same file under `store.yaml`, a crash leaves of the store what it leaves of that
-/// file, and exactly its bytes if none are pending.
+/// A law: if every stage has the same file under `store.yaml`, a crash leaves that file: its synced bytes, a prefix of
+/// its pending bytes, and perhaps zeros. If none are pending, it leaves exactly its bytes.
 pub fn held_store_is_left()
     ensures held { HeldIsLeft }
     ensures synced { SyncedIsLeft }
 {}
 
-/// A law: where every stage has the same file under `store.yaml` with nothing pending, or none has a file, that is
-/// the only store that a crash can leave, and what is read. A read that finds no file says that there is none.
+/// A law: if every stage has the same file under `store.yaml` with nothing pending, or none has a file, a crash can
+/// leave only that, and it is what is read. A read returns `Missing` only if there is no file.
 pub fn held_store_is_the_only_one()
     ensures left { OnlyHeldIsLeft }
     ensures reads { HeldIsRead }

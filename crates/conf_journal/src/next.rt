@@ -1,4 +1,4 @@
-// The procedures that replace the live file by a new one.
+// The procedures that replace `store.yaml` by a new file.
 ghost use Rattle.std.specs.Prelude.{◌≡◌, ◌⊎◌, [], ◌∷◌, Option, IsSome, OnOk, Some, None};
 ghost use Rattle.conf_disk.specs.Folder.{File, CreateNext, Append, Sync, RenameNext, RemoveNext, SyncFolder, after, bytes_under};
 ghost use Rattle.conf_disk.specs.Image.{IsImage};
@@ -10,10 +10,10 @@ ghost use Rattle.conf_journal.specs.Held.{HoldsStaged, HoldsStore};
 
 use conf_disk::{Disk, DiskFault, Name};
 
-/// Makes a new `next.yaml` with no bytes. `store.yaml` is unchanged.
+/// Makes a new `next.yaml` with no bytes, in place of one that is there. `store.yaml` is unchanged.
 ///
 /// # Errors
-/// `Device`: there may be no `next.yaml`.
+/// `Device`: `next.yaml` is the one from before, the new one, or missing.
 pub fn begin_next<D: Disk>(disk: &mut D) -> Result<(), DiskFault>
     ensures folder { D.honest →
         OnOk result
@@ -38,10 +38,11 @@ pub fn begin_next<D: Disk>(disk: &mut D) -> Result<(), DiskFault>
     disk.create_next()
 }
 
-/// Appends bytes to `next.yaml`. They are pending until the file is synced. `store.yaml` is unchanged.
+/// Appends bytes to `next.yaml`, which has to be there. They are pending until the file is synced. `store.yaml` is
+/// unchanged.
 ///
 /// # Errors
-/// `Device`: a prefix of the bytes may be there.
+/// `Device`: a prefix of the bytes was appended, perhaps none or all of them.
 pub fn append_next<D: Disk>(disk: &mut D, bytes: &[u8]) -> Result<(), DiskFault>
     requires { D.honest → IsSome (D.folder disk.old).now.next }
     ensures folder { D.honest →
@@ -66,10 +67,11 @@ pub fn append_next<D: Disk>(disk: &mut D, bytes: &[u8]) -> Result<(), DiskFault>
     disk.append(Name::Next, bytes)
 }
 
-/// Makes a new `next.yaml` of these bytes, and syncs them, as [`swap_next`] requires. `store.yaml` is unchanged.
+/// Makes a new `next.yaml` of these bytes, in place of one that is there, and syncs it, as [`swap_next`] requires.
+/// `store.yaml` is unchanged.
 ///
 /// # Errors
-/// `Device`: there may be no `next.yaml`, or one with a prefix of the bytes.
+/// `Device`: `next.yaml` is the one from before, missing, or a new one with a prefix of the bytes.
 pub fn stage_next<D: Disk>(disk: &mut D, bytes: &[u8]) -> Result<(), DiskFault>
     ensures folder { D.honest →
         OnOk result
@@ -101,10 +103,11 @@ pub fn stage_next<D: Disk>(disk: &mut D, bytes: &[u8]) -> Result<(), DiskFault>
     disk.sync(Name::Next)
 }
 
-/// Replaces `store.yaml` by the staged file: after `Ok`, a crash leaves it there.
+/// Replaces `store.yaml` by `next.yaml`, which has to be there and synced whole: after `Ok`, every crash leaves it
+/// there.
 ///
 /// # Errors
-/// `Device`: the staged file may be in its place or not.
+/// `Device`: `store.yaml` is the old file or the new one.
 pub fn swap_next<D: Disk>(disk: &mut D) -> Result<(), DiskFault>
     requires { D.honest → IsSynced (D.folder disk.old) Name.Next }
     ensures folder { D.honest →
@@ -127,10 +130,10 @@ pub fn swap_next<D: Disk>(disk: &mut D) -> Result<(), DiskFault>
     disk.sync_folder()
 }
 
-/// Syncs `next.yaml`, and replaces `store.yaml` by it: after `Ok`, a crash leaves it there.
+/// Syncs `next.yaml`, which has to be there, and replaces `store.yaml` by it: after `Ok`, every crash leaves it there.
 ///
 /// # Errors
-/// `Device`: the staged file may be in its place or not.
+/// `Device`: `store.yaml` is the old file or the new one.
 pub fn finish_next<D: Disk>(disk: &mut D) -> Result<(), DiskFault>
     requires { D.honest → IsSome (D.folder disk.old).now.next }
     ensures folder { D.honest →

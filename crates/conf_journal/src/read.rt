@@ -1,4 +1,4 @@
-// The procedure that reads the live file.
+// The procedure that reads `store.yaml`.
 ghost use Rattle.std.specs.Prelude.{◌≡◌, [], ◌∷◌, OnOk, IfOk, Err, option_map};
 ghost use Rattle.conf_disk.specs.Folder.{Sync, SyncFolder, bytes_under, Reads};
 ghost use Rattle.conf_disk.specs.Image.{IsImage, image_now, synced_file};
@@ -13,10 +13,13 @@ use std::alloc::Global;
 /// The greatest length of `store.yaml`, in bytes.
 pub const STORE_LIMIT: u64 = 1_073_741_824;
 
-/// Syncs the names and the bytes of `store.yaml`, and reads it: after `Ok` a crash leaves exactly what was read.
+/// Syncs the folder and `store.yaml`, and reads that file: after `Ok`, a crash leaves exactly what was read.
+///
+/// Returns `Missing` if there is no file, and `TooLong` if it has more than [`STORE_LIMIT`] bytes. What the two names
+/// read as is unchanged, whatever this returns.
 ///
 /// # Errors
-/// `Device`: what is read is unchanged. `OutOfMemory`: all is synced, and the bytes were not read.
+/// `Device`: the folder and the file may be synced or not. `OutOfMemory`: both are synced.
 pub fn load<D: Disk>(alloc: Global, disk: &mut D) -> Result<Content, DiskFault>
     ensures content { D.honest → IfOk result (λ content.
         Reads (D.folder disk.old) Name.Store store_limit content) }

@@ -1,4 +1,4 @@
-// The procedures that append to the live file.
+// The procedures that append to `store.yaml`.
 ghost use Rattle.std.specs.Prelude.{◌≡◌, [], ◌∷◌, Option, IsSome, OnOk, Err, option_map};
 ghost use Rattle.conf_disk.specs.Folder.{File, Append, Sync, after, with_pending, synced_whole};
 ghost use Rattle.conf_disk.specs.Image.{IsImage, image_now};
@@ -11,10 +11,10 @@ ghost use Rattle.conf_journal.specs.Held.{HoldsStore};
 
 use conf_disk::{Disk, DiskFault, Name};
 
-/// Appends bytes to `store.yaml`. They are pending until [`sync_store`] returns `Ok`.
+/// Appends bytes to `store.yaml`, which has to be there. They are pending until [`sync_store`] returns `Ok`.
 ///
 /// # Errors
-/// `Device`: a prefix of the bytes may be there.
+/// `Device`: a prefix of the bytes was appended, perhaps none or all of them.
 pub fn append_store<D: Disk>(disk: &mut D, bytes: &[u8]) -> Result<(), DiskFault>
     requires { D.honest → IsSome (D.folder disk.old).now.store }
     ensures folder { D.honest →
@@ -32,10 +32,10 @@ pub fn append_store<D: Disk>(disk: &mut D, bytes: &[u8]) -> Result<(), DiskFault
     disk.append(Name::Store, bytes)
 }
 
-/// Syncs `store.yaml`: after `Ok`, a crash leaves all of its bytes.
+/// Syncs `store.yaml`: after `Ok`, a crash leaves all of its bytes. Without a file it does nothing.
 ///
 /// # Errors
-/// `Device`: what is read is unchanged.
+/// `Device`: a crash may still take away pending bytes. What is read is unchanged.
 pub fn sync_store<D: Disk>(disk: &mut D) -> Result<(), DiskFault>
     ensures folder { D.honest → OnOk result (D.folder disk.new
         ≡ after (Sync Name.Store) (D.folder disk.old)) }
@@ -50,10 +50,10 @@ pub fn sync_store<D: Disk>(disk: &mut D) -> Result<(), DiskFault>
     disk.sync(Name::Store)
 }
 
-/// Appends bytes to `store.yaml` and syncs them: after `Ok`, a crash leaves them.
+/// Appends bytes to `store.yaml`, which has to be there, and syncs it: after `Ok`, a crash leaves all of its bytes.
 ///
 /// # Errors
-/// `Device`: a prefix of the bytes may be there.
+/// `Device`: a prefix of the bytes was appended, perhaps none or all of them. They may be synced or not.
 pub fn append_closed<D: Disk>(disk: &mut D, bytes: &[u8]) -> Result<(), DiskFault>
     requires { D.honest → IsSome (D.folder disk.old).now.store }
     ensures folder { D.honest →

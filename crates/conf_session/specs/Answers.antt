@@ -60,6 +60,7 @@ word store.OutOfMemory = []
 abbrev pub one : List ℕ → Tree → Tree
 one key value = mapping (member key value no_member)
 
+-- the answer to a refused request
 abbrev pub refusal : List ℕ → Tree
 refusal word = one (codes "refused") (text word)
 
@@ -71,7 +72,7 @@ abbrev pub answer_or_refusal : {A : Type 0} → (A → Tree) → Result A StoreF
 answer_or_refusal answer (Ok x) = answer x
 answer_or_refusal answer (Err fault) = refusal (word fault)
 
--- the tree at a path, whose text may be that of no path
+-- the tree at the path that a text means, if it means one
 abbrev pub value_at_path : Contents → List ℕ → List ℕ → Result Tree StoreFault
 value_at_path s name p = and_then (tree_named s name)
     (λ t. and_then (by_path (path_of p)) (λ tokens. by_path (at t tokens)))
@@ -81,13 +82,14 @@ pub record Stored : Type 0 where
   pub state : Contents
   pub size : ℕ
 
--- why an import is refused whose text is: a bad name comes first
+-- why an import is refused if its text is refused: a bad name comes first
 abbrev pub unread_fault : List ℕ → ReadFault → StoreFault
 unread_fault name fault = if good_name name then store.Read fault else store.BadName
 
 abbrev pub change_answer : Result Contents StoreFault → Tree
 change_answer r = answer_or_refusal (λ (new : Contents). one (codes "ok") (text (decimal new.count))) r
 
+-- the answer to a request, as the tree that is written in the one style
 abbrev pub answer : Stored → Request → Tree
 answer now (changing command) = change_answer (outcome now.size now.state command)
 answer now (unread name fault) = refusal (word (unread_fault name fault))
@@ -114,6 +116,8 @@ stored_after_change now command (Ok new) =
     record { state = new; size = now.size + length (next_record now.state command) }
 stored_after_change now command (Err fault) = now
 
+-- An accepted command gives the next state, and adds the length of its record. A checkpoint leaves the state, and the
+-- file is as long as its base. All else leaves both.
 abbrev pub stored_after : Stored → Request → Stored
 stored_after now (changing command) = stored_after_change now command (outcome now.size now.state command)
 stored_after now checkpointing = record { state = now.state; size = length (base_bytes now.state) }
@@ -142,10 +146,12 @@ answers now (request ∷ requests) = framed_text_bytes (answer now request) ∷ 
 abbrev pub output : Stored → List Request → List ℕ
 output now requests = concat (answers now requests)
 
+-- what is stored after all requests
 abbrev pub stored_after_all : Stored → List Request → Stored
 stored_after_all now [] = now
 stored_after_all now (request ∷ requests) = stored_after_all (stored_after now request) requests
 
+-- what `store.yaml` reads as after all requests
 abbrev pub file_after_all : Option (List ℕ) → Stored → List Request → Option (List ℕ)
 file_after_all file now [] = file
 file_after_all file now (request ∷ requests) =
@@ -160,6 +166,7 @@ abbrev pub accepted_command : Stored → Request → List Command
 accepted_command now (changing command) = accepted_by (outcome now.size now.state command) command
 accepted_command now request = []
 
+-- the accepted commands of the requests, in order
 abbrev pub accepted_commands : Stored → List Request → List Command
 accepted_commands now [] = []
 accepted_commands now (request ∷ requests) =
@@ -178,6 +185,7 @@ refused_of now (exporting name) = is_refused (tree_named now.state name)
 refused_of now bad = 1
 refused_of now request = 0
 
+-- how many of the requests are refused
 abbrev pub refusals : Stored → List Request → ℕ
 refusals now [] = 0
 refusals now (request ∷ requests) = refused_of now request + refusals (stored_after now request) requests

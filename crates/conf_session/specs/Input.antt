@@ -7,14 +7,15 @@ use Rattle.conf_session.specs.declared.input.Input.{Input}
 use Rattle.conf_session.specs.declared.fault.SessionFault.{SessionFault}
 use Rattle.conf_session.specs.declared.fault.SessionFault.TheVariants as fault
 
--- the most bytes of a piece or of a rest, and of an input
+-- the most bytes of a piece, or of what comes after the last one (the rest)
 abbrev pub piece_limit : ℕ
 piece_limit = 4194304
 
+-- the most bytes of an input
 abbrev pub session_limit : ℕ
 session_limit = 1073741824
 
--- the bytes that were read and are not looked at yet
+-- the bytes that were read and are in no piece yet
 abbrev pub ahead : Input → List ℕ
 ahead input = slice_range input.chunk.items input.start input.end
 
@@ -22,6 +23,7 @@ ahead input = slice_range input.chunk.items input.start input.end
 abbrev pub piece_or_rest : Input → List ℕ
 piece_or_rest input = input.cutter.bytes
 
+-- what holds between two calls: the chunk has its size, the bytes ahead lie in it, and no limit is passed
 pub record IsSound (input : Input) : Type 0 where
   pub max : input.cutter.max ≡ piece_limit
   pub room : length input.chunk.items ≡ 65536
@@ -29,13 +31,14 @@ pub record IsSound (input : Input) : Type 0 where
   pub within : input.end ≤ 65536
   pub total : input.total ≤ session_limit
 
--- no closing line ends in the first 4,194,304 bytes, and there are more
+-- no closing line ends within the first 4,194,304 bytes, and there are more bytes
 pub record IsOverlong (bytes : List ℕ) : Type 0 where
   pub unclosed : (place : ℕ) → place ≤ piece_limit → ClosesAt bytes place → ⊥
   pub long : piece_limit < length bytes
 
 -- ---- taking in what was read
 
+-- the bytes ahead close the piece
 pub record FeedsPiece (old new : Input) : Type 0 where
   pub sound : IsSound new
   pub joined : piece_or_rest old ++ ahead old ≡ piece_or_rest new ++ ahead new
@@ -43,6 +46,7 @@ pub record FeedsPiece (old new : Input) : Type 0 where
   pub short : length (piece_or_rest new) ≤ piece_limit
   pub total : new.total ≡ old.total
 
+-- all bytes ahead are taken in, and close nothing
 pub record FeedsAll (old new : Input) : Type 0 where
   pub sound : IsSound new
   pub joined : piece_or_rest old ++ ahead old ≡ piece_or_rest new
@@ -60,6 +64,7 @@ Feeds old new (Err fault) = ⊥
 
 -- ---- reading once
 
+-- Some bytes were read, and are ahead. `given` and `left` are what the reader has before and after, where it is known.
 pub record FillsSome (given left : Option (List ℕ)) (old new : Input) : Type 0 where
   pub sound : IsSound new
   pub taken : Consumes given left (ahead new)
@@ -67,6 +72,7 @@ pub record FillsSome (given left : Option (List ℕ)) (old new : Input) : Type 0
   pub held : piece_or_rest new ≡ piece_or_rest old
   pub total : new.total ≡ old.total + length (ahead new)
 
+-- the reader is at its end
 pub record FillsNone (given left : Option (List ℕ)) (old new : Input) : Type 0 where
   pub sound : IsSound new
   pub taken : Consumes given left []
@@ -75,7 +81,7 @@ pub record FillsNone (given left : Option (List ℕ)) (old new : Input) : Type 0
   pub used : ahead new ≡ []
   pub total : new.total ≡ old.total
 
--- the input is at its limit, and a byte more was read
+-- as many bytes as an input may have were read before, and now at least one more
 pub record FillsBeyond (given left : Option (List ℕ)) (old : Input) : Type 0 where
   pub more : List ℕ
   pub taken : Consumes given left more
@@ -91,6 +97,7 @@ Fills given left old new (Err fault) = ⊥
 
 -- ---- the next piece
 
+-- there is a next piece, of bytes that were ahead and of bytes that were read now
 pub record AdvancesToPiece (given left : Option (List ℕ)) (old new : Input) : Type 0 where
   pub more : List ℕ
   pub taken : Consumes given left more
@@ -100,6 +107,7 @@ pub record AdvancesToPiece (given left : Option (List ℕ)) (old new : Input) : 
   pub short : length (piece_or_rest new) ≤ piece_limit
   pub total : new.total ≡ old.total + length more
 
+-- the input was read to its end, and what comes after the last piece closes nothing
 pub record AdvancesToEnd (given left : Option (List ℕ)) (old new : Input) : Type 0 where
   pub more : List ℕ
   pub taken : Consumes given left more
@@ -109,19 +117,20 @@ pub record AdvancesToEnd (given left : Option (List ℕ)) (old new : Input) : Ty
   pub short : length (piece_or_rest new) ≤ piece_limit
   pub total : old.total + length more ≤ session_limit
 
--- a read failed after an unclosed rest
+-- a read failed, and the bytes before it close no further piece
 pub record FailsToRead (given left : Option (List ℕ)) (old : Input) : Type 0 where
   pub more : List ℕ
   pub taken : Consumes given left more
   pub unclosed : Unclosed (ahead old ++ more)
   pub short : length (ahead old ++ more) ≤ piece_limit
 
+-- no closing line comes within the limit of a piece
 pub record FindsTooLong (given left : Option (List ℕ)) (old : Input) : Type 0 where
   pub more : List ℕ
   pub taken : Consumes given left more
   pub overlong : IsOverlong (ahead old ++ more)
 
--- so many bytes as may be were read, and some more
+-- as many bytes as an input may have were read, which close no further piece, and then at least one more
 pub record FindsSessionLong (given left : Option (List ℕ)) (old : Input) : Type 0 where
   pub more : List ℕ
   pub beyond : List ℕ
@@ -131,6 +140,7 @@ pub record FindsSessionLong (given left : Option (List ℕ)) (old : Input) : Typ
   pub short : length (ahead old ++ more) ≤ piece_limit
   pub full : old.total + length more ≡ session_limit
 
+-- memory ran out, after some bytes were read or none
 pub record RunsOutOfMemory (given left : Option (List ℕ)) : Type 0 where
   pub more : List ℕ
   pub taken : Consumes given left more

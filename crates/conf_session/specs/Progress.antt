@@ -17,7 +17,7 @@ use Rattle.conf_session.specs.declared.fault.SessionFault.{SessionFault}
 use Rattle.conf_session.specs.declared.fault.SessionFault.TheVariants as fault
 use Rattle.conf_session.specs.declared.pieces.Counts.{Counts}
 
--- what is counted of the requests; the rest is counted at the end
+-- the counts are those of the requests; the bytes after the last piece are counted at the end of the run
 pub record AreCounted (start : Stored) (requests : List Request) (counts : Counts) : Type 0 where
   pub documents : counts.tally.documents ≡ length requests
   pub accepted : counts.tally.accepted ≡ length (accepted_commands start requests)
@@ -65,7 +65,8 @@ Fails honest folder moment since held written old new piece sent (fault.Write to
     × (length (framed_text_bytes (answer (stored_of old) request)) ≤ answer_limit)
 Fails honest folder moment since held written old new piece sent fault = ⊥
 
--- No count exceeds its type: there are no more pieces than bytes of the input, and an answer is no longer than allowed.
+-- What keeps the counts within their types: there are no more pieces than bytes of the input, and no answer is longer
+-- than the limit.
 pub record HasRoom (counts : Counts) : Type 0 where
   pub few : counts.tally.documents ≤ session_limit
   pub accepted : counts.tally.accepted ≤ counts.tally.documents

@@ -20,6 +20,7 @@ use Rattle.conf_session.specs.declared.reply.Reply.TheVariants.{Accepted, Done, 
 use Rattle.conf_session.specs.declared.fault.SessionFault.{SessionFault}
 use Rattle.conf_session.specs.declared.fault.SessionFault.TheVariants.{OutOfMemory, Device}
 
+-- what a value of the code's type says
 abbrev pub said_of : code.Said → Said
 said_of (code_said.Import name source) = import_text (chars (text_bytes name)) (chars (text_bytes source))
 said_of (code_said.Change command) = change (command_of command)
@@ -35,17 +36,19 @@ OnlyReads (changing command) = ⊥
 OnlyReads checkpointing = ⊥
 OnlyReads request = Unit {0}
 
+-- the bytes of the answer that a reply holds
 abbrev pub reply_bytes : Reply → List ℕ
 reply_bytes (Accepted text) = string_bytes text
 reply_bytes (Done text) = string_bytes text
 reply_bytes (Refused fault) = framed_text_bytes (refusal (word fault))
 reply_bytes NoCommand = framed_text_bytes (refusal (codes "BadCommand"))
 
--- how many commands a reply accepts, and how many it refuses
+-- how many commands that change the state a reply accepts: 1 or 0
 abbrev pub accepts : Reply → ℕ
 accepts (Accepted text) = 1
 accepts reply = 0
 
+-- how many requests a reply refuses: 1 or 0
 abbrev pub refuses : Reply → ℕ
 refuses (Refused fault) = 1
 refuses NoCommand = 1
@@ -69,7 +72,7 @@ pub record Replies (now : Stored) (request : Request) (reply : Reply) : Type 0 w
   pub refused : refuses reply ≡ refused_of now request
   pub short : length (framed_text_bytes (answer now request)) ≤ answer_limit
 
--- what became of a request
+-- What became of a request. If memory ran out, nothing was changed.
 abbrev pub Did : {D : Type 0} → Type 0 → (D → Folder) → (D → ℕ) → (D → ℕ → Image → Type 0) → StoreView D → StoreView D
     → Request → Result Reply SessionFault → Type 0
 Did honest folder moment since old new request (Ok reply) =
@@ -79,7 +82,7 @@ Did honest folder moment since old new request (Err Device) =
 Did honest folder moment since old new request (Err OutOfMemory) = new ≡ old
 Did honest folder moment since old new request (Err fault) = ⊥
 
--- what became of what a document says; if memory ran out, the request may be unknown
+-- The same of what a document says. If memory ran out, the request may be unknown.
 abbrev pub DidSaid : {D : Type 0} → Type 0 → (D → Folder) → (D → ℕ) → (D → ℕ → Image → Type 0) → StoreView D
     → StoreView D → Said → Result Reply SessionFault → Type 0
 DidSaid honest folder moment since old new said (Ok reply) =
@@ -89,7 +92,7 @@ DidSaid honest folder moment since old new said (Err Device) =
 DidSaid honest folder moment since old new said (Err OutOfMemory) = new ≡ old
 DidSaid honest folder moment since old new said (Err fault) = ⊥
 
--- what became of a piece; if memory ran out, what it asks for may be unknown
+-- The same of a piece. If memory ran out, what it asks for may be unknown.
 abbrev pub DidPiece : {D : Type 0} → Type 0 → (D → Folder) → (D → ℕ) → (D → ℕ → Image → Type 0) → StoreView D
     → StoreView D → List ℕ → Result Reply SessionFault → Type 0
 DidPiece honest folder moment since old new piece (Ok reply) =

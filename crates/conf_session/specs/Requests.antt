@@ -126,6 +126,8 @@ pub data Request : Type 0 where
   checkpointing : Request
   bad : Request
 
+-- Which request a document makes by what it says. Only an import asks for more reading: its text gives a tree, or is
+-- refused.
 abbrev pub MeansRequest : Said → Request → Type 0
 MeansRequest (import_text name source) request =
     ((t : Tree) × Gives source config_limits t × (request ≡ changing (import_as name t)))
@@ -138,9 +140,11 @@ MeansRequest all_names request = request ≡ naming
 MeansRequest checkpoint_now request = request ≡ checkpointing
 MeansRequest nothing request = request ≡ bad
 
+-- the bytes of a piece ask for this request
 abbrev pub Asks : List ℕ → Request → Type 0
 Asks piece request = (said : Said) × Says piece said × MeansRequest said request
 
+-- the pieces ask for these requests, one for each in its place
 abbrev pub AllAsk : List (List ℕ) → List Request → Type 0
 AllAsk [] [] = Unit {0}
 AllAsk [] (request ∷ requests) = ⊥

@@ -20,6 +20,7 @@ use Rattle.conf_session.specs.declared.fault.SessionFault.{SessionFault}
 use Rattle.conf_session.specs.declared.fault.SessionFault.TheVariants as fault
 use Rattle.conf_session.specs.declared.session.Tally.{Tally}
 
+-- the state of a store, and the length of its file
 abbrev pub stored_of : {D : Type 0} → StoreView D → Stored
 stored_of seen = record { state = seen.state; size = seen.size }
 
@@ -111,6 +112,8 @@ pub record EndsEarly (given left held written : Option (List ℕ)) (start : Stor
   pub all : performed ≡ answered ++ unanswered
   pub out : Appends held written (output start answered)
 
+-- How a run ends, by its result. `given` and `left` are what the reader has before and after, `held` and `written` what
+-- the writer has, where they are known.
 abbrev pub Ends : Option (List ℕ) → Option (List ℕ) → Option (List ℕ) → Option (List ℕ) → Stored → List Request
     → List Request → Result Tally SessionFault → Type 0
 Ends given left held written start answered performed (Ok tally) =
@@ -140,8 +143,7 @@ pub record AfterAtLeast (s : Contents) (least : ℕ) (commands : List Command) (
   pub leads : after s (take count commands) ≡ Ok state
   pub means : FileMeans store state
 
--- A run from one value of a store to the next. `given` and `left` are the bytes that the reader has before and after
--- it, `held` and `written` those that the writer has, where they are known.
+-- A run from one value of a store to the next.
 pub record Runs {D : Type 0} (honest : Type 0) (folder : D → Folder) (moment : D → ℕ) (since : D → ℕ → Image → Type 0)
     (given left held written : Option (List ℕ)) (old new : StoreView D)
     (result : Result Tally SessionFault) : Type 0 where

@@ -31,7 +31,7 @@ pub struct Input {
 }
 
 impl Input {
-    /// Nothing is read yet.
+    /// An input of which nothing is read yet. It takes the memory for one chunk.
     pub fn new(alloc: Global) -> Result<Input, AllocError>
         ensures { IfOk result (λ input. IsSound input × (ahead input ≡ []) × (input.total ≡ 0)) }
     {
@@ -48,7 +48,8 @@ impl Input {
     /// It reads only if what was read before closes no further piece.
     ///
     /// # Errors
-    /// `Read`, `TooLong`, `SessionLong` and `OutOfMemory`.
+    /// `Read` if a read fails, `TooLong` if the piece or the rest would be longer than [`PIECE_LIMIT`], `SessionLong`
+    /// if the input is longer than its limit, and `OutOfMemory`.
     pub fn advance<R: Read>(&mut self, reader: &mut R) -> Result<bool, SessionFault>
         requires { IsSound self.old }
         ensures { Advances (R.remaining reader.old) (R.remaining reader.new)
@@ -72,7 +73,7 @@ impl Input {
         self.cutter.piece()
     }
 
-    /// Takes what was read into the piece, up to the piece's end. Returns whether that was reached.
+    /// Appends what was read to the piece, up to the piece's end. Returns whether the piece is complete.
     fn feed(&mut self) -> Result<bool, SessionFault>
         requires sound { IsSound self.old }
         requires unclosed { Unclosed self.old.cutter.bytes }

@@ -1,6 +1,7 @@
 //! Sessions: a stream of command documents, each answered by one document.
 //!
-//! [`run`] reads the commands, performs them on a store, and writes the answers.
+//! [`run`] reads the commands, performs them on a store, and writes the answers. Input and output may be any reader and
+//! writer, and the store may be on any disk.
 #![tactic(auto)]
 
 mod answer;

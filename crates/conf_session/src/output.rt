@@ -4,10 +4,10 @@ ghost use Rattle.std.specs.Io.KnownBytes.{Appends};
 
 use std::io::Write;
 
-/// Writes all the bytes.
+/// Writes all the bytes, in as many writes as it takes.
 ///
 /// # Errors
-/// If a write fails, or takes nothing: how many of the bytes were written.
+/// If a write fails, or takes nothing: the number of bytes that were written before.
 pub fn write_whole<W: Write>(writer: &mut W, bytes: &[u8]) -> Result<(), usize>
     ensures whole { OnOk result
         (Appends (W.contents writer.old) (W.contents writer.new) bytes.now) }

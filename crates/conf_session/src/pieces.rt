@@ -1,4 +1,4 @@
-// One piece: performed, and answered.
+// Performing one piece, and writing its answer.
 ghost use Rattle.std.specs.Prelude.{◌≡◌, ◌≤◌, false, IfOk, IfErr, IsErrOf};
 ghost use Rattle.conf_store.specs.Calls.{HasFailed};
 ghost use Rattle.conf_store.specs.Durable.{AllImagesMean};
@@ -23,7 +23,7 @@ pub struct Counts {
 }
 
 impl Counts {
-    /// Nothing was done yet.
+    /// Counts of zero: nothing was done yet.
     pub fn new() -> Counts
         ensures documents { result.tally.documents ≡ 0 }
         ensures accepted { result.tally.accepted ≡ 0 }
@@ -74,7 +74,11 @@ fn bytes_of(reply: &Reply) -> &[u8]
     }
 }
 
-/// Performs a piece and writes its answer: the counts with this piece.
+/// Performs a piece and writes its answer. Returns the counts with this piece.
+///
+/// # Errors
+/// `Write`: the piece is performed, and `written` counts the bytes of all answers. `OutOfMemory`: the piece changed
+/// nothing. `Device`: its command is performed or not, and the store has to be opened again.
 pub fn perform_piece<D: Disk, W: Write>(
     alloc: Global,
     store: &mut Store<D>,

@@ -31,7 +31,7 @@ pub enum Reply {
     NoCommand,
 }
 
-/// What became of a refused import: a bad name comes first.
+/// Why an import is refused whose text gives no tree: for its name, if that may not be used, else for the text.
 fn unread_fault(name: &str, fault: ReadFault) -> StoreFault
     ensures { result ≡ unread_fault (chars name.now) fault }
 {
@@ -42,7 +42,7 @@ fn unread_fault(name: &str, fault: ReadFault) -> StoreFault
     }
 }
 
-/// Performs a command. The memory for its answer is taken first.
+/// Performs a command that changes the state. The memory for its answer is taken first.
 fn change<D: Disk>(
     alloc: Global,
     store: &mut Store<D>,

@@ -129,7 +129,7 @@ fn get_said(pairs: Vec<(Text, Tree)>) -> Said
     }
 }
 
-/// The two texts that are the values; `None` if they are others.
+/// The two values, if they are two texts.
 fn two_texts(pairs: Vec<(Text, Tree)>) -> Option<(Text, Text)>
     ensures { MatchOption result (are_two_texts (values (members_of pairs.items)) ≡ false)
         (λ v. values (members_of pairs.items)
@@ -141,7 +141,7 @@ fn two_texts(pairs: Vec<(Text, Tree)>) -> Option<(Text, Text)>
     Some((one, other))
 }
 
-/// The values of a set; `None` if they are others.
+/// The values of a `set`, if they are two texts and one more value.
 fn set_values(pairs: Vec<(Text, Tree)>) -> Option<(Text, Text, Tree)>
     ensures { MatchOption result (set_said (values (members_of pairs.items)) ≡ nothing)
         (λ v. values (members_of pairs.items)
@@ -154,7 +154,7 @@ fn set_values(pairs: Vec<(Text, Tree)>) -> Option<(Text, Text, Tree)>
     Some((name, path, value))
 }
 
-/// The one value that is left, if it is a text; `None` if it is none, or there are more or fewer.
+/// The one value that is left, if there is exactly one and it is a text.
 fn last_text(pairs: IntoIter<(Text, Tree)>) -> Option<Text>
     ensures { MatchOption result
         (is_one_text (values (members_of (into_iter_items pairs))) ≡ false)
@@ -167,7 +167,7 @@ fn last_text(pairs: IntoIter<(Text, Tree)>) -> Option<Text>
     }
 }
 
-/// The one value that is left; `None` if there are more or fewer.
+/// The one value that is left, if there is exactly one.
 fn last_value(mut pairs: IntoIter<(Text, Tree)>) -> Option<Tree>
     ensures { MatchOption result
         (is_one (values (members_of (into_iter_items pairs))) ≡ false)

@@ -24,7 +24,7 @@ pub struct Tally {
     pub rest: u64,
 }
 
-/// Performs the commands of a stream, and answers each by one document.
+/// Performs the commands of a stream, and answers each by one document. Returns what was done.
 ///
 /// The input is cut into pieces after each closing line, a line of exactly `...` and a line feed. Each piece
 /// is one command. It is performed as soon as its closing line was read, and its answer is written before
@@ -37,8 +37,11 @@ pub struct Tally {
 /// # Errors
 /// All pieces before the fault are performed and answered.
 ///
-/// - `Read`, `TooLong` and `SessionLong` come from the input.
-/// - `Write`: the piece whose answer was cut is performed. Nothing after it is performed or read.
+/// - `Read`: a read failed.
+/// - `TooLong`: a piece, or what comes after the last closing line, has more than 4,194,304 bytes.
+/// - `SessionLong`: the input has more than 1,073,741,824 bytes.
+/// - `Write`: a write failed, or took nothing. The piece whose answer was cut is performed. Nothing after it is
+///   performed or read.
 /// - `OutOfMemory`: the current piece changed nothing.
 /// - `Device`: the current command is performed or not, and the store has to be opened again.
 /// - `Reopen` comes only at the start, if the store has to be opened again. Nothing is read or written.

@@ -1,4 +1,4 @@
-// The answers to refused requests. They take no memory.
+// The answers to refused requests. They are constants, and take no memory.
 ghost use Rattle.std.specs.Prelude.{◌≡◌};
 ghost use Rattle.yaml_laws.specs.Closed.{framed_text_bytes};
 ghost use Rattle.conf_session.specs.Answers.{refusal, word, read_word, path_word};
@@ -36,7 +36,8 @@ fn path_refusal(fault: PathFault) -> &'static [u8]
     }
 }
 
-/// The answer to a refused request.
+/// The answer to a refused request: `refused` with the innermost fault's name. `Reopen`, `Device` and `OutOfMemory` end
+/// a session, so the texts for them are never written.
 pub fn refusal_bytes(fault: StoreFault) -> &'static [u8]
     ensures { result.now ≡ framed_text_bytes (refusal (word fault)) }
 {

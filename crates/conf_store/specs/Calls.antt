@@ -23,7 +23,7 @@ next_number s = min (s.count + 1) count_limit
 abbrev pub next_record : Contents → Command → List ℕ
 next_record s command = record_bytes command (next_number s)
 
--- It is as long as the record with the number after the count, also at the greatest count.
+-- the next command's record is as long as the one with the number after the count, also at the greatest count
 abbrev pub RecordsAreMeasured : Type 0
 RecordsAreMeasured = (s : Contents) (command : Command) → s.count ≤ count_limit
     → length (next_record s command) ≡ length (record_bytes command (s.count + 1))
@@ -43,15 +43,15 @@ pub record Accepts {D : Type 0} (old : StoreView D) (command : Command) (new : S
   pub size : new.size ≡ old.size + length (next_record old.state command)
   pub reopen : new.reopen ≡ false
 
--- Why a command was refused. Under Device the state is the one after the command; a command that the state refuses
--- never meets Device. Reopen and OutOfMemory say nothing of the command.
+-- Why a command was refused. At Device the state is the one after the command: Device is never returned for a command
+-- that the state refuses. Reopen and OutOfMemory say nothing of the command.
 abbrev pub RefusesCommand : {D : Type 0} → StoreView D → Command → StoreView D → StoreFault → Type 0
 RefusesCommand old command new Reopen = Unit {0}
 RefusesCommand old command new OutOfMemory = Unit {0}
 RefusesCommand old command new Device = outcome old.size old.state command ≡ Ok new.state
 RefusesCommand old command new fault = outcome old.size old.state command ≡ Err fault
 
--- the device failed during the call, or its failures stood at their greatest number
+-- the device failed during the call, or its failures were at their greatest number before
 abbrev pub HasFailed : ℕ → ℕ → Type 0
 HasFailed before now = (before < now) ⊎ (before ≡ greatest)
 

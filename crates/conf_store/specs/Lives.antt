@@ -11,7 +11,7 @@ pub data Call : Type 0 where
   performing : (command : Command) → Call
   checkpointing : Call
 
--- `refused` is any fault but Device and Reopen; `crashed` is no answer
+-- What a call returns: `refused` is any fault but Device and Reopen. At `crashed` it never returns.
 pub data Answer : Type 0 where
   ok : Answer
   refused : Answer
@@ -19,6 +19,7 @@ pub data Answer : Type 0 where
   reopen : Answer
   crashed : Answer
 
+-- a call, and what it returned
 pub record Event : Type 0 where
   pub call : Call
   pub answer : Answer
@@ -59,7 +60,7 @@ accepted_in s checkpointing acknowledged = []
 
 -- ---- one life
 
--- A life that began in `s` may end in `end`, by the answer to its first call. After a crash nothing follows; after
+-- A life that began in `s` may end in `end`, by what its first call returned. After a crash nothing follows; after
 -- Device, only Reopen.
 abbrev pub MayEndBy : Answer → Contents → Call → List Event → (Contents → Type 0) → Contents → Type 0
 MayEndBy ok s call events ends_from end = (next : Contents) × Succeeds s call next × ends_from next
@@ -86,6 +87,7 @@ abbrev pub accepted_commands : List Event → Contents → List (Command × Bool
 accepted_commands [] s = []
 accepted_commands (event ∷ events) s = accepted_by event.answer s event.call (accepted_commands events)
 
+-- what happens to a store from one opening to the next crash: its state at the start, and its calls
 pub record Life : Type 0 where
   pub start : Contents
   pub events : List Event

@@ -35,6 +35,7 @@ pub record Means (bytes : List ℕ) (s : Contents) : Type 0 where
   pub cut : Pieces bytes pieces rest
   pub mean : PiecesMean pieces s
 
+-- the state without configurations, before the first command
 abbrev pub empty_state : Contents
 empty_state = record { configs = []; count = 0 }
 

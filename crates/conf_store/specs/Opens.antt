@@ -40,6 +40,7 @@ pub record HasNoBase (bytes : List ℕ) : Type 0 where
 abbrev pub IsNextRecord : List ℕ → Contents → Contents → Type 0
 IsNextRecord piece s new = (command : Command) × IsRecord piece command (s.count + 1) × (step s command true ≡ Ok new)
 
+-- the piece is no record with the next number whose command the state accepts
 abbrev pub IsNoNextRecord : List ℕ → Contents → Type 0
 IsNoNextRecord piece s = (new : Contents) → IsNextRecord piece s new → ⊥
 
@@ -80,6 +81,7 @@ RefusesOpening NotAStore (Some bytes) = (store_limit < length bytes) ⊎ HasNoBa
 RefusesOpening (Damaged number) None = ⊥
 RefusesOpening (Damaged number) (Some bytes) = IsDamaged bytes number
 
+-- there is no state that the file means
 abbrev pub MeansNothing : Option (List ℕ) → Type 0
 MeansNothing file = (s : Contents) → FileMeans file s → ⊥
 

@@ -14,7 +14,8 @@ use std::alloc::Global;
 /// count.
 ///
 /// # Errors
-/// As [`step`], with the state unchanged.
+/// The first refusal of the command by the state, as [`step`] returns it, and `OutOfMemory`. It is `JournalLong` if the
+/// file would be longer than [`STORE_LIMIT`] with the record. The state is unchanged.
 pub fn accept(
     alloc: Global,
     state: &mut State,

@@ -13,7 +13,8 @@ use yaml_tree::{Limits, ReadFault, read_one};
 ///
 /// # Errors
 ///
-/// `BadName`, whatever the text is; then `Read` with the reason why the text gives no tree; and `OutOfMemory`.
+/// `BadName` if the name may not be used, whatever the text is. Otherwise `Read` with the reason why the text gives no
+/// tree within the limits of a configuration. `OutOfMemory`.
 pub fn import_command(alloc: Global, name: &str, text: &[u8]) -> Result<Command, StoreFault>
     ensures ok { IfOk result (λ command.
         IsImportOf (chars name.now) text.now (command_of command)) }

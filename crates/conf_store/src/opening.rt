@@ -26,7 +26,10 @@ pub struct Found {
     pub size: Option<u64>,
 }
 
-/// Syncs the folder and `store.yaml`, and reads the state that the file means.
+/// Syncs the folder and `store.yaml`, and reads the state that the file means. No file is changed.
+///
+/// # Errors
+/// `NotAStore` and `Damaged` if the file means nothing. `Device` and `OutOfMemory`.
 pub fn find_store<D: Disk>(alloc: Global, disk: &mut D) -> Result<Found, OpenFault>
     ensures ok { D.honest → IfOk result (λ found.
         IsFound (bytes_under (D.folder disk.old) Name.Store)

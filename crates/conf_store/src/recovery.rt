@@ -19,7 +19,11 @@ pub struct Opened {
     pub dropped: u64,
 }
 
-/// Reads the state that the bytes mean.
+/// Reads the state that the bytes mean, with the number of records and of dropped bytes.
+///
+/// # Errors
+/// `NotAStore` if no closing line ends a base at their start. `Damaged` with the number of the first piece that is not
+/// the next record, counted from 1 after the base. `OutOfMemory`.
 pub fn recover(alloc: Global, bytes: &[u8]) -> Result<(State, Opened), OpenFault>
     ensures ok { IfOk result (λ found.
         RecoversTo bytes.now found.0 found.1.commands found.1.dropped) }
@@ -48,8 +52,8 @@ pub fn recover(alloc: Global, bytes: &[u8]) -> Result<(State, Opened), OpenFault
     Ok((state, Opened { commands, dropped }))
 }
 
-/// Performs the command of the piece after the base that has this number, if it is the next record. It is the next one
-/// if the count after the command is the record's number.
+/// Performs the command of a piece, if the piece is the next record: the count after the command is the record's
+/// number. `number` is that of the piece, counted from 1 after the base.
 fn perform_record(
     alloc: Global,
     state: &mut State,
@@ -72,7 +76,7 @@ fn perform_record(
     }
 }
 
-/// The fault of opening for a command that is refused in the piece of this number.
+/// Why opening fails if the command of the piece with this number is refused.
 fn refusal(fault: StoreFault, number: u64) -> OpenFault
     ensures { (result ≡ OpenFault.OutOfMemory) ⊎ ((result ≡ OpenFault.Damaged number)
         × (fault ≢ StoreFault.OutOfMemory)) }

@@ -73,11 +73,11 @@ impl<D: Disk> Store<D> {
     /// changes. `next.yaml` is ignored. The folder and the file are synced before they are read, so no later crash
     /// takes back what was read.
     ///
-    /// It is linear in the length of the file, beside the cost of each command.
+    /// The time is linear in the length of the file, and each command costs what it costs in [`apply`](Store::apply).
     ///
     /// # Errors
-    /// The disk is handed back, and what the folder means is unchanged. `NotAStore` and `Damaged` leave the files as
-    /// they were; such a file means nothing. `Device` and `OutOfMemory` may come at any point.
+    /// The disk is returned with the fault, and what the folder means is unchanged. `NotAStore` and `Damaged` leave the
+    /// files as they were; such a file means nothing. `Device` and `OutOfMemory` may come at any point.
     pub fn open(alloc: Global, disk: D) -> Result<(Store<D>, Opened), (D, OpenFault)>
         ensures found { D.honest → IfOk result (λ r.
             FileRecoversTo (bytes_under (D.folder disk) Name.Store)
@@ -137,13 +137,13 @@ impl<D: Disk> Store<D> {
     /// Performs a command, appends its record to `store.yaml` and syncs it. Returns the new count, which is one more
     /// than before.
     ///
-    /// Beside the record it costs what the edit costs, and not the size of the store.
+    /// The cost depends on the edit and its record, and not on the size of the store.
     ///
     /// # Errors
-    /// `Reopen` if the store has to be opened again. Otherwise as the command is refused on the state; `JournalLong`
-    /// if `store.yaml` would be longer than 1,073,741,824 bytes. These, and `OutOfMemory`, leave the store and the
-    /// disk as they were. `Device`: the state is the one after the command, its record may be on the disk or not, and
-    /// the store has to be opened again.
+    /// `Reopen` if the store has to be opened again. Otherwise the first refusal of the command by the state, in the
+    /// order of [`StoreFault`]: `JournalLong` if `store.yaml` would be longer than 1,073,741,824 bytes. These, and
+    /// `OutOfMemory`, leave the store and the disk as they were. `Device`: the state is the one after the command, its
+    /// record may be on the disk or not, and the store has to be opened again.
     pub fn apply(&mut self, command: Command) -> Result<u64, StoreFault>
         ensures reopen { IsErrOf result StoreFault.Reopen ↔ (self.old.reopen ≡ true) }
         ensures ok { IfOk result (λ count.
@@ -154,7 +154,7 @@ impl<D: Disk> Store<D> {
         ensures device { IsErrOf result StoreFault.Device → self.new.reopen ≡ true }
         ensures cause { IsErrOf result StoreFault.Device →
             HasFailed (D.failure_count self.old.disk) (D.failure_count self.new.disk) }
-        // The device's failures never fall.
+        // The number of failures never falls.
         ensures risen { D.failure_count self.old.disk ≤ D.failure_count self.new.disk }
         ensures reads { D.honest → self.old.reopen ≡ false →
             OnOk result (bytes_under (D.folder self.new.disk) Name.Store
@@ -190,11 +190,13 @@ impl<D: Disk> Store<D> {
     }
 
     /// Reads a text within the limits of a configuration (1,048,576 bytes, also in the one style, and 64 deep), and
-    /// puts its tree under a name. Returns the new count.
+    /// puts its tree under a name, in place of a tree that is there. Its record is on the disk when this returns.
+    /// Returns the new count, which is one more than before.
     ///
     /// # Errors
-    /// `Reopen` if the store has to be opened again. Then `BadName`, whatever the text is; then `Read` with the
-    /// reason why the text gives no tree; then as [`apply`](Store::apply).
+    /// `Reopen` if the store has to be opened again. Otherwise `BadName` if the name may not be used, whatever the text
+    /// is; then `Read` with the reason why the text gives no tree; then the faults of [`apply`](Store::apply). Each
+    /// fault but `Device` leaves the store and the disk as they were.
     pub fn import(&mut self, name: &str, text: &[u8]) -> Result<u64, StoreFault>
         ensures reopen { IsErrOf result StoreFault.Reopen ↔ (self.old.reopen ≡ true) }
         ensures ok { IfOk result (λ count.
@@ -207,7 +209,7 @@ impl<D: Disk> Store<D> {
         ensures device { IsErrOf result StoreFault.Device → self.new.reopen ≡ true }
         ensures cause { IsErrOf result StoreFault.Device →
             HasFailed (D.failure_count self.old.disk) (D.failure_count self.new.disk) }
-        // The device's failures never fall.
+        // The number of failures never falls.
         ensures risen { D.failure_count self.old.disk ≤ D.failure_count self.new.disk }
         ensures reads { D.honest → self.old.reopen ≡ false →
             OnOk result (AppendsImport self.old (chars name.now) text.now
@@ -230,7 +232,8 @@ impl<D: Disk> Store<D> {
         }
     }
 
-    /// Writes a base of the state as the new `store.yaml`, in place of the base and the records that are there.
+    /// Writes a base of the state as the new `store.yaml`, in place of the base and the records that are there. The
+    /// state and its count are unchanged.
     ///
     /// # Errors
     /// `Reopen` if the store has to be opened again. `OutOfMemory` leaves the store and the disk as they were.
@@ -249,7 +252,7 @@ impl<D: Disk> Store<D> {
         ensures device { IsErrOf result StoreFault.Device → self.new.reopen ≡ true }
         ensures cause { IsErrOf result StoreFault.Device →
             HasFailed (D.failure_count self.old.disk) (D.failure_count self.new.disk) }
-        // The device's failures never fall.
+        // The number of failures never falls.
         ensures risen { D.failure_count self.old.disk ≤ D.failure_count self.new.disk }
         ensures reads { D.honest →
             OnOk result (bytes_under (D.folder self.new.disk) Name.Store
@@ -282,7 +285,7 @@ impl<D: Disk> Store<D> {
     /// The text of a configuration in the one style.
     ///
     /// # Errors
-    /// `BadName`, `NoConfig` and `OutOfMemory`.
+    /// `BadName` if the name may not be used, `NoConfig` if no configuration has it, and `OutOfMemory`.
     pub fn export(&self, name: &str) -> Result<String, StoreFault>
         ensures limits { OnOk result (IsState self.now.state) }
         ensures ok { IfOk result (λ text.
@@ -300,7 +303,8 @@ impl<D: Disk> Store<D> {
     /// [`config`](Store::config) says whether the configuration is there, before a path is parsed.
     ///
     /// # Errors
-    /// `BadName`, `NoConfig`, and `Path` with the path's own fault.
+    /// `BadName` if the name may not be used, `NoConfig` if no configuration has it, and `Path` with the reason why the
+    /// path leads to no place (RFC 6901, section 4).
     pub fn get(&self, name: &str, path: &Path) -> Result<&Tree, StoreFault>
         ensures ok { IfOk result (λ tree. tree_at self.now.state (chars name.now) path.now
             ≡ Ok (tree_of tree.now)) }
@@ -317,7 +321,7 @@ impl<D: Disk> Store<D> {
     /// The configuration under a name. Takes no memory.
     ///
     /// # Errors
-    /// `BadName` and `NoConfig`.
+    /// `BadName` if the name may not be used, and `NoConfig` if no configuration has it.
     pub fn config(&self, name: &str) -> Result<&Config, StoreFault>
         ensures limits { OnOk result (IsState self.now.state) }
         ensures ok { IfOk result (λ config. tree_named self.now.state (chars name.now)
@@ -334,7 +338,7 @@ impl<D: Disk> Store<D> {
         }
     }
 
-    /// The names of the configurations, in order.
+    /// The names of the configurations, in the order of the state.
     pub fn names(&self) -> Names<'_>
         ensures names { result ≡ names_of self.now.state.configs }
         ensures limits { IsState self.now.state }
@@ -342,7 +346,8 @@ impl<D: Disk> Store<D> {
         self.state.names()
     }
 
-    /// The number of commands that were accepted since the store was made.
+    /// The number of commands that the state has accepted since the store was made, at most
+    /// 18,446,744,073,709,551,615.
     pub fn count(&self) -> u64
         ensures count { result ≡ self.now.state.count }
         // The state of a store keeps its limits.
@@ -362,7 +367,7 @@ impl<D: Disk> Store<D> {
         self.reopen
     }
 
-    /// Gives the disk back.
+    /// Closes the store, and returns its disk. Nothing is written: all that was acknowledged is on the disk.
     pub fn close(self) -> D
         ensures { result ≡ self.disk }
     {

@@ -62,9 +62,9 @@ abbrev pub AnswersSome : Option (List ℕ) → Option (List ℕ) → Option (Lis
 AnswersSome given left held written =
     (start : Stored) × (fault : SessionFault) × Answers given left held written start (Err fault)
 
--- Where it is done, the input was formatted, or checked and nothing found in it, or its commands were answered, or none
--- was read, as for help and `export`. At 1 the findings of the input were written, or some answers, or nothing: the
--- input was refused, or memory ran out. Where the words are wrong, nothing was written.
+-- At 0 the input was formatted, or checked and nothing found in it, or its commands were answered, or nothing of it was
+-- read, as for help and `export`. At 1 the findings of the input were written, or some answers, or nothing: the input
+-- was refused, or memory ran out. At 2 nothing was written. Of 3 nothing is said.
 pub record Performs (given left held written : Option (List ℕ)) (status : ℕ) : Type 0 where
   pub known : status ≤ 3
   pub done : status ≡ 0 → Formats given left held written ⊎ Checks given left held written 0

@@ -19,17 +19,20 @@ use text_tools::{ToolFault, check_text, format_text};
 /// What the program ends with.
 #[derive(Clone, Copy, Debug, PartialEq, Eq)]
 pub enum Status {
+    /// 0: all was done.
     Done,
-    /// Something was found in a text.
+    /// 1: `check` found something in a text.
     Found,
-    /// A text or a store was refused, or memory ran out.
+    /// 1: a text or a store was refused, or memory ran out.
     Refused,
+    /// 2: the words are none that the program takes.
     WrongWords,
-    /// Reading or writing failed, or the folder can't be used.
+    /// 3: reading or writing failed, or the folder is missing or locked.
     Device,
 }
 
 impl Status {
+    /// The number that the program ends with.
     pub fn code(self) -> u8
         ensures { result ≡ code_of self }
     {
@@ -152,9 +155,10 @@ fn export_command<'a>(alloc: Global) -> Result<Command<'a>, AllocError> {
 /// Does what the program does, and returns its status. `words` are its words, of which the first is its name. The files
 /// of a store are those of `rt`.
 ///
-/// The status is 0 if it is done (help and version too), and 2 for wrong words. It is 1 if a text or a store is
+/// The status is 0 if all was done (help and version too), and 2 for wrong words. It is 1 if a text or a store is
 /// refused, memory ran out or something was found in a text. It is 3 if reading or writing failed, or the folder is
-/// missing or locked. A fault is written to `errors` in one line; if that fails, nothing is said.
+/// missing or locked. A fault is written to `errors` in one line; if that write fails, it is ignored. Commands that are
+/// refused inside a session leave the status 0.
 pub fn perform<F: Files<File = File>, R: Read, W: Write, E: Write>(
     rt: &F,
     alloc: Global,
@@ -185,7 +189,7 @@ pub fn perform<F: Files<File = File>, R: Read, W: Write, E: Write>(
     }
 }
 
-/// Does what the subcommand says.
+/// Does what the subcommand says, and returns the status.
 fn obey<F: Files<File = File>, R: Read, W: Write, E: Write>(
     rt: &F,
     alloc: Global,
@@ -238,7 +242,7 @@ fn run_folder<F: Files<File = File>, R: Read, W: Write, E: Write>(
     }
 }
 
-/// Writes the configuration that the words name.
+/// Writes the configuration that the words name, from the store in the folder that they name, in the one style.
 fn export_folder<F: Files<File = File>, W: Write, E: Write>(
     rt: &F,
     alloc: Global,

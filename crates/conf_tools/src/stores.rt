@@ -25,7 +25,7 @@ pub enum StoreToolFault {
     /// The store can't be opened. Nothing was read or written.
     #[error("{0}")]
     Open(OpenFault),
-    /// The session ended before its input.
+    /// The session ended before the end of its input.
     #[error("{0}")]
     Session(SessionFault),
     /// The configuration can't be exported. Nothing was written.
@@ -51,10 +51,11 @@ fn open_store<D: Disk + Drop>(alloc: Global, disk: D) -> Result<Store<D>, StoreT
 }
 
 /// Opens the store on `disk`, performs the commands that `reader` gives, and writes the answers to `writer`, as
-/// [`run`](conf_session::run) does.
+/// [`run`](conf_session::run) does. Returns what was done.
 ///
 /// # Errors
-/// `Open` if the store can't be opened: nothing is read or written. `Session` if the session ends before its input.
+/// `Open` if the store can't be opened: nothing is read or written. `Session` if the session ends before the end of its
+/// input.
 pub fn run_store<D: Disk + Drop, R: Read, W: Write>(
     alloc: Global,
     disk: D,
@@ -76,8 +77,8 @@ pub fn run_store<D: Disk + Drop, R: Read, W: Write>(
 /// Opens the store on `disk`, and writes the configuration under a name to `writer`, in the one style.
 ///
 /// # Errors
-/// `Open` if the store can't be opened, `Export` if the name is not good or no configuration has it, or memory runs
-/// out: nothing is written. `Output` if the writer fails.
+/// `Open` if the store can't be opened; `Export` if the name may not be used, no configuration has it, or memory runs
+/// out. Then nothing is written. `Output` if the writer fails: some of the text may be written.
 pub fn export_store<D: Disk + Drop, W: Write>(
     alloc: Global,
     disk: D,

@@ -15,10 +15,11 @@ use conf_store::Store;
 use std::alloc::{AllocError, Global};
 use test_disks::{Fuse, FusedDisk, MemoryDisk};
 
-/// More stages than a crash can find: an opening that removes a left-over file and swaps a new one in makes four.
+/// A number of stages that no disk here exceeds: an opening that removes a left-over file and swaps a new one in has
+/// four.
 const STAGES: usize = 6;
 
-/// More bytes than are pending at any time: the longest text is a base of 51 bytes.
+/// Cuts keep fewer bytes than this. At most 51 bytes are pending at any time, those of a base.
 const CUT: usize = 53;
 
 /// The lengths of the bases after so many commands.

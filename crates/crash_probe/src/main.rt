@@ -1,7 +1,7 @@
 //! Answers orders on crashes and failing devices of worked runs of a store, so that the gate can compare the answers
 //! with expected ones. Each line of standard input is an order, a word and what belongs to it, with `;` between them.
-//! It is answered in one line. A line that begins with `#` is answered by itself. The program ends with 0, or with 1
-//! where reading or printing failed.
+//! It is answered in one line. A line that begins with `#` is printed as it is. The program ends with 0, or with 1
+//! if reading or printing failed.
 //!
 //! Each order has stores of its own, over disks in memory. The answer is what is wrong, where something is not as it
 //! has to be.

@@ -9,7 +9,7 @@ use std::alloc::AllocError;
 pub(crate) enum Wrong {
     /// A folder does not open.
     Open(OpenFault),
-    /// A folder opens that cannot, as a call of its disk fails.
+    /// A folder was opened although a call of its disk fails.
     Opens,
     /// A call of a store returns this.
     Call(Result<u64, StoreFault>),
@@ -25,7 +25,7 @@ pub(crate) enum Wrong {
     File,
     /// A crash leaves no image.
     NoImage,
-    /// There is no memory.
+    /// Out of memory.
     Memory,
 }
 

@@ -64,7 +64,7 @@ fn outcome_of(alloc: Global, outcome: Result<(), DiskFault>) -> Result<String, A
     }
 }
 
-/// What a read returned: the bytes, as the text that they are.
+/// What a read returned: the bytes as a text, or why there are none.
 pub(crate) fn content_of(
     alloc: Global,
     read: Result<Content, DiskFault>,
@@ -77,7 +77,7 @@ pub(crate) fn content_of(
     }
 }
 
-/// The text that bytes are.
+/// The bytes as a quoted text.
 fn text_of(alloc: Global, bytes: &[u8]) -> Result<String, AllocError> {
     match str::from_utf8(bytes) {
         Ok(text) => format!(in alloc; "{text:?}"),

@@ -1,4 +1,4 @@
-// A disk in memory that looks after the conditions of its calls.
+// A disk in memory that checks the conditions of its calls.
 ghost use Rattle.std.specs.Prelude.{◌≡◌, ◌≢◌, ◌<◌, Err};
 ghost use Rattle.conf_disk.specs.Moments.{CountsFailures};
 
@@ -6,13 +6,13 @@ use conf_disk::{Content, Cuts, Disk, DiskFault, Name};
 use std::alloc::{AllocError, Global};
 use test_disks::MemoryDisk;
 
-/// A disk in memory that answers `Device` where a condition on its callers does not hold, as the disk of a real folder
+/// A disk in memory that returns `Device` if a condition on its callers does not hold, as the disk of a real folder
 /// does. So it claims nothing, and its callers need not know which files are there.
 #[derive(Drop)]
 pub(crate) struct GuardedDisk {
     alloc: Global,
     disk: MemoryDisk,
-    /// How many bytes `store.yaml` has at least, by the disk's own word.
+    /// A read of `store.yaml` with a smaller limit than this returns `TooLong`.
     claimed: u64,
     failures: u64,
 }
@@ -43,7 +43,7 @@ impl GuardedDisk {
         Ok(GuardedDisk::over(alloc, disk))
     }
 
-    /// Says that `store.yaml` has at least so many bytes.
+    /// From now on a read of `store.yaml` with a limit below `bytes` returns `TooLong`.
     pub(crate) fn claim(&mut self, bytes: u64) {
         self.claimed = bytes;
     }
@@ -56,7 +56,7 @@ impl GuardedDisk {
         }
     }
 
-    /// Counts a failure, where a call failed.
+    /// Counts a failure if a call failed, and returns it as `Device`.
     fn count(&mut self, done: Result<(), DiskFault>) -> Result<(), DiskFault>
         requires { self.old.failures < u64.MAX }
         ensures failures { CountsFailures self.old.failures self.new.failures result }

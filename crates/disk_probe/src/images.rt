@@ -6,10 +6,10 @@ use conf_journal::STORE_LIMIT;
 use std::alloc::{AllocError, Global};
 use test_disks::{Fuse, FusedDisk};
 
-/// More stages than the disks of the orders have.
+/// A number of stages that no disk of the orders exceeds.
 const STAGES: usize = 6;
 
-/// More bytes than those that are pending in a file of theirs, and one more to cut by.
+/// Cuts keep fewer bytes than this, and have fewer zeros. The files of the orders have fewer pending bytes.
 const CUT: usize = 5;
 
 /// How many choices there are of a stage and of cuts.

@@ -1,12 +1,13 @@
 //! Answers orders on the disk of a store, in memory or of a folder of the system, so that the gate can compare the
 //! answers with expected ones. Each line of standard input is an order, a word and what belongs to it, with `;` between
-//! them. It is answered in one line, but for `images`. A line that begins with `#` is answered by itself. The program
-//! ends with 0, or with 1 where reading or printing failed.
+//! them. It is answered in one line, but for `images`. A line that begins with `#` is printed as it is. The program
+//! ends with 0, or with 1 if reading or printing failed.
 //!
 //! - `new`: takes an empty disk in memory. `files;STORE;NEXT`: one with these files, all synced; `-` means none.
-//! - `claim;BYTES`: from now on a read of `store.yaml` says that it has at least so many bytes.
-//! - `fuse;CALLS;FUSE`: lets calls of the disk in memory fail once so many have passed. A `FUSE` is `stop`, `fail_done`
-//!   or `fail_undone`. `passed`: how many calls passed. `unfuse`: takes the disk below.
+//! - `claim;BYTES`: from now on a read of `store.yaml` with a smaller limit returns `TooLong`, whatever the file has.
+//! - `fuse;CALLS;FUSE`: lets calls of the disk in memory fail once so many have passed. A `FUSE` is `stop` (every later
+//!   call fails), `fail_done` (the next call fails after its effect) or `fail_undone` (it fails without an effect).
+//!   `passed`: how many calls passed. `unfuse`: takes the disk below.
 //! - `images`: a line for each image that a crash may leave: its stage, how `store.yaml` and `next.yaml` are cut, and
 //!   what each reads as then. All stages below 6 are tried, and all cuts of less than 5 bytes and zeros.
 //! - `crash;STAGE;KEPT;ZEROS;NEXT_KEPT;NEXT_ZEROS`: takes the disk that is such an image.
@@ -21,8 +22,8 @@
 //! `folder;remove;NAME` make and remove the folder, `folder;take;NAME` takes its disk, and `folder;close` closes the
 //! disk.
 //!
-//! What fails is answered with the fault. A disk in memory answers `Device` where there is no file to be appended to or
-//! renamed, or one where none may be.
+//! What fails is answered with the fault. A disk in memory returns `Device` if there is no file to be appended to or
+//! renamed, or if there is one that is to be created.
 #![tactic(auto)]
 
 mod calls;

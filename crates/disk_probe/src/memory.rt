@@ -60,7 +60,7 @@ impl Memory {
         }
     }
 
-    /// Says that `store.yaml` has at least so many bytes.
+    /// From now on a read of `store.yaml` with a limit below `bytes` returns `TooLong`.
     pub(crate) fn claim(&mut self, alloc: Global, bytes: u64) -> Result<String, AllocError> {
         let Memory::Bare(disk) = self else {
             return String::from_str(alloc, "a fuse");

@@ -1,6 +1,6 @@
 //! Answers orders on a store over a disk in memory, so that the gate can compare the answers with expected ones. Each
 //! line of standard input is an order, a word and what belongs to it, with `;` between them. It is answered in one
-//! line. A line that begins with `#` is answered by itself. The program ends with 0, or with 1 where reading or
+//! line. A line that begins with `#` is printed as it is. The program ends with 0, or with 1 if reading or
 //! printing failed.
 //!
 //! On the folder (an order closes the store first, if one is open):

@@ -24,8 +24,8 @@ call_step call.RenameNext = RenameNext
 call_step call.RemoveNext = RemoveNext
 call_step call.SyncFolder = SyncFolder
 
--- How many calls pass before it is the fuse's turn, and the fuse, which both stay as they are; and the number of the
--- next call. Calls are numbered from 0, so it is how many were made.
+-- The number of calls that pass before the fuse decides, and the fuse, which both never change; and the number of the
+-- next call. Calls are numbered from 0, so it is also the number of calls that were made.
 pub record FuseState : Type 0 where
   pub calls : ℕ
   pub fuse : Fuse
@@ -50,7 +50,7 @@ failed_calls state = failed_below state.fuse state.calls state.number
 abbrev pub passed_calls : FuseState → ℕ
 passed_calls state = min (state.number - failed_calls state) greatest
 
--- what becomes of the next call: a disk that has failed the greatest number of times does nothing more
+-- what becomes of the next call: on a disk that has failed the greatest number of times every call fails
 abbrev pub outcome_of : ℕ → FuseState → Outcome
 outcome_of failures state =
     if failures == greatest then Fails else outcome_of_number state.fuse state.calls state.number
@@ -83,8 +83,8 @@ pub record IsCall {D : Type 0} (honest : Type 0) (folder : D → Folder) (failur
   pub fault : result ≢ Err OutOfMemory
   pub also : also_changes old step result new
 
--- A call that passes is one of the disk below. One that fails returns Device, and the disk below is as it was, or has
--- had the call.
+-- A call that passes is made on the disk below. One that fails returns Device; the disk below is as it was, or the call
+-- was made on it.
 abbrev pub Goes : {T : Type 0} → Outcome → (Result T DiskFault → Type 0) → Type 0 → Result T DiskFault → Type 0
 Goes Passes Calls Unchanged result = Calls result
 Goes Fails Calls Unchanged result = (result ≡ Err Device) × Unchanged
@@ -102,7 +102,7 @@ counter_state counter = record { calls = counter.calls; fuse = counter.fuse; num
 abbrev pub fuse_of : {D : Type 0} → FusedDisk D → FuseState
 fuse_of disk = counter_state disk.counter
 
--- how many calls went through to the disk below, up to the greatest number
+-- how many calls passed to the disk below, up to the greatest number
 abbrev pub passed_count : {D : Type 0} → FusedDisk D → ℕ
 passed_count disk = passed_calls (fuse_of disk)
 
@@ -110,7 +110,7 @@ passed_count disk = passed_calls (fuse_of disk)
 abbrev pub fused_failures : {D : Type 0} → (D → ℕ) → FusedDisk D → ℕ
 fused_failures failure_count disk = min (failure_count disk.inner + failed_calls (fuse_of disk)) greatest
 
--- how a call that changes something goes
+-- what becomes of a call that changes something
 pub record FusesChange {D : Type 0} (honest : Type 0) (folder : D → Folder) (failure_count : D → ℕ)
     (also_changes : D → Step → Result (Unit {0}) DiskFault → D → Type 0)
     (old : FusedDisk D) (step : Step) (result : Result (Unit {0}) DiskFault) (new : FusedDisk D) : Type 0 where
@@ -119,13 +119,13 @@ pub record FusesChange {D : Type 0} (honest : Type 0) (folder : D → Folder) (f
       (λ answer. IsCall honest folder failure_count also_changes (fused_inner old) step answer (fused_inner new))
       (fused_inner new ≡ fused_inner old) result
 
--- a read has no effect that it could have had
+-- a read has no effect, so one that fails after its effect is one that fails
 abbrev pub without_effect : Outcome → Outcome
 without_effect Passes = Passes
 without_effect Fails = Fails
 without_effect FailsDone = Fails
 
--- how a read goes: where it doesn't pass, the disk below is not read
+-- what becomes of a read: if it doesn't pass, the disk below is not read
 pub record FusesRead {D : Type 0} (failure_count : D → ℕ)
     (also_reads : D → Name → ℕ → Result Content DiskFault → D → Type 0)
     (old : FusedDisk D) (name : Name) (max : ℕ) (result : Result Content DiskFault) (new : FusedDisk D) : Type 0 where

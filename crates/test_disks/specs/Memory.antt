@@ -1,4 +1,4 @@
--- A disk in memory as the steps that it keeps.
+-- A disk in memory, as the list of steps that it keeps.
 use Rattle.std.specs.Prelude.{◌≡◌, ℕ, ◌+◌, min, List, [], ◌∷◌, ◌++◌, map, Result, OnOk, OnErr}
 use Rattle.conf_disk.specs.Folder.{Folder, empty_folder, Step}
 use Rattle.conf_disk.specs.Log.{folder_after}

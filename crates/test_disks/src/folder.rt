@@ -7,7 +7,7 @@ ghost use Rattle.test_disks.specs.Replay.{file_of, files_of, stage_of, folder_of
 use conf_disk::Name;
 use std::alloc::{AllocError, Global};
 
-// The files under the two names, by their places among the folder's files.
+/// Which file each name has, by its place among the folder's files, from 0.
 #[derive(Clone, Copy, Debug, PartialEq, Eq)]
 pub(crate) struct StageData {
     pub(crate) store: Option<usize>,
@@ -25,7 +25,7 @@ impl StageData {
     }
 }
 
-// A call that changed something.
+/// A change of the folder: a call that returned `Ok`.
 #[derive(Drop)]
 pub(crate) enum Change {
     CreateNext,
@@ -36,12 +36,15 @@ pub(crate) enum Change {
     SyncFolder,
 }
 
+/// A file: its synced bytes, and those that were appended since its last sync.
 #[derive(Drop)]
 pub(crate) struct FileData {
     pub(crate) synced: Vec<u8>,
     pub(crate) pending: Vec<u8>,
 }
 
+/// A folder: all files that were ever made, the stages before the current one since the last sync, oldest first, and
+/// the current one.
 #[derive(Drop)]
 pub(crate) struct FolderData {
     pub(crate) files: Vec<FileData>,
@@ -116,7 +119,7 @@ impl FolderData {
         Ok(())
     }
 
-    // The stage at a place, counted from 0, oldest first.
+    /// The stage at a place, counted from 0, oldest first.
     pub(crate) fn stage_at(&self, place: usize) -> Option<StageData>
         ensures { option_map stage_of result ≡ slice_get (stages (folder_of self.now)) place }
     {
@@ -130,7 +133,7 @@ impl FolderData {
         }
     }
 
-    // All bytes of a file.
+    /// All bytes of the file with a number, synced and pending.
     pub(crate) fn bytes(&self, alloc: Global, id: usize) -> Result<Vec<u8>, AllocError>
         ensures { IfOk result
             (λ bytes. bytes.items ≡ file_bytes (get_or (files_of self.now.files) id empty_file)) }
@@ -143,7 +146,8 @@ impl FolderData {
         Ok(bytes)
     }
 
-    // Whether a file has room for so many kept bytes and zeros. Where there is none, both are 0.
+    /// Whether a file has room for a cut, which is a number of pending bytes that are kept and one of zeros after them.
+    /// Without a file both have to be 0.
     pub(crate) fn fits(&self, id: Option<usize>, cut: (usize, usize)) -> bool
         ensures { result ≡ fits_at (files_of self.now.files) id cut.0 cut.1 }
     {
@@ -159,7 +163,7 @@ impl FolderData {
         keep <= room && zeros <= room - keep
     }
 
-    // What a crash leaves of a file, if there is one: its synced bytes, so many pending ones and so many zeros.
+    /// What a crash leaves of a file under a cut, if there is a file.
     pub(crate) fn torn_bytes(
         &self,
         alloc: Global,

@@ -7,7 +7,7 @@ ghost use Rattle.conf_disk.specs.Moments.{IsChange, greatest};
 use conf_disk::{Content, Disk, DiskFault, Name};
 use std::alloc::Global;
 
-/// How a [`FusedDisk`] fails when its calls have passed.
+/// How a [`FusedDisk`] fails after the calls that it lets pass.
 #[derive(Clone, Copy, Debug, PartialEq, Eq)]
 pub enum Fuse {
     /// Every call from then on fails, with no effect.
@@ -19,16 +19,17 @@ pub enum Fuse {
     },
 }
 
-/// A disk over another one, for tests: some calls pass to it, and then a [`Fuse`] lets calls fail with
-/// [`DiskFault::Device`]. All calls count but [`Disk::failures`].
+/// A disk over another one, for tests: the first calls pass to that disk, and then a [`Fuse`] lets calls fail with
+/// [`DiskFault::Device`]. All calls are counted but [`Disk::failures`]. Its failures are those of the disk below and
+/// those of the fuse.
 #[derive(Drop)]
 pub struct FusedDisk<D> {
     inner: D,
     counter: FuseCounter,
 }
 
-// How many calls pass before it is the fuse's turn, and the fuse; the number of the next call, from 0 on. It has 128
-// bits, since `Stop` may fail as many calls as 64 bits count, after the first `calls` passed.
+/// The number of calls that pass before the fuse decides, the fuse, and the number of the next call, from 0. The latter
+/// has 128 bits: after `calls` calls have passed, `Stop` may fail as many as 64 bits count.
 #[derive(Clone, Copy, Debug, PartialEq, Eq)]
 pub(crate) struct FuseCounter {
     pub(crate) calls: u64,
@@ -36,15 +37,18 @@ pub(crate) struct FuseCounter {
     pub(crate) number: u128,
 }
 
-// What becomes of a call.
+/// What becomes of a call.
 #[derive(Clone, Copy, Debug, PartialEq, Eq)]
 pub(crate) enum Outcome {
+    /// It is made on the disk below.
     Passes,
+    /// It fails without an effect.
     Fails,
+    /// It is made on the disk below, and fails all the same.
     FailsDone,
 }
 
-// A call that changes something.
+/// A call that changes something.
 #[derive(Clone, Copy)]
 pub(crate) enum Call<'a> {
     CreateNext,
@@ -74,7 +78,7 @@ impl Call<'_> {
 }
 
 impl Fuse {
-    // What becomes of the call with a number: those below `calls` pass, and the fuse decides on the others.
+    /// What becomes of the call with a number: those below `calls` pass, and the fuse decides on the others.
     fn outcome(self, calls: u64, number: u128) -> Outcome
         ensures { result ≡ outcome_of_number self calls number }
     {
@@ -90,7 +94,7 @@ impl Fuse {
         }
     }
 
-    // How many calls with a smaller number fail.
+    /// How many of the calls before the one with this number fail.
     fn failed(self, calls: u64, number: u128) -> u128
         ensures { result ≡ failed_below self calls number }
     {
@@ -103,7 +107,8 @@ impl Fuse {
 }
 
 impl FuseCounter {
-    // What becomes of the next call of a disk that failed so often. At the greatest number it does nothing more.
+    /// What becomes of the next call of a disk with this number of failures. At the greatest number every call fails,
+    /// and none is counted.
     fn next_outcome(&mut self, failures: u64) -> Outcome
         ensures outcome { result ≡ outcome_of failures (counter_state self.old) }
         ensures state { counter_state self.new ≡ state_after failures (counter_state self.old) }
@@ -119,14 +124,14 @@ impl FuseCounter {
         outcome
     }
 
-    // How many calls the fuse failed.
+    /// How many calls the fuse failed.
     fn failed(&self) -> u128
         ensures { result ≡ failed_calls (counter_state self.now) }
     {
         self.fuse.failed(self.calls, self.number)
     }
 
-    // How many calls passed, up to the greatest number.
+    /// How many calls passed, up to the greatest number.
     fn passed(&self) -> u64
         ensures { result ≡ passed_calls (counter_state self.now) }
     {
@@ -134,7 +139,7 @@ impl FuseCounter {
     }
 }
 
-// The count, up to the greatest number of 64 bits.
+/// A count, or the greatest number of 64 bits if that is smaller.
 fn at_most_greatest(count: u128) -> u64
     ensures { result ≡ min count greatest }
 {
@@ -144,7 +149,7 @@ fn at_most_greatest(count: u128) -> u64
 impl<D: Disk> FusedDisk<D> {
     ghost use Rattle.test_disks.specs.Fused.{fused_inner, fuse_of, passed_count, fused_failures, FusesChange};
 
-    /// A disk whose first `calls` calls pass to `inner`. Then it is the fuse's turn.
+    /// A disk whose first `calls` calls pass to `inner`. From then on `fuse` says which calls fail.
     pub fn new(inner: D, calls: u64, fuse: Fuse) -> Self
         ensures inner { fused_inner result ≡ inner }
         ensures fuse { fuse_of result ≡ record
@@ -168,7 +173,7 @@ impl<D: Disk> FusedDisk<D> {
         self.counter.passed()
     }
 
-    /// The disk below.
+    /// Returns the disk below.
     pub fn into_inner(self) -> D
         ensures { result ≡ fused_inner self }
     {
@@ -190,7 +195,7 @@ impl<D: Disk> FusedDisk<D> {
         self.counter.next_outcome(failures)
     }
 
-    // Makes a call, or lets it fail.
+    /// Makes a call on the disk below, or lets it fail, as the fuse says.
     fn fuse(&mut self, call: Call<'_>) -> Result<(), DiskFault>
         requires { D.honest → MayBeMade (call_step call) (D.folder (fused_inner self.old)) }
         ensures goes { IsChange D.honest (λ disk. D.folder (fused_inner disk)) (λ disk.

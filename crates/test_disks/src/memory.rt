@@ -10,8 +10,9 @@ use crate::folder::{Change, FolderData};
 use conf_disk::{Content, Cuts, Disk, DiskFault, Name};
 use std::alloc::{AllocError, Global};
 
-/// A disk in memory, for tests. It keeps a record of the changes that were made, in its allocator's memory. Where there
-/// is none for a change, it counts a failure, returns [`DiskFault::Device`] and changes nothing.
+/// A disk in memory, for tests. It keeps a list of the changes that were made. If there is no memory for a change, it
+/// counts a failure, returns [`DiskFault::Device`] and changes nothing. A read plays all changes again, so its time is
+/// linear in their number and their bytes.
 #[derive(Drop)]
 pub struct MemoryDisk {
     alloc: Global,
@@ -34,7 +35,10 @@ impl MemoryDisk {
         }
     }
 
-    /// A folder of these files. None of their bytes are pending: a crash leaves them.
+    /// A folder of these files, with one stage. None of their bytes are pending: a crash leaves them.
+    ///
+    /// # Errors
+    /// If there is no memory for the changes that make the files.
     pub fn with_files(
         alloc: Global,
         store: Option<Vec<u8>>,
@@ -60,8 +64,11 @@ impl MemoryDisk {
     }
 
     /// Returns the disk that a crash would leave at stage `stage`, with the files torn as `cuts` says, or `None` if no
-    /// crash can leave that. Stage 0 is the first since the last folder sync. The disk has no pending bytes, and one
-    /// stage.
+    /// crash can leave that. Stage 0 is the first since the last sync of the folder. The returned disk has no pending
+    /// bytes, one stage and no failures.
+    ///
+    /// # Errors
+    /// If there is no memory for it.
     pub fn image(&self, stage: usize, cuts: Cuts) -> Result<Option<MemoryDisk>, AllocError>
         ensures folder { IfOk result
             (λ image. option_map memory_folder image ≡ option_map folder_of_image
@@ -94,7 +101,7 @@ impl MemoryDisk {
         Ok(Content::Bytes(bytes))
     }
 
-    // The folder after the changes. Its time is linear in their number, which is fine for tests.
+    /// The folder after all changes.
     fn replay(&self, alloc: Global) -> Result<FolderData, AllocError>
         ensures { IfOk result (λ folder. folder_of folder ≡ memory_folder self.now) }
     {
@@ -105,7 +112,7 @@ impl MemoryDisk {
         Ok(folder)
     }
 
-    // Keeps one more change, or counts a failure.
+    /// Adds a change to the list, or counts a failure if there is no memory for it.
     fn note(&mut self, change: Change) -> Result<(), DiskFault>
         ensures change { Performs (step_of change) (memory_folder self.old)
             (memory_folder self.new) result }
@@ -125,7 +132,7 @@ impl MemoryDisk {
         Ok(())
     }
 
-    // Counts a failure.
+    /// Counts a failure, and returns it.
     fn fail(&mut self) -> Result<(), DiskFault>
         ensures fails { result ≡ Err DiskFault.Device }
         ensures steps { self.new.changes ≡ self.old.changes }
@@ -138,7 +145,7 @@ impl MemoryDisk {
     }
 }
 
-// The changes that leave a file of these bytes under the name `Next`, with nothing of it pending.
+/// The changes that leave a file of these bytes under the name `Next`, with nothing of it pending.
 fn put_next(changes: &mut Vec<Change>, bytes: Vec<u8>) -> Result<(), AllocError>
     ensures { OnOk result
         (changes.new.items ≡ changes.old.items ++ Change.CreateNext ∷ Change.Append Name.Next

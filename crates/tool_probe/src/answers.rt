@@ -2,7 +2,7 @@
 use crate::runs::Outcome;
 use std::alloc::{AllocError, Global};
 
-/// The text that bytes are.
+/// The bytes as a text.
 fn text_of(bytes: &[u8]) -> &str {
     str::from_utf8(bytes).unwrap_or("no text")
 }
