@@ -110,30 +110,26 @@ def check_faults(case):
     return [] if good else [f"check: status {status}, {output}, {errors}"]
 
 
-def faults_of(case, shown, has_check):
+def faults_of(case, shown):
     """What is wrong with the answers to a case."""
     faults = reading_faults(case, shown)
     if "fault" in case:
-        subcommands = ["format", "check"] if has_check else ["format"]
-        return faults + [fault for word in subcommands for fault in refusal_faults(case, word)]
-    return faults + format_faults(case) + (check_faults(case) if has_check else [])
+        return faults + [fault for word in ("format", "check") for fault in refusal_faults(case, word)]
+    return faults + format_faults(case) + check_faults(case)
 
 
 def main():
     for program in (PROGRAM, PROBE):
         if not os.access(program, os.X_OK):
             sys.exit(f"{program} is not built")
-    has_check = run([PROGRAM, "check", "--help"], b"")[0] == 0
     passed = failed = 0
     for name in sorted(os.listdir(CASES)):
         cases = read_cases(os.path.join(CASES, name))
         for case, shown in zip(cases, shown_events(cases)):
-            faults = faults_of(case, shown, has_check)
+            faults = faults_of(case, shown)
             for fault in faults:
                 print(f"{name}:{case['line']}: {fault}")
             passed, failed = (passed, failed + 1) if faults else (passed + 1, failed)
-    if not has_check:
-        print("confstore has no `check`: its findings were not compared")
     print(f"{passed} passed, {failed} failed")
     return 0 if failed == 0 else 1
 

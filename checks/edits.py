@@ -86,7 +86,7 @@ def faults(path, crate):
     for before, after in zip(old, new):
         count = source.count(before)
         if count != 1:
-            yield f"edits a text that stands {count} times in {file}: {before.strip()}"
+            yield f"edits a text that occurs {count} times in {file}: {before.strip()}"
         edited = edited.replace(before, after)
     yield from missing_imports(edited)
 

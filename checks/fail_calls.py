@@ -25,7 +25,7 @@ from collections import Counter
 from concurrent.futures import ThreadPoolExecutor
 
 from stories import LOOK, NEW, TORN
-from store_runs import PROGRAM, Failures, compiled, need_program, read_file, session, write_file
+from store_runs import Failures, compiled, need_program, read_file, session, write_file
 
 # The status of a process that the library ended.
 ENDED = 99

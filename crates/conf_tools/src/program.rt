@@ -83,7 +83,7 @@ at most 1,048,576 bytes, and are at most 64 deep. A command has at most 4,194,30
 
 Example:
   mkdir store
-  printf 'import: web\\ntree: \"host: example\"\\n...\\n' | confstore run store";
+  printf 'import: web\\ntext: \"host: example\"\\n...\\n' | confstore run store";
 
 const EXPORT: &str = "export";
 
