@@ -13,7 +13,7 @@ Everything is in a folder in memory, where there is one, so that no device is me
 processor time of several runs, less the least of runs with fewer rounds. Run it on a quiet machine from the
 repository's root, after the program is built:
 
-    (cd crates/bench_driver && rt run -- store run) && python3 bench/store.py [-i]
+    (cd crates/bench_driver && rt run -- store apply 1 1) && python3 bench/store.py [-i]
 
 LMDB is left out if it is not installed: `apt-get install python3-lmdb valgrind` installs it for the system's Python,
 and valgrind.
@@ -198,7 +198,7 @@ def peers(folder):
 
 def main():
     if not os.access(PROGRAM, os.X_OK):
-        sys.exit("the program is not built: `rt run -- store run`, in crates/bench_driver, builds it")
+        sys.exit("the program is not built: `rt run -- store apply 1 1`, in crates/bench_driver, builds it")
     counts_instructions = "-i" in sys.argv[1:] and shutil.which("valgrind") is not None
     with tempfile.TemporaryDirectory(dir=MEMORY if os.path.isdir(MEMORY) else None) as folder:
         openings(folder, counts_instructions)

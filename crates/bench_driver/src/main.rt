@@ -1,6 +1,6 @@
 //! Works on texts, trees and stores, for the scripts of `bench/`, which measure its speed, and for
-//! `checks/refuse_tree_allocations.sh` and `checks/refuse_store_allocations.sh`, which refuse it memory. Its words are
-//! orders, performed one after another, with `then` between them:
+//! `checks/refuse_tree_allocations.sh`, which refuses it memory. Its words are orders, performed one after another,
+//! with `then` between them:
 //!
 //! - `read events FILE ROUNDS` and `read tree FILE ROUNDS` read a file that many times in one process, to its events
 //!   or to its tree. They print how many events there are, or how many bytes the tree has in the one style, or why
@@ -9,8 +9,6 @@
 //!   asked, and prints the tree's length. The words are what is edited (`tree`, or `state`: a configuration of a
 //!   store, by commands), the tree's shape (`wide`, one mapping, or `deep`, mappings in mappings), its size (pairs,
 //!   or how deep it is) and how often a pair is set at the end and deleted again.
-//! - `store run` performs a fixed run of calls on a store over a disk in memory, and prints what each call returns
-//!   and what the store then holds.
 //! - `store fill FOLDER EDITS` opens a store in a folder and sets one value of 100 bytes that many times. `store open
 //!   FOLDER ROUNDS` opens the store of a folder that many times in one process, `store read FOLDER ROUNDS` looks for
 //!   the closing lines of its file and reads each piece to a tree, and `store close FOLDER ROUNDS` looks for the

@@ -66,15 +66,15 @@ fn read<R: Files<File = File> + AllocGlobal>(
     }
     let path = format!(in alloc; "{folder}/store.yaml")?;
     let bytes = fs::read(rt, &path)?;
-    pieces(alloc, &bytes, what == What::Trees)
+    pieces(alloc, &bytes, what)
 }
 
-/// How many pieces the bytes have. Each is read to a tree if `reads` is true.
-fn pieces(alloc: Global, bytes: &[u8], reads: bool) -> Result<u64, StoresFault> {
+/// How many pieces the bytes have. Each is read to a tree if `what` is [`What::Trees`].
+fn pieces(alloc: Global, bytes: &[u8], what: What) -> Result<u64, StoresFault> {
     let mut count = 0u64;
     let mut at = 0;
     'pieces: while let Some(end) = next_close(bytes, at) {
-        if reads {
+        if what == What::Trees {
             let _ = read_one(alloc, &bytes[at..end], &Limits::KEPT)?;
         }
         count = count.saturating_add(1);

@@ -1,5 +1,4 @@
-//! Stores that are filled, opened and read many times, so that their speed can be measured, and a fixed run of calls on
-//! a store.
+//! Stores that are filled, opened and read many times, so that their speed can be measured.
 //!
 //! An [`Order`] says what is done, and [`perform`] does it.
 #![tactic(auto)]
@@ -8,7 +7,6 @@ mod commands;
 mod edits;
 mod fault;
 mod files;
-mod fixed_run;
 mod order;
 mod stores;
 

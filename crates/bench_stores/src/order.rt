@@ -11,11 +11,20 @@ pub enum What {
     Closings,
 }
 
+impl What {
+    fn of(word: &str) -> Option<What> {
+        match word {
+            "open" => Some(What::Open),
+            "read" => Some(What::Trees),
+            "close" => Some(What::Closings),
+            _ => None,
+        }
+    }
+}
+
 /// What is asked of stores.
 #[derive(Clone, Copy)]
 pub enum Order<'a> {
-    /// The fixed run of calls.
-    Run,
     /// A store in a folder takes so many edits.
     Fill {
         folder: &'a str,
@@ -35,39 +44,26 @@ pub enum Order<'a> {
 }
 
 impl<'a> Order<'a> {
-    /// What the words say: `run`, or `fill`, `open`, `read`, `close` or `apply` with two more words. Other words are
-    /// no order.
+    /// What the words say: `fill`, `open`, `read`, `close` or `apply` with two more words. Other words are no order.
     pub fn of(words: &'a [String]) -> Option<Order<'a>> {
-        match words {
-            [word] if word.as_str() == "run" => Some(Order::Run),
-            [word, first, last] => Order::with_number(word, first, last.parse::<u32>().ok()?),
-            _ => None,
-        }
-    }
-
-    fn with_number(word: &str, first: &'a str, number: u32) -> Option<Order<'a>> {
-        let what = match word {
-            "fill" => {
-                return Some(Order::Fill {
-                    folder: first,
-                    edits: number,
-                });
-            }
-            "apply" => {
-                return Some(Order::Apply {
-                    configurations: first.parse::<u32>().ok()?,
-                    edits: number,
-                });
-            }
-            "open" => What::Open,
-            "read" => What::Trees,
-            "close" => What::Closings,
-            _ => return None,
+        let [word, first, last] = words else {
+            return None;
         };
-        Some(Order::Read {
-            what,
-            folder: first,
-            rounds: number,
-        })
+        let number = last.parse::<u32>().ok()?;
+        match word.as_str() {
+            "fill" => Some(Order::Fill {
+                folder: first,
+                edits: number,
+            }),
+            "apply" => Some(Order::Apply {
+                configurations: first.parse::<u32>().ok()?,
+                edits: number,
+            }),
+            word => Some(Order::Read {
+                what: What::of(word)?,
+                folder: first,
+                rounds: number,
+            }),
+        }
     }
 }

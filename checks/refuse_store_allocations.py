@@ -1,0 +1,142 @@
+#!/usr/bin/env python3
+"""Refuses each allocation of a run of calls on a store in turn, and looks at what each call returned and what the store
+then held.
+
+The run is a list of orders to `store_probe`, over a disk in memory: each call is made twice, and then the store is
+opened again, twice. A library under the program (refuse.c) refuses one allocation. A call that is refused memory has
+to leave the store as it was, and has to succeed when it is made again. If the disk in memory runs out of memory for a
+change, the call returns `Device`; the store that is opened then has to be in the state before the call or after it. If
+the program itself runs out of memory, for an order or an answer, it ends with the status 1.
+
+Run it from the repository's root after the program is built. It takes some seconds, and needs a C compiler:
+
+    (cd crates/store_probe && rt run < stdin > /dev/null) && python3 checks/refuse_store_allocations.py
+
+The status is 0 if all is as it should be.
+"""
+
+import itertools
+import os
+import subprocess
+import sys
+import tempfile
+from collections import Counter
+
+from store_runs import TOP, Failures, compiled
+
+PROGRAM = os.path.join(TOP, "crates", "store_probe", "out", "store_probe")
+LOOK = ["count", "get;a;"]
+OPEN = ["open", "open", *LOOK]
+# Each call, and the value of `a` after it.
+CALLS = {"import;a;x": "x", "set;a;;z": "z", "checkpoint": None, "delete;a;": None}
+ORDERS = ["folder", *OPEN] + [order for call in CALLS for order in [call, *LOOK, call, *LOOK, *OPEN]]
+OUT_OF_MEMORY = ("OutOfMemory", "Path(OutOfMemory)")
+
+
+class Store:
+    """What the store has to hold: the states that it may be in, each a count and the value of `a`."""
+
+    def __init__(self):
+        self.states = [(0, None)]
+        self.is_open = self.needs_reopen = False
+
+    def allows(self, order, answer):
+        """Whether the answer to an order is right. The store is then the one after it."""
+        if order == "folder":
+            return answer == "no file"
+        if order == "open":
+            return self.allows_open(answer)
+        if not self.is_open:
+            return answer == "no store is open"
+        if order in LOOK:
+            return answer in OUT_OF_MEMORY or self.allows_look(order, answer)
+        return self.allows_call(order, answer)
+
+    def allows_open(self, answer):
+        self.is_open = answer.startswith("commands ") and answer.endswith(", dropped 0")
+        self.needs_reopen = False
+        return self.is_open or answer in (*OUT_OF_MEMORY, "Device")
+
+    def allows_look(self, order, answer):
+        """The answer is of a state that the store may be in. Only those stay, unless the store has to be opened again."""
+        states = [state for state in self.states if answer == shown(order, state)]
+        if not self.needs_reopen:
+            self.states = states
+        return bool(states)
+
+    def allows_call(self, call, answer):
+        if self.needs_reopen or answer in OUT_OF_MEMORY:
+            return answer == "Reopen" if self.needs_reopen else True
+        (before,) = self.states
+        right, after = performed(call, before)
+        if answer == "Device":
+            self.needs_reopen = True
+            self.states = [before] if before == after else [before, after]
+            return True
+        self.states = [after]
+        return answer == right
+
+
+def shown(order, state):
+    """The answer to a look at a state."""
+    count, value = state
+    if order == "count":
+        return str(count)
+    return "NoConfig" if value is None else f'Text("{value}")'
+
+
+def performed(call, state):
+    """The answer to a call with memory, and the state after it."""
+    count, value = state
+    if call == "checkpoint":
+        return "done", state
+    if value is None and not call.startswith("import"):
+        return "NoConfig", state
+    return str(count + 1), (count + 1, CALLS[call])
+
+
+def run(folder, number):
+    """The run with one allocation refused: whether it came to that, the status, and the answers."""
+    refused_file = os.path.join(folder, "refused")
+    names = {"LD_PRELOAD": os.path.join(folder, "refuse.so"), "REFUSE_ALLOCATION": str(number), "REFUSED_FILE": refused_file}
+    orders = "".join(f"{order}\n" for order in ORDERS).encode()
+    done = subprocess.run([PROGRAM], input=orders, capture_output=True, check=False, env={**os.environ, **names})
+    was_refused = os.path.exists(refused_file)
+    if was_refused:
+        os.remove(refused_file)
+    return was_refused, done.returncode, done.stdout.decode().splitlines()
+
+
+def outcome(status, answers, name, failures):
+    """How a run went. Each of its answers has to be right."""
+    store = Store()
+    for number, (order, answer) in enumerate(zip(ORDERS, answers)):
+        failures.expect(f"{name}, {number} {order}: {answer}", store.allows(order, answer), True)
+    if status == 1:
+        return "ended by the program"
+    failures.expect(f"{name}: status and answers", (status, len(answers)), (0, len(ORDERS)))
+    if any(answer in OUT_OF_MEMORY for answer in answers):
+        return "answered by out of memory"
+    return "answered by the device" if "Device" in answers else "done without"
+
+
+def main():
+    if not os.access(PROGRAM, os.X_OK):
+        sys.exit("the program is not built: run `rt run < stdin` in crates/store_probe first")
+    failures = Failures()
+    outcomes = Counter()
+    with tempfile.TemporaryDirectory() as folder:
+        compiled("refuse.c", folder)
+        for number in itertools.count(1):
+            was_refused, status, answers = run(folder, number)
+            ended = outcome(status, answers, f"allocation {number}", failures)
+            if not was_refused:
+                failures.expect("no allocation refused", ended, "done without")
+                break
+            outcomes[ended] += 1
+    print(f"{number - 1} allocations refused in turn: " + ", ".join(f"{count} {ended}" for ended, count in outcomes.items()))
+    return failures.report()
+
+
+if __name__ == "__main__":
+    sys.exit(main())
