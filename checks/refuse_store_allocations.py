@@ -30,7 +30,8 @@ OPEN = ["open", "open", *LOOK]
 # Each call, and the value of `a` after it.
 CALLS = {"import;a;x": "x", "set;a;;z": "z", "checkpoint": None, "delete;a;": None}
 ORDERS = ["folder", *OPEN] + [order for call in CALLS for order in [call, *LOOK, call, *LOOK, *OPEN]]
-OUT_OF_MEMORY = ("OutOfMemory", "Path(OutOfMemory)")
+# A path, and the tree of a set, are read by `store_probe` itself.
+OUT_OF_MEMORY = ("OutOfMemory", "Path(OutOfMemory)", "Read(OutOfMemory)")
 
 
 class Store:
@@ -108,10 +109,13 @@ def run(folder, number):
 
 
 def outcome(status, answers, name, failures):
-    """How a run went. Each of its answers has to be right."""
+    """How a run went. Each of its answers has to be right; after a wrong one the others are not looked at."""
     store = Store()
     for number, (order, answer) in enumerate(zip(ORDERS, answers)):
-        failures.expect(f"{name}, {number} {order}: {answer}", store.allows(order, answer), True)
+        is_right = store.allows(order, answer)
+        failures.expect(f"{name}, {number} {order}: {answer}", is_right, True)
+        if not is_right:
+            return "answered wrongly"
     if status == 1:
         return "ended by the program"
     failures.expect(f"{name}: status and answers", (status, len(answers)), (0, len(ORDERS)))
