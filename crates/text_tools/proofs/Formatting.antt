@@ -1,10 +1,7 @@
 -- What a text that was read and one that was written say of the reader and the writer.
-use Rattle.std.proofs.Common.{◌≡◌, ℕ, List, refl, sym, ◌∙◌, ap, subst, arith, ◌<◌, length}
-use Rattle.std.specs.Prelude.{Option, Some, None, encode_utf8_all}
+use Rattle.std.proofs.Common.{◌≡◌, ℕ, List, refl, ◌∙◌, subst, arith, ◌<◌, length}
+use Rattle.std.specs.Prelude.{Option, Some, None}
 use Rattle.std.specs.Io.KnownBytes.{Keeps, Appends}
-use Rattle.std.specs.Str.{chars, IsUtf8}
-use Rattle.std.proofs.lemmas.Str.{encodes-chars}
-use Rattle.yaml_grammar.specs.Style.{style_text}
 use Rattle.yaml_grammar.specs.Trees.{Tree}
 use Rattle.yaml_tree.specs.Formatting.{IsFormatted}
 use Rattle.yaml_tree.specs.Reading.{IsRead, Refuses}
