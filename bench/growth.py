@@ -2,8 +2,8 @@
 """Says where the time that a byte takes grows with the length of a text.
 
 It reads the corpora of `bench/read.py`, and hostile texts, to events in a loop inside one process, at 64 KiB, 1 MiB
-and 16 MiB. It prints the nanoseconds a byte, and how many times those at 64 KiB the others are, with `GROWS` where that
-is more than 1.25 times.
+and 16 MiB. It prints the nanoseconds a byte, and how many times those at 64 KiB the others are, with `GROWS` where the
+reader's own time grows to more than 1.25 times.
 
 A process keeps the memory of a small text from round to round. That of a large one it gives back, and the system
 hands it out anew, page by page; for a text of signs alone that are up to 26 bytes for each byte. What the system takes
@@ -12,7 +12,8 @@ twice:
 
 - `kept`: malloc is set to keep what it has, at each size, and to ask for huge pages. This is the reader's own time.
 - `anew`: malloc is set to take each piece of 32 KiB or more from the system, at each size, and to give it back. The
-  processor's time for the process is printed beside that for the system.
+  processor's time for the process is printed beside that for the system. Where a text of 64 KiB needs less memory than
+  that, it is kept all the same.
 
 The runs of the three sizes come by turns, and the growth is the median over the turns, so that a machine whose speed
 moves shows the same. The nanoseconds are medians too. What a process takes to start, and for its first round, is taken
@@ -102,7 +103,7 @@ def compare(name, make, folder, counts_instructions):
     """Prints what a byte of a text takes at each size, and returns whether it grows by no more than it may."""
     orders = [[DRIVER, "read", "events", written(folder, make(size), f"{size}.yaml")] for size in SIZES]
     kept, anew = measured(orders, KEPT), measured(orders, ANEW)
-    is_well = max(*growths(kept), *growths(anew)) <= MOST
+    is_well = max(growths(kept)) <= MOST
     line = f"{name:22} {'     ' if is_well else 'GROWS'} kept {shown(medians(kept, sum))} ns, {shown(growths(kept))} times"
     line += f" | anew {shown(medians(anew, lambda cost: cost[0]))} ns"
     line += f" and {shown(medians(anew, lambda cost: cost[1]))} for the system, {shown(growths(anew))} times"
