@@ -2,17 +2,30 @@
 use bench_edits::EditFault;
 use bench_stores::StoresFault;
 use std::io;
-use thiserror::Error;
 
 /// Why a run of the program ends early.
-#[derive(Debug, Drop, Error)]
+#[derive(Clone, Copy)]
 pub(crate) enum Failed {
-    #[error("wrong words")]
+    /// An order has wrong words.
     Words,
-    #[error("{0}")]
-    Edits(#[from] EditFault),
-    #[error("{0}")]
-    Stores(#[from] StoresFault),
-    #[error("{0}")]
-    Files(#[from] io::Error),
+    /// Something failed or was refused.
+    Run,
+}
+
+impl From<EditFault> for Failed {
+    fn from(_: EditFault) -> Failed {
+        Failed::Run
+    }
+}
+
+impl From<StoresFault> for Failed {
+    fn from(_: StoresFault) -> Failed {
+        Failed::Run
+    }
+}
+
+impl From<io::Error> for Failed {
+    fn from(_: io::Error) -> Failed {
+        Failed::Run
+    }
 }

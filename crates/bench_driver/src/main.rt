@@ -38,7 +38,7 @@ fn main(rt: HostRuntime) -> ExitCode {
     match perform_all(&rt, words) {
         Ok(()) => ExitCode::from(0),
         Err(Failed::Words) => ExitCode::from(2),
-        Err(_) => ExitCode::from(1),
+        Err(Failed::Run) => ExitCode::from(1),
     }
 }
 

@@ -1,21 +1,33 @@
 // Why edits end early.
 use conf_record::StoreFault;
 use std::alloc::AllocError;
-use thiserror::Error;
 use tree_path::PathFault;
 use yaml_tree::ReadFault;
 
-/// Why edits end early.
-#[derive(Debug, Drop, Error)]
-pub enum EditFault {
-    #[error("{0}")]
-    Store(#[from] StoreFault),
-    #[error("{0}")]
-    Read(#[from] ReadFault),
-    #[error("{0}")]
-    Path(#[from] PathFault),
-    #[error("the tree is too deep or too long")]
-    Long,
-    #[error("{0}")]
-    Memory(#[from] AllocError),
+/// An edit was refused, the tree is too deep or too long, or memory ran out. What measures asks no further.
+#[derive(Clone, Copy)]
+pub struct EditFault;
+
+impl From<StoreFault> for EditFault {
+    fn from(_: StoreFault) -> EditFault {
+        EditFault
+    }
+}
+
+impl From<ReadFault> for EditFault {
+    fn from(_: ReadFault) -> EditFault {
+        EditFault
+    }
+}
+
+impl From<PathFault> for EditFault {
+    fn from(_: PathFault) -> EditFault {
+        EditFault
+    }
+}
+
+impl From<AllocError> for EditFault {
+    fn from(_: AllocError) -> EditFault {
+        EditFault
+    }
 }

@@ -12,20 +12,19 @@ const DEEPEST: u8 = 66;
 /// How many bytes the tree of an order has in the one style, before its edits.
 ///
 /// # Errors
-/// `Long` if the tree is deeper than 66 or has more than 2^64 - 1 bytes, `Memory`.
+/// If the tree is deeper than 66 or has more than 2^64 - 1 bytes, or memory runs out.
 pub fn length_in_style(alloc: Global, order: &Order) -> Result<u64, EditFault> {
     let tree = order.shape.tree(alloc)?;
     if tree.is_deeper_than(DEEPEST) {
-        return Err(EditFault::Long);
+        return Err(EditFault);
     }
-    style_len(&tree, u64::MAX).ok_or(EditFault::Long)
+    style_len(&tree, u64::MAX).ok_or(EditFault)
 }
 
 /// Makes the edits of an order.
 ///
 /// # Errors
-/// The fault of the first edit that is refused. `Read` if the tree of a state is too deep or too long for a
-/// configuration, and `Memory`.
+/// If an edit is refused, the tree of a state is too deep or too long for a configuration, or memory runs out.
 pub fn run(alloc: Global, order: &Order) -> Result<(), EditFault> {
     let tree = order.shape.tree(alloc)?;
     let pointer = order.shape.end(alloc)?;
@@ -95,5 +94,5 @@ fn delete_at(alloc: Global, pointer: &str) -> Result<Command, AllocError> {
 }
 
 fn config(alloc: Global, tree: Tree) -> Result<Config, EditFault> {
-    Config::new(alloc, tree).map_err(|(_, fault)| EditFault::Read(fault))
+    Config::new(alloc, tree).map_err(|_| EditFault)
 }

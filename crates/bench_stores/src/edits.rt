@@ -23,7 +23,7 @@ pub(crate) fn apply(alloc: Global, configurations: u32, edits: u32) -> Result<u6
 fn filled(alloc: Global, last: u32) -> Result<Store<MemoryDisk>, StoresFault> {
     let mut store = match Store::open(alloc, MemoryDisk::new(alloc)) {
         Ok((store, _)) => store,
-        Err((_, fault)) => return Err(StoresFault::Open(fault)),
+        Err(_) => return Err(StoresFault),
     };
     let text = long_text(alloc)?;
     for number in 0..=last {

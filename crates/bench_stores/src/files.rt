@@ -35,7 +35,7 @@ fn open<'r, R: Files<File = File>>(
     let disk = FolderDisk::new(rt, alloc, folder)?;
     match Store::open(alloc, disk) {
         Ok((store, _)) => Ok(store),
-        Err((_, fault)) => Err(StoresFault::Open(fault)),
+        Err(_) => Err(StoresFault),
     }
 }
 

@@ -8,7 +8,7 @@ use std::rt::Files;
 /// Does what an order says. Returns the count of the store, or how many pieces its file has.
 ///
 /// # Errors
-/// The first fault of a call.
+/// If a call fails.
 pub fn perform<R: Files<File = File> + AllocGlobal>(
     rt: &R,
     alloc: Global,

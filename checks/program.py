@@ -1,0 +1,164 @@
+#!/usr/bin/env python3
+"""Runs the built program with words and inputs, and compares what it does with what is expected.
+
+The rows are in checks/program.txt. A row is some lines, and an empty line ends it. Each begins with a word:
+
+    folder NAME     makes a folder before the program runs
+    file PATH TEXT  makes a file there
+    held FOLDER     another run of the program holds the store in the folder meanwhile
+    words WORDS     the program's words
+    input TEXT      what it reads; nothing without this line
+    reader broken   reading fails after the input
+    writer full     what it writes goes to a full device
+    status NUMBER   the status it ends with
+    output TEXT     what it writes; nothing without a line on its output
+    length NUMBER   or the number of bytes that it writes
+    output_has TEXT or a part of what it writes; there may be several such lines
+    errors TEXT     what it writes to standard error, in the same three ways: `errors_have` for a part
+    errors_begin TEXT   and its first two words
+
+A text has the escapes of checks/cases.py. All rows share one folder, and run in order. The program has to be built first:
+
+    ./confstore --version && python3 checks/program.py
+
+The last line is 'N passed, M failed', of rows; the status is 0 if M is 0.
+"""
+
+import contextlib
+import os
+import socket
+import subprocess
+import sys
+import tempfile
+import threading
+
+from cases import bytes_of, long_runs
+from store_runs import PROGRAM, TOP, need_program, write_file
+
+ROWS = os.path.join(TOP, "checks", "program.txt")
+
+
+def read_rows(path):
+    """The rows of a file: of each the number of its first line, and its lines as pairs of a word and what follows it."""
+    rows, row = [], []
+    with open(path, encoding="utf-8") as source:
+        for number, line in enumerate(source, 1):
+            line = line.rstrip("\n")
+            if line and not line.startswith("#"):
+                word, _, rest = line.partition(" ")
+                row.append((word, long_runs(rest)))
+            elif row and not line:
+                rows.append((number - len(row), row))
+                row = []
+    return rows + ([(number + 1 - len(row), row)] if row else [])
+
+
+def values(row, word):
+    """What follows a word, in each line of the row that begins with it."""
+    return [rest for found, rest in row if found == word]
+
+
+def value(row, word):
+    """What follows a word in the row, or nothing."""
+    return "".join(values(row, word)[:1])
+
+
+def prepare(row, top):
+    """Makes the folders and files of a row."""
+    for folder in values(row, "folder"):
+        os.mkdir(os.path.join(top, folder))
+    for file in values(row, "file"):
+        path, text = file.split(" ", 1)
+        write_file(os.path.join(top, path), bytes_of(text))
+
+
+@contextlib.contextmanager
+def held(folder, top):
+    """Another run of the program over the store in a folder, which has answered a command and waits for the next."""
+    run = subprocess.Popen([PROGRAM, "run", folder], cwd=top, stdin=subprocess.PIPE, stdout=subprocess.PIPE)
+    run.stdin.write(b"names:\n...\n")
+    run.stdin.flush()
+    for line in run.stdout:
+        if line == b"...\n":
+            break
+    yield
+    run.stdin.close()
+    run.stdout.close()
+    run.wait()
+
+
+@contextlib.contextmanager
+def broken_reader(content):
+    """A stream with these bytes, after which reading fails: its other end was closed with bytes that it had not read."""
+    ours, theirs = socket.socketpair()
+    sender = threading.Thread(target=ours.sendall, args=(content,))
+    sender.start()
+    theirs.sendall(b"not read")
+    sender.join()
+    ours.close()
+    with theirs:
+        yield theirs
+
+
+def run(row, top):
+    """The status, the output and the errors of the program."""
+    words = [PROGRAM, *value(row, "words").split()]
+    content = bytes_of(value(row, "input"))
+    with contextlib.ExitStack() as ends:
+        for folder in values(row, "held"):
+            ends.enter_context(held(folder, top))
+        given = {"input": content}
+        if value(row, "reader") == "broken":
+            given = {"stdin": ends.enter_context(broken_reader(content))}
+        output = subprocess.PIPE
+        if value(row, "writer") == "full":
+            output = ends.enter_context(open("/dev/full", "wb"))
+        done = subprocess.run(words, cwd=top, stdout=output, stderr=subprocess.PIPE, check=False, **given)
+    return done.returncode, done.stdout or b"", done.stderr
+
+
+def faults_of_output(row, output):
+    """What is wrong with what the program wrote."""
+    if values(row, "length"):
+        return [] if len(output) == int(value(row, "length")) else [f"{len(output)} bytes were written"]
+    parts = values(row, "output_has")
+    if parts:
+        return [f"{part!r} is not in the output" for part in parts if part.encode() not in output]
+    return [] if output == bytes_of(value(row, "output")) else [f"output {output!r}"]
+
+
+def faults_of_errors(row, errors):
+    """What is wrong with what the program wrote to standard error."""
+    if values(row, "errors_begin"):
+        begin = errors.split()[:2]
+        return [] if begin == value(row, "errors_begin").encode().split() else [f"errors {errors!r}"]
+    parts = values(row, "errors_have")
+    if parts:
+        return [f"{part!r} is not in the errors" for part in parts if part.encode() not in errors]
+    return [] if errors == bytes_of(value(row, "errors")) else [f"errors {errors!r}"]
+
+
+def faults_of(row, top):
+    """What is wrong with what the program does in a row."""
+    prepare(row, top)
+    status, output, errors = run(row, top)
+    faults = [] if status == int(value(row, "status")) else [f"status {status}"]
+    return faults + faults_of_output(row, output) + faults_of_errors(row, errors)
+
+
+def main():
+    need_program()
+    rows = read_rows(ROWS)
+    wrong = 0
+    with tempfile.TemporaryDirectory() as top:
+        for number, row in rows:
+            faults = faults_of(row, top)
+            wrong += bool(faults)
+            for fault in faults:
+                print(f"program.txt:{number}: {fault}")
+    print(f"{len(rows) - wrong} passed, {wrong} failed")
+    return 1 if wrong else 0
+
+
+if __name__ == "__main__":
+    sys.exit(main())
