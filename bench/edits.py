@@ -16,9 +16,9 @@ Instructions of an edit, counted on 2026-11-23:
     8 deep                1,999            4,888     2.45
     64 deep              17,903           29,911     1.67
 
-`rt run -- store apply 1 1`, in crates/bench_driver, builds the program:
+`rt run -- edits tree wide 1 1`, in crates/bench_driver, builds the program:
 
-    (cd crates/bench_driver && rt run -- store apply 1 1) && python3 bench/edits.py [-i]
+    (cd crates/bench_driver && rt run -- edits tree wide 1 1) && python3 bench/edits.py [-i]
 """
 
 import os
@@ -91,7 +91,7 @@ def cost(target, shape, size, rounds, counts):
 
 def main():
     if not os.access(PROGRAM, os.X_OK):
-        sys.exit("the program is not built: `rt run -- store apply 1 1`, in crates/bench_driver, builds it")
+        sys.exit("the program is not built: `rt run -- edits tree wide 1 1`, in crates/bench_driver, builds it")
     counts = "-i" in sys.argv[1:]
     if counts and shutil.which("valgrind") is None:
         sys.exit("valgrind is missing, which counts the instructions")

@@ -9,7 +9,7 @@ how the time a byte grows with the length of a text.
 A time is the least processor time of several runs, less that of a run with fewer rounds. Run it on a quiet machine from
 the repository's root, after the programs are built:
 
-    ./confstore --version && (cd crates/bench_driver && rt run -- store apply 1 1) && python3 bench/read.py [-i]
+    ./confstore --version && (cd crates/bench_driver && rt run -- edits tree wide 1 1) && python3 bench/read.py [-i]
 
 A peer that is not installed is left out: `apt-get install libyaml-dev libfyaml-dev valgrind` installs both, and
 valgrind.

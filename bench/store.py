@@ -1,19 +1,19 @@
 #!/usr/bin/env python3
 """Times a store: opening a long journal, and the commands, beside SQLite and LMDB.
 
-A journal of 10,000 and of 100,000 edits of one value of 100 bytes is made by a store in a folder, each edit
-synced. It is opened in a loop inside one process, beside two loops over the same file: one that looks for the
-closing lines alone, and one that also reads each piece to a tree, which is the least that opening can do. Then
-stores of 1 to 10,000 configurations take edits over a disk in memory: an edit has to cost the same in each.
-With `-i` instructions, as valgrind counts them, are printed beside the times.
+A journal of 10,000 and of 100,000 edits of one value of 100 bytes is made by a session, each edit synced. The store is
+opened by a session without commands, beside a loop inside one process that reads the same file to its events: opening
+reads each piece to a tree, takes it as a command and performs it. Then stores of 1 to 10,000 configurations take edits
+in a session: an edit has to cost the same in each. With `-i` instructions, as valgrind counts them, are printed beside
+the times.
 
 SQLite (in WAL mode, with its default checkpoints and full syncs) and LMDB take the same edits, each in a
 transaction of its own, and are opened as a crash would leave them. Their times include those of Python's calls.
 Everything is in a folder in memory, where there is one, so that no device is measured. A time is the least
-processor time of several runs, less the least of runs with fewer rounds. Run it on a quiet machine from the
-repository's root, after the program is built:
+processor time of several runs, less the least of runs with less to do: of opening an empty store, or of fewer rounds
+or edits. Run it on a quiet machine from the repository's root, after the programs are built:
 
-    (cd crates/bench_driver && rt run -- store apply 1 1) && python3 bench/store.py [-i]
+    ./confstore --version && (cd crates/bench_driver && rt run -- edits tree wide 1 1) && python3 bench/store.py [-i]
 
 LMDB is left out if it is not installed: `apt-get install python3-lmdb valgrind` installs it for the system's Python,
 and valgrind.
@@ -34,66 +34,96 @@ except ImportError:
     lmdb = None
 
 TOP = os.path.dirname(os.path.dirname(os.path.abspath(__file__)))
-PROGRAM = os.path.join(TOP, "crates", "bench_driver", "out", "bench_driver")
+PROGRAM = os.path.join(TOP, "crates", "confstore", "out", "confstore")
+DRIVER = os.path.join(TOP, "crates", "bench_driver", "out", "bench_driver")
 MEMORY = "/dev/shm"
 EDITS = [10_000, 100_000]
 # How many configurations the stores have that take edits, and how many edits those are.
 CONFIGURATIONS = [1, 100, 1_000, 10_000]
 APPLIED = 20_000
-# How many times opening may take what finding the closing lines and reading each piece takes.
-GOAL = 6
+COUNTED = 1_000
+# How many bytes the texts of a configuration have that is not edited.
+LETTERS = 900
 RUNS = 5
 
 
-def run(*words):
-    """The processor time of a run in seconds, and the number that it printed."""
-    process = subprocess.Popen([PROGRAM, "store", *map(str, words)], stdout=subprocess.PIPE, text=True)
-    printed = process.stdout.read()
+def started(words, commands, **more):
+    """A process of a program that reads a file of commands."""
+    with open(commands, "rb") as source:
+        return subprocess.Popen(list(map(str, words)), stdin=source, stdout=subprocess.DEVNULL, **more)
+
+
+def run(words, commands=os.devnull):
+    """The processor time of a run in seconds."""
+    process = started(words, commands)
     _, status, usage = os.wait4(process.pid, 0)
     if status != 0:
         sys.exit(f"{' '.join(map(str, words))} failed")
-    return usage.ru_utime + usage.ru_stime, int(printed)
+    return usage.ru_utime + usage.ru_stime
 
 
-def seconds(*words, more):
-    """The processor time that one of `more` further rounds takes: the last word is the number of rounds."""
+def least(words, commands=os.devnull, before=lambda: None):
+    """The least processor time of several runs, each after a call of `before`."""
+    times = []
+    for _ in range(RUNS):
+        before()
+        times.append(run(words, commands))
+    return min(times)
 
-    def least(rounds):
-        return min(run(*words, rounds)[0] for _ in range(RUNS))
 
-    return (least(1 + more) - least(1)) / more
+def collected(words, commands=os.devnull):
+    """How many instructions a run takes, as callgrind counts them."""
+    tool = ["valgrind", "--tool=callgrind", "--callgrind-out-file=/dev/null"]
+    process = started([*tool, *words], commands, stderr=subprocess.PIPE, text=True)
+    _, errors = process.communicate()
+    return int(re.search(r"Collected : (\d+)", errors)[1])
 
 
-def instructions(*words, more):
-    """How many instructions one of `more` further rounds takes, as callgrind counts them."""
+def value(number):
+    return f"v{number:099}"
 
-    def collected(rounds):
-        tool = ["valgrind", "--tool=callgrind", "--callgrind-out-file=/dev/null"]
-        command = [*tool, PROGRAM, "store", *map(str, words), str(rounds)]
-        done = subprocess.run(command, capture_output=True, text=True, check=True)
-        return int(re.search(r"Collected : (\d+)", done.stderr)[1])
 
-    return (collected(1 + more) - collected(1)) / more
+def write_edits(path, name, count):
+    """Writes a file of that many commands, each of which sets the value of a configuration."""
+    with open(path, "w", encoding="utf-8") as target:
+        for number in range(count):
+            target.write(f"set: {name}\npath: /value\nvalue: {value(number)}\n...\n")
+
+
+def write_store(folder, last):
+    """Makes a store in a folder, with configurations under the names from `c0` to the one of this number."""
+    os.makedirs(folder, exist_ok=True)
+    text = f'    long: "{"x" * LETTERS}"\n    value: none\n'
+    with open(os.path.join(folder, "store.yaml"), "w", encoding="utf-8") as target:
+        target.write('---\nstore: confstore-1\nat: "0"\nconfigs:\n')
+        target.writelines(f"  c{number}:\n{text}" for number in range(last + 1))
+        target.write("...\n")
 
 
 def opening(folder, edits, counts_instructions):
     """Fills a store, prints what opening it costs, and returns that for an edit."""
-    path = os.path.join(folder, str(edits))
-    os.mkdir(path)
-    filled, _ = run("fill", path, edits)
-    size = os.path.getsize(os.path.join(path, "store.yaml"))
+    path, commands = os.path.join(folder, str(edits)), os.path.join(folder, "commands")
+    write_store(path, 0)
+    write_edits(commands, "c0", edits)
+    filled = run([PROGRAM, "run", path], commands)
+    file = os.path.join(path, "store.yaml")
+    size = os.path.getsize(file)
+    empty = os.path.join(folder, "empty")
+    write_store(empty, 0)
+    opened = least([PROGRAM, "run", path]) - least([PROGRAM, "run", empty])
     rounds = 400_000 // edits
-    costs = {work: seconds(work, path, more=rounds) for work in ("open", "read", "close")}
+    reading = [DRIVER, "read", "events", file]
+    read = (least([*reading, 1 + rounds]) - least([*reading, 1])) / rounds
     print(f"a journal of {edits:,} edits, {size:,} bytes; filled in {filled / edits * 1e6:.1f} us an edit")
-    for work, cost in costs.items():
-        shown = f"  {work:5} {cost * 1e3:9.2f} ms, {cost / edits * 1e6:7.3f} us an edit, {size / cost / 1e6:8.1f} MB/s"
-        if counts_instructions and edits == EDITS[0]:
-            shown += f", {instructions(work, path, more=1) / edits:9.0f} instructions an edit"
-        print(shown)
-    ratio = costs["open"] / costs["read"]
-    verdict = "within" if ratio <= GOAL else "MORE THAN"
-    print(f"  opening takes {ratio:.2f} times what finding and reading the pieces takes: {verdict} {GOAL} times")
-    return costs["open"] / edits
+    for work, cost in (("open", opened), ("read", read)):
+        print(f"  {work} {cost * 1e3:9.2f} ms, {cost / edits * 1e6:7.3f} us an edit, {size / cost / 1e6:8.1f} MB/s")
+    print(f"  opening takes {opened / read:.2f} times what reading the file to its events takes")
+    if counts_instructions and edits == EDITS[0]:
+        opened_by = collected([PROGRAM, "run", path]) - collected([PROGRAM, "run", empty])
+        read_by = collected([*reading, 2]) - collected([*reading, 1])
+        print(f"  in instructions an edit: {opened_by / edits:.0f} to open, {read_by / edits:.0f} to read:", end=" ")
+        print(f"{opened_by / read_by:.2f} times")
+    return opened / edits
 
 
 def openings(folder, counts_instructions):
@@ -101,18 +131,27 @@ def openings(folder, counts_instructions):
     print(f"an edit of the longer journal takes {costs[1] / costs[0]:.2f} times one of the shorter one")
 
 
-def applied(counts_instructions):
-    """Prints what an edit costs in stores of several sizes."""
+def applied(folder, counts_instructions):
+    """Prints what an edit costs in stores of several sizes: of the last configuration, in a session."""
+    path = os.path.join(folder, "edited")
+    files = {count: os.path.join(folder, f"edits-{count}") for count in (1, APPLIED, COUNTED)}
     for count in CONFIGURATIONS:
-        cost = seconds("apply", count, more=APPLIED)
+        for edits, commands in files.items():
+            write_edits(commands, f"c{count}", edits)
+
+        def anew(count=count):
+            write_store(path, count)
+
+        words = [PROGRAM, "run", path]
+        cost = (least(words, files[APPLIED], anew) - least(words, files[1], anew)) / (APPLIED - 1)
         shown = f"an edit of a store of {count:6,} configurations: {cost * 1e6:7.3f} us"
         if counts_instructions:
-            shown += f", {instructions('apply', count, more=1_000):8.0f} instructions"
+            numbers = []
+            for edits in (COUNTED, 1):
+                anew()
+                numbers.append(collected(words, files[edits]))
+            shown += f", {(numbers[0] - numbers[1]) / (COUNTED - 1):8.0f} instructions"
         print(shown)
-
-
-def value(number):
-    return f"v{number:099}"
 
 
 class Sqlite:
@@ -197,12 +236,13 @@ def peers(folder):
 
 
 def main():
-    if not os.access(PROGRAM, os.X_OK):
-        sys.exit("the program is not built: `rt run -- store apply 1 1`, in crates/bench_driver, builds it")
+    for program in (PROGRAM, DRIVER):
+        if not os.access(program, os.X_OK):
+            sys.exit(f"{program} is not built")
     counts_instructions = "-i" in sys.argv[1:] and shutil.which("valgrind") is not None
     with tempfile.TemporaryDirectory(dir=MEMORY if os.path.isdir(MEMORY) else None) as folder:
         openings(folder, counts_instructions)
-        applied(counts_instructions)
+        applied(folder, counts_instructions)
         peers(folder)
     return 0
 

@@ -9,7 +9,7 @@ trap 'rm -f "$log"' EXIT
 
 SCRIPTS=(
     names.py edits.py program.py cases.py fail_calls.py refuse_allocations.sh refuse_tree_allocations.sh
-    refuse_step_allocations.sh refuse_store_allocations.py refuse_session_allocations.py
+    refuse_state_allocations.py refuse_store_allocations.py refuse_session_allocations.py
 )
 
 rt ci 2>&1 | tee "$log"

@@ -4,11 +4,11 @@
 # Allocations for the words of the order and for the file come before the reading: without one of them the program ends
 # with status 1 and no output. It needs the built program and a C compiler:
 #
-#   (cd crates/bench_driver && rt run -- store apply 1 1) && checks/refuse_tree_allocations.sh
+#   (cd crates/bench_driver && rt run -- edits tree wide 1 1) && checks/refuse_tree_allocations.sh
 set -u
 top=$(cd "$(dirname "${BASH_SOURCE[0]}")/.." && pwd)
 program=$top/crates/bench_driver/out/bench_driver
-[ -x "$program" ] || { echo "the program is not built: run 'rt run -- store apply 1 1' in crates/bench_driver" >&2; exit 1; }
+[ -x "$program" ] || { echo "the program is not built: run 'rt run -- edits tree wide 1 1' in crates/bench_driver" >&2; exit 1; }
 work=$(mktemp -d) || exit 1
 trap 'rm -rf "$work"' EXIT
 cc -shared -fPIC -O1 -o "$work/refuse.so" "$top/checks/refuse.c" -ldl || exit 1

@@ -1,6 +1,5 @@
 // Why a run of the program ends early.
 use bench_edits::EditFault;
-use bench_stores::StoresFault;
 use std::io;
 
 /// Why a run of the program ends early.
@@ -14,12 +13,6 @@ pub(crate) enum Failed {
 
 impl From<EditFault> for Failed {
     fn from(_: EditFault) -> Failed {
-        Failed::Run
-    }
-}
-
-impl From<StoresFault> for Failed {
-    fn from(_: StoresFault) -> Failed {
         Failed::Run
     }
 }

@@ -1,4 +1,4 @@
-//! Works on texts, trees and stores, for the scripts of `bench/`, which measure its speed, and for
+//! Works on texts and trees, for the scripts of `bench/`, which measure its speed, and for
 //! `checks/refuse_tree_allocations.sh`, which refuses it memory. Its words are orders, performed one after another,
 //! with `then` between them:
 //!
@@ -9,11 +9,6 @@
 //!   asked, and prints the tree's length. The words are what is edited (`tree`, or `state`: a configuration of a
 //!   store, by commands), the tree's shape (`wide`, one mapping, or `deep`, mappings in mappings), its size (pairs,
 //!   or how deep it is) and how often a pair is set at the end and deleted again.
-//! - `store fill FOLDER EDITS` opens a store in a folder and sets one value of 100 bytes that many times. `store open
-//!   FOLDER ROUNDS` opens the store of a folder that many times in one process, `store read FOLDER ROUNDS` looks for
-//!   the closing lines of its file and reads each piece to a tree, and `store close FOLDER ROUNDS` looks for the
-//!   closing lines alone. `store apply CONFIGURATIONS EDITS` makes a store with that many configurations of 1,000
-//!   bytes over a disk in memory, and sets a value in the last of them. Each prints a number.
 //!
 //! It ends with 0, with 1 where something failed or was refused, and with 2 at an order of wrong words.
 #![tactic(auto)]
@@ -21,7 +16,6 @@
 mod edits;
 mod failed;
 mod read;
-mod store;
 
 use failed::Failed;
 use std::env;
@@ -58,7 +52,6 @@ fn perform(rt: &HostRuntime, words: &[String]) -> Result<(), Failed> {
     match part.as_str() {
         "read" => read::perform(rt, words),
         "edits" => edits::perform(rt, words),
-        "store" => store::perform(rt, words),
         _ => Err(Failed::Words),
     }
 }

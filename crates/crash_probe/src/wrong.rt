@@ -5,7 +5,7 @@ use conf_store::OpenFault;
 use std::alloc::AllocError;
 
 /// What is not as it has to be, where an order looks at many stores.
-#[derive(Debug, Drop)]
+#[derive(Clone, Copy, Debug)]
 pub(crate) enum Wrong {
     /// A folder does not open.
     Open(OpenFault),

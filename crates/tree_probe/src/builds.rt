@@ -42,17 +42,24 @@ fn pairs_of(alloc: Global, words: &str) -> Result<Vec<(Text, Tree)>, AllocError>
     let mut pairs = Vec::new(alloc);
     let words: Vec<&str> = words.split(';').collect(alloc)?;
     for pair in words.chunks(2) {
-        if let [key, value] = pair {
-            pairs.push(pair_of(alloc, key, value)?)?;
-        }
+        push_pair(alloc, &mut pairs, pair)?;
     }
     Ok(pairs)
 }
 
-/// A key with a text.
-fn pair_of(alloc: Global, key: &str, value: &str) -> Result<(Text, Tree), AllocError> {
+/// Appends a key with a text, if these are two words.
+fn push_pair(
+    alloc: Global,
+    pairs: &mut Vec<(Text, Tree)>,
+    words: &[&str],
+) -> Result<(), AllocError> {
+    let [key, value] = words else {
+        return Ok(());
+    };
     let key = Text::new(alloc, key)?;
-    Ok((key, Tree::Text(Text::new(alloc, value)?)))
+    let value = Text::new(alloc, value)?;
+    pairs.push((key, Tree::Text(value)))?;
+    Ok(())
 }
 
 /// A sequence of one element.

@@ -144,7 +144,17 @@ fn copies_of(alloc: Global, value: &str) -> Result<String, AllocError> {
     let copy = text.try_copy(alloc)?;
     let told = format!(in alloc; "{} {:?} {:?}", text.len(), text.as_str(), copy.as_str())?;
     let string = text.into_string(alloc)?;
+    string_told(alloc, &told, string, &copy)
+}
+
+/// What was told, the string that the text became, and what a text of that string and the copy are.
+fn string_told(
+    alloc: Global,
+    told: &str,
+    string: String,
+    copy: &Text,
+) -> Result<String, AllocError> {
     let told = format!(in alloc; "{told} {string:?}")?;
-    let again = Text::from_string(string);
-    format!(in alloc; "{told} {:?} {:?} {again:?}", again.as_str(), copy.as_str())
+    let text = Text::from_string(string);
+    format!(in alloc; "{told} {:?} {:?} {text:?}", text.as_str(), copy.as_str())
 }

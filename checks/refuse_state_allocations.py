@@ -1,0 +1,129 @@
+#!/usr/bin/env python3
+"""Refuses each allocation of commands on a state in turn, and looks at what each command returned and what the state
+then held.
+
+The run is a list of orders to `state_probe`. For each command the state before it is taken from a base, and the command
+is performed twice, with a look at the state after each. A library under the program (refuse.c) refuses one allocation.
+A command that is refused memory has to leave the state as it was, and has to succeed when it is performed again. If the
+program itself runs out of memory, for an order, a record or an answer, it ends with the status 1.
+
+Run it from the repository's root after the program is built. It takes a second, and needs a C compiler:
+
+    (cd crates/state_probe && rt run < stdin > /dev/null) && python3 checks/refuse_state_allocations.py
+
+The status is 0 if all is as it should be.
+"""
+
+import itertools
+import os
+import subprocess
+import sys
+import tempfile
+from collections import Counter
+
+from store_runs import TOP, Failures, compiled
+
+PROGRAM = os.path.join(TOP, "crates", "state_probe", "out", "state_probe")
+OUT_OF_MEMORY = "OutOfMemory"
+# A state: its count, and the configurations as a base has them and as they are in the one style.
+TWO = ("{a/b: [x, z]}", r"a/b:\n  - x\n  - z\n")
+THREE = ("{a/b: [x, z], e: w}", r"a/b:\n  - x\n  - z\ne: w\n")
+DEEP = ("[[{a/b: [x]}]]", r"- - a/b:\n      - x\n")
+STATES = [
+    (0, {}),
+    (1, {"c": ("{a/b: [x]}", r"a/b:\n  - x\n")}),
+    (2, {"c": TWO}),
+    (3, {"c": TWO, "d": ("[[x]]", r"- - x\n")}),
+    (4, {"c": TWO, "d": DEEP}),
+    (5, {"c": THREE, "d": DEEP}),
+    (6, {"c": ("{a/b: [z], e: w}", r"a/b:\n  - z\ne: w\n"), "d": DEEP}),
+    (7, {"d": DEEP}),
+]
+# The commands, each with the number of the state before it, of the one after it, and what it is answered.
+COMMANDS = [
+    ("{at: 1, import: c, tree: {a/b: [x]}}", 0, 1, "1"),
+    ("{at: 2, set: c, path: '/a~1b/-', value: z}", 1, 2, "2"),
+    ("{at: 3, set: c, path: '/a~1b/2', value: y}", 2, 2, "Path(NoSuchPlace { step: 2 })"),
+    ("{at: 3, import: d, tree: [[x]]}", 2, 3, "3"),
+    ("{at: 4, set: d, path: '/0/0', value: {a/b: [x]}}", 3, 4, "4"),
+    ("{at: 5, set: c, path: '/e', value: w}", 4, 5, "5"),
+    ("{at: 6, delete: c, path: '/a~1b/0'}", 5, 6, "6"),
+    ("{at: 7, delete: c, path: ''}", 6, 7, "7"),
+]
+
+
+def opening(number):
+    """The order that takes a state from its base."""
+    count, configs = STATES[number]
+    shown = ", ".join(f"{name}: {flow}" for name, (flow, _) in configs.items())
+    return f"open;{{store: confstore-1, at: {count}, configs: {{{shown}}}}}"
+
+
+def shown(number):
+    """The answer to a look at a state."""
+    count, configs = STATES[number]
+    return " ".join([str(count), *(f'{name} "{text}"' for name, (_, text) in configs.items())])
+
+
+def orders_of(command):
+    """The orders that perform a command twice, with a look at the state after each."""
+    text, before, _, _ = command
+    return [opening(before), f"perform;{text}", "show", f"perform;{text}", "show"]
+
+
+ORDERS = [order for command in COMMANDS for order in orders_of(command)]
+
+
+def is_right(command, answers):
+    """Whether the answers to a command's orders, as many as came before the program ended, are right."""
+    _, before, after, answer = command
+    wanted = [str(STATES[before][0]), answer, shown(after)]
+    if answers[1:2] == [OUT_OF_MEMORY]:
+        wanted = [wanted[0], OUT_OF_MEMORY, shown(before), *wanted[1:]]
+    return answers[: len(wanted)] == wanted[: len(answers)]
+
+
+def run(folder, number):
+    """The run with one allocation refused: whether it came to that, the status, and the answers."""
+    refused_file = os.path.join(folder, "refused")
+    names = {"LD_PRELOAD": os.path.join(folder, "refuse.so"), "REFUSE_ALLOCATION": str(number), "REFUSED_FILE": refused_file}
+    orders = "".join(f"{order}\n" for order in ORDERS).encode()
+    done = subprocess.run([PROGRAM], input=orders, capture_output=True, check=False, env={**os.environ, **names})
+    was_refused = os.path.exists(refused_file)
+    if was_refused:
+        os.remove(refused_file)
+    return was_refused, done.returncode, done.stdout.decode().splitlines()
+
+
+def outcome(status, answers, name, failures):
+    """How a run went. The answers to each command have to be right."""
+    for number, command in enumerate(COMMANDS):
+        own = answers[5 * number : 5 * number + 5]
+        failures.expect(f"{name}, {command[0]}: {own}", is_right(command, own), True)
+    if status == 1:
+        return "ended by the program"
+    failures.expect(f"{name}: status and answers", (status, len(answers)), (0, len(ORDERS)))
+    return "answered by out of memory" if OUT_OF_MEMORY in answers else "done without"
+
+
+def main():
+    if not os.access(PROGRAM, os.X_OK):
+        sys.exit("the program is not built: run `rt run < stdin` in crates/state_probe first")
+    failures = Failures()
+    outcomes = Counter()
+    with tempfile.TemporaryDirectory() as folder:
+        compiled("refuse.c", folder)
+        for number in itertools.count(1):
+            was_refused, status, answers = run(folder, number)
+            ended = outcome(status, answers, f"allocation {number}", failures)
+            if not was_refused:
+                failures.expect("no allocation refused", ended, "done without")
+                break
+            outcomes[ended] += 1
+    failures.expect("a command was refused memory", outcomes["answered by out of memory"] > 0, True)
+    print(f"{number - 1} allocations refused in turn: " + ", ".join(f"{count} {ended}" for ended, count in outcomes.items()))
+    return failures.report()
+
+
+if __name__ == "__main__":
+    sys.exit(main())
