@@ -1,6 +1,11 @@
-// Edits of trees.
+// Edits at the end of a path, made many times.
+mod order;
+mod rounds;
+mod trees;
+
 use crate::failed::Failed;
-use bench_edits::{Order, length_in_style, run};
+use order::Order;
+use rounds::{length_in_style, run};
 
 /// Makes the edits that the words of an order say, and prints how many they are and how long the tree is in the one
 /// style.

@@ -1,6 +1,9 @@
 // Why a run of the program ends early.
-use bench_edits::EditFault;
+use conf_record::StoreFault;
+use std::alloc::AllocError;
 use std::io;
+use tree_path::PathFault;
+use yaml_tree::ReadFault;
 
 /// Why a run of the program ends early.
 #[derive(Clone, Copy)]
@@ -11,8 +14,26 @@ pub(crate) enum Failed {
     Run,
 }
 
-impl From<EditFault> for Failed {
-    fn from(_: EditFault) -> Failed {
+impl From<StoreFault> for Failed {
+    fn from(_: StoreFault) -> Failed {
+        Failed::Run
+    }
+}
+
+impl From<ReadFault> for Failed {
+    fn from(_: ReadFault) -> Failed {
+        Failed::Run
+    }
+}
+
+impl From<PathFault> for Failed {
+    fn from(_: PathFault) -> Failed {
+        Failed::Run
+    }
+}
+
+impl From<AllocError> for Failed {
+    fn from(_: AllocError) -> Failed {
         Failed::Run
     }
 }

@@ -1,6 +1,6 @@
 // The edits themselves: of a tree, and of a configuration by commands.
-use crate::EditFault;
-use crate::order::{Order, Target};
+use crate::edits::order::{Order, Target};
+use crate::failed::Failed;
 use conf_record::{Command, State, step};
 use std::alloc::{AllocError, Global};
 use tree_path::{Path, delete, set};
@@ -10,22 +10,18 @@ use yaml_tree::{Config, Text, Tree, style_len};
 const DEEPEST: u8 = 66;
 
 /// How many bytes the tree of an order has in the one style, before its edits.
-///
-/// # Errors
-/// If the tree is deeper than 66 or has more than 2^64 - 1 bytes, or memory runs out.
-pub fn length_in_style(alloc: Global, order: &Order) -> Result<u64, EditFault> {
+/// It fails if the tree is deeper than 66 or longer than 2^64 - 1 bytes, or memory runs out.
+pub(crate) fn length_in_style(alloc: Global, order: &Order) -> Result<u64, Failed> {
     let tree = order.shape.tree(alloc)?;
     if tree.is_deeper_than(DEEPEST) {
-        return Err(EditFault);
+        return Err(Failed::Run);
     }
-    style_len(&tree, u64::MAX).ok_or(EditFault)
+    style_len(&tree, u64::MAX).ok_or(Failed::Run)
 }
 
 /// Makes the edits of an order.
-///
-/// # Errors
-/// If an edit is refused, the tree of a state is too deep or too long for a configuration, or memory runs out.
-pub fn run(alloc: Global, order: &Order) -> Result<(), EditFault> {
+/// It fails if an edit is refused, the tree of a state is too deep or too long for a configuration, or memory runs out.
+pub(crate) fn run(alloc: Global, order: &Order) -> Result<(), Failed> {
     let tree = order.shape.tree(alloc)?;
     let pointer = order.shape.end(alloc)?;
     match order.target {
@@ -34,7 +30,7 @@ pub fn run(alloc: Global, order: &Order) -> Result<(), EditFault> {
     }
 }
 
-fn edit_tree(alloc: Global, mut tree: Tree, pointer: &str, rounds: u32) -> Result<(), EditFault> {
+fn edit_tree(alloc: Global, mut tree: Tree, pointer: &str, rounds: u32) -> Result<(), Failed> {
     let path = Path::parse(alloc, pointer)?;
     for _ in 0..rounds {
         set_and_delete(alloc, &mut tree, &path)?;
@@ -42,7 +38,7 @@ fn edit_tree(alloc: Global, mut tree: Tree, pointer: &str, rounds: u32) -> Resul
     Ok(())
 }
 
-fn set_and_delete(alloc: Global, tree: &mut Tree, path: &Path) -> Result<(), EditFault> {
+fn set_and_delete(alloc: Global, tree: &mut Tree, path: &Path) -> Result<(), Failed> {
     let value = Tree::Text(Text::new(alloc, "set")?);
     set(alloc, tree, path, value).map_err(|(_, fault)| fault)?;
     // The pointer to the end has steps; `delete` requires one.
@@ -52,7 +48,7 @@ fn set_and_delete(alloc: Global, tree: &mut Tree, path: &Path) -> Result<(), Edi
     Ok(())
 }
 
-fn edit_state(alloc: Global, tree: Tree, pointer: &str, rounds: u32) -> Result<(), EditFault> {
+fn edit_state(alloc: Global, tree: Tree, pointer: &str, rounds: u32) -> Result<(), Failed> {
     let mut state = State::new(alloc);
     let import = import_of(alloc, tree)?;
     step(alloc, &mut state, import, true)?;
@@ -66,7 +62,7 @@ fn set_and_delete_by_commands(
     alloc: Global,
     state: &mut State,
     pointer: &str,
-) -> Result<(), EditFault> {
+) -> Result<(), Failed> {
     let set = set_at(alloc, pointer)?;
     step(alloc, state, set, true)?;
     let delete = delete_at(alloc, pointer)?;
@@ -74,13 +70,13 @@ fn set_and_delete_by_commands(
     Ok(())
 }
 
-fn import_of(alloc: Global, tree: Tree) -> Result<Command, EditFault> {
+fn import_of(alloc: Global, tree: Tree) -> Result<Command, Failed> {
     let tree = config(alloc, tree)?;
     let name = String::from_str(alloc, "c")?;
     Ok(Command::Import { name, tree })
 }
 
-fn set_at(alloc: Global, pointer: &str) -> Result<Command, EditFault> {
+fn set_at(alloc: Global, pointer: &str) -> Result<Command, Failed> {
     let value = config(alloc, Tree::Text(Text::new(alloc, "set")?))?;
     let name = String::from_str(alloc, "c")?;
     let path = String::from_str(alloc, pointer)?;
@@ -93,6 +89,6 @@ fn delete_at(alloc: Global, pointer: &str) -> Result<Command, AllocError> {
     Ok(Command::Delete { name, path })
 }
 
-fn config(alloc: Global, tree: Tree) -> Result<Config, EditFault> {
-    Config::new(alloc, tree).map_err(|_| EditFault)
+fn config(alloc: Global, tree: Tree) -> Result<Config, Failed> {
+    Config::new(alloc, tree).map_err(|_| Failed::Run)
 }

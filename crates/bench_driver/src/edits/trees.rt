@@ -1,5 +1,5 @@
 // The trees that are edited, and the pointers to their ends.
-use crate::order::Shape;
+use crate::edits::order::Shape;
 use std::alloc::{AllocError, Global};
 use yaml_tree::{Text, Tree};
 

@@ -20,7 +20,7 @@ pub(crate) enum Shape {
 
 /// What is asked: `rounds` times a pair is set at the end of the tree and deleted again.
 #[derive(Clone, Copy)]
-pub struct Order {
+pub(crate) struct Order {
     pub(crate) target: Target,
     pub(crate) shape: Shape,
     pub(crate) rounds: u32,
@@ -29,7 +29,7 @@ pub struct Order {
 impl Order {
     /// What the words say: `tree` or `state`, `wide` or `deep`, a size and a number of rounds. Other words are no
     /// order.
-    pub fn of(words: &[String]) -> Option<Order> {
+    pub(crate) fn of(words: &[String]) -> Option<Order> {
         let [target, shape, size, rounds] = words else {
             return None;
         };
@@ -53,7 +53,7 @@ impl Order {
     }
 
     /// How many edits that is.
-    pub fn edits(&self) -> u64 {
+    pub(crate) fn edits(&self) -> u64 {
         2 * u64::from(self.rounds)
     }
 }
