@@ -20,16 +20,16 @@ use thiserror::Error;
 #[derive(Clone, Copy, Debug, PartialEq, Eq, Error)]
 pub enum StoreToolFault {
     /// The folder can't be used. Nothing was read or written.
-    #[error("{0}")]
+    #[error(transparent)]
     Folder(FolderFault),
     /// The store can't be opened. Nothing was read or written.
-    #[error("{0}")]
+    #[error(transparent)]
     Open(OpenFault),
     /// The session ended before the end of its input.
-    #[error("{0}")]
+    #[error(transparent)]
     Session(SessionFault),
     /// The configuration can't be exported. Nothing was written.
-    #[error("{0}")]
+    #[error(transparent)]
     Export(StoreFault),
     /// The writer failed. Some of the text may have been written.
     #[error("Output")]
