@@ -14,14 +14,10 @@ Run it from the repository's root after the program is built. It takes a second,
 The status is 0 if all is as it should be.
 """
 
-import itertools
 import os
-import subprocess
 import sys
-import tempfile
-from collections import Counter
 
-from store_runs import TOP, Failures, compiled
+from store_runs import TOP, Failures, refuse_each
 
 PROGRAM = os.path.join(TOP, "crates", "state_probe", "out", "state_probe")
 OUT_OF_MEMORY = "OutOfMemory"
@@ -83,18 +79,6 @@ def is_right(command, answers):
     return answers[: len(wanted)] == wanted[: len(answers)]
 
 
-def run(folder, number):
-    """The run with one allocation refused: whether it came to that, the status, and the answers."""
-    refused_file = os.path.join(folder, "refused")
-    names = {"LD_PRELOAD": os.path.join(folder, "refuse.so"), "REFUSE_ALLOCATION": str(number), "REFUSED_FILE": refused_file}
-    orders = "".join(f"{order}\n" for order in ORDERS).encode()
-    done = subprocess.run([PROGRAM], input=orders, capture_output=True, check=False, env={**os.environ, **names})
-    was_refused = os.path.exists(refused_file)
-    if was_refused:
-        os.remove(refused_file)
-    return was_refused, done.returncode, done.stdout.decode().splitlines()
-
-
 def outcome(status, answers, name, failures):
     """How a run went. The answers to each command have to be right."""
     for number, command in enumerate(COMMANDS):
@@ -107,21 +91,8 @@ def outcome(status, answers, name, failures):
 
 
 def main():
-    if not os.access(PROGRAM, os.X_OK):
-        sys.exit("the program is not built: run `rt run < stdin` in crates/state_probe first")
     failures = Failures()
-    outcomes = Counter()
-    with tempfile.TemporaryDirectory() as folder:
-        compiled("refuse.c", folder)
-        for number in itertools.count(1):
-            was_refused, status, answers = run(folder, number)
-            ended = outcome(status, answers, f"allocation {number}", failures)
-            if not was_refused:
-                failures.expect("no allocation refused", ended, "done without")
-                break
-            outcomes[ended] += 1
-    failures.expect("a command was refused memory", outcomes["answered by out of memory"] > 0, True)
-    print(f"{number - 1} allocations refused in turn: " + ", ".join(f"{count} {ended}" for ended, count in outcomes.items()))
+    refuse_each(PROGRAM, ORDERS, outcome, failures)
     return failures.report()
 
 

@@ -15,14 +15,10 @@ Run it from the repository's root after the program is built. It takes some seco
 The status is 0 if all is as it should be.
 """
 
-import itertools
 import os
-import subprocess
 import sys
-import tempfile
-from collections import Counter
 
-from store_runs import TOP, Failures, compiled
+from store_runs import TOP, Failures, refuse_each
 
 PROGRAM = os.path.join(TOP, "crates", "store_probe", "out", "store_probe")
 LOOK = ["count", "get;a;"]
@@ -96,18 +92,6 @@ def performed(call, state):
     return str(count + 1), (count + 1, CALLS[call])
 
 
-def run(folder, number):
-    """The run with one allocation refused: whether it came to that, the status, and the answers."""
-    refused_file = os.path.join(folder, "refused")
-    names = {"LD_PRELOAD": os.path.join(folder, "refuse.so"), "REFUSE_ALLOCATION": str(number), "REFUSED_FILE": refused_file}
-    orders = "".join(f"{order}\n" for order in ORDERS).encode()
-    done = subprocess.run([PROGRAM], input=orders, capture_output=True, check=False, env={**os.environ, **names})
-    was_refused = os.path.exists(refused_file)
-    if was_refused:
-        os.remove(refused_file)
-    return was_refused, done.returncode, done.stdout.decode().splitlines()
-
-
 def outcome(status, answers, name, failures):
     """How a run went. Each of its answers has to be right; after a wrong one the others are not looked at."""
     store = Store()
@@ -125,20 +109,8 @@ def outcome(status, answers, name, failures):
 
 
 def main():
-    if not os.access(PROGRAM, os.X_OK):
-        sys.exit("the program is not built: run `rt run < stdin` in crates/store_probe first")
     failures = Failures()
-    outcomes = Counter()
-    with tempfile.TemporaryDirectory() as folder:
-        compiled("refuse.c", folder)
-        for number in itertools.count(1):
-            was_refused, status, answers = run(folder, number)
-            ended = outcome(status, answers, f"allocation {number}", failures)
-            if not was_refused:
-                failures.expect("no allocation refused", ended, "done without")
-                break
-            outcomes[ended] += 1
-    print(f"{number - 1} allocations refused in turn: " + ", ".join(f"{count} {ended}" for ended, count in outcomes.items()))
+    refuse_each(PROGRAM, ORDERS, outcome, failures)
     return failures.report()
 
 

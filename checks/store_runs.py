@@ -1,8 +1,12 @@
-"""What the scripts on stores share: the built program, a worked session, and a list of what went wrong."""
+"""What the scripts on stores share: the built program, a worked session, runs without an allocation, and a list of what
+went wrong."""
 
+import itertools
 import os
 import subprocess
 import sys
+import tempfile
+from collections import Counter
 
 TOP = os.path.dirname(os.path.dirname(os.path.abspath(__file__)))
 PROGRAM = os.path.join(TOP, "crates", "confstore", "out", "confstore")
@@ -62,6 +66,37 @@ def compiled(source, folder):
     path = os.path.join(TOP, "checks", source)
     subprocess.run(["cc", "-shared", "-fPIC", "-O1", "-o", library, path, "-ldl"], check=True)
     return library
+
+
+def run_without(program, orders, number, folder):
+    """A run of a probe without the allocation of this number: whether it came to that, the status, and the answers."""
+    refused_file = os.path.join(folder, "refused")
+    names = {"LD_PRELOAD": os.path.join(folder, "refuse.so"), "REFUSE_ALLOCATION": str(number), "REFUSED_FILE": refused_file}
+    lines = "".join(f"{order}\n" for order in orders).encode()
+    done = subprocess.run([program], input=lines, capture_output=True, check=False, env={**os.environ, **names})
+    was_refused = os.path.exists(refused_file)
+    if was_refused:
+        os.remove(refused_file)
+    return was_refused, done.returncode, done.stdout.decode().splitlines()
+
+
+def refuse_each(program, orders, outcome, failures):
+    """Refuses each allocation of a probe's run in turn, and prints how many runs went how. `outcome` says how one went,
+    from its status, its answers and its name; without a refused allocation that has to be 'done without'."""
+    if not os.access(program, os.X_OK):
+        sys.exit(f"{program} is not built: run `rt run < stdin` in its crate first")
+    outcomes = Counter()
+    with tempfile.TemporaryDirectory() as folder:
+        compiled("refuse.c", folder)
+        for number in itertools.count(1):
+            was_refused, status, answers = run_without(program, orders, number, folder)
+            ended = outcome(status, answers, f"allocation {number}", failures)
+            if not was_refused:
+                failures.expect("no allocation refused", ended, "done without")
+                break
+            outcomes[ended] += 1
+    failures.expect("a call was refused memory", outcomes["answered by out of memory"] > 0, True)
+    print(f"{number - 1} allocations refused in turn: " + ", ".join(f"{count} {ended}" for ended, count in outcomes.items()))
 
 
 def write_file(path, content):
