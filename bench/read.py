@@ -3,13 +3,16 @@
 
 It makes six corpora of 1 MiB each, and reads them to events and to a tree in a loop inside one process, as the peers
 do, and once by `confstore format` beside what libyaml takes to read and write the same text. It prints MB/s, the ratio
-to the best peer, the greatest memory, and with `-i` instructions a byte as valgrind counts them. `bench/growth.py` says
-how the time a byte grows with the length of a text.
+to the best peer, the greatest memory, how many pages of memory the system hands out in a round, and with `-i`
+instructions a byte as valgrind counts them. `bench/growth.py` says how the time a byte grows with the length of a text.
+
+With malloc's own settings some of the programs give memory back in each round, and the system hands it out anew. On some
+machines that takes as long as the reading. With `-k` malloc keeps it, for the peers as for ours.
 
 A time is the least processor time of several runs, less that of a run with fewer rounds. Run it on a quiet machine from
 the repository's root, after the programs are built:
 
-    ./confstore --version && (cd crates/bench_driver && rt run -- edits tree wide 1 1) && python3 bench/read.py [-i]
+    ./confstore --version && (cd crates/bench_driver && rt run -- edits tree wide 1 1) && python3 bench/read.py [-i] [-k]
 
 A peer that is not installed is left out: `apt-get install libyaml-dev libfyaml-dev valgrind` installs both, and
 valgrind.
@@ -34,6 +37,9 @@ PEERS = {"libyaml": ("-lyaml", "libyaml-dev"), "libfyaml": ("-lfyaml", "libfyaml
 # How long the rounds of one measurement take together, in seconds, and how many runs the least is taken of.
 ENOUGH = 0.1
 RUNS = 3
+# The settings of glibc's malloc with which it keeps its memory.
+KEPT = {"GLIBC_TUNABLES": "glibc.malloc.mmap_max=0:glibc.malloc.trim_threshold=17179869184"}
+SETTINGS = KEPT if "-k" in sys.argv[1:] else {}
 
 
 def usage_and_output(words, source=os.devnull, settings=None):
@@ -50,7 +56,7 @@ def usage_and_output(words, source=os.devnull, settings=None):
 
 def run(words, source=os.devnull):
     """The processor time of a run in seconds, and what it printed."""
-    usage, output = usage_and_output(words, source)
+    usage, output = usage_and_output(words, source, SETTINGS)
     return usage.ru_utime + usage.ru_stime, output
 
 
@@ -75,6 +81,15 @@ def round_seconds(words):
     """The processor time of one round."""
     rounds = rounds_of(words)
     return min(run([*words, str(rounds + 1)])[0] - run([*words, "1"])[0] for _ in range(RUNS)) / rounds
+
+
+def round_pages(words):
+    """How many pages of memory the system hands out in a round."""
+
+    def pages(rounds):
+        return usage_and_output([*words, str(rounds)], settings=SETTINGS)[0].ru_minflt
+
+    return (pages(12) - pages(2)) / 10
 
 
 def round_instructions(words):
@@ -122,7 +137,7 @@ def compare(work, path, peers, counts_instructions):
     for name, program in programs.items():
         words = [*program, work, path]
         speeds[name] = megabytes(length, round_seconds(words))
-        part = f"{name} {speeds[name]:6.1f} MB/s {greatest_memory([*words, '1']) / MIB:5.1f} MiB"
+        part = f"{name} {speeds[name]:6.1f} MB/s {greatest_memory([*words, '1']) / MIB:5.1f} MiB {round_pages(words):5.0f} pages"
         if counts_instructions:
             part += f" {round_instructions(words) / length:6.1f} a byte"
         parts.append(part)
