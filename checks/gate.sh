@@ -1,6 +1,6 @@
 #!/usr/bin/env bash
 # The gate: proves every crate, tries the edits that the prover has to refuse and runs the tests and programs (rt ci),
-# and then tries the programs that this built by the scripts below, which take some two minutes. Its last line is
+# and then tries the programs that this built by the scripts below, which take about a minute. Its last line is
 # 'N passed, M failed', of crates, edits and scripts; the status is 0 if M is 0.
 set -u
 cd "$(dirname "${BASH_SOURCE[0]}")/.." || exit 1
