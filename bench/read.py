@@ -9,8 +9,9 @@ instructions a byte as valgrind counts them. `bench/growth.py` says how the time
 With malloc's own settings some of the programs give memory back in each round, and the system hands it out anew. On some
 machines that takes as long as the reading. With `-k` malloc keeps it, for the peers as for ours.
 
-A time is the least processor time of several runs, less that of a run with fewer rounds. Run it on a quiet machine from
-the repository's root, after the programs are built:
+The programs take turns, since the speed of a shared machine changes within seconds. What is printed is the median of the
+processor times of eleven turns, less the least time of a run with one round, and of the ratios of each turn. Run it on
+a quiet machine from the repository's root, after the programs are built:
 
     ./confstore --version && (cd crates/bench_driver && rt run -- edits tree wide 1 1) && python3 bench/read.py [-i] [-k]
 
@@ -25,6 +26,7 @@ import shutil
 import subprocess
 import sys
 import tempfile
+from statistics import median
 
 from corpora import CORPORA
 
@@ -34,9 +36,9 @@ DRIVER = os.path.join(TOP, "crates", "bench_driver", "out", "bench_driver")
 MIB = 1024 * 1024
 # The peers, with what each is linked to and the package that has it.
 PEERS = {"libyaml": ("-lyaml", "libyaml-dev"), "libfyaml": ("-lfyaml", "libfyaml-dev")}
-# How long the rounds of one measurement take together, in seconds, and how many runs the least is taken of.
+# How long the rounds of one measurement take together, in seconds, and how many turns the programs take.
 ENOUGH = 0.1
-RUNS = 3
+TURNS = 11
 # The settings of glibc's malloc with which it keeps its memory.
 KEPT = {"GLIBC_TUNABLES": "glibc.malloc.mmap_max=0:glibc.malloc.trim_threshold=17179869184"}
 SETTINGS = KEPT if "-k" in sys.argv[1:] else {}
@@ -77,10 +79,25 @@ def rounds_of(words):
     return rounds
 
 
-def round_seconds(words):
-    """The processor time of one round."""
-    rounds = rounds_of(words)
-    return min(run([*words, str(rounds + 1)])[0] - run([*words, "1"])[0] for _ in range(RUNS)) / rounds
+def turns_of(calls):
+    """The processor times of each call of `run`, of several turns in which each is made once."""
+    return list(zip(*([run(*call)[0] for call in calls] for _ in range(TURNS))))
+
+
+def round_turns(programs):
+    """The processor times of one round of each program, of several turns."""
+    rounds = [rounds_of(words) for words in programs]
+    starts = [min(seconds) for seconds in turns_of([([*words, "1"],) for words in programs])]
+    longs = turns_of([([*words, str(count + 1)],) for words, count in zip(programs, rounds)])
+    return [
+        [max(second - start, 1e-9) / count for second in seconds]
+        for seconds, start, count in zip(longs, starts, rounds)
+    ]
+
+
+def times_as_fast(own, other):
+    """How many times as fast the first of two programs is, by their times of the same turns."""
+    return median(second / first for first, second in zip(own, other))
 
 
 def round_pages(words):
@@ -133,16 +150,15 @@ def compare(work, path, peers, counts_instructions):
     """Prints how fast a file is read, beside the peers, and returns the ratio to the best of them."""
     length = os.path.getsize(path)
     programs = {"confstore": [DRIVER, "read"], **{name: [program] for name, program in peers.items()}}
-    speeds, parts = {}, []
-    for name, program in programs.items():
-        words = [*program, work, path]
-        speeds[name] = megabytes(length, round_seconds(words))
-        part = f"{name} {speeds[name]:6.1f} MB/s {greatest_memory([*words, '1']) / MIB:5.1f} MiB {round_pages(words):5.0f} pages"
+    programs = {name: [*program, work, path] for name, program in programs.items()}
+    turns = dict(zip(programs, round_turns(list(programs.values()))))
+    parts = []
+    for name, words in programs.items():
+        part = f"{name} {megabytes(length, median(turns[name])):6.1f} MB/s {greatest_memory([*words, '1']) / MIB:5.1f} MiB {round_pages(words):5.0f} pages"
         if counts_instructions:
             part += f" {round_instructions(words) / length:6.1f} a byte"
         parts.append(part)
-    best = max((speeds[name] for name in peers), default=math.nan)
-    ratio = speeds["confstore"] / best
+    ratio = min((times_as_fast(turns["confstore"], turns[name]) for name in peers), default=math.nan)
     print(f"  {work:6} {' | '.join(parts)} | {ratio:4.2f} times the best peer")
     return ratio
 
@@ -161,14 +177,14 @@ def style_limited(folder, make):
 def compare_format(path, peers):
     """Prints how fast `format` is as a program, beside libyaml's reading and writing as one, and returns the ratio."""
     length = os.path.getsize(path)
-    least = min(run([PROGRAM, "format"], path)[0] for _ in range(3 * RUNS))
+    copy = [([peers["libyaml"], "copy", path, "1"],)] if "libyaml" in peers else []
+    own, *others = turns_of([([PROGRAM, "format"], path), *copy])
     memory = greatest_memory([PROGRAM, "format"], path)
-    print(f"  format confstore {megabytes(length, least):6.1f} MB/s, {memory / length:4.1f} times the input in memory", end="")
+    print(f"  format confstore {megabytes(length, median(own)):6.1f} MB/s, {memory / length:4.1f} times the input in memory", end="")
     ratio = math.nan
-    if "libyaml" in peers:
-        peer = min(run([peers["libyaml"], "copy", path, "1"])[0] for _ in range(3 * RUNS))
-        ratio = peer / max(least, 1e-9)
-        print(f" | libyaml {megabytes(length, peer):6.1f} MB/s | {ratio:4.2f} times libyaml", end="")
+    for peer in others:
+        ratio = times_as_fast(own, peer)
+        print(f" | libyaml {megabytes(length, median(peer)):6.1f} MB/s | {ratio:4.2f} times libyaml", end="")
     print()
     return ratio
 
