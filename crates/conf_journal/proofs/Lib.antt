@@ -4,3 +4,4 @@ pub mod Stores
 pub mod Held
 pub mod Appends
 pub mod Joins
+pub mod Fails

@@ -1,9 +1,12 @@
-use Rattle.std.proofs.Common.{[], ◌∷◌, ◌⊎◌, inl, inr, ⊎_elim, subst, sym}
+use Rattle.std.proofs.Common.{◌≡◌, ◌⊎◌, inl, inr, ⊎_elim, ℕ, List, [], ◌∷◌, Some, None, OnOk, sym, subst, rules}
 use Rattle.conf_disk.specs.Folder.{Folder, Sync, RenameNext, SyncFolder, after}
-use Rattle.conf_disk.specs.Image.{Image, IsImage}
+use Rattle.conf_disk.specs.Image.{Image, IsImage, synced_file}
 use Rattle.conf_disk.specs.declared.disk.Name.TheVariants.{Next}
 use Rattle.conf_disk.proofs.Moments.{LeavesOnly-weaker}
-use Rattle.conf_journal.specs.Store.{IsSynced}
+use Rattle.conf_journal.specs.Held.{HoldsStore}
+use Rattle.conf_journal.specs.Store.{IsSynced, ReadsAs}
+use Rattle.conf_journal.proofs.Fails.{fails-call, fails-passed, fails-then}
+use Rattle.conf_journal.proofs.Reading.{sync-reads_same}
 use Rattle.conf_journal.proofs.Runs.{LeftDuring, left-grown, run-call, run-known, run-then}
 use Rattle.conf_journal.proofs.Stores.{synced-is_synced, finished-leaves}
 use Rattle.conf_journal.proofs.next.finish_next.Goals as goal
@@ -34,3 +37,19 @@ returns-in_err-sync-clause-store g c h =
 pub returns-clause-store : goal.returns-clause-store
 returns-clause-store g c h =
     LeavesOnly-weaker _ _ _ _ _ _ (returns-clause-any_moment g c h) (finished-leaves _ (g.met.D.Disk.whole c.args.disk.now h) (c.requires h))
+
+pub returns-in_err-sync-clause-fails : goal.returns-in_err-sync-clause-fails
+returns-in_err-sync-clause-fails g c = fails-passed (fails-call c.in_err-sync.ensures.goes) (search rules)
+
+pub returns-clause-fails : goal.returns-clause-fails
+returns-clause-fails g c = fails-then (fails-call c.in_ok-sync.ensures.goes) c.swap_next.ensures.fails
+
+pub returns-clause-reads : goal.returns-clause-reads
+returns-clause-reads g c h =
+    subst (λ (image : Image). OnOk c.swap_next.result (ReadsAs (g.D.Disk.folder c.swap_next.new.disk) image.next None))
+    (sync-reads_same Next _ _ c.sync.result (c.sync.ensures.goes.change h)) (c.swap_next.ensures.reads h)
+
+pub returns-clause-holds : goal.returns-clause-holds
+returns-clause-holds g c h =
+    subst (λ (image : Image). OnOk c.swap_next.result ((bytes : List ℕ) → image.next ≡ Some bytes → HoldsStore (g.D.Disk.folder c.swap_next.new.disk) (Some (synced_file bytes))))
+    (sync-reads_same Next _ _ c.sync.result (c.sync.ensures.goes.change h)) (c.swap_next.ensures.holds h)

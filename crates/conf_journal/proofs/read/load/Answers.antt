@@ -1,5 +1,7 @@
-use Rattle.std.proofs.Common.{[], ◌∙◌}
+use Rattle.std.proofs.Common.{[], ◌∙◌, ap, rules}
+use Rattle.conf_disk.specs.Image.{image_now}
 use Rattle.conf_disk.specs.declared.disk.Name.TheVariants.{Store}
+use Rattle.conf_journal.proofs.Fails.{counts-passed, counts-then}
 use Rattle.conf_journal.proofs.Reading.{sync-reads_same, sync_folder-reads_same}
 use Rattle.conf_journal.proofs.Runs.{run-call, run-read, run-then, run-grown}
 use Rattle.conf_journal.proofs.read.load.Goals as goal
@@ -26,3 +28,26 @@ pub returns-in_err-sync-clause-reads : goal.returns-in_err-sync-clause-reads
 returns-in_err-sync-clause-reads g c h =
     sync-reads_same Store _ _ c.sync.result (c.sync.ensures.goes.change h)
     ∙ sync_folder-reads_same _ _ c.sync_folder.result (c.sync_folder.ensures.goes.change h)
+
+pub returns-in_err-sync_folder-clause-failures : goal.returns-in_err-sync_folder-clause-failures
+returns-in_err-sync_folder-clause-failures g c = counts-passed c.in_err-sync_folder.ensures.goes.failures (search rules)
+
+pub returns-in_err-sync-clause-failures : goal.returns-in_err-sync-clause-failures
+returns-in_err-sync-clause-failures g c = counts-then c.in_ok-sync_folder.ensures.goes.failures (counts-passed c.in_err-sync.ensures.goes.failures (search rules))
+
+pub returns-clause-failures : goal.returns-clause-failures
+returns-clause-failures g c = counts-then c.in_ok-sync_folder.ensures.goes.failures (counts-then c.in_ok-sync.ensures.goes.failures c.read.ensures.failures)
+
+pub returns-clause-reads : goal.returns-clause-reads
+returns-clause-reads g c h =
+    ap image_now (c.read.ensures.same h)
+    ∙ sync-reads_same Store _ _ c.sync.result (c.sync.ensures.goes.change h)
+    ∙ sync_folder-reads_same _ _ c.sync_folder.result (c.sync_folder.ensures.goes.change h)
+
+pub returns-in_err-sync-clause-spent : goal.returns-in_err-sync-clause-spent
+returns-in_err-sync-clause-spent g c h at =
+    c.sync.ensures.goes.spent h (c.in_ok-sync_folder.ensures.goes.failures.steady ∙ at) ∙ c.sync_folder.ensures.goes.spent h at
+
+pub returns-clause-spent : goal.returns-clause-spent
+returns-clause-spent g c h at =
+    c.read.ensures.same h ∙ c.sync.ensures.goes.spent h (c.in_ok-sync_folder.ensures.goes.failures.steady ∙ at) ∙ c.sync_folder.ensures.goes.spent h at
