@@ -27,13 +27,13 @@ loop-preserved g c =
     let first = g.R.Read.remaining c.args.reader.now in
     let left = g.R.Read.remaining c.read.new.self in
     elim c.match-read.branch [
-      in-Ok+in_ok-extend_from_slice-in-Ok w ↦
-        let read = take-append-le w.in-Ok.count c.read.new.buf _ w.in-Ok.ensures.bound.0 in
-        let joined = ap (λ b. b.items) w.bytes-is ∙ w.in_ok-extend_from_slice-in-Ok.ensures.items ∙ ap (λ xs. c.loop.bytes.items ++ xs) read in (
-          subst (λ xs. length xs ≤ c.args.most) (sym joined) (grind (arith, common_steps)),
-          subst (Consumes first left) (sym joined) (Consumes-trans _ _ _ c.loop.bytes.items _ c.loop.invariant.1 w.in-Ok.ensures.bytes.0),
-        )
-    | in-Err w ↦ (
+      | in-Ok+in_ok-extend_from_slice-in-Ok w ↦
+          let read = take-append-le w.in-Ok.count c.read.new.buf _ w.in-Ok.ensures.bound.0 in
+          let joined = ap (λ b. b.items) w.bytes-is ∙ w.in_ok-extend_from_slice-in-Ok.ensures.items ∙ ap (λ xs. c.loop.bytes.items ++ xs) read in (
+            subst (λ xs. length xs ≤ c.args.most) (sym joined) (grind (arith, common_steps)),
+            subst (Consumes first left) (sym joined) (Consumes-trans _ _ _ c.loop.bytes.items _ c.loop.invariant.1 w.in-Ok.ensures.bytes.0),
+          )
+      | in-Err w ↦ (
         subst (λ b. length b.items ≤ c.args.most) (sym w.bytes-is) c.loop.invariant.0,
         subst (λ b. Consumes first left b.items) (sym w.bytes-is) (Consumes-kept _ _ _ c.loop.bytes.items c.loop.invariant.1 w.in-Err.ensures.bytes),
       )
