@@ -3,8 +3,9 @@
 
 In the lists of RULES.md `File.name` is a definition, `crate::name` a function or a test, and `crate::name` in `file.rt`
 a function and its file. `crate/name` is a must-fail edit, and a bare name a law (a public function) or a crate. In the
-tables of claims in README.md each name is looked for in the sources of the crates of its row. It takes a second, and
-the status is 1 if a name is gone.
+tables of claims in README.md each name is looked for in the sources of the crates of its row. A library that a line of
+crates.txt names is looked for in the files of the line's crate. It takes a second, and the status is 1 if a name is
+gone.
 """
 
 import glob
@@ -14,6 +15,8 @@ import sys
 
 TOP = os.path.dirname(os.path.dirname(os.path.abspath(__file__)))
 CODE = re.compile(r"`([^`]+)`")
+# The libraries that no file of a crate names, but whose types its contracts speak of.
+UNNAMED = {"example_edit": {"yaml_data"}}
 
 
 def text_of(pattern):
@@ -93,8 +96,18 @@ def missing_in_readme():
                     yield f"README.md: `{token}` is not in {', '.join(named)}"
 
 
+def unused_libraries():
+    with open(os.path.join(TOP, "crates.txt"), encoding="utf-8") as file:
+        lines = [line.partition("#")[0].partition(":") for line in file]
+    for crate, _, libraries in lines:
+        files = "\n".join(text_of(f"{crate}/{part}") for part in ("src/**/*.rt", "specs/**/*.antt", "proofs/**/*.antt"))
+        for library in set(libraries.split()) - UNNAMED.get(crate, set()):
+            if not has_word(library, files):
+                yield f"crates.txt: {crate} has `{library}`, which no file of it names"
+
+
 def main():
-    missing = [*missing_in_rules(), *missing_in_readme()]
+    missing = [*missing_in_rules(), *missing_in_readme(), *unused_libraries()]
     for line in missing:
         print(line)
     print(f"{len(missing)} names are gone" if missing else "every name is there")
