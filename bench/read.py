@@ -79,16 +79,16 @@ def rounds_of(words):
     return rounds
 
 
-def turns_of(calls):
-    """The processor times of each call of `run`, of several turns in which each is made once."""
-    return list(zip(*([run(*call)[0] for call in calls] for _ in range(TURNS))))
+def turns_of(runs):
+    """The processor times of each run, some words and a file, of several turns in which each is made once."""
+    return list(zip(*([run(words, source)[0] for words, source in runs] for _ in range(TURNS))))
 
 
 def round_turns(programs):
     """The processor times of one round of each program, of several turns."""
     rounds = [rounds_of(words) for words in programs]
-    starts = [min(seconds) for seconds in turns_of([([*words, "1"],) for words in programs])]
-    longs = turns_of([([*words, str(count + 1)],) for words, count in zip(programs, rounds)])
+    starts = [min(seconds) for seconds in turns_of([([*words, "1"], os.devnull) for words in programs])]
+    longs = turns_of([([*words, str(count + 1)], os.devnull) for words, count in zip(programs, rounds)])
     return [
         [max(second - start, 1e-9) / count for second in seconds]
         for seconds, start, count in zip(longs, starts, rounds)
@@ -177,8 +177,8 @@ def style_limited(folder, make):
 def compare_format(path, peers):
     """Prints how fast `format` is as a program, beside libyaml's reading and writing as one, and returns the ratio."""
     length = os.path.getsize(path)
-    copy = [([peers["libyaml"], "copy", path, "1"],)] if "libyaml" in peers else []
-    own, *others = turns_of([([PROGRAM, "format"], path), *copy])
+    copies = [([peers["libyaml"], "copy", path, "1"], os.devnull)] if "libyaml" in peers else []
+    own, *others = turns_of([([PROGRAM, "format"], path), *copies])
     memory = greatest_memory([PROGRAM, "format"], path)
     print(f"  format confstore {megabytes(length, median(own)):6.1f} MB/s, {memory / length:4.1f} times the input in memory", end="")
     ratio = math.nan

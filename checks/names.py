@@ -1,11 +1,11 @@
 #!/usr/bin/env python3
-"""Looks up each name that docs/RULES.md and README.md give, and fails if one is gone.
+"""Looks up each name that docs/RULES.md, README.md and crates.txt give, and fails if one is wrong.
 
 In the lists of RULES.md `File.name` is a definition, `crate::name` a function or a test, and `crate::name` in `file.rt`
 a function and its file. `crate/name` is a must-fail edit, and a bare name a law (a public function) or a crate. In the
 tables of claims in README.md each name is looked for in the sources of the crates of its row. A library that a line of
-crates.txt names is looked for in the files of the line's crate. It takes a second, and the status is 1 if a name is
-gone.
+crates.txt names is looked for in the files of the line's crate. It takes two seconds, and the status is 1 if a name is
+not there.
 """
 
 import glob
@@ -110,7 +110,7 @@ def main():
     missing = [*missing_in_rules(), *missing_in_readme(), *unused_libraries()]
     for line in missing:
         print(line)
-    print(f"{len(missing)} names are gone" if missing else "every name is there")
+    print(f"{len(missing)} names are wrong" if missing else "every name is there")
     return 1 if missing else 0
 
 
