@@ -4,8 +4,9 @@
 A journal of 10,000 and of 100,000 edits of one value of 100 bytes is made by a session, each edit synced. The store is
 opened by a session without commands, beside a loop inside one process that reads the same file to its events: opening
 reads each piece to a tree, takes it as a command and performs it. Then stores of 1 to 10,000 configurations take edits
-in a session: an edit has to cost the same in each. With `-i` instructions, as valgrind counts them, are printed beside
-the times.
+in a session: an edit has to cost little more in a large one. Journals that put configurations and delete them again,
+the oldest first, are opened: a command of a long one has to cost what one of a short one does. With `-i` instructions,
+as valgrind counts them, are printed beside the times.
 
 SQLite (in WAL mode, with its default checkpoints and full syncs) and LMDB take the same edits, each in a
 transaction of its own, and are opened as a crash would leave them. Their times include those of Python's calls.
@@ -42,6 +43,8 @@ EDITS = [10_000, 100_000]
 CONFIGURATIONS = [1, 100, 1_000, 10_000]
 APPLIED = 20_000
 COUNTED = 1_000
+# How many configurations the journals put that delete them again.
+DELETED = [1_000, 10_000, 100_000]
 # How many bytes the texts of a configuration have that is not edited.
 LETTERS = 900
 RUNS = 5
@@ -154,6 +157,27 @@ def applied(folder, counts_instructions):
         print(shown)
 
 
+def write_deletes(path, count):
+    """Writes a journal that puts so many configurations, and deletes all but the last one, the oldest first."""
+    os.makedirs(path)
+    with open(os.path.join(path, "store.yaml"), "w", encoding="utf-8") as target:
+        target.write('---\nstore: confstore-1\nat: "0"\nconfigs: {}\n...\n')
+        for number in range(count):
+            target.write(f'---\nat: "{number + 1}"\nimport: c{number}\ntree: x\n...\n')
+        for number in range(count - 1):
+            target.write(f'---\nat: "{count + number + 1}"\ndelete: c{number}\npath: ""\n...\n')
+
+
+def deleted(folder):
+    """Prints what opening costs where configurations were put and deleted again."""
+    for count in DELETED:
+        path = os.path.join(folder, f"deleted-{count}")
+        write_deletes(path, count)
+        cost = least([PROGRAM, "run", path])
+        print(f"a journal that puts {count:,} configurations and deletes them:", end=" ")
+        print(f"opened in {cost * 1e3:.2f} ms, {cost / (2 * count - 1) * 1e6:.3f} us a command")
+
+
 class Sqlite:
     """A table with one row, in WAL mode."""
 
@@ -243,6 +267,7 @@ def main():
     with tempfile.TemporaryDirectory(dir=MEMORY if os.path.isdir(MEMORY) else None) as folder:
         openings(folder, counts_instructions)
         applied(folder, counts_instructions)
+        deleted(folder)
         peers(folder)
     return 0
 

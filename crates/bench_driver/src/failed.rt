@@ -1,5 +1,5 @@
 // Why a run of the program ends early.
-use conf_record::StoreFault;
+use conf_state::StoreFault;
 use std::alloc::AllocError;
 use std::io;
 use tree_path::PathFault;

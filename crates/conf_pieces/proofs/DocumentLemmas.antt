@@ -16,10 +16,10 @@ use Rattle.yaml_tree.specs.Kept.{own_limits}
 use Rattle.yaml_tree.specs.Reading.{IsRead}
 use Rattle.yaml_writer.proofs.ByteLemmas.{byte_len-chars}
 use Rattle.yaml_laws.specs.Closed.{framed_text_bytes, all_framed_bytes, TornInPieces, TornPieces}
-use Rattle.conf_record.specs.Commands.{Command}
-use Rattle.conf_record.specs.States.{Contents, base_limit}
-use Rattle.conf_record.specs.Limits.{IsState}
-use Rattle.conf_record.specs.BaseTexts.{base_tree, base_text, base_bytes, base_length}
+use Rattle.conf_state.specs.Commands.{Command}
+use Rattle.conf_state.specs.States.{Contents, base_limit}
+use Rattle.conf_state.specs.Limits.{IsState}
+use Rattle.conf_state.specs.BaseTexts.{base_tree, base_text, base_bytes, base_length}
 use Rattle.conf_record.specs.Records.{record_tree, record_text, record_bytes}
 use Rattle.conf_record.specs.RecordsRead.{record_of, base_of, ReadsRecord, ReadsBase}
 use Rattle.conf_record.proofs.RecordLemmas.{framed_document}

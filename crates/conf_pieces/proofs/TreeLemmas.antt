@@ -4,13 +4,13 @@ use Rattle.yaml_grammar.specs.Trees.{Tree, text, sequence, mapping, Elements, Me
 use Rattle.yaml_tree.specs.Kept.{own_limits}
 use Rattle.yaml_tree.specs.Reading.{IsRead}
 use Rattle.yaml_data.specs.Seen.{Pair, members_of}
-use Rattle.conf_record.specs.Commands.{Command, command_of}
-use Rattle.conf_record.specs.Kept.{entries_of}
-use Rattle.conf_record.specs.Limits.{IsState}
+use Rattle.conf_state.specs.Commands.{Command, command_of}
+use Rattle.conf_state.specs.Kept.{entries_of}
+use Rattle.conf_state.specs.Limits.{IsState}
 use Rattle.conf_record.specs.RecordsRead.{keys_are, values, import_of, set_of, delete_of, record_of, import_keys, set_keys, delete_keys, base_keys, base_of, contents_of}
-use Rattle.conf_record.specs.States.{Contents}
-use Rattle.conf_record.specs.declared.command.Command as code
-use Rattle.conf_record.proofs.LineLemmas.{ascii}
+use Rattle.conf_state.specs.States.{Contents}
+use Rattle.conf_state.specs.declared.command.Command as code
+use Rattle.conf_state.proofs.LineLemmas.{ascii}
 use Rattle.conf_pieces.specs.Documents.{IsRecord, IsNoRecord, IsBase, IsNoBase}
 use Rattle.conf_pieces.specs.Reading.{texts, command_and_number}
 use Rattle.conf_pieces.proofs.DocumentLemmas.{BytesGiveOne}

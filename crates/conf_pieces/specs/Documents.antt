@@ -3,11 +3,11 @@ use Rattle.std.specs.Prelude.{◌≡◌, ◌≤◌, ℕ, ◌+◌, List, [], ◌�
 use Rattle.std.specs.List.{concat}
 use Rattle.std.specs.Str.{chars, IsUtf8}
 use Rattle.yaml_grammar.specs.Closings.{ClosesOnce, Pieces}
-use Rattle.conf_record.specs.Commands.{Command}
-use Rattle.conf_record.specs.States.{Contents, count_limit, base_limit}
-use Rattle.conf_record.specs.Limits.{IsState}
-use Rattle.conf_record.specs.Steps.{step}
-use Rattle.conf_record.specs.BaseTexts.{base_bytes}
+use Rattle.conf_state.specs.Commands.{Command}
+use Rattle.conf_state.specs.States.{Contents, count_limit, base_limit}
+use Rattle.conf_state.specs.Limits.{IsState}
+use Rattle.conf_state.specs.Steps.{step}
+use Rattle.conf_state.specs.BaseTexts.{base_bytes}
 use Rattle.conf_record.specs.Records.{record_bytes}
 use Rattle.conf_record.specs.RecordsRead.{IsCommand, ReadsRecord, ReadsBase}
 

@@ -5,10 +5,10 @@ use Rattle.std.specs.declared.alloc.Global.{Global}
 use Rattle.yaml_grammar.specs.Trees.{Tree, Members, text, mapping}
 use Rattle.yaml_tree.specs.Kept.{IsKept}
 use Rattle.yaml_data.specs.Seen.{Pair, tree_of, members_of}
-use Rattle.conf_record.specs.Commands.{Command, command_of}
+use Rattle.conf_state.specs.Commands.{Command, command_of}
 use Rattle.conf_record.specs.RecordsRead.{entries}
-use Rattle.conf_record.specs.States.{Contents}
-use Rattle.conf_record.specs.declared.command.Command as code
+use Rattle.conf_state.specs.States.{Contents}
+use Rattle.conf_state.specs.declared.command.Command as code
 
 -- each is a tree that a `Config` keeps
 abbrev pub AreKept : List Tree → Type 0

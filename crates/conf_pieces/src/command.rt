@@ -5,13 +5,13 @@ ghost use Rattle.yaml_grammar.specs.Trees.{Tree as Meant, text};
 ghost use Rattle.yaml_data.specs.TextBytes.{text_bytes};
 ghost use Rattle.yaml_tree.specs.Kept.{IsKept};
 ghost use Rattle.yaml_data.specs.Seen.{tree_of, members_of};
-ghost use Rattle.conf_record.specs.Commands.{set_at, delete_at};
+ghost use Rattle.conf_state.specs.Commands.{set_at, delete_at};
 ghost use Rattle.conf_record.specs.RecordsRead.{values, command_with_number, import_of, set_of, delete_of, record_of};
 ghost use Rattle.conf_pieces.specs.Reading.{AreKept, command_and_number};
 
 use crate::fields::{is_path, keys_are, next_text, next_value, number_from};
 use crate::parts::part;
-use conf_record::{Command, good_name};
+use conf_state::{Command, good_name};
 use std::alloc::{AllocError, Global};
 use yaml_tree::{Text, Tree};
 

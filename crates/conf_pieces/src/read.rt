@@ -3,13 +3,13 @@ ghost use Rattle.std.specs.Prelude.{◌≢◌, OnOk, IfOk, IfSome, IfNone};
 ghost use Rattle.yaml_tree.specs.Kept.{own_limits};
 ghost use Rattle.yaml_tree.specs.Reading.{IsRead, GivesNone};
 ghost use Rattle.yaml_data.specs.Seen.{tree_of};
-ghost use Rattle.conf_record.specs.Commands.{command_of};
+ghost use Rattle.conf_state.specs.Commands.{command_of};
 ghost use Rattle.conf_pieces.specs.Documents.{IsRecord, IsBase, IsNoRecord, IsNoBase};
 
 use crate::base::base_from;
 use crate::command::command_from;
 use crate::parts::configurations;
-use conf_record::{Command, State};
+use conf_state::{Command, State};
 use std::alloc::{AllocError, Global};
 use yaml_tree::{Limits, ReadFault, Tree, bytes_give_one, read_one, refused_bytes_give_none};
 

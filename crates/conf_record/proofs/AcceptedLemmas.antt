@@ -7,17 +7,17 @@ use Rattle.yaml_grammar.specs.Style.{style_text}
 use Rattle.tree_path.specs.Paths.{set, delete}
 use Rattle.json_pointer.specs.Pointers.{path_of}
 use Rattle.json_pointer.specs.declared.fault.PathFault.{PathFault}
-use Rattle.conf_record.specs.Names.{good_name}
-use Rattle.conf_record.specs.Commands.{Command, import_as, set_at, delete_at, name_of}
-use Rattle.conf_record.specs.States.{Entry, Contents, config_named, put_config}
+use Rattle.conf_state.specs.Names.{good_name}
+use Rattle.conf_state.specs.Commands.{Command, import_as, set_at, delete_at, name_of}
+use Rattle.conf_state.specs.States.{Entry, Contents, config_named, put_config}
 use Rattle.yaml_tree.specs.Limits.{config_limits}
-use Rattle.conf_record.specs.Limits.{AreConfigs, IsState}
-use Rattle.conf_record.specs.Steps.{and_then, found, by_path, checked_tree, with_checked_config, configs_after_delete, configs_after, next_state, step}
-use Rattle.conf_record.specs.declared.fault.StoreFault.TheVariants.{BadName, Path, TooDeep, ConfigLarge}
+use Rattle.conf_state.specs.Limits.{AreConfigs, IsState}
+use Rattle.conf_state.specs.Steps.{and_then, found, by_path, checked_tree, with_checked_config, configs_after_delete, configs_after, next_state, step}
+use Rattle.conf_state.specs.declared.fault.StoreFault.TheVariants.{BadName, Path, TooDeep, ConfigLarge}
 use Rattle.conf_record.proofs.SizeLemmas.{size}
 use Rattle.conf_record.proofs.PathLemmas.{tokens_size, set_holds, delete_holds}
 use Rattle.conf_record.proofs.PointerLemmas.{pointer_bytes}
-use Rattle.conf_record.proofs.RunLaws.{and_then-Ok}
+use Rattle.conf_state.proofs.RunLaws.{and_then-Ok}
 
 pub record IsSmall (t : Tree) : Type 0 where
   pub deep : depth t ≤ config_limits.depth

@@ -1,12 +1,2 @@
-pub mod BaseTexts
-pub mod Commands
-pub mod Edits
-pub mod Kept
-pub mod Limits
-pub mod Names
-pub mod PathFaults
-pub mod States
-pub mod Steps
-pub mod TreeCode
 pub mod Records
 pub mod RecordsRead

@@ -1,8 +1,8 @@
 -- Records: the documents that hold commands, each with the number under which it was accepted.
 use Rattle.std.specs.Prelude.{ℕ, List, codes, decimal, encode_utf8_all}
 use Rattle.yaml_grammar.specs.Trees.{Tree, text, mapping, Members, no_member, member}
-use Rattle.conf_record.specs.Commands.{Command, import_as, set_at, delete_at}
-use Rattle.conf_record.specs.BaseTexts.{closed_document}
+use Rattle.conf_state.specs.Commands.{Command, import_as, set_at, delete_at}
+use Rattle.conf_state.specs.BaseTexts.{closed_document}
 
 -- what comes after the number
 abbrev pub command_members : Command → Members

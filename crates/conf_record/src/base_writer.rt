@@ -1,10 +1,10 @@
 // The base text of a state: the document that holds all of it.
 ghost use Rattle.std.specs.Prelude.{◌≡◌, string_bytes, IfOk, OnOk};
 ghost use Rattle.std.specs.Str.{chars};
-ghost use Rattle.conf_record.specs.BaseTexts.{base_text, base_bytes};
+ghost use Rattle.conf_state.specs.BaseTexts.{base_text, base_bytes};
 
-use crate::State;
 use crate::record::write_number;
+use conf_state::State;
 use std::alloc::{AllocError, Global};
 use yaml_tree::Sink;
 

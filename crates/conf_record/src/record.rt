@@ -7,12 +7,11 @@ ghost use Rattle.yaml_grammar.specs.Trees.{text};
 ghost use Rattle.yaml_grammar.specs.Style.{key_lines, value_at, members_after};
 ghost use Rattle.yaml_tree.specs.Kept.{IsKept};
 ghost use Rattle.yaml_data.specs.Seen.{tree_of};
-ghost use Rattle.conf_record.specs.Commands.{command_of};
+ghost use Rattle.conf_state.specs.Commands.{command_of};
 ghost use Rattle.conf_record.specs.Records.{command_members, record_text, record_bytes};
 ghost use Rattle.conf_record.specs.RecordsRead.{IsCommand};
 
-use crate::Command;
-use crate::base::capped;
+use conf_state::Command;
 use itoa::Buffer;
 use std::alloc::{AllocError, Global};
 use yaml_tree::{ByteCount, Config, Sink, write_key, write_text, write_value};
@@ -43,7 +42,7 @@ fn record_length(command: &Command, number: u64) -> u64
 {
     let mut bytes = ByteCount::new();
     match write_record(command, number, &mut bytes) {
-        Ok(()) => capped(bytes.total()),
+        Ok(()) => bytes.total().min(u128::from(u64::MAX)) as u64,
         Err(never) => match never {},
     }
 }

@@ -5,6 +5,5 @@ pub mod LengthLemmas
 pub mod RequestLemmas
 pub mod PassedLemmas
 pub mod SessionLemmas
-pub mod SaidLemmas
 pub mod AnswerLemmas
 pub mod ReplyLemmas

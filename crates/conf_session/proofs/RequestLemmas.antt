@@ -15,21 +15,22 @@ use Rattle.conf_disk.specs.Moments.{LeavesOnly}
 use Rattle.conf_disk.specs.declared.disk.Name.TheVariants.{Store}
 use Rattle.conf_journal.specs.Store.{file_with_bytes}
 use Rattle.conf_disk.proofs.Moments.{LeavesOnly-start, LeavesOnly-weaker}
-use Rattle.conf_record.specs.BaseTexts.{base_bytes}
-use Rattle.conf_record.specs.Commands.{Command, import_as}
-use Rattle.conf_record.specs.Limits.{IsState}
-use Rattle.conf_record.specs.States.{Contents, count_limit}
+use Rattle.conf_state.specs.BaseTexts.{base_bytes}
+use Rattle.conf_state.specs.Commands.{Command, import_as}
+use Rattle.conf_state.specs.Limits.{IsState}
+use Rattle.conf_state.specs.States.{Contents, count_limit}
 use Rattle.yaml_tree.specs.Limits.{config_limits}
-use Rattle.conf_record.specs.Steps.{step, after}
-use Rattle.conf_record.specs.declared.fault.StoreFault.{StoreFault}
+use Rattle.conf_state.specs.Steps.{step, after}
+use Rattle.conf_state.specs.declared.fault.StoreFault.{StoreFault}
 use Rattle.conf_store.specs.Calls.{outcome, has_room, next_record}
 use Rattle.conf_store.specs.Meaning.{FileMeans}
 use Rattle.conf_store.specs.Durable.{AfterPrefix, AllImagesMean}
 use Rattle.conf_store.specs.View.{StoreView}
-use Rattle.conf_record.proofs.RefusalLemmas.{accepted-room}
+use Rattle.conf_state.proofs.RefusalLemmas.{accepted-room}
 use Rattle.conf_store.proofs.StepLemmas.{accepted-anyway}
 use Rattle.conf_store.proofs.MeaningLemmas.{after-done}
-use Rattle.conf_session.specs.Requests.{Said, import_text, Says, MeansRequest, Request, changing, unread, getting, exporting, naming, checkpointing, bad}
+use Rattle.conf_requests.specs.Said.{Said, import_text, Says}
+use Rattle.conf_session.specs.Requests.{MeansRequest, Request, changing, unread, getting, exporting, naming, checkpointing, bad}
 use Rattle.conf_session.specs.Answers.{Stored, one, change_answer, stored_after_change, stored_after, file_after_change, accepted_by, accepted_command, is_refused}
 use Rattle.conf_session.specs.Runs.{stored_of}
 use Rattle.conf_session.specs.Replies.{OnlyReads, Performs, Replies, Did, DidSaid, DidPiece}

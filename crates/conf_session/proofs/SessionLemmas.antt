@@ -13,7 +13,8 @@ use Rattle.conf_disk.specs.Image.{Image, IsImage}
 use Rattle.conf_disk.specs.Folder.{Folder}
 use Rattle.conf_store.specs.Durable.{AllImagesMean}
 use Rattle.conf_store.specs.View.{StoreView}
-use Rattle.conf_session.specs.Input.{piece_limit, session_limit, ahead, piece_or_rest as piece_of, AdvancesToPiece, AdvancesToEnd, FailsToRead, FindsTooLong, FindsSessionLong, RunsOutOfMemory, Advances}
+use Rattle.conf_requests.specs.Said.{piece_limit}
+use Rattle.conf_session.specs.Input.{session_limit, ahead, piece_or_rest as piece_of, AdvancesToPiece, AdvancesToEnd, FailsToRead, FindsTooLong, FindsSessionLong, RunsOutOfMemory, Advances}
 use Rattle.conf_session.specs.Requests.{Request, Asks}
 use Rattle.conf_session.specs.Answers.{Stored, answer, answer_limit, output, stored_after_all, accepted_commands, accepted_command, refused_of}
 use Rattle.conf_session.specs.Runs.{stored_of, ArePieces, Ends, Runs, BeginsWith}

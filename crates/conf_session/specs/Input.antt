@@ -3,13 +3,10 @@ use Rattle.std.specs.Prelude.{◌≡◌, ℕ, ◌+◌, ◌<◌, ◌≤◌, Bool,
 use Rattle.std.specs.Io.KnownBytes.{Consumes, IsAtEnd}
 use Rattle.yaml_grammar.specs.Closings.{ClosesAt, ClosesOnce}
 use Rattle.yaml_docs.specs.Cutting.{Unclosed}
+use Rattle.conf_requests.specs.Said.{piece_limit}
 use Rattle.conf_session.specs.declared.input.Input.{Input}
 use Rattle.conf_session.specs.declared.fault.SessionFault.{SessionFault}
 use Rattle.conf_session.specs.declared.fault.SessionFault.TheVariants as fault
-
--- the most bytes of a piece, or of what comes after the last one (the rest)
-abbrev pub piece_limit : ℕ
-piece_limit = 4194304
 
 -- the most bytes of an input
 abbrev pub session_limit : ℕ

@@ -5,30 +5,16 @@ use Rattle.conf_disk.specs.Folder.{Folder, bytes_under}
 use Rattle.conf_disk.specs.Image.{Image}
 use Rattle.conf_disk.specs.Moments.{LeavesOnly}
 use Rattle.conf_disk.specs.declared.disk.Name.TheVariants.{Store}
-use Rattle.std.specs.Str.{chars}
-use Rattle.yaml_data.specs.TextBytes.{text_bytes}
-use Rattle.conf_record.specs.Commands.{command_of}
 use Rattle.conf_store.specs.Durable.{AfterPrefix}
 use Rattle.conf_store.specs.View.{StoreView}
-use Rattle.conf_session.specs.Requests.{Said, import_text, change, get_at, export_of, all_names, checkpoint_now, nothing, Request, changing, checkpointing, MeansRequest, Asks}
+use Rattle.conf_requests.specs.Said.{Said}
+use Rattle.conf_session.specs.Requests.{Request, changing, checkpointing, MeansRequest, Asks}
 use Rattle.conf_session.specs.Answers.{Stored, answer, answer_limit, refusal, word, stored_after, file_after, accepted_command, refused_of}
 use Rattle.conf_session.specs.Runs.{stored_of}
-use Rattle.conf_session.specs.declared.said.Said as code
-use Rattle.conf_session.specs.declared.said.Said.TheVariants as code_said
 use Rattle.conf_session.specs.declared.reply.Reply.{Reply}
 use Rattle.conf_session.specs.declared.reply.Reply.TheVariants.{Accepted, Done, Refused, NoCommand}
 use Rattle.conf_session.specs.declared.fault.SessionFault.{SessionFault}
 use Rattle.conf_session.specs.declared.fault.SessionFault.TheVariants.{OutOfMemory, Device}
-
--- what a value of the code's type says
-abbrev pub said_of : code.Said → Said
-said_of (code_said.Import name source) = import_text (chars (text_bytes name)) (chars (text_bytes source))
-said_of (code_said.Change command) = change (command_of command)
-said_of (code_said.Get name path) = get_at (chars (text_bytes name)) (chars (text_bytes path))
-said_of (code_said.Export name) = export_of (chars (text_bytes name))
-said_of code_said.Names = all_names
-said_of code_said.Checkpoint = checkpoint_now
-said_of code_said.Nothing = nothing
 
 -- a request that changes nothing
 abbrev pub OnlyReads : Request → Type 0

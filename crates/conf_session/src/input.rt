@@ -5,6 +5,7 @@ ghost use Rattle.yaml_docs.specs.Cutting.{Unclosed};
 ghost use Rattle.conf_session.specs.Input.{Advances, Feeds, Fills, IsSound, ahead};
 
 use crate::SessionFault;
+use conf_requests::PIECE_LIMIT;
 use std::alloc::{AllocError, Global};
 use std::io;
 use std::io::Read;
@@ -12,9 +13,6 @@ use yaml_docs::{CutFault, Cutter};
 
 /// The most bytes that are read at once.
 const CHUNK: usize = 65_536;
-
-/// The most bytes of a piece, or of what comes after the last closing line.
-pub(crate) const PIECE_LIMIT: u64 = 4_194_304;
 
 /// The most bytes of the input.
 const SESSION_LIMIT: usize = 1_073_741_824;

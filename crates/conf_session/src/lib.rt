@@ -11,7 +11,6 @@ mod laws;
 mod output;
 mod pieces;
 mod reply;
-mod said;
 mod session;
 mod words;
 

@@ -3,7 +3,7 @@ ghost use Rattle.std.specs.Prelude.{◌≡◌};
 ghost use Rattle.yaml_laws.specs.Closed.{framed_text_bytes};
 ghost use Rattle.conf_session.specs.Answers.{refusal, word, read_word, path_word};
 
-use conf_record::StoreFault;
+use conf_state::StoreFault;
 use tree_path::PathFault;
 use yaml_tree::ReadFault;
 

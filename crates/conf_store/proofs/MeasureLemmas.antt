@@ -9,10 +9,10 @@ use Rattle.yaml_grammar.specs.Texts.{byte_len}
 use Rattle.yaml_grammar.specs.Style.{members_after, scalar_lines, style_text}
 use Rattle.yaml_writer.specs.BudgetLaws.{byte_len-append}
 use Rattle.yaml_writer.proofs.ByteLemmas.{byte_len-encoded}
-use Rattle.conf_record.specs.Commands.{Command}
+use Rattle.conf_state.specs.Commands.{Command}
 use Rattle.conf_record.specs.Records.{command_members, record_tree, record_text, record_bytes}
-use Rattle.conf_record.specs.States.{Contents, count_limit}
-use Rattle.conf_record.proofs.BaseLemmas.{count_bytes}
+use Rattle.conf_state.specs.States.{Contents, count_limit}
+use Rattle.conf_state.proofs.BaseLemmas.{count_bytes}
 use Rattle.conf_store.specs.Calls.{next_number, next_record}
 
 -- a number from 10^19 to below 10^20 has 20 digits

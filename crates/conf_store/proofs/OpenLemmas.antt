@@ -11,9 +11,9 @@ use Rattle.conf_disk.specs.declared.disk.Content.TheVariants.{Missing, Bytes, To
 use Rattle.conf_disk.specs.declared.disk.Name.TheVariants.{Store}
 use Rattle.conf_journal.specs.Held.{HoldsStore, OnlyHeldIsLeft}
 use Rattle.conf_journal.specs.Store.{IsStoreOf, store_limit}
-use Rattle.conf_record.specs.States.{Contents}
+use Rattle.conf_state.specs.States.{Contents}
 use Rattle.conf_pieces.specs.Documents.{OneBase, OneRecord}
-use Rattle.conf_record.specs.BaseTexts.{base_bytes}
+use Rattle.conf_state.specs.BaseTexts.{base_bytes}
 use Rattle.std.proofs.lemmas.Bool.{cases_lt}
 use Rattle.conf_disk.specs.declared.disk.DiskFault.{DiskFault}
 use Rattle.conf_disk.specs.declared.disk.DiskFault.TheVariants as disk

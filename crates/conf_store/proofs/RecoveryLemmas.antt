@@ -6,12 +6,12 @@ use Rattle.std.proofs.lemmas.List.{append-nil}
 use Rattle.yaml_grammar.specs.Closings.{Pieces}
 use Rattle.yaml_laws.specs.Closed.{PieceBetween, RestUnclosed, SomePieces}
 use Rattle.yaml_docs.specs.NextClosing.{IsNextClosing, StartsLine, NoClosingAfter}
-use Rattle.conf_record.specs.Commands.{Command}
-use Rattle.conf_record.specs.States.{Contents}
-use Rattle.conf_record.specs.Steps.{step}
+use Rattle.conf_state.specs.Commands.{Command}
+use Rattle.conf_state.specs.States.{Contents}
+use Rattle.conf_state.specs.Steps.{step}
 use Rattle.conf_pieces.specs.Documents.{IsRecord, IsBase, IsNoBase, OneRecord}
-use Rattle.conf_record.specs.Steps.{after}
-use Rattle.conf_record.proofs.RunLaws.{after-count, and_then-Ok}
+use Rattle.conf_state.specs.Steps.{after}
+use Rattle.conf_state.proofs.RunLaws.{after-count, and_then-Ok}
 use Rattle.conf_pieces.specs.Documents.{OneBase}
 use Rattle.yaml_laws.specs.Closed.{OnePieces}
 use Rattle.conf_store.specs.Durable.{IsWholeStore}
@@ -20,7 +20,7 @@ use Rattle.conf_store.specs.Meaning.{AreRecords, PiecesMean, Means}
 use Rattle.conf_store.specs.Opens.{RecoversTo, HasNoBase, IsNextRecord, IsNoNextRecord, IsDamaged, RefusesBytes}
 use Rattle.conf_store.specs.declared.fault.OpenFault.{OpenFault}
 use Rattle.conf_store.specs.declared.fault.OpenFault.TheVariants.{Damaged, OutOfMemory}
-use Rattle.conf_record.specs.declared.fault.StoreFault.{StoreFault}
+use Rattle.conf_state.specs.declared.fault.StoreFault.{StoreFault}
 use Rattle.conf_store.proofs.PieceLemmas.{SoFar, no_closing, pieces-joined, nothing-so_far, further-piece, no-further-piece}
 use Rattle.conf_store.proofs.MeaningLemmas.{base-means, record-means, ok-same, after-done}
 

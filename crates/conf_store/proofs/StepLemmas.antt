@@ -1,10 +1,10 @@
 -- Commands that are accepted: the journal has room for them, and the next number is the count plus one.
 use Rattle.std.proofs.Common.{◌≡◌, sym, ◌∙◌, ap, arith}
 use Rattle.std.specs.Prelude.{true, ◌+◌, Bool, Ok}
-use Rattle.conf_record.specs.Commands.{Command}
-use Rattle.conf_record.specs.States.{Contents}
-use Rattle.conf_record.specs.Limits.{IsState}
-use Rattle.conf_record.specs.Steps.{step}
+use Rattle.conf_state.specs.Commands.{Command}
+use Rattle.conf_state.specs.States.{Contents}
+use Rattle.conf_state.specs.Limits.{IsState}
+use Rattle.conf_state.specs.Steps.{step}
 use Rattle.conf_store.specs.Calls.{next_number}
 
 -- a command is accepted only if the journal has room

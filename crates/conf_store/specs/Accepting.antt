@@ -2,14 +2,14 @@
 use Rattle.std.specs.Prelude.{◌≡◌, ◌≢◌, ◌≤◌, ℕ, ◌+◌, true, List, length, Ok}
 use Rattle.yaml_grammar.specs.Closings.{ClosesOnce}
 use Rattle.conf_journal.specs.Store.{store_limit}
-use Rattle.conf_record.specs.Commands.{Command}
-use Rattle.conf_record.specs.States.{Contents}
-use Rattle.conf_record.specs.Limits.{IsState}
-use Rattle.conf_record.specs.Steps.{step}
-use Rattle.conf_record.specs.declared.fault.StoreFault.{StoreFault}
-use Rattle.conf_record.specs.declared.fault.StoreFault.TheVariants.{Reopen, Device}
+use Rattle.conf_state.specs.Commands.{Command}
+use Rattle.conf_state.specs.States.{Contents}
+use Rattle.conf_state.specs.Limits.{IsState}
+use Rattle.conf_state.specs.Steps.{step}
+use Rattle.conf_state.specs.declared.fault.StoreFault.{StoreFault}
+use Rattle.conf_state.specs.declared.fault.StoreFault.TheVariants.{Reopen, Device}
 use Rattle.conf_pieces.specs.Documents.{IsRecord, IsBase}
-use Rattle.conf_record.specs.BaseTexts.{base_bytes}
+use Rattle.conf_state.specs.BaseTexts.{base_bytes}
 use Rattle.conf_store.specs.Calls.{outcome, next_number, next_record}
 
 -- The command leads from `s` to `new`, which keeps its limits; a file of `size` bytes has room for its record, and the

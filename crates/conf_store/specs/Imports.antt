@@ -4,11 +4,11 @@ use Rattle.yaml_grammar.specs.Trees.{Tree}
 use Rattle.yaml_tree.specs.Reading.{IsRead, Refuses}
 use Rattle.yaml_faults.specs.declared.fault.ReadFault.TheVariants as read_faults
 use Rattle.conf_journal.specs.Store.{file_with_bytes}
-use Rattle.conf_record.specs.Commands.{Command, import_as}
-use Rattle.conf_record.specs.Names.{good_name}
+use Rattle.conf_state.specs.Commands.{Command, import_as}
+use Rattle.conf_state.specs.Names.{good_name}
 use Rattle.yaml_tree.specs.Limits.{config_limits}
-use Rattle.conf_record.specs.declared.fault.StoreFault.{StoreFault}
-use Rattle.conf_record.specs.declared.fault.StoreFault.TheVariants.{BadName, Read, Reopen, OutOfMemory}
+use Rattle.conf_state.specs.declared.fault.StoreFault.{StoreFault}
+use Rattle.conf_state.specs.declared.fault.StoreFault.TheVariants.{BadName, Read, Reopen, OutOfMemory}
 use Rattle.conf_store.specs.View.{StoreView}
 use Rattle.conf_store.specs.Calls.{Accepts, RefusesCommand, next_record}
 

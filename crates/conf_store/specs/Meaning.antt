@@ -3,9 +3,9 @@
 use Rattle.std.specs.Prelude.{◌≡◌, ◌≤◌, ◌↔◌, ℕ, ◌+◌, List, [], ◌∷◌, length, Option, Some, None, Ok}
 use Rattle.yaml_grammar.specs.Closings.{Pieces}
 use Rattle.conf_journal.specs.Store.{store_limit}
-use Rattle.conf_record.specs.Commands.{Command}
-use Rattle.conf_record.specs.States.{Contents}
-use Rattle.conf_record.specs.Steps.{after}
+use Rattle.conf_state.specs.Commands.{Command}
+use Rattle.conf_state.specs.States.{Contents}
+use Rattle.conf_state.specs.Steps.{after}
 use Rattle.conf_pieces.specs.Documents.{IsRecord, IsBase}
 
 -- The pieces are records of these commands, in this order. Each is numbered one more than the count before it.

@@ -2,11 +2,11 @@
 use Rattle.std.specs.Prelude.{◌≡◌, ◌≢◌, ◌≤◌, ◌⊎◌, ◌<◌, ℕ, ◌+◌, zero, suc, List, ◌∷◌, ◌++◌, length, true, Option, Some, None, Result, Ok, Err}
 use Rattle.yaml_grammar.specs.Closings.{Pieces}
 use Rattle.conf_journal.specs.Store.{store_limit}
-use Rattle.conf_record.specs.Commands.{Command}
-use Rattle.conf_record.specs.States.{Contents}
-use Rattle.conf_record.specs.Steps.{step}
+use Rattle.conf_state.specs.Commands.{Command}
+use Rattle.conf_state.specs.States.{Contents}
+use Rattle.conf_state.specs.Steps.{step}
 use Rattle.conf_pieces.specs.Documents.{IsRecord, IsBase}
-use Rattle.conf_record.specs.BaseTexts.{base_bytes}
+use Rattle.conf_state.specs.BaseTexts.{base_bytes}
 use Rattle.conf_store.specs.declared.fault.OpenFault.{OpenFault}
 use Rattle.conf_store.specs.declared.fault.OpenFault.TheVariants.{NotAStore, Damaged, Device, OutOfMemory}
 use Rattle.conf_store.specs.Meaning.{PiecesMean, Means, FileMeans, MeanTheSame, empty_state}

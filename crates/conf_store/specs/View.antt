@@ -2,8 +2,8 @@
 use Rattle.std.specs.Prelude.{ℕ, Bool}
 use Rattle.std.specs.Coded.{Coded, code_by, coded×, coded_ℕ, coded_bool}
 use Rattle.std.proofs.Common.{refl}
-use Rattle.conf_record.specs.States.{Contents}
-use Rattle.conf_record.specs.TreeCode.{contents_code}
+use Rattle.conf_state.specs.States.{Contents}
+use Rattle.conf_state.specs.TreeCode.{contents_code}
 
 -- the disk, the state, the length of `store.yaml` in bytes, and whether the store has to be opened again
 pub record StoreView (D : Type 0) : Type 0 where

@@ -1,11 +1,11 @@
 // Reading the text of an import, and making its command, before the store is changed.
 ghost use Rattle.std.specs.Prelude.{◌≡◌, false, IfOk, IfErr, Err};
 ghost use Rattle.std.specs.Str.{chars};
-ghost use Rattle.conf_record.specs.Commands.{command_of};
-ghost use Rattle.conf_record.specs.Names.{good_name};
+ghost use Rattle.conf_state.specs.Commands.{command_of};
+ghost use Rattle.conf_state.specs.Names.{good_name};
 ghost use Rattle.conf_store.specs.Imports.{IsImportOf, RefusesText};
 
-use conf_record::{Command, StoreFault, good_name};
+use conf_state::{Command, StoreFault, good_name};
 use std::alloc::Global;
 use yaml_tree::{Limits, ReadFault, read_one};
 

@@ -1,11 +1,11 @@
 // Reading the state that bytes mean.
 ghost use Rattle.std.specs.Prelude.{◌≡◌, ◌≢◌, ◌⊎◌, OnOk, IfOk, IfErr};
-ghost use Rattle.conf_record.specs.Limits.{IsState};
+ghost use Rattle.conf_state.specs.Limits.{IsState};
 ghost use Rattle.conf_store.specs.Opens.{RecoversTo, RefusesBytes, IsNextRecord, IsNoNextRecord};
 
 use crate::OpenFault;
 use conf_pieces::{documents_are_read, read_base, read_record};
-use conf_record::{State, StoreFault, step};
+use conf_state::{State, StoreFault, step};
 use std::alloc::Global;
 use yaml_docs::next_close;
 use yaml_laws::{one_list_of_pieces, piece_between_closings};

@@ -5,11 +5,11 @@ ghost use Rattle.yaml_data.specs.Seen.{tree_of};
 ghost use Rattle.conf_disk.specs.Folder.{bytes_under};
 ghost use Rattle.conf_disk.specs.Moments.{LeavesOnly};
 ghost use Rattle.conf_journal.specs.Store.{file_with_bytes};
-ghost use Rattle.conf_record.specs.Commands.{command_of};
-ghost use Rattle.conf_record.specs.Names.{good_name};
-ghost use Rattle.conf_record.specs.Limits.{IsState};
-ghost use Rattle.conf_record.specs.States.{names_of};
-ghost use Rattle.conf_record.specs.BaseTexts.{base_bytes};
+ghost use Rattle.conf_state.specs.Commands.{command_of};
+ghost use Rattle.conf_state.specs.Names.{good_name};
+ghost use Rattle.conf_state.specs.Limits.{IsState};
+ghost use Rattle.conf_state.specs.States.{names_of};
+ghost use Rattle.conf_state.specs.BaseTexts.{base_bytes};
 ghost use Rattle.conf_store.specs.Meaning.{FileMeans};
 ghost use Rattle.conf_store.specs.Durable.{AllImagesMean};
 ghost use Rattle.conf_store.specs.Calls.{Accepts, RefusesCommand, HasFailed, next_record, Exports, tree_named, tree_at};
@@ -25,7 +25,7 @@ use crate::{OpenFault, bytes_mean_one_state};
 use conf_disk::{Disk, DiskFault, Name, reading_is_an_image};
 use conf_journal::{append_closed, held_store_is_left, held_store_is_the_only_one};
 use conf_pieces::{documents_are_read, documents_close};
-use conf_record::{Command, Names, State, StoreFault, good_name};
+use conf_state::{Command, Names, State, StoreFault, good_name};
 use std::alloc::Global;
 use std::marker::Model;
 use tree_path::{Path, at};
@@ -50,7 +50,7 @@ pub struct Store<D: Disk> {
 impl<D: Disk> Model for Store<D> {
     ghost use Rattle.std.specs.Prelude.{◌≡◌, ◌≤◌, false};
     ghost use Rattle.conf_journal.specs.Store.{store_limit};
-    ghost use Rattle.conf_record.specs.Limits.{IsState};
+    ghost use Rattle.conf_state.specs.Limits.{IsState};
     ghost use Rattle.conf_store.specs.Durable.{IsDurable};
     ghost use Rattle.conf_store.specs.View.{StoreView, store_view_code};
 

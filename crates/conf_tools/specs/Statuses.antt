@@ -2,16 +2,16 @@
 use Rattle.std.specs.Prelude.{◌≡◌, ◌⊎◌, ℕ, ◌<◌, ◌≤◌, List, Option, Ok, Err}
 use Rattle.std.specs.Io.KnownBytes.{Keeps}
 use Rattle.conf_folder.specs.declared.fault.FolderFault.TheVariants as FolderFault
-use Rattle.conf_record.specs.declared.fault.StoreFault.TheVariants as StoreFault
+use Rattle.conf_state.specs.declared.fault.StoreFault.TheVariants as StoreFault
 use Rattle.conf_store.specs.declared.fault.OpenFault.TheVariants as OpenFault
 use Rattle.conf_session.specs.Answers.{Stored}
 use Rattle.conf_session.specs.declared.fault.SessionFault.{SessionFault}
 use Rattle.conf_session.specs.declared.session.Tally.{Tally}
 use Rattle.conf_session.specs.declared.fault.SessionFault.TheVariants as SessionFaults
-use Rattle.conf_tools.specs.Stores.{Answers}
+use Rattle.store_tools.specs.Stores.{Answers}
 use Rattle.text_tools.specs.Tools.{Checks, Formats}
-use Rattle.conf_tools.specs.declared.stores.StoreToolFault.{StoreToolFault}
-use Rattle.conf_tools.specs.declared.stores.StoreToolFault.TheVariants.{Folder as InFolder, Open, Session, Export, Output as StoreOutput}
+use Rattle.store_tools.specs.declared.stores.StoreToolFault.{StoreToolFault}
+use Rattle.store_tools.specs.declared.stores.StoreToolFault.TheVariants.{Folder as InFolder, Open, Session, Export, Output as StoreOutput}
 use Rattle.conf_tools.specs.declared.program.Status.{Status}
 use Rattle.conf_tools.specs.declared.program.Status.TheVariants.{Done, Found, Refused, WrongWords, Device}
 use Rattle.text_tools.specs.declared.tools.ToolFault.{ToolFault}

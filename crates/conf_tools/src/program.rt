@@ -3,17 +3,17 @@ ghost use Rattle.std.specs.Prelude.{◌≡◌, ◌⊎◌, ◌≤◌};
 ghost use Rattle.std.specs.Io.KnownBytes.{Keeps};
 ghost use Rattle.conf_tools.specs.Statuses.{Performs, code_of, status_of, status_of_store};
 
-use crate::stores::{StoreToolFault, export_store, run_store};
 use clap::{Arg, ArgMatches, Command};
 use conf_folder::{FolderDisk, FolderFault};
-use conf_record::StoreFault;
 use conf_session::SessionFault;
+use conf_state::StoreFault;
 use conf_store::OpenFault;
 use std::alloc::{AllocError, Global};
 use std::fs::File;
 use std::io;
 use std::io::{ErrorKind, Read, Write};
 use std::rt::Files;
+use store_tools::{StoreToolFault, export_store, run_store};
 use text_tools::{ToolFault, check_text, format_text};
 
 /// What the program ends with.

@@ -1,7 +1,7 @@
 // What is left of a store: its count, and the state that it has then.
 use crate::wrong::Wrong;
 use conf_disk::Disk;
-use conf_record::StoreFault;
+use conf_state::StoreFault;
 use conf_store::Store;
 use std::alloc::Global;
 use test_disks::MemoryDisk;

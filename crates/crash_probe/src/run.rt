@@ -1,7 +1,7 @@
 // A run of calls on a store: open on nothing, import `a` of `x`, set `a` to `z`, checkpoint, delete `a`.
 use crate::left::{States, count_of};
 use crate::wrong::Wrong;
-use conf_record::{Command, StoreFault};
+use conf_state::{Command, StoreFault};
 use conf_store::{OpenFault, Store};
 use std::alloc::{AllocError, Global};
 use test_disks::{Fuse, FusedDisk, MemoryDisk};

@@ -1,6 +1,6 @@
 // What is not as it has to be.
-use conf_record::StoreFault;
 use conf_session::{SessionFault, Tally};
+use conf_state::StoreFault;
 use conf_store::OpenFault;
 use std::alloc::AllocError;
 

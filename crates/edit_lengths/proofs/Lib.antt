@@ -1,4 +1,5 @@
 pub mod ChangeLaws
+pub mod DepthLemmas
 pub mod Located
 pub mod Measured
 pub mod Planned

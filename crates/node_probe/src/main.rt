@@ -14,15 +14,11 @@
 //! - `events;LIMIT;BYTES`: the events of a stream. `closings;BYTES`: the places after its closing lines.
 //!   `cut;MOST;BYTES;BYTES`: what a cutter for at most so many bytes takes of the first and of the second part, what
 //!   it holds then, and what after it was cleared. It is also cleared after a first part that closes a piece.
-//! - `list;STEP;..`: a list of events after some steps, and then its events one by one. A step is an event
-//!   without a value, `=VALUE` for a plain scalar with a borrowed value, `"VALUE` for one in double quotes with an
-//!   owned value, `omitted AT`, `insert AT` for the start of a mapping, or `keep COUNT`.
 //!
 //! What is refused is answered with the fault. Places count bytes from 0. `probe_words` says how texts and bytes are
 //! written, what a heading is, and how the program ends.
 #![tactic(auto)]
 
-mod lists;
 mod nodes;
 mod orders;
 mod scalars;

@@ -1,5 +1,4 @@
-// Orders on texts, nodes and lists of events.
-use crate::lists::list_of;
+// Orders on texts and nodes.
 use crate::nodes::{Told, block_at, flow_at};
 use crate::scalars::{header_at, lines_at, safe_of, scalar_at_spot};
 use crate::show::events_shown;
@@ -24,7 +23,6 @@ fn order_answered(alloc: Global, order: &str) -> Result<String, AllocError> {
     let (call, words) = order.split_once(';').unwrap_or((order, ""));
     match call {
         "show" => events_shown(alloc, words),
-        "list" => list_of(alloc, words),
         _ => words_answered(alloc, call, words),
     }
 }

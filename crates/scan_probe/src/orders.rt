@@ -1,5 +1,6 @@
-// Orders on characters and on places of texts.
+// Orders on characters, on places of texts and on lists of events.
 use crate::characters::{class_of, line_feeds_after, text_in};
+use crate::lists::list_of;
 use crate::places::{between, counted, found_at, signed_at};
 use probe_words::{Answers, bytes_of, no_order, no_place};
 use std::alloc::{AllocError, Global};
@@ -15,8 +16,17 @@ impl Answers for Reader {
     }
 }
 
-/// The answer to an order, whose last word is a text or bytes.
+/// The answer to an order.
 fn order_answered(alloc: Global, order: &str) -> Result<String, AllocError> {
+    let (call, words) = order.split_once(';').unwrap_or((order, ""));
+    match call {
+        "list" => list_of(alloc, words),
+        _ => text_answered(alloc, order),
+    }
+}
+
+/// The answer to an order whose last word is a text or bytes.
+fn text_answered(alloc: Global, order: &str) -> Result<String, AllocError> {
     let Some((words, written)) = order.rsplit_once(';') else {
         return no_order(alloc);
     };

@@ -1,5 +1,5 @@
 // The messages of a store's faults.
-use conf_record::StoreFault;
+use conf_state::StoreFault;
 use probe_words::no_order;
 use std::alloc::{AllocError, Global};
 use tree_path::PathFault;

@@ -1,5 +1,5 @@
 // Commands from their words.
-use conf_record::{Command, StoreFault};
+use conf_state::{Command, StoreFault};
 use probe_words::meant;
 use std::alloc::Global;
 use yaml_tree::{Limits, read_one};

@@ -2,7 +2,7 @@
 use crate::commands::{delete, set};
 use crate::folders::{FusedStore, Place};
 use crate::sessions::{copies, failing, parts, roomy};
-use conf_record::{Command, StoreFault};
+use conf_state::{Command, StoreFault};
 use probe_words::{meant, measured, number_of};
 use std::alloc::{AllocError, Global};
 use std::io::ErrorKind;

@@ -97,8 +97,8 @@ impl Cutter {
         Ok(fed)
     }
 
-    /// Returns the bytes that are held: a whole piece if the last call of [`feed`](Cutter::feed) returned `closed`, else
-    /// the first bytes of one.
+    /// Returns the bytes that are held: a whole piece if the last call of [`feed`](Cutter::feed) returned `closed`,
+    /// else the first bytes of one.
     pub fn piece(&self) -> &[u8]
         ensures { result.now ≡ self.now.bytes }
     {

@@ -1,7 +1,7 @@
 // The edits themselves: of a tree, and of a configuration by commands.
 use crate::edits::order::{Order, Target};
 use crate::failed::Failed;
-use conf_record::{Command, State, step};
+use conf_state::{Command, State, step};
 use std::alloc::{AllocError, Global};
 use tree_path::{Path, delete, set};
 use yaml_tree::{Config, Text, Tree, style_len};

@@ -2,8 +2,8 @@ use Rattle.std.proofs.Common.{codes, decimal, refl, subst}
 use Rattle.std.proofs.lemmas.Result.{on_ok_weaker}
 use Rattle.yaml_grammar.specs.Style.{value_at}
 use Rattle.yaml_grammar.specs.Trees.{text, mapping}
-use Rattle.conf_record.specs.BaseTexts.{members, base_text}
-use Rattle.conf_record.proofs.LineLemmas.{ascii, line, base_lines}
+use Rattle.conf_state.specs.BaseTexts.{members, base_text}
+use Rattle.conf_state.proofs.LineLemmas.{ascii, line, base_lines}
 use Rattle.conf_record.proofs.base_writer.write_base.Goals as goal
 
 pub returns : goal.returns

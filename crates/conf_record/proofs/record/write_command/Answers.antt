@@ -6,10 +6,10 @@ use Rattle.yaml_grammar.specs.Style.{members_after}
 use Rattle.yaml_grammar.specs.Trees.{Tree, text}
 use Rattle.yaml_data.specs.Seen.{tree_of}
 use Rattle.yaml_tree.proofs.TextTreeLemmas.{chars-IsText}
-use Rattle.conf_record.specs.Commands.{text_of, command_of}
+use Rattle.conf_state.specs.Commands.{text_of, command_of}
 use Rattle.conf_record.specs.Records.{command_members}
 use Rattle.conf_record.specs.RecordsRead.{IsCommand}
-use Rattle.conf_record.proofs.LineLemmas.{ascii, line, two_lines, three_lines}
+use Rattle.conf_state.proofs.LineLemmas.{ascii, line, two_lines, three_lines}
 use Rattle.conf_record.proofs.record.write_command.Goals as goal
 
 -- a text written after its key, as the text of a command of the code

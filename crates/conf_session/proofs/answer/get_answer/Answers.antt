@@ -6,7 +6,7 @@ use Rattle.yaml_laws.specs.Closed.{framed_text_bytes}
 use Rattle.yaml_data.specs.Seen.{tree_of}
 use Rattle.json_pointer.specs.Pointers.{path_of}
 use Rattle.json_pointer.specs.declared.fault.PathFault.TheVariants.{OutOfMemory}
-use Rattle.conf_record.proofs.LineLemmas.{ascii}
+use Rattle.conf_state.proofs.LineLemmas.{ascii}
 use Rattle.conf_store.specs.Calls.{tree_named}
 use Rattle.conf_session.specs.Answers.{one}
 use Rattle.conf_session.specs.Runs.{stored_of}

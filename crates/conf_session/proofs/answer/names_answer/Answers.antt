@@ -5,8 +5,8 @@ use Rattle.yaml_grammar.specs.Trees.{sequence}
 use Rattle.yaml_data.specs.Seen.{tree_of}
 use Rattle.yaml_data.specs.declared.tree.Tree.{Seq}
 use Rattle.yaml_data.proofs.SeenLemmas.{tree_of-Seq}
-use Rattle.conf_record.specs.States.{names_of}
-use Rattle.conf_record.proofs.LineLemmas.{ascii}
+use Rattle.conf_state.specs.States.{names_of}
+use Rattle.conf_state.proofs.LineLemmas.{ascii}
 use Rattle.conf_session.specs.Answers.{one, text_elements}
 use Rattle.conf_session.specs.Runs.{stored_of}
 use Rattle.conf_session.proofs.AnswerLemmas.{names-shallow}

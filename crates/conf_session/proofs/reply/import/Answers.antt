@@ -7,7 +7,8 @@ use Rattle.yaml_tree.specs.Limits.{config_limits}
 use Rattle.std.specs.Str.{chars}
 use Rattle.yaml_laws.specs.Closed.{framed_text_bytes}
 use Rattle.conf_session.specs.Answers.{refusal, word, unread_fault}
-use Rattle.conf_session.specs.Requests.{import_text, unread}
+use Rattle.conf_requests.specs.Said.{import_text}
+use Rattle.conf_session.specs.Requests.{unread}
 use Rattle.conf_session.proofs.LengthLemmas.{refusal-short}
 use Rattle.conf_session.proofs.RequestLemmas.{said-read, text-refused}
 use Rattle.conf_session.proofs.reply.import.Goals as goal

@@ -1,7 +1,7 @@
 use Rattle.std.proofs.Common.{rules, inl, inr, ⊎_elim, refl, sym, ◌∙◌, ◌≡◌, ◌+◌, true, subst}
 use Rattle.conf_pieces.specs.Documents.{IsNoRecord, IsRecord}
-use Rattle.conf_record.specs.Commands.{command_of}
-use Rattle.conf_record.proofs.RunLaws.{step-one}
+use Rattle.conf_state.specs.Commands.{command_of}
+use Rattle.conf_state.proofs.RunLaws.{step-one}
 use Rattle.conf_store.proofs.RecoveryLemmas.{no-next-refused, no-next-numbered}
 use Rattle.conf_store.proofs.recovery.perform_record.Goals as goal
 

@@ -6,7 +6,7 @@ use Rattle.conf_disk.specs.Moments.{LeavesOnly}
 use Rattle.conf_disk.specs.declared.disk.Name.TheVariants.{Store}
 use Rattle.conf_disk.proofs.Moments.{LeavesOnly-weaker, LeavesOnly-joined}
 use Rattle.conf_journal.specs.Store.{IsStoreOf, store_limit}
-use Rattle.conf_record.specs.BaseTexts.{base_bytes}
+use Rattle.conf_state.specs.BaseTexts.{base_bytes}
 use Rattle.conf_store.specs.Durable.{IsDurable}
 use Rattle.conf_store.specs.Meaning.{FileMeans}
 use Rattle.conf_store.specs.Opens.{MeantAtEntry}

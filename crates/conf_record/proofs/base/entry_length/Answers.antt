@@ -1,7 +1,0 @@
-use Rattle.std.proofs.Common.{arith}
-use Rattle.conf_record.specs.BaseTexts.{entry_length}
-use Rattle.conf_record.proofs.base.entry_length.Goals as goal
-
-pub returns : goal.returns
-unfolding entry_length
-returns c = omega (arith, c.in-Ok.ensures)

@@ -1,5 +1,0 @@
-use Rattle.conf_record.proofs.RunLaws.{after-count}
-use Rattle.conf_record.proofs.laws.accepted_commands_are_counted.Goals as goal
-
-pub returns : goal.returns
-returns c = after-count

@@ -1,0 +1,238 @@
+-- What an edit inside a configuration makes of a state's configurations and of their length.
+use Rattle.std.proofs.Common.{inl, inr, ◌⊎◌, ◌==◌, length, ◌≡◌, ℕ, ◌+◌, ◌<◌, ◌≤◌, nat_le, nat_lt, Bool, true, false, if◌then◌else◌, List, [], ◌∷◌, ◌++◌, Option, Some, None, option_map, is_some, Result, Ok, Err, String, Global, string_bytes, bytes_eq, IsUtf8, refl, sym, ap, subst, ◌∙◌, arith}
+use Rattle.std.proofs.lemmas.Bool.Decides.{nat_tests}
+use Rattle.std.specs.BTreeMap.{is_at}
+use Rattle.std.specs.Map.{lookup, values_of, set_value}
+use Rattle.std.specs.Ordering.{nat_cmp}
+use Rattle.std.specs.Str.{chars}
+use Rattle.yaml_grammar.specs.Reads.{Good}
+use Rattle.yaml_grammar.specs.Texts.{byte_len, spaces, same_text}
+use Rattle.yaml_grammar.specs.Trees as grammar
+use Rattle.yaml_grammar.specs.Trees.{depth}
+use Rattle.yaml_grammar.specs.Style.{style_text, key_lines, value_at}
+use Rattle.yaml_writer.specs.BudgetLaws.{byte_len-append}
+use Rattle.yaml_data.specs.Seen.{tree_of}
+use Rattle.yaml_writer.specs.Sizes.{length_at}
+use Rattle.yaml_data.specs.declared.tree.Tree.{Tree}
+use Rattle.yaml_writer.proofs.SizeLaws.{value_law}
+use Rattle.yaml_writer.proofs.SizeBounds.{value_bound, value_small}
+use Rattle.edit_lengths.specs.Changes.{Changes}
+use Rattle.json_pointer.specs.Pointers.{path_of, pointer_text, slash, first_stray, tokens_or_place}
+use Rattle.json_pointer.specs.declared.fault.PathFault.TheVariants as path_faults
+use Rattle.std.proofs.lemmas.Str.{chars-nil, encodes-chars}
+use lib.Utf8.{encodes}
+use Rattle.edit_lengths.specs.declared.change.Change.{Change}
+use Rattle.json_pointer.specs.declared.fault.PathFault.{PathFault}
+use Rattle.conf_state.specs.BaseTexts.{entry_length, entries_length}
+use Rattle.edit_lengths.specs.Edits.{tree_after_edit}
+use Rattle.conf_state.specs.Edits.{configs_with_edit, configs_after_edit}
+use Rattle.conf_state.specs.Kept.{entries_of, ArePlain}
+use Rattle.conf_state.specs.Limits.{AreConfigs}
+use Rattle.conf_state.specs.PathFaults.{store_fault_of}
+use Rattle.conf_state.specs.States.{Entry, Contents, base_limit, config_named, put_config, cut_config}
+use Rattle.yaml_tree.specs.Limits.{config_limits}
+use Rattle.edit_lengths.specs.declared.edit.Edit.{Edit}
+use Rattle.edit_lengths.specs.declared.edit.Edit.TheVariants.{Delete}
+use Rattle.conf_state.specs.declared.fault.StoreFault.{StoreFault}
+use Rattle.conf_state.specs.Steps.{and_then, by_path, found, configs_after, configs_after_delete}
+use Rattle.conf_state.specs.Commands.{delete_at}
+use Rattle.conf_state.specs.declared.fault.StoreFault.TheVariants.{NoConfig, TooDeep, ConfigLarge, OutOfMemory}
+use Rattle.conf_state.specs.Numbers.{heads, number_of, put_under, AreApart}
+use Rattle.conf_state.proofs.EntryLemmas.{lookup-named}
+use Rattle.conf_state.proofs.NumberLemmas.{lookup-number, number-there, number-name, set-number}
+use Rattle.conf_state.proofs.LimitLemmas.{entries_length-found, entries_length-put}
+
+-- a configuration under a name keeps the limits
+pub named-good : (es : List Entry) (name : List ℕ) (t : grammar.Tree) → AreConfigs es → config_named es name ≡ Some t → Good t config_limits
+named-good [] name t all is = cc
+named-good (e ∷ es) name t all is = by (same_text name e.0) is (named-good es name t all.2)
+  where
+    by : (b : Bool) → (if b then Some e.1 else config_named es name) ≡ Some t → (config_named es name ≡ Some t → Good t config_limits) → Good t config_limits
+    by true found rest = let same : e.1 ≡ t = cc in subst (λ x. Good x config_limits) same all.1
+    by false found rest = rest found
+
+-- ---- what the map finds under a name
+
+-- what the map finds under a name is the configuration of that name
+pub found-named : (q : List ℕ) → IsUtf8 q → (es : List (String Global × Tree)) → ArePlain es → (v : Tree)
+    → lookup (λ k. bytes_eq q (string_bytes k)) es ≡ Some v → config_named (entries_of es) (chars q) ≡ Some (tree_of v)
+found-named q utf8 es plain v is = sym (lookup-named q utf8 es plain) ∙ ap (option_map tree_of) is
+
+some_there : {A : Type 0} (o : Option A) → true ≡ is_some o → (v : A) × (o ≡ Some v)
+some_there (Some v) is = (v, refl)
+some_there None is = cc
+
+-- the configuration of a name's number is the one under the name
+pub numbered-named : (q : List ℕ) → IsUtf8 q → (ns : List (ℕ × (String Global × Tree))) (n : ℕ) → AreApart (heads ns) → number_of q (heads ns) ≡ Some n
+    → ArePlain (values_of ns) → (e : String Global × Tree) → lookup (is_at (nat_cmp n)) ns ≡ Some e → config_named (entries_of (values_of ns)) (chars q) ≡ Some (tree_of e.1)
+numbered-named q utf8 ns n apart is plain e found =
+    found-named q utf8 (values_of ns) plain e.1 (sym (lookup-number q ns n apart is) ∙ ap (option_map (λ e. e.1)) found)
+
+-- a name that has a number is the name of a configuration
+pub present-numbered : (q : List ℕ) → IsUtf8 q → (ns : List (ℕ × (String Global × Tree))) (n : ℕ) → AreApart (heads ns) → number_of q (heads ns) ≡ Some n
+    → ArePlain (values_of ns) → (v : Tree) × (config_named (entries_of (values_of ns)) (chars q) ≡ Some (tree_of v))
+present-numbered q utf8 ns n apart is plain =
+    let found = some_there (lookup (is_at (nat_cmp n)) ns) (sym (number-there q ns n is)) in
+    (found.0.1, numbered-named q utf8 ns n apart is plain found.0 found.1)
+
+-- another configuration under the number of a name is put under the name
+pub edit-placed : (q : List ℕ) (ns : List (ℕ × (String Global × Tree))) (n : ℕ) (old : String Global × Tree) (t : Tree) → AreApart (heads ns)
+    → number_of q (heads ns) ≡ Some n → lookup (is_at (nat_cmp n)) ns ≡ Some old → (new : List (ℕ × (String Global × Tree)))
+    → new ≡ set_value (is_at (nat_cmp n)) ns (old.0, t) → values_of new ≡ put_under old.0 t (values_of ns)
+edit-placed q ns n old t apart is held new set =
+    ap values_of set
+    ∙ set-number old.0 t ns n old apart (subst (λ bs. number_of bs (heads ns) ≡ Some n) (number-name q ns n old apart is held) is) held
+
+-- an option has one value at most
+pub same_value : {A : Type 0} (o : Option A) (t u : A) → o ≡ Some t → o ≡ Some u → t ≡ u
+same_value o t u p q = cc
+
+-- a result is one tree at most
+pub same_edit : {E : Type 0} (r : Result grammar.Tree E) (t u : grammar.Tree) → r ≡ Ok t → r ≡ Ok u → t ≡ u
+same_edit r t u p q = cc
+
+-- ---- lengths
+
+entry_value : (name : List ℕ) (t : grammar.Tree) → entry_length name t ≡ byte_len (spaces 2 ++ key_lines 2 name) + byte_len (value_at t 2)
+unfolding entry_length
+entry_value name t = byte_len-append (spaces 2 ++ key_lines 2 name) (value_at t 2)
+
+-- the bytes of all configurations after an edit of one, from the measured change
+pub edit-length : (es : List Entry) (name : List ℕ) (old new : grammar.Tree) (change : Change) → config_named es name ≡ Some old → Changes change old new
+    → entries_length (put_config es name new) + length_at change.removed 4 ≡ entries_length es + length_at change.added 4
+edit-length es name old new change there is =
+    let value = is.after_key 2 in
+    omega (
+      arith,
+      value,
+      entries_length-found es name old there,
+      entries_length-put es name new,
+      entry_value name old,
+      entry_value name new,
+    )
+
+value_fits : (t : grammar.Tree) → byte_len (style_text t) ≤ config_limits.style → byte_len (value_at t 2) ≤ 10000000
+value_fits t short = omega (arith, value_law t 2, value_bound t, value_small t)
+
+-- these bytes stay within a 64-bit number
+pub edit-short : (es : List Entry) (name : List ℕ) (old new : grammar.Tree) → config_named es name ≡ Some old → entries_length es ≤ base_limit
+    → byte_len (style_text new) ≤ config_limits.style → entries_length (put_config es name new) < 18446744073709551616
+edit-short es name old new there short small =
+    omega (
+      arith,
+      value_fits new small,
+      entries_length-found es name old there,
+      entries_length-put es name new,
+      entry_value name old,
+      entry_value name new,
+    )
+
+-- ---- the path of a pointer
+
+-- what is read of a pointer is its path
+pub parsed-Ok : (pointer : List ℕ) (path : List (List ℕ)) → (◌≡◌ {A = Result (List (List ℕ)) PathFault} (Ok path) (Err path_faults.OutOfMemory)) ⊎ (Ok path ≡ path_of pointer)
+    → path_of pointer ≡ Ok path
+parsed-Ok pointer path (inl none) = cc
+parsed-Ok pointer path (inr read) = sym read
+
+-- or it is none, or there was no memory
+pub parsed-Err : (pointer : List ℕ) (fault : PathFault)
+    → (◌≡◌ {A = Result (List (List ℕ)) PathFault} (Err fault) (Err path_faults.OutOfMemory)) ⊎ (Err fault ≡ path_of pointer)
+    → (store_fault_of fault ≡ OutOfMemory) ⊎ (by_path (path_of pointer) ≡ Err (store_fault_of fault))
+parsed-Err pointer fault (inl none) = let same : path_faults.OutOfMemory ≡ fault = cc in inl (ap store_fault_of (sym same))
+parsed-Err pointer fault (inr read) = by fault (sym read)
+  where
+    by : (fault : PathFault) → path_of pointer ≡ Err fault → (store_fault_of fault ≡ OutOfMemory) ⊎ (by_path (path_of pointer) ≡ Err (store_fault_of fault))
+    by (path_faults.BadPath at) e = inr (ap by_path e)
+    by (path_faults.NoSuchPlace step) e = inr (ap by_path e)
+    by (path_faults.NotIndex step) e = inr (ap by_path e)
+    by path_faults.OutOfMemory e = inl refl
+
+-- a pointer with a character has a step
+pub pointer-steps : (pointer : List ℕ) (path : List (List ℕ)) → IsUtf8 pointer → 0 < length pointer → chars pointer ≡ pointer_text path → 0 < length path
+pointer-steps pointer [] utf8 some is =
+    let none : pointer ≡ [] = sym (encodes-chars pointer utf8) ∙ ap encodes is in
+    omega (arith, some, ap length none)
+pointer-steps pointer (token ∷ tokens) utf8 some is = omega arith
+
+-- a pointer of no bytes has no characters
+pub empty-pointer : (pointer : List ℕ) → length pointer ≡ 0 → chars pointer ≡ []
+empty-pointer [] none = chars-nil
+empty-pointer (b ∷ bs) none = absurd (omega (arith, none))
+
+-- ---- the configurations after an edit
+
+-- a delete at a pointer that has a step is an edit
+pub delete-edits : (es : List Entry) (name pointer : List ℕ) → IsUtf8 pointer → 0 < length pointer
+    → configs_after es (delete_at name (chars pointer)) ≡ configs_after_edit es name Delete (chars pointer)
+delete-edits es name pointer utf8 some = by (chars pointer) refl
+  where
+    at_path : (t : grammar.Tree) (text : List ℕ) (r : Result (List (List ℕ)) PathFault) → path_of text ≡ r → 0 < length text
+        → and_then (by_path r) (configs_after_delete es name t) ≡ and_then (by_path r) (configs_with_edit es name Delete t)
+    at_path t text (Ok (token ∷ tokens)) is more = refl
+    at_path t [] (Ok []) is more = absurd (omega (arith, more))
+    at_path t (c ∷ cs) (Ok []) is more = first (c == slash) refl (first_stray (c ∷ cs)) is
+      where
+        first : (s : Bool) → (c == slash) ≡ s → (o : Option ℕ) → tokens_or_place (if s then o else Some 0) (c ∷ cs) ≡ Ok []
+            → Ok (cut_config es name) ≡ configs_with_edit es name Delete t []
+        first true slashed None e = let none = rw slashed at e in absurd (cc)
+        first true slashed (Some n) e = absurd (cc)
+        first false other o e = absurd (cc)
+    at_path t text (Err fault) is more = refl
+
+    by : (text : List ℕ) → chars pointer ≡ text → configs_after es (delete_at name text) ≡ configs_after_edit es name Delete text
+    by [] is = absurd (omega (arith, some, ap length (sym (encodes-chars pointer utf8) ∙ ap encodes is)))
+    by (c ∷ cs) is = there (config_named es name)
+      where
+        there : (o : Option grammar.Tree) → and_then (found o) (λ t. and_then (by_path (path_of (c ∷ cs))) (configs_after_delete es name t))
+            ≡ and_then (found o) (λ t. and_then (by_path (path_of (c ∷ cs))) (configs_with_edit es name Delete t))
+        there (Some t) = at_path t (c ∷ cs) (path_of (c ∷ cs)) refl (omega arith)
+        there None = refl
+
+module _ (es : List Entry) (name : List ℕ) (edit : Edit) where
+  -- an edit under a name without a configuration is refused by `NoConfig`
+  pub tree_after_edit-nothing : (pointer : List ℕ) → config_named es name ≡ None → configs_after_edit es name edit pointer ≡ Err NoConfig
+  tree_after_edit-nothing pointer absent = rw absent refl
+
+  -- an edit at a pointer is one at its path
+  pub edited-at : (pointer : List ℕ) (old : grammar.Tree) (path : List (List ℕ)) → config_named es name ≡ Some old → path_of pointer ≡ Ok path
+      → configs_after_edit es name edit pointer ≡ configs_with_edit es name edit old path
+  edited-at pointer old path there parsed = rw (there, parsed) refl
+
+  -- the refusals of a pointer, and of an edit at its path
+  module _ (pointer : List ℕ) (next : List Entry → Result Contents StoreFault) (old : grammar.Tree) where
+    pub edited-unread : (fault : StoreFault) → config_named es name ≡ Some old → (fault ≡ OutOfMemory) ⊎ (by_path (path_of pointer) ≡ Err fault)
+        → (fault ≡ OutOfMemory) ⊎ (and_then (configs_after_edit es name edit pointer) next ≡ Err fault)
+    edited-unread fault there (inl none) = inl none
+    edited-unread fault there (inr refused) =
+        inr (ap (λ o. and_then (and_then (found o) (λ t. and_then (by_path (path_of pointer)) (configs_with_edit es name edit t))) next) there
+        ∙ ap (λ r. and_then (and_then r (configs_with_edit es name edit old)) next) refused)
+
+    pub edited-refused : (path : List (List ℕ)) (fault : StoreFault) → config_named es name ≡ Some old → path_of pointer ≡ Ok path
+        → (fault ≡ OutOfMemory) ⊎ ((n : List ℕ) → configs_with_edit es n edit old path ≡ Err fault)
+        → (fault ≡ OutOfMemory) ⊎ (and_then (configs_after_edit es name edit pointer) next ≡ Err fault)
+    edited-refused path fault there parsed (inl none) = inl none
+    edited-refused path fault there parsed (inr refused) =
+        inr (ap (λ r. and_then r next) (edited-at pointer old path there parsed ∙ refused name))
+
+  module _ (path : List (List ℕ)) (old new : grammar.Tree) (made : tree_after_edit edit old path ≡ Ok new) where
+    pub tree_after_edit-deep : nat_le (depth new) config_limits.depth ≡ false → configs_with_edit es name edit old path ≡ Err TooDeep
+    tree_after_edit-deep deep =
+        let more : nat_lt config_limits.depth (depth new) ≡ true = grind (arith, nat_tests, deep) in
+        rw (made, more) refl
+
+    pub tree_after_edit-large : nat_le (depth new) config_limits.depth ≡ true → config_limits.style < byte_len (style_text new) → configs_with_edit es name edit old path ≡ Err ConfigLarge
+    tree_after_edit-large deep long =
+        let fits : nat_lt config_limits.depth (depth new) ≡ false = grind (arith, nat_tests, deep) in
+        let more : nat_lt config_limits.style (byte_len (style_text new)) ≡ true = grind (arith, nat_tests) in
+        rw (made, fits, more) refl
+
+    pub tree_after_edit-new : depth new ≤ config_limits.depth → byte_len (style_text new) ≤ config_limits.style → configs_with_edit es name edit old path ≡ Ok (put_config es name new)
+    tree_after_edit-new deep long =
+        let fits : nat_lt config_limits.depth (depth new) ≡ false = grind (arith, nat_tests) in
+        let short : nat_lt config_limits.style (byte_len (style_text new)) ≡ false = grind (arith, nat_tests) in
+        rw (made, fits, short) refl
+
+-- a number that passes the test is at most the other
+pub at_most : (a b : ℕ) → nat_le a b ≡ true → a ≤ b
+at_most a b e = grind (arith, nat_tests)

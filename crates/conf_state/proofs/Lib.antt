@@ -1,0 +1,13 @@
+pub mod BaseLemmas
+pub mod CountLemmas
+pub mod EditLemmas
+pub mod EntryLemmas
+pub mod LimitLemmas
+pub mod LineLemmas
+pub mod NameLemmas
+pub mod NumberLemmas
+pub mod PartLemmas
+pub mod RefusalLemmas
+pub mod RunLaws
+pub mod StateLemmas
+pub mod StepLemmas

@@ -1,0 +1,50 @@
+-- The lines of a document, as they are written one after another.
+use Rattle.std.proofs.Common.{◌≡◌, ℕ, ◌<◌, true, nat_lt, List, [], ◌++◌, codes, append-nil, append_assoc, ap, sym, ◌∙◌, arith}
+use Rattle.std.proofs.lemmas.Bool.Decides.{nat_tests}
+use Rattle.std.proofs.lemmas.Str.{chars-IsAscii}
+use Rattle.std.specs.Str.{chars}
+use Rattle.std.specs.Str.Parse.{AllDigits}
+use Rattle.std.specs.List.{list_all}
+use Rattle.yaml_grammar.specs.Trees.{Tree, text, no_member, member}
+use Rattle.yaml_grammar.specs.Style.{key_lines, value_at, members_after}
+use Rattle.yaml_data.proofs.CharacterLemmas.{every-IsAscii}
+use Rattle.conf_state.proofs.BaseLemmas.{count_line}
+
+-- ASCII, by a test that computes
+pub ascii : (cs : List ℕ) → list_all (λ c. nat_lt c 128) cs ≡ true → chars cs ≡ cs
+ascii cs e = chars-IsAscii cs (every-IsAscii (λ c. nat_lt c 128) below cs e)
+  where
+    below : (c : ℕ) → nat_lt c 128 ≡ true → c < 128
+    below c passed = grind (arith, nat_tests)
+
+-- a member of the mapping at the top
+abbrev pub line : List ℕ → Tree → List ℕ
+line key t = key_lines 0 key ++ value_at t 0
+
+-- the lines of two members
+pub two_lines : (k l : List ℕ) (t u : Tree) → line k t ++ line l u ≡ members_after (member k t (member l u no_member)) 0
+two_lines k l t u = ap (λ xs. line k t ++ xs) (sym (append-nil (line l u)))
+
+-- the lines of three members
+pub three_lines : (k l m : List ℕ) (t u v : Tree)
+    → line k t ++ line l u ++ line m v ≡ members_after (member k t (member l u (member m v no_member))) 0
+three_lines k l m t u v =
+    append_assoc (line k t) (line l u) (line m v) ∙ ap (λ xs. line k t ++ xs) (two_lines l m u v)
+
+-- the line of a number, with its digits in quotes
+pub number_line : (ds : List ℕ) → AllDigits 10 ds → codes "at: \"" ++ ds ++ codes "\"\n" ≡ line (codes "at") (text ds)
+number_line ds all =
+    ap (λ cs. codes "at: \"" ++ cs) (sym (append_assoc ds (codes "\"") (codes "\n")))
+    ∙ ap (λ cs. codes "at: " ++ cs) (sym (count_line ds all))
+
+-- what is between the first line of a document and its last
+pub framed_line : (first rest : List ℕ) → codes "---\n" ++ first ++ rest ++ codes "...\n" ≡ codes "---\n" ++ (first ++ rest) ++ codes "...\n"
+framed_line first rest = ap (λ cs. cs ++ codes "...\n") (append_assoc (codes "---\n") first rest)
+
+-- the same of a base, whose mapping ends with the configurations
+pub base_lines : (number configs : List ℕ)
+    → codes "---\n" ++ codes "store: confstore-1\n" ++ number ++ codes "configs:" ++ configs ++ codes "...\n"
+    ≡ codes "---\n" ++ (codes "store: confstore-1\n" ++ (number ++ (codes "configs:" ++ configs ++ []))) ++ codes "...\n"
+base_lines number configs =
+    ap (λ cs. codes "---\n" ++ (codes "store: confstore-1\n" ++ cs) ++ codes "...\n")
+    (append_assoc number (codes "configs:") configs ∙ ap (λ cs. number ++ cs) (sym (append-nil (codes "configs:" ++ configs))))

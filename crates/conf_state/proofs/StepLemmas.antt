@@ -1,0 +1,80 @@
+-- What a command makes of a state that puts in or takes out a whole configuration, or is refused before any edit.
+use Rattle.std.proofs.Common.{◌≡◌, ℕ, ◌<◌, ◌≤◌, ◌==◌, Bool, true, false, not, List, [], Option, Some, None, option_map, is_some, Ok, Err, refl, ap, ◌∙◌, arith}
+use Rattle.std.proofs.lemmas.Bool.Decides.{nat_tests}
+use Rattle.yaml_grammar.specs.Style.{style_text}
+use Rattle.yaml_grammar.specs.Texts.{byte_len}
+use Rattle.yaml_grammar.specs.Trees.{Tree, depth}
+use Rattle.yaml_tree.specs.Limits.{config_limits}
+use Rattle.conf_state.specs.Commands.{import_as, set_at, delete_at}
+use Rattle.conf_state.specs.States.{Contents, config_named, put_config, cut_config}
+use Rattle.conf_state.specs.Steps.{and_then, found, checked_tree, with_checked_config, next_state, state_after_command}
+use Rattle.conf_state.specs.declared.fault.StoreFault.{StoreFault}
+use Rattle.conf_state.specs.declared.fault.StoreFault.TheVariants.{NoConfig, TooDeep, ConfigLarge}
+use Rattle.conf_state.proofs.CountLemmas.{lt-true, lt-false}
+
+-- ---- the limits of a configuration, in their order
+
+pub checked_tree-deep : (t : Tree) → config_limits.depth < depth t → checked_tree t ≡ Err TooDeep
+checked_tree-deep t deep = rw (lt-true config_limits.depth (depth t) deep) refl
+
+pub checked_tree-large : (t : Tree) → depth t ≤ config_limits.depth → config_limits.style < byte_len (style_text t) → checked_tree t ≡ Err ConfigLarge
+checked_tree-large t deep long =
+    rw (lt-false config_limits.depth (depth t) deep, lt-true config_limits.style (byte_len (style_text t)) long) refl
+
+pub checked_tree-within : (t : Tree) → depth t ≤ config_limits.depth → byte_len (style_text t) ≤ config_limits.style → checked_tree t ≡ Ok t
+checked_tree-within t deep long =
+    rw (lt-false config_limits.depth (depth t) deep, lt-false config_limits.style (byte_len (style_text t)) long) refl
+
+-- ---- what the code's tests say
+
+pub some_bytes : (length : ℕ) (empty : Bool) → empty ≡ (length == 0) → empty ≡ false → 0 < length
+some_bytes length empty is e = grind (arith, nat_tests)
+
+pub no_bytes : (length : ℕ) (empty : Bool) → empty ≡ (length == 0) → empty ≡ true → length ≡ 0
+no_bytes length empty is e = grind (arith, nat_tests)
+
+pub mapped_none : {A B : Type 0} (f : A → B) (o : Option A) (none : Bool) → is_some o ≡ not none → none ≡ true → option_map f o ≡ None
+mapped_none f None none is e = refl
+mapped_none f (Some x) none is e = let differ : true ≡ not true = is ∙ ap not e in cc
+
+pub mapped_some : {A B : Type 0} (f : A → B) (o : Option A) (none : Bool) → is_some o ≡ not none → none ≡ false → is_some (option_map f o) ≡ true
+mapped_some f (Some x) none is e = refl
+mapped_some f None none is e = let differ : false ≡ not false = is ∙ ap not e in cc
+
+-- ---- commands
+
+module _ (s : Contents) (fits : Bool) (name : List ℕ) where
+  -- an import of a tree that keeps to the limits puts it in
+  pub import-checked : (t : Tree) → checked_tree t ≡ Ok t → state_after_command s (import_as name t) fits ≡ next_state s fits (put_config s.configs name t)
+  import-checked t is = ap (λ r. and_then (and_then r (λ u. Ok (put_config s.configs name u))) (next_state s fits)) is
+
+  -- an import of another is refused
+  pub import-refused : (t : Tree) (fault : StoreFault) → checked_tree t ≡ Err fault → state_after_command s (import_as name t) fits ≡ Err fault
+  import-refused t fault is = ap (λ r. and_then (and_then r (λ u. Ok (put_config s.configs name u))) (next_state s fits)) is
+
+  -- a set and a delete need a configuration of the name
+  pub set-nothing : (path : List ℕ) (t : Tree) → config_named s.configs name ≡ None → state_after_command s (set_at name path t) fits ≡ Err NoConfig
+  set-nothing path t absent = rw absent refl
+
+  pub delete-nothing : (path : List ℕ) → config_named s.configs name ≡ None → state_after_command s (delete_at name path) fits ≡ Err NoConfig
+  delete-nothing path absent = rw absent refl
+
+  -- a set at the empty path is an import
+  pub set-whole : (path : List ℕ) (t : Tree) → path ≡ [] → is_some (config_named s.configs name) ≡ true
+      → state_after_command s (set_at name path t) fits ≡ state_after_command s (import_as name t) fits
+  set-whole path t empty there = rw empty (by (config_named s.configs name) there)
+    where
+      by : (o : Option Tree) → is_some o ≡ true
+          → and_then (and_then (found o) (λ u. with_checked_config s.configs name t)) (next_state s fits) ≡ state_after_command s (import_as name t) fits
+      by (Some u) e = refl
+      by None e = cc
+
+  -- a delete at the empty path takes the configuration out
+  pub delete-whole : (path : List ℕ) → path ≡ [] → is_some (config_named s.configs name) ≡ true
+      → state_after_command s (delete_at name path) fits ≡ next_state s fits (cut_config s.configs name)
+  delete-whole path empty there = rw empty (by (config_named s.configs name) there)
+    where
+      by : (o : Option Tree) → is_some o ≡ true
+          → and_then (and_then (found o) (λ u. Ok (cut_config s.configs name))) (next_state s fits) ≡ next_state s fits (cut_config s.configs name)
+      by (Some u) e = refl
+      by None e = cc

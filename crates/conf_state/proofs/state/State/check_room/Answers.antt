@@ -1,0 +1,37 @@
+use Rattle.std.proofs.Common.{◌≡◌, ◌+◌, min, ap, ap₂, sym, ◌∙◌, arith}
+use Rattle.conf_state.specs.BaseTexts.{framed_length}
+use Rattle.conf_state.proofs.CountLemmas.{next_state-full, next_state-long, next_state-last, next_state-new}
+use Rattle.conf_state.proofs.state.State.check_room.Goals as goal
+
+pub returns-then-base_length-gt-BASE_LIMIT-clause-refused :
+    goal.returns-then-base_length-gt-BASE_LIMIT-clause-refused
+returns-then-base_length-gt-BASE_LIMIT-clause-refused c = λ configs is.
+    let state = c.args.self.now in
+    let count : c.from.result ≡ state.count = c.from.ensures ∙ ap (λ s. s.count) c.self.view_is in
+    next_state-full state c.args.fits configs (omega arith) c.base_length.result
+    (c.base_length.ensures ∙ ap₂ (λ n l. min (framed_length (n + 1) l) 18446744073709551615) count is)
+    c.if-base_length-gt-BASE_LIMIT.true
+
+pub returns-then-not-fits-clause-refused : goal.returns-then-not-fits-clause-refused
+returns-then-not-fits-clause-refused c = λ configs is.
+    let state = c.args.self.now in
+    let count : c.from.result ≡ state.count = c.from.ensures ∙ ap (λ s. s.count) c.self.view_is in
+    next_state-long state c.args.fits configs (omega arith) c.base_length.result
+    (c.base_length.ensures ∙ ap₂ (λ n l. min (framed_length (n + 1) l) 18446744073709551615) count is)
+    c.if-base_length-gt-BASE_LIMIT.false c.if-not-fits.true
+
+pub returns-then-self-clause-refused : goal.returns-then-self-clause-refused
+returns-then-self-clause-refused c = λ configs is.
+    let state = c.args.self.now in
+    let count : c.from.result ≡ state.count = c.from.ensures ∙ ap (λ s. s.count) c.self.view_is in
+    next_state-last state c.args.fits configs (omega arith) c.base_length.result
+    (c.base_length.ensures ∙ ap₂ (λ n l. min (framed_length (n + 1) l) 18446744073709551615) count is)
+    c.if-base_length-gt-BASE_LIMIT.false c.if-not-fits.false (sym (ap (λ s. s.count) c.self.view_is) ∙ c.if-self.true)
+
+pub returns-clause-ok : goal.returns-clause-ok
+returns-clause-ok c = λ configs is.
+    let state = c.args.self.now in
+    let count : c.from.result ≡ state.count = c.from.ensures ∙ ap (λ s. s.count) c.self.view_is in
+    next_state-new state c.args.fits configs (omega arith) c.base_length.result
+    (c.base_length.ensures ∙ ap₂ (λ n l. min (framed_length (n + 1) l) 18446744073709551615) count is)
+    c.if-base_length-gt-BASE_LIMIT.false c.if-not-fits.false (omega (arith, ap (λ s. s.count) c.self.view_is))

@@ -1,0 +1,18 @@
+use Rattle.std.proofs.Common.{Option, Some, None, Bor, option_map, option_copied, ◌≡◌, refl, ap, ◌∙◌}
+use Rattle.std.specs.Map.{values_of}
+use Rattle.std.specs.Str.{chars}
+use Rattle.yaml_data.specs.Seen.{tree_of}
+use Rattle.yaml_data.specs.declared.tree.Tree.{Tree}
+use Rattle.conf_state.specs.States.{config_named}
+use Rattle.conf_state.proofs.EntryLemmas.{lookup-named}
+use Rattle.conf_state.proofs.state.State.get.Goals as goal
+
+seen : (found : Option (Bor Tree)) → option_map (λ config. tree_of config.now) found ≡ option_map tree_of (option_copied found)
+seen (Some config) = refl
+seen None = refl
+
+pub returns : goal.returns
+returns c =
+    seen c.get.result ∙ ap (option_map tree_of) c.get.ensures
+    ∙ lookup-named c.args.name.now c.utf8.name (values_of c.self.inside.configs.named.entries) c.self.invariant.0.plain
+    ∙ ap (λ s. config_named s.configs (chars c.args.name.now)) c.self.view_is

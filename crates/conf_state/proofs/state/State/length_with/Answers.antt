@@ -1,0 +1,8 @@
+use Rattle.std.proofs.Common.{arith}
+use Rattle.std.specs.Str.{chars}
+use Rattle.yaml_data.specs.Seen.{tree_of}
+use Rattle.conf_state.proofs.LimitLemmas.{entries_length-put}
+use Rattle.conf_state.proofs.state.State.length_with.Goals as goal
+
+pub returns : goal.returns
+returns c = omega (arith, entries_length-put c.args.self.now.configs (chars c.args.name.now) (tree_of c.args.config.now))

@@ -1,0 +1,15 @@
+use Rattle.std.proofs.Common.{List, [], ◌∷◌, String, Global, string_bytes, ◌≡◌, refl, ap, ◌∙◌}
+use Rattle.std.specs.Map.{values_of}
+use Rattle.std.specs.Str.{chars}
+use Rattle.yaml_data.specs.declared.tree.Tree.{Tree}
+use Rattle.conf_state.specs.States.{names_of}
+use Rattle.conf_state.specs.Kept.{names_from, entries_of}
+use Rattle.conf_state.proofs.state.State.names.Goals as goal
+
+same_names : (es : List (String Global × Tree)) → names_from es ≡ names_of (entries_of es)
+same_names [] = refl
+same_names (e ∷ es) = ap (λ names. chars (string_bytes e.0) ∷ names) (same_names es)
+
+pub returns : goal.returns
+returns c =
+    ap names_from c.values-named.ensures.rest ∙ same_names (values_of c.self.inside.configs.named.entries) ∙ ap (λ s. names_of s.configs) c.self.view_is

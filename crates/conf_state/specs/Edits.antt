@@ -1,0 +1,38 @@
+-- Edits inside a configuration.
+use Rattle.std.specs.Prelude.{◌≡◌, ℕ, ◌≤◌, List, Result, Ok}
+use Rattle.yaml_grammar.specs.Texts.{byte_len}
+use Rattle.yaml_grammar.specs.Trees.{Tree, depth}
+use Rattle.yaml_grammar.specs.Style.{style_text}
+use Rattle.tree_path.specs.Paths.{last_key}
+use Rattle.json_pointer.specs.Pointers.{path_of}
+use Rattle.conf_state.specs.States.{Entry, config_named, put_config}
+use Rattle.yaml_tree.specs.Limits.{config_limits}
+use Rattle.conf_state.specs.BaseTexts.{entries_length}
+use Rattle.conf_state.specs.Steps.{and_then, found, by_path, with_checked_config}
+use Rattle.conf_state.specs.declared.fault.StoreFault.{StoreFault}
+use Rattle.edit_lengths.specs.Edits.{tree_after_edit}
+use Rattle.edit_lengths.specs.declared.edit.Edit.{Edit}
+use Rattle.conf_state.specs.declared.state.EditPlan.{EditPlan}
+
+-- the configurations with an edited tree under a name, or the refusal of the edit
+abbrev pub configs_with_edit : List Entry → List ℕ → Edit → Tree → List (List ℕ) → Result (List Entry) StoreFault
+configs_with_edit configs name edit t path =
+    and_then (by_path (tree_after_edit edit t path)) (with_checked_config configs name)
+
+-- the configurations after an edit, at a pointer, of the one under a name
+abbrev pub configs_after_edit : List Entry → List ℕ → Edit → List ℕ → Result (List Entry) StoreFault
+configs_after_edit configs name edit pointer =
+    and_then (found (config_named configs name))
+    (λ t. and_then (by_path (path_of pointer)) (configs_with_edit configs name edit t))
+
+-- The edit leaves the configuration under a name within its limits. The plan has the lengths after it, and the place
+-- of the path's last key.
+pub record IsPlan (configs : List Entry) (name : List ℕ) (edit : Edit) (old : Tree) (path : List (List ℕ))
+    (plan : EditPlan) : Type 0 where
+  pub new : Tree
+  pub made : tree_after_edit edit old path ≡ Ok new
+  pub deep : depth new ≤ config_limits.depth
+  pub long : byte_len (style_text new) ≤ config_limits.style
+  pub config : plan.config ≡ byte_len (style_text new)
+  pub entries : plan.entries ≡ entries_length (put_config configs name new)
+  pub place : plan.place ≡ last_key old path

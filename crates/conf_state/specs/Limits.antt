@@ -1,0 +1,19 @@
+-- The limits that a state keeps.
+use Rattle.std.specs.Prelude.{◌≡◌, ◌≤◌, true, List, [], ◌∷◌}
+use Rattle.yaml_grammar.specs.Reads.{Good}
+use Rattle.conf_state.specs.Names.{good_name}
+use Rattle.conf_state.specs.States.{Entry, Contents, names_of, names_differ, base_limit, count_limit}
+use Rattle.yaml_tree.specs.Limits.{config_limits}
+use Rattle.conf_state.specs.BaseTexts.{base_length}
+
+-- each name is good, and each tree is within the limits of a configuration
+abbrev pub AreConfigs : List Entry → Type 0
+AreConfigs [] = Unit {0}
+AreConfigs (e ∷ es) = (good_name e.0 ≡ true) × Good e.1 config_limits × AreConfigs es
+
+-- the state keeps its limits
+pub record IsState (s : Contents) : Type 0 where
+  pub configs : AreConfigs s.configs
+  pub distinct : names_differ (names_of s.configs) ≡ true
+  pub short : base_length s ≤ base_limit
+  pub numbered : s.count ≤ count_limit

@@ -1,0 +1,92 @@
+-- What a command makes of a state: the new state, or the first refusal that holds. They come in this order: BadName,
+-- NoConfig, Path, TooDeep, ConfigLarge, StoreFull, JournalLong, CountFull.
+use Rattle.std.specs.Prelude.{ℕ, ◌+◌, Bool, true, not, nat_le, nat_lt, if◌then◌else◌, List, [], ◌∷◌, Option, Some, None, Result, Ok, Err}
+use Rattle.yaml_grammar.specs.Texts.{byte_len}
+use Rattle.yaml_grammar.specs.Trees.{Tree, depth}
+use Rattle.yaml_grammar.specs.Style.{style_text}
+use Rattle.tree_path.specs.Paths.{set, delete}
+use Rattle.json_pointer.specs.Pointers.{path_of}
+use Rattle.json_pointer.specs.declared.fault.PathFault.{PathFault}
+use Rattle.conf_state.specs.Names.{good_name}
+use Rattle.conf_state.specs.Commands.{Command, import_as, set_at, delete_at, name_of}
+use Rattle.conf_state.specs.States.{Entry, Contents, config_named, put_config, cut_config, base_limit, count_limit}
+use Rattle.yaml_tree.specs.Limits.{config_limits}
+use Rattle.conf_state.specs.BaseTexts.{base_length}
+use Rattle.conf_state.specs.declared.fault.StoreFault.{StoreFault}
+use Rattle.conf_state.specs.declared.fault.StoreFault.TheVariants.{BadName, NoConfig, Path, Read, TooDeep, ConfigLarge, StoreFull, JournalLong, CountFull, Reopen, Device, OutOfMemory}
+
+-- the first refusal of two calls in a row, or what the second gives
+abbrev pub and_then : {A B : Type 0} → Result A StoreFault → (A → Result B StoreFault) → Result B StoreFault
+and_then (Ok x) next = next x
+and_then (Err fault) next = Err fault
+
+-- ---- the configurations after a command whose name is good
+
+-- the configuration that a command needs
+abbrev pub found : Option Tree → Result Tree StoreFault
+found (Some t) = Ok t
+found None = Err NoConfig
+
+-- the outcome of an operation at a path, as an outcome of the store
+abbrev pub by_path : {A : Type 0} → Result A PathFault → Result A StoreFault
+by_path (Ok x) = Ok x
+by_path (Err fault) = Err (Path fault)
+
+-- a tree that is within the limits of a configuration, or the fault that it is not
+abbrev pub checked_tree : Tree → Result Tree StoreFault
+checked_tree t =
+    if nat_lt config_limits.depth (depth t) then Err TooDeep
+    else if nat_lt config_limits.style (byte_len (style_text t)) then Err ConfigLarge
+    else Ok t
+
+-- the configurations with a tree under a name, if it is within the limits
+abbrev pub with_checked_config : List Entry → List ℕ → Tree → Result (List Entry) StoreFault
+with_checked_config configs name t = and_then (checked_tree t) (λ u. Ok (put_config configs name u))
+
+-- at the empty path the configuration is removed, at any other it is edited
+abbrev pub configs_after_delete : List Entry → List ℕ → Tree → List (List ℕ) → Result (List Entry) StoreFault
+configs_after_delete configs name t [] = Ok (cut_config configs name)
+configs_after_delete configs name t (token ∷ tokens) =
+    and_then (by_path (delete t (token ∷ tokens))) (with_checked_config configs name)
+
+abbrev pub configs_after : List Entry → Command → Result (List Entry) StoreFault
+configs_after configs (import_as name tree) = with_checked_config configs name tree
+configs_after configs (set_at name path value) =
+    and_then (found (config_named configs name)) (λ t.
+    and_then (by_path (path_of path)) (λ tokens.
+    and_then (by_path (set t tokens value)) (with_checked_config configs name)))
+configs_after configs (delete_at name path) =
+    and_then (found (config_named configs name)) (λ t.
+    and_then (by_path (path_of path)) (configs_after_delete configs name t))
+
+-- ---- the state after a command
+
+-- the state with these configurations after one more command; `fits` says whether the journal has room for the
+-- command's record
+abbrev pub next_state : Contents → Bool → List Entry → Result Contents StoreFault
+next_state s fits configs =
+    let new : Contents = record { configs = configs; count = s.count + 1 } in
+    if nat_lt base_limit (base_length new) then Err StoreFull
+    else if not fits then Err JournalLong
+    else if nat_le count_limit s.count then Err CountFull
+    else Ok new
+
+-- what a command whose name is good makes of a state
+abbrev pub state_after_command : Contents → Command → Bool → Result Contents StoreFault
+state_after_command s command fits = and_then (configs_after s.configs command) (next_state s fits)
+
+abbrev pub step : Contents → Command → Bool → Result Contents StoreFault
+step s command fits = if good_name (name_of command) then state_after_command s command fits else Err BadName
+
+-- A refusal of a command by a state. The other faults are those of a text that is read, of the disk and of memory.
+abbrev pub IsRefusal : StoreFault → Type 0
+IsRefusal (Read fault) = ⊥
+IsRefusal Reopen = ⊥
+IsRefusal Device = ⊥
+IsRefusal OutOfMemory = ⊥
+IsRefusal fault = Unit {0}
+
+-- the state after commands that are accepted one after the other, or the first refusal
+abbrev pub after : Contents → List Command → Result Contents StoreFault
+after s [] = Ok s
+after s (command ∷ commands) = and_then (step s command true) (λ new. after new commands)

@@ -1,0 +1,20 @@
+//! The state of a store: configurations by name, and what each command makes of them.
+//!
+//! [`step`] performs a [`Command`] on a [`State`]. The texts of states and commands are those of `conf_record`.
+#![tactic(auto)]
+
+mod base;
+mod command;
+mod configs;
+mod fault;
+mod laws;
+mod name;
+mod state;
+mod steps;
+
+pub use command::Command;
+pub use fault::StoreFault;
+pub use laws::{accepted_commands_are_counted, runs_are_joined, steps_are_counted_or_refused};
+pub use name::good_name;
+pub use state::{Names, State};
+pub use steps::step;

@@ -1,0 +1,411 @@
+// The state of a store.
+ghost use Rattle.std.specs.Prelude.{◌≡◌, ◌+◌, ◌<◌, ◌≤◌, ◌⊎◌, ℕ, List, [], min, true, false, option_map, length, Some, Ok, Err, OnOk, IfOk, IfSome, IfNone, MatchOption, is_some, IfErr, OnErr};
+ghost use Rattle.std.specs.Str.{chars};
+ghost use Rattle.std.specs.Iterator.{YieldsFirstBy, item_count};
+ghost use Rattle.yaml_grammar.specs.Reads.{Good};
+ghost use Rattle.yaml_data.specs.Seen.{tree_of};
+ghost use Rattle.conf_state.specs.Commands.{text_of};
+ghost use Rattle.conf_state.specs.Names.{good_name};
+ghost use Rattle.conf_state.specs.Kept.{entries_of, next_number, ArePlain, Appended, IsFit, IsUnfit};
+ghost use Rattle.conf_state.specs.Limits.{IsState};
+ghost use Rattle.conf_state.specs.States.{Entry, names_of, config_named, put_config, cut_config};
+ghost use Rattle.yaml_tree.specs.Limits.{config_limits};
+ghost use Rattle.yaml_grammar.specs.Trees.{mapping};
+ghost use Rattle.yaml_grammar.specs.Style.{value_at};
+ghost use Rattle.conf_state.specs.BaseTexts.{members, base_length, entry_length, entries_length};
+ghost use Rattle.conf_state.specs.Steps.{and_then, next_state};
+ghost use Rattle.conf_state.specs.Edits.{configs_after_edit, configs_with_edit, IsPlan};
+ghost use Rattle.conf_state.specs.Configs.{listed, AreCounted};
+
+use crate::base::{BASE_LIMIT, base_length, entry_length, write_entry};
+use crate::configs::Configs;
+use crate::steps::check_limits;
+use crate::{StoreFault, good_name};
+use edit_lengths::Edit;
+use std::alloc::{AllocError, Global};
+use std::collections::btree_map::Values;
+use std::marker::Model;
+use tree_path::Path;
+use yaml_tree::{Config, Limits, Sink};
+
+/// The indentation of a configuration in a base text: two more than that of its name.
+const ENTRY_INDENT: u64 = 4;
+
+/// The number of a configuration that the first command puts. One that a later command puts has a greater number, and
+/// those that a state begins with have smaller ones.
+const FIRST_PUT: u128 = 18_446_744_073_709_551_616;
+
+/// How many bytes there are after an edit: of the configuration in the one style, and of all configurations in the base
+/// text. And the place of the last key of the edit's path.
+#[derive(Clone, Copy)]
+struct EditPlan {
+    config: u64,
+    entries: u64,
+    place: Option<usize>,
+}
+
+/// The configurations of a store by name, in order, and how many commands were accepted. The number of bytes that the
+/// configurations have in the base text is kept with them. Contracts see the list of configurations, with each name as
+/// its characters, and the count. That a state keeps its limits is said by the clause `limits` of [`State::count`].
+#[derive(Drop)]
+pub struct State {
+    configs: Configs,
+    count: u64,
+    entries: u64,
+}
+
+impl Model for State {
+    ghost use Rattle.conf_state.specs.States.{Contents};
+    ghost use Rattle.conf_state.specs.TreeCode.{contents_code};
+
+    ghost Value = { Contents };
+
+    ghost coded = { contents_code };
+
+    ghost use Rattle.conf_state.specs.Configs.{listed, AreNumbered};
+    ghost use Rattle.conf_state.specs.Kept.{entries_of, IsKept, next_number};
+
+    ghost view = { λ s. record { configs = entries_of (listed s.configs); count = s.count } };
+
+    ghost invariant = { λ s. IsKept (listed s.configs) s.count s.entries
+        × AreNumbered s.configs (next_number s.count) };
+}
+
+impl State {
+    /// No configurations, and no command accepted. It takes no memory.
+    pub fn new(alloc: Global) -> State
+        ensures { result ≡ record { configs = []; count = 0 } }
+    {
+        State {
+            configs: Configs::new(alloc),
+            count: 0,
+            entries: 0,
+        }
+    }
+
+    /// The state that holds these configurations, in this order, after this many accepted commands. Returns `None` if
+    /// no state does: a name is not good or comes twice, a configuration is over its limits, or the base text would
+    /// have more than 67,108,864 bytes. It takes time linear in the configurations, and moves them. It fails only if
+    /// memory runs out.
+    pub fn from_parts(
+        alloc: Global,
+        parts: Vec<(String, Config)>,
+        count: u64,
+    ) -> Result<Option<State>, AllocError>
+        ensures some { IfOk result (λ read. IfSome read (λ state.
+            (state ≡ record { configs = entries_of parts.items; count = count }) × IsState state)) }
+        ensures none { IfOk result (λ read. IfNone read
+            (IsState (record { configs = entries_of parts.items; count = count }) → ⊥)) }
+    {
+        let mut configs = Configs::new(alloc);
+        let mut entries = 0u64;
+        for (name, config) in parts {
+            match append(&mut configs, name, config)? {
+                Some(length) => entries = entries.saturating_add(length),
+                None => return Ok(None),
+            }
+        }
+        if base_length(u128::from(count), entries) > BASE_LIMIT {
+            return Ok(None);
+        }
+        Ok(Some(State {
+            configs,
+            count,
+            entries,
+        }))
+    }
+
+    /// How many commands were accepted.
+    pub fn count(&self) -> u64
+        ensures count { result ≡ self.now.count }
+        ensures limits { IsState self.now }
+    {
+        self.count
+    }
+
+    /// The number of a configuration that is put last: greater than those of all others.
+    fn next_number(&self) -> u128
+        ensures { result ≡ next_number self.now.count }
+    {
+        FIRST_PUT + u128::from(self.count)
+    }
+
+    /// The configuration under a name; `None` if no configuration has the name.
+    pub fn get(&self, name: &str) -> Option<&Config>
+        ensures { option_map (λ config. tree_of config.now) result
+            ≡ config_named self.now.configs (chars name.now) }
+    {
+        self.configs.get(name)
+    }
+
+    /// The names, in the order of the configurations.
+    pub fn names(&self) -> Names<'_>
+        ensures { result ≡ names_of self.now.configs }
+    {
+        let named = self.configs.named.values();
+        Names { named }
+    }
+
+    /// Puts a configuration under a name, if the store has room for it. A refusal changes nothing.
+    pub(crate) fn put(&mut self, name: String, config: Config, fits: bool) -> Result<(), StoreFault>
+        requires named { good_name (text_of name) ≡ true }
+        requires within { Good (tree_of config) config_limits }
+        ensures ok { OnOk result
+            (next_state self.old fits (put_config self.old.configs (text_of name) (tree_of config))
+            ≡ Ok self.new) }
+        ensures refused { IfErr result (λ fault. (fault ≡ StoreFault.OutOfMemory)
+            ⊎ (next_state self.old fits
+            (put_config self.old.configs (text_of name) (tree_of config)) ≡ Err fault)) }
+        ensures unchanged { OnErr result (self.new ≡ self.old) }
+    {
+        let entries = self.length_with(&name, &config);
+        self.check_room(entries, fits)?;
+        let number = self.next_number();
+        self.configs.put(number, name, config)?;
+        self.entries = entries;
+        self.count += 1;
+        Ok(())
+    }
+
+    /// Makes an edit inside the configuration under a name, in place, at a pointer. The pointer is not empty.
+    ///
+    /// Every refusal is found before anything changes, by the lengths after the edit.
+    pub(crate) fn edit(
+        &mut self,
+        alloc: Global,
+        name: &str,
+        pointer: &str,
+        edit: Edit,
+        fits: bool,
+    ) -> Result<(), StoreFault>
+        requires named { good_name (chars name.now) ≡ true }
+        requires steps { 0 < length pointer.now }
+        ensures ok { OnOk result
+            (and_then
+            (configs_after_edit self.old.configs (chars name.now) edit (chars pointer.now))
+            (next_state self.old fits) ≡ Ok self.new) }
+        ensures refused { IfErr result (λ fault. (fault ≡ StoreFault.OutOfMemory)
+            ⊎ (and_then
+            (configs_after_edit self.old.configs (chars name.now) edit (chars pointer.now))
+            (next_state self.old fits) ≡ Err fault)) }
+        ensures unchanged { OnErr result (self.new ≡ self.old) }
+    {
+        let Some(number) = self.configs.number_of(name) else {
+            return Err(StoreFault::NoConfig);
+        };
+        let path = Path::parse(alloc, pointer)?;
+        let plan = self.plan_edit(&self.configs.named[&number].1, &path, &edit)?;
+        self.check_room(plan.entries, fits)?;
+        let config = &mut self.configs.named.get_mut(&number).unwrap().1;
+        edit.perform(alloc, config, &path, plan.place, plan.config)?;
+        self.entries = plan.entries;
+        self.count += 1;
+        Ok(())
+    }
+
+    /// The lengths after an edit of one of the configurations, if that then keeps its limits.
+    fn plan_edit(&self, config: &Config, path: &Path, edit: &Edit) -> Result<EditPlan, StoreFault>
+        requires steps { 0 < length path.now }
+        requires there { (name : List ℕ)
+            × (config_named self.now.configs name ≡ Some (tree_of config.now)) }
+        ensures ok { IfOk result (λ plan. (name : List ℕ)
+            → config_named self.now.configs name ≡ Some (tree_of config.now)
+            → IsPlan self.now.configs name edit.now (tree_of config.now) path.now plan) }
+        ensures refused { IfErr result (λ fault. (fault ≡ StoreFault.OutOfMemory)
+            ⊎ ((name : List ℕ)
+            → configs_with_edit self.now.configs name edit.now (tree_of config.now) path.now
+            ≡ Err fault)) }
+    {
+        let entries = self.entries_length();
+        let plan = edit.plan(config, path)?;
+        if !edit.keeps_depth(path) {
+            return Err(StoreFault::TooDeep);
+        }
+        let bytes = plan.change.length_after(config.style_length(), 0);
+        if bytes > u128::from(Limits::CONFIGURATION.style) {
+            return Err(StoreFault::ConfigLarge);
+        }
+        Ok(EditPlan {
+            config: bytes as u64,
+            entries: plan.change.length_after(entries, ENTRY_INDENT) as u64,
+            place: plan.place,
+        })
+    }
+
+    /// Removes the configuration under a name, if there is one. A refusal changes nothing.
+    pub(crate) fn take_out(&mut self, name: &str, fits: bool) -> Result<(), StoreFault>
+        ensures ok { OnOk result (next_state self.old fits
+            (cut_config self.old.configs (chars name.now)) ≡ Ok self.new) }
+        ensures refused { IfErr result
+            (λ fault. next_state self.old fits (cut_config self.old.configs (chars name.now))
+            ≡ Err fault) }
+        ensures unchanged { OnErr result (self.new ≡ self.old) }
+    {
+        let entries = self.length_without(name);
+        self.check_room(entries, fits)?;
+        self.configs.remove(name);
+        self.entries = entries;
+        self.count += 1;
+        Ok(())
+    }
+
+    /// Whether the store has room for one more command, after which the configurations have `entries` bytes in the base
+    /// text.
+    fn check_room(&self, entries: u64, fits: bool) -> Result<(), StoreFault>
+        ensures ok { OnOk result ((configs : List Entry)
+            → entries ≡ min (entries_length configs) u64.MAX
+            → next_state self.now fits configs
+            ≡ Ok (record { configs = configs; count = self.now.count + 1 })) }
+        ensures counts { OnOk result (self.now.count < u64.MAX) }
+        ensures short { OnOk result (entries ≤ BASE_LIMIT) }
+        ensures refused { IfErr result (λ fault. (configs : List Entry)
+            → entries ≡ min (entries_length configs) u64.MAX
+            → next_state self.now fits configs ≡ Err fault) }
+    {
+        if base_length(u128::from(self.count) + 1, entries) > BASE_LIMIT {
+            return Err(StoreFault::StoreFull);
+        }
+        if !fits {
+            return Err(StoreFault::JournalLong);
+        }
+        if self.count == u64::MAX {
+            return Err(StoreFault::CountFull);
+        }
+        Ok(())
+    }
+
+    /// How many bytes all configurations have in the base text.
+    fn entries_length(&self) -> u64
+        ensures exact { result ≡ entries_length self.now.configs }
+        ensures short { result ≤ BASE_LIMIT }
+        ensures kept { IsState self.now }
+    {
+        self.entries
+    }
+
+    /// How many bytes the base text has, at most 67,108,864. The configurations are not counted again.
+    pub fn base_length(&self) -> u64
+        ensures { result ≡ base_length self.now }
+    {
+        base_length(u128::from(self.count), self.entries_length())
+    }
+
+    /// Writes the configurations as a base text has them after `configs:`: each under its name at the indentation 2, in
+    /// their order and the one style, or ` {}` if there are none. It fails only if the sink does.
+    pub fn write_configs<S: Sink>(&self, sink: &mut S) -> Result<(), S::Fault>
+        ensures { OnOk result (S.Takes sink.old (value_at
+            (mapping (members self.now.configs)) 0) sink.new) }
+    {
+        if self.configs.named.is_empty() {
+            return sink.put_text(" {}\n");
+        }
+        sink.put_char('\n')?;
+        for (name, config) in self.configs.named.values() {
+            write_entry(name, config, sink)?;
+        }
+        Ok(())
+    }
+
+    /// How many bytes the configuration under a name has in the base text; 0 if there is none.
+    fn length_of(&self, name: &str) -> u64
+        ensures { result + entries_length (cut_config self.now.configs (chars name.now))
+            ≡ entries_length self.now.configs }
+    {
+        match self.configs.get(name) {
+            Some(config) => entry_length(name, config),
+            None => 0,
+        }
+    }
+
+    /// How many bytes the configurations would have in the base text with this one under its name; at most the greatest
+    /// `u64`.
+    fn length_with(&self, name: &str, config: &Config) -> u64
+        ensures { result ≡ min (entries_length (put_config self.now.configs (chars name.now)
+            (tree_of config.now))) u64.MAX }
+    {
+        self.length_without(name)
+            .saturating_add(entry_length(name, config))
+    }
+
+    /// How many bytes the configurations would have in the base text without the one under this name.
+    fn length_without(&self, name: &str) -> u64
+        ensures { result ≡ entries_length (cut_config self.now.configs (chars name.now)) }
+    {
+        self.entries_length() - self.length_of(name)
+    }
+}
+
+/// Puts a configuration after the others, and returns how many bytes it has in the base text, at most the greatest
+/// `u64`. Returns `None` if its name is not good or is there, or the configuration is over its limits.
+fn append(configs: &mut Configs, name: String, config: Config) -> Result<Option<u64>, AllocError>
+    requires plain { ArePlain (listed configs.old) }
+    requires counted { AreCounted configs.old }
+    ensures parts { IfOk result (λ read. MatchOption read
+        (IsUnfit (entries_of (listed configs.old)) (text_of name) (tree_of config))
+        (Appended (listed configs.old) (listed configs.new) (text_of name)
+        (tree_of config))) }
+    ensures counted { OnOk result (AreCounted configs.new) }
+{
+    if !is_fit(configs, &name, &config) {
+        return Ok(None);
+    }
+    let length = entry_length(&name, &config);
+    let number = configs.named.len() as u128;
+    configs.put(number, name, config)?;
+    Ok(Some(length))
+}
+
+/// Whether a configuration may be put after the others: its name is good and new, and it keeps its limits.
+fn is_fit(configs: &Configs, name: &str, config: &Config) -> bool
+    requires plain { ArePlain (listed configs.now) }
+    requires counted { AreCounted configs.now }
+    ensures fit { result ≡ true
+        → IsFit (entries_of (listed configs.now)) (chars name.now) (tree_of config.now) }
+    ensures unfit { result ≡ false
+        → IsUnfit (entries_of (listed configs.now)) (chars name.now) (tree_of config.now) }
+{
+    if !good_name(name) {
+        return false;
+    }
+    if check_limits(config).is_err() {
+        return false;
+    }
+    !has(configs, name)
+}
+
+/// Whether there is a configuration under a name.
+fn has(configs: &Configs, name: &str) -> bool
+    requires plain { ArePlain (listed configs.now) }
+    requires counted { AreCounted configs.now }
+    ensures { result ≡ is_some (config_named (entries_of (listed configs.now)) (chars name.now)) }
+{
+    configs.get(name).is_some()
+}
+
+/// An iterator over the names of a state's configurations, in order. Contracts see the list of them.
+#[derive(Drop)]
+pub struct Names<'a> {
+    named: Values<'a, u128, (String, Config)>,
+}
+
+impl<'a> Model for Names<'a> {
+    ghost use Rattle.std.specs.Prelude.{List, ℕ};
+    ghost use Rattle.conf_state.specs.Kept.{names_from};
+
+    ghost Value = { List (List ℕ) };
+
+    ghost view = { λ names. names_from names.named };
+}
+
+impl<'a> Iterator for Names<'a> {
+    type Item = &'a str;
+
+    ghost next_gives = { YieldsFirstBy (λ name. chars name.now) (λ names. names) };
+
+    ghost remaining = { item_count (λ names. names) };
+
+    fn next(&mut self) -> Option<&'a str> {
+        let (name, _) = self.named.next()?;
+        Some(name.as_str())
+    }
+}

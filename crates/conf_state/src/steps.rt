@@ -1,0 +1,120 @@
+// One command on a state.
+ghost use Rattle.std.specs.Prelude.{◌≡◌, ◌⊎◌, Ok, Err, OnOk, OnErr, IfErr, true};
+ghost use Rattle.std.specs.Str.{chars};
+ghost use Rattle.yaml_grammar.specs.Reads.{Good};
+ghost use Rattle.yaml_data.specs.Seen.{tree_of};
+ghost use Rattle.conf_state.specs.Names.{good_name};
+ghost use Rattle.conf_state.specs.Commands.{command_of, text_of, import_as, set_at, delete_at};
+ghost use Rattle.yaml_tree.specs.Limits.{config_limits};
+ghost use Rattle.conf_state.specs.Steps.{checked_tree, state_after_command, step};
+
+use crate::{Command, State, StoreFault, good_name};
+use edit_lengths::Edit;
+use std::alloc::Global;
+use yaml_tree::{Config, Limits};
+
+/// Performs a command. A refused command leaves the state unchanged, and is dropped. `fits` says whether the journal
+/// has room for the command's record. If it hasn't, the command is refused with [`StoreFault::JournalLong`], unless a
+/// fault that is before it in [`StoreFault`] holds.
+///
+/// An import under a new name goes last; under an existing name it replaces the tree. A set or a delete edits the tree
+/// under the name. At the empty path a set replaces the configuration, and a delete removes it.
+pub fn step(
+    alloc: Global,
+    state: &mut State,
+    command: Command,
+    fits: bool,
+) -> Result<(), StoreFault>
+    ensures ok { OnOk result (step state.old (command_of command) fits ≡ Ok state.new) }
+    ensures refused { IfErr result
+        (λ fault. (fault ≡ StoreFault.OutOfMemory)
+        ⊎ (step state.old (command_of command) fits ≡ Err fault)) }
+    ensures unchanged { OnErr result (state.new ≡ state.old) }
+{
+    if !good_name(command.name()) {
+        return Err(StoreFault::BadName);
+    }
+    match command {
+        Command::Import { name, tree } => import(state, name, tree, fits),
+        Command::Set { name, path, value } => set(alloc, state, name, &path, value, fits),
+        Command::Delete { name, path } => delete(alloc, state, &name, &path, fits),
+    }
+}
+
+fn import(state: &mut State, name: String, config: Config, fits: bool) -> Result<(), StoreFault>
+    requires { good_name (text_of name) ≡ true }
+    ensures ok { OnOk result (state_after_command state.old
+        (import_as (text_of name) (tree_of config)) fits ≡ Ok state.new) }
+    ensures refused { IfErr result (λ fault. (fault ≡ StoreFault.OutOfMemory)
+        ⊎ (state_after_command state.old (import_as (text_of name) (tree_of config)) fits
+        ≡ Err fault)) }
+    ensures unchanged { OnErr result (state.new ≡ state.old) }
+{
+    check_limits(&config)?;
+    state.put(name, config, fits)
+}
+
+fn set(
+    alloc: Global,
+    state: &mut State,
+    name: String,
+    path: &str,
+    value: Config,
+    fits: bool,
+) -> Result<(), StoreFault>
+    requires { good_name (text_of name) ≡ true }
+    ensures ok { OnOk result (state_after_command state.old (set_at (text_of name) (chars path.now)
+        (tree_of value)) fits ≡ Ok state.new) }
+    ensures refused { IfErr result (λ fault. (fault ≡ StoreFault.OutOfMemory)
+        ⊎ (state_after_command state.old (set_at (text_of name) (chars path.now) (tree_of value))
+        fits ≡ Err fault)) }
+    ensures unchanged { OnErr result (state.new ≡ state.old) }
+{
+    if !path.is_empty() {
+        return state.edit(alloc, &name, path, Edit::Set(value), fits);
+    }
+    if state.get(&name).is_none() {
+        return Err(StoreFault::NoConfig);
+    }
+    import(state, name, value, fits)
+}
+
+fn delete(
+    alloc: Global,
+    state: &mut State,
+    name: &str,
+    path: &str,
+    fits: bool,
+) -> Result<(), StoreFault>
+    requires { good_name (chars name.now) ≡ true }
+    ensures ok { OnOk result (state_after_command state.old
+        (delete_at (chars name.now) (chars path.now)) fits ≡ Ok state.new) }
+    ensures refused { IfErr result (λ fault. (fault ≡ StoreFault.OutOfMemory)
+        ⊎ (state_after_command state.old (delete_at (chars name.now) (chars path.now)) fits
+        ≡ Err fault)) }
+    ensures unchanged { OnErr result (state.new ≡ state.old) }
+{
+    if !path.is_empty() {
+        return state.edit(alloc, name, path, Edit::Delete, fits);
+    }
+    if state.get(name).is_none() {
+        return Err(StoreFault::NoConfig);
+    }
+    state.take_out(name, fits)
+}
+
+/// Checks that a configuration is within the limits of a store's configurations. Returns `TooDeep` or `ConfigLarge` if
+/// it isn't.
+pub(crate) fn check_limits(config: &Config) -> Result<(), StoreFault>
+    ensures ok { OnOk result (checked_tree (tree_of config.now) ≡ Ok (tree_of config.now)) }
+    ensures within { OnOk result (Good (tree_of config.now) config_limits) }
+    ensures refused { IfErr result (λ fault. checked_tree (tree_of config.now) ≡ Err fault) }
+{
+    if config.depth() > Limits::CONFIGURATION.depth {
+        return Err(StoreFault::TooDeep);
+    }
+    if config.style_length() > Limits::CONFIGURATION.style {
+        return Err(StoreFault::ConfigLarge);
+    }
+    Ok(())
+}
