@@ -1,12 +1,11 @@
 -- The steps of the reader at a block scalar, and the line after it.
 use Rattle.std.proofs.Common.{Global, ap, arith, subst, sym, ◌∙◌, ◌≡◌}
-use Rattle.std.specs.Prelude.{codes, length, ◌*◌, ◌-◌, Bool, List, None, Some, [], false, if◌then◌else◌, is_some, true, ℕ, ◌&&◌, ◌++◌, ◌+◌, ◌∷◌, ◌≤◌}
+use Rattle.std.specs.Prelude.{codes, length, ◌*◌, ◌-◌, Bool, List, Some, [], false, if◌then◌else◌, true, ℕ, ◌++◌, ◌+◌, ◌∷◌, ◌≤◌}
 use Rattle.std.specs.Cow.{cow_str_bytes}
 use Rattle.std.specs.declared.borrow.CowStr.{CowStr}
 use Rattle.std.specs.Str.{IsCharBoundary, IsUtf8, chars}
-use Rattle.std.proofs.lemmas.Bool.{and_from, and_left, and_right}
 use Rattle.yaml_chars.specs.Places.{rest}
-use Rattle.yaml_grammar.specs.BlockScalars.{BlockScalar, bare_block_text, block_events, block_text, past_spaces}
+use Rattle.yaml_grammar.specs.BlockScalars.{BlockScalar, bare_block_text, block_events, block_text}
 use Rattle.yaml_grammar.specs.Events as grammar
 use Rattle.yaml_grammar.specs.BlockScalars as grammar_scalars
 use Rattle.yaml_grammar.specs.Separation.{LineEnd, line_end_text}
@@ -14,9 +13,6 @@ use Rattle.yaml_grammar.specs.Texts.{byte_len, first, optional}
 use Rattle.yaml_recognizers.specs.BlockNodes.{bar}
 use Rattle.yaml_recognizers.specs.BlockScalarFacts.{NoBody, NoHeader}
 use Rattle.yaml_recognizers.specs.BlockScalars.{read_block, read_trail}
-use Rattle.yaml_recognizers.specs.CanonicalComments.{hash, is_line_end}
-use Rattle.yaml_recognizers.specs.Comments.{read_line_end}
-use Rattle.yaml_recognizers.specs.Reading.{Read}
 use Rattle.yaml_recognizers.proofs.BlockScalars.BlockScalarFacts.{blocks_read}
 use Rattle.yaml_events.specs.Borrowed.{BorrowsPlain}
 use Rattle.yaml_events.specs.Meant.{event_of, style_of}
@@ -24,73 +20,22 @@ use Rattle.yaml_events.specs.declared.event.Event.{Event}
 use Rattle.yaml_events.specs.declared.event.Event.TheVariants.{Scalar}
 use Rattle.yaml_events.specs.declared.event.Span.{Span}
 use Rattle.yaml_events.specs.declared.event.Style.{Style}
-use Rattle.yaml_scan.specs.Lines.{IsLineStart, IsSolidLine}
-use Rattle.yaml_scan.specs.ScanPlaces.{AreSpaces}
 use Rattle.yaml_scan.specs.declared.lines.Line.{Line}
 use Rattle.yaml_block_scalars.specs.Found.{IsBodyAt, IsHeaderAt}
 use Rattle.yaml_block_scalars.specs.Meant.{chomping_of}
 use Rattle.yaml_block_scalars.specs.declared.parts.Header.{Header}
-use Rattle.yaml_block.specs.Bodies.{IsAfterScalar, IsBlockStyle}
+use Rattle.yaml_block_lines.specs.Bodies.{IsAfterScalar, IsBlockStyle}
 use Rattle.yaml_block.specs.Frames.{AtLine}
 use Rattle.yaml_block.specs.States.{Onward, BeforeLeaf, Fails, Leads, Stack}
 use Rattle.yaml_block.specs.declared.frame.Collection.{Collection}
 use Rattle.yaml_block.specs.declared.frame.Leaf.{Leaf}
 use Rattle.yaml_block.specs.declared.frame.Next.TheVariants as next
-use Rattle.yaml_block.specs.declared.frame.NextLine.{NextLine}
+use Rattle.yaml_block_lines.specs.declared.next_line.NextLine.{NextLine}
 use Rattle.yaml_block.specs.declared.reader.Reader.{Reader}
-use Rattle.yaml_block.proofs.BlockScalarReads.{BlockReads, block_no_body, block_no_header, block_reads, no_trail, trail_is}
+use Rattle.yaml_block.proofs.BlockScalarReads.{BlockReads, block_no_body, block_no_header, block_reads}
 use Rattle.yaml_block.proofs.Stacks.{appended_one}
 use Rattle.yaml_block.proofs.LeafSteps.{block_read, no_block}
-use Rattle.yaml_block.proofs.PlaceSteps.{line_end_read}
 use Rattle.yaml_block.proofs.TextPlaces.{spelled}
-
--- ---- the line after a block scalar
-
--- a comment line, which belongs to the scalar with all lines of comments after it
-pub after_comment : (text : List ℕ) (at spaces : ℕ) (line : Line) (r : Read LineEnd) → AreSpaces text at spaces
-    → first hash (rest text spaces) ≡ true → read_line_end true (rest text at) ≡ r → is_some r ≡ true
-    → IsLineStart text at → IsSolidLine true text at line → (IsLineStart text at → IsLineStart text line.start)
-    → IsAfterScalar text at (record { line = line; is_solid = true })
-after_comment text at spaces line r s h e o b l starts =
-    let here : first hash (past_spaces (rest text at)) && is_line_end (rest text at) ≡ true =
-    and_from _ _ (ap (first hash) s.leaves ∙ h) (line_end_read (rest text at) ∙ (ap is_some e ∙ o)) in
-    record {
-      above = l.above;
-      next = record {
-        line = record { boundary = l.boundary; spaces = l.spaces; starts = starts b };
-        solid =
-            l.solid;
-      };
-      trail = λ q g. ap (λ (t : List LineEnd × List ℕ). t.1) (trail_is q (rest text at) g here) ∙ l.leaves;
-    }
-
--- no line of white space or a comment
-pub after_no_comment : (text : List ℕ) (at spaces : ℕ) → AreSpaces text at spaces
-    → read_line_end true (rest text at) ≡ None → IsCharBoundary text at → IsLineStart text at
-    → IsAfterScalar text at (record { line = record { start = at; first = spaces }; is_solid = true })
-after_no_comment text at spaces s e b l =
-    let solid : is_line_end (rest text at) ≡ false = line_end_read (rest text at) ∙ ap is_some e in
-    record {
-      above = omega arith;
-      next = record { line = record { boundary = b; spaces = s; starts = l }; solid = solid };
-      trail = λ q g. ap (λ (t : List LineEnd × List ℕ). t.1) (no_trail q (rest text at) (and_right _ _ solid));
-    }
-
--- a line of white space, or a comment after a TAB
-pub after_blank : (text : List ℕ) (at spaces : ℕ) (r : Read LineEnd) → AreSpaces text at spaces
-    → first hash (rest text spaces) ≡ false → read_line_end true (rest text at) ≡ r → is_some r ≡ true
-    → IsCharBoundary text at → IsLineStart text at
-    → IsAfterScalar text at (record { line = record { start = at; first = spaces }; is_solid = false })
-after_blank text at spaces r s h e o b l = record {
-  above = omega arith;
-  next = record {
-    line = record { boundary = b; spaces = s; starts = l };
-    solid = line_end_read (rest text at)
-        ∙ (ap is_some e ∙ o);
-  };
-  trail = λ q g. ap (λ (t : List LineEnd × List ℕ). t.1)
-      (no_trail q (rest text at) (and_left _ _ (ap (first hash) s.leaves ∙ h)));
-}
 
 -- ---- its event
 

@@ -6,7 +6,6 @@ pub mod LeafSteps
 pub mod NodeSteps
 pub mod Unwinding
 pub mod BlockScalarReads
-pub mod LineTests
 pub mod TextPlaces
 pub mod PlaceSteps
 pub mod Stacks

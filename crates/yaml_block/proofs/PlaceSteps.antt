@@ -1,6 +1,6 @@
 -- What the scanners of lines and flow nodes say of places of a text, in the words of the steps.
 use Rattle.std.proofs.Common.{ap, arith, inl, inr, length, refl, sym, ◌<◌, ◌∙◌, ◌≡◌}
-use Rattle.std.specs.Prelude.{Bool, List, Some, [], false, is_some, nat_le, true, ℕ, ◌++◌, ◌+◌, ◌∷◌, None}
+use Rattle.std.specs.Prelude.{Bool, List, Some, [], false, nat_le, true, ℕ, ◌++◌, ◌+◌, ◌∷◌}
 use Rattle.std.specs.Str.{IsCharBoundary, IsUtf8}
 use Rattle.std.proofs.lemmas.Bool.{and_parts, cases_Bool, false≢true}
 use Rattle.std.proofs.lemmas.Bool.Decides.{nat_tests}
@@ -14,13 +14,10 @@ use Rattle.yaml_grammar.specs.FlowScalars.{FlowContext}
 use Rattle.yaml_grammar.specs.Separation.{LineEnd, comments_text}
 use Rattle.std.specs.List.{list_all}
 use Rattle.yaml_grammar.specs.Texts.{byte_len, first, is_empty, starts_line}
-use Rattle.yaml_recognizers.specs.CanonicalComments.{is_line_end}
-use Rattle.yaml_recognizers.specs.Comments.{all_comments, read_line_end}
+use Rattle.yaml_recognizers.specs.Comments.{all_comments}
 use Rattle.yaml_recognizers.specs.Prefixes.{drop_while, take_while}
-use Rattle.yaml_recognizers.specs.Reading.{Read}
 use Rattle.yaml_recognizers.specs.Recognizers.{flow_node_at}
-use Rattle.yaml_recognizers.proofs.Separation.CommentsComplete.{no_line}
-use Rattle.yaml_recognizers.proofs.Separation.CommentsSound.{all_sound, no_line_end}
+use Rattle.yaml_recognizers.proofs.Separation.CommentsSound.{all_sound}
 use Rattle.yaml_recognizers.proofs.Flow.FlowNodesFound.{stands}
 use Rattle.yaml_recognizers.proofs.Basics.Prefixes.{take_while_every}
 use Rattle.yaml_recognizers.proofs.Flow.OneLineText.{unbroken}
@@ -158,15 +155,3 @@ pub unbroken_is : (bs : List ℕ) (at end : ℕ) (f : Flow) (n : ℕ) (c : FlowC
     → flow_node_at n c bol (rest bs at) ≡ Some (f, rest bs end)
     → list_all no_break (between bs at end) ≡ unbroken (flow_text f)
 unbroken_is bs at end f n c bol u b d e = ap (list_all no_break) (flow_to bs at end f n c bol u b d e).1
-
--- ---- a line of white space or a comment
-
--- a comment line starts where the end of a line is read
-pub line_end_read : (text : List ℕ) → is_line_end text ≡ is_some (read_line_end true text)
-line_end_read text = by_cases (is_line_end text) (read_line_end true text) refl refl
-  where
-    by_cases : (b : Bool) (r : Read LineEnd) → is_line_end text ≡ b → read_line_end true text ≡ r
-        → is_line_end text ≡ is_some (read_line_end true text)
-    by_cases false r e q = e ∙ sym (ap is_some (no_line true text e))
-    by_cases true None e q = absurd (false≢true (sym (no_line_end text q) ∙ e))
-    by_cases true (Some l) e q = e ∙ sym (ap is_some q)

@@ -1,12 +1,9 @@
 -- The steps of `unwind`: a collection goes on at the line after its part, or it ends.
-use Rattle.std.proofs.Common.{◌≡◌, refl, sym, ◌∙◌, ap, subst, arith, ℕ, ◌+◌, ◌-◌, ◌*◌, ◌<◌, ◌≤◌, length, eq-eqb}
-use Rattle.std.specs.Prelude.{Bool, true, false, not, ◌&&◌, ◌||◌, ◌==◌, List, [], ◌∷◌, ◌++◌, Option, Some, None}
-use Rattle.std.specs.Str.{IsUtf8, IsCharBoundary}
-use Rattle.std.proofs.lemmas.Bool.{and_parts, and_left, and_right, ne_eqb, eqb-true, false≢true, or_right}
-use Rattle.yaml_chars.proofs.Places.{rest-end, char_at}
-use Rattle.yaml_grammar.specs.Texts.{is_empty, marker}
-use Rattle.yaml_recognizers.specs.CanonicalComments.{is_line_end}
-use Rattle.yaml_block.proofs.LineTests.{stops_all, pair_test}
+use Rattle.std.proofs.Common.{◌≡◌, refl, sym, ◌∙◌, ap, subst, arith, ℕ, ◌+◌, ◌-◌, ◌*◌, ◌<◌, ◌≤◌, length}
+use Rattle.std.specs.Prelude.{true, false, not, ◌&&◌, ◌==◌, List, [], ◌∷◌, ◌++◌, Option, Some, None}
+use Rattle.std.specs.Str.{IsUtf8}
+use Rattle.std.proofs.lemmas.Bool.{and_parts, eqb-true, false≢true}
+use Rattle.yaml_grammar.specs.Texts.{is_empty}
 use Rattle.yaml_block.proofs.TextPlaces.{pair_starts}
 use Rattle.yaml_chars.specs.Classes.{line_break}
 use Rattle.yaml_chars.specs.Places.{rest}
@@ -25,14 +22,15 @@ use Rattle.yaml_events.specs.declared.event.Event.TheVariants.{SeqEnd, MapEnd}
 use Rattle.yaml_scan.specs.declared.lines.Line.{Line}
 use Rattle.yaml_flow.specs.FlowNodes.{Appended}
 use Rattle.yaml_block.specs.Frames.{AfterSign, AtLine, AfterPair, waits_of, indent_of}
-use Rattle.yaml_block.specs.States.{Holds, Stack, GoesOn, IsLine, Onward}
+use Rattle.yaml_block.specs.States.{Holds, Stack, GoesOn, Onward}
+use Rattle.yaml_block_lines.specs.Lines.{IsLine}
 use Rattle.yaml_block.specs.Turns.{IsPart, ItemRead, KeyRead, PairRead, PartRead, Turns, StillPart, Unwound}
 use Rattle.yaml_block.specs.declared.frame.Next.{Next}
 use Rattle.yaml_block.specs.declared.frame.Collection.{Collection}
-use Rattle.yaml_block.specs.declared.frame.NextLine.{NextLine}
+use Rattle.yaml_block_lines.specs.declared.next_line.NextLine.{NextLine}
 use Rattle.yaml_block.specs.declared.frame.Next.TheVariants as next
-use Rattle.yaml_block.specs.declared.frame.Sign.{Sign}
-use Rattle.yaml_block.specs.declared.frame.Sign.TheVariants.{Dash, Asked}
+use Rattle.yaml_block_lines.specs.declared.sign.Sign.{Sign}
+use Rattle.yaml_block_lines.specs.declared.sign.Sign.TheVariants.{Dash, Asked}
 use Rattle.yaml_block.specs.declared.frame.Waits.{Waits}
 use Rattle.yaml_block.specs.declared.frame.Waits.TheVariants.{Item, Key, Value}
 use Rattle.yaml_block.specs.declared.reader.Reader.{Reader}
@@ -221,49 +219,7 @@ pair_of W text from fs evs c start end w p = by_frame p.0 ((p.1).waits ∙ w) (p
     by_frame (waits_item sits k done) w i a = absurd (let e : ⊥ = cc in e)
     by_frame (waits_key sits k done) w i a = absurd (let e : ⊥ = cc in e)
 
--- ---- whether a pair goes on
-
--- a line of another depth doesn't go on with the collection
-pub not_as_deep : (k : ℕ) (text : List ℕ) (b : Bool) → (spaces_before text ≡ k → ⊥)
-    → false ≡ (spaces_before text == k) && b
-not_as_deep k text b n = sym (and_left _ b (ne_eqb (spaces_before text) k n))
-
--- a line that ends all collections has no further pair
-pub pair_stops : (k : ℕ) (text : List ℕ) → stops_all text ≡ true
-    → false ≡ (spaces_before text == k) && not (block_node_stops k false text)
-pair_stops k text s = sym (pair_test k text ∙ and_right (spaces_before text == k) _ (ap not s))
-
-stops_at_line_end : (text : List ℕ) → is_line_end text ≡ true → stops_all text ≡ true
-stops_at_line_end text h = or_right (is_empty text || marker text) (is_line_end text) h
-
-stops_at_end : (text : List ℕ) → text ≡ [] → stops_all text ≡ true
-stops_at_end text e = ap stops_all e
-
--- nor has a comment line
-pub no_pair_at_line_end : (k : ℕ) (text : List ℕ) → is_line_end text ≡ true
-    → false ≡ (spaces_before text == k) && not (block_node_stops k false text)
-no_pair_at_line_end k text h = pair_stops k text (stops_at_line_end text h)
-
--- nor has the end of the text
-pub no_pair_at_end : (bs : List ℕ) (k start : ℕ) → start ≡ length bs
-    → false ≡ (spaces_before (rest bs start) == k) && not (block_node_stops k false (rest bs start))
-no_pair_at_end bs k start e = pair_stops k (rest bs start)
-    (stops_at_end (rest bs start) (rest-end bs start (omega (arith, e))))
-
--- a marker is no further pair
-pub pair_by_marker : (k : ℕ) (text : List ℕ) → spaces_before text ≡ k → is_line_end text ≡ false
-    → is_empty text ≡ false
-    → not (marker text) ≡ (spaces_before text == k) && not (block_node_stops k false text)
-pair_by_marker k text s l e = sym (pair_test k text
-    ∙ by_tests (spaces_before text == k) (is_empty text) (marker text) (is_line_end text)
-    (eq-eqb (spaces_before text) k s) e l)
-  where
-    by_tests : (a b c d : Bool) → a ≡ true → b ≡ false → d ≡ false → a && not (b || c || d) ≡ not c
-    by_tests true false true false h i j = refl
-    by_tests true false false false h i j = refl
-    by_tests false b c d h i j = absurd (false≢true h)
-    by_tests true true c d h i j = absurd (false≢true (sym i))
-    by_tests true false c true h i j = absurd (false≢true (sym j))
+-- ---- a further pair
 
 -- a pair goes on at the line
 pub record PairHere (bs : List ℕ) (line : Line) (k : ℕ) : Type 0 where
@@ -327,11 +283,6 @@ left_out text base fs evs old new e end h c n m b = record {
   appended = subst (λ x. Appended text base new.events (evs ++ x ∷ [])) m
       (appended_one text base old.events new.events evs e h.appended n b);
 }
-
--- before the end of the text there is a character
-pub filled_there : (bs : List ℕ) (at : ℕ) → IsUtf8 bs → IsCharBoundary bs at → at < length bs
-    → is_empty (rest bs at) ≡ false
-filled_there bs at u b l = ap is_empty (char_at bs at u b l).1.splits
 
 -- ---- the walk over the open collections
 

@@ -14,11 +14,12 @@ use Rattle.yaml_recognizers.specs.Recognizers.{block_key_in, flow_leaf_at, block
 use Rattle.yaml_recognizers.specs.BlockFrames.{Sits, on_sign_line, on_lines, PairKey, key_asked, key_on_line, BlockFrame, waits_item, waits_key, waits_value, close_pairs, pairs_after, keyed_part, unwind}
 use Rattle.yaml_recognizers.proofs.Meanings.EventPrefixes.{done_items_end, done_items_events, done_pairs_end, done_pairs_events}
 use Rattle.yaml_events.specs.EventPlaces.{line_starts}
+use Rattle.yaml_block_lines.specs.Signs.{is_colon}
 use Rattle.yaml_block.specs.BlockParts.{as_part, part_at}
 use Rattle.yaml_block.specs.declared.frame.Waits.{Waits}
 use Rattle.yaml_block.specs.declared.frame.Waits.TheVariants.{Item, Key, Value}
-use Rattle.yaml_block.specs.declared.frame.Sign.{Sign}
-use Rattle.yaml_block.specs.declared.frame.Sign.TheVariants.{Dash, Asked, Colon}
+use Rattle.yaml_block_lines.specs.declared.sign.Sign.{Sign}
+use Rattle.yaml_block_lines.specs.declared.sign.Sign.TheVariants.{Dash, Asked, Colon}
 
 -- ---- frames
 
@@ -50,12 +51,6 @@ abbrev pub sign_of : BlockFrame → Sign
 sign_of (waits_item sits k done) = Dash
 sign_of (waits_key sits k done) = Asked
 sign_of (waits_value sits k done key) = sign_after key
-
--- the sign is `:`
-abbrev pub is_colon : Sign → Bool
-is_colon Dash = false
-is_colon Asked = false
-is_colon Colon = true
 
 -- A collection at k is in the part that the innermost frame waits for: a compact one follows the sign of that frame,
 -- which is not the `:` of a key on its line.
@@ -146,12 +141,6 @@ abbrev pub part_after : Sign → ℕ → List ℕ → Read Indented
 part_after Dash k text = block_indented_at k false text
 part_after Asked k text = block_indented_at k true text
 part_after Colon k text = keyed_part k text
-
--- after this sign a sequence may be as deep as the sign
-abbrev pub is_shallow : Sign → Bool
-is_shallow Dash = false
-is_shallow Asked = true
-is_shallow Colon = true
 
 -- the indentation of the pairs that may start here
 abbrev pub pairs_of : Option (Sits × ℕ) → Option ℕ

@@ -2,5 +2,4 @@ pub mod BlockParts
 pub mod Frames
 pub mod States
 pub mod Turns
-pub mod Bodies
 pub mod Found

@@ -1,41 +1,27 @@
 -- The reader's own state, in terms of what is read of the open collections, and what a step of it leads to.
-use Rattle.std.specs.Prelude.{◌≡◌, ℕ, suc, ◌+◌, ◌-◌, ◌*◌, ◌<◌, ◌≤◌, Bool, true, false, not, ◌&&◌, nat_le, List, [], ◌∷◌, ◌++◌, length, None, if◌then◌else◌}
+use Rattle.std.specs.Prelude.{◌≡◌, ℕ, ◌+◌, ◌-◌, ◌*◌, ◌<◌, ◌≤◌, Bool, false, ◌&&◌, nat_le, List, [], ◌∷◌, ◌++◌, length, None, if◌then◌else◌}
 use Rattle.std.specs.Str.{IsCharBoundary}
-use Rattle.yaml_chars.specs.Places.{between, rest}
+use Rattle.yaml_chars.specs.Places.{between}
 use Rattle.yaml_grammar.specs.Events as grammar
 use Rattle.yaml_grammar.specs.BlockNodes.{Indented}
-use Rattle.yaml_recognizers.specs.CanonicalComments.{is_line_end}
 use Rattle.yaml_recognizers.specs.Reading.{Read}
 use Rattle.yaml_recognizers.specs.BlockFrames.{BlockFrame}
 use Rattle.yaml_events.specs.EventPlaces.{line_starts, Refuses}
 use Rattle.yaml_events.specs.declared.fault.ScanFault.{ScanFault}
 use Rattle.yaml_events.specs.declared.event.Event.{Event}
-use Rattle.yaml_events.specs.declared.context.BlockContext.{BlockContext}
-use Rattle.yaml_events.specs.declared.context.BlockContext.TheVariants.{Bin, Bout}
-use Rattle.yaml_scan.specs.ScanPlaces.{AreSpaces, unbroken_between}
-use Rattle.yaml_scan.specs.Lines.{IsLineStart}
-use Rattle.yaml_scan.specs.declared.lines.Line.{Line}
+use Rattle.yaml_scan.specs.ScanPlaces.{unbroken_between}
 use Rattle.yaml_grammar.specs.FlowNodes.{key_limit}
 use Rattle.yaml_flow.specs.FlowNodes.{Appended}
+use Rattle.yaml_block_lines.specs.Lines.{is_shallow, IsNextLine}
 use Rattle.yaml_block.specs.Frames.{waits_of, indent_of, AfterSign, AtPair, AtLine, AtNode, AtNodeLine, AtLeaf}
 use Rattle.yaml_block.specs.declared.frame.Waits.{Waits}
-use Rattle.yaml_block.specs.declared.frame.Sign.{Sign}
+use Rattle.yaml_block_lines.specs.declared.sign.Sign.{Sign}
 use Rattle.yaml_block.specs.declared.frame.Collection.{Collection}
-use Rattle.yaml_block.specs.declared.frame.NextLine.{NextLine}
-use Rattle.yaml_block.specs.declared.frame.Indentation.{Indentation}
+use Rattle.yaml_block_lines.specs.declared.indentation.Indentation.{Indentation}
 use Rattle.yaml_block.specs.declared.frame.Leaf.{Leaf}
 use Rattle.yaml_block.specs.declared.frame.Next.{Next}
 use Rattle.yaml_block.specs.declared.frame.Next.TheVariants as next
 use Rattle.yaml_block.specs.declared.reader.Reader.{Reader}
-
--- whether a sequence may be as deep as its parent
-abbrev pub is_shallow : BlockContext → Bool
-is_shallow Bin = false
-is_shallow Bout = true
-
--- a sequence after s spaces is deep enough for a node at m
-abbrev pub is_deep : ℕ → BlockContext → ℕ → Bool
-is_deep m context s = nat_le m (if is_shallow context then suc s else s)
 
 -- The node from `at` to `end`, with its `:` at `colon`, is on one line, and short enough for a key (8.2.2): the `:`
 -- follows after at most 1,024 characters.
@@ -95,17 +81,6 @@ pub record IsAfterSign (text : List ℕ) (indent at : ℕ) : Type 0 where
 pub record IsPairPlace (text : List ℕ) (indent at : ℕ) : Type 0 where
   pub boundary : IsCharBoundary text at
   pub deep : indent ≤ at
-
--- a line, and where its spaces end
-pub record IsLine (text : List ℕ) (line : Line) : Type 0 where
-  pub boundary : IsCharBoundary text line.start
-  pub spaces : AreSpaces text line.start line.first
-  pub starts : IsLineStart text line.start
-
--- the line after a part, and whether something solid is on it
-pub record IsNextLine (text : List ℕ) (after : NextLine) : Type 0 where
-  pub line : IsLine text after.line
-  pub solid : is_line_end (rest text after.line.start) ≡ not after.is_solid
 
 -- the next step is at a place of the text that it may be at
 abbrev pub IsPlaced : List ℕ → Next → Type 0

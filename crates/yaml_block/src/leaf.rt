@@ -9,12 +9,12 @@ ghost use Rattle.yaml_recognizers.specs.Prefixes.{sign};
 ghost use Rattle.yaml_events.specs.EventPlaces.{Refuses};
 ghost use Rattle.yaml_block.specs.States.{fits_as_key, IsOpened, Grown, Onward, Leads, FailsBy, BeforeLeaf};
 
-use crate::frame::{Leaf, Next, NextLine, Sign, Waits};
+use crate::frame::{Leaf, Next, Waits};
 use crate::reader::Reader;
-use crate::refusal::{line_goes_on, no_node, refusal};
+use yaml_block_lines::{NextLine, Sign, begins_block_scalar, line_goes_on, no_node, refusal};
 use yaml_events::{Event, FlowContext, ScanFault, Why};
 use yaml_flow::{KEY_LIMIT, flow_node};
-use yaml_scan::{at_most_chars, has_break, line_after, sign_at, stands_at, white_end};
+use yaml_scan::{at_most_chars, has_break, line_after, sign_at, white_end};
 
 impl<'a> Reader<'a> {
     /// Reads a scalar, a flow collection, or the first key of a mapping. Returns what is read next.
@@ -99,14 +99,6 @@ impl<'a> Reader<'a> {
             None => Err(line_goes_on(text, colon)),
         }
     }
-}
-
-/// Returns whether a block scalar begins at `at`, with `|` or `>`.
-fn begins_block_scalar(text: &str, at: usize) -> bool
-    requires { IsCharBoundary text.now at }
-    ensures { result ≡ first bar (rest text.now at) }
-{
-    stands_at(text, at, b'|') || stands_at(text, at, b'>')
 }
 
 /// Returns the indentation of the mapping whose first key is the flow node of the leaf, which ends at `end` and has

@@ -10,7 +10,6 @@ mod line;
 mod node;
 mod pair;
 mod reader;
-mod refusal;
 mod sign;
 mod unwind;
 

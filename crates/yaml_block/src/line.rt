@@ -1,38 +1,18 @@
 // A node at the start of a line (YAML 1.2.2, 8.2.3).
-ghost use Rattle.std.specs.Prelude.{◌≡◌, ◌*◌, ◌+◌, ◌-◌, ◌^◌, ◌<◌, ◌≤◌, false, [], ◌∷◌, ◌++◌, ◌&&◌, IfOk, IfErr, OnOk, length};
+ghost use Rattle.std.specs.Prelude.{◌≡◌, ◌*◌, ◌+◌, ◌-◌, ◌^◌, ◌<◌, ◌≤◌, false, [], ◌∷◌, ◌++◌, IfOk, IfErr, OnOk, length};
 ghost use Rattle.yaml_chars.specs.Places.{rest};
 ghost use Rattle.yaml_recognizers.specs.CanonicalComments.{is_line_end};
 ghost use Rattle.yaml_recognizers.specs.Prefixes.{sign};
 ghost use Rattle.yaml_events.specs.EventPlaces.{Refuses};
 ghost use Rattle.yaml_chars.specs.Signs.{dash};
-ghost use Rattle.yaml_block.specs.States.{is_deep, IsOpened, Grown, IsLine, Onward, Leads, FailsBy, BeforeNodeLine};
+ghost use Rattle.yaml_block.specs.States.{IsOpened, Grown, Onward, Leads, FailsBy, BeforeNodeLine};
+ghost use Rattle.yaml_block_lines.specs.Lines.{IsLine};
 
-use crate::frame::{Indentation, Leaf, Next, Sign, Waits};
+use crate::frame::{Leaf, Next, Waits};
 use crate::reader::Reader;
-use crate::refusal::too_shallow;
-use yaml_events::{BlockContext, Event, ScanFault};
-use yaml_scan::{Line, sign_at, white_end};
-
-impl Indentation {
-    /// Returns whether a sequence may be indented by this number of spaces.
-    fn fits_sequence(self, spaces: usize) -> bool
-        ensures { result ≡ is_deep self.least self.context spaces }
-    {
-        match self.context {
-            BlockContext::Bin => self.least <= spaces,
-            BlockContext::Bout => self.least.saturating_sub(1) <= spaces,
-        }
-    }
-
-    /// Returns whether the line begins with the `-` of a sequence.
-    fn begins_sequence(self, text: &str, line: Line) -> bool
-        requires { IsLine text.now line }
-        ensures { result ≡ sign dash (rest text.now line.first)
-            && is_deep self.least self.context (line.first - line.start) }
-    {
-        sign_at(text, line.first, b'-') && self.fits_sequence(line.first - line.start)
-    }
-}
+use yaml_block_lines::{Indentation, Sign, too_shallow};
+use yaml_events::{Event, ScanFault};
+use yaml_scan::{Line, white_end};
 
 impl<'a> Reader<'a> {
     /// Reads the start of a node that is on a line of its own. Returns what is read next.

@@ -1,59 +1,16 @@
 // The part after a sign of a collection: `-`, `?` or `:` (YAML 1.2.2, 8.2.1 and 8.2.2).
-ghost use Rattle.std.specs.Prelude.{◌≡◌, ◌*◌, ◌+◌, ◌-◌, ◌^◌, ◌<◌, suc, true, false, not, IfOk, IfErr, length};
+ghost use Rattle.std.specs.Prelude.{◌≡◌, ◌*◌, ◌+◌, ◌-◌, ◌^◌, ◌<◌, true, false, IfOk, IfErr, length};
 ghost use Rattle.yaml_chars.specs.Places.{rest};
 ghost use Rattle.yaml_recognizers.specs.Comments.{all_comments, closes_line};
-ghost use Rattle.yaml_recognizers.specs.CanonicalComments.{is_line_end};
-ghost use Rattle.yaml_recognizers.specs.Ends.{block_node_stops};
 ghost use Rattle.yaml_scan.specs.Lines.{IsLineStart, IsSolidLine};
-ghost use Rattle.yaml_block.specs.Frames.{is_colon, is_shallow as is_shallow_after};
-ghost use Rattle.yaml_block.specs.States.{Grown, IsAfterSign, IsLine, Onward, Leads, FailsBy, BeforePart, is_shallow};
+ghost use Rattle.yaml_block.specs.States.{Grown, IsAfterSign, Onward, Leads, FailsBy, BeforePart};
 
-use crate::frame::{Indentation, Leaf, Next, NextLine, Sign};
+use crate::frame::{Leaf, Next};
 use crate::reader::Reader;
-use crate::refusal::{no_white, refusal};
-use yaml_events::{BlockContext, ScanFault, Why};
+use yaml_block_lines::{Indentation, NextLine, Sign, is_omitted, no_white, refusal};
+use yaml_events::{ScanFault, Why};
 use yaml_flow::omitted;
 use yaml_scan::{Line, line_after, sign_at, spaces_end, white_end};
-
-impl Sign {
-    /// Returns the context of a node after the sign.
-    fn context(self) -> BlockContext
-        ensures { is_shallow result ≡ is_shallow_after self }
-    {
-        match self {
-            Sign::Dash => BlockContext::Bin,
-            Sign::Asked | Sign::Colon => BlockContext::Bout,
-        }
-    }
-
-    /// Returns whether a compact collection may be on the line of the sign (8.2.1, `ns-l-compact-sequence`, and 8.2.2).
-    fn allows_compact(self) -> bool
-        ensures { result ≡ not (is_colon self) }
-    {
-        match self {
-            Sign::Dash | Sign::Asked => true,
-            Sign::Colon => false,
-        }
-    }
-}
-
-/// Returns whether the part after a sign of a collection at `indent` is omitted, if this line follows the line of the
-/// sign. The end of the text and a marker need no test: they have no spaces, and no `-` before whitespace.
-fn is_omitted(text: &str, line: Line, indent: usize, context: BlockContext) -> bool
-    requires line { IsLine text.now line }
-    requires solid { is_line_end (rest text.now line.start) ≡ false }
-    ensures { result
-        ≡ block_node_stops (suc indent) (is_shallow context) (rest text.now line.start) }
-{
-    let spaces = line.first - line.start;
-    if spaces > indent {
-        return false;
-    }
-    match context {
-        BlockContext::Bin => true,
-        BlockContext::Bout => spaces < indent || !sign_at(text, line.first, b'-'),
-    }
-}
 
 impl<'a> Reader<'a> {
     /// Reads the start of the part after a sign: on its line, on a later one, or omitted. Returns what is read next.

@@ -1,18 +1,15 @@
 // The line after a part: which of the open collections goes on there.
-ghost use Rattle.std.specs.Prelude.{◌≡◌, ◌<◌, IfOk, IfErr, ◌==◌, ◌&&◌, not, false};
-ghost use Rattle.yaml_chars.specs.Places.{rest};
-ghost use Rattle.yaml_grammar.specs.BlockScalars.{past_spaces, spaces_before};
-ghost use Rattle.yaml_recognizers.specs.Prefixes as prefixes;
-ghost use Rattle.yaml_recognizers.specs.Ends.{block_node_stops};
+ghost use Rattle.std.specs.Prelude.{◌<◌, IfOk, IfErr};
 ghost use Rattle.yaml_events.specs.EventPlaces.{Refuses};
-ghost use Rattle.yaml_block.specs.States.{Grown, IsLine, IsNextLine};
+ghost use Rattle.yaml_block.specs.States.{Grown};
+ghost use Rattle.yaml_block_lines.specs.Lines.{IsNextLine};
 ghost use Rattle.yaml_block.specs.Turns.{MayGoOn, Unwinds, IsTurn, PairRead, PartRead};
 
-use crate::frame::{Collection, Next, NextLine, Sign, Waits};
+use crate::frame::{Collection, Next, Waits};
 use crate::reader::Reader;
+use yaml_block_lines::{NextLine, Sign, goes_on_with, goes_on_with_pair};
 use yaml_events::{Event, ScanFault};
 use yaml_flow::omitted;
-use yaml_scan::{Line, is_marker, sign_at};
 
 impl<'a> Reader<'a> {
     /// Closes the collections that end at the line after a part, and returns what is read next in the one that goes on
@@ -97,33 +94,4 @@ impl<'a> Reader<'a> {
         self.put(Event::MapEnd)?;
         Ok(None)
     }
-}
-
-/// Returns whether a collection with this indentation goes on at the line, with this sign.
-fn goes_on_with(text: &str, line: Line, indent: usize, sign: u8) -> bool
-    requires line { IsLine text.now line }
-    requires ascii { sign < 128 }
-    ensures { result ≡ (spaces_before (rest text.now line.start) == indent)
-        && prefixes.sign sign (past_spaces (rest text.now line.start)) }
-{
-    line.first - line.start == indent && sign_at(text, line.first, sign)
-}
-
-/// Returns whether a mapping with this indentation goes on at the line with a further pair.
-fn goes_on_with_pair(text: &str, after: NextLine, indent: usize) -> bool
-    requires { IsNextLine text.now after }
-    ensures { result ≡ (spaces_before (rest text.now after.line.start) == indent)
-        && not (block_node_stops indent false (rest text.now after.line.start)) }
-{
-    let line = after.line;
-    if line.first - line.start != indent {
-        return false;
-    }
-    if !after.is_solid {
-        return false;
-    }
-    if line.start == text.len() {
-        return false;
-    }
-    !is_marker(text, line.start)
 }

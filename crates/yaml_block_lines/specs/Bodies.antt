@@ -5,8 +5,8 @@ use Rattle.yaml_grammar.specs.BlockScalars.{goes_on}
 use Rattle.yaml_recognizers.specs.BlockScalars.{read_trail}
 use Rattle.yaml_events.specs.declared.event.Style.{Style}
 use Rattle.yaml_events.specs.declared.event.Style.TheVariants.{Literal, Folded}
-use Rattle.yaml_block.specs.States.{IsNextLine}
-use Rattle.yaml_block.specs.declared.frame.NextLine.{NextLine}
+use Rattle.yaml_block_lines.specs.Lines.{IsNextLine}
+use Rattle.yaml_block_lines.specs.declared.next_line.NextLine.{NextLine}
 
 -- literal or folded
 abbrev pub IsBlockStyle : Bool → Style → Type 0

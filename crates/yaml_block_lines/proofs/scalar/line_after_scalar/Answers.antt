@@ -1,6 +1,6 @@
 use Rattle.std.proofs.Common.{refl, sym, ◌∙◌}
-use Rattle.yaml_block.proofs.BlockScalarSteps.{after_blank, after_comment, after_no_comment}
-use Rattle.yaml_block.proofs.block.line_after_scalar.Goals as goal
+use Rattle.yaml_block_lines.proofs.ScalarLines.{after_blank, after_comment, after_no_comment}
+use Rattle.yaml_block_lines.proofs.scalar.line_after_scalar.Goals as goal
 
 pub returns-then-stands_at : goal.returns-then-stands_at
 returns-then-stands_at c =

@@ -1,0 +1,2 @@
+pub mod PairTests
+pub mod ScalarLines
