@@ -5,10 +5,8 @@ use conf_store::Store;
 use probe_words::{meant, measured};
 use std::alloc::{AllocError, Global};
 use std::mem;
+use store_calls::FusedStore;
 use test_disks::{Fuse, FusedDisk, MemoryDisk};
-
-/// A store over a disk in memory of which a call may fail.
-pub(crate) type FusedStore = Store<FusedDisk<MemoryDisk>>;
 
 /// A folder in memory, or the store that is open over it.
 #[derive(Drop)]

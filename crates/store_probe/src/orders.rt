@@ -1,10 +1,10 @@
 // Orders on a store and their answers.
 use crate::folders::{Place, image, open, renew, shown};
-use crate::stores::store_answer;
 use conf_disk::Name;
 use probe_words::{Answers, number_of};
 use std::alloc::{AllocError, Global};
 use std::io;
+use store_calls::call;
 use test_disks::Fuse;
 
 impl Answers for Place {
@@ -25,7 +25,10 @@ fn answer(alloc: Global, place: &mut Place, words: &[&str]) -> Result<String, Al
         ["file"] => shown(alloc, place, Name::Store),
         ["next"] => shown(alloc, place, Name::Next),
         ["image", stage] => image(alloc, place, number_of(stage)),
-        words => store_answer(alloc, place, words),
+        words => match place {
+            Place::Open(store) => call(alloc, store, words),
+            Place::Folder(_) => String::from_str(alloc, "no store is open"),
+        },
     }
 }
 

@@ -1,23 +1,23 @@
 // Calls of an open store.
 use crate::commands::{delete, set};
-use crate::folders::{FusedStore, Place};
 use crate::sessions::{copies, failing, parts, roomy};
 use conf_state::{Command, StoreFault};
-use probe_words::{meant, measured, number_of};
+use conf_store::Store;
+use probe_words::{meant, measured, no_order, number_of};
 use std::alloc::{AllocError, Global};
 use std::io::ErrorKind;
+use test_disks::{FusedDisk, MemoryDisk};
 use tree_path::Path;
 use yaml_tree::Tree;
 
-/// The answer to an order on an open store.
-pub(crate) fn store_answer(
-    alloc: Global,
-    place: &mut Place,
-    words: &[&str],
-) -> Result<String, AllocError> {
-    let Place::Open(store) = place else {
-        return String::from_str(alloc, "no store is open");
-    };
+/// A store over a disk in memory of which a call may fail.
+pub type FusedStore = Store<FusedDisk<MemoryDisk>>;
+
+/// The answer of a store to a call, or to a session.
+///
+/// The words are those of the order, as the crate's page has them. Any others are answered with `no order`. It fails
+/// only if memory runs out.
+pub fn call(alloc: Global, store: &mut FusedStore, words: &[&str]) -> Result<String, AllocError> {
     match words {
         ["import", name, text] => import(alloc, store, name, text),
         ["set", name, path, value] => apply(alloc, store, set(alloc, name, path, value)),
@@ -34,7 +34,7 @@ pub(crate) fn store_answer(
         ["interrupted", input] => failing(alloc, store, ErrorKind::Interrupted, input),
         ["room", bytes, input] => roomy(alloc, store, number_of(bytes) as usize, input),
         ["copies", count, input] => copies(alloc, store, number_of(count), input),
-        _ => String::from_str(alloc, "no order"),
+        _ => no_order(alloc),
     }
 }
 

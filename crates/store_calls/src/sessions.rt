@@ -1,5 +1,5 @@
 // Sessions on the open store.
-use crate::folders::FusedStore;
+use crate::calls::FusedStore;
 use conf_session::run;
 use probe_words::{Sink, Source, meant};
 use std::alloc::{AllocError, Global};
