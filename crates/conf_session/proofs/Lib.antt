@@ -1,5 +1,3 @@
-pub mod OutputLemmas
-pub mod InputLemmas
 pub mod WordLemmas
 pub mod LengthLemmas
 pub mod RequestLemmas

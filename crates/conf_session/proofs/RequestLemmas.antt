@@ -30,13 +30,13 @@ use Rattle.conf_state.proofs.RefusalLemmas.{accepted-room}
 use Rattle.conf_store.proofs.StepLemmas.{accepted-anyway}
 use Rattle.conf_store.proofs.MeaningLemmas.{after-done}
 use Rattle.conf_requests.specs.Said.{Said, import_text, Says}
+use Rattle.conf_streams.specs.declared.fault.SessionFault.{SessionFault}
+use Rattle.conf_streams.specs.declared.fault.SessionFault.TheVariants as fault
 use Rattle.conf_session.specs.Requests.{MeansRequest, Request, changing, unread, getting, exporting, naming, checkpointing, bad}
 use Rattle.conf_session.specs.Answers.{Stored, one, change_answer, stored_after_change, stored_after, file_after_change, accepted_by, accepted_command, is_refused}
 use Rattle.conf_session.specs.Runs.{stored_of}
 use Rattle.conf_session.specs.Replies.{OnlyReads, Performs, Replies, Did, DidSaid, DidPiece}
 use Rattle.conf_session.proofs.LengthLemmas.{step-few, answer-short}
-use Rattle.conf_session.specs.declared.fault.SessionFault.{SessionFault}
-use Rattle.conf_session.specs.declared.fault.SessionFault.TheVariants as fault
 use Rattle.conf_session.specs.declared.reply.Reply.{Reply}
 use Rattle.conf_session.specs.declared.reply.Reply.TheVariants.{Accepted, Refused}
 

@@ -14,15 +14,15 @@ use Rattle.conf_disk.specs.Folder.{Folder}
 use Rattle.conf_store.specs.Durable.{AllImagesMean}
 use Rattle.conf_store.specs.View.{StoreView}
 use Rattle.conf_requests.specs.Said.{piece_limit}
-use Rattle.conf_session.specs.Input.{session_limit, ahead, piece_or_rest as piece_of, AdvancesToPiece, AdvancesToEnd, FailsToRead, FindsTooLong, FindsSessionLong, RunsOutOfMemory, Advances}
+use Rattle.conf_streams.specs.Input.{session_limit, ahead, bytes_read, piece_or_rest as piece_of, AdvancesToPiece, AdvancesToEnd, FailsToRead, FindsTooLong, FindsSessionLong, RunsOutOfMemory, Advances}
+use Rattle.conf_streams.specs.declared.fault.SessionFault.{SessionFault}
+use Rattle.conf_streams.specs.declared.fault.SessionFault.TheVariants as fault
+use Rattle.conf_streams.specs.declared.input.Input.{Input}
 use Rattle.conf_session.specs.Requests.{Request, Asks}
 use Rattle.conf_session.specs.Answers.{Stored, answer, answer_limit, output, stored_after_all, accepted_commands, accepted_command, refused_of}
 use Rattle.conf_session.specs.Runs.{stored_of, ArePieces, Ends, Runs, BeginsWith}
 use Rattle.conf_session.specs.Replies.{Performs}
 use Rattle.conf_session.specs.Progress.{AreCounted, Passed, Answered, Fails}
-use Rattle.conf_session.specs.declared.fault.SessionFault.{SessionFault}
-use Rattle.conf_session.specs.declared.fault.SessionFault.TheVariants as fault
-use Rattle.conf_session.specs.declared.input.Input.{Input}
 use Rattle.conf_session.specs.declared.pieces.Counts.{Counts}
 use Rattle.conf_session.specs.declared.session.Tally.{Tally}
 use Rattle.conf_session.proofs.PassedLemmas.{pieces-last, passed-none, passed-more, moments-more, state-more, stored-more, reads-more, kept-all, kept-most, accepted_commands-last, output-last, refusals-last, take-beyond}
@@ -61,7 +61,7 @@ module _ {D : Type 0} (honest : Type 0) (folder : D → Folder) (moment : D → 
   }
 
   module _ (given mid left held between : Option (List ℕ)) (old now : StoreView D) (was then : Input) (counts : Counts)
-      (s : SoFar honest folder moment since given mid held between old now (ahead was) counts was.total) where
+      (s : SoFar honest folder moment since given mid held between old now (ahead was) counts (bytes_read was)) where
     -- a run that ends when all requests so far are performed and answered
     stopped : (written : Option (List ℕ)) (result : Result Tally SessionFault) → (honest → now.reopen ≡ false → AllImagesMean (folder now.disk) now.state)
         → Ends given left held written (stored_of old) s.requests s.requests result
@@ -186,7 +186,7 @@ module _ {D : Type 0} (honest : Type 0) (folder : D → Folder) (moment : D → 
       all-taken = subst (Consumes given left) joined-more (taken-more given mid left (concat s.pieces) (ahead was) advances.more s.taken advances.taken)
 
       pub so_far-more : (written : Option (List ℕ)) (new : StoreView D) (after : Counts) → Answered honest folder moment since between written now new (piece_of then) counts after
-          → SoFar honest folder moment since given left held written old new (ahead then) after then.total
+          → SoFar honest folder moment since given left held written old new (ahead then) after (bytes_read then)
       so_far-more written new after one =
           let start = stored_of old in
           let rs = s.requests in
@@ -353,7 +353,7 @@ module _ {D : Type 0} (honest : Type 0) (folder : D → Folder) (moment : D → 
 
 -- a piece has at least one byte, so less of the input is left after it
 pub longer-piece : (given left : Option (List ℕ)) (was next : Input) → AdvancesToPiece given left was next
-    → was.total + length (ahead next) + 4 ≤ next.total + length (ahead was)
+    → bytes_read was + length (ahead next) + 4 ≤ bytes_read next + length (ahead was)
 longer-piece given left was next advances =
     let joined = ap length advances.joined in
     let one = length-append (ahead was) advances.more in

@@ -1,4 +1,3 @@
-pub mod Input
 pub mod Requests
 pub mod Answers
 pub mod Runs

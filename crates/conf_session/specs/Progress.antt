@@ -8,13 +8,13 @@ use Rattle.conf_disk.specs.Moments.{LeavesOnly}
 use Rattle.conf_disk.specs.declared.disk.Name.TheVariants.{Store}
 use Rattle.conf_store.specs.Durable.{AfterPrefix}
 use Rattle.conf_store.specs.View.{StoreView}
-use Rattle.conf_session.specs.Input.{session_limit}
+use Rattle.conf_streams.specs.Input.{session_limit}
+use Rattle.conf_streams.specs.declared.fault.SessionFault.{SessionFault}
+use Rattle.conf_streams.specs.declared.fault.SessionFault.TheVariants as fault
 use Rattle.conf_session.specs.Requests.{Request, Asks}
 use Rattle.conf_session.specs.Answers.{Stored, answer, answer_limit, output, stored_after_all, file_after_all, accepted_commands, accepted_command, refusals, refused_of}
 use Rattle.conf_session.specs.Runs.{stored_of}
 use Rattle.conf_session.specs.Replies.{Performs}
-use Rattle.conf_session.specs.declared.fault.SessionFault.{SessionFault}
-use Rattle.conf_session.specs.declared.fault.SessionFault.TheVariants as fault
 use Rattle.conf_session.specs.declared.pieces.Counts.{Counts}
 
 -- the counts are those of the requests; the bytes after the last piece are counted at the end of the run

@@ -8,13 +8,13 @@ use Rattle.conf_disk.specs.declared.disk.Name.TheVariants.{Store}
 use Rattle.conf_store.specs.Durable.{AfterPrefix}
 use Rattle.conf_store.specs.View.{StoreView}
 use Rattle.conf_requests.specs.Said.{Said}
+use Rattle.conf_streams.specs.declared.fault.SessionFault.{SessionFault}
+use Rattle.conf_streams.specs.declared.fault.SessionFault.TheVariants.{OutOfMemory, Device}
 use Rattle.conf_session.specs.Requests.{Request, changing, checkpointing, MeansRequest, Asks}
 use Rattle.conf_session.specs.Answers.{Stored, answer, answer_limit, refusal, word, stored_after, file_after, accepted_command, refused_of}
 use Rattle.conf_session.specs.Runs.{stored_of}
 use Rattle.conf_session.specs.declared.reply.Reply.{Reply}
 use Rattle.conf_session.specs.declared.reply.Reply.TheVariants.{Accepted, Done, Refused, NoCommand}
-use Rattle.conf_session.specs.declared.fault.SessionFault.{SessionFault}
-use Rattle.conf_session.specs.declared.fault.SessionFault.TheVariants.{OutOfMemory, Device}
 
 -- a request that changes nothing
 abbrev pub OnlyReads : Request → Type 0

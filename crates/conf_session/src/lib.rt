@@ -5,15 +5,12 @@
 #![tactic(auto)]
 
 mod answer;
-mod fault;
-mod input;
 mod laws;
-mod output;
 mod pieces;
 mod reply;
 mod session;
 mod words;
 
-pub use fault::SessionFault;
+pub use conf_streams::SessionFault;
 pub use laws::answers_are_short;
 pub use session::{Tally, run};

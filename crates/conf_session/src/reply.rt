@@ -11,12 +11,12 @@ ghost use Rattle.conf_session.specs.Answers.{unread_fault};
 ghost use Rattle.conf_requests.specs.Said.{said_of};
 ghost use Rattle.conf_session.specs.Replies.{Did, DidPiece, DidSaid};
 
-use crate::SessionFault;
 use crate::answer::{count_answer, export_answer, get_answer, names_answer};
 use conf_disk::Disk;
 use conf_requests::{Said, read_said};
 use conf_state::{Command, StoreFault, good_name};
 use conf_store::Store;
+use conf_streams::SessionFault;
 use std::alloc::Global;
 use yaml_tree::{Limits, ReadFault, Text, read_one};
 

@@ -4,10 +4,10 @@ use Rattle.std.specs.Io.KnownBytes.{Keeps}
 use Rattle.conf_folder.specs.declared.fault.FolderFault.TheVariants as FolderFault
 use Rattle.conf_state.specs.declared.fault.StoreFault.TheVariants as StoreFault
 use Rattle.conf_store.specs.declared.fault.OpenFault.TheVariants as OpenFault
+use Rattle.conf_streams.specs.declared.fault.SessionFault.{SessionFault}
+use Rattle.conf_streams.specs.declared.fault.SessionFault.TheVariants as SessionFaults
 use Rattle.conf_session.specs.Answers.{Stored}
-use Rattle.conf_session.specs.declared.fault.SessionFault.{SessionFault}
 use Rattle.conf_session.specs.declared.session.Tally.{Tally}
-use Rattle.conf_session.specs.declared.fault.SessionFault.TheVariants as SessionFaults
 use Rattle.store_tools.specs.Stores.{Answers}
 use Rattle.text_tools.specs.Tools.{Checks, Formats}
 use Rattle.store_tools.specs.declared.stores.StoreToolFault.{StoreToolFault}

@@ -7,10 +7,10 @@ use Rattle.conf_disk.specs.declared.disk.Name.TheVariants.{Store}
 use Rattle.conf_state.specs.States.{Contents}
 use Rattle.conf_store.specs.Calls.{Exports}
 use Rattle.conf_store.specs.Meaning.{FileMeans}
+use Rattle.conf_streams.specs.declared.fault.SessionFault.{SessionFault}
 use Rattle.conf_session.specs.Answers.{Stored}
 use Rattle.conf_session.specs.Requests.{Request}
 use Rattle.conf_session.specs.Runs.{Ends}
-use Rattle.conf_session.specs.declared.fault.SessionFault.{SessionFault}
 use Rattle.conf_session.specs.declared.session.Tally.{Tally}
 use Rattle.store_tools.specs.declared.stores.StoreToolFault.{StoreToolFault}
 use Rattle.store_tools.specs.declared.stores.StoreToolFault.TheVariants.{Open, Session}

@@ -2,7 +2,7 @@
 use Rattle.std.proofs.Common.{◌≡◌, false, refl, sym, ◌∙◌, ap, subst, arith, length}
 use Rattle.std.specs.Prelude.{Ok}
 use Rattle.std.proofs.lemmas.Result.{err_from_is_err_and}
-use Rattle.conf_session.specs.Input.{Advances, AdvancesToPiece, AdvancesToEnd, ahead, piece_or_rest as piece_of}
+use Rattle.conf_streams.specs.Input.{Advances, AdvancesToPiece, AdvancesToEnd, ahead, bytes_read, piece_or_rest as piece_of}
 use Rattle.conf_session.specs.Progress.{Answered, Fails}
 use Rattle.conf_session.specs.Runs.{stored_of}
 use Rattle.conf_session.proofs.PassedLemmas.{few-accepted, few-refused}
@@ -30,7 +30,7 @@ pieces-init g c =
       sound = off;
       input = start.0;
       so_far = so_far-none d.honest d.folder d.moment d.left (g.R.Read.remaining c.args.reader.now) (g.W.Write.contents c.args.writer.now) c.args.store.now
-          (ahead c.in_ok-input.input) c.new-counts.result c.in_ok-input.input.total off
+          (ahead c.in_ok-input.input) c.new-counts.result (bytes_read c.in_ok-input.input) off
           (λ image h is. g.met.D.Disk.only_now c.args.store.now.disk image h is) c.needs_reopen.ensures.now start.1 zero.documents zero.accepted zero.refused zero.written start.2;
       means = c.needs_reopen.ensures.now;
       risen = omega arith;

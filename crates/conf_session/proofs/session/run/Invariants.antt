@@ -1,7 +1,7 @@
 -- What was read so far is pieces that were performed and answered, and bytes that are not looked at yet.
 use Rattle.std.proofs.Common.{◌≡◌, ◌≤◌, ◌+◌, ◌-◌, ◌*◌, false, length}
 use Rattle.conf_store.specs.Durable.{AllImagesMean}
-use Rattle.conf_session.specs.Input.{IsSound, ahead, session_limit}
+use Rattle.conf_streams.specs.Input.{IsSound, ahead, bytes_read, session_limit}
 use Rattle.conf_session.specs.Answers.{answer_limit}
 use Rattle.conf_session.proofs.SessionLemmas.{SoFar}
 use Rattle.conf_session.proofs.session.run.Given as goal
@@ -12,14 +12,14 @@ invariant-pieces g l = let d = g.D.Disk in record {
   sound : l.store.reopen ≡ false;
   input : IsSound l.input;
   so_far : SoFar d.honest d.folder d.moment d.left (g.R.Read.remaining l.fn.reader) (g.R.Read.remaining l.reader) (g.W.Write.contents l.fn.writer) (g.W.Write.contents l.writer)
-      l.fn.store l.store (ahead l.input) l.counts l.input.total;
+      l.fn.store l.store (ahead l.input) l.counts (bytes_read l.input);
   means : d.honest → l.store.reopen ≡ false → AllImagesMean (d.folder l.store.disk) l.store.state;
   risen : d.failure_count l.fn.store.disk ≤ d.failure_count l.store.disk;
-  few : l.counts.tally.documents + length (ahead l.input) ≤ l.input.total;
+  few : l.counts.tally.documents + length (ahead l.input) ≤ bytes_read l.input;
   accepted : l.counts.tally.accepted ≤ l.counts.tally.documents;
   refused : l.counts.tally.refused ≤ l.counts.tally.documents;
   out : l.counts.written ≤ l.counts.tally.documents * answer_limit;
 }
 
 abbrev pub decreases-pieces : goal.decreases-pieces
-decreases-pieces g l = (session_limit - l.input.total) + length (ahead l.input)
+decreases-pieces g l = (session_limit - bytes_read l.input) + length (ahead l.input)

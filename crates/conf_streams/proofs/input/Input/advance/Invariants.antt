@@ -1,8 +1,8 @@
 -- What was read is the piece so far and what is not looked at yet.
 use Rattle.std.proofs.Common.{◌-◌}
-use Rattle.conf_session.specs.Input.{IsSound, session_limit}
-use Rattle.conf_session.proofs.InputLemmas.{SoFar}
-use Rattle.conf_session.proofs.input.Input.advance.Given as goal
+use Rattle.conf_streams.specs.Input.{IsSound, session_limit}
+use Rattle.conf_streams.proofs.InputLemmas.{SoFar}
+use Rattle.conf_streams.proofs.input.Input.advance.Given as goal
 
 abbrev pub invariant-parts : goal.invariant-parts
 invariant-parts g l = record {

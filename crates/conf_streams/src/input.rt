@@ -2,7 +2,7 @@
 ghost use Rattle.std.specs.Prelude.{◌≡◌, ◌≤◌, [], IfOk, length, take};
 ghost use Rattle.std.specs.Io.KnownBytes.{ReadConsumes};
 ghost use Rattle.yaml_docs.specs.Cutting.{Unclosed};
-ghost use Rattle.conf_session.specs.Input.{Advances, Feeds, Fills, IsSound, ahead};
+ghost use Rattle.conf_streams.specs.Input.{Advances, Feeds, Fills, IsSound, ahead, bytes_read, piece_or_rest};
 
 use crate::SessionFault;
 use conf_requests::PIECE_LIMIT;
@@ -17,8 +17,11 @@ const CHUNK: usize = 65_536;
 /// The most bytes of the input.
 const SESSION_LIMIT: usize = 1_073_741_824;
 
-/// The pieces of an input, each as soon as its closing line was read. A piece is everything up to and
-/// including a closing line.
+/// The pieces of an input, each as soon as its closing line was read. A piece is everything up to and including a
+/// closing line, a line of exactly `...` and a line feed.
+///
+/// Contracts see the piece, or what comes after the last one (`piece_or_rest`), the bytes that were read and are in no
+/// piece yet (`ahead`), and how many bytes were read (`bytes_read`).
 #[derive(Drop)]
 pub struct Input {
     cutter: Cutter,
@@ -29,9 +32,12 @@ pub struct Input {
 }
 
 impl Input {
-    /// An input of which nothing is read yet. It takes the memory for one chunk.
+    /// Returns an input of which nothing is read yet. It takes the memory for one chunk, 65,536 bytes.
+    ///
+    /// # Errors
+    /// `AllocError` if there is no memory for the chunk.
     pub fn new(alloc: Global) -> Result<Input, AllocError>
-        ensures { IfOk result (λ input. IsSound input × (ahead input ≡ []) × (input.total ≡ 0)) }
+        ensures { IfOk result (λ input. IsSound input × (ahead input ≡ []) × (bytes_read input ≡ 0)) }
     {
         Ok(Input {
             cutter: Cutter::new(alloc, PIECE_LIMIT),
@@ -42,12 +48,16 @@ impl Input {
         })
     }
 
-    /// Goes on to the next piece, or to the bytes after the last one. Returns whether there is a piece.
-    /// It reads only if what was read before closes no further piece.
+    /// Goes on to the next piece, or to the bytes after the last one. Returns whether there is a piece. It reads only
+    /// if what was read before closes no further piece, and at most 65,536 bytes at a time.
     ///
     /// # Errors
-    /// `Read` if a read fails, `TooLong` if the piece or the rest would be longer than [`PIECE_LIMIT`], `SessionLong`
-    /// if the input is longer than its limit, and `OutOfMemory`.
+    /// After an error nothing is promised of the input. The bytes before the fault close no further piece.
+    ///
+    /// - `Read`: a read failed.
+    /// - `TooLong`: the piece, or what comes after the last one, has more than [`PIECE_LIMIT`] bytes.
+    /// - `SessionLong`: the input has more than 1,073,741,824 bytes.
+    /// - `OutOfMemory`: there is no memory for the piece.
     pub fn advance<R: Read>(&mut self, reader: &mut R) -> Result<bool, SessionFault>
         requires { IsSound self.old }
         ensures { Advances (R.remaining reader.old) (R.remaining reader.new)
@@ -64,9 +74,9 @@ impl Input {
         }
     }
 
-    /// The piece, or the bytes after the last one.
+    /// Returns the piece, or the bytes after the last one, as the last call of [`advance`](Input::advance) left them.
     pub fn piece(&self) -> &[u8]
-        ensures { result.now ≡ self.now.cutter.bytes }
+        ensures { result.now ≡ piece_or_rest self.now }
     {
         self.cutter.piece()
     }
@@ -87,8 +97,8 @@ impl Input {
         }
     }
 
-    /// Reads once. Returns whether there was anything to read. At the limit of the input it looks whether
-    /// there is one byte more.
+    /// Reads once. Returns whether there was anything to read. At the limit of the input it looks whether there is one
+    /// byte more.
     fn fill<R: Read>(&mut self, reader: &mut R) -> Result<bool, SessionFault>
         requires sound { IsSound self.old }
         requires used { ahead self.old ≡ [] }

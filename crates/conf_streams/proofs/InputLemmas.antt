@@ -11,10 +11,10 @@ use Rattle.yaml_docs.specs.declared.cutter.Fed.{Fed}
 use Rattle.yaml_docs.proofs.ClosingLines.{lies_within}
 use Rattle.yaml_docs.proofs.CutLines.{closes-shorter}
 use Rattle.conf_requests.specs.Said.{piece_limit}
-use Rattle.conf_session.specs.Input.{ahead, piece_or_rest, IsSound, IsOverlong, Feeds, Fills, Advances, FeedsAll, FillsSome, FillsNone, FillsBeyond, FeedsPiece, AdvancesToPiece, AdvancesToEnd, FailsToRead, FindsTooLong, FindsSessionLong, RunsOutOfMemory}
-use Rattle.conf_session.specs.declared.input.Input.{Input}
-use Rattle.conf_session.specs.declared.fault.SessionFault.{SessionFault}
-use Rattle.conf_session.specs.declared.fault.SessionFault.TheVariants as fault
+use Rattle.conf_streams.specs.Input.{ahead, piece_or_rest, IsSound, IsOverlong, Feeds, Fills, Advances, FeedsAll, FillsSome, FillsNone, FillsBeyond, FeedsPiece, AdvancesToPiece, AdvancesToEnd, FailsToRead, FindsTooLong, FindsSessionLong, RunsOutOfMemory}
+use Rattle.conf_streams.specs.declared.input.Input.{Input}
+use Rattle.conf_streams.specs.declared.fault.SessionFault.{SessionFault}
+use Rattle.conf_streams.specs.declared.fault.SessionFault.TheVariants as fault
 
 -- an empty text contains no closing line
 pub unclosed-none : Unclosed []

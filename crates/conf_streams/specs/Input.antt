@@ -4,9 +4,9 @@ use Rattle.std.specs.Io.KnownBytes.{Consumes, IsAtEnd}
 use Rattle.yaml_grammar.specs.Closings.{ClosesAt, ClosesOnce}
 use Rattle.yaml_docs.specs.Cutting.{Unclosed}
 use Rattle.conf_requests.specs.Said.{piece_limit}
-use Rattle.conf_session.specs.declared.input.Input.{Input}
-use Rattle.conf_session.specs.declared.fault.SessionFault.{SessionFault}
-use Rattle.conf_session.specs.declared.fault.SessionFault.TheVariants as fault
+use Rattle.conf_streams.specs.declared.input.Input.{Input}
+use Rattle.conf_streams.specs.declared.fault.SessionFault.{SessionFault}
+use Rattle.conf_streams.specs.declared.fault.SessionFault.TheVariants as fault
 
 -- the most bytes of an input
 abbrev pub session_limit : ℕ
@@ -15,6 +15,10 @@ session_limit = 1073741824
 -- the bytes that were read and are in no piece yet
 abbrev pub ahead : Input → List ℕ
 ahead input = slice_range input.chunk.items input.start input.end
+
+-- how many bytes were read
+abbrev pub bytes_read : Input → ℕ
+bytes_read input = input.total
 
 -- the piece, or what comes after the last one
 abbrev pub piece_or_rest : Input → List ℕ

@@ -4,10 +4,10 @@ ghost use Rattle.std.specs.Io.KnownBytes.{Appends};
 
 use std::io::Write;
 
-/// Writes all the bytes, in as many writes as it takes.
+/// Writes all the bytes, in as many writes as it takes. It does not flush.
 ///
 /// # Errors
-/// If a write fails, or takes nothing: the number of bytes that were written before.
+/// If a write fails, or takes nothing: the number of bytes that were written before. These are the first ones.
 pub fn write_whole<W: Write>(writer: &mut W, bytes: &[u8]) -> Result<(), usize>
     ensures whole { OnOk result
         (Appends (W.contents writer.old) (W.contents writer.new) bytes.now) }

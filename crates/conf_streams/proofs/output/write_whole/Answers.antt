@@ -1,8 +1,8 @@
 use Rattle.std.proofs.Common.{◌≡◌, ◌-◌, ◌≤◌, length, take, drop, subst, arith, length-drop}
 use Rattle.std.specs.Io.KnownBytes.{Appends}
 use Rattle.std.proofs.lemmas.List.{take_all}
-use Rattle.conf_session.proofs.OutputLemmas.{appends-more}
-use Rattle.conf_session.proofs.output.write_whole.Goals as goal
+use Rattle.conf_streams.proofs.OutputLemmas.{appends-more}
+use Rattle.conf_streams.proofs.output.write_whole.Goals as goal
 
 pub parts-preserved : goal.parts-preserved
 parts-preserved g c =

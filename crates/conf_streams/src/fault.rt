@@ -42,7 +42,7 @@ impl fmt::Display for SessionFault {
 impl Error for SessionFault {}
 
 impl From<AllocError> for SessionFault {
-    ghost use Rattle.conf_session.specs.declared.fault.SessionFault.TheVariants.{OutOfMemory};
+    ghost use Rattle.conf_streams.specs.declared.fault.SessionFault.TheVariants.{OutOfMemory};
 
     ghost from_gives = { λ _ fault. fault ≡ OutOfMemory };
 

@@ -1,7 +1,7 @@
 -- At first nothing is ahead, and the cutter has the limit of a piece.
 use Rattle.std.proofs.Common.{◌≡◌, ◌≤◌, length, refl, ap, arith, rules}
-use Rattle.conf_session.specs.Input.{session_limit}
-use Rattle.conf_session.proofs.input.Input.new.Goals as goal
+use Rattle.conf_streams.specs.Input.{session_limit}
+use Rattle.conf_streams.proofs.input.Input.new.Goals as goal
 
 pub returns : goal.returns
 returns c =

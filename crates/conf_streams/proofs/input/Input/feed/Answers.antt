@@ -1,8 +1,8 @@
 -- What the cutter takes is no longer ahead.
 use Rattle.std.proofs.Common.{ap}
 use Rattle.std.specs.Prelude.{Err}
-use Rattle.conf_session.proofs.InputLemmas.{feeds, overfed}
-use Rattle.conf_session.proofs.input.Input.feed.Goals as goal
+use Rattle.conf_streams.proofs.InputLemmas.{feeds, overfed}
+use Rattle.conf_streams.proofs.input.Input.feed.Goals as goal
 
 pub returns-in-Ok : goal.returns-in-Ok
 returns-in-Ok c = feeds c.args.self.now c.deref.result.now c.feed.new.self c.in-Ok.fed c.requires.sound c.deref.ensures.value c.in-Ok.ensures.ok c.in-Ok.ensures.short

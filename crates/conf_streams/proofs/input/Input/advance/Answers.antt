@@ -2,9 +2,9 @@
 use Rattle.std.proofs.Common.{refl, ap, subst, ◌∙◌}
 use Rattle.std.specs.Prelude.{Ok}
 use Rattle.std.proofs.lemmas.Result.{err_from_is_err_and}
-use Rattle.conf_session.specs.Input.{Feeds, FeedsAll, Fills}
-use Rattle.conf_session.proofs.InputLemmas.{so_far-none, so_far-more, at-end, fill-fails}
-use Rattle.conf_session.proofs.input.Input.advance.Goals as goal
+use Rattle.conf_streams.specs.Input.{Feeds, FeedsAll, Fills}
+use Rattle.conf_streams.proofs.InputLemmas.{so_far-none, so_far-more, at-end, fill-fails}
+use Rattle.conf_streams.proofs.input.Input.advance.Goals as goal
 
 pub parts-init : goal.parts-init
 parts-init g c =
