@@ -23,6 +23,8 @@ use Rattle.std.proofs.lemmas.Str.{chars-nil, encodes-chars}
 use lib.Utf8.{encodes}
 use Rattle.edit_lengths.specs.declared.change.Change.{Change}
 use Rattle.json_pointer.specs.declared.fault.PathFault.{PathFault}
+use Rattle.conf_configs.specs.Numbers.{heads, number_of, put_under, AreApart}
+use Rattle.conf_configs.proofs.NumberLemmas.{lookup-number, number-there, number-name, set-number}
 use Rattle.conf_state.specs.BaseTexts.{entry_length, entries_length}
 use Rattle.edit_lengths.specs.Edits.{tree_after_edit}
 use Rattle.conf_state.specs.Edits.{configs_with_edit, configs_after_edit}
@@ -37,9 +39,7 @@ use Rattle.conf_state.specs.declared.fault.StoreFault.{StoreFault}
 use Rattle.conf_state.specs.Steps.{and_then, by_path, found, configs_after, configs_after_delete}
 use Rattle.conf_state.specs.Commands.{delete_at}
 use Rattle.conf_state.specs.declared.fault.StoreFault.TheVariants.{NoConfig, TooDeep, ConfigLarge, OutOfMemory}
-use Rattle.conf_state.specs.Numbers.{heads, number_of, put_under, AreApart}
 use Rattle.conf_state.proofs.EntryLemmas.{lookup-named}
-use Rattle.conf_state.proofs.NumberLemmas.{lookup-number, number-there, number-name, set-number}
 use Rattle.conf_state.proofs.LimitLemmas.{entries_length-found, entries_length-put}
 
 -- a configuration under a name keeps the limits

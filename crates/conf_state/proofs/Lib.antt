@@ -5,7 +5,6 @@ pub mod EntryLemmas
 pub mod LimitLemmas
 pub mod LineLemmas
 pub mod NameLemmas
-pub mod NumberLemmas
 pub mod PartLemmas
 pub mod RefusalLemmas
 pub mod RunLaws

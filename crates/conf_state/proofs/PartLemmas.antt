@@ -9,8 +9,8 @@ use Rattle.yaml_grammar.specs.Trees.{depth}
 use Rattle.yaml_grammar.specs.Style.{style_text}
 use Rattle.yaml_data.specs.declared.tree.Tree.{Tree}
 use Rattle.yaml_data.proofs.CharacterLemmas.{same_text-true, same_text-self}
-use Rattle.conf_state.specs.Configs.{AreNumbered, AreCounted}
-use Rattle.conf_state.specs.declared.configs.Configs.{Configs}
+use Rattle.conf_configs.specs.Configs.{AreNumbered, AreCounted}
+use Rattle.conf_configs.specs.declared.configs.Configs.{Configs}
 use Rattle.conf_state.specs.Names.{good_name}
 use Rattle.conf_state.specs.States.{Entry, Contents, base_limit, names_of, config_named, put_config, has_name, names_differ}
 use Rattle.yaml_tree.specs.Limits.{config_limits}

@@ -2,10 +2,10 @@
 use Rattle.std.proofs.Common.{◌≡◌, ℕ, ◌+◌, ◌<◌, Bool, true, List, [], String, Global, string_bytes, IsUtf8, IsAscii, Some, Ok, ap, sym, subst, ◌∙◌, refl, arith}
 use Rattle.std.proofs.lemmas.Fmt.{length-decimal-le}
 use Rattle.std.specs.Str.{chars}
-use Rattle.conf_state.specs.Numbers.{put_under, cut_from}
 use Rattle.yaml_grammar.specs.Reads.{Good}
 use Rattle.yaml_data.specs.Seen.{tree_of}
 use Rattle.yaml_data.specs.declared.tree.Tree.{Tree}
+use Rattle.conf_configs.specs.Numbers.{put_under, cut_from}
 use Rattle.conf_state.specs.Names.{good_name}
 use Rattle.conf_state.specs.Kept.{entries_of, ArePlain, IsKept}
 use Rattle.conf_state.specs.Limits.{IsState}

@@ -1,11 +1,9 @@
 pub mod BaseTexts
 pub mod Commands
-pub mod Configs
 pub mod Edits
 pub mod Kept
 pub mod Limits
 pub mod Names
-pub mod Numbers
 pub mod PathFaults
 pub mod States
 pub mod Steps

@@ -5,7 +5,6 @@
 
 mod base;
 mod command;
-mod configs;
 mod fault;
 mod laws;
 mod name;

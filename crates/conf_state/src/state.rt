@@ -4,6 +4,7 @@ ghost use Rattle.std.specs.Str.{chars};
 ghost use Rattle.std.specs.Iterator.{YieldsFirstBy, item_count};
 ghost use Rattle.yaml_grammar.specs.Reads.{Good};
 ghost use Rattle.yaml_data.specs.Seen.{tree_of};
+ghost use Rattle.conf_configs.specs.Configs.{listed, AreCounted};
 ghost use Rattle.conf_state.specs.Commands.{text_of};
 ghost use Rattle.conf_state.specs.Names.{good_name};
 ghost use Rattle.conf_state.specs.Kept.{entries_of, next_number, ArePlain, Appended, IsFit, IsUnfit};
@@ -15,12 +16,11 @@ ghost use Rattle.yaml_grammar.specs.Style.{value_at};
 ghost use Rattle.conf_state.specs.BaseTexts.{members, base_length, entry_length, entries_length};
 ghost use Rattle.conf_state.specs.Steps.{and_then, next_state};
 ghost use Rattle.conf_state.specs.Edits.{configs_after_edit, configs_with_edit, IsPlan};
-ghost use Rattle.conf_state.specs.Configs.{listed, AreCounted};
 
 use crate::base::{BASE_LIMIT, base_length, entry_length, write_entry};
-use crate::configs::Configs;
 use crate::steps::check_limits;
 use crate::{StoreFault, good_name};
+use conf_configs::Configs;
 use edit_lengths::Edit;
 use std::alloc::{AllocError, Global};
 use std::collections::btree_map::Values;
@@ -62,7 +62,7 @@ impl Model for State {
 
     ghost coded = { contents_code };
 
-    ghost use Rattle.conf_state.specs.Configs.{listed, AreNumbered};
+    ghost use Rattle.conf_configs.specs.Configs.{listed, AreNumbered};
     ghost use Rattle.conf_state.specs.Kept.{entries_of, IsKept, next_number};
 
     ghost view = { λ s. record { configs = entries_of (listed s.configs); count = s.count } };

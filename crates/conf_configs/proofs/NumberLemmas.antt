@@ -7,7 +7,7 @@ use Rattle.std.specs.Cmp.{nat_cmp_is}
 use Rattle.std.specs.declared.cmp.Ordering.TheVariants.{Equal, Greater}
 use Rattle.std.specs.Map.{lookup, values_of, set_value, remove_entry}
 use Rattle.std.specs.Ordering.{nat_cmp, is_eq, match_ordering}
-use Rattle.conf_state.specs.Numbers.{heads, number_of, AreAbove, AreBelow, AreApart, IsIndexed, put_under, cut_from}
+use Rattle.conf_configs.specs.Numbers.{heads, number_of, AreAbove, AreBelow, AreApart, IsIndexed, put_under, cut_from}
 
 pub none-other : {A : Type 0} (o : Option A) → ((a : A) → o ≡ Some a → ⊥) → o ≡ None
 none-other None other = refl

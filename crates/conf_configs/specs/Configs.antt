@@ -3,8 +3,8 @@ use Rattle.std.specs.Prelude.{◌≤◌, length, ℕ, List, String}
 use Rattle.std.specs.declared.alloc.Global.{Global}
 use Rattle.std.specs.Map.{values_of}
 use Rattle.yaml_data.specs.declared.tree.Tree.{Tree}
-use Rattle.conf_state.specs.Numbers.{heads, IsIndexed}
-use Rattle.conf_state.specs.declared.configs.Configs.{Configs}
+use Rattle.conf_configs.specs.Numbers.{heads, IsIndexed}
+use Rattle.conf_configs.specs.declared.configs.Configs.{Configs}
 
 -- the configurations with their names, in order
 abbrev pub listed : Configs → List (String Global × Tree)

@@ -4,25 +4,29 @@ ghost use Rattle.std.specs.BTreeMap.{get_by_text};
 ghost use Rattle.std.specs.Map.{lookup};
 ghost use Rattle.std.specs.Str.{bytes_eq};
 ghost use Rattle.std.specs.Option.{option_copied};
-ghost use Rattle.conf_state.specs.Configs.{listed, AreNumbered};
-ghost use Rattle.conf_state.specs.Numbers.{heads, number_of, put_under, cut_from};
+ghost use Rattle.conf_configs.specs.Configs.{listed, AreNumbered};
+ghost use Rattle.conf_configs.specs.Numbers.{heads, number_of, put_under, cut_from};
 
 use std::alloc::{AllocError, Global};
 use std::collections::BTreeMap;
 use yaml_tree::Config;
 
 /// Configurations by name, in the order in which they were put. Each has a number, and a later one a greater number.
+///
+/// The fields are public, so that a caller can go over the configurations in order, and change one in its place. A
+/// caller who changes them keeps `AreNumbered`, which the methods require: the numbers in `named` ascend and are below
+/// a limit, no name occurs there twice, and `numbers` has exactly these names, each with its number.
 #[derive(Drop)]
-pub(crate) struct Configs {
+pub struct Configs {
     /// The number of each name's configuration.
-    pub(crate) numbers: BTreeMap<String, u128>,
+    pub numbers: BTreeMap<String, u128>,
     /// The names and their configurations, by number.
-    pub(crate) named: BTreeMap<u128, (String, Config)>,
+    pub named: BTreeMap<u128, (String, Config)>,
 }
 
 impl Configs {
-    /// No configurations. It takes no memory.
-    pub(crate) fn new(alloc: Global) -> Configs
+    /// Returns no configurations. It takes no memory.
+    pub fn new(alloc: Global) -> Configs
         ensures empty { result.named.entries ≡ [] }
         ensures numbered { AreNumbered result 0 }
     {
@@ -32,15 +36,15 @@ impl Configs {
         }
     }
 
-    /// The number of a name's configuration; `None` if there is none.
-    pub(crate) fn number_of(&self, name: &str) -> Option<u128>
+    /// Returns the number of a name's configuration; `None` if there is none.
+    pub fn number_of(&self, name: &str) -> Option<u128>
         ensures { result ≡ get_by_text self.now.numbers name.now }
     {
         self.numbers.get(name).copied()
     }
 
-    /// The configuration under a name; `None` if there is none.
-    pub(crate) fn get(&self, name: &str) -> Option<&Config>
+    /// Returns the configuration under a name; `None` if there is none.
+    pub fn get(&self, name: &str) -> Option<&Config>
         requires { (limit : ℕ) × AreNumbered self.now limit }
         ensures { option_copied result ≡ lookup (λ k. bytes_eq name.now (string_bytes k))
             (listed self.now) }
@@ -50,13 +54,11 @@ impl Configs {
     }
 
     /// Puts a configuration under a name: last, under this number, if the name is new; otherwise it replaces the one
-    /// that is there. It fails only if memory runs out, and then leaves the configurations as they were.
-    pub(crate) fn put(
-        &mut self,
-        number: u128,
-        name: String,
-        config: Config,
-    ) -> Result<(), AllocError>
+    /// that is there, which keeps its place and its number. The number is greater than those of all configurations.
+    ///
+    /// # Errors
+    /// `AllocError` if memory runs out. The configurations are then as they were.
+    pub fn put(&mut self, number: u128, name: String, config: Config) -> Result<(), AllocError>
         requires { AreNumbered self.old number }
         ensures ok { OnOk result (listed self.new ≡ put_under name config (listed self.old)) }
         ensures unchanged { OnErr result (self.new.named.entries ≡ self.old.named.entries) }
@@ -87,8 +89,8 @@ impl Configs {
         Ok(())
     }
 
-    /// Removes the configuration under a name, if there is one.
-    pub(crate) fn remove(&mut self, name: &str)
+    /// Removes the configuration under a name, if there is one. The others keep their order and their numbers.
+    pub fn remove(&mut self, name: &str)
         requires { (limit : ℕ) × AreNumbered self.old limit }
         ensures entries { listed self.new ≡ cut_from name.now (listed self.old) }
         ensures numbered { (limit : ℕ) → AreNumbered self.old limit → AreNumbered self.new limit }

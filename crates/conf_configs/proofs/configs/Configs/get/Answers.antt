@@ -1,7 +1,7 @@
 use Rattle.std.proofs.Common.{option_map, ap, sym, ◌∙◌}
 use Rattle.std.specs.Option.{option_copied}
-use Rattle.conf_state.proofs.NumberLemmas.{number-there, lookup-number, lookup-none}
-use Rattle.conf_state.proofs.configs.Configs.get.Goals as goal
+use Rattle.conf_configs.proofs.NumberLemmas.{number-there, lookup-number, lookup-none}
+use Rattle.conf_configs.proofs.configs.Configs.get.Goals as goal
 
 pub returns-in_err-number : goal.returns-in_err-number
 returns-in_err-number c =

@@ -2,10 +2,10 @@ use Rattle.std.proofs.Common.{refl, Option, MutBor, is_some, ◌≡◌, ◌+◌,
 use Rattle.std.specs.BTreeMap.{get_by_text}
 use Rattle.std.specs.Option.{option_copied_mut}
 use Rattle.std.specs.Map.{values_of}
-use Rattle.conf_state.specs.Numbers.{heads, number_of, IsIndexed}
-use Rattle.conf_state.proofs.NumberLemmas.{number-there, set-number, indexed-set, indexed-more}
-use Rattle.conf_state.proofs.configs.Configs.put.Goals as goal
-use Rattle.conf_state.proofs.configs.Configs.put.Goals.{In-Some}
+use Rattle.conf_configs.specs.Numbers.{heads, number_of, IsIndexed}
+use Rattle.conf_configs.proofs.NumberLemmas.{number-there, set-number, indexed-set, indexed-more}
+use Rattle.conf_configs.proofs.configs.Configs.put.Goals as goal
+use Rattle.conf_configs.proofs.configs.Configs.put.Goals.{In-Some}
 
 pub push-requires-clause-absent : goal.push-requires-clause-absent
 push-requires-clause-absent c =

@@ -4,10 +4,10 @@ use Rattle.std.specs.BTreeMap.{is_at, get_by_text}
 use Rattle.std.specs.Map.{values_of, remove_entry, lookup}
 use Rattle.std.specs.Cmp.Lexicographic.{slice_cmp}
 use Rattle.std.specs.Ordering.{nat_cmp}
-use Rattle.conf_state.specs.Numbers.{heads, IsIndexed}
-use Rattle.conf_state.proofs.NumberLemmas.{indexed-more, indexed-last, indexed-same, insert-last, remove-last, put-last}
-use Rattle.conf_state.proofs.configs.Configs.push.Goals as goal
-use Rattle.conf_state.proofs.configs.Configs.push.Goals.{In_ok-insert}
+use Rattle.conf_configs.specs.Numbers.{heads, IsIndexed}
+use Rattle.conf_configs.proofs.NumberLemmas.{indexed-more, indexed-last, indexed-same, insert-last, remove-last, put-last}
+use Rattle.conf_configs.proofs.configs.Configs.push.Goals as goal
+use Rattle.conf_configs.proofs.configs.Configs.push.Goals.{In_ok-insert}
 
 pub returns-in_err-key-clause-numbered : goal.returns-in_err-key-clause-numbered
 returns-in_err-key-clause-numbered c =

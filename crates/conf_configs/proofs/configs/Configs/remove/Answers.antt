@@ -1,9 +1,9 @@
 use Rattle.std.proofs.Common.{None, ap, sym, subst, ◌∙◌}
 use Rattle.std.proofs.lemmas.Map.Text.{btree_map_updates_text}
-use Rattle.conf_state.specs.Numbers.{heads, IsIndexed}
+use Rattle.conf_configs.specs.Numbers.{heads, IsIndexed}
 use Rattle.std.specs.Map.{values_of}
-use Rattle.conf_state.proofs.NumberLemmas.{none-other, remove-number, cut-none, indexed-remove}
-use Rattle.conf_state.proofs.configs.Configs.remove.Goals as goal
+use Rattle.conf_configs.proofs.NumberLemmas.{none-other, remove-number, cut-none, indexed-remove}
+use Rattle.conf_configs.proofs.configs.Configs.remove.Goals as goal
 
 pub returns-in-Some-clause-entries : goal.returns-in-Some-clause-entries
 returns-in-Some-clause-entries c =
