@@ -14,12 +14,12 @@ ghost use Rattle.yaml_tree.specs.Limits.{config_limits};
 ghost use Rattle.yaml_grammar.specs.Trees.{mapping};
 ghost use Rattle.yaml_grammar.specs.Style.{value_at};
 ghost use Rattle.conf_state.specs.BaseTexts.{members, base_length, entry_length, entries_length};
-ghost use Rattle.conf_state.specs.Steps.{and_then, next_state};
+ghost use Rattle.conf_state.specs.Steps.{and_then, has_room, next_state};
 ghost use Rattle.conf_state.specs.Edits.{configs_after_edit, configs_with_edit, IsPlan};
 
 use crate::base::{BASE_LIMIT, base_length, entry_length, write_entry};
 use crate::steps::check_limits;
-use crate::{StoreFault, good_name};
+use crate::{Room, StoreFault, good_name};
 use conf_configs::Configs;
 use edit_lengths::Edit;
 use std::alloc::{AllocError, Global};
@@ -147,19 +147,19 @@ impl State {
     }
 
     /// Puts a configuration under a name, if the store has room for it. A refusal changes nothing.
-    pub(crate) fn put(&mut self, name: String, config: Config, fits: bool) -> Result<(), StoreFault>
+    pub(crate) fn put(&mut self, name: String, config: Config, room: Room) -> Result<(), StoreFault>
         requires named { good_name (text_of name) ≡ true }
         requires within { Good (tree_of config) config_limits }
         ensures ok { OnOk result
-            (next_state self.old fits (put_config self.old.configs (text_of name) (tree_of config))
-            ≡ Ok self.new) }
+            (next_state self.old (has_room room)
+            (put_config self.old.configs (text_of name) (tree_of config)) ≡ Ok self.new) }
         ensures refused { IfErr result (λ fault. (fault ≡ StoreFault.OutOfMemory)
-            ⊎ (next_state self.old fits
+            ⊎ (next_state self.old (has_room room)
             (put_config self.old.configs (text_of name) (tree_of config)) ≡ Err fault)) }
         ensures unchanged { OnErr result (self.new ≡ self.old) }
     {
         let entries = self.length_with(&name, &config);
-        self.check_room(entries, fits)?;
+        self.check_room(entries, room)?;
         let number = self.next_number();
         self.configs.put(number, name, config)?;
         self.entries = entries;
@@ -176,18 +176,18 @@ impl State {
         name: &str,
         pointer: &str,
         edit: Edit,
-        fits: bool,
+        room: Room,
     ) -> Result<(), StoreFault>
         requires named { good_name (chars name.now) ≡ true }
         requires steps { 0 < length pointer.now }
         ensures ok { OnOk result
             (and_then
             (configs_after_edit self.old.configs (chars name.now) edit (chars pointer.now))
-            (next_state self.old fits) ≡ Ok self.new) }
+            (next_state self.old (has_room room)) ≡ Ok self.new) }
         ensures refused { IfErr result (λ fault. (fault ≡ StoreFault.OutOfMemory)
             ⊎ (and_then
             (configs_after_edit self.old.configs (chars name.now) edit (chars pointer.now))
-            (next_state self.old fits) ≡ Err fault)) }
+            (next_state self.old (has_room room)) ≡ Err fault)) }
         ensures unchanged { OnErr result (self.new ≡ self.old) }
     {
         let Some(number) = self.configs.number_of(name) else {
@@ -195,7 +195,7 @@ impl State {
         };
         let path = Path::parse(alloc, pointer)?;
         let plan = self.plan_edit(&self.configs.named[&number].1, &path, &edit)?;
-        self.check_room(plan.entries, fits)?;
+        self.check_room(plan.entries, room)?;
         let config = &mut self.configs.named.get_mut(&number).unwrap().1;
         edit.perform(alloc, config, &path, plan.place, plan.config)?;
         self.entries = plan.entries;
@@ -233,16 +233,16 @@ impl State {
     }
 
     /// Removes the configuration under a name, if there is one. A refusal changes nothing.
-    pub(crate) fn take_out(&mut self, name: &str, fits: bool) -> Result<(), StoreFault>
-        ensures ok { OnOk result (next_state self.old fits
+    pub(crate) fn take_out(&mut self, name: &str, room: Room) -> Result<(), StoreFault>
+        ensures ok { OnOk result (next_state self.old (has_room room)
             (cut_config self.old.configs (chars name.now)) ≡ Ok self.new) }
         ensures refused { IfErr result
-            (λ fault. next_state self.old fits (cut_config self.old.configs (chars name.now))
-            ≡ Err fault) }
+            (λ fault. next_state self.old (has_room room)
+            (cut_config self.old.configs (chars name.now)) ≡ Err fault) }
         ensures unchanged { OnErr result (self.new ≡ self.old) }
     {
         let entries = self.length_without(name);
-        self.check_room(entries, fits)?;
+        self.check_room(entries, room)?;
         self.configs.remove(name);
         self.entries = entries;
         self.count += 1;
@@ -251,21 +251,21 @@ impl State {
 
     /// Whether the store has room for one more command, after which the configurations have `entries` bytes in the base
     /// text.
-    fn check_room(&self, entries: u64, fits: bool) -> Result<(), StoreFault>
+    fn check_room(&self, entries: u64, room: Room) -> Result<(), StoreFault>
         ensures ok { OnOk result ((configs : List Entry)
             → entries ≡ min (entries_length configs) u64.MAX
-            → next_state self.now fits configs
+            → next_state self.now (has_room room) configs
             ≡ Ok (record { configs = configs; count = self.now.count + 1 })) }
         ensures counts { OnOk result (self.now.count < u64.MAX) }
         ensures short { OnOk result (entries ≤ BASE_LIMIT) }
         ensures refused { IfErr result (λ fault. (configs : List Entry)
             → entries ≡ min (entries_length configs) u64.MAX
-            → next_state self.now fits configs ≡ Err fault) }
+            → next_state self.now (has_room room) configs ≡ Err fault) }
     {
         if base_length(u128::from(self.count) + 1, entries) > BASE_LIMIT {
             return Err(StoreFault::StoreFull);
         }
-        if !fits {
+        if !room.is_enough() {
             return Err(StoreFault::JournalLong);
         }
         if self.count == u64::MAX {

@@ -6,14 +6,14 @@ ghost use Rattle.yaml_data.specs.Seen.{tree_of};
 ghost use Rattle.conf_state.specs.Names.{good_name};
 ghost use Rattle.conf_state.specs.Commands.{command_of, text_of, import_as, set_at, delete_at};
 ghost use Rattle.yaml_tree.specs.Limits.{config_limits};
-ghost use Rattle.conf_state.specs.Steps.{checked_tree, state_after_command, step};
+ghost use Rattle.conf_state.specs.Steps.{checked_tree, has_room, state_after_command, step};
 
-use crate::{Command, State, StoreFault, good_name};
+use crate::{Command, Room, State, StoreFault, good_name};
 use edit_lengths::Edit;
 use std::alloc::Global;
 use yaml_tree::{Config, Limits};
 
-/// Performs a command. A refused command leaves the state unchanged, and is dropped. `fits` says whether the journal
+/// Performs a command. A refused command leaves the state unchanged, and is dropped. `room` says whether the journal
 /// has room for the command's record. If it hasn't, the command is refused with [`StoreFault::JournalLong`], unless a
 /// fault that is before it in [`StoreFault`] holds.
 ///
@@ -23,35 +23,35 @@ pub fn step(
     alloc: Global,
     state: &mut State,
     command: Command,
-    fits: bool,
+    room: Room,
 ) -> Result<(), StoreFault>
-    ensures ok { OnOk result (step state.old (command_of command) fits ≡ Ok state.new) }
+    ensures ok { OnOk result (step state.old (command_of command) (has_room room) ≡ Ok state.new) }
     ensures refused { IfErr result
         (λ fault. (fault ≡ StoreFault.OutOfMemory)
-        ⊎ (step state.old (command_of command) fits ≡ Err fault)) }
+        ⊎ (step state.old (command_of command) (has_room room) ≡ Err fault)) }
     ensures unchanged { OnErr result (state.new ≡ state.old) }
 {
     if !good_name(command.name()) {
         return Err(StoreFault::BadName);
     }
     match command {
-        Command::Import { name, tree } => import(state, name, tree, fits),
-        Command::Set { name, path, value } => set(alloc, state, name, &path, value, fits),
-        Command::Delete { name, path } => delete(alloc, state, &name, &path, fits),
+        Command::Import { name, tree } => import(state, name, tree, room),
+        Command::Set { name, path, value } => set(alloc, state, name, &path, value, room),
+        Command::Delete { name, path } => delete(alloc, state, &name, &path, room),
     }
 }
 
-fn import(state: &mut State, name: String, config: Config, fits: bool) -> Result<(), StoreFault>
+fn import(state: &mut State, name: String, config: Config, room: Room) -> Result<(), StoreFault>
     requires { good_name (text_of name) ≡ true }
     ensures ok { OnOk result (state_after_command state.old
-        (import_as (text_of name) (tree_of config)) fits ≡ Ok state.new) }
+        (import_as (text_of name) (tree_of config)) (has_room room) ≡ Ok state.new) }
     ensures refused { IfErr result (λ fault. (fault ≡ StoreFault.OutOfMemory)
-        ⊎ (state_after_command state.old (import_as (text_of name) (tree_of config)) fits
-        ≡ Err fault)) }
+        ⊎ (state_after_command state.old (import_as (text_of name) (tree_of config))
+        (has_room room) ≡ Err fault)) }
     ensures unchanged { OnErr result (state.new ≡ state.old) }
 {
     check_limits(&config)?;
-    state.put(name, config, fits)
+    state.put(name, config, room)
 }
 
 fn set(
@@ -60,23 +60,23 @@ fn set(
     name: String,
     path: &str,
     value: Config,
-    fits: bool,
+    room: Room,
 ) -> Result<(), StoreFault>
     requires { good_name (text_of name) ≡ true }
     ensures ok { OnOk result (state_after_command state.old (set_at (text_of name) (chars path.now)
-        (tree_of value)) fits ≡ Ok state.new) }
+        (tree_of value)) (has_room room) ≡ Ok state.new) }
     ensures refused { IfErr result (λ fault. (fault ≡ StoreFault.OutOfMemory)
         ⊎ (state_after_command state.old (set_at (text_of name) (chars path.now) (tree_of value))
-        fits ≡ Err fault)) }
+        (has_room room) ≡ Err fault)) }
     ensures unchanged { OnErr result (state.new ≡ state.old) }
 {
     if !path.is_empty() {
-        return state.edit(alloc, &name, path, Edit::Set(value), fits);
+        return state.edit(alloc, &name, path, Edit::Set(value), room);
     }
     if state.get(&name).is_none() {
         return Err(StoreFault::NoConfig);
     }
-    import(state, name, value, fits)
+    import(state, name, value, room)
 }
 
 fn delete(
@@ -84,23 +84,23 @@ fn delete(
     state: &mut State,
     name: &str,
     path: &str,
-    fits: bool,
+    room: Room,
 ) -> Result<(), StoreFault>
     requires { good_name (chars name.now) ≡ true }
     ensures ok { OnOk result (state_after_command state.old
-        (delete_at (chars name.now) (chars path.now)) fits ≡ Ok state.new) }
+        (delete_at (chars name.now) (chars path.now)) (has_room room) ≡ Ok state.new) }
     ensures refused { IfErr result (λ fault. (fault ≡ StoreFault.OutOfMemory)
-        ⊎ (state_after_command state.old (delete_at (chars name.now) (chars path.now)) fits
-        ≡ Err fault)) }
+        ⊎ (state_after_command state.old (delete_at (chars name.now) (chars path.now))
+        (has_room room) ≡ Err fault)) }
     ensures unchanged { OnErr result (state.new ≡ state.old) }
 {
     if !path.is_empty() {
-        return state.edit(alloc, name, path, Edit::Delete, fits);
+        return state.edit(alloc, name, path, Edit::Delete, room);
     }
     if state.get(name).is_none() {
         return Err(StoreFault::NoConfig);
     }
-    state.take_out(name, fits)
+    state.take_out(name, room)
 }
 
 /// Checks that a configuration is within the limits of a store's configurations. Returns `TooDeep` or `ConfigLarge` if

@@ -7,7 +7,7 @@ ghost use Rattle.conf_store.specs.Calls.{outcome};
 
 use conf_journal::STORE_LIMIT;
 use conf_pieces::{documents_are_read, documents_close, record_text};
-use conf_state::{Command, State, StoreFault, step, steps_are_counted_or_refused};
+use conf_state::{Command, Room, State, StoreFault, step, steps_are_counted_or_refused};
 use std::alloc::Global;
 
 /// Performs a command on the state of a store whose file has `size` bytes. Returns the command's record and the new
@@ -38,8 +38,8 @@ pub fn accept(
     // At the greatest count the record is only measured: the command is refused.
     let number = state.count().saturating_add(1);
     let record = record_text(alloc, &command, number)?;
-    let fits = size + record.len() as u64 <= STORE_LIMIT;
-    match step(alloc, state, command, fits) {
+    let room = Room::within(STORE_LIMIT, size + record.len() as u64);
+    match step(alloc, state, command, room) {
         Ok(()) => Ok((record, state.count())),
         Err(fault) => Err(fault),
     }

@@ -1,16 +1,9 @@
 // Commands on a state, from their words or from a record.
 use crate::texts::lengthened;
 use conf_pieces::read_record;
-use conf_state::{Command, State, StoreFault, step};
+use conf_state::{Command, Room, State, StoreFault, step};
 use std::alloc::{AllocError, Global};
 use yaml_tree::{Config, Limits, read_one};
-
-/// Whether the journal has room for a command's record.
-#[derive(Clone, Copy, PartialEq, Eq)]
-pub(crate) enum Room {
-    Enough,
-    Missing,
-}
 
 /// The configuration that a text gives.
 fn value_of(alloc: Global, text: &str) -> Result<Config, StoreFault> {
@@ -72,7 +65,7 @@ fn answer_to(
     command: Command,
     room: Room,
 ) -> Result<String, AllocError> {
-    match step(alloc, state, command, room == Room::Enough) {
+    match step(alloc, state, command, room) {
         Ok(()) => format!(in alloc; "{}", state.count()),
         Err(fault) => format!(in alloc; "{fault:?}"),
     }

@@ -6,7 +6,7 @@ use std::alloc::{AllocError, Global};
 use tree_path::Path;
 use yaml_emit::style_text;
 use yaml_style::{Finding, check};
-use yaml_tree::{Limits, ReadFault, Tree, format_one, read_one, scalar_style};
+use yaml_tree::{Limits, ReadFault, Tree, format_one, key_style, read_one, value_style};
 
 /// The answer to an order.
 pub(crate) fn answer(alloc: Global, tree: &mut Tree, order: &str) -> Result<String, AllocError> {
@@ -58,7 +58,7 @@ fn answer_to_more(
 }
 
 /// What a text is in a mapping.
-#[derive(Clone, Copy, PartialEq, Eq)]
+#[derive(Clone, Copy)]
 enum Role {
     Key,
     Value,
@@ -95,7 +95,10 @@ fn formatted(alloc: Global, text: &str) -> Result<String, AllocError> {
 /// The style of a text as a value or as a key.
 fn style_of(alloc: Global, text: &str, role: Role) -> Result<String, AllocError> {
     let text = meant(alloc, text)?;
-    let style = scalar_style(&text, role == Role::Key);
+    let style = match role {
+        Role::Key => key_style(&text),
+        Role::Value => value_style(&text),
+    };
     shown(alloc, &style)
 }
 

@@ -13,5 +13,5 @@ mod text_sink;
 
 pub use literal::write_literal_lines;
 pub use quoted::write_quoted;
-pub use scalar::{ScalarStyle, scalar_style};
+pub use scalar::{ScalarStyle, key_style, value_style};
 pub use sink::Sink;

@@ -1,5 +1,5 @@
 // How the one style writes a scalar.
-ghost use Rattle.std.specs.Prelude.{◌≡◌, ◌&&◌, IsTrue, if◌then◌else◌};
+ghost use Rattle.std.specs.Prelude.{◌≡◌, ◌&&◌, IsTrue};
 ghost use Rattle.std.specs.Str.{chars};
 ghost use Rattle.yaml_grammar.specs.Style.{letter, word_char, shown, plain_in_style, literal_in_style, special_words, lower, is_among, shown_or_feed, space_or_feed, feeds_at_end};
 ghost use Rattle.std.specs.List.{list_all};
@@ -27,18 +27,27 @@ pub enum ScalarStyle {
     LiteralKeep,
 }
 
-/// How the one style writes a text: as a key if `is_key`, else as a value. A key is plain or double-quoted.
-pub fn scalar_style(text: &str, is_key: bool) -> ScalarStyle
-    ensures { result ≡ (if is_key then key_style (chars text.now)
-        else value_style (chars text.now)) }
+/// Returns how the one style writes a text as a value.
+pub fn value_style(text: &str) -> ScalarStyle
+    ensures { result ≡ value_style (chars text.now) }
 {
     if is_plain_in_style(text) {
         ScalarStyle::Plain
-    } else if !is_key && is_literal(text) {
+    } else if is_literal(text) {
         literal_style(text)
     } else {
         ScalarStyle::Double
     }
+}
+
+/// Returns how the one style writes a text as a key: plain or double-quoted.
+pub fn key_style(text: &str) -> ScalarStyle
+    ensures { result ≡ key_style (chars text.now) }
+{
+    if !is_plain_in_style(text) {
+        return ScalarStyle::Double;
+    }
+    ScalarStyle::Plain
 }
 
 /// Whether a character is an ASCII letter.

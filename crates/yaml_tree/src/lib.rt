@@ -20,7 +20,7 @@ pub use read::read_one;
 pub use read_laws::{bytes_give_one, refused_bytes_give_none};
 pub use yaml_data::{Text, Tree};
 pub use yaml_faults::{Brief, ReadFault};
-pub use yaml_scalar_style::{ScalarStyle, Sink, scalar_style};
+pub use yaml_scalar_style::{ScalarStyle, Sink, key_style, value_style};
 pub use yaml_writer::{
     ByteCount, Size, lengths_follow_indentation, style_len, write_key, write_style, write_text,
     write_value,

@@ -10,7 +10,9 @@ ghost use Rattle.yaml_data.specs.Seen.{tree_of, elements_of, members_of};
 
 use crate::count::is_long_key;
 use yaml_data::{Text, Tree};
-use yaml_scalar_style::{ScalarStyle, Sink, scalar_style, write_literal_lines, write_quoted};
+use yaml_scalar_style::{
+    ScalarStyle, Sink, key_style, value_style, write_literal_lines, write_quoted,
+};
 
 /// Writes a tree in the one style: the text, with the end of its last line. It fails only if the sink does. The call
 /// stack grows with the depth, which therefore is at most 66; [`is_deeper_than`](Tree::is_deeper_than) tests that.
@@ -41,7 +43,7 @@ pub fn write_text<S: Sink>(text: &str, indent: u64, sink: &mut S) -> Result<(), 
 pub fn write_scalar<S: Sink>(text: &str, indent: u64, sink: &mut S) -> Result<(), S::Fault>
     ensures { OnOk result (S.Takes sink.old (scalar_lines indent (chars text.now)) sink.new) }
 {
-    match scalar_style(text, false) {
+    match value_style(text) {
         ScalarStyle::Plain => {
             sink.put_text(text)?;
             sink.put_char('\n')
@@ -74,7 +76,7 @@ fn write_literal<S: Sink>(
 pub(crate) fn write_key_text<S: Sink>(key: &str, sink: &mut S) -> Result<(), S::Fault>
     ensures { OnOk result (S.Takes sink.old (key_text (chars key.now)) sink.new) }
 {
-    match scalar_style(key, true) {
+    match key_style(key) {
         ScalarStyle::Plain => sink.put_text(key),
         _ => write_quoted(key, sink),
     }

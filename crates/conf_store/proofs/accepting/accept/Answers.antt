@@ -19,7 +19,7 @@ returns-in-Ok-clause-ok c =
     let long : c.len.result ≡ length bytes = search rules in (
       accepted c.steps_are_counted_or_refused.ensures.room c.steps_are_counted_or_refused.ensures.count c.documents_are_read.ensures.records c.documents_close.ensures.records s c.step.new.state command _ bytes c.args.size
           c.count.ensures.limits c.count-in-Ok.ensures.limits c.in_ok-record.ensures.kept c.in-Ok.ensures.ok is
-          (ap (λ n. nat_le (c.args.size + n) store_limit) long),
+          (c.within-room.ensures ∙ ap (λ n. nat_le (c.args.size + n) store_limit) long),
       c.count-in-Ok.ensures.count,
     )
 
@@ -32,7 +32,7 @@ returns-in-Err-clause-refused c =
     c.in_ok-record.ensures.bytes ∙ ap (record_bytes command) (c.saturating_add-number.ensures ∙ ap (λ n. min (n + 1) count_limit) c.count.ensures.count) in
     let long : c.len.result ≡ length bytes = search rules in
     ⊎_elim (λ memory. inl memory)
-    (λ e. inr (refused-outcome c.args.size s command _ bytes c.in-Err.fault (ap (λ n. nat_le (c.args.size + n) store_limit) long) is e))
+    (λ e. inr (refused-outcome c.args.size s command _ bytes c.in-Err.fault (c.within-room.ensures ∙ ap (λ n. nat_le (c.args.size + n) store_limit) long) is e))
     c.in-Err.ensures.refused
 
 pub returns-in-Err-clause-of_state : goal.returns-in-Err-clause-of_state

@@ -16,5 +16,5 @@ returns-in_default g c =
     let key = chars c.args.key.now in
     on_ok_weaker c.write_quoted.result
     (subst (λ cs. g.S.Sink.Takes c.args.sink.now cs c.write_quoted.new.sink)
-    (sym (key_quoted key (λ e. c.in_default.not-Plain (c.scalar_style.ensures ∙ e)))))
+    (sym (key_quoted key (λ e. c.in_default.not-Plain (c.key_style.ensures ∙ e)))))
     c.write_quoted.ensures

@@ -14,7 +14,7 @@ use Rattle.edit_lengths.specs.Edits.{tree_after_edit}
 use Rattle.conf_state.specs.Edits.{configs_with_edit}
 use Rattle.conf_state.specs.Kept.{entries_of, next_number}
 use Rattle.conf_state.specs.States.{Entry, config_named, put_config}
-use Rattle.conf_state.specs.Steps.{and_then, next_state}
+use Rattle.conf_state.specs.Steps.{has_room, and_then, next_state}
 use Rattle.conf_state.proofs.EditLemmas.{numbered-named, present-numbered, edit-placed, same_value, same_edit, parsed-Ok, parsed-Err, pointer-steps, edited-unread, edited-refused, tree_after_edit-nothing, edited-at, tree_after_edit-new}
 use Rattle.conf_state.specs.Names.{good_name}
 use Rattle.conf_state.proofs.EntryLemmas.{lookup-named, put_under-named}
@@ -31,7 +31,7 @@ returns-in_default-clause-refused c =
     let missing =
     ap (λ s. config_named s.configs name) (sym c.self.view_is) ∙ sym (lookup-named c.args.name.now c.utf8.name es c.self.invariant.0.plain)
     ∙ ap (option_map tree_of) none in
-    inr (ap (λ r. and_then r (next_state c.args.self.now c.args.fits)) (tree_after_edit-nothing c.args.self.now.configs name c.args.edit (chars c.args.pointer.now) missing))
+    inr (ap (λ r. and_then r (next_state c.args.self.now (has_room c.args.room))) (tree_after_edit-nothing c.args.self.now.configs name c.args.edit (chars c.args.pointer.now) missing))
 
 pub returns-in_err-path-clause-refused : goal.returns-in_err-path-clause-refused
 returns-in_err-path-clause-refused c =
@@ -41,7 +41,7 @@ returns-in_err-path-clause-refused c =
     let seen = ap (λ s. config_named s.configs name) (sym c.self.view_is) ∙ there.1 in
     let p = err_from_is_err_and c.from_residual.result c.from_residual.ensures.1 in
     rw (p.1, p.2)
-    (edited-unread c.args.self.now.configs name c.args.edit (chars c.args.pointer.now) (next_state c.args.self.now c.args.fits) (tree_of there.0) _ seen
+    (edited-unread c.args.self.now.configs name c.args.edit (chars c.args.pointer.now) (next_state c.args.self.now (has_room c.args.room)) (tree_of there.0) _ seen
     (parsed-Err (chars c.args.pointer.now) c.in_err-path.field-0.0 c.in_err-path.ensures.met))
 
 pub index-requires : goal.index-requires
@@ -75,7 +75,7 @@ returns-in_err-plan-clause-refused c =
     let parsed = parsed-Ok (chars c.args.pointer.now) c.in_ok-path.path c.in_ok-path.ensures.met in
     let p = err_from_is_err_and c.from_residual-in_err-plan.result c.from_residual-in_err-plan.ensures.1 in
     rw (p.1, p.2)
-    (edited-refused c.args.self.now.configs name c.args.edit (chars c.args.pointer.now) (next_state c.args.self.now c.args.fits) (tree_of c.index.result.now.1)
+    (edited-refused c.args.self.now.configs name c.args.edit (chars c.args.pointer.now) (next_state c.args.self.now (has_room c.args.room)) (tree_of c.index.result.now.1)
     c.in_ok-path.path c.in_err-plan.field-0.0 seen parsed c.in_err-plan.ensures.refused)
 
 pub returns-in_err-check_room-clause-refused : goal.returns-in_err-check_room-clause-refused
@@ -90,7 +90,7 @@ returns-in_err-check_room-clause-refused c =
     ∙ tree_after_edit-new c.args.self.now.configs name c.args.edit c.in_ok-path.path (tree_of c.index.result.now.1) l.new l.made l.deep l.long in
     let p = err_from_is_err_and c.from_residual-in_err-check_room.result c.from_residual-in_err-check_room.ensures.1 in
     rw (p.1, p.2)
-    (inr (ap (λ r. and_then r (next_state c.args.self.now c.args.fits)) made
+    (inr (ap (λ r. and_then r (next_state c.args.self.now (has_room c.args.room))) made
     ∙ c.in_err-check_room.ensures.refused (put_config c.args.self.now.configs name l.new) (omega (arith, l.entries))))
 
 pub perform-requires-clause-steps : goal.perform-requires-clause-steps
@@ -166,7 +166,7 @@ record IsMade (c : In_ok-perform) : Type 0 where
   there : config_named (entries_of (values_of c.self.inside.configs.named.entries)) (chars c.args.name.now) ≡ Some (tree_of c.index.result.now.1)
   made : configs_with_edit c.args.self.now.configs (chars c.args.name.now) c.args.edit (tree_of c.index.result.now.1) c.in_ok-path.path ≡ Ok (edited c)
   counts : c.in_ok-plan.plan.entries ≡ entries_length (edited c)
-  room : next_state c.args.self.now c.args.fits (edited c) ≡ Ok (record { configs = edited c; count = c.args.self.now.count + 1 })
+  room : next_state c.args.self.now (has_room c.args.room) (edited c) ≡ Ok (record { configs = edited c; count = c.args.self.now.count + 1 })
 
 is_made : (c : In_ok-perform) → IsMade c
 is_made c =
@@ -203,10 +203,10 @@ invariant_of-self-2 c =
     let edit = is_made (goal.at.invariant_of-self-2 c).In_ok-perform in (
       kept_put (values_of ns) c.self.inside.count c.self.inside.entries c.self.invariant.0
           (omega (arith, ap (λ s. s.count) c.self.view_is, c.in_ok-check_room.ensures.counts))
-          old.0 t utf8 (subst IsAscii same (good_name-ascii c.args.name.now c.utf8.name c.requires.named)) (subst (λ bs. good_name (chars bs) ≡ true) same c.requires.named) c.in_ok-perform.ensures.within c.args.fits _
-          (subst (λ bs. next_state (record { configs = entries_of (values_of ns); count = c.self.inside.count }) c.args.fits (put_config (entries_of (values_of ns)) (chars bs) (tree_of t))
+          old.0 t utf8 (subst IsAscii same (good_name-ascii c.args.name.now c.utf8.name c.requires.named)) (subst (λ bs. good_name (chars bs) ≡ true) same c.requires.named) c.in_ok-perform.ensures.within (has_room c.args.room) _
+          (subst (λ bs. next_state (record { configs = entries_of (values_of ns); count = c.self.inside.count }) (has_room c.args.room) (put_config (entries_of (values_of ns)) (chars bs) (tree_of t))
           ≡ Ok (record { configs = put_config (entries_of (values_of ns)) (chars bs) (tree_of t); count = c.self.inside.count + 1 })) same
-          (subst (λ s. next_state s c.args.fits (put_config s.configs name (tree_of t)) ≡ Ok (record { configs = put_config s.configs name (tree_of t); count = s.count + 1 }))
+          (subst (λ s. next_state s (has_room c.args.room) (put_config s.configs name (tree_of t)) ≡ Ok (record { configs = put_config s.configs name (tree_of t); count = s.count + 1 }))
           (sym c.self.view_is) edit.room))
           _ c.in_ok-plan.plan.entries placed
           (edit.counts ∙ ap (λ s. entries_length (put_config s.configs name (tree_of t))) (sym c.self.view_is)
@@ -231,7 +231,7 @@ returns-clause-ok c =
     let parsed = parsed-Ok (chars c.args.pointer.now) c.in_ok-path.path c.in_ok-path.ensures.met in
     let placed = ap entries_of (edit-placed c.args.name.now ns c.in-Some.number old t c.self.invariant.1.apart is held _ set) ∙ put_under-named old.0 utf8 t (values_of ns) c.self.invariant.0.plain
     ∙ ap (λ bs. put_config (entries_of (values_of ns)) (chars bs) (tree_of t)) (sym same) in
-    ap (λ r. and_then r (next_state c.args.self.now c.args.fits))
+    ap (λ r. and_then r (next_state c.args.self.now (has_room c.args.room)))
     (edited-at c.args.self.now.configs name c.args.edit (chars c.args.pointer.now) (tree_of c.index.result.now.1) c.in_ok-path.path seen parsed ∙ edit.made)
     ∙ edit.room ∙ ap (λ s. Ok (record { configs = put_config s.configs name (tree_of t); count = s.count + 1 })) (sym c.self.view_is)
     ∙ ap (λ cs. Ok (record { configs = cs; count = c.self.inside.count + 1 })) (sym placed)

@@ -6,7 +6,7 @@ use Rattle.conf_configs.specs.Numbers.{IsIndexed, heads}
 use Rattle.conf_state.specs.States.{put_config}
 use Rattle.conf_state.specs.BaseTexts.{entries_length}
 use Rattle.conf_state.specs.Kept.{entries_of}
-use Rattle.conf_state.specs.Steps.{next_state}
+use Rattle.conf_state.specs.Steps.{has_room, next_state}
 use Rattle.conf_state.proofs.EntryLemmas.{put_under-named}
 use Rattle.conf_state.proofs.NameLemmas.{good_name-ascii}
 use Rattle.conf_state.proofs.StateLemmas.{kept_put}
@@ -26,8 +26,8 @@ invariant_of-self-2 c =
       kept_put (values_of c.self.inside.configs.named.entries) c.self.inside.count c.self.inside.entries c.self.invariant.0
           (omega (arith, ap (λ s. s.count) c.self.view_is, c.in_ok-check_room.ensures.counts))
           c.args.name c.args.config utf8 (good_name-ascii name utf8 c.requires.named)
-          c.requires.named c.requires.within c.args.fits _
-          (subst (λ s. next_state s c.args.fits (put_config s.configs (chars name) tree) ≡ Ok (record { configs = put_config s.configs (chars name) tree; count = s.count + 1 }))
+          c.requires.named c.requires.within (has_room c.args.room) _
+          (subst (λ s. next_state s (has_room c.args.room) (put_config s.configs (chars name) tree) ≡ Ok (record { configs = put_config s.configs (chars name) tree; count = s.count + 1 }))
           (sym c.self.view_is) room)
           (values_of c.put.new.self.named.entries) c.length_with-entries.result c.in_ok-put.ensures.ok
           (exact ∙ ap (λ s. entries_length (put_config s.configs (chars name) tree)) (sym c.self.view_is)),
