@@ -1,17 +1,23 @@
 -- What the calls of the maps do to the configurations and to their numbers.
-use Rattle.std.proofs.Common.{◌≡◌, ℕ, ◌+◌, ◌<◌, ◌≤◌, Bool, true, false, cond, List, [], ◌∷◌, ◌++◌, String, Global, Option, Some, None, option_map, is_some, string_bytes, bytes_eq, refl, sym, ap, subst, ◌∙◌, arith}
+use Rattle.std.proofs.Common.{◌≡◌, ℕ, ◌+◌, ◌<◌, ◌≤◌, Bool, true, false, cond, List, [], ◌∷◌, ◌++◌, String, Global, MutBor, Option, Some, None, option_map, is_some, string_bytes, bytes_eq, refl, sym, ap, subst, ◌∙◌, arith}
 use Rattle.std.proofs.lemmas.Bool.Decides.{same_from_decides}
 use Rattle.std.proofs.lemmas.Slice.Eq.{bytes_eq-Decides}
 use Rattle.std.specs.BTreeMap.{BTreeMap, is_at, insert_entry, get_by_text}
 use Rattle.std.specs.Cmp.{nat_cmp_is}
 use Rattle.std.specs.declared.cmp.Ordering.TheVariants.{Equal, Greater}
 use Rattle.std.specs.Map.{lookup, values_of, set_value, remove_entry}
+use Rattle.std.specs.Option.{option_copied_mut}
 use Rattle.std.specs.Ordering.{nat_cmp, is_eq, match_ordering}
 use Rattle.conf_configs.specs.Numbers.{heads, number_of, AreAbove, AreBelow, AreApart, IsIndexed, put_under, cut_from}
 
 pub none-other : {A : Type 0} (o : Option A) → ((a : A) → o ≡ Some a → ⊥) → o ≡ None
 none-other None other = refl
 none-other (Some a) other = absurd (other a refl)
+
+-- a reference is there exactly if its value is
+pub is_some-copied : {A : Type 0} (o : Option (MutBor A)) → is_some o ≡ is_some (option_copied_mut o)
+is_some-copied None = refl
+is_some-copied (Some r) = refl
 
 -- ---- numbers, and names
 

@@ -1,9 +1,9 @@
-use Rattle.std.proofs.Common.{refl, Option, MutBor, is_some, ◌≡◌, ◌+◌, Some, None, string_bytes, ap, sym, subst, ◌∙◌, arith}
+use Rattle.std.proofs.Common.{is_some, ◌≡◌, ◌+◌, Some, string_bytes, ap, sym, subst, ◌∙◌, arith}
 use Rattle.std.specs.BTreeMap.{get_by_text}
 use Rattle.std.specs.Option.{option_copied_mut}
 use Rattle.std.specs.Map.{values_of}
 use Rattle.conf_configs.specs.Numbers.{heads, number_of, IsIndexed}
-use Rattle.conf_configs.proofs.NumberLemmas.{number-there, set-number, indexed-set, indexed-more}
+use Rattle.conf_configs.proofs.NumberLemmas.{is_some-copied, number-there, set-number, indexed-set, indexed-more}
 use Rattle.conf_configs.proofs.configs.Configs.put.Goals as goal
 use Rattle.conf_configs.proofs.configs.Configs.put.Goals.{In-Some}
 
@@ -15,13 +15,9 @@ push-requires-clause-absent c =
 there : (c : In-Some) → number_of (string_bytes c.args.name) (heads c.args.self.now.named.entries) ≡ Some c.in-Some.place
 there c = sym (c.requires.found (string_bytes c.args.name)) ∙ ap (get_by_text c.args.self.now.numbers) (sym c.deref.ensures) ∙ sym c.in-Some.ensures
 
-mapped : {A : Type 0} (o : Option (MutBor A)) → is_some o ≡ is_some (option_copied_mut o)
-mapped None = refl
-mapped (Some r) = refl
-
 pub unwrap-requires : goal.unwrap-requires
 unwrap-requires c =
-    mapped c.get_mut.result
+    is_some-copied c.get_mut.result
     ∙ ap is_some c.get_mut.ensures.value
     ∙ number-there (string_bytes c.args.name) c.args.self.now.named.entries c.in-Some.place (there (goal.at.unwrap-requires c).In-Some)
 

@@ -1,4 +1,4 @@
-use Rattle.std.proofs.Common.{Option, None, MutBor, is_some, true, IsUtf8, IsAscii, option_map, ◌≡◌, ◌+◌, List, Ok, Some, inr, refl, ap, subst, ◌∙◌, sym, arith}
+use Rattle.std.proofs.Common.{is_some, true, IsUtf8, IsAscii, option_map, ◌≡◌, ◌+◌, List, Ok, Some, inr, ap, subst, ◌∙◌, sym, arith}
 use Rattle.std.proofs.lemmas.Result.{err_from_is_err_and}
 use Rattle.std.specs.Map.{lookup, values_of}
 use Rattle.std.specs.BTreeMap.{is_at}
@@ -8,7 +8,7 @@ use Rattle.std.specs.Str.{chars}
 use Rattle.yaml_data.specs.Seen.{tree_of}
 use Rattle.tree_path.specs.Paths.{last_key}
 use Rattle.conf_configs.specs.Numbers.{heads, number_of, IsIndexed}
-use Rattle.conf_configs.proofs.NumberLemmas.{number-there, number-name, lookup-none, indexed-set, indexed-more}
+use Rattle.conf_configs.proofs.NumberLemmas.{is_some-copied, number-there, number-name, lookup-none, indexed-set, indexed-more}
 use Rattle.conf_state.specs.BaseTexts.{entries_length}
 use Rattle.edit_lengths.specs.Edits.{tree_after_edit}
 use Rattle.conf_state.specs.Edits.{configs_with_edit}
@@ -47,13 +47,9 @@ returns-in_err-path-clause-refused c =
 pub index-requires : goal.index-requires
 index-requires c = number-there c.args.name.now c.self.inside.configs.named.entries c.in-Some.number (sym (c.self.invariant.1.found c.args.name.now) ∙ sym c.in-Some.ensures)
 
-mapped : {A : Type 0} (o : Option (MutBor A)) → is_some o ≡ is_some (option_copied_mut o)
-mapped None = refl
-mapped (Some r) = refl
-
 pub unwrap-requires : goal.unwrap-requires
 unwrap-requires c =
-    mapped c.get_mut.result ∙ ap is_some c.get_mut.ensures.value
+    is_some-copied c.get_mut.result ∙ ap is_some c.get_mut.ensures.value
     ∙ number-there c.args.name.now c.self.inside.configs.named.entries c.in-Some.number (sym (c.self.invariant.1.found c.args.name.now) ∙ sym c.in-Some.ensures)
 
 pub plan_edit-requires-clause-steps : goal.plan_edit-requires-clause-steps
