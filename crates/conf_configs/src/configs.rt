@@ -14,8 +14,9 @@ use yaml_tree::Config;
 /// Configurations by name, in the order in which they were put. Each has a number, and a later one a greater number.
 ///
 /// The fields are public, so that a caller can go over the configurations in order, and change one in its place. A
-/// caller who changes them keeps `AreNumbered`, which the methods require: the numbers in `named` ascend and are below
-/// a limit, no name occurs there twice, and `numbers` has exactly these names, each with its number.
+/// caller who changes them keeps `AreNumbered`, which [`get`](Configs::get), [`put`](Configs::put) and
+/// [`remove`](Configs::remove) require: the numbers in `named` ascend and are below a limit, no name occurs there
+/// twice, and `numbers` has exactly these names, each with its number.
 #[derive(Drop)]
 pub struct Configs {
     /// The number of each name's configuration.

@@ -37,7 +37,8 @@ impl Input {
     /// # Errors
     /// `AllocError` if there is no memory for the chunk.
     pub fn new(alloc: Global) -> Result<Input, AllocError>
-        ensures { IfOk result (λ input. IsSound input × (ahead input ≡ []) × (bytes_read input ≡ 0)) }
+        ensures { IfOk result (λ input. IsSound input × (ahead input ≡ [])
+            × (bytes_read input ≡ 0)) }
     {
         Ok(Input {
             cutter: Cutter::new(alloc, PIECE_LIMIT),
@@ -52,11 +53,11 @@ impl Input {
     /// if what was read before closes no further piece, and at most 65,536 bytes at a time.
     ///
     /// # Errors
-    /// After an error nothing is promised of the input. The bytes before the fault close no further piece.
+    /// After an error nothing is promised of the input.
     ///
-    /// - `Read`: a read failed.
+    /// - `Read`: a read failed, and what was read before it closes no further piece.
     /// - `TooLong`: the piece, or what comes after the last one, has more than [`PIECE_LIMIT`] bytes.
-    /// - `SessionLong`: the input has more than 1,073,741,824 bytes.
+    /// - `SessionLong`: the input has more than 1,073,741,824 bytes, and the first that many close no further piece.
     /// - `OutOfMemory`: there is no memory for the piece.
     pub fn advance<R: Read>(&mut self, reader: &mut R) -> Result<bool, SessionFault>
         requires { IsSound self.old }
