@@ -1,43 +1,33 @@
-//! Answers orders on the disk of a store, in memory or of a folder of the system, so that the gate can compare the
-//! answers with expected ones. Each line of standard input is an order, a word and what belongs to it, with `;` between
-//! them. It is answered in one line, but for `images`. A line that begins with `#` is printed as it is. The program
-//! ends with 0, or with 1 if reading or printing failed.
+//! Answers orders on a disk in memory, so that the gate can compare the answers with expected ones. Each line of
+//! standard input is an order, a word and what belongs to it, with `;` between them. It is answered in one line, but
+//! for `images`. A line that begins with `#` is printed as it is. The program ends with 0, or with 1 if reading or
+//! printing failed.
 //!
-//! - `new`: takes an empty disk in memory. `files;STORE;NEXT`: one with these files, all synced; `-` means none.
+//! - `new`: takes an empty disk. `files;STORE;NEXT`: one with these files, all synced; `-` means none.
 //! - `claim;BYTES`: from now on a read of `store.yaml` with a smaller limit returns `TooLong`, whatever the file has.
-//! - `fuse;CALLS;FUSE`: lets calls of the disk in memory fail once so many have passed. A `FUSE` is `stop` (every later
-//!   call fails), `fail_done` (the next call fails after its effect) or `fail_undone` (it fails without an effect).
+//! - `fuse;CALLS;FUSE`: lets calls of the disk fail once so many have passed. A `FUSE` is `stop` (every later call
+//!   fails), `fail_done` (the next call fails after its effect) or `fail_undone` (it fails without an effect).
 //!   `passed`: how many calls passed. `unfuse`: takes the disk below.
 //! - `images`: a line for each image that a crash may leave: its stage, how `store.yaml` and `next.yaml` are cut, and
 //!   what each reads as then. All stages below 6 are tried, and all cuts of less than 5 bytes and zeros.
 //! - `crash;STAGE;KEPT;ZEROS;NEXT_KEPT;NEXT_ZEROS`: takes the disk that is such an image.
-//! - A call of the disk: `failures`, `read;NAME;LIMIT`, `create_next`, `append;NAME;BYTES`, `sync;NAME`, `rename_next`,
-//!   `remove_next`, `sync_folder`. A `NAME` is `store` or `next`.
-//! - A procedure of the journal: `load`, `append_store;BYTES`, `sync_store`, `append_closed;BYTES`, `begin_next`,
-//!   `append_next;BYTES`, `stage_next;BYTES`, `swap_next`, `finish_next`.
+//! - A call of the disk, or a procedure of the journal, as `disk_calls` lists them.
 //! - `stop;CALLS;FUSE;` before one of these: it is made on a disk of its own with the files `old` and `new` and such a
 //!   fuse. After its answer come how many calls passed, and all that `store.yaml` reads as in the images that are left.
 //!
-//! `folder;` before a call or a procedure: it is made on the disk of a folder of the system. `folder;make;NAME` and
-//! `folder;remove;NAME` make and remove the folder, `folder;take;NAME` takes its disk, and `folder;close` closes the
-//! disk.
-//!
-//! What fails is answered with the fault. A disk in memory returns `Device` if there is no file to be appended to or
-//! renamed, or if there is one that is to be created.
+//! What fails is answered with the fault. The disk returns `Device` if there is no file to be appended to or renamed,
+//! or if there is one that is to be created.
 #![tactic(auto)]
 
-mod calls;
-mod disks;
-mod folders;
 mod guarded;
 mod images;
 mod memory;
 mod orders;
 
-use disks::Disks;
+use memory::Memory;
 use probe_words::answer_lines;
 use std::process::ExitCode;
 
 fn main(rt: HostRuntime) -> ExitCode {
-    answer_lines(&rt, &mut Disks::new(&rt))
+    answer_lines(&rt, &mut Memory::new(rt.alloc()))
 }

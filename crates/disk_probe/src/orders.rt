@@ -3,16 +3,20 @@ use crate::guarded::GuardedDisk;
 use crate::images::stopped;
 use crate::memory::Memory;
 use conf_disk::Cuts;
-use probe_words::number_of;
+use probe_words::{Answers, number_of};
 use std::alloc::{AllocError, Global};
+use std::io;
 use test_disks::Fuse;
 
-/// The answer to an order on the disk in memory.
-pub(crate) fn answer(
-    alloc: Global,
-    memory: &mut Memory,
-    words: &[&str],
-) -> Result<String, AllocError> {
+impl Answers for Memory {
+    fn answer(&mut self, alloc: Global, order: &str) -> io::Result<String> {
+        let words: Vec<&str> = order.split(';').collect(alloc)?;
+        Ok(answer(alloc, self, &words)?)
+    }
+}
+
+/// The answer to an order.
+fn answer(alloc: Global, memory: &mut Memory, words: &[&str]) -> Result<String, AllocError> {
     match words {
         ["new"] => memory.take(alloc, GuardedDisk::new(alloc)),
         ["files", store, next] => take_files(alloc, memory, store, next),

@@ -1,5 +1,4 @@
 // Calls of any disk and procedures on it, from their words.
-
 use conf_disk::{Content, Disk, DiskFault, Name};
 use conf_journal::{
     append_closed, append_next, append_store, begin_next, finish_next, load, stage_next, swap_next,
@@ -7,12 +6,9 @@ use conf_journal::{
 };
 use std::alloc::{AllocError, Global};
 
-/// The answer of a disk to a call or a procedure.
-pub(crate) fn call<D: Disk>(
-    alloc: Global,
-    disk: &mut D,
-    words: &[&str],
-) -> Result<String, AllocError>
+/// The answer of a disk to the words of a call or of a procedure. The disk claims nothing, so each may be made at any
+/// time.
+pub fn call<D: Disk>(alloc: Global, disk: &mut D, words: &[&str]) -> Result<String, AllocError>
     requires { D.honest → ⊥ }
 {
     match words {
@@ -64,11 +60,8 @@ fn outcome_of(alloc: Global, outcome: Result<(), DiskFault>) -> Result<String, A
     }
 }
 
-/// What a read returned: the bytes as a text, or why there are none.
-pub(crate) fn content_of(
-    alloc: Global,
-    read: Result<Content, DiskFault>,
-) -> Result<String, AllocError> {
+/// What a read returned: the bytes as a quoted text, or why there are none.
+pub fn content_of(alloc: Global, read: Result<Content, DiskFault>) -> Result<String, AllocError> {
     match read {
         Ok(Content::Missing) => String::from_str(alloc, "missing"),
         Ok(Content::TooLong) => String::from_str(alloc, "too long"),

@@ -6,6 +6,7 @@ use conf_session::{SessionFault, Tally, run};
 use conf_store::{OpenFault, Store};
 use probe_words::Sink;
 use std::alloc::{AllocError, Global};
+use store_states::StateFault;
 use test_disks::{Fuse, FusedDisk, MemoryDisk};
 
 /// What a session leaves whose disk fails: how it ends, whether the store has to be opened again, how many bytes are
@@ -76,7 +77,7 @@ fn shown(alloc: Global, left: Result<Left, Wrong>) -> Result<String, AllocError>
 fn refused(
     alloc: Global,
     fault: OpenFault,
-    reads: Result<u64, Wrong>,
+    reads: Result<u64, StateFault>,
 ) -> Result<String, AllocError> {
     match reads {
         Ok(reads) => format!(in alloc; "opening: {fault:?}, reads {reads}"),

@@ -1,5 +1,4 @@
 // Sessions whose input or output ends, or fails, after each byte.
-use crate::left::opened;
 use crate::worked::{ANSWERS, COMMANDS, Step, answers, count_left, steps};
 use crate::wrong::Wrong;
 use conf_disk::{Content, Disk, Name};
@@ -7,6 +6,7 @@ use conf_session::{SessionFault, Tally, run};
 use probe_words::{Sink, Source};
 use std::alloc::{AllocError, Global};
 use std::io::ErrorKind;
+use store_states::opened;
 use test_disks::MemoryDisk;
 
 /// What is cut off after a byte.

@@ -1,8 +1,8 @@
 // A worked session over an empty store, and what the store is after each of its commands.
-use crate::left::{States, count_of};
 use crate::wrong::Wrong;
 use probe_words::Sink;
 use std::alloc::Global;
+use store_states::{StateFault, States, count_of};
 use test_disks::MemoryDisk;
 
 /// The commands: 144 bytes.
@@ -58,7 +58,7 @@ const STATES: States = States {
 };
 
 /// The count of what is left, which has the state after so many changes.
-pub(crate) fn count_left(alloc: Global, disk: MemoryDisk) -> Result<u64, Wrong> {
+pub(crate) fn count_left(alloc: Global, disk: MemoryDisk) -> Result<u64, StateFault> {
     count_of(alloc, disk, &STATES)
 }
 

@@ -1,36 +1,43 @@
-// What is left of a store: its count, and the state that it has then.
-use crate::wrong::Wrong;
-use conf_disk::Disk;
+// The states of a store, and the one that its count says.
 use conf_state::StoreFault;
-use conf_store::Store;
+use conf_store::{OpenFault, Store};
 use std::alloc::Global;
 use test_disks::MemoryDisk;
 
-/// The states of a run with one configuration.
+/// The states of a store with one configuration.
 #[derive(Clone, Copy)]
-pub(crate) struct States {
+pub struct States {
     /// The name of the configuration.
-    pub(crate) name: &'static str,
+    pub name: &'static str,
     /// What it is after so many changes, in the one style.
-    pub(crate) texts: [Option<&'static str>; 4],
+    pub texts: [Option<&'static str>; 4],
+}
+
+/// Why a folder has none of the states.
+#[derive(Clone, Copy, Debug)]
+pub enum StateFault {
+    /// It does not open.
+    Open(OpenFault),
+    /// Its store has this count, and not the state after so many changes.
+    State(u64),
 }
 
 /// Opens a folder that has to open.
-pub(crate) fn opened<D: Disk + Drop>(alloc: Global, disk: D) -> Result<Store<D>, Wrong> {
+pub fn opened(alloc: Global, disk: MemoryDisk) -> Result<Store<MemoryDisk>, StateFault> {
     match Store::open(alloc, disk) {
         Ok((store, _)) => Ok(store),
-        Err((_, fault)) => Err(Wrong::Open(fault)),
+        Err((_, fault)) => Err(StateFault::Open(fault)),
     }
 }
 
-/// The count of what is left, which has the state after so many changes.
-pub(crate) fn count_of(alloc: Global, disk: MemoryDisk, states: &States) -> Result<u64, Wrong> {
+/// The count of a folder's store, which has the state after so many changes.
+pub fn count_of(alloc: Global, disk: MemoryDisk, states: &States) -> Result<u64, StateFault> {
     let store = opened(alloc, disk)?;
     let count = store.count();
     if is_state(&store, states) {
         Ok(count)
     } else {
-        Err(Wrong::State(count))
+        Err(StateFault::State(count))
     }
 }
 
