@@ -1,7 +1,7 @@
 // The edits themselves: of a tree, and of a configuration by commands.
 use crate::edits::order::{Order, Target};
 use crate::failed::Failed;
-use conf_state::{Command, State, step};
+use conf_state::{Command, Room, State, step};
 use std::alloc::{AllocError, Global};
 use tree_path::{Path, delete, set};
 use yaml_tree::{Config, Text, Tree, style_len};
@@ -51,7 +51,7 @@ fn set_and_delete(alloc: Global, tree: &mut Tree, path: &Path) -> Result<(), Fai
 fn edit_state(alloc: Global, tree: Tree, pointer: &str, rounds: u32) -> Result<(), Failed> {
     let mut state = State::new(alloc);
     let import = import_of(alloc, tree)?;
-    step(alloc, &mut state, import, true)?;
+    step(alloc, &mut state, import, Room::Enough)?;
     for _ in 0..rounds {
         set_and_delete_by_commands(alloc, &mut state, pointer)?;
     }
@@ -64,9 +64,9 @@ fn set_and_delete_by_commands(
     pointer: &str,
 ) -> Result<(), Failed> {
     let set = set_at(alloc, pointer)?;
-    step(alloc, state, set, true)?;
+    step(alloc, state, set, Room::Enough)?;
     let delete = delete_at(alloc, pointer)?;
-    step(alloc, state, delete, true)?;
+    step(alloc, state, delete, Room::Enough)?;
     Ok(())
 }
 
