@@ -3,11 +3,12 @@ ghost use Rattle.std.specs.Prelude.{◌≡◌, ◌⊎◌, ◌≤◌};
 ghost use Rattle.std.specs.Io.KnownBytes.{Keeps};
 ghost use Rattle.conf_tools.specs.Statuses.{Performs, code_of, status_of, status_of_store};
 
-use clap::{Arg, ArgMatches, Command};
+use clap::ArgMatches;
 use conf_folder::{FolderDisk, FolderFault};
 use conf_session::SessionFault;
 use conf_state::StoreFault;
 use conf_store::OpenFault;
+use conf_words::{CHECK, EXPORT, FOLDER, FORMAT, NAME, RUN, command};
 use std::alloc::{AllocError, Global};
 use std::fs::File;
 use std::io;
@@ -43,113 +44,6 @@ impl Status {
             Status::Device => 3,
         }
     }
-}
-
-const VERSION: &str = "0.1.0";
-
-const ABOUT: &str = "A crash-safe store of named configuration trees, and tools for their texts.";
-
-const STATUSES: &str = "\
-Statuses:
-  0  done
-  1  a text or a store was refused, memory ran out, or `check` found something
-  2  wrong words
-  3  reading or writing failed, or the folder is missing or locked
-
-A fault is one line on standard error, as `confstore: KeyTwice`.
-`confstore help run` shows how commands and answers look.";
-
-const RUN: &str = "run";
-
-const RUN_ABOUT: &str = "Performs the commands on standard input on the store in a folder";
-
-const RUN_HELP: &str = "\
-Each command is a YAML document that a line of `...` closes. It is performed as soon as that line
-has come, and answered by one document. `ok` comes after the change is on the disk.
-
-  import: NAME   text: TEXT                reads a YAML text, and puts its tree under a name
-  set: NAME      path: POINTER   value: TREE   sets the value at a JSON Pointer
-  delete: NAME   path: POINTER             removes what is there; the pointer \"\" removes the name
-  get: NAME      path: POINTER             answers the value there
-  export: NAME                             answers the text of the tree in the one style
-  names:                                   answers the names
-  checkpoint:                              makes the store file as short as its state
-
-A refused command changes nothing, and leaves the status 0. The folder must be there; the store in
-it is made on the first run, and locked while a run lasts.
-
-Limits: a name has 1 to 64 of a-z, 0-9, `_` and `-`, a letter first. A text and a configuration have
-at most 1,048,576 bytes, and are at most 64 deep. A command has at most 4,194,304 bytes.
-
-Example:
-  mkdir store
-  printf 'import: web\\ntext: \"host: example\"\\n...\\n' | confstore run store";
-
-const EXPORT: &str = "export";
-
-const EXPORT_ABOUT: &str = "Writes a configuration of the store in a folder in the one style";
-
-const EXPORT_HELP: &str = "Example:  confstore export store web";
-
-const FOLDER: &str = "FOLDER";
-
-const FOLDER_HELP: &str = "The store's folder; after `--` if it begins with `-`";
-
-const NAME: &str = "NAME";
-
-const NAME_HELP: &str = "The name of the configuration; after `--` if it begins with `-`";
-
-const FORMAT: &str = "format";
-
-const FORMAT_ABOUT: &str =
-    "Reads a YAML text from standard input and writes its tree in the one style";
-
-const CHECK: &str = "check";
-
-const CHECK_ABOUT: &str =
-    "Reads a YAML text from standard input and writes where it departs from the one style";
-
-const CHECK_HELP: &str = "\
-Each finding is one line, as `S1 3`: the rule, and the number of the line, from 1.
-  S1  the line ends in a space or TAB
-  S2  the line ends in CR LF or CR, or it is the last line and has no break
-  S3  the line has more than 120 characters
-  S4  the text is not what `confstore format` writes for it, and first differs from that on this line
-
-The status is 0 where nothing is found. It is 1 where something is, and where the text is refused.
-
-As a hook, for each file:  confstore check < file";
-
-/// The words that the program takes.
-fn command<'a>(alloc: Global) -> Result<Command<'a>, AllocError> {
-    Command::new(alloc, "confstore")
-        .version(VERSION)
-        .about(ABOUT)
-        .after_help(STATUSES)
-        .subcommand_required(true)
-        .subcommand(run_command(alloc)?)?
-        .subcommand(export_command(alloc)?)?
-        .subcommand(Command::new(alloc, FORMAT).about(FORMAT_ABOUT))?
-        .subcommand(
-            Command::new(alloc, CHECK)
-                .about(CHECK_ABOUT)
-                .after_help(CHECK_HELP),
-        )
-}
-
-fn run_command<'a>(alloc: Global) -> Result<Command<'a>, AllocError> {
-    Command::new(alloc, RUN)
-        .about(RUN_ABOUT)
-        .after_help(RUN_HELP)
-        .arg(Arg::new(alloc, FOLDER).required(true).help(FOLDER_HELP))
-}
-
-fn export_command<'a>(alloc: Global) -> Result<Command<'a>, AllocError> {
-    Command::new(alloc, EXPORT)
-        .about(EXPORT_ABOUT)
-        .after_help(EXPORT_HELP)
-        .arg(Arg::new(alloc, FOLDER).required(true).help(FOLDER_HELP))?
-        .arg(Arg::new(alloc, NAME).required(true).help(NAME_HELP))
 }
 
 /// Does what the program does, and returns its status. `words` are its words, of which the first is its name. The files

@@ -8,6 +8,5 @@ pub mod PairKeys
 pub mod FlowSteps
 pub mod NodeSteps
 pub mod ColonSteps
-pub mod ScalarKinds
 pub mod ScalarSteps
 pub mod Stacks

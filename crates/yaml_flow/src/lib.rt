@@ -9,9 +9,7 @@ mod collection;
 mod node;
 mod pair;
 mod push;
-mod scalar;
 
 pub use node::flow_node;
 pub use pair::{KEY_LIMIT, key_limit};
-pub use push::omitted;
-pub use scalar::{FlowScalar, scalar_at};
+pub use yaml_flow_leaves::{FlowScalar, omitted, scalar_at};

@@ -1,14 +1,10 @@
 // Appending and inserting events, with the fault of a scanner.
-ghost use Rattle.std.specs.Prelude.{◌≡◌, ℕ, ◌≤◌, List, [], ◌∷◌, ◌++◌, length, insert, OnOk, IfErr};
-ghost use Rattle.yaml_grammar.specs.Events.{scalar_event, omitted_style};
-ghost use Rattle.yaml_events.specs.Meant.{event_of};
+ghost use Rattle.std.specs.Prelude.{◌≡◌, ℕ, ◌≤◌, [], ◌∷◌, ◌++◌, length, insert, OnOk, IfErr};
 ghost use Rattle.yaml_events.specs.EventPlaces.{Refuses};
 ghost use Rattle.yaml_events.specs.declared.event.Event.TheVariants.{MapStart};
 ghost use Rattle.yaml_flow.specs.Frames.{Kept};
-ghost use Rattle.yaml_events.specs.Borrowed.{BorrowsPlain};
 
-use std::borrow::CowStr;
-use yaml_events::{Event, Events, ScanFault, Span, Style};
+use yaml_events::{Event, Events, ScanFault};
 
 /// Appends an event.
 #[inline(always)]
@@ -33,18 +29,5 @@ pub(crate) fn insert_map_start(events: &mut Events<'_>, at: usize) -> Result<(),
     match events.insert_map_start(at) {
         Ok(()) => Ok(()),
         Err(_) => Err(ScanFault::OutOfMemory),
-    }
-}
-
-/// Returns the event of a node that is omitted at a place, which counts bytes from 0: the empty text, with an empty
-/// range (YAML 1.2.2, 7.2).
-pub fn omitted<'a>(at: usize) -> Event<'a>
-    ensures event { event_of result ≡ scalar_event omitted_style at at [] }
-    ensures borrowed { (text : List ℕ) → BorrowsPlain text result }
-{
-    Event::Scalar {
-        style: Style::Omitted,
-        span: Span { start: at, end: at },
-        value: CowStr::Borrowed(""),
     }
 }

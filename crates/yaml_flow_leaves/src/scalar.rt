@@ -4,7 +4,7 @@ ghost use Rattle.std.specs.Cow.{IsBorrowedStr};
 ghost use Rattle.std.specs.Str.{IsCharBoundary};
 ghost use Rattle.yaml_events.specs.Meant.{context_of};
 ghost use Rattle.yaml_events.specs.EventPlaces.{Refuses};
-ghost use Rattle.yaml_flow.specs.FlowNodes.{FlowScalarRead, NoFlowScalar, scalar_event_at};
+ghost use Rattle.yaml_flow_leaves.specs.Scalars.{FlowScalarRead, NoFlowScalar, scalar_event_at};
 ghost use Rattle.yaml_scan.specs.ScanPlaces.{unbroken_between};
 
 use std::alloc::Global;

@@ -22,8 +22,8 @@ use Rattle.yaml_recognizers.proofs.Basics.Prefixes.{head_is}
 use Rattle.yaml_recognizers.proofs.Basics.Reading.{chosen, none_some, on_parts, some_parts}
 use Rattle.yaml_recognizers.proofs.Scalars.WholeScalars.{stands_whole, whole_stands}
 use Rattle.yaml_scan.specs.ScanPlaces.{unbroken_between}
-use Rattle.yaml_flow.specs.declared.scalar.FlowScalar.{FlowScalar}
-use Rattle.yaml_flow.specs.FlowNodes.{FlowScalarRead, scalar_event_at}
+use Rattle.yaml_flow_leaves.specs.declared.scalar.FlowScalar.{FlowScalar}
+use Rattle.yaml_flow_leaves.specs.Scalars.{FlowScalarRead, scalar_event_at}
 
 double_head : (n : ℕ) (c : flow.FlowContext) (bol : Bool) (xs : List ℕ) (s : flow.Scalar) (after : List ℕ) → read_scalar n c bol (34 ∷ xs) ≡ Some (s, after)
     → flow.style_of s ≡ grammar.double_style

@@ -5,8 +5,8 @@ use Rattle.yaml_events.specs.declared.event.Style.TheVariants.{Double, Plain, Si
 use Rattle.yaml_flow_scalars.specs.Standing.{NoScalarAt}
 use Rattle.yaml_grammar.specs.Events.{double_style, plain_style, single_style}
 use Rattle.yaml_scan.proofs.Outcomes.{fault_passed}
-use Rattle.yaml_flow.proofs.ScalarKinds.{double_there, none_read, plain_there, scalar_read, single_there}
-use Rattle.yaml_flow.proofs.scalar.scalar_at.Goals as goal
+use Rattle.yaml_flow_leaves.proofs.ScalarKinds.{double_there, none_read, plain_there, scalar_read, single_there}
+use Rattle.yaml_flow_leaves.proofs.scalar.scalar_at.Goals as goal
 
 pub returns-in_err-value-clause-none : goal.returns-in_err-value-clause-none
 returns-in_err-value-clause-none c =
