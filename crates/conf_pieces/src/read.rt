@@ -3,7 +3,7 @@ ghost use Rattle.std.specs.Prelude.{◌≢◌, OnOk, IfOk, IfSome, IfNone};
 ghost use Rattle.yaml_tree.specs.Kept.{own_limits};
 ghost use Rattle.yaml_tree.specs.Reading.{IsRead, GivesNone};
 ghost use Rattle.yaml_data.specs.Seen.{tree_of};
-ghost use Rattle.conf_state.specs.Commands.{command_of};
+ghost use Rattle.conf_commands.specs.Commands.{command_of};
 ghost use Rattle.conf_pieces.specs.Documents.{IsRecord, IsBase, IsNoRecord, IsNoBase};
 
 use crate::base::base_from;

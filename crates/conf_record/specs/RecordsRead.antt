@@ -7,8 +7,8 @@ use Rattle.yaml_grammar.specs.Trees.{Tree, text, sequence, mapping, Members, no_
 use Rattle.yaml_grammar.specs.Reads.{Gives}
 use Rattle.yaml_tree.specs.Kept.{IsKept, own_limits}
 use Rattle.json_pointer.specs.Pointers.{path_of}
-use Rattle.conf_state.specs.Names.{good_name}
-use Rattle.conf_state.specs.Commands.{Command, import_as, set_at, delete_at, name_of}
+use Rattle.conf_commands.specs.Names.{good_name}
+use Rattle.conf_commands.specs.Commands.{Command, import_as, set_at, delete_at, name_of}
 use Rattle.conf_state.specs.States.{Entry, Contents, count_limit}
 use Rattle.conf_state.specs.Limits.{IsState}
 

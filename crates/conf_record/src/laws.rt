@@ -1,6 +1,6 @@
 // What records and base texts read as.
 ghost use Rattle.std.specs.Prelude.{◌≡◌, ◌≤◌, ℕ, Bool, Ok};
-ghost use Rattle.conf_state.specs.Commands.{Command};
+ghost use Rattle.conf_commands.specs.Commands.{Command};
 ghost use Rattle.conf_state.specs.States.{Contents, count_limit};
 ghost use Rattle.conf_state.specs.Limits.{IsState};
 ghost use Rattle.conf_state.specs.Steps.{step};

@@ -9,7 +9,7 @@ use Rattle.yaml_tree.specs.Kept.{own_limits}
 use Rattle.yaml_tree.specs.Reading.{IsRead, Refuses}
 use Rattle.yaml_faults.specs.declared.fault.ReadFault.{ReadFault}
 use Rattle.yaml_faults.specs.declared.fault.ReadFault.TheVariants.{OutOfMemory}
-use Rattle.conf_state.specs.Commands.{Command, command_of, set_at, delete_at}
+use Rattle.conf_commands.specs.Commands.{Command, command_of, set_at, delete_at}
 use Rattle.conf_record.specs.RecordsRead.{keys_are, values}
 use Rattle.conf_requests.specs.declared.said.Said as code
 use Rattle.conf_requests.specs.declared.said.Said.TheVariants as code_said

@@ -20,14 +20,14 @@ use Rattle.tree_path.specs.declared.place.Miss.{Miss}
 use Rattle.tree_path.specs.Paths.{at, at_from, at_step, child, refusal as step_refusal}
 use Rattle.json_pointer.specs.Pointers.{path_of}
 use Rattle.edit_lengths.proofs.Located.{child-within}
-use Rattle.conf_state.specs.Commands.{Command, name_of}
-use Rattle.conf_state.specs.Names.{small_letter, name_char, good_name}
+use Rattle.conf_commands.specs.Commands.{Command, name_of}
+use Rattle.conf_commands.specs.Names.{small_letter, name_char, good_name}
 use Rattle.conf_state.specs.States.{Entry, Contents, names_of, config_named, base_limit, count_limit}
 use Rattle.conf_state.specs.Limits.{AreConfigs, IsState}
 use Rattle.conf_state.specs.Steps.{step, next_state, configs_after, and_then, found, by_path}
 use Rattle.conf_state.specs.BaseTexts.{base_length, entry_length, entries_length}
-use Rattle.conf_state.specs.declared.fault.StoreFault.{StoreFault}
-use Rattle.conf_state.specs.declared.fault.StoreFault.TheVariants as store
+use Rattle.conf_commands.specs.declared.fault.StoreFault.{StoreFault}
+use Rattle.conf_commands.specs.declared.fault.StoreFault.TheVariants as store
 use Rattle.conf_state.proofs.BaseLemmas.{count_bytes, base_length-framed}
 use Rattle.conf_state.proofs.RunLaws.{and_then-Ok, step-one}
 use Rattle.conf_record.proofs.SizeLemmas.{size, scalar_most, value_size}

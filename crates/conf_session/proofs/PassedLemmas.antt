@@ -12,10 +12,10 @@ use Rattle.conf_disk.specs.Folder.{Folder, bytes_under}
 use Rattle.conf_disk.specs.Moments.{LeavesOnly}
 use Rattle.conf_disk.specs.declared.disk.Name.TheVariants.{Store}
 use Rattle.conf_disk.proofs.Moments.{LeavesOnly-start, LeavesOnly-joined}
-use Rattle.conf_state.specs.Commands.{Command}
+use Rattle.conf_commands.specs.Commands.{Command}
 use Rattle.conf_state.specs.States.{Contents}
 use Rattle.conf_state.specs.Steps.{after}
-use Rattle.conf_state.specs.declared.fault.StoreFault.{StoreFault}
+use Rattle.conf_commands.specs.declared.fault.StoreFault.{StoreFault}
 use Rattle.conf_store.specs.Calls.{outcome, has_room, tree_named}
 use Rattle.conf_store.specs.Durable.{AfterPrefix, AllImagesMean}
 use Rattle.conf_store.specs.View.{StoreView}

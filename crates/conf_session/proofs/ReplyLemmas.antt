@@ -11,8 +11,8 @@ use Rattle.json_pointer.specs.declared.fault.PathFault.{PathFault}
 use Rattle.conf_state.specs.Limits.{IsState}
 use Rattle.conf_state.specs.States.{names_of}
 use Rattle.conf_state.specs.Steps.{and_then, by_path}
-use Rattle.conf_state.specs.declared.fault.StoreFault.{StoreFault}
-use Rattle.conf_state.specs.declared.fault.StoreFault.TheVariants.{Path}
+use Rattle.conf_commands.specs.declared.fault.StoreFault.{StoreFault}
+use Rattle.conf_commands.specs.declared.fault.StoreFault.TheVariants.{Path}
 use Rattle.conf_store.specs.Calls.{tree_named}
 use Rattle.conf_session.specs.Requests.{getting, exporting, naming}
 use Rattle.conf_session.specs.Answers.{Stored, one, text_elements, answer_or_refusal, answer_limit, value_at_path, is_refused}

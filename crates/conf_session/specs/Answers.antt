@@ -11,13 +11,13 @@ use Rattle.json_pointer.specs.declared.fault.PathFault.TheVariants as path
 use Rattle.tree_path.specs.Paths.{at}
 use Rattle.json_pointer.specs.Pointers.{path_of}
 use Rattle.conf_journal.specs.Store.{file_with_bytes}
-use Rattle.conf_state.specs.Commands.{Command}
-use Rattle.conf_state.specs.Names.{good_name}
+use Rattle.conf_commands.specs.Commands.{Command}
+use Rattle.conf_commands.specs.Names.{good_name}
 use Rattle.conf_state.specs.Limits.{IsState}
 use Rattle.conf_state.specs.States.{Contents, names_of, base_limit}
 use Rattle.conf_state.specs.Steps.{and_then, by_path}
-use Rattle.conf_state.specs.declared.fault.StoreFault.{StoreFault}
-use Rattle.conf_state.specs.declared.fault.StoreFault.TheVariants as store
+use Rattle.conf_commands.specs.declared.fault.StoreFault.{StoreFault}
+use Rattle.conf_commands.specs.declared.fault.StoreFault.TheVariants as store
 use Rattle.conf_state.specs.BaseTexts.{base_bytes}
 use Rattle.conf_store.specs.Calls.{outcome, next_record, tree_named}
 use Rattle.conf_session.specs.Requests.{Request, changing, unread, getting, exporting, naming, checkpointing, bad}

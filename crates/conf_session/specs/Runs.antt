@@ -7,7 +7,7 @@ use Rattle.conf_disk.specs.Folder.{Folder, bytes_under}
 use Rattle.conf_disk.specs.Image.{Image, IsImage}
 use Rattle.conf_disk.specs.Moments.{LeavesOnly}
 use Rattle.conf_disk.specs.declared.disk.Name.TheVariants.{Store}
-use Rattle.conf_state.specs.Commands.{Command}
+use Rattle.conf_commands.specs.Commands.{Command}
 use Rattle.conf_state.specs.States.{Contents}
 use Rattle.conf_state.specs.Steps.{after}
 use Rattle.conf_store.specs.Meaning.{FileMeans}

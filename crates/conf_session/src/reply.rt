@@ -2,7 +2,7 @@
 ghost use Rattle.std.specs.Prelude.{◌≡◌, ◌≤◌, IsErrOf, false};
 ghost use Rattle.std.specs.Str.{chars};
 ghost use Rattle.yaml_data.specs.TextBytes.{text_bytes};
-ghost use Rattle.conf_state.specs.Commands.{command_of};
+ghost use Rattle.conf_commands.specs.Commands.{command_of};
 ghost use Rattle.conf_store.specs.Calls.{HasFailed};
 ghost use Rattle.conf_store.specs.Durable.{AllImagesMean};
 ghost use Rattle.conf_requests.specs.Said.{import_text};

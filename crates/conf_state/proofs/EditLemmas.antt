@@ -30,15 +30,15 @@ use Rattle.edit_lengths.specs.Edits.{tree_after_edit}
 use Rattle.conf_state.specs.Edits.{configs_with_edit, configs_after_edit}
 use Rattle.conf_state.specs.Kept.{entries_of, ArePlain}
 use Rattle.conf_state.specs.Limits.{AreConfigs}
-use Rattle.conf_state.specs.PathFaults.{store_fault_of}
+use Rattle.conf_commands.specs.PathFaults.{store_fault_of}
 use Rattle.conf_state.specs.States.{Entry, Contents, base_limit, config_named, put_config, cut_config}
 use Rattle.yaml_tree.specs.Limits.{config_limits}
 use Rattle.edit_lengths.specs.declared.edit.Edit.{Edit}
 use Rattle.edit_lengths.specs.declared.edit.Edit.TheVariants.{Delete}
-use Rattle.conf_state.specs.declared.fault.StoreFault.{StoreFault}
+use Rattle.conf_commands.specs.declared.fault.StoreFault.{StoreFault}
 use Rattle.conf_state.specs.Steps.{and_then, by_path, found, configs_after, configs_after_delete}
-use Rattle.conf_state.specs.Commands.{delete_at}
-use Rattle.conf_state.specs.declared.fault.StoreFault.TheVariants.{NoConfig, TooDeep, ConfigLarge, OutOfMemory}
+use Rattle.conf_commands.specs.Commands.{delete_at}
+use Rattle.conf_commands.specs.declared.fault.StoreFault.TheVariants.{NoConfig, TooDeep, ConfigLarge, OutOfMemory}
 use Rattle.conf_state.proofs.EntryLemmas.{lookup-named}
 use Rattle.conf_state.proofs.LimitLemmas.{entries_length-found, entries_length-put}
 

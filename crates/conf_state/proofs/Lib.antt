@@ -4,7 +4,6 @@ pub mod EditLemmas
 pub mod EntryLemmas
 pub mod LimitLemmas
 pub mod LineLemmas
-pub mod NameLemmas
 pub mod PartLemmas
 pub mod RefusalLemmas
 pub mod RunLaws

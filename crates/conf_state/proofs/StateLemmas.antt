@@ -6,7 +6,7 @@ use Rattle.yaml_grammar.specs.Reads.{Good}
 use Rattle.yaml_data.specs.Seen.{tree_of}
 use Rattle.yaml_data.specs.declared.tree.Tree.{Tree}
 use Rattle.conf_configs.specs.Numbers.{put_under, cut_from}
-use Rattle.conf_state.specs.Names.{good_name}
+use Rattle.conf_commands.specs.Names.{good_name}
 use Rattle.conf_state.specs.Kept.{entries_of, ArePlain, IsKept}
 use Rattle.conf_state.specs.Limits.{IsState}
 use Rattle.conf_state.specs.BaseTexts.{entries_length}

@@ -1,10 +1,7 @@
 pub mod BaseTexts
-pub mod Commands
 pub mod Edits
 pub mod Kept
 pub mod Limits
-pub mod Names
-pub mod PathFaults
 pub mod States
 pub mod Steps
 pub mod TreeCode

@@ -4,18 +4,11 @@
 #![tactic(auto)]
 
 mod base;
-mod command;
-mod fault;
 mod laws;
-mod name;
-mod room;
 mod state;
 mod steps;
 
-pub use command::Command;
-pub use fault::StoreFault;
+pub use conf_commands::{Command, Room, StoreFault, good_name};
 pub use laws::{accepted_commands_are_counted, runs_are_joined, steps_are_counted_or_refused};
-pub use name::good_name;
-pub use room::Room;
 pub use state::{Names, State};
 pub use steps::step;

@@ -3,10 +3,11 @@ ghost use Rattle.std.specs.Prelude.{◌≡◌, ◌⊎◌, Ok, Err, OnOk, OnErr, 
 ghost use Rattle.std.specs.Str.{chars};
 ghost use Rattle.yaml_grammar.specs.Reads.{Good};
 ghost use Rattle.yaml_data.specs.Seen.{tree_of};
-ghost use Rattle.conf_state.specs.Names.{good_name};
-ghost use Rattle.conf_state.specs.Commands.{command_of, text_of, import_as, set_at, delete_at};
+ghost use Rattle.conf_commands.specs.Names.{good_name};
+ghost use Rattle.conf_commands.specs.Commands.{command_of, text_of, import_as, set_at, delete_at};
 ghost use Rattle.yaml_tree.specs.Limits.{config_limits};
-ghost use Rattle.conf_state.specs.Steps.{checked_tree, has_room, state_after_command, step};
+ghost use Rattle.conf_commands.specs.Rooms.{has_room};
+ghost use Rattle.conf_state.specs.Steps.{checked_tree, state_after_command, step};
 
 use crate::{Command, Room, State, StoreFault, good_name};
 use edit_lengths::Edit;

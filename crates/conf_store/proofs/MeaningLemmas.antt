@@ -6,10 +6,10 @@ use Rattle.yaml_grammar.specs.Closings.{ClosesOnce, Pieces}
 use Rattle.yaml_laws.specs.Closed.{OnePieces}
 use Rattle.conf_disk.specs.Folder.{File}
 use Rattle.conf_disk.specs.Image.{IsTorn}
-use Rattle.conf_state.specs.Commands.{Command}
+use Rattle.conf_commands.specs.Commands.{Command}
 use Rattle.conf_state.specs.States.{Contents}
 use Rattle.conf_state.specs.Steps.{step, after, and_then}
-use Rattle.conf_state.specs.declared.fault.StoreFault.{StoreFault}
+use Rattle.conf_commands.specs.declared.fault.StoreFault.{StoreFault}
 use Rattle.conf_state.proofs.RunLaws.{after-append, after-count, and_then-Ok}
 use Rattle.conf_pieces.specs.Documents.{IsRecord, IsBase, record_pieces, records_bytes, TornRecords, OneBase, OneRecord, RecordsTear}
 use Rattle.conf_journal.specs.Store.{store_limit}

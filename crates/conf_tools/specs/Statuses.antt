@@ -2,7 +2,7 @@
 use Rattle.std.specs.Prelude.{◌≡◌, ◌⊎◌, ℕ, ◌<◌, ◌≤◌, List, Option, Ok, Err}
 use Rattle.std.specs.Io.KnownBytes.{Keeps}
 use Rattle.conf_folder.specs.declared.fault.FolderFault.TheVariants as FolderFault
-use Rattle.conf_state.specs.declared.fault.StoreFault.TheVariants as StoreFault
+use Rattle.conf_commands.specs.declared.fault.StoreFault.TheVariants as StoreFault
 use Rattle.conf_store.specs.declared.fault.OpenFault.TheVariants as OpenFault
 use Rattle.conf_streams.specs.declared.fault.SessionFault.{SessionFault}
 use Rattle.conf_streams.specs.declared.fault.SessionFault.TheVariants as SessionFaults

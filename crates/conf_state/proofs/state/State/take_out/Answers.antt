@@ -6,7 +6,8 @@ use Rattle.conf_configs.proofs.NumberLemmas.{indexed-more}
 use Rattle.conf_state.specs.BaseTexts.{entries_length}
 use Rattle.conf_state.specs.States.{cut_config}
 use Rattle.conf_state.specs.Kept.{entries_of, next_number}
-use Rattle.conf_state.specs.Steps.{has_room, next_state}
+use Rattle.conf_commands.specs.Rooms.{has_room}
+use Rattle.conf_state.specs.Steps.{next_state}
 use Rattle.conf_state.proofs.EntryLemmas.{cut_from-named}
 use Rattle.conf_state.proofs.StateLemmas.{kept_cut}
 use Rattle.conf_state.proofs.state.State.take_out.Goals as goal

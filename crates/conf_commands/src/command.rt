@@ -5,7 +5,7 @@ ghost use Rattle.std.specs.Str.{chars};
 use yaml_tree::Config;
 
 /// A change of one configuration. Each tree in it is a [`Config`]; that it keeps the limits of one is said by the
-/// clause `kept` of [`record_text`](crate::record_text). Names and paths are checked when the command is performed.
+/// clause `kept` of `record_text` of `conf_record`. Names and paths are checked when the command is performed.
 #[derive(Debug, Drop)]
 pub enum Command {
     /// Puts a tree under a name: last if the name is new; otherwise it replaces the tree that is there.
@@ -29,7 +29,7 @@ pub enum Command {
 }
 
 impl Command {
-    ghost use Rattle.conf_state.specs.Commands.{command_of, name_of};
+    ghost use Rattle.conf_commands.specs.Commands.{command_of, name_of};
 
     /// The name of the configuration that the command changes.
     pub fn name(&self) -> &str

@@ -3,7 +3,7 @@ ghost use Rattle.std.specs.Prelude.{◌≡◌, ◌&&◌, IsTrue};
 ghost use Rattle.std.specs.Str.{chars};
 ghost use Rattle.std.specs.List.{list_all};
 ghost use Rattle.yaml_grammar.specs.Texts.{first};
-ghost use Rattle.conf_state.specs.Names.{small_letter, name_char, good_name};
+ghost use Rattle.conf_commands.specs.Names.{small_letter, name_char, good_name};
 
 /// Whether a text may name a configuration: 1 to 64 lowercase ASCII letters, digits, `_` and `-`, starting with a
 /// letter.

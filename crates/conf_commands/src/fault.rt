@@ -59,7 +59,7 @@ impl fmt::Display for StoreFault {
 impl Error for StoreFault {}
 
 impl From<AllocError> for StoreFault {
-    ghost use Rattle.conf_state.specs.declared.fault.StoreFault.TheVariants.{OutOfMemory};
+    ghost use Rattle.conf_commands.specs.declared.fault.StoreFault.TheVariants.{OutOfMemory};
 
     ghost from_gives = { λ _ fault. fault ≡ OutOfMemory };
 
@@ -69,7 +69,7 @@ impl From<AllocError> for StoreFault {
 }
 
 impl From<PathFault> for StoreFault {
-    ghost use Rattle.conf_state.specs.PathFaults.{store_fault_of};
+    ghost use Rattle.conf_commands.specs.PathFaults.{store_fault_of};
 
     ghost from_gives = { λ fault result. result ≡ store_fault_of fault };
 

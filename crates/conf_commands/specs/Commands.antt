@@ -4,8 +4,8 @@ use Rattle.std.specs.Str.{chars}
 use Rattle.std.specs.declared.alloc.Global.{Global}
 use Rattle.yaml_grammar.specs.Trees.{Tree}
 use Rattle.yaml_data.specs.Seen.{tree_of}
-use Rattle.conf_state.specs.declared.command.Command as code
-use Rattle.conf_state.specs.declared.command.Command.TheVariants.{Import, Set, Delete}
+use Rattle.conf_commands.specs.declared.command.Command as code
+use Rattle.conf_commands.specs.declared.command.Command.TheVariants.{Import, Set, Delete}
 
 -- a tree is put under a name; a value is set, or what is there is removed, at a path in the configuration under a name
 pub data Command : Type 0 where

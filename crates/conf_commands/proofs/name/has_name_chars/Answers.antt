@@ -4,9 +4,9 @@ use Rattle.std.proofs.lemmas.Iterator.Search.{all_from_yields_List}
 use Rattle.std.specs.Str.{chars}
 use borrow.Author.Tests.{tests}
 use Rattle.yaml_data.proofs.CharacterLemmas.{every-IsAscii, chars-same}
-use Rattle.conf_state.specs.Names.{name_char}
-use Rattle.conf_state.proofs.NameLemmas.{name_char-below}
-use Rattle.conf_state.proofs.name.has_name_chars.Goals as goal
+use Rattle.conf_commands.specs.Names.{name_char}
+use Rattle.conf_commands.proofs.NameLemmas.{name_char-below}
+use Rattle.conf_commands.proofs.name.has_name_chars.Goals as goal
 
 pub returns-clause-named : goal.returns-clause-named
 returns-clause-named c =

@@ -1,6 +1,6 @@
 // Whether the journal has room for a command's record.
 ghost use Rattle.std.specs.Prelude.{◌≡◌, nat_le};
-ghost use Rattle.conf_state.specs.Steps.{has_room};
+ghost use Rattle.conf_commands.specs.Rooms.{has_room};
 
 /// Whether the journal has room for a command's record.
 #[derive(Clone, Copy, PartialEq, Eq)]
@@ -24,7 +24,7 @@ impl Room {
     }
 
     /// Returns whether there is room.
-    pub(crate) fn is_enough(self) -> bool
+    pub fn is_enough(self) -> bool
         ensures { result ≡ has_room self }
     {
         match self {

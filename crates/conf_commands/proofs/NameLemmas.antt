@@ -6,7 +6,7 @@ use Rattle.std.specs.Str.{chars}
 use Rattle.std.specs.List.{list_all}
 use Rattle.yaml_grammar.specs.Texts.{first}
 use Rattle.yaml_data.proofs.CharacterLemmas.{every-IsAscii, chars-same}
-use Rattle.conf_state.specs.Names.{small_letter, name_char, good_name}
+use Rattle.conf_commands.specs.Names.{small_letter, name_char, good_name}
 
 -- a character of a name is ASCII
 pub name_char-below : (c : ℕ) → name_char c ≡ true → c < 128
