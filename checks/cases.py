@@ -4,7 +4,7 @@
 A case is some lines, and an empty line ends it. Each begins with a word:
 
     text      the text. `\\n`, `\\r`, `\\t`, `\\\\` and `\\xHH` mean bytes, and `\\{k*9}` means k nine times
-    events    its events, as `show` of `node_probe` prints them; without this line the text is refused when it is read
+    events    its events, as `show` of `text_probe` prints them; without this line the text is refused when it is read
     format    what `confstore format` prints, escaped as a text is
     fault     or the fault that it names
     check     what `confstore check` prints, its lines joined by commas; it is left out where the program has no `check`
@@ -12,7 +12,7 @@ A case is some lines, and an empty line ends it. Each begins with a word:
 What `format` prints is formatted once more, and has to stay as it is. The expected answers come from an independent
 reader of the grammar and from hand, never from these programs, which have to be built first:
 
-    ./confstore --version && (cd crates/node_probe && rt run) && python3 checks/cases.py
+    ./confstore --version && (cd crates/text_probe && rt run) && python3 checks/cases.py
 
 The last line is 'N passed, M failed', of cases; the status is 0 where M is 0.
 """
@@ -24,7 +24,7 @@ import sys
 
 TOP = os.path.dirname(os.path.dirname(os.path.abspath(__file__)))
 PROGRAM = os.path.join(TOP, "crates", "confstore", "out", "confstore")
-PROBE = os.path.join(TOP, "crates", "node_probe", "out", "node_probe")
+PROBE = os.path.join(TOP, "crates", "text_probe", "out", "text_probe")
 CASES = os.path.join(TOP, "checks", "cases")
 ESCAPES = {"n": "\n", "r": "\r", "t": "\t", "\\": "\\"}
 
@@ -70,11 +70,11 @@ def run(words, text):
 
 
 def shown_events(cases):
-    """What `show` of `node_probe` prints for the text of each case."""
-    lines = "".join(f"show;{case['text']}\n" for case in cases)
+    """What `show` of `text_probe` prints for the text of each case."""
+    lines = "".join(f"node;show;{case['text']}\n" for case in cases)
     status, shown, errors = run([PROBE], lines.encode())
     if status != 0:
-        sys.exit(f"node_probe failed: {errors}")
+        sys.exit(f"text_probe failed: {errors}")
     return shown.decode().split("\n")
 
 

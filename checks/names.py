@@ -4,10 +4,12 @@
 In the lists of RULES.md `File.name` is a definition, `crate::name` a function or a test, and `crate::name` in `file.rt`
 a function and its file. `crate/name` is a must-fail edit, and a bare name a law (a public function) or a crate. In the
 tables of claims in README.md each name is looked for in the sources of the crates of its row. A library that a line of
-crates.txt names is looked for in the files of the line's crate. It takes two seconds, and the status is 1 if a name is
-not there.
+crates.txt names is looked for in the files of the line's crate, and from no crate are there more than 5,000 ways down
+through these lines: a toolchain may read the sources once for each. It takes two seconds, and the status is 1 if a
+name is not there or if there are more ways.
 """
 
+import functools
 import glob
 import os
 import re
@@ -17,6 +19,7 @@ TOP = os.path.dirname(os.path.dirname(os.path.abspath(__file__)))
 CODE = re.compile(r"`([^`]+)`")
 # The libraries that no file of a crate names, but whose types its contracts speak of.
 UNNAMED = {"example_edit": {"yaml_data"}}
+MOST_WAYS = 5000
 
 
 def text_of(pattern):
@@ -96,18 +99,35 @@ def missing_in_readme():
                     yield f"README.md: `{token}` is not in {', '.join(named)}"
 
 
-def unused_libraries():
+def libraries_of_crates():
+    """The libraries that the line of each crate names."""
     with open(os.path.join(TOP, "crates.txt"), encoding="utf-8") as file:
         lines = [line.partition("#")[0].partition(":") for line in file]
-    for crate, _, libraries in lines:
+    return {crate.strip(): set(libraries.split()) for crate, colon, libraries in lines if colon}
+
+
+def unused_libraries():
+    for crate, libraries in libraries_of_crates().items():
         files = "\n".join(text_of(f"{crate}/{part}") for part in ("src/**/*.rt", "specs/**/*.antt", "proofs/**/*.antt"))
-        for library in set(libraries.split()) - UNNAMED.get(crate, set()):
+        for library in libraries - UNNAMED.get(crate, set()):
             if not has_word(library, files):
                 yield f"crates.txt: {crate} has `{library}`, which no file of it names"
 
 
+def many_ways():
+    libraries = libraries_of_crates()
+
+    @functools.lru_cache(maxsize=None)
+    def ways(crate):
+        return 1 + sum(ways(library) for library in libraries[crate] if library in libraries)
+
+    for crate in libraries:
+        if ways(crate) > MOST_WAYS:
+            yield f"crates.txt: {ways(crate)} ways lead down from {crate}, more than {MOST_WAYS}"
+
+
 def main():
-    missing = [*missing_in_rules(), *missing_in_readme(), *unused_libraries()]
+    missing = [*missing_in_rules(), *missing_in_readme(), *unused_libraries(), *many_ways()]
     for line in missing:
         print(line)
     print(f"{len(missing)} names are wrong" if missing else "every name is there")

@@ -7,13 +7,13 @@ use Rattle.yaml_grammar.specs.Style.{style_text}
 use Rattle.tree_path.specs.Paths.{set, delete}
 use Rattle.json_pointer.specs.Pointers.{path_of}
 use Rattle.json_pointer.specs.declared.fault.PathFault.{PathFault}
-use Rattle.conf_commands.specs.Names.{good_name}
-use Rattle.conf_commands.specs.Commands.{Command, import_as, set_at, delete_at, name_of}
+use Rattle.conf_state.specs.Names.{good_name}
+use Rattle.conf_state.specs.Commands.{Command, import_as, set_at, delete_at, name_of}
 use Rattle.conf_state.specs.States.{Entry, Contents, config_named, put_config}
-use Rattle.yaml_tree.specs.Limits.{config_limits}
+use Rattle.yaml_config.specs.Limits.{config_limits}
 use Rattle.conf_state.specs.Limits.{AreConfigs, IsState}
 use Rattle.conf_state.specs.Steps.{and_then, found, by_path, checked_tree, with_checked_config, configs_after_delete, configs_after, next_state, step}
-use Rattle.conf_commands.specs.declared.fault.StoreFault.TheVariants.{BadName, Path, TooDeep, ConfigLarge}
+use Rattle.conf_state.specs.declared.fault.StoreFault.TheVariants.{BadName, Path, TooDeep, ConfigLarge}
 use Rattle.conf_record.proofs.SizeLemmas.{size}
 use Rattle.conf_record.proofs.PathLemmas.{tokens_size, set_holds, delete_holds}
 use Rattle.conf_record.proofs.PointerLemmas.{pointer_bytes}

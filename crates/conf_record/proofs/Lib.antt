@@ -3,3 +3,7 @@ pub mod PathLemmas
 pub mod PointerLemmas
 pub mod RecordLemmas
 pub mod SizeLemmas
+pub mod DocumentLemmas
+pub mod FieldLemmas
+pub mod PieceLemmas
+pub mod TreeLemmas

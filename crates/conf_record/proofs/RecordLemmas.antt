@@ -12,13 +12,13 @@ use Rattle.yaml_grammar.specs.Texts.{IsText, byte_len, first, same_text}
 use Rattle.yaml_grammar.specs.Trees.{Tree, text, Members, no_member, member, members_depth, distinct, members_distinct, has_key, AreTextMembers}
 use Rattle.yaml_grammar.specs.Reads.{Good}
 use Rattle.yaml_grammar.specs.Style.{scalar_lines, key_lines, value_at, members_after, style_text}
-use Rattle.yaml_laws.specs.Closed.{framed_text}
+use Rattle.yaml_recognizers.specs.Closings.{framed_text}
 use Rattle.yaml_writer.specs.BudgetLaws.{byte_len-append}
-use Rattle.yaml_tree.specs.Kept.{own_limits}
-use Rattle.yaml_tree.specs.Limits.{config_limits}
+use Rattle.yaml_config.specs.Kept.{own_limits}
+use Rattle.yaml_config.specs.Limits.{config_limits}
 use Rattle.yaml_data.proofs.CharacterLemmas.{same_text-self}
-use Rattle.conf_commands.specs.Names.{small_letter, name_char, good_name}
-use Rattle.conf_commands.specs.Commands.{Command, import_as, set_at, delete_at}
+use Rattle.conf_state.specs.Names.{small_letter, name_char, good_name}
+use Rattle.conf_state.specs.Commands.{Command, import_as, set_at, delete_at}
 use Rattle.conf_state.specs.States.{Entry, Contents, base_limit, count_limit, names_of, has_name, names_differ}
 use Rattle.conf_state.specs.Limits.{AreConfigs, IsState}
 use Rattle.conf_state.specs.BaseTexts.{members, base_tree, base_text, base_length, closed_document}

@@ -1,2 +1,4 @@
 pub mod Records
 pub mod RecordsRead
+pub mod Documents
+pub mod Reading

@@ -1,7 +1,7 @@
 -- Records: the documents that hold commands, each with the number under which it was accepted.
 use Rattle.std.specs.Prelude.{ℕ, List, codes, decimal, encode_utf8_all}
 use Rattle.yaml_grammar.specs.Trees.{Tree, text, mapping, Members, no_member, member}
-use Rattle.conf_commands.specs.Commands.{Command, import_as, set_at, delete_at}
+use Rattle.conf_state.specs.Commands.{Command, import_as, set_at, delete_at}
 use Rattle.conf_state.specs.BaseTexts.{closed_document}
 
 -- what comes after the number

@@ -5,10 +5,10 @@ use Rattle.std.specs.Str.Parse.{digits_value}
 use Rattle.yaml_grammar.specs.Texts.{IsText, same_text}
 use Rattle.yaml_grammar.specs.Trees.{Tree, text, sequence, mapping, Members, no_member, member}
 use Rattle.yaml_grammar.specs.Reads.{Gives}
-use Rattle.yaml_tree.specs.Kept.{IsKept, own_limits}
+use Rattle.yaml_config.specs.Kept.{IsKept, own_limits}
 use Rattle.json_pointer.specs.Pointers.{path_of}
-use Rattle.conf_commands.specs.Names.{good_name}
-use Rattle.conf_commands.specs.Commands.{Command, import_as, set_at, delete_at, name_of}
+use Rattle.conf_state.specs.Names.{good_name}
+use Rattle.conf_state.specs.Commands.{Command, import_as, set_at, delete_at, name_of}
 use Rattle.conf_state.specs.States.{Entry, Contents, count_limit}
 use Rattle.conf_state.specs.Limits.{IsState}
 

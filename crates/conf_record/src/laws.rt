@@ -1,6 +1,6 @@
 // What records and base texts read as.
 ghost use Rattle.std.specs.Prelude.{◌≡◌, ◌≤◌, ℕ, Bool, Ok};
-ghost use Rattle.conf_commands.specs.Commands.{Command};
+ghost use Rattle.conf_state.specs.Commands.{Command};
 ghost use Rattle.conf_state.specs.States.{Contents, count_limit};
 ghost use Rattle.conf_state.specs.Limits.{IsState};
 ghost use Rattle.conf_state.specs.Steps.{step};
@@ -9,7 +9,7 @@ ghost use Rattle.conf_record.specs.Records.{record_text};
 ghost use Rattle.conf_record.specs.RecordsRead.{IsCommand, ReadsRecord, ReadsBase};
 
 use yaml_grammar::one_tree;
-use yaml_laws::style_reads;
+use yaml_recognizers::one_style::style_reads;
 
 /// The base text of a state reads as that state, and as no other. The record of a command that some state accepts
 /// reads as that command under its number, up to the greatest count, and as no other. Each is read within the limits

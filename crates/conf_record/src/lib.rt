@@ -1,10 +1,30 @@
-//! The texts of a store: [`base_text`] holds a whole state, and [`record_text`] one command with its number.
+//! The texts of a store: a base holds a whole state, and a record one command with its number.
+//!
+//! [`base_text`] and [`record_text`] write them, [`read_base`] and [`read_record`] read them, in any spelling. The laws
+//! say that what is written is read back, and that bytes are at most one base and one record. They also say where
+//! documents end, even in a file that a crash has cut.
+//!
+//! The states and commands are those of `conf_state`, which can be named from here too.
+//!
+//! [`keys_are`], [`next_text`], [`next_value`] and [`part`] take such a document's mapping apart, for readers of other
+//! documents.
 #![tactic(auto)]
 
+mod base_reader;
 mod base_writer;
+mod command_reader;
+mod documents;
+mod fields;
 mod laws;
+mod parts;
+mod read;
 mod record;
 
 pub use base_writer::base_text;
+pub use conf_state::{Command, Names, State, good_name, step};
+pub use documents::{documents_are_read, documents_close};
+pub use fields::{is_same, keys_are, next_text, next_value};
 pub use laws::records_read;
+pub use parts::part;
+pub use read::{read_base, read_record};
 pub use record::record_text;

@@ -5,9 +5,9 @@ ghost use Rattle.yaml_grammar.specs.Texts.{byte_len};
 ghost use Rattle.yaml_grammar.specs.Trees as grammar;
 ghost use Rattle.yaml_grammar.specs.Trees.{text};
 ghost use Rattle.yaml_grammar.specs.Style.{key_lines, value_at, members_after};
-ghost use Rattle.yaml_tree.specs.Kept.{IsKept};
+ghost use Rattle.yaml_config.specs.Kept.{IsKept};
 ghost use Rattle.yaml_data.specs.Seen.{tree_of};
-ghost use Rattle.conf_commands.specs.Commands.{command_of};
+ghost use Rattle.conf_state.specs.Commands.{command_of};
 ghost use Rattle.conf_record.specs.Records.{command_members, record_text, record_bytes};
 ghost use Rattle.conf_record.specs.RecordsRead.{IsCommand};
 

@@ -5,7 +5,7 @@ use Rattle.std.specs.Str.{chars}
 use Rattle.std.proofs.lemmas.List.{append-nil}
 use Rattle.yaml_grammar.specs.Trees.{Tree, text, sequence, Elements, no_element, element, depth, elements_depth}
 use Rattle.yaml_grammar.specs.Style.{key_lines, value_at}
-use Rattle.yaml_laws.specs.Closed.{framed_text}
+use Rattle.yaml_recognizers.specs.Closings.{framed_text}
 use Rattle.yaml_data.specs.Seen.{tree_of, elements_of}
 use Rattle.yaml_data.specs.TextBytes.{text_bytes}
 use Rattle.yaml_data.specs.declared.text.Text.{Text}
@@ -13,7 +13,7 @@ use Rattle.yaml_data.specs.declared.tree.Tree as code
 use Rattle.yaml_data.proofs.SeenLemmas.{tree_of-Text, join_elements, elements_of-append}
 use Rattle.tree_path.specs.Paths.{at, at_from, at_step, child, refusal}
 use Rattle.tree_path.specs.declared.place.Miss.{Miss}
-use Rattle.edit_lengths.proofs.Located.{child-within}
+use Rattle.yaml_config.proofs.Located.{child-within}
 use Rattle.conf_session.specs.Answers.{one, text_elements}
 
 -- ---- the text of an answer

@@ -9,25 +9,25 @@ use Rattle.std.specs.List.{list_all}
 use Rattle.yaml_grammar.specs.Texts.{byte_len, spaces, first, same_text}
 use Rattle.yaml_grammar.specs.Trees.{Tree, text, sequence, mapping, no_element, element, no_member, member}
 use Rattle.yaml_grammar.specs.Style.{plain_in_style, literal_in_style, literal_mark, literal_lines, feeds_at_end, in_double_quotes, scalar_lines, key_text, long_key, key_lines, elements_after, value_at, style_text}
-use Rattle.yaml_laws.specs.Closed.{framed_text_bytes, framed_text}
-use Rattle.yaml_faults.specs.declared.fault.ReadFault.{ReadFault}
-use Rattle.yaml_faults.specs.declared.fault.ReadFault.TheVariants as read
+use Rattle.yaml_recognizers.specs.Closings.{framed_text_bytes, framed_text}
+use Rattle.yaml_events.specs.declared.read_fault.ReadFault.{ReadFault}
+use Rattle.yaml_events.specs.declared.read_fault.ReadFault.TheVariants as read
 use Rattle.yaml_writer.specs.BudgetLaws.{byte_len-append}
-use Rattle.yaml_tree.specs.Limits.{config_limits}
+use Rattle.yaml_config.specs.Limits.{config_limits}
 use Rattle.json_pointer.specs.declared.fault.PathFault.{PathFault}
 use Rattle.json_pointer.specs.declared.fault.PathFault.TheVariants as path
 use Rattle.tree_path.specs.declared.place.Miss.{Miss}
 use Rattle.tree_path.specs.Paths.{at, at_from, at_step, child, refusal as step_refusal}
 use Rattle.json_pointer.specs.Pointers.{path_of}
-use Rattle.edit_lengths.proofs.Located.{child-within}
-use Rattle.conf_commands.specs.Commands.{Command, name_of}
-use Rattle.conf_commands.specs.Names.{small_letter, name_char, good_name}
+use Rattle.yaml_config.proofs.Located.{child-within}
+use Rattle.conf_state.specs.Commands.{Command, name_of}
+use Rattle.conf_state.specs.Names.{small_letter, name_char, good_name}
 use Rattle.conf_state.specs.States.{Entry, Contents, names_of, config_named, base_limit, count_limit}
 use Rattle.conf_state.specs.Limits.{AreConfigs, IsState}
 use Rattle.conf_state.specs.Steps.{step, next_state, configs_after, and_then, found, by_path}
 use Rattle.conf_state.specs.BaseTexts.{base_length, entry_length, entries_length}
-use Rattle.conf_commands.specs.declared.fault.StoreFault.{StoreFault}
-use Rattle.conf_commands.specs.declared.fault.StoreFault.TheVariants as store
+use Rattle.conf_state.specs.declared.fault.StoreFault.{StoreFault}
+use Rattle.conf_state.specs.declared.fault.StoreFault.TheVariants as store
 use Rattle.conf_state.proofs.BaseLemmas.{count_bytes, base_length-framed}
 use Rattle.conf_state.proofs.RunLaws.{and_then-Ok, step-one}
 use Rattle.conf_record.proofs.SizeLemmas.{size, scalar_most, value_size}

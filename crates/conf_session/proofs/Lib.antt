@@ -5,3 +5,6 @@ pub mod PassedLemmas
 pub mod SessionLemmas
 pub mod AnswerLemmas
 pub mod ReplyLemmas
+pub mod SaidLemmas
+pub mod InputLemmas
+pub mod OutputLemmas

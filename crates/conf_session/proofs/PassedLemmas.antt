@@ -5,24 +5,24 @@ use Rattle.std.specs.Io.KnownBytes.{Appends}
 use Rattle.std.proofs.KnownBytes.{Appends-nil, Appends-trans}
 use Rattle.std.proofs.lemmas.List.{append-nil}
 use Rattle.std.proofs.lemmas.List.Elements.{All-push}
-use Rattle.yaml_laws.specs.Closed.{framed_text_bytes}
+use Rattle.yaml_recognizers.specs.Closings.{framed_text_bytes}
 use Rattle.yaml_grammar.specs.Closings.{ClosesOnce}
 use Rattle.conf_disk.specs.Image.{Image, IsImage}
 use Rattle.conf_disk.specs.Folder.{Folder, bytes_under}
 use Rattle.conf_disk.specs.Moments.{LeavesOnly}
 use Rattle.conf_disk.specs.declared.disk.Name.TheVariants.{Store}
 use Rattle.conf_disk.proofs.Moments.{LeavesOnly-start, LeavesOnly-joined}
-use Rattle.conf_commands.specs.Commands.{Command}
+use Rattle.conf_state.specs.Commands.{Command}
 use Rattle.conf_state.specs.States.{Contents}
 use Rattle.conf_state.specs.Steps.{after}
-use Rattle.conf_commands.specs.declared.fault.StoreFault.{StoreFault}
+use Rattle.conf_state.specs.declared.fault.StoreFault.{StoreFault}
 use Rattle.conf_store.specs.Calls.{outcome, has_room, tree_named}
 use Rattle.conf_store.specs.Durable.{AfterPrefix, AllImagesMean}
 use Rattle.conf_store.specs.View.{StoreView}
 use Rattle.conf_state.proofs.RefusalLemmas.{accepted-room}
 use Rattle.conf_store.proofs.StepLemmas.{accepted-anyway}
 use Rattle.conf_store.proofs.MeaningLemmas.{after-done, after-joined}
-use Rattle.conf_requests.specs.Said.{piece_limit}
+use Rattle.conf_session.specs.Said.{piece_limit}
 use Rattle.conf_session.specs.Requests.{Request, Asks, AllAsk, changing, unread, getting, exporting, naming, checkpointing, bad}
 use Rattle.conf_session.specs.Answers.{Stored, answer, output, stored_after, stored_after_all, file_after, file_after_all, accepted_commands, accepted_command, accepted_by, stored_after_change, refused_of, refusals, is_refused, value_at_path}
 use Rattle.conf_session.specs.Runs.{stored_of, ArePieces, AfterAtLeast}

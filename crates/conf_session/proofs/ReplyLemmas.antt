@@ -4,15 +4,15 @@ use Rattle.std.specs.Prelude.{ℕ, List, codes, length, String, string_bytes, Ok
 use Rattle.std.specs.declared.alloc.Global.{Global}
 use Rattle.yaml_grammar.specs.Trees.{Tree, text, sequence}
 use Rattle.yaml_grammar.specs.Style.{style_text}
-use Rattle.yaml_laws.specs.Closed.{framed_text_bytes}
+use Rattle.yaml_recognizers.specs.Closings.{framed_text_bytes}
 use Rattle.tree_path.specs.Paths.{at}
 use Rattle.json_pointer.specs.Pointers.{path_of}
 use Rattle.json_pointer.specs.declared.fault.PathFault.{PathFault}
 use Rattle.conf_state.specs.Limits.{IsState}
 use Rattle.conf_state.specs.States.{names_of}
 use Rattle.conf_state.specs.Steps.{and_then, by_path}
-use Rattle.conf_commands.specs.declared.fault.StoreFault.{StoreFault}
-use Rattle.conf_commands.specs.declared.fault.StoreFault.TheVariants.{Path}
+use Rattle.conf_state.specs.declared.fault.StoreFault.{StoreFault}
+use Rattle.conf_state.specs.declared.fault.StoreFault.TheVariants.{Path}
 use Rattle.conf_store.specs.Calls.{tree_named}
 use Rattle.conf_session.specs.Requests.{getting, exporting, naming}
 use Rattle.conf_session.specs.Answers.{Stored, one, text_elements, answer_or_refusal, answer_limit, value_at_path, is_refused}

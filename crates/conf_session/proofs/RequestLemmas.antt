@@ -6,9 +6,9 @@ use Rattle.std.specs.declared.alloc.Global.{Global}
 use Rattle.std.proofs.lemmas.Str.{encodes-chars}
 use Rattle.yaml_grammar.specs.Trees.{Tree, text}
 use Rattle.yaml_tree.specs.Reading.{IsRead, Refuses}
-use Rattle.yaml_faults.specs.declared.fault.ReadFault.{ReadFault}
-use Rattle.yaml_faults.specs.declared.fault.ReadFault.TheVariants as read
-use Rattle.yaml_laws.specs.Closed.{framed_text_bytes}
+use Rattle.yaml_events.specs.declared.read_fault.ReadFault.{ReadFault}
+use Rattle.yaml_events.specs.declared.read_fault.ReadFault.TheVariants as read
+use Rattle.yaml_recognizers.specs.Closings.{framed_text_bytes}
 use Rattle.conf_disk.specs.Folder.{Folder, bytes_under}
 use Rattle.conf_disk.specs.Image.{Image, IsImage}
 use Rattle.conf_disk.specs.Moments.{LeavesOnly}
@@ -16,12 +16,12 @@ use Rattle.conf_disk.specs.declared.disk.Name.TheVariants.{Store}
 use Rattle.conf_journal.specs.Store.{file_with_bytes}
 use Rattle.conf_disk.proofs.Moments.{LeavesOnly-start, LeavesOnly-weaker}
 use Rattle.conf_state.specs.BaseTexts.{base_bytes}
-use Rattle.conf_commands.specs.Commands.{Command, import_as}
+use Rattle.conf_state.specs.Commands.{Command, import_as}
 use Rattle.conf_state.specs.Limits.{IsState}
 use Rattle.conf_state.specs.States.{Contents, count_limit}
-use Rattle.yaml_tree.specs.Limits.{config_limits}
+use Rattle.yaml_config.specs.Limits.{config_limits}
 use Rattle.conf_state.specs.Steps.{step, after}
-use Rattle.conf_commands.specs.declared.fault.StoreFault.{StoreFault}
+use Rattle.conf_state.specs.declared.fault.StoreFault.{StoreFault}
 use Rattle.conf_store.specs.Calls.{outcome, has_room, next_record}
 use Rattle.conf_store.specs.Meaning.{FileMeans}
 use Rattle.conf_store.specs.Durable.{AfterPrefix, AllImagesMean}
@@ -29,9 +29,9 @@ use Rattle.conf_store.specs.View.{StoreView}
 use Rattle.conf_state.proofs.RefusalLemmas.{accepted-room}
 use Rattle.conf_store.proofs.StepLemmas.{accepted-anyway}
 use Rattle.conf_store.proofs.MeaningLemmas.{after-done}
-use Rattle.conf_requests.specs.Said.{Said, import_text, Says}
-use Rattle.conf_streams.specs.declared.fault.SessionFault.{SessionFault}
-use Rattle.conf_streams.specs.declared.fault.SessionFault.TheVariants as fault
+use Rattle.conf_session.specs.Said.{Said, import_text, Says}
+use Rattle.conf_session.specs.declared.fault.SessionFault.{SessionFault}
+use Rattle.conf_session.specs.declared.fault.SessionFault.TheVariants as fault
 use Rattle.conf_session.specs.Requests.{MeansRequest, Request, changing, unread, getting, exporting, naming, checkpointing, bad}
 use Rattle.conf_session.specs.Answers.{Stored, one, change_answer, stored_after_change, stored_after, file_after_change, accepted_by, accepted_command, is_refused}
 use Rattle.conf_session.specs.Runs.{stored_of}

@@ -7,17 +7,17 @@ use Rattle.std.proofs.KnownBytes.{Appends-nil, Appends-trans, Appends-kept, Cons
 use Rattle.std.proofs.lemmas.List.{append-nil, take-append-le, take_all}
 use Rattle.std.proofs.lemmas.List.Folds.{concat-append}
 use Rattle.std.proofs.lemmas.List.Elements.{All-nil}
-use Rattle.yaml_laws.specs.Closed.{framed_text_bytes}
+use Rattle.yaml_recognizers.specs.Closings.{framed_text_bytes}
 use Rattle.yaml_grammar.specs.Closings.{ClosesOnce}
 use Rattle.conf_disk.specs.Image.{Image, IsImage}
 use Rattle.conf_disk.specs.Folder.{Folder}
 use Rattle.conf_store.specs.Durable.{AllImagesMean}
 use Rattle.conf_store.specs.View.{StoreView}
-use Rattle.conf_requests.specs.Said.{piece_limit}
-use Rattle.conf_streams.specs.Input.{session_limit, ahead, bytes_read, piece_or_rest as piece_of, AdvancesToPiece, AdvancesToEnd, FailsToRead, FindsTooLong, FindsSessionLong, RunsOutOfMemory, Advances}
-use Rattle.conf_streams.specs.declared.fault.SessionFault.{SessionFault}
-use Rattle.conf_streams.specs.declared.fault.SessionFault.TheVariants as fault
-use Rattle.conf_streams.specs.declared.input.Input.{Input}
+use Rattle.conf_session.specs.Said.{piece_limit}
+use Rattle.conf_session.specs.Input.{session_limit, ahead, bytes_read, piece_or_rest as piece_of, AdvancesToPiece, AdvancesToEnd, FailsToRead, FindsTooLong, FindsSessionLong, RunsOutOfMemory, Advances}
+use Rattle.conf_session.specs.declared.fault.SessionFault.{SessionFault}
+use Rattle.conf_session.specs.declared.fault.SessionFault.TheVariants as fault
+use Rattle.conf_session.specs.declared.input.Input.{Input}
 use Rattle.conf_session.specs.Requests.{Request, Asks}
 use Rattle.conf_session.specs.Answers.{Stored, answer, answer_limit, output, stored_after_all, accepted_commands, accepted_command, refused_of}
 use Rattle.conf_session.specs.Runs.{stored_of, ArePieces, Ends, Runs, BeginsWith}

@@ -3,21 +3,21 @@ use Rattle.std.specs.Prelude.{◌≤◌, ℕ, ◌+◌, if◌then◌else◌, List
 use Rattle.std.specs.List.{concat}
 use Rattle.yaml_grammar.specs.Trees.{Tree, text, sequence, mapping, Elements, no_element, element, no_member, member}
 use Rattle.yaml_grammar.specs.Style.{style_text}
-use Rattle.yaml_laws.specs.Closed.{framed_text_bytes}
-use Rattle.yaml_faults.specs.declared.fault.ReadFault.{ReadFault}
-use Rattle.yaml_faults.specs.declared.fault.ReadFault.TheVariants as read
+use Rattle.yaml_recognizers.specs.Closings.{framed_text_bytes}
+use Rattle.yaml_events.specs.declared.read_fault.ReadFault.{ReadFault}
+use Rattle.yaml_events.specs.declared.read_fault.ReadFault.TheVariants as read
 use Rattle.json_pointer.specs.declared.fault.PathFault.{PathFault}
 use Rattle.json_pointer.specs.declared.fault.PathFault.TheVariants as path
 use Rattle.tree_path.specs.Paths.{at}
 use Rattle.json_pointer.specs.Pointers.{path_of}
 use Rattle.conf_journal.specs.Store.{file_with_bytes}
-use Rattle.conf_commands.specs.Commands.{Command}
-use Rattle.conf_commands.specs.Names.{good_name}
+use Rattle.conf_state.specs.Commands.{Command}
+use Rattle.conf_state.specs.Names.{good_name}
 use Rattle.conf_state.specs.Limits.{IsState}
 use Rattle.conf_state.specs.States.{Contents, names_of, base_limit}
 use Rattle.conf_state.specs.Steps.{and_then, by_path}
-use Rattle.conf_commands.specs.declared.fault.StoreFault.{StoreFault}
-use Rattle.conf_commands.specs.declared.fault.StoreFault.TheVariants as store
+use Rattle.conf_state.specs.declared.fault.StoreFault.{StoreFault}
+use Rattle.conf_state.specs.declared.fault.StoreFault.TheVariants as store
 use Rattle.conf_state.specs.BaseTexts.{base_bytes}
 use Rattle.conf_store.specs.Calls.{outcome, next_record, tree_named}
 use Rattle.conf_session.specs.Requests.{Request, changing, unread, getting, exporting, naming, checkpointing, bad}

@@ -3,3 +3,5 @@ pub mod Answers
 pub mod Runs
 pub mod Replies
 pub mod Progress
+pub mod Said
+pub mod Input

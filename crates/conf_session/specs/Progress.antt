@@ -1,16 +1,16 @@
 -- Pieces that were performed and answered, one after the other.
 use Rattle.std.specs.Prelude.{◌≡◌, ◌≤◌, ◌<◌, ℕ, ◌+◌, ◌*◌, true, false, List, length, take, Option}
 use Rattle.std.specs.Io.KnownBytes.{Appends, Keeps}
-use Rattle.yaml_laws.specs.Closed.{framed_text_bytes}
+use Rattle.yaml_recognizers.specs.Closings.{framed_text_bytes}
 use Rattle.conf_disk.specs.Folder.{Folder, bytes_under}
 use Rattle.conf_disk.specs.Image.{Image}
 use Rattle.conf_disk.specs.Moments.{LeavesOnly}
 use Rattle.conf_disk.specs.declared.disk.Name.TheVariants.{Store}
 use Rattle.conf_store.specs.Durable.{AfterPrefix}
 use Rattle.conf_store.specs.View.{StoreView}
-use Rattle.conf_streams.specs.Input.{session_limit}
-use Rattle.conf_streams.specs.declared.fault.SessionFault.{SessionFault}
-use Rattle.conf_streams.specs.declared.fault.SessionFault.TheVariants as fault
+use Rattle.conf_session.specs.Input.{session_limit}
+use Rattle.conf_session.specs.declared.fault.SessionFault.{SessionFault}
+use Rattle.conf_session.specs.declared.fault.SessionFault.TheVariants as fault
 use Rattle.conf_session.specs.Requests.{Request, Asks}
 use Rattle.conf_session.specs.Answers.{Stored, answer, answer_limit, output, stored_after_all, file_after_all, accepted_commands, accepted_command, refusals, refused_of}
 use Rattle.conf_session.specs.Runs.{stored_of}

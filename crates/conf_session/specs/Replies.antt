@@ -1,15 +1,15 @@
 -- What the code's requests and replies are, and what one request does.
 use Rattle.std.specs.Prelude.{◌≡◌, ◌≤◌, ℕ, true, false, List, codes, length, string_bytes, Result, Ok, Err}
-use Rattle.yaml_laws.specs.Closed.{framed_text_bytes}
+use Rattle.yaml_recognizers.specs.Closings.{framed_text_bytes}
 use Rattle.conf_disk.specs.Folder.{Folder, bytes_under}
 use Rattle.conf_disk.specs.Image.{Image}
 use Rattle.conf_disk.specs.Moments.{LeavesOnly}
 use Rattle.conf_disk.specs.declared.disk.Name.TheVariants.{Store}
 use Rattle.conf_store.specs.Durable.{AfterPrefix}
 use Rattle.conf_store.specs.View.{StoreView}
-use Rattle.conf_requests.specs.Said.{Said}
-use Rattle.conf_streams.specs.declared.fault.SessionFault.{SessionFault}
-use Rattle.conf_streams.specs.declared.fault.SessionFault.TheVariants.{OutOfMemory, Device}
+use Rattle.conf_session.specs.Said.{Said}
+use Rattle.conf_session.specs.declared.fault.SessionFault.{SessionFault}
+use Rattle.conf_session.specs.declared.fault.SessionFault.TheVariants.{OutOfMemory, Device}
 use Rattle.conf_session.specs.Requests.{Request, changing, checkpointing, MeansRequest, Asks}
 use Rattle.conf_session.specs.Answers.{Stored, answer, answer_limit, refusal, word, stored_after, file_after, accepted_command, refused_of}
 use Rattle.conf_session.specs.Runs.{stored_of}

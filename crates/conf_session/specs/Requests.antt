@@ -2,12 +2,12 @@
 use Rattle.std.specs.Prelude.{◌≡◌, ◌≢◌, ◌⊎◌, List, [], ◌∷◌, ℕ, encode_utf8_all}
 use Rattle.yaml_grammar.specs.Reads.{Gives}
 use Rattle.yaml_grammar.specs.Trees.{Tree}
-use Rattle.yaml_tree.specs.Limits.{config_limits}
+use Rattle.yaml_config.specs.Limits.{config_limits}
 use Rattle.yaml_tree.specs.Reading.{Refuses}
-use Rattle.yaml_faults.specs.declared.fault.ReadFault.{ReadFault}
-use Rattle.yaml_faults.specs.declared.fault.ReadFault.TheVariants.{OutOfMemory}
-use Rattle.conf_commands.specs.Commands.{Command, import_as}
-use Rattle.conf_requests.specs.Said.{Said, Says, import_text, change, get_at, export_of, all_names, checkpoint_now, nothing}
+use Rattle.yaml_events.specs.declared.read_fault.ReadFault.{ReadFault}
+use Rattle.yaml_events.specs.declared.read_fault.ReadFault.TheVariants.{OutOfMemory}
+use Rattle.conf_state.specs.Commands.{Command, import_as}
+use Rattle.conf_session.specs.Said.{Said, Says, import_text, change, get_at, export_of, all_names, checkpoint_now, nothing}
 
 -- what a document says, with the text of an import read, or with the reason why that is refused
 pub data Request : Type 0 where

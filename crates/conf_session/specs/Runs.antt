@@ -7,16 +7,16 @@ use Rattle.conf_disk.specs.Folder.{Folder, bytes_under}
 use Rattle.conf_disk.specs.Image.{Image, IsImage}
 use Rattle.conf_disk.specs.Moments.{LeavesOnly}
 use Rattle.conf_disk.specs.declared.disk.Name.TheVariants.{Store}
-use Rattle.conf_commands.specs.Commands.{Command}
+use Rattle.conf_state.specs.Commands.{Command}
 use Rattle.conf_state.specs.States.{Contents}
 use Rattle.conf_state.specs.Steps.{after}
 use Rattle.conf_store.specs.Meaning.{FileMeans}
 use Rattle.conf_store.specs.Durable.{AfterPrefix}
 use Rattle.conf_store.specs.View.{StoreView}
-use Rattle.conf_requests.specs.Said.{piece_limit}
-use Rattle.conf_streams.specs.Input.{session_limit, IsOverlong}
-use Rattle.conf_streams.specs.declared.fault.SessionFault.{SessionFault}
-use Rattle.conf_streams.specs.declared.fault.SessionFault.TheVariants as fault
+use Rattle.conf_session.specs.Said.{piece_limit}
+use Rattle.conf_session.specs.Input.{session_limit, IsOverlong}
+use Rattle.conf_session.specs.declared.fault.SessionFault.{SessionFault}
+use Rattle.conf_session.specs.declared.fault.SessionFault.TheVariants as fault
 use Rattle.conf_session.specs.Requests.{Request, AllAsk}
 use Rattle.conf_session.specs.Answers.{Stored, answer_limit, output, stored_after_all, file_after_all, accepted_commands, refusals}
 use Rattle.conf_session.specs.declared.session.Tally.{Tally}

@@ -2,8 +2,8 @@
 ghost use Rattle.std.specs.Prelude.{◌≡◌, ◌≤◌, ◌++◌, [], ◌∷◌, IfOk, OnOk, string_bytes, decimal, codes};
 ghost use Rattle.std.specs.Str.{chars};
 ghost use Rattle.yaml_grammar.specs.Trees.{depth, text};
-ghost use Rattle.yaml_laws.specs.Closed.{framed_text_bytes, framed_text};
-ghost use Rattle.yaml_tree.specs.Kept.{own_limits};
+ghost use Rattle.yaml_recognizers.specs.Closings.{framed_text_bytes, framed_text};
+ghost use Rattle.yaml_config.specs.Kept.{own_limits};
 ghost use Rattle.yaml_data.specs.Seen.{tree_of, elements_of};
 ghost use Rattle.yaml_data.specs.TextBytes.{text_bytes};
 ghost use Rattle.yaml_data.specs.declared.text.Text.{Text as Name};

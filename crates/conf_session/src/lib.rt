@@ -1,16 +1,20 @@
 //! Sessions: a stream of command documents, each answered by one document.
 //!
 //! [`run`] reads the commands, performs them on a store, and writes the answers. Input and output may be any reader and
-//! writer, and the store may be on any disk.
+//! writer, and the store may be on any disk. [`SessionFault`] says why a session stops before the end of its input.
 #![tactic(auto)]
 
 mod answer;
+mod fault;
+mod input;
 mod laws;
+mod output;
 mod pieces;
 mod reply;
+mod said;
 mod session;
 mod words;
 
-pub use conf_streams::SessionFault;
+pub use fault::SessionFault;
 pub use laws::answers_are_short;
 pub use session::{Tally, run};

@@ -5,12 +5,13 @@ ghost use Rattle.conf_store.specs.Durable.{AllImagesMean};
 ghost use Rattle.conf_session.specs.Replies.{accepts, refuses, reply_bytes};
 ghost use Rattle.conf_session.specs.Progress.{Answered, Fails, HasRoom};
 
+use crate::fault::SessionFault;
+use crate::output::write_whole;
 use crate::reply::{Reply, answer_piece};
 use crate::session::Tally;
 use crate::words::refusal_bytes;
 use conf_disk::Disk;
 use conf_store::Store;
-use conf_streams::{SessionFault, write_whole};
 use std::alloc::Global;
 use std::io::Write;
 

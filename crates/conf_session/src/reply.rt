@@ -2,21 +2,21 @@
 ghost use Rattle.std.specs.Prelude.{◌≡◌, ◌≤◌, IsErrOf, false};
 ghost use Rattle.std.specs.Str.{chars};
 ghost use Rattle.yaml_data.specs.TextBytes.{text_bytes};
-ghost use Rattle.conf_commands.specs.Commands.{command_of};
+ghost use Rattle.conf_state.specs.Commands.{command_of};
 ghost use Rattle.conf_store.specs.Calls.{HasFailed};
 ghost use Rattle.conf_store.specs.Durable.{AllImagesMean};
-ghost use Rattle.conf_requests.specs.Said.{import_text};
+ghost use Rattle.conf_session.specs.Said.{import_text};
 ghost use Rattle.conf_session.specs.Requests.{changing, checkpointing};
 ghost use Rattle.conf_session.specs.Answers.{unread_fault};
-ghost use Rattle.conf_requests.specs.Said.{said_of};
+ghost use Rattle.conf_session.specs.Said.{said_of};
 ghost use Rattle.conf_session.specs.Replies.{Did, DidPiece, DidSaid};
 
 use crate::answer::{count_answer, export_answer, get_answer, names_answer};
+use crate::fault::SessionFault;
+use crate::said::{Said, read_said};
 use conf_disk::Disk;
-use conf_requests::{Said, read_said};
 use conf_state::{Command, StoreFault, good_name};
 use conf_store::Store;
-use conf_streams::SessionFault;
 use std::alloc::Global;
 use yaml_tree::{Limits, ReadFault, Text, read_one};
 

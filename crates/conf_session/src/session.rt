@@ -3,10 +3,11 @@ ghost use Rattle.std.specs.Prelude.{◌≡◌, ◌⊎◌, ◌↔◌, true, IsErr
 ghost use Rattle.conf_store.specs.Calls.{HasFailed};
 ghost use Rattle.conf_session.specs.Runs.{Runs};
 
+use crate::fault::SessionFault;
+use crate::input::Input;
 use crate::pieces::{Counts, perform_piece};
 use conf_disk::Disk;
 use conf_store::Store;
-use conf_streams::{Input, SessionFault};
 use std::alloc::Global;
 use std::io::{Read, Write};
 

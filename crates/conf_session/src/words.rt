@@ -1,6 +1,6 @@
 // The answers to refused requests. They are constants, and take no memory.
 ghost use Rattle.std.specs.Prelude.{◌≡◌};
-ghost use Rattle.yaml_laws.specs.Closed.{framed_text_bytes};
+ghost use Rattle.yaml_recognizers.specs.Closings.{framed_text_bytes};
 ghost use Rattle.conf_session.specs.Answers.{refusal, word, read_word, path_word};
 
 use conf_state::StoreFault;

@@ -16,29 +16,29 @@ use Rattle.yaml_writer.specs.Sizes.{length_at}
 use Rattle.yaml_data.specs.declared.tree.Tree.{Tree}
 use Rattle.yaml_writer.proofs.SizeLaws.{value_law}
 use Rattle.yaml_writer.proofs.SizeBounds.{value_bound, value_small}
-use Rattle.edit_lengths.specs.Changes.{Changes}
+use Rattle.yaml_config.specs.Changes.{Changes}
 use Rattle.json_pointer.specs.Pointers.{path_of, pointer_text, slash, first_stray, tokens_or_place}
 use Rattle.json_pointer.specs.declared.fault.PathFault.TheVariants as path_faults
 use Rattle.std.proofs.lemmas.Str.{chars-nil, encodes-chars}
 use lib.Utf8.{encodes}
-use Rattle.edit_lengths.specs.declared.change.Change.{Change}
+use Rattle.yaml_config.specs.declared.change.Change.{Change}
 use Rattle.json_pointer.specs.declared.fault.PathFault.{PathFault}
-use Rattle.conf_configs.specs.Numbers.{heads, number_of, put_under, AreApart}
-use Rattle.conf_configs.proofs.NumberLemmas.{lookup-number, number-there, number-name, set-number}
+use Rattle.conf_state.specs.Numbers.{heads, number_of, put_under, AreApart}
+use Rattle.conf_state.proofs.NumberLemmas.{lookup-number, number-there, number-name, set-number}
 use Rattle.conf_state.specs.BaseTexts.{entry_length, entries_length}
-use Rattle.edit_lengths.specs.Edits.{tree_after_edit}
+use Rattle.yaml_config.specs.Edits.{tree_after_edit}
 use Rattle.conf_state.specs.Edits.{configs_with_edit, configs_after_edit}
 use Rattle.conf_state.specs.Kept.{entries_of, ArePlain}
 use Rattle.conf_state.specs.Limits.{AreConfigs}
-use Rattle.conf_commands.specs.PathFaults.{store_fault_of}
+use Rattle.conf_state.specs.PathFaults.{store_fault_of}
 use Rattle.conf_state.specs.States.{Entry, Contents, base_limit, config_named, put_config, cut_config}
-use Rattle.yaml_tree.specs.Limits.{config_limits}
-use Rattle.edit_lengths.specs.declared.edit.Edit.{Edit}
-use Rattle.edit_lengths.specs.declared.edit.Edit.TheVariants.{Delete}
-use Rattle.conf_commands.specs.declared.fault.StoreFault.{StoreFault}
+use Rattle.yaml_config.specs.Limits.{config_limits}
+use Rattle.yaml_config.specs.declared.edit.Edit.{Edit}
+use Rattle.yaml_config.specs.declared.edit.Edit.TheVariants.{Delete}
+use Rattle.conf_state.specs.declared.fault.StoreFault.{StoreFault}
 use Rattle.conf_state.specs.Steps.{and_then, by_path, found, configs_after, configs_after_delete}
-use Rattle.conf_commands.specs.Commands.{delete_at}
-use Rattle.conf_commands.specs.declared.fault.StoreFault.TheVariants.{NoConfig, TooDeep, ConfigLarge, OutOfMemory}
+use Rattle.conf_state.specs.Commands.{delete_at}
+use Rattle.conf_state.specs.declared.fault.StoreFault.TheVariants.{NoConfig, TooDeep, ConfigLarge, OutOfMemory}
 use Rattle.conf_state.proofs.EntryLemmas.{lookup-named}
 use Rattle.conf_state.proofs.LimitLemmas.{entries_length-found, entries_length-put}
 

@@ -11,7 +11,7 @@ use Rattle.yaml_grammar.specs.Trees as grammar
 use Rattle.yaml_data.specs.Seen.{tree_of}
 use Rattle.yaml_data.specs.declared.tree.Tree.{Tree}
 use Rattle.yaml_data.proofs.CharacterLemmas.{same_text-Decides}
-use Rattle.conf_configs.specs.Numbers.{put_under, cut_from}
+use Rattle.conf_state.specs.Numbers.{put_under, cut_from}
 use Rattle.conf_state.specs.States.{Entry, config_named, put_config, cut_config}
 use Rattle.conf_state.specs.Kept.{entries_of, ArePlain}
 

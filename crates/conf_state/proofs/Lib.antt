@@ -9,3 +9,5 @@ pub mod RefusalLemmas
 pub mod RunLaws
 pub mod StateLemmas
 pub mod StepLemmas
+pub mod NameLemmas
+pub mod NumberLemmas

@@ -9,18 +9,18 @@ use Rattle.yaml_grammar.specs.Trees.{depth}
 use Rattle.yaml_grammar.specs.Style.{style_text}
 use Rattle.yaml_data.specs.declared.tree.Tree.{Tree}
 use Rattle.yaml_data.proofs.CharacterLemmas.{same_text-true, same_text-self}
-use Rattle.conf_configs.specs.Configs.{AreNumbered, AreCounted}
-use Rattle.conf_configs.specs.declared.configs.Configs.{Configs}
-use Rattle.conf_commands.specs.Names.{good_name}
+use Rattle.conf_state.specs.Configs.{AreNumbered, AreCounted}
+use Rattle.conf_state.specs.declared.configs.Configs.{Configs}
+use Rattle.conf_state.specs.Names.{good_name}
 use Rattle.conf_state.specs.States.{Entry, Contents, base_limit, names_of, config_named, put_config, has_name, names_differ}
-use Rattle.yaml_tree.specs.Limits.{config_limits}
+use Rattle.yaml_config.specs.Limits.{config_limits}
 use Rattle.conf_state.specs.BaseTexts.{base_length, entries_length, framed_length}
 use Rattle.conf_state.proofs.BaseLemmas.{base_length-framed, entries_length-short}
 use Rattle.std.proofs.lemmas.Bool.Decides.{nat_tests}
 use Rattle.conf_state.specs.Limits.{AreConfigs, IsState}
 use Rattle.conf_state.specs.Steps.{checked_tree}
-use Rattle.conf_commands.specs.declared.fault.StoreFault.{StoreFault}
-use Rattle.conf_commands.specs.declared.fault.StoreFault.TheVariants.{TooDeep, ConfigLarge}
+use Rattle.conf_state.specs.declared.fault.StoreFault.{StoreFault}
+use Rattle.conf_state.specs.declared.fault.StoreFault.TheVariants.{TooDeep, ConfigLarge}
 use Rattle.conf_state.specs.Kept.{entries_of, ArePlain, IsKept, Appended, IsUnfit}
 use Rattle.conf_state.proofs.LimitLemmas.{entries_length-put, entries_length-absent, names_differ-put, AreConfigs-put}
 

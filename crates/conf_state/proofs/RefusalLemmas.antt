@@ -7,13 +7,13 @@ use Rattle.tree_path.specs.Paths.{set, delete}
 use Rattle.json_pointer.specs.Pointers.{path_of}
 use Rattle.json_pointer.specs.declared.fault.PathFault.{PathFault}
 use Rattle.conf_state.specs.BaseTexts.{base_length}
-use Rattle.conf_commands.specs.Commands.{Command, import_as, set_at, delete_at, name_of}
-use Rattle.conf_commands.specs.Names.{good_name}
+use Rattle.conf_state.specs.Commands.{Command, import_as, set_at, delete_at, name_of}
+use Rattle.conf_state.specs.Names.{good_name}
 use Rattle.conf_state.specs.States.{Entry, Contents, config_named, base_limit, count_limit}
-use Rattle.yaml_tree.specs.Limits.{config_limits}
+use Rattle.yaml_config.specs.Limits.{config_limits}
 use Rattle.conf_state.specs.Steps.{IsRefusal, step, state_after_command, configs_after, next_state, and_then, checked_tree, with_checked_config, found, by_path, configs_after_delete}
-use Rattle.conf_commands.specs.declared.fault.StoreFault.{StoreFault}
-use Rattle.conf_commands.specs.declared.fault.StoreFault.TheVariants.{BadName, TooDeep, ConfigLarge, StoreFull, JournalLong, CountFull}
+use Rattle.conf_state.specs.declared.fault.StoreFault.{StoreFault}
+use Rattle.conf_state.specs.declared.fault.StoreFault.TheVariants.{BadName, TooDeep, ConfigLarge, StoreFull, JournalLong, CountFull}
 use Rattle.conf_state.proofs.RunLaws.{and_then-Ok}
 
 -- ---- room in the journal

@@ -1,12 +1,12 @@
 -- Runs of commands: what they count, and that one run is two in a row.
 use Rattle.std.proofs.Common.{◌≡◌, ◌+◌, Bool, true, false, not, nat_le, nat_lt, if◌then◌else◌, List, [], ◌∷◌, ◌++◌, length, Result, Ok, Err, refl, sym, ap, arith}
-use Rattle.conf_commands.specs.Names.{good_name}
-use Rattle.conf_commands.specs.Commands.{Command, name_of}
+use Rattle.conf_state.specs.Names.{good_name}
+use Rattle.conf_state.specs.Commands.{Command, name_of}
 use Rattle.conf_state.specs.States.{Entry, Contents, base_limit, count_limit}
 use Rattle.conf_state.specs.BaseTexts.{base_length}
 use Rattle.conf_state.specs.Steps.{and_then, configs_after, next_state, step, after}
-use Rattle.conf_commands.specs.declared.fault.StoreFault.{StoreFault}
-use Rattle.conf_commands.specs.declared.fault.StoreFault.TheVariants.{BadName, StoreFull, JournalLong, CountFull}
+use Rattle.conf_state.specs.declared.fault.StoreFault.{StoreFault}
+use Rattle.conf_state.specs.declared.fault.StoreFault.TheVariants.{BadName, StoreFull, JournalLong, CountFull}
 
 -- a state that is the answer of a call and of another after it
 pub and_then-Ok : {A B : Type 0} (r : Result A StoreFault) (next : A → Result B StoreFault) (y : B) → and_then r next ≡ Ok y → (x : A) × (r ≡ Ok x) × (next x ≡ Ok y)

@@ -5,13 +5,13 @@ use Rattle.std.specs.Str.{chars}
 use Rattle.yaml_grammar.specs.Reads.{Good}
 use Rattle.yaml_data.specs.Seen.{tree_of}
 use Rattle.yaml_data.specs.declared.tree.Tree.{Tree}
-use Rattle.conf_configs.specs.Numbers.{put_under, cut_from}
-use Rattle.conf_commands.specs.Names.{good_name}
+use Rattle.conf_state.specs.Numbers.{put_under, cut_from}
+use Rattle.conf_state.specs.Names.{good_name}
 use Rattle.conf_state.specs.Kept.{entries_of, ArePlain, IsKept}
 use Rattle.conf_state.specs.Limits.{IsState}
 use Rattle.conf_state.specs.BaseTexts.{entries_length}
 use Rattle.conf_state.specs.States.{Entry, Contents, config_named, put_config, cut_config, count_limit}
-use Rattle.yaml_tree.specs.Limits.{config_limits}
+use Rattle.yaml_config.specs.Limits.{config_limits}
 use Rattle.conf_state.specs.Steps.{next_state}
 use Rattle.conf_state.proofs.BaseLemmas.{base_length-framed}
 use Rattle.conf_state.proofs.CountLemmas.{next_state-short}

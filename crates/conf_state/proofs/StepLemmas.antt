@@ -4,12 +4,12 @@ use Rattle.std.proofs.lemmas.Bool.Decides.{nat_tests}
 use Rattle.yaml_grammar.specs.Style.{style_text}
 use Rattle.yaml_grammar.specs.Texts.{byte_len}
 use Rattle.yaml_grammar.specs.Trees.{Tree, depth}
-use Rattle.yaml_tree.specs.Limits.{config_limits}
-use Rattle.conf_commands.specs.Commands.{import_as, set_at, delete_at}
+use Rattle.yaml_config.specs.Limits.{config_limits}
+use Rattle.conf_state.specs.Commands.{import_as, set_at, delete_at}
 use Rattle.conf_state.specs.States.{Contents, config_named, put_config, cut_config}
 use Rattle.conf_state.specs.Steps.{and_then, found, checked_tree, with_checked_config, next_state, state_after_command}
-use Rattle.conf_commands.specs.declared.fault.StoreFault.{StoreFault}
-use Rattle.conf_commands.specs.declared.fault.StoreFault.TheVariants.{NoConfig, TooDeep, ConfigLarge}
+use Rattle.conf_state.specs.declared.fault.StoreFault.{StoreFault}
+use Rattle.conf_state.specs.declared.fault.StoreFault.TheVariants.{NoConfig, TooDeep, ConfigLarge}
 use Rattle.conf_state.proofs.CountLemmas.{lt-true, lt-false}
 
 -- ---- the limits of a configuration, in their order

@@ -6,12 +6,12 @@ use Rattle.yaml_grammar.specs.Style.{style_text}
 use Rattle.tree_path.specs.Paths.{last_key}
 use Rattle.json_pointer.specs.Pointers.{path_of}
 use Rattle.conf_state.specs.States.{Entry, config_named, put_config}
-use Rattle.yaml_tree.specs.Limits.{config_limits}
+use Rattle.yaml_config.specs.Limits.{config_limits}
 use Rattle.conf_state.specs.BaseTexts.{entries_length}
 use Rattle.conf_state.specs.Steps.{and_then, found, by_path, with_checked_config}
-use Rattle.conf_commands.specs.declared.fault.StoreFault.{StoreFault}
-use Rattle.edit_lengths.specs.Edits.{tree_after_edit}
-use Rattle.edit_lengths.specs.declared.edit.Edit.{Edit}
+use Rattle.conf_state.specs.declared.fault.StoreFault.{StoreFault}
+use Rattle.yaml_config.specs.Edits.{tree_after_edit}
+use Rattle.yaml_config.specs.declared.edit.Edit.{Edit}
 use Rattle.conf_state.specs.declared.state.EditPlan.{EditPlan}
 
 -- the configurations with an edited tree under a name, or the refusal of the edit

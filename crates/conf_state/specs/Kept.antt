@@ -5,10 +5,10 @@ use Rattle.yaml_grammar.specs.Reads.{Good}
 use Rattle.yaml_grammar.specs.Trees as grammar
 use Rattle.yaml_data.specs.Seen.{tree_of}
 use Rattle.yaml_data.specs.declared.tree.Tree.{Tree}
-use Rattle.conf_commands.specs.Commands.{text_of}
-use Rattle.conf_commands.specs.Names.{good_name}
+use Rattle.conf_state.specs.Commands.{text_of}
+use Rattle.conf_state.specs.Names.{good_name}
 use Rattle.conf_state.specs.States.{Entry, config_named, put_config}
-use Rattle.yaml_tree.specs.Limits.{config_limits}
+use Rattle.yaml_config.specs.Limits.{config_limits}
 use Rattle.conf_state.specs.Limits.{IsState}
 use Rattle.conf_state.specs.BaseTexts.{entry_length, entries_length}
 

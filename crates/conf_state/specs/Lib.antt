@@ -5,3 +5,9 @@ pub mod Limits
 pub mod States
 pub mod Steps
 pub mod TreeCode
+pub mod Commands
+pub mod Names
+pub mod PathFaults
+pub mod Rooms
+pub mod Configs
+pub mod Numbers

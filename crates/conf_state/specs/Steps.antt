@@ -7,13 +7,13 @@ use Rattle.yaml_grammar.specs.Style.{style_text}
 use Rattle.tree_path.specs.Paths.{set, delete}
 use Rattle.json_pointer.specs.Pointers.{path_of}
 use Rattle.json_pointer.specs.declared.fault.PathFault.{PathFault}
-use Rattle.conf_commands.specs.Names.{good_name}
-use Rattle.conf_commands.specs.Commands.{Command, import_as, set_at, delete_at, name_of}
+use Rattle.conf_state.specs.Names.{good_name}
+use Rattle.conf_state.specs.Commands.{Command, import_as, set_at, delete_at, name_of}
 use Rattle.conf_state.specs.States.{Entry, Contents, config_named, put_config, cut_config, base_limit, count_limit}
-use Rattle.yaml_tree.specs.Limits.{config_limits}
+use Rattle.yaml_config.specs.Limits.{config_limits}
 use Rattle.conf_state.specs.BaseTexts.{base_length}
-use Rattle.conf_commands.specs.declared.fault.StoreFault.{StoreFault}
-use Rattle.conf_commands.specs.declared.fault.StoreFault.TheVariants.{BadName, NoConfig, Path, Read, TooDeep, ConfigLarge, StoreFull, JournalLong, CountFull, Reopen, Device, OutOfMemory}
+use Rattle.conf_state.specs.declared.fault.StoreFault.{StoreFault}
+use Rattle.conf_state.specs.declared.fault.StoreFault.TheVariants.{BadName, NoConfig, Path, Read, TooDeep, ConfigLarge, StoreFull, JournalLong, CountFull, Reopen, Device, OutOfMemory}
 
 -- the first refusal of two calls in a row, or what the second gives
 abbrev pub and_then : {A B : Type 0} → Result A StoreFault → (A → Result B StoreFault) → Result B StoreFault

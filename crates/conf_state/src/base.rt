@@ -5,7 +5,8 @@ ghost use Rattle.yaml_data.specs.Seen.{tree_of};
 ghost use Rattle.conf_state.specs.BaseTexts.{entry_lines, entry_length, framed_length};
 
 use itoa::Buffer;
-use yaml_tree::{ByteCount, Config, Sink, write_key, write_value};
+use yaml_config::Config;
+use yaml_writer::{ByteCount, Sink, write_key, write_value};
 
 /// The most bytes of a base text.
 pub(crate) const BASE_LIMIT: u64 = 67_108_864;

@@ -1,9 +1,9 @@
 // Laws of what commands make of states.
 ghost use Rattle.std.specs.Prelude.{◌≡◌, ◌+◌, ◌++◌, Bool, true, List, Ok, Err, length};
-ghost use Rattle.conf_commands.specs.Commands.{Command};
+ghost use Rattle.conf_state.specs.Commands.{Command};
 ghost use Rattle.conf_state.specs.States.{Contents};
 ghost use Rattle.conf_state.specs.Steps.{IsRefusal, step, after, and_then};
-ghost use Rattle.conf_commands.specs.declared.fault.StoreFault.{StoreFault};
+ghost use Rattle.conf_state.specs.declared.fault.StoreFault.{StoreFault};
 
 /// The count is the number of accepted commands.
 pub fn accepted_commands_are_counted()

@@ -4,30 +4,32 @@ ghost use Rattle.std.specs.Str.{chars};
 ghost use Rattle.std.specs.Iterator.{YieldsFirstBy, item_count};
 ghost use Rattle.yaml_grammar.specs.Reads.{Good};
 ghost use Rattle.yaml_data.specs.Seen.{tree_of};
-ghost use Rattle.conf_configs.specs.Configs.{listed, AreCounted};
-ghost use Rattle.conf_commands.specs.Commands.{text_of};
-ghost use Rattle.conf_commands.specs.Names.{good_name};
+ghost use Rattle.conf_state.specs.Configs.{listed, AreCounted};
+ghost use Rattle.conf_state.specs.Commands.{text_of};
+ghost use Rattle.conf_state.specs.Names.{good_name};
 ghost use Rattle.conf_state.specs.Kept.{entries_of, next_number, ArePlain, Appended, IsFit, IsUnfit};
 ghost use Rattle.conf_state.specs.Limits.{IsState};
 ghost use Rattle.conf_state.specs.States.{Entry, names_of, config_named, put_config, cut_config};
-ghost use Rattle.yaml_tree.specs.Limits.{config_limits};
+ghost use Rattle.yaml_config.specs.Limits.{config_limits};
 ghost use Rattle.yaml_grammar.specs.Trees.{mapping};
 ghost use Rattle.yaml_grammar.specs.Style.{value_at};
 ghost use Rattle.conf_state.specs.BaseTexts.{members, base_length, entry_length, entries_length};
-ghost use Rattle.conf_commands.specs.Rooms.{has_room};
+ghost use Rattle.conf_state.specs.Rooms.{has_room};
 ghost use Rattle.conf_state.specs.Steps.{and_then, next_state};
 ghost use Rattle.conf_state.specs.Edits.{configs_after_edit, configs_with_edit, IsPlan};
 
 use crate::base::{BASE_LIMIT, base_length, entry_length, write_entry};
+use crate::configs::Configs;
+use crate::fault::StoreFault;
+use crate::name::good_name;
+use crate::room::Room;
 use crate::steps::check_limits;
-use crate::{Room, StoreFault, good_name};
-use conf_configs::Configs;
-use edit_lengths::Edit;
 use std::alloc::{AllocError, Global};
 use std::collections::btree_map::Values;
 use std::marker::Model;
 use tree_path::Path;
-use yaml_tree::{Config, Limits, Sink};
+use yaml_config::{Config, Edit, Limits};
+use yaml_writer::Sink;
 
 /// The indentation of a configuration in a base text: two more than that of its name.
 const ENTRY_INDENT: u64 = 4;
@@ -63,7 +65,7 @@ impl Model for State {
 
     ghost coded = { contents_code };
 
-    ghost use Rattle.conf_configs.specs.Configs.{listed, AreNumbered};
+    ghost use Rattle.conf_state.specs.Configs.{listed, AreNumbered};
     ghost use Rattle.conf_state.specs.Kept.{entries_of, IsKept, next_number};
 
     ghost view = { λ s. record { configs = entries_of (listed s.configs); count = s.count } };

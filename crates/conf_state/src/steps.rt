@@ -3,16 +3,19 @@ ghost use Rattle.std.specs.Prelude.{◌≡◌, ◌⊎◌, Ok, Err, OnOk, OnErr, 
 ghost use Rattle.std.specs.Str.{chars};
 ghost use Rattle.yaml_grammar.specs.Reads.{Good};
 ghost use Rattle.yaml_data.specs.Seen.{tree_of};
-ghost use Rattle.conf_commands.specs.Names.{good_name};
-ghost use Rattle.conf_commands.specs.Commands.{command_of, text_of, import_as, set_at, delete_at};
-ghost use Rattle.yaml_tree.specs.Limits.{config_limits};
-ghost use Rattle.conf_commands.specs.Rooms.{has_room};
+ghost use Rattle.conf_state.specs.Names.{good_name};
+ghost use Rattle.conf_state.specs.Commands.{command_of, text_of, import_as, set_at, delete_at};
+ghost use Rattle.yaml_config.specs.Limits.{config_limits};
+ghost use Rattle.conf_state.specs.Rooms.{has_room};
 ghost use Rattle.conf_state.specs.Steps.{checked_tree, state_after_command, step};
 
-use crate::{Command, Room, State, StoreFault, good_name};
-use edit_lengths::Edit;
+use crate::command::Command;
+use crate::fault::StoreFault;
+use crate::name::good_name;
+use crate::room::Room;
+use crate::state::State;
 use std::alloc::Global;
-use yaml_tree::{Config, Limits};
+use yaml_config::{Config, Edit, Limits};
 
 /// Performs a command. A refused command leaves the state unchanged, and is dropped. `room` says whether the journal
 /// has room for the command's record. If it hasn't, the command is refused with [`StoreFault::JournalLong`], unless a

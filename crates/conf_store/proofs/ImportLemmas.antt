@@ -3,15 +3,15 @@ use Rattle.std.proofs.Common.{◌≡◌, ◌+◌, ℕ, Bool, true, false, not, n
 use Rattle.yaml_grammar.specs.Texts.{byte_len}
 use Rattle.yaml_grammar.specs.Style.{style_text}
 use Rattle.yaml_grammar.specs.Trees.{Tree, depth}
-use Rattle.yaml_tree.specs.Limits.{config_limits}
+use Rattle.yaml_config.specs.Limits.{config_limits}
 use Rattle.yaml_tree.specs.Reading.{IsRead}
 use Rattle.conf_state.specs.BaseTexts.{base_length}
-use Rattle.conf_commands.specs.Commands.{import_as}
-use Rattle.conf_commands.specs.Names.{good_name}
+use Rattle.conf_state.specs.Commands.{import_as}
+use Rattle.conf_state.specs.Names.{good_name}
 use Rattle.conf_state.specs.States.{Entry, Contents, put_config, base_limit, count_limit}
 use Rattle.conf_state.specs.Steps.{step, state_after_command, next_state}
-use Rattle.conf_commands.specs.declared.fault.StoreFault.{StoreFault}
-use Rattle.conf_commands.specs.declared.fault.StoreFault.TheVariants.{BadName, NoConfig, Path, Read, TooDeep, ConfigLarge, StoreFull, JournalLong, CountFull, Reopen, Device, OutOfMemory}
+use Rattle.conf_state.specs.declared.fault.StoreFault.{StoreFault}
+use Rattle.conf_state.specs.declared.fault.StoreFault.TheVariants.{BadName, NoConfig, Path, Read, TooDeep, ConfigLarge, StoreFull, JournalLong, CountFull, Reopen, Device, OutOfMemory}
 use Rattle.conf_store.specs.View.{StoreView}
 use Rattle.conf_store.specs.Calls.{has_room, RefusesCommand}
 use Rattle.conf_store.specs.Accepting.{IsOfState}

@@ -2,10 +2,10 @@
 use Rattle.std.proofs.Common.{◌≡◌, inl, inr, refl, sym, ◌∙◌, ap, subst}
 use Rattle.std.specs.Prelude.{suc, true, false, Bool, List, [], ◌∷◌, ◌++◌, if◌then◌else◌, Result, Ok, is_ok}
 use Rattle.std.specs.List.{AllByRecursion}
-use Rattle.conf_commands.specs.Commands.{Command}
+use Rattle.conf_state.specs.Commands.{Command}
 use Rattle.conf_state.specs.States.{Contents}
 use Rattle.conf_state.specs.Steps.{step, after, and_then}
-use Rattle.conf_commands.specs.declared.fault.StoreFault.{StoreFault}
+use Rattle.conf_state.specs.declared.fault.StoreFault.{StoreFault}
 use Rattle.conf_store.specs.Lives.{Call, opening, performing, checkpointing, Answer, ok, refused, device, reopen, crashed, Event, Succeeds, MayRemainDuring, state_or, after_call, accepted_in, MayEnd, MayEndBy, accepted_commands, accepted_by, Keeps, all_commands, LivesHold}
 use Rattle.conf_store.proofs.MeaningLemmas.{after-joined, after-done}
 

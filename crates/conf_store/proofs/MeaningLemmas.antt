@@ -3,15 +3,15 @@ use Rattle.std.proofs.Common.{◌≡◌, ◌⊎◌, inl, inr, refl, sym, ◌∙�
 use Rattle.std.specs.Prelude.{ℕ, true, zero, suc, ◌+◌, List, [], ◌∷◌, ◌++◌, length, take, replicate, Option, Some, Result, Ok}
 use Rattle.std.proofs.lemmas.List.{length-replicate}
 use Rattle.yaml_grammar.specs.Closings.{ClosesOnce, Pieces}
-use Rattle.yaml_laws.specs.Closed.{OnePieces}
+use Rattle.yaml_recognizers.specs.Closings.{OnePieces}
 use Rattle.conf_disk.specs.Folder.{File}
 use Rattle.conf_disk.specs.Image.{IsTorn}
-use Rattle.conf_commands.specs.Commands.{Command}
+use Rattle.conf_state.specs.Commands.{Command}
 use Rattle.conf_state.specs.States.{Contents}
 use Rattle.conf_state.specs.Steps.{step, after, and_then}
-use Rattle.conf_commands.specs.declared.fault.StoreFault.{StoreFault}
+use Rattle.conf_state.specs.declared.fault.StoreFault.{StoreFault}
 use Rattle.conf_state.proofs.RunLaws.{after-append, after-count, and_then-Ok}
-use Rattle.conf_pieces.specs.Documents.{IsRecord, IsBase, record_pieces, records_bytes, TornRecords, OneBase, OneRecord, RecordsTear}
+use Rattle.conf_record.specs.Documents.{IsRecord, IsBase, record_pieces, records_bytes, TornRecords, OneBase, OneRecord, RecordsTear}
 use Rattle.conf_journal.specs.Store.{store_limit}
 use Rattle.conf_store.specs.Meaning.{AreRecords, PiecesMean, Means, FileMeans}
 use Rattle.conf_store.specs.Durable.{IsWholeStore, IsJournal, AfterPrefix}

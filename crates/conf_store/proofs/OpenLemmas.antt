@@ -3,7 +3,7 @@ use Rattle.std.proofs.Common.{◌≡◌, ◌≢◌, inl, inr, ⊎_elim, refl, sy
 use Rattle.std.specs.Prelude.{ℕ, zero, suc, List, [], length, Option, Some, None, option_map}
 use Rattle.std.specs.Prelude.{Vec}
 use Rattle.std.specs.declared.alloc.Global.{Global}
-use Rattle.yaml_laws.specs.Closed.{OnePieces}
+use Rattle.yaml_recognizers.specs.Closings.{OnePieces}
 use Rattle.conf_disk.specs.Folder.{Folder, Tells, bytes_under}
 use Rattle.conf_disk.specs.Image.{Image, IsImage, image_now, synced_file}
 use Rattle.conf_disk.specs.Laws.{ReadingIsAnImage}
@@ -12,7 +12,7 @@ use Rattle.conf_disk.specs.declared.disk.Name.TheVariants.{Store}
 use Rattle.conf_journal.specs.Held.{HoldsStore, OnlyHeldIsLeft}
 use Rattle.conf_journal.specs.Store.{IsStoreOf, store_limit}
 use Rattle.conf_state.specs.States.{Contents}
-use Rattle.conf_pieces.specs.Documents.{OneBase, OneRecord}
+use Rattle.conf_record.specs.Documents.{OneBase, OneRecord}
 use Rattle.conf_state.specs.BaseTexts.{base_bytes}
 use Rattle.std.proofs.lemmas.Bool.{cases_lt}
 use Rattle.conf_disk.specs.declared.disk.DiskFault.{DiskFault}

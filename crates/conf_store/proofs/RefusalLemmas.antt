@@ -1,11 +1,11 @@
 -- The faults of a command on a state, and what a store makes of them.
 use Rattle.std.proofs.Common.{◌≡◌, ◌⊎◌, inl, inr, refl, subst}
 use Rattle.std.specs.Prelude.{Bool, Err}
-use Rattle.conf_commands.specs.Commands.{Command}
+use Rattle.conf_state.specs.Commands.{Command}
 use Rattle.conf_state.specs.States.{Contents}
 use Rattle.conf_state.specs.Steps.{step, IsRefusal}
-use Rattle.conf_commands.specs.declared.fault.StoreFault.{StoreFault}
-use Rattle.conf_commands.specs.declared.fault.StoreFault.TheVariants.{BadName, NoConfig, Path, Read, TooDeep, ConfigLarge, StoreFull, JournalLong, CountFull, Reopen, Device, OutOfMemory}
+use Rattle.conf_state.specs.declared.fault.StoreFault.{StoreFault}
+use Rattle.conf_state.specs.declared.fault.StoreFault.TheVariants.{BadName, NoConfig, Path, Read, TooDeep, ConfigLarge, StoreFull, JournalLong, CountFull, Reopen, Device, OutOfMemory}
 use Rattle.conf_store.specs.View.{StoreView}
 use Rattle.conf_store.specs.Accepting.{IsOfState}
 use Rattle.conf_store.specs.Calls.{outcome, RefusesCommand}

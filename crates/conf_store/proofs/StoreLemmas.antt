@@ -9,16 +9,16 @@ use Rattle.conf_disk.specs.Moments.{LeavesOnly}
 use Rattle.conf_disk.proofs.Moments.{LeavesOnly-start, LeavesOnly-weaker}
 use Rattle.conf_journal.specs.Held.{HoldsStore, IsLeftOf, SyncedIsLeft}
 use Rattle.conf_journal.specs.Store.{IsStoreOf, store_limit}
-use Rattle.conf_commands.specs.Commands.{Command}
+use Rattle.conf_state.specs.Commands.{Command}
 use Rattle.conf_state.specs.States.{Contents, count_limit}
 use Rattle.conf_state.specs.Limits.{IsState}
 use Rattle.conf_state.specs.Steps.{step}
-use Rattle.conf_pieces.specs.Documents.{IsRecord, IsBase, BasesAreRead, BasesClose, BasesFit, RecordsAreRead, RecordsClose, RecordsTear}
+use Rattle.conf_record.specs.Documents.{IsRecord, IsBase, BasesAreRead, BasesClose, BasesFit, RecordsAreRead, RecordsClose, RecordsTear}
 use Rattle.conf_state.specs.BaseTexts.{base_bytes}
 use Rattle.conf_record.specs.Records.{record_bytes}
 use Rattle.conf_record.specs.RecordsRead.{IsCommand}
 use Rattle.std.proofs.lemmas.Bool.Decides.{nat_tests}
-use Rattle.conf_commands.specs.declared.fault.StoreFault.{StoreFault}
+use Rattle.conf_state.specs.declared.fault.StoreFault.{StoreFault}
 use Rattle.conf_store.specs.Accepting.{IsAccepted, IsBaseOf}
 use Rattle.conf_store.specs.Calls.{next_number, next_record, has_room, outcome}
 use Rattle.conf_store.proofs.StepLemmas.{StepsNeedRoom, StepsCount, accepted-anyway, accepted-number}

@@ -2,15 +2,15 @@
 use Rattle.std.specs.Prelude.{◌≡◌, ◌⊎◌, ℕ, ◌+◌, ◌<◌, ◌≤◌, min, Bool, false, nat_le, if◌then◌else◌, List, length, Result, Ok, Err}
 use Rattle.conf_disk.specs.Moments.{greatest}
 use Rattle.conf_journal.specs.Store.{store_limit}
-use Rattle.conf_commands.specs.Commands.{Command}
+use Rattle.conf_state.specs.Commands.{Command}
 use Rattle.conf_state.specs.States.{Contents, config_named, count_limit}
 use Rattle.yaml_grammar.specs.Trees.{Tree}
 use Rattle.yaml_grammar.specs.Style.{style_text}
 use Rattle.tree_path.specs.Paths.{at}
-use Rattle.conf_commands.specs.Names.{good_name}
+use Rattle.conf_state.specs.Names.{good_name}
 use Rattle.conf_state.specs.Steps.{step, and_then, found, by_path}
-use Rattle.conf_commands.specs.declared.fault.StoreFault.{StoreFault}
-use Rattle.conf_commands.specs.declared.fault.StoreFault.TheVariants.{BadName, Reopen, Device, OutOfMemory}
+use Rattle.conf_state.specs.declared.fault.StoreFault.{StoreFault}
+use Rattle.conf_state.specs.declared.fault.StoreFault.TheVariants.{BadName, Reopen, Device, OutOfMemory}
 use Rattle.conf_record.specs.Records.{record_bytes}
 use Rattle.conf_store.specs.View.{StoreView}
 

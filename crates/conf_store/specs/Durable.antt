@@ -5,10 +5,10 @@ use Rattle.conf_disk.specs.Folder.{File, Folder}
 use Rattle.conf_disk.specs.Image.{Image, IsImage, synced_file}
 use Rattle.conf_journal.specs.Held.{HoldsStore}
 use Rattle.conf_journal.specs.Store.{store_limit}
-use Rattle.conf_commands.specs.Commands.{Command}
+use Rattle.conf_state.specs.Commands.{Command}
 use Rattle.conf_state.specs.States.{Contents}
 use Rattle.conf_state.specs.Steps.{after}
-use Rattle.conf_pieces.specs.Documents.{record_pieces, records_bytes}
+use Rattle.conf_record.specs.Documents.{record_pieces, records_bytes}
 use Rattle.conf_store.specs.Meaning.{AreRecords, PiecesMean, FileMeans}
 
 -- The bytes mean `s`, and end with a closing line: nothing follows the last piece.

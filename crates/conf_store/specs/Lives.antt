@@ -1,10 +1,10 @@
 -- Lives of a store, each from one opening to the next crash, and what they keep.
 use Rattle.std.specs.Prelude.{◌≡◌, ◌⊎◌, ℕ, List, [], ◌∷◌, ◌++◌, take, drop, map, Bool, true, false, if◌then◌else◌, Result, Ok, Err, is_ok}
 use Rattle.std.specs.List.{AllByRecursion}
-use Rattle.conf_commands.specs.Commands.{Command}
+use Rattle.conf_state.specs.Commands.{Command}
 use Rattle.conf_state.specs.States.{Contents}
 use Rattle.conf_state.specs.Steps.{step, after}
-use Rattle.conf_commands.specs.declared.fault.StoreFault.{StoreFault}
+use Rattle.conf_state.specs.declared.fault.StoreFault.{StoreFault}
 
 pub data Call : Type 0 where
   opening : Call

@@ -1,12 +1,12 @@
 // Performing a command on the state, and making its record, before anything is written to the disk.
 ghost use Rattle.std.specs.Prelude.{◌≡◌, ◌⊎◌, ◌≤◌, IfOk, IfErr, OnErr, Err, string_bytes};
 ghost use Rattle.conf_journal.specs.Store.{store_limit};
-ghost use Rattle.conf_commands.specs.Commands.{command_of};
+ghost use Rattle.conf_state.specs.Commands.{command_of};
 ghost use Rattle.conf_store.specs.Accepting.{IsAccepted, IsOfState};
 ghost use Rattle.conf_store.specs.Calls.{outcome};
 
 use conf_journal::STORE_LIMIT;
-use conf_pieces::{documents_are_read, documents_close, record_text};
+use conf_record::{documents_are_read, documents_close, record_text};
 use conf_state::{Command, Room, State, StoreFault, step, steps_are_counted_or_refused};
 use std::alloc::Global;
 

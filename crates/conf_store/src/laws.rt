@@ -3,8 +3,8 @@ ghost use Rattle.conf_store.specs.Calls.{RecordsAreMeasured};
 ghost use Rattle.conf_store.specs.Lives.{LivesHold};
 ghost use Rattle.conf_store.specs.Opens.{OneMeaning, RefusedMeansNothing, RecoveredIsMeant};
 
-use conf_pieces::documents_are_read;
-use yaml_laws::one_list_of_pieces;
+use conf_record::documents_are_read;
+use yaml_recognizers::closings::one_list_of_pieces;
 
 /// Whatever crashes happen, no acknowledged command is lost, and no command is kept that was not accepted.
 ///

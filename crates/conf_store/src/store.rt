@@ -5,8 +5,8 @@ ghost use Rattle.yaml_data.specs.Seen.{tree_of};
 ghost use Rattle.conf_disk.specs.Folder.{bytes_under};
 ghost use Rattle.conf_disk.specs.Moments.{LeavesOnly};
 ghost use Rattle.conf_journal.specs.Store.{file_with_bytes};
-ghost use Rattle.conf_commands.specs.Commands.{command_of};
-ghost use Rattle.conf_commands.specs.Names.{good_name};
+ghost use Rattle.conf_state.specs.Commands.{command_of};
+ghost use Rattle.conf_state.specs.Names.{good_name};
 ghost use Rattle.conf_state.specs.Limits.{IsState};
 ghost use Rattle.conf_state.specs.States.{names_of};
 ghost use Rattle.conf_state.specs.BaseTexts.{base_bytes};
@@ -24,13 +24,13 @@ use crate::recovery::Opened;
 use crate::{OpenFault, bytes_mean_one_state};
 use conf_disk::{Disk, DiskFault, Name, reading_is_an_image};
 use conf_journal::{append_closed, held_store_is_left, held_store_is_the_only_one};
-use conf_pieces::{documents_are_read, documents_close};
+use conf_record::{documents_are_read, documents_close};
 use conf_state::{Command, Names, State, StoreFault, good_name};
 use std::alloc::Global;
 use std::marker::Model;
 use tree_path::{Path, at};
 use yaml_emit::style_text;
-use yaml_laws::one_list_of_pieces;
+use yaml_recognizers::closings::one_list_of_pieces;
 use yaml_tree::{Config, Tree};
 
 /// Named configurations, kept in a folder.

@@ -1,1 +1,3 @@
 pub mod StoreLemmas
+pub mod Formatting
+pub mod ReportLemmas

@@ -3,11 +3,11 @@ use Rattle.std.proofs.Common.{◌⊎◌, ℕ, List, Option, Err, inl, inr, arith
 use Rattle.std.specs.Io.KnownBytes.{Keeps}
 use Rattle.conf_disk.specs.Folder.{Folder}
 use Rattle.conf_store.specs.declared.fault.OpenFault.TheVariants as OpenFault
-use Rattle.store_tools.specs.Stores.{RunsOn}
+use Rattle.conf_tools.specs.Stores.{RunsOn}
 use Rattle.conf_tools.specs.Statuses.{Performs, FindsSome, AnswersSome, code_of, status_of_store}
-use Rattle.store_tools.specs.declared.stores.StoreToolFault.{StoreToolFault}
-use Rattle.store_tools.specs.declared.stores.StoreToolFault.TheVariants.{Folder as InFolder, Open, Session, Export, Output as StoreOutput}
-use Rattle.conf_streams.specs.declared.fault.SessionFault.TheVariants as SessionFaults
+use Rattle.conf_tools.specs.declared.stores.StoreToolFault.{StoreToolFault}
+use Rattle.conf_tools.specs.declared.stores.StoreToolFault.TheVariants.{Folder as InFolder, Open, Session, Export, Output as StoreOutput}
+use Rattle.conf_session.specs.declared.fault.SessionFault.TheVariants as SessionFaults
 
 at_three : {given left held written : Option (List ℕ)} → Performs given left held written 3
 at_three = record {

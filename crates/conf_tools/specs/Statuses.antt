@@ -2,20 +2,20 @@
 use Rattle.std.specs.Prelude.{◌≡◌, ◌⊎◌, ℕ, ◌<◌, ◌≤◌, List, Option, Ok, Err}
 use Rattle.std.specs.Io.KnownBytes.{Keeps}
 use Rattle.conf_folder.specs.declared.fault.FolderFault.TheVariants as FolderFault
-use Rattle.conf_commands.specs.declared.fault.StoreFault.TheVariants as StoreFault
+use Rattle.conf_state.specs.declared.fault.StoreFault.TheVariants as StoreFault
 use Rattle.conf_store.specs.declared.fault.OpenFault.TheVariants as OpenFault
-use Rattle.conf_streams.specs.declared.fault.SessionFault.{SessionFault}
-use Rattle.conf_streams.specs.declared.fault.SessionFault.TheVariants as SessionFaults
+use Rattle.conf_session.specs.declared.fault.SessionFault.{SessionFault}
+use Rattle.conf_session.specs.declared.fault.SessionFault.TheVariants as SessionFaults
 use Rattle.conf_session.specs.Answers.{Stored}
 use Rattle.conf_session.specs.declared.session.Tally.{Tally}
-use Rattle.store_tools.specs.Stores.{Answers}
-use Rattle.text_tools.specs.Tools.{Checks, Formats}
-use Rattle.store_tools.specs.declared.stores.StoreToolFault.{StoreToolFault}
-use Rattle.store_tools.specs.declared.stores.StoreToolFault.TheVariants.{Folder as InFolder, Open, Session, Export, Output as StoreOutput}
+use Rattle.conf_tools.specs.Stores.{Answers}
+use Rattle.conf_tools.specs.Tools.{Checks, Formats}
+use Rattle.conf_tools.specs.declared.stores.StoreToolFault.{StoreToolFault}
+use Rattle.conf_tools.specs.declared.stores.StoreToolFault.TheVariants.{Folder as InFolder, Open, Session, Export, Output as StoreOutput}
 use Rattle.conf_tools.specs.declared.program.Status.{Status}
 use Rattle.conf_tools.specs.declared.program.Status.TheVariants.{Done, Found, Refused, WrongWords, Device}
-use Rattle.text_tools.specs.declared.tools.ToolFault.{ToolFault}
-use Rattle.text_tools.specs.declared.tools.ToolFault.TheVariants.{Input, Output, Read}
+use Rattle.conf_tools.specs.declared.texts.ToolFault.{ToolFault}
+use Rattle.conf_tools.specs.declared.texts.ToolFault.TheVariants.{Input, Output, Read}
 
 -- the number of a status
 abbrev pub code_of : Status → ℕ

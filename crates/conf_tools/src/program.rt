@@ -3,6 +3,8 @@ ghost use Rattle.std.specs.Prelude.{◌≡◌, ◌⊎◌, ◌≤◌};
 ghost use Rattle.std.specs.Io.KnownBytes.{Keeps};
 ghost use Rattle.conf_tools.specs.Statuses.{Performs, code_of, status_of, status_of_store};
 
+use crate::stores::{StoreToolFault, export_store, run_store};
+use crate::texts::{ToolFault, check_text, format_text};
 use clap::ArgMatches;
 use conf_folder::{FolderDisk, FolderFault};
 use conf_session::SessionFault;
@@ -14,8 +16,6 @@ use std::fs::File;
 use std::io;
 use std::io::{ErrorKind, Read, Write};
 use std::rt::Files;
-use store_tools::{StoreToolFault, export_store, run_store};
-use text_tools::{ToolFault, check_text, format_text};
 
 /// What the program ends with.
 #[derive(Clone, Copy, Debug, PartialEq, Eq)]

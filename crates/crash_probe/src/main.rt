@@ -1,17 +1,33 @@
-//! Answers orders on crashes of a run of a store, so that the gate can compare the answers with expected ones. Each
-//! line of standard input is an order, a word and what belongs to it, with `;` between them. It is answered in one
-//! line. A line that begins with `#` is printed as it is. The program ends with 0, or with 1 if reading or printing
-//! failed.
+//! Answers orders on crashes of a run of a store and on worked sessions that fail, so that the gate can compare the
+//! answers with expected ones. Each line of standard input is an order, a word and what belongs to it, with `;` between
+//! them. It is answered in one line. A line that begins with `#` is printed as it is. The program ends with 0, or with
+//! 1 if reading or printing failed.
 //!
-//! `crash;CALLS`: a run of commands, over a disk in memory, is cut off after so many calls of its disk. The answer is
-//! how many images a crash leaves then, each of which is opened, and how many more after each of their openings was
-//! cut off; or what is wrong, where something is not as it has to be. Each order has a store of its own.
+//! Each order has stores of its own, over disks in memory. Where something is not as it has to be, the answer is what
+//! is wrong.
+//!
+//! - `crash;CALLS`: a run of commands is cut off after so many calls of its disk. The answer is how many images a crash
+//!   leaves then, each of which is opened, and how many more after each of their openings was cut off.
+//! - `device;FUSE;CALLS`: the worked session over a disk that lets so many calls pass. Then all fail (`stop`), or one
+//!   fails, which has no effect (`undone`) or has it (`done`). The answer is how the session ends, whether the store
+//!   has to be opened again, how many bytes are answered, the count that the file has then, and the count that it has
+//!   if a crash keeps no pending byte. If the disk fails before the session, the answer is why the folder is not
+//!   opened, and the count that the file has then.
+//! - `each;HOW`: a session for each byte, with its number. The worked session's input ends (`input ends`) or fails
+//!   (`input fails`) there, or its output takes no more (`output full`) or fails (`output fails`). `part read`: the
+//!   input is a part of one command.
 #![tactic(auto)]
 
 mod crashes;
+mod cuts;
+mod device;
 mod orders;
 mod run;
+mod session_orders;
+mod states;
+mod worked;
 mod wrong;
+mod wrong_session;
 
 use orders::Orders;
 use probe_words::answer_lines;

@@ -1,5 +1,7 @@
-// Orders on crashes, and their answers.
+// Orders on crashes and sessions, and their answers.
 use crate::crashes::crash;
+use crate::cuts::each;
+use crate::session_orders::device_of;
 use probe_words::{Answers, no_order, number_of};
 use std::alloc::{AllocError, Global};
 use std::io;
@@ -18,6 +20,8 @@ impl Answers for Orders {
 fn answer(alloc: Global, order: &str) -> Result<String, AllocError> {
     match order.split_once(';') {
         Some(("crash", calls)) => crash(alloc, number_of(calls)),
+        Some(("device", words)) => device_of(alloc, words),
+        Some(("each", words)) => each(alloc, words),
         _ => no_order(alloc),
     }
 }

@@ -1,9 +1,9 @@
 // A run of calls on a store: open on nothing, import `a` of `x`, set `a` to `z`, checkpoint, delete `a`.
+use crate::states::{States, count_of};
 use crate::wrong::Wrong;
 use conf_state::{Command, StoreFault};
 use conf_store::{OpenFault, Store};
 use std::alloc::{AllocError, Global};
-use store_states::{States, count_of};
 use test_disks::{Fuse, FusedDisk, MemoryDisk};
 use yaml_tree::{Limits, read_one};
 

@@ -1,8 +1,8 @@
 // What is not as it has to be.
+use crate::states::StateFault;
 use conf_state::StoreFault;
 use conf_store::OpenFault;
 use std::alloc::AllocError;
-use store_states::StateFault;
 
 /// What is not as it has to be, where an order looks at many stores.
 #[derive(Clone, Copy, Debug)]

@@ -1,8 +1,8 @@
 // The images that a crash may leave of a disk in memory.
+use crate::calls::{call, content_of};
 use crate::guarded::GuardedDisk;
 use conf_disk::{Cuts, Disk, Name};
 use conf_journal::STORE_LIMIT;
-use disk_calls::{call, content_of};
 use std::alloc::{AllocError, Global};
 use test_disks::{Fuse, FusedDisk};
 

@@ -1,7 +1,7 @@
-//! Answers orders on a disk in memory, so that the gate can compare the answers with expected ones. Each line of
-//! standard input is an order, a word and what belongs to it, with `;` between them. It is answered in one line, but
-//! for `images`. A line that begins with `#` is printed as it is. The program ends with 0, or with 1 if reading or
-//! printing failed.
+//! Answers orders on a disk in memory and on disks of folders, so that the gate can compare the answers with expected
+//! ones. Each line of standard input is an order, a word and what belongs to it, with `;` between them. It is answered
+//! in one line, but for `images`. A line that begins with `#` is printed as it is. The program ends with 0, or with 1 if
+//! reading or printing failed.
 //!
 //! - `new`: takes an empty disk. `files;STORE;NEXT`: one with these files, all synced; `-` means none.
 //! - `claim;BYTES`: from now on a read of `store.yaml` with a smaller limit returns `TooLong`, whatever the file has.
@@ -11,23 +11,35 @@
 //! - `images`: a line for each image that a crash may leave: its stage, how `store.yaml` and `next.yaml` are cut, and
 //!   what each reads as then. All stages below 6 are tried, and all cuts of less than 5 bytes and zeros.
 //! - `crash;STAGE;KEPT;ZEROS;NEXT_KEPT;NEXT_ZEROS`: takes the disk that is such an image.
-//! - A call of the disk, or a procedure of the journal, as `disk_calls` lists them.
+//! - A call of the disk, `failures`, `read;NAME;LIMIT`, `create_next`, `append;NAME;BYTES`, `sync;NAME`, `rename_next`,
+//!   `remove_next` or `sync_folder`, where a `NAME` is `store` or `next`. Or a procedure of the journal, `load`,
+//!   `append_store;BYTES`, `sync_store`, `append_closed;BYTES`, `begin_next`, `append_next;BYTES`, `stage_next;BYTES`,
+//!   `swap_next` or `finish_next`.
 //! - `stop;CALLS;FUSE;` before one of these: it is made on a disk of its own with the files `old` and `new` and such a
 //!   fuse. After its answer come how many calls passed, and all that `store.yaml` reads as in the images that are left.
+//!
+//! The group `folder`, folders of the system and the disk of one of them:
+//!
+//! - `make;NAME` and `remove;NAME`: makes and removes the folder, with all that is in it.
+//! - `take;NAME`: takes the disk of the folder. `close`: closes the disk that was taken.
+//! - A call of the disk that was taken, or a procedure of the journal.
 //!
 //! What fails is answered with the fault. The disk returns `Device` if there is no file to be appended to or renamed,
 //! or if there is one that is to be created.
 #![tactic(auto)]
 
+mod calls;
+mod folder_orders;
+mod folders;
 mod guarded;
 mod images;
 mod memory;
 mod orders;
 
-use memory::Memory;
+use orders::Disks;
 use probe_words::answer_lines;
 use std::process::ExitCode;
 
 fn main(rt: HostRuntime) -> ExitCode {
-    answer_lines(&rt, &mut Memory::new(rt.alloc()))
+    answer_lines(&rt, &mut Disks::new(&rt))
 }

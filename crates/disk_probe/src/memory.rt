@@ -1,8 +1,8 @@
 // The disk in memory that orders are about.
+use crate::calls::call;
 use crate::guarded::GuardedDisk;
 use crate::images::images_of;
 use conf_disk::Cuts;
-use disk_calls::call;
 use std::alloc::{AllocError, Global};
 use std::mem;
 use test_disks::{Fuse, FusedDisk};

@@ -1,4 +1,6 @@
-// Orders on disks in memory.
+// Orders on disks in memory, and where the orders on folders go.
+use crate::folder_orders;
+use crate::folders::Folders;
 use crate::guarded::GuardedDisk;
 use crate::images::stopped;
 use crate::memory::Memory;
@@ -8,10 +10,30 @@ use std::alloc::{AllocError, Global};
 use std::io;
 use test_disks::Fuse;
 
-impl Answers for Memory {
+/// The disk in memory and the folders that orders are about.
+#[derive(Drop)]
+pub(crate) struct Disks<'r> {
+    memory: Memory,
+    folders: Folders<'r>,
+}
+
+impl<'r> Disks<'r> {
+    /// An empty disk in memory; no folder is taken.
+    pub(crate) fn new(rt: &'r HostRuntime) -> Self {
+        Disks {
+            memory: Memory::new(rt.alloc()),
+            folders: Folders::new(rt),
+        }
+    }
+}
+
+impl Answers for Disks<'_> {
     fn answer(&mut self, alloc: Global, order: &str) -> io::Result<String> {
         let words: Vec<&str> = order.split(';').collect(alloc)?;
-        Ok(answer(alloc, self, &words)?)
+        match words.as_slice() {
+            ["folder", words @ ..] => Ok(folder_orders::answer(alloc, &mut self.folders, words)?),
+            words => Ok(answer(alloc, &mut self.memory, words)?),
+        }
     }
 }
 

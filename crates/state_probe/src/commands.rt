@@ -1,6 +1,6 @@
 // Commands on a state, from their words or from a record.
 use crate::texts::lengthened;
-use conf_pieces::read_record;
+use conf_record::read_record;
 use conf_state::{Command, Room, State, StoreFault, step};
 use std::alloc::{AllocError, Global};
 use yaml_tree::{Config, Limits, read_one};

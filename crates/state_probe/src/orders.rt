@@ -2,7 +2,7 @@
 use crate::commands::{command_of, perform, perform_record};
 use crate::faults::store_fault;
 use crate::texts::lengthened;
-use conf_pieces::{base_text, read_base, read_record, record_text};
+use conf_record::{base_text, read_base, read_record, record_text};
 use conf_state::{Room, State, good_name};
 use probe_words::{Answers, bytes_of, no_order, shown, wrong_escape};
 use std::alloc::{AllocError, Global};

@@ -1,11 +1,11 @@
 // A folder in memory, and what its files hold.
+use crate::calls::FusedStore;
 use conf_disk::{Content, Cuts, Disk, DiskFault, Name};
 use conf_journal::STORE_LIMIT;
 use conf_store::Store;
 use probe_words::{meant, measured};
 use std::alloc::{AllocError, Global};
 use std::mem;
-use store_calls::FusedStore;
 use test_disks::{Fuse, FusedDisk, MemoryDisk};
 
 /// A folder in memory, or the store that is open over it.

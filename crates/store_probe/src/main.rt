@@ -13,14 +13,25 @@
 //! - `file` and `next`: the length of `store.yaml` or of `next.yaml`, and its text if it has at most 1,000 bytes.
 //! - `image;STAGE`: takes what a crash leaves of this stage if it keeps no pending byte.
 //!
-//! On the open store: a call of it or a session, as `store_calls` has them.
+//! On the open store:
 //!
-//! In a `TEXT`, `*COUNT*` means that many letters `x`. `\n`, `\r` and `\t` mean a line feed, a carriage return and a
-//! tab, `\0` a zero byte, and `\\` and `\s` a backslash.
+//! - `import;NAME;TEXT`, `set;NAME;PATH;TREE` and `delete;NAME;PATH`: the count after it, or why it is refused.
+//! - `checkpoint`, `count`, `names`, `export;NAME`, `get;NAME;PATH` and `reopen`: the call of this name, the last one
+//!   for whether the store has to be opened again.
+//! - `session;TEXT`: a session on this input. The answer is how it ends, how many bytes of its input are not read, and
+//!   its output. `parts;BYTES;TEXT`: at most so many bytes are read at a time. `broken;TEXT` and `interrupted;TEXT`: at
+//!   most 100, and after them a read fails. `room;BYTES;TEXT`: the output takes so many bytes. `copies;COUNT;TEXT`: the
+//!   input is so many times the text, and the output takes nothing.
+//!
+//! A `TREE` is a text of YAML. In it and in a `TEXT`, `*COUNT*` means that many letters `x`. `\n`, `\r` and `\t` mean a
+//! line feed, a carriage return and a tab, `\0` a zero byte, and `\\` and `\s` a backslash.
 #![tactic(auto)]
 
+mod calls;
 mod folders;
 mod orders;
+mod sessions;
+mod store_commands;
 
 use folders::Place;
 use probe_words::answer_lines;

@@ -1,10 +1,10 @@
 // Orders on a store and their answers.
+use crate::calls::call;
 use crate::folders::{Place, image, open, renew, shown};
 use conf_disk::Name;
 use probe_words::{Answers, number_of};
 use std::alloc::{AllocError, Global};
 use std::io;
-use store_calls::call;
 use test_disks::Fuse;
 
 impl Answers for Place {

@@ -58,7 +58,7 @@ pub fn set(
 }
 
 /// The edit of [`set`], where the place, from 0, of the path's last key in its mapping is known, or that the key is not
-/// there. `edit_lengths::plan_set` returns it, so that the key is searched for once. The faults are those of [`set`].
+/// there. `yaml_config::plan_set` returns it, so that the key is searched for once. The faults are those of [`set`].
 pub fn set_planned(
     alloc: Global,
     tree: &mut Tree,
@@ -96,7 +96,7 @@ pub fn delete(tree: &mut Tree, path: &Path) -> Result<Tree, PathFault>
 }
 
 /// The edit of [`delete`], where the place, from 0, of the path's last key in its mapping is known, or that the key is
-/// not there. `edit_lengths::plan_delete` returns it, so that the key is searched for once. The faults are those of
+/// not there. `yaml_config::plan_delete` returns it, so that the key is searched for once. The faults are those of
 /// [`delete`].
 pub fn delete_planned(tree: &mut Tree, path: &Path, place: Option<usize>) -> Result<Tree, PathFault>
     requires steps { 0 < length path.now }

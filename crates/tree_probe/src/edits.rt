@@ -1,9 +1,9 @@
 // Places of trees, edits and their lengths.
 use crate::texts::config_of;
-use edit_lengths::{delete_len, set_len};
 use probe_words::{no_order, no_place, shown};
 use std::alloc::{AllocError, Global};
 use tree_path::{Path, PathFault, at, delete, set};
+use yaml_config::{delete_len, set_len};
 use yaml_tree::Tree;
 
 /// What is at a path of a tree.

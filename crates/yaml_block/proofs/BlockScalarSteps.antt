@@ -24,13 +24,13 @@ use Rattle.yaml_scan.specs.declared.lines.Line.{Line}
 use Rattle.yaml_block_scalars.specs.Found.{IsBodyAt, IsHeaderAt}
 use Rattle.yaml_block_scalars.specs.Meant.{chomping_of}
 use Rattle.yaml_block_scalars.specs.declared.parts.Header.{Header}
-use Rattle.yaml_block_lines.specs.Bodies.{IsAfterScalar, IsBlockStyle}
+use Rattle.yaml_block.specs.Bodies.{IsAfterScalar, IsBlockStyle}
 use Rattle.yaml_block.specs.Frames.{AtLine}
 use Rattle.yaml_block.specs.States.{Onward, BeforeLeaf, Fails, Leads, Stack}
 use Rattle.yaml_block.specs.declared.frame.Collection.{Collection}
 use Rattle.yaml_block.specs.declared.frame.Leaf.{Leaf}
 use Rattle.yaml_block.specs.declared.frame.Next.TheVariants as next
-use Rattle.yaml_block_lines.specs.declared.next_line.NextLine.{NextLine}
+use Rattle.yaml_block.specs.declared.next_line.NextLine.{NextLine}
 use Rattle.yaml_block.specs.declared.reader.Reader.{Reader}
 use Rattle.yaml_block.proofs.BlockScalarReads.{BlockReads, block_no_body, block_no_header, block_reads}
 use Rattle.yaml_block.proofs.Stacks.{appended_one}

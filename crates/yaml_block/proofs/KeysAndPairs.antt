@@ -35,8 +35,8 @@ use Rattle.yaml_block.specs.States.{BeforeLeaf, BeforePair, Fails, Leads, Onward
 use Rattle.yaml_block.specs.declared.frame.Collection.{Collection}
 use Rattle.yaml_block.specs.declared.frame.Leaf.{Leaf}
 use Rattle.yaml_block.specs.declared.frame.Next.TheVariants as next
-use Rattle.yaml_block_lines.specs.declared.sign.Sign.{Sign}
-use Rattle.yaml_block_lines.specs.declared.sign.Sign.TheVariants.{Asked, Colon}
+use Rattle.yaml_block.specs.declared.line_sign.Sign.{Sign}
+use Rattle.yaml_block.specs.declared.line_sign.Sign.TheVariants.{Asked, Colon}
 use Rattle.yaml_block.specs.declared.frame.Waits.TheVariants.{Key, Value}
 use Rattle.yaml_block.specs.declared.reader.Reader.{Reader}
 use Rattle.yaml_block.proofs.Stacks.{appended_before, appended_more, appended_one, opened}

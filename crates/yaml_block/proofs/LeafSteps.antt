@@ -24,7 +24,7 @@ use Rattle.yaml_recognizers.proofs.Block.KeyLeaves.{is_key}
 use Rattle.yaml_recognizers.proofs.Basics.LineStarts.{byte_len_joined}
 use Rattle.yaml_recognizers.proofs.Flow.OneLineText.{unbroken}
 use Rattle.yaml_events.specs.EventPlaces.{line_starts}
-use Rattle.yaml_block_lines.specs.declared.sign.Sign.TheVariants.{Asked, Colon}
+use Rattle.yaml_block.specs.declared.line_sign.Sign.TheVariants.{Asked, Colon}
 use Rattle.yaml_block.specs.BlockParts.{part_at}
 use Rattle.yaml_block.specs.Frames.{AfterSign, AtLeaf, AtLine, AtPair, MaySit, Seated, events_in, fits_frames, pairs_of, place_in, sign_after, sits_place}
 use Rattle.yaml_block.proofs.BlockLeaves.{bar_part, first_key_opens, leaf_before_colon, leaf_closes, leaf_goes_on as leaf_unclosed, leaf_missing, leaf_one_line, next_key_missing, next_key_opens, next_key_unfit, question_opens}

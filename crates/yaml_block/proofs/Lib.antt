@@ -15,3 +15,5 @@ pub mod NodeLoop
 pub mod KeysAndPairs
 pub mod EachNode
 pub mod BlockScalarSteps
+pub mod PairTests
+pub mod ScalarLines

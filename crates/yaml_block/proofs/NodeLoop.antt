@@ -12,12 +12,12 @@ use Rattle.yaml_block.specs.BlockParts.{as_part}
 use Rattle.yaml_flow.specs.FlowNodes.{Appended}
 use Rattle.yaml_block.specs.Found.{BlockNodeRead}
 use Rattle.yaml_block.specs.States.{BeforeNode, BeforePair, BeforePart, Fails, GoesOn, Holds, Leads}
-use Rattle.yaml_block_lines.specs.Lines.{IsLine}
+use Rattle.yaml_block.specs.Lines.{IsLine}
 use Rattle.yaml_block.specs.Turns.{IsPart, Unwinds}
 use Rattle.yaml_block.specs.declared.frame.Next.{Next}
 use Rattle.yaml_block.specs.declared.frame.Next.TheVariants as next
-use Rattle.yaml_block_lines.specs.declared.next_line.NextLine.{NextLine}
-use Rattle.yaml_block_lines.specs.declared.sign.Sign.{Sign}
+use Rattle.yaml_block.specs.declared.next_line.NextLine.{NextLine}
+use Rattle.yaml_block.specs.declared.line_sign.Sign.{Sign}
 use Rattle.yaml_block.specs.declared.reader.Reader.{Reader}
 use Rattle.yaml_block.proofs.Stacks.{appended_none}
 use Rattle.yaml_block.proofs.Unwinding.{whole}

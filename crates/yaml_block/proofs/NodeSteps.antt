@@ -20,7 +20,7 @@ use Rattle.yaml_recognizers.proofs.Block.BlockFrames.{unwind_none}
 use Rattle.yaml_recognizers.proofs.Basics.LineStarts.{byte_len_joined}
 use Rattle.yaml_recognizers.proofs.Meanings.Steps.{node_steps}
 use Rattle.yaml_events.specs.EventPlaces.{line_starts}
-use Rattle.yaml_block_lines.specs.declared.sign.Sign.TheVariants.{Dash}
+use Rattle.yaml_block.specs.declared.line_sign.Sign.TheVariants.{Dash}
 use Rattle.yaml_block.specs.BlockParts.{as_part, part_at, sep_after}
 use Rattle.yaml_block.specs.Frames.{AfterSign, AtLeaf, AtNode, AtNodeLine, place_in}
 use Rattle.yaml_block.proofs.BlockLines.{is_deep, leaf_alone_after, mapping_or_leaf_after, nothing_after, sep_after_text, sequence_after, too_shallow_after}

@@ -21,12 +21,12 @@ use Rattle.yaml_recognizers.specs.Recognizers.{block_indented_at, block_items_at
 use Rattle.yaml_recognizers.proofs.Block.BlockFrames.{asked_for_nothing, items_open, sequence_on_sign_line, unwind_none}
 use Rattle.yaml_recognizers.proofs.Meanings.Steps.{node_steps}
 use Rattle.yaml_events.specs.EventPlaces.{line_starts}
-use Rattle.yaml_block_lines.specs.declared.sign.Sign.{Sign}
-use Rattle.yaml_block_lines.specs.declared.sign.Sign.TheVariants.{Asked, Colon, Dash}
+use Rattle.yaml_block.specs.declared.line_sign.Sign.{Sign}
+use Rattle.yaml_block.specs.declared.line_sign.Sign.TheVariants.{Asked, Colon, Dash}
 use Rattle.yaml_block.specs.declared.frame.Waits.TheVariants.{Key}
 use Rattle.yaml_block.specs.BlockParts.{as_part, part_at, part_after_sign}
 use Rattle.yaml_block.specs.Frames.{AfterSign, AtLeaf, AtLine, AtNodeLine, Awaits, Seated, events_in, fits_frame, part_after, waits_of}
-use Rattle.yaml_block_lines.specs.Signs.{is_colon, is_shallow}
+use Rattle.yaml_block.specs.Signs.{is_colon, is_shallow}
 use Rattle.yaml_block.proofs.BlockSigns.{compact_or_leaf, leaf_on_sign_line, node_on_lines as node_after_lines, nothing_on_sign_line, omitted_after, unclosed_goes_on, untabbed, untabbed_taken}
 
 -- after a sign, by what may be there

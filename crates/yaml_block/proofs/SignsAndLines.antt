@@ -37,16 +37,16 @@ use Rattle.yaml_scan.specs.Lines.{IsLineEnd, IsSolidLine}
 use Rattle.yaml_scan.specs.declared.lines.Line.{Line}
 use Rattle.yaml_block.specs.BlockParts.{as_part}
 use Rattle.yaml_block.specs.Frames.{AfterSign, AtLeaf, AtLine, AtNodeLine, AtNode, waits_of}
-use Rattle.yaml_block_lines.specs.Signs.{is_colon}
-use Rattle.yaml_block_lines.specs.Signs.{is_shallow as is_shallow_after}
+use Rattle.yaml_block.specs.Signs.{is_colon}
+use Rattle.yaml_block.specs.Signs.{is_shallow as is_shallow_after}
 use Rattle.yaml_block.specs.States.{Before, BeforePart, BeforeLeaf, BeforeNodeLine, BeforeNode, Leads, Fails, FailsBy, Holds, Stack, GoesOn, IsAfterSign, Onward}
-use Rattle.yaml_block_lines.specs.Lines.{IsLine, is_shallow}
-use Rattle.yaml_block_lines.specs.declared.indentation.Indentation.{Indentation}
+use Rattle.yaml_block.specs.Lines.{IsLine, is_shallow}
+use Rattle.yaml_block.specs.declared.indentation.Indentation.{Indentation}
 use Rattle.yaml_block.specs.declared.frame.Leaf.{Leaf}
 use Rattle.yaml_block.specs.declared.frame.Next.{Next}
 use Rattle.yaml_block.specs.declared.frame.Next.TheVariants as next
-use Rattle.yaml_block_lines.specs.declared.sign.Sign.{Sign}
-use Rattle.yaml_block_lines.specs.declared.sign.Sign.TheVariants.{Dash, Asked}
+use Rattle.yaml_block.specs.declared.line_sign.Sign.{Sign}
+use Rattle.yaml_block.specs.declared.line_sign.Sign.TheVariants.{Dash, Asked}
 use Rattle.yaml_block.specs.declared.frame.Waits.TheVariants.{Item, Key}
 use Rattle.yaml_block.specs.declared.reader.Reader.{Reader}
 use Rattle.yaml_block.proofs.Stacks.{appended_one, opened}

@@ -23,14 +23,14 @@ use Rattle.yaml_scan.specs.declared.lines.Line.{Line}
 use Rattle.yaml_flow.specs.FlowNodes.{Appended}
 use Rattle.yaml_block.specs.Frames.{AfterSign, AtLine, AfterPair, waits_of, indent_of}
 use Rattle.yaml_block.specs.States.{Holds, Stack, GoesOn, Onward}
-use Rattle.yaml_block_lines.specs.Lines.{IsLine}
+use Rattle.yaml_block.specs.Lines.{IsLine}
 use Rattle.yaml_block.specs.Turns.{IsPart, ItemRead, KeyRead, PairRead, PartRead, Turns, StillPart, Unwound}
 use Rattle.yaml_block.specs.declared.frame.Next.{Next}
 use Rattle.yaml_block.specs.declared.frame.Collection.{Collection}
-use Rattle.yaml_block_lines.specs.declared.next_line.NextLine.{NextLine}
+use Rattle.yaml_block.specs.declared.next_line.NextLine.{NextLine}
 use Rattle.yaml_block.specs.declared.frame.Next.TheVariants as next
-use Rattle.yaml_block_lines.specs.declared.sign.Sign.{Sign}
-use Rattle.yaml_block_lines.specs.declared.sign.Sign.TheVariants.{Dash, Asked}
+use Rattle.yaml_block.specs.declared.line_sign.Sign.{Sign}
+use Rattle.yaml_block.specs.declared.line_sign.Sign.TheVariants.{Dash, Asked}
 use Rattle.yaml_block.specs.declared.frame.Waits.{Waits}
 use Rattle.yaml_block.specs.declared.frame.Waits.TheVariants.{Item, Key, Value}
 use Rattle.yaml_block.specs.declared.reader.Reader.{Reader}

@@ -20,7 +20,7 @@ use Rattle.yaml_recognizers.proofs.Meanings.EventPrefixes.{done_items_end, done_
 use Rattle.yaml_recognizers.proofs.Basics.LineStarts.{byte_len_joined}
 use Rattle.yaml_recognizers.proofs.Basics.Reading.{on_parts, some_parts}
 use Rattle.yaml_events.specs.EventPlaces.{line_starts}
-use Rattle.yaml_block_lines.specs.declared.sign.Sign.TheVariants.{Asked, Dash}
+use Rattle.yaml_block.specs.declared.line_sign.Sign.TheVariants.{Asked, Dash}
 use Rattle.yaml_block.specs.BlockParts.{as_part}
 use Rattle.yaml_block.specs.Frames.{AfterPair, AfterSign, AtLine, AtPair, Seated, events_in, fits_frame, fits_frames, inner_indent, key_events, place_in, sits_place, value_place}
 use Rattle.yaml_block.proofs.LeafSteps.{node_fits_frames}

@@ -14,12 +14,12 @@ use Rattle.yaml_recognizers.specs.Recognizers.{block_key_in, flow_leaf_at, block
 use Rattle.yaml_recognizers.specs.BlockFrames.{Sits, on_sign_line, on_lines, PairKey, key_asked, key_on_line, BlockFrame, waits_item, waits_key, waits_value, close_pairs, pairs_after, keyed_part, unwind}
 use Rattle.yaml_recognizers.proofs.Meanings.EventPrefixes.{done_items_end, done_items_events, done_pairs_end, done_pairs_events}
 use Rattle.yaml_events.specs.EventPlaces.{line_starts}
-use Rattle.yaml_block_lines.specs.Signs.{is_colon}
+use Rattle.yaml_block.specs.Signs.{is_colon}
 use Rattle.yaml_block.specs.BlockParts.{as_part, part_at}
 use Rattle.yaml_block.specs.declared.frame.Waits.{Waits}
 use Rattle.yaml_block.specs.declared.frame.Waits.TheVariants.{Item, Key, Value}
-use Rattle.yaml_block_lines.specs.declared.sign.Sign.{Sign}
-use Rattle.yaml_block_lines.specs.declared.sign.Sign.TheVariants.{Dash, Asked, Colon}
+use Rattle.yaml_block.specs.declared.line_sign.Sign.{Sign}
+use Rattle.yaml_block.specs.declared.line_sign.Sign.TheVariants.{Dash, Asked, Colon}
 
 -- ---- frames
 

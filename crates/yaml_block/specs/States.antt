@@ -12,12 +12,12 @@ use Rattle.yaml_events.specs.declared.event.Event.{Event}
 use Rattle.yaml_scan.specs.ScanPlaces.{unbroken_between}
 use Rattle.yaml_grammar.specs.FlowNodes.{key_limit}
 use Rattle.yaml_flow.specs.FlowNodes.{Appended}
-use Rattle.yaml_block_lines.specs.Lines.{is_shallow, IsNextLine}
+use Rattle.yaml_block.specs.Lines.{is_shallow, IsNextLine}
 use Rattle.yaml_block.specs.Frames.{waits_of, indent_of, AfterSign, AtPair, AtLine, AtNode, AtNodeLine, AtLeaf}
 use Rattle.yaml_block.specs.declared.frame.Waits.{Waits}
-use Rattle.yaml_block_lines.specs.declared.sign.Sign.{Sign}
+use Rattle.yaml_block.specs.declared.line_sign.Sign.{Sign}
 use Rattle.yaml_block.specs.declared.frame.Collection.{Collection}
-use Rattle.yaml_block_lines.specs.declared.indentation.Indentation.{Indentation}
+use Rattle.yaml_block.specs.declared.indentation.Indentation.{Indentation}
 use Rattle.yaml_block.specs.declared.frame.Leaf.{Leaf}
 use Rattle.yaml_block.specs.declared.frame.Next.{Next}
 use Rattle.yaml_block.specs.declared.frame.Next.TheVariants as next

@@ -8,7 +8,7 @@ use Rattle.yaml_events.specs.declared.event.Event.{Event}
 use Rattle.yaml_block.specs.Frames.{AfterPair, AtLine, waits_of, indent_of}
 use Rattle.yaml_block.specs.States.{Holds, GoesOn, Keeps, Onward}
 use Rattle.yaml_block.specs.declared.frame.Collection.{Collection}
-use Rattle.yaml_block_lines.specs.declared.next_line.NextLine.{NextLine}
+use Rattle.yaml_block.specs.declared.next_line.NextLine.{NextLine}
 use Rattle.yaml_block.specs.declared.frame.Next.{Next}
 use Rattle.yaml_block.specs.declared.frame.Waits.TheVariants.{Item, Key}
 use Rattle.yaml_block.specs.declared.reader.Reader.{Reader}

@@ -7,8 +7,9 @@ ghost use Rattle.yaml_recognizers.specs.BlockNodes.{bar};
 ghost use Rattle.yaml_block.specs.States.{Grown, Onward, Leads, FailsBy, BeforeLeaf};
 
 use crate::frame::{Leaf, Next};
+use crate::next_line::NextLine;
 use crate::reader::Reader;
-use yaml_block_lines::{NextLine, body_at, line_after_scalar};
+use crate::scalar::{body_at, line_after_scalar};
 use yaml_block_scalars::header;
 use yaml_events::{Event, ScanFault, Span};
 use yaml_scan::Line;

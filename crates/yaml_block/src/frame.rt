@@ -1,5 +1,6 @@
 // The open collections around a place, and what is read next.
-use yaml_block_lines::{NextLine, Sign};
+use crate::line_sign::Sign;
+use crate::next_line::NextLine;
 
 /// What an open collection waits for.
 #[derive(Clone, Copy, PartialEq, Eq)]

@@ -10,8 +10,11 @@ ghost use Rattle.yaml_events.specs.EventPlaces.{Refuses};
 ghost use Rattle.yaml_block.specs.States.{fits_as_key, IsOpened, Grown, Onward, Leads, FailsBy, BeforeLeaf};
 
 use crate::frame::{Leaf, Next, Waits};
+use crate::line_sign::Sign;
+use crate::next_line::NextLine;
 use crate::reader::Reader;
-use yaml_block_lines::{NextLine, Sign, begins_block_scalar, line_goes_on, no_node, refusal};
+use crate::refusals::{line_goes_on, no_node, refusal};
+use crate::scalar::begins_block_scalar;
 use yaml_events::{Event, FlowContext, ScanFault, Why};
 use yaml_flow::{KEY_LIMIT, flow_node};
 use yaml_scan::{at_most_chars, has_break, line_after, sign_at, white_end};

@@ -6,11 +6,13 @@ ghost use Rattle.yaml_recognizers.specs.Prefixes.{sign};
 ghost use Rattle.yaml_events.specs.EventPlaces.{Refuses};
 ghost use Rattle.yaml_chars.specs.Signs.{dash};
 ghost use Rattle.yaml_block.specs.States.{IsOpened, Grown, Onward, Leads, FailsBy, BeforeNodeLine};
-ghost use Rattle.yaml_block_lines.specs.Lines.{IsLine};
+ghost use Rattle.yaml_block.specs.Lines.{IsLine};
 
 use crate::frame::{Leaf, Next, Waits};
+use crate::indentation::Indentation;
+use crate::line_sign::Sign;
 use crate::reader::Reader;
-use yaml_block_lines::{Indentation, Sign, too_shallow};
+use crate::refusals::too_shallow;
 use yaml_events::{Event, ScanFault};
 use yaml_scan::{Line, white_end};
 

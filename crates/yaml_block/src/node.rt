@@ -5,13 +5,14 @@ ghost use Rattle.yaml_events.specs.EventPlaces.{Refuses, line_starts};
 ghost use Rattle.yaml_block_scalars.specs.Meant.{least_indent};
 ghost use Rattle.yaml_block.specs.Found.{NoBlockNodeFound, NoBlockNodeAt, BlockNodeRead, BlockNodeIs};
 ghost use Rattle.yaml_block.specs.States.{Grown, Onward, Leads, FailsBy, BeforeNode};
-ghost use Rattle.yaml_block_lines.specs.Lines.{is_shallow};
+ghost use Rattle.yaml_block.specs.Lines.{is_shallow};
 
 use crate::frame::{Leaf, Next};
+use crate::indentation::Indentation;
 use crate::reader::Reader;
+use crate::refusals::{no_white, refusal};
 use std::alloc::Global;
 use std::mem;
-use yaml_block_lines::{Indentation, no_white, refusal};
 use yaml_block_scalars::least_indent;
 use yaml_events::{BlockContext, Events, ScanFault, Why};
 use yaml_scan::{line_starts, rest_of_line_end, solid_line, white_end};

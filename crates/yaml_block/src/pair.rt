@@ -3,8 +3,9 @@ ghost use Rattle.std.specs.Prelude.{◌*◌, ◌-◌, IfOk, IfErr, length};
 ghost use Rattle.yaml_block.specs.States.{Grown, IsPairPlace, Onward, Leads, FailsBy, BeforePair};
 
 use crate::frame::{Next, Waits};
+use crate::line_sign::Sign;
 use crate::reader::Reader;
-use yaml_block_lines::{Sign, no_node, refusal};
+use crate::refusals::{no_node, refusal};
 use yaml_events::{FlowContext, ScanFault, Why};
 use yaml_flow::{KEY_LIMIT, flow_node};
 use yaml_scan::{at_most_chars, sign_at, white_end};

@@ -6,8 +6,11 @@ ghost use Rattle.yaml_scan.specs.Lines.{IsLineStart, IsSolidLine};
 ghost use Rattle.yaml_block.specs.States.{Grown, IsAfterSign, Onward, Leads, FailsBy, BeforePart};
 
 use crate::frame::{Leaf, Next};
+use crate::indentation::Indentation;
+use crate::line_sign::{Sign, is_omitted};
+use crate::next_line::NextLine;
 use crate::reader::Reader;
-use yaml_block_lines::{Indentation, NextLine, Sign, is_omitted, no_white, refusal};
+use crate::refusals::{no_white, refusal};
 use yaml_events::{ScanFault, Why};
 use yaml_flow::omitted;
 use yaml_scan::{Line, line_after, sign_at, spaces_end, white_end};

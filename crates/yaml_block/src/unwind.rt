@@ -2,12 +2,13 @@
 ghost use Rattle.std.specs.Prelude.{◌<◌, IfOk, IfErr};
 ghost use Rattle.yaml_events.specs.EventPlaces.{Refuses};
 ghost use Rattle.yaml_block.specs.States.{Grown};
-ghost use Rattle.yaml_block_lines.specs.Lines.{IsNextLine};
+ghost use Rattle.yaml_block.specs.Lines.{IsNextLine};
 ghost use Rattle.yaml_block.specs.Turns.{MayGoOn, Unwinds, IsTurn, PairRead, PartRead};
 
 use crate::frame::{Collection, Next, Waits};
+use crate::line_sign::Sign;
+use crate::next_line::{NextLine, goes_on_with, goes_on_with_pair};
 use crate::reader::Reader;
-use yaml_block_lines::{NextLine, Sign, goes_on_with, goes_on_with_pair};
 use yaml_events::{Event, ScanFault};
 use yaml_flow::omitted;
 

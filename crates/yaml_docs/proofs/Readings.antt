@@ -18,8 +18,8 @@ use Rattle.yaml_recognizers.proofs.Meanings.Ranges.{stream_ranges}
 use Rattle.yaml_recognizers.proofs.Scalars.ScalarsInNodes.{reads_scalars}
 use Rattle.yaml_docs.specs.Pieces.{flat_meaning, stream_meaning}
 use Rattle.yaml_docs.specs.Reading.{IsShortText, IsSyntax, RefusesBytes}
-use Rattle.yaml_faults.specs.declared.fault.ReadFault.{ReadFault}
-use Rattle.yaml_faults.specs.declared.fault.ReadFault.TheVariants.{TooLong, NotUtf8, Syntax, Documents, KeyNotText, KeyTwice, TooDeep, LargeInStyle, OutOfMemory}
+use Rattle.yaml_events.specs.declared.read_fault.ReadFault.{ReadFault}
+use Rattle.yaml_events.specs.declared.read_fault.ReadFault.TheVariants.{TooLong, NotUtf8, Syntax, Documents, KeyNotText, KeyTwice, TooDeep, LargeInStyle, OutOfMemory}
 use Rattle.yaml_docs.proofs.TextPlaces.{byte_len-chars}
 
 -- the characters of UTF-8 are a text

@@ -15,4 +15,4 @@ pub use closing::next_close;
 pub use cutter::{CutFault, Cutter, Fed};
 pub use laws::nodes_are_at_their_places;
 pub use read::events;
-pub use yaml_faults::{Brief, ReadFault};
+pub use yaml_events::{Brief, ReadFault};

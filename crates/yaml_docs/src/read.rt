@@ -8,8 +8,7 @@ ghost use Rattle.yaml_docs.specs.Reading.{ReadsAs, RefusesBytes, IsSyntax};
 use crate::documents::stream;
 use std::alloc::Global;
 use yaml_chars::{CharFault, checked, next_break};
-use yaml_events::{Events, ScanFault, Why};
-use yaml_faults::ReadFault;
+use yaml_events::{Events, ReadFault, ScanFault, Why};
 
 /// Returns the events of all documents of a text, in order.
 ///

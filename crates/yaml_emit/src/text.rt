@@ -5,7 +5,8 @@ ghost use Rattle.yaml_grammar.specs.Style.{style_text};
 ghost use Rattle.yaml_data.specs.Seen.{tree_of};
 
 use std::alloc::{AllocError, Global};
-use yaml_tree::{Config, write_style};
+use yaml_config::Config;
+use yaml_writer::write_style;
 
 /// The text of a configuration in the one style, through the end of its last line. It takes time linear in the text's
 /// length, and memory once, for the text. It fails only if memory runs out.

@@ -1,5 +1,6 @@
 // Events in words, as tests and messages show them.
-use crate::{Event, EventRef, Events, Style};
+use crate::event::{Event, EventRef, Style};
+use crate::list::Events;
 use std::fmt;
 
 /// A letter: `P` plain, `S` in single quotes, `D` in double quotes, `L` literal, `F` folded, `O` omitted.

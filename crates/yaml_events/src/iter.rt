@@ -4,9 +4,9 @@ ghost use Rattle.std.specs.Iterator.{YieldsFirst, YieldsFirstBy, item_count};
 ghost use Rattle.yaml_events.specs.Meant.{event_ref_of, events_of};
 ghost use Rattle.yaml_events.specs.Parts.{events_in, Fits};
 
+use crate::event::{Event, EventRef};
 use crate::parts::{BorrowedScalar, Kind, OwnedScalar};
 use crate::rest::Rest;
-use crate::{Event, EventRef};
 use std::borrow::CowStr;
 use std::marker::Model;
 use std::{slice, vec};

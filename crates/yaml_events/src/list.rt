@@ -3,8 +3,9 @@ ghost use Rattle.std.specs.Prelude.{◌≡◌, ◌≤◌, ◌<◌, ◌^◌, List
 ghost use Rattle.yaml_events.specs.declared.event.Event;
 ghost use Rattle.yaml_events.specs.Meant.{events_of};
 
+use crate::event::Event;
+use crate::iter::{EventIntoIter, EventIter};
 use crate::parts::{BorrowedScalar, Edge, Kind, OwnedScalar, keep_value, value_counts};
-use crate::{Event, EventIntoIter, EventIter};
 use std::alloc::{AllocError, AllocFailed, Global};
 use std::marker::Model;
 

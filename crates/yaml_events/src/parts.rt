@@ -4,7 +4,7 @@ ghost use Rattle.std.specs.List.{sum_by};
 ghost use Rattle.yaml_events.specs.Meant.{event_of, event_ref_of};
 ghost use Rattle.yaml_events.specs.Parts.{edge_event, kind_of, borrowed_of, owned_of, borrows, owns};
 
-use crate::{Event, EventRef, Span, Style};
+use crate::event::{Event, EventRef, Span, Style};
 use std::alloc::AllocFailed;
 use std::borrow::CowStr;
 

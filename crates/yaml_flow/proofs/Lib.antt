@@ -10,3 +10,4 @@ pub mod NodeSteps
 pub mod ColonSteps
 pub mod ScalarSteps
 pub mod Stacks
+pub mod ScalarKinds

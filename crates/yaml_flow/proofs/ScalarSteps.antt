@@ -16,8 +16,8 @@ use Rattle.yaml_recognizers.specs.Recognizers.{flow_node_at}
 use Rattle.yaml_recognizers.proofs.Flow.FlowFrames.{is_scalar}
 use Rattle.yaml_flow.specs.declared.collection.NodeEnd.{NodeEnd}
 use Rattle.yaml_flow.specs.declared.collection.Open.{Open}
-use Rattle.yaml_flow_leaves.specs.declared.scalar.FlowScalar.{FlowScalar}
-use Rattle.yaml_flow_leaves.specs.Scalars.{FlowScalarRead, scalar_event_at}
+use Rattle.yaml_flow.specs.declared.scalar.FlowScalar.{FlowScalar}
+use Rattle.yaml_flow.specs.Scalars.{FlowScalarRead, scalar_event_at}
 use Rattle.yaml_flow.specs.FlowNodes.{Appended}
 use Rattle.yaml_flow.specs.Frames.{AtNode, Collection, EventList, NodeRead, ends_plain, is_plain_style}
 use Rattle.yaml_flow.proofs.Appends.{appended_one}

@@ -1,2 +1,3 @@
 pub mod FlowNodes
 pub mod Frames
+pub mod Scalars

@@ -15,9 +15,9 @@ ghost use Rattle.yaml_scan.specs.Gaps.{NoGap};
 
 use crate::pair::plug;
 use crate::push::push;
+use crate::scalar::scalar_at;
 use std::alloc::Global;
 use yaml_events::{Event, Events, FlowContext, ScanFault, Style, Why};
-use yaml_flow_leaves::scalar_at;
 use yaml_scan::{gap_end, safe_at, stands_at};
 
 /// Which part of an entry is being read.

@@ -1,15 +1,19 @@
-//! The scanner of flow nodes: scalars and the collections between brackets (YAML 1.2.2, 7.4 and 7.5).
+//! The scanner of flow nodes: scalars and the collections between brackets (YAML 1.2.2, chapter 7).
 //!
 //! [`flow_node`] reads the flow node at a place of a text, which counts bytes from 0, and appends its events. It does
 //! not recurse: the open brackets are on a stack of its own. So deeper nesting takes more memory, but no deeper call
-//! stack.
+//! stack. [`scalar_at`] reads the flow scalar at a place, and [`omitted`] is the event of a node that is omitted (7.2
+//! and 7.3).
 #![tactic(auto)]
 
 mod collection;
 mod node;
+mod omission;
 mod pair;
 mod push;
+mod scalar;
 
 pub use node::flow_node;
+pub use omission::omitted;
 pub use pair::{KEY_LIMIT, key_limit};
-pub use yaml_flow_leaves::{FlowScalar, omitted, scalar_at};
+pub use scalar::{FlowScalar, scalar_at};

@@ -10,9 +10,9 @@ ghost use Rattle.yaml_flow.specs.Frames.{Kept};
 
 use crate::collection::{bracket_at, collection};
 use crate::push::push;
+use crate::scalar::scalar_at;
 use std::alloc::Global;
 use yaml_events::{Events, FlowContext, ScanFault};
-use yaml_flow_leaves::scalar_at;
 use yaml_recognizers::flow_nodes::flow_node_stands;
 
 /// Reads the flow node at `at` in the context `c` (YAML 1.2.2, 7.4 and 7.5), appends its events, and returns the place

@@ -15,9 +15,9 @@ ghost use Rattle.yaml_flow.specs.Frames.{Collection, Stands, NodeRead, AtColon, 
 ghost use Rattle.yaml_flow.specs.declared.collection.Next.TheVariants.{AfterEntry};
 
 use crate::collection::{BracketKind, Next, NodeEnd, Open, Part, Setting, fault, pass_gap};
+use crate::omission::omitted;
 use crate::push::{insert_map_start, push};
 use yaml_events::{Event, Events, FlowContext, ScanFault, Why};
-use yaml_flow_leaves::omitted;
 use yaml_scan::{at_most_chars, safe_at, stands_at};
 
 /// The most characters between the start of a key on one line and its `:`, in code points (YAML 1.2.2, 7.4.2 and

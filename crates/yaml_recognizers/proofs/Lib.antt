@@ -7,3 +7,4 @@ pub mod BlockScalars
 pub mod Block
 pub mod Documents
 pub mod Meanings
+pub mod OneStyle

@@ -34,3 +34,5 @@ pub mod NodePlaces
 pub mod Ranges
 pub mod NestedStreams
 pub mod CanonicalForms
+pub mod StyleLaws
+pub mod Closings

@@ -15,12 +15,17 @@
 //!
 //! What follows from them is in `texts`: all presentations of a text, in whatever form, mean the same. The recognizer
 //! of streams decides whether a text has one, and finds what it means.
+//!
+//! `one_style` and `closings` have laws for stores: each tree has a text in the one style, which gives that tree, and
+//! closing lines mark exactly the documents that are whole, also in bytes that a crash has cut.
 #![tactic(auto)]
 
 pub mod block_nodes;
 pub mod block_scalars;
+pub mod closings;
 pub mod comments;
 pub mod flow_nodes;
 pub mod flow_scalars;
+pub mod one_style;
 pub mod streams;
 pub mod texts;

@@ -3,7 +3,7 @@ use Rattle.std.specs.Prelude.{◌≡◌, ℕ, List}
 use Rattle.std.specs.Str.{chars}
 use Rattle.yaml_grammar.specs.Style.{style_text}
 use Rattle.yaml_grammar.specs.Trees.{Tree}
-use Rattle.yaml_tree.specs.Limits.{config_limits}
+use Rattle.yaml_config.specs.Limits.{config_limits}
 use Rattle.yaml_tree.specs.Reading.{IsRead}
 use Rattle.yaml_style.specs.declared.finding.Finding.{Finding}
 use Rattle.yaml_style.specs.Findings.{findings}

@@ -5,7 +5,7 @@ ghost use Rattle.std.specs.Str.{chars};
 ghost use Rattle.yaml_grammar.specs.Style.{style_text};
 ghost use Rattle.yaml_grammar.specs.Texts.{is_empty};
 ghost use Rattle.yaml_style.specs.Checking.{IsChecked};
-ghost use Rattle.yaml_tree.specs.Limits.{config_limits};
+ghost use Rattle.yaml_config.specs.Limits.{config_limits};
 ghost use Rattle.yaml_style.specs.Findings.{style_line, with_style};
 ghost use Rattle.yaml_tree.specs.Reading.{Refuses};
 ghost use Rattle.yaml_data.specs.Seen.{tree_of};

@@ -1,4 +1,3 @@
-pub mod TextTreeLemmas
 pub mod DepthLemmas
 pub mod ReadLemmas
 pub mod GivenLemmas
@@ -8,3 +7,9 @@ pub mod StartLemmas
 pub mod OpenTextLemmas
 pub mod OpenPartLemmas
 pub mod WriterLemmas
+pub mod FrameLemmas
+pub mod PartLemmas
+pub mod InnermostLemmas
+pub mod EventLemmas
+pub mod EmptiedLemmas
+pub mod CheckLemmas

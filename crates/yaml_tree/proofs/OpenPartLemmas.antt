@@ -6,8 +6,8 @@ use Rattle.yaml_events.specs.declared.event.Event.{Event}
 use Rattle.yaml_events.specs.declared.event.Event.TheVariants.{DocStart, SeqStart, MapStart}
 use Rattle.yaml_grammar.specs.Texts.{spaces}
 use Rattle.yaml_grammar.specs.Trees.{Members, shape}
-use Rattle.yaml_build.specs.Emptied.{seq_frame, frame_by_next}
-use Rattle.yaml_build.specs.Frames.{Frame, awaiting, root, whole, in_seq, at_key, at_value, awaits_value}
+use Rattle.yaml_tree.specs.Emptied.{seq_frame, frame_by_next}
+use Rattle.yaml_tree.specs.Frames.{Frame, awaiting, root, whole, in_seq, at_key, at_value, awaits_value}
 use Rattle.yaml_data.specs.Keys.{key_members}
 use Rattle.yaml_tree.specs.OpenText.{indent_in, empty_line, line_start, dash, key_start, seq_end, map_end, added}
 use Rattle.yaml_data.specs.declared.text.Text.{Text}

@@ -4,9 +4,9 @@ use Rattle.std.proofs.lemmas.List.{append-nil}
 use Rattle.yaml_grammar.specs.Style.{key_lines, lines_at, elements_at, elements_after, lines_after_dash, members_at, members_after, value_at}
 use Rattle.yaml_grammar.specs.Texts.{IsText, spaces}
 use Rattle.yaml_grammar.specs.Trees.{Tree, text, sequence, mapping, Elements, no_element, element, Members, no_member, member, Shape, document_from, document_to, seq_from, seq_to, map_from, map_to, scalar_of, IsTextTree, AreTextElements, AreTextMembers}
-use Rattle.yaml_build.specs.Emptied.{emptied_members, emptied_frame, emptied_frames}
+use Rattle.yaml_tree.specs.Emptied.{emptied_members, emptied_frame, emptied_frames}
 use Rattle.yaml_tree.specs.Formatting.{indent_after}
-use Rattle.yaml_build.specs.Frames.{Frame, awaiting, root, whole, in_seq, at_key, at_value, elements_and, members_and, frame_with, frames_with, inside, step, awaits_value}
+use Rattle.yaml_tree.specs.Frames.{Frame, awaiting, root, whole, in_seq, at_key, at_value, elements_and, members_and, frame_with, frames_with, inside, step, awaits_value}
 use Rattle.yaml_tree.specs.OpenText.{indent_in, opening, empty_line, dash, key_start, scalar_in, seq_end, map_end, added, dash_in, part_lines, text_of, AreTextFrames, BringsText}
 
 -- ---- one more at the end

@@ -1,14 +1,14 @@
 -- What bytes give whose events are those of a tree, and what others are refused for.
 use Rattle.std.proofs.Common.{◌≡◌, ℕ, ◌<◌, ◌≤◌, List, sym, subst}
 use Rattle.std.specs.Str.{chars}
-use Rattle.yaml_faults.specs.declared.fault.ReadFault.{ReadFault}
-use Rattle.yaml_faults.specs.declared.fault.ReadFault.TheVariants.{TooLong, NotUtf8, Syntax, Documents, KeyNotText, KeyTwice, TooDeep, LargeInStyle, OutOfMemory}
+use Rattle.yaml_events.specs.declared.read_fault.ReadFault.{ReadFault}
+use Rattle.yaml_events.specs.declared.read_fault.ReadFault.TheVariants.{TooLong, NotUtf8, Syntax, Documents, KeyNotText, KeyTwice, TooDeep, LargeInStyle, OutOfMemory}
 use Rattle.yaml_docs.specs.Reading.{ReadsAs}
 use Rattle.yaml_events.specs.Meant.{events_of}
 use Rattle.yaml_events.specs.declared.event.Event.{Event}
 use Rattle.yaml_grammar.specs.Reads.{Limits, Good}
 use Rattle.yaml_grammar.specs.Trees.{Tree, IsTreeOf, depth}
-use Rattle.yaml_build.specs.Building.{HasNoTree, RefusesDeep}
+use Rattle.yaml_tree.specs.Building.{HasNoTree, RefusesDeep}
 use Rattle.yaml_tree.specs.Reading.{IsRead, Refuses, document_count}
 use Rattle.yaml_writer.proofs.ByteLemmas.{byte_len-chars}
 use Rattle.yaml_tree.proofs.NestedLemmas.{collection_key}

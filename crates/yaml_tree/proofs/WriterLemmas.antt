@@ -9,17 +9,17 @@ use Rattle.yaml_grammar.specs.Style.{style_text}
 use Rattle.yaml_grammar.specs.Texts.{byte_len}
 use Rattle.yaml_grammar.specs.Trees.{Shape, depth}
 use Rattle.yaml_writer.specs.Budget.{left_after}
-use Rattle.yaml_build.specs.Emptied.{Took, emptied_frames}
+use Rattle.yaml_tree.specs.Emptied.{Took, emptied_frames}
 use Rattle.yaml_tree.specs.Formatting.{IsFormatted, Writes, Wrote, HasWritten, IsWritten, indent_after}
-use Rattle.yaml_build.specs.Frames.{Frame, whole, step, finished_tree}
+use Rattle.yaml_tree.specs.Frames.{Frame, whole, step, finished_tree}
 use Rattle.yaml_tree.specs.OpenText.{text_of, added, AreTextFrames, BringsText}
 use Rattle.yaml_writer.specs.Limited.{TakesLimited, room_left, taken}
 use Rattle.yaml_writer.specs.LimitedLaws.{TakesLimited-both}
 use Rattle.yaml_tree.specs.declared.format.DocumentWriter.{DocumentWriter}
 use Rattle.yaml_tree.specs.declared.format.WrittenDocument.{WrittenDocument}
 use Rattle.yaml_writer.specs.declared.limited.LimitedText.{LimitedText}
-use Rattle.yaml_build.proofs.EmptiedLemmas.{Finished}
-use Rattle.yaml_build.proofs.FrameLemmas.{finished_whole}
+use Rattle.yaml_tree.proofs.EmptiedLemmas.{Finished}
+use Rattle.yaml_tree.proofs.FrameLemmas.{finished_whole}
 use Rattle.yaml_tree.proofs.ReadLemmas.{tree_read}
 use Rattle.yaml_tree.proofs.OpenTextLemmas.{IsTextOf, HasTexts, HasIndent, step_text, step_texts, step_indent, added-emptied, BringsText-emptied}
 

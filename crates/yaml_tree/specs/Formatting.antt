@@ -4,8 +4,8 @@ use Rattle.yaml_grammar.specs.Events.{Event}
 use Rattle.yaml_grammar.specs.Reads.{Limits}
 use Rattle.yaml_grammar.specs.Style.{style_text}
 use Rattle.yaml_grammar.specs.Trees.{Tree, IsTreeOf, IsTextTree, distinct, Shape, document_from, document_to, seq_from, seq_to, map_from, map_to, scalar_of}
-use Rattle.yaml_build.specs.Emptied.{Keeps}
-use Rattle.yaml_build.specs.Frames.{Frame}
+use Rattle.yaml_tree.specs.Emptied.{Keeps}
+use Rattle.yaml_tree.specs.Frames.{Frame}
 use Rattle.yaml_tree.specs.OpenText.{indent_in, text_of, AreTextFrames}
 use Rattle.yaml_writer.specs.Limited.{TakesLimited}
 use Rattle.yaml_tree.specs.Reading.{IsRead}

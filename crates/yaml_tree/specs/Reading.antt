@@ -6,9 +6,9 @@ use Rattle.yaml_grammar.specs.Events.{Event, document_start}
 use Rattle.yaml_grammar.specs.Reads.{Limits, Reads, Gives}
 use Rattle.yaml_grammar.specs.Trees.{Tree, IsTreeOf}
 use Rattle.yaml_docs.specs.Reading.{IsShortText}
-use Rattle.yaml_faults.specs.declared.fault.ReadFault.{ReadFault}
-use Rattle.yaml_faults.specs.declared.fault.ReadFault.TheVariants.{TooLong, NotUtf8, Syntax, Documents, KeyNotText, KeyTwice, TooDeep, LargeInStyle, OutOfMemory}
-use Rattle.yaml_tree.specs.Kept.{IsFirstFault}
+use Rattle.yaml_events.specs.declared.read_fault.ReadFault.{ReadFault}
+use Rattle.yaml_events.specs.declared.read_fault.ReadFault.TheVariants.{TooLong, NotUtf8, Syntax, Documents, KeyNotText, KeyTwice, TooDeep, LargeInStyle, OutOfMemory}
+use Rattle.yaml_config.specs.Kept.{IsFirstFault}
 use Rattle.yaml_tree.specs.Nested.{HasCollectionKey}
 
 -- the bytes are a text that gives the tree within the limits

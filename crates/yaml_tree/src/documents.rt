@@ -4,8 +4,8 @@ ghost use Rattle.yaml_events.specs.Meant.{events_of};
 ghost use Rattle.yaml_grammar.specs.Trees.{Tree, IsTreeOf, depth};
 ghost use Rattle.yaml_tree.specs.Reading.{document_count};
 
+use crate::sizes::{SizeCounter, Sizes};
 use std::alloc::{AllocError, Global};
-use yaml_build::{SizeCounter, Sizes};
 use yaml_events::{EventRef, Events};
 
 /// What one pass over the events of a text finds, before a tree is built.

@@ -2,23 +2,23 @@
 ghost use Rattle.std.specs.Prelude.{◌≡◌, ◌<◌, ◌↔◌, List, [], Err, IfOk, IfErr, MatchResult, length, string_bytes};
 ghost use Rattle.yaml_events.specs.Meant.{event_of, events_of};
 ghost use Rattle.yaml_grammar.specs.Trees.{shape};
-ghost use Rattle.yaml_build.specs.Building.{HasNone, HasNoTree};
-ghost use Rattle.yaml_build.specs.Emptied.{open_frames};
+ghost use Rattle.yaml_tree.specs.Building.{HasNone, HasNoTree};
+ghost use Rattle.yaml_tree.specs.Emptied.{open_frames};
 ghost use Rattle.yaml_tree.specs.Formatting.{IsFormatted, Writes, Wrote, HasWritten, IsWritten, indent_after};
-ghost use Rattle.yaml_build.specs.Frames.{Frame, step, finished_tree};
-ghost use Rattle.yaml_tree.specs.Kept.{limits_of};
+ghost use Rattle.yaml_tree.specs.Frames.{Frame, step, finished_tree};
+ghost use Rattle.yaml_config.specs.Kept.{limits_of};
 ghost use Rattle.yaml_tree.specs.OpenText.{indent_in};
 ghost use Rattle.yaml_tree.specs.Reading.{Refuses};
 ghost use Rattle.yaml_writer.specs.declared.limited.LimitedText.{LimitedText};
 
 use crate::Limits;
 use crate::documents::Outline;
+use crate::key_check::KeyCheck;
 use crate::open_text::write_event;
+use crate::sizes::Sizes;
 use std::alloc::{AllocError, Global};
-use yaml_build::{KeyCheck, Sizes};
 use yaml_docs::events;
-use yaml_events::{Event, Events};
-use yaml_faults::ReadFault;
+use yaml_events::{Event, Events, ReadFault};
 use yaml_writer::LimitedText;
 
 /// The greatest indentation that is written. A document that needs more has more than 2,147,483,647 collections open at

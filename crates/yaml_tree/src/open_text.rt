@@ -4,14 +4,13 @@ ghost use Rattle.std.specs.Str.{chars};
 ghost use Rattle.yaml_events.specs.Meant.{event_of};
 ghost use Rattle.yaml_grammar.specs.Texts.{IsText};
 ghost use Rattle.yaml_grammar.specs.Trees.{shape};
-ghost use Rattle.yaml_build.specs.Emptied.{open_frame, open_frames, keys_frame};
-ghost use Rattle.yaml_build.specs.Frames.{Frame, awaits_value};
+ghost use Rattle.yaml_tree.specs.Emptied.{open_frame, open_frames, keys_frame};
+ghost use Rattle.yaml_tree.specs.Frames.{Frame, awaits_value};
 ghost use Rattle.yaml_tree.specs.OpenText.{indent_in, line_start, empty_line, dash, scalar_in, seq_end, map_end, added, BringsText};
 
-use yaml_build::{OpenKeys, OpenPart};
+use crate::open_part::{OpenKeys, OpenPart};
 use yaml_events::Event;
-use yaml_scalar_style::Sink;
-use yaml_writer::{write_key, write_scalar, write_text};
+use yaml_writer::{Sink, write_key, write_scalar, write_text};
 
 /// Writes what an event adds to the text of a document whose open parts are these. `indent` is the indentation of a
 /// collection that is opened inside them. An event that has no place there may add anything.

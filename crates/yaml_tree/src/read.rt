@@ -1,18 +1,18 @@
 // Reading a text as one tree.
 ghost use Rattle.std.specs.Prelude.{◌≡◌, ◌≤◌, ◌<◌, ◌↔◌, Err, IfOk, IfErr, length};
 ghost use Rattle.yaml_events.specs.Meant.{events_of};
-ghost use Rattle.yaml_build.specs.Building.{RefusesDeep};
-ghost use Rattle.yaml_tree.specs.Kept.{limits_of, own_limits};
+ghost use Rattle.yaml_tree.specs.Building.{RefusesDeep};
+ghost use Rattle.yaml_config.specs.Kept.{limits_of, own_limits};
 ghost use Rattle.yaml_tree.specs.Reading.{IsRead, Refuses};
 ghost use Rattle.yaml_data.specs.Seen.{tree_of};
 
+use crate::build::document_tree;
 use crate::documents::Outline;
+use crate::key_check::document_keys_differ;
 use crate::{Config, Limits};
 use std::alloc::Global;
-use yaml_build::{document_keys_differ, document_tree};
 use yaml_docs::events;
-use yaml_events::Events;
-use yaml_faults::ReadFault;
+use yaml_events::{Events, ReadFault};
 
 /// Reads a text that is one document, and returns its tree, within limits.
 ///

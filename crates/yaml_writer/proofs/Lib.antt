@@ -5,3 +5,10 @@ pub mod SizeBounds
 pub mod StyleLemmas
 pub mod WalkLemmas
 pub mod BudgetLemmas
+pub mod ByteTable
+pub mod LineLemmas
+pub mod LiteralLemmas
+pub mod QuotedLemmas
+pub mod ScalarLemmas
+pub mod SpacesLemmas
+pub mod SpecialWords

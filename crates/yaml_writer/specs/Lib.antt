@@ -3,3 +3,7 @@ pub mod BudgetLaws
 pub mod Sizes
 pub mod LimitedLaws
 pub mod Limited
+pub mod Encoded
+pub mod Lines
+pub mod Runs
+pub mod ScalarStyles

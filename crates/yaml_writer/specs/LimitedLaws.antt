@@ -4,7 +4,7 @@ use Rattle.std.proofs.Common.{ap, ◌∙◌}
 use Rattle.yaml_grammar.specs.Texts.{byte_len}
 use Rattle.yaml_writer.specs.Budget.{left_after}
 use Rattle.yaml_writer.specs.BudgetLaws.{left_after-none, left_after-more}
-use Rattle.yaml_scalar_style.specs.Encoded.{encoded_none, encoded_both}
+use Rattle.yaml_writer.specs.Encoded.{encoded_none, encoded_both}
 use Rattle.yaml_writer.specs.Limited.{TakesLimited}
 use Rattle.yaml_writer.specs.declared.limited.LimitedText.{LimitedText}
 

@@ -9,10 +9,10 @@ ghost use Rattle.yaml_writer.specs.Budget.{left_after};
 ghost use Rattle.yaml_data.specs.OwnLimits.{own_limits};
 ghost use Rattle.yaml_data.specs.Seen.{tree_of};
 
+use crate::sink::Sink;
 use crate::style::{write_key_text, write_style};
 use std::convert::Infallible;
 use yaml_data::Tree;
-use yaml_scalar_style::Sink;
 
 /// A count of characters, which stops at the greatest `u64`.
 #[derive(Drop)]

@@ -4,8 +4,8 @@ ghost use Rattle.yaml_writer.specs.Budget.{left_after};
 ghost use Rattle.yaml_writer.specs.Limited.{room_left, taken};
 
 use crate::count::ByteBudget;
+use crate::sink::Sink;
 use std::alloc::{AllocError, Global};
-use yaml_scalar_style::Sink;
 
 /// A text that takes bytes up to a limit. After more bytes came than that, it takes no others, and there is no text.
 #[derive(Drop)]

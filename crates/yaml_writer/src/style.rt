@@ -9,10 +9,11 @@ ghost use Rattle.yaml_data.specs.OwnLimits.{own_limits};
 ghost use Rattle.yaml_data.specs.Seen.{tree_of, elements_of, members_of};
 
 use crate::count::is_long_key;
+use crate::literal::write_literal_lines;
+use crate::quoted::write_quoted;
+use crate::scalar_style::{ScalarStyle, key_style, value_style};
+use crate::sink::Sink;
 use yaml_data::{Text, Tree};
-use yaml_scalar_style::{
-    ScalarStyle, Sink, key_style, value_style, write_literal_lines, write_quoted,
-};
 
 /// Writes a tree in the one style: the text, with the end of its last line. It fails only if the sink does. The call
 /// stack grows with the depth, which therefore is at most 66; [`is_deeper_than`](Tree::is_deeper_than) tests that.

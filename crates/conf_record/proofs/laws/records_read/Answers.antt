@@ -1,10 +1,10 @@
 use Rattle.std.proofs.Common.{◌≡◌, ℕ, Some, ap, sym, subst, ◌∙◌}
 use Rattle.yaml_grammar.specs.Reads.{Gives}
 use Rattle.yaml_grammar.specs.Trees.{Tree}
-use Rattle.yaml_laws.specs.Laws.{FramedReads}
-use Rattle.yaml_tree.specs.Kept.{own_limits}
+use Rattle.yaml_recognizers.specs.StyleLaws.{FramedReads}
+use Rattle.yaml_config.specs.Kept.{own_limits}
 use Rattle.conf_state.specs.BaseTexts.{base_tree, base_text, closed_document}
-use Rattle.conf_commands.specs.Commands.{Command}
+use Rattle.conf_state.specs.Commands.{Command}
 use Rattle.conf_record.specs.Records.{record_tree, record_text}
 use Rattle.conf_record.specs.RecordsRead.{record_of, base_of}
 use Rattle.conf_record.proofs.AcceptedLemmas.{accepted}

@@ -5,8 +5,8 @@ use Rattle.std.specs.Str.{chars}
 use Rattle.yaml_grammar.specs.Style.{members_after}
 use Rattle.yaml_grammar.specs.Trees.{Tree, text}
 use Rattle.yaml_data.specs.Seen.{tree_of}
-use Rattle.yaml_tree.proofs.TextTreeLemmas.{chars-IsText}
-use Rattle.conf_commands.specs.Commands.{text_of, command_of}
+use Rattle.yaml_config.proofs.TextTreeLemmas.{chars-IsText}
+use Rattle.conf_state.specs.Commands.{text_of, command_of}
 use Rattle.conf_record.specs.Records.{command_members}
 use Rattle.conf_record.specs.RecordsRead.{IsCommand}
 use Rattle.conf_state.proofs.LineLemmas.{ascii, line, two_lines, three_lines}

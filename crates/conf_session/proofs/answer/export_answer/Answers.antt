@@ -3,11 +3,11 @@ use Rattle.std.specs.Prelude.{codes}
 use Rattle.std.specs.Str.{chars}
 use Rattle.yaml_grammar.specs.Style.{style_text}
 use Rattle.yaml_grammar.specs.Trees.{text}
-use Rattle.yaml_laws.specs.Closed.{framed_text_bytes}
+use Rattle.yaml_recognizers.specs.Closings.{framed_text_bytes}
 use Rattle.yaml_data.specs.Seen.{tree_of}
 use Rattle.yaml_data.specs.declared.tree.Tree.{Text}
 use Rattle.yaml_data.proofs.SeenLemmas.{tree_of-Text}
-use Rattle.conf_commands.specs.declared.fault.StoreFault.TheVariants.{OutOfMemory}
+use Rattle.conf_state.specs.declared.fault.StoreFault.TheVariants.{OutOfMemory}
 use Rattle.conf_state.proofs.LineLemmas.{ascii}
 use Rattle.conf_session.specs.Answers.{one}
 use Rattle.conf_session.specs.Runs.{stored_of}

@@ -2,7 +2,7 @@
 use Rattle.std.proofs.Common.{rules, ◌≡◌, ◌≢◌, ⊎_elim, refl, ap, sym, ◌∙◌}
 use Rattle.std.specs.Prelude.{Ok, Err, codes}
 use Rattle.std.specs.Str.{chars}
-use Rattle.yaml_laws.specs.Closed.{framed_text_bytes}
+use Rattle.yaml_recognizers.specs.Closings.{framed_text_bytes}
 use Rattle.yaml_data.specs.Seen.{tree_of}
 use Rattle.json_pointer.specs.Pointers.{path_of}
 use Rattle.json_pointer.specs.declared.fault.PathFault.TheVariants.{OutOfMemory}

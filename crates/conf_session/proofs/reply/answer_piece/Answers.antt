@@ -1,6 +1,6 @@
 use Rattle.std.proofs.Common.{refl}
 use Rattle.std.proofs.lemmas.Result.{err_from_is_err_and}
-use Rattle.conf_requests.specs.Said.{said_of}
+use Rattle.conf_session.specs.Said.{said_of}
 use Rattle.conf_session.proofs.RequestLemmas.{did-piece}
 use Rattle.conf_session.proofs.reply.answer_piece.Goals as goal
 

@@ -2,10 +2,10 @@
 use Rattle.std.proofs.Common.{◌≡◌, refl, sym, ap, ◌∙◌, subst}
 use Rattle.std.specs.Str.{chars}
 use Rattle.yaml_data.specs.TextBytes.{text_bytes}
-use Rattle.conf_commands.specs.Commands.{command_of}
-use Rattle.conf_requests.specs.Said.{import_text, change, get_at, export_of, checkpoint_now}
+use Rattle.conf_state.specs.Commands.{command_of}
+use Rattle.conf_session.specs.Said.{import_text, change, get_at, export_of, checkpoint_now}
 use Rattle.conf_session.specs.Requests.{MeansRequest, changing, checkpointing, getting, exporting, naming, bad}
-use Rattle.conf_requests.specs.Said.{said_of}
+use Rattle.conf_session.specs.Said.{said_of}
 use Rattle.conf_session.specs.Replies.{DidSaid}
 use Rattle.conf_session.specs.declared.reply.Reply.TheVariants.{NoCommand}
 use Rattle.conf_session.proofs.LengthLemmas.{bad-short}

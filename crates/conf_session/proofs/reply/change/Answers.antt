@@ -3,7 +3,7 @@ use Rattle.std.proofs.Common.{rules, ◌≡◌, refl, ap, sym, ◌∙◌, subst,
 use Rattle.std.proofs.lemmas.Bool.{false≢true}
 use Rattle.std.proofs.lemmas.Result.{err_from_is_err_and}
 use Rattle.std.specs.Prelude.{min, Ok, Err}
-use Rattle.conf_commands.specs.Commands.{command_of}
+use Rattle.conf_state.specs.Commands.{command_of}
 use Rattle.conf_state.specs.States.{count_limit}
 use Rattle.conf_store.specs.Calls.{RefusesCommand, outcome, has_room}
 use Rattle.conf_store.specs.View.{StoreView}

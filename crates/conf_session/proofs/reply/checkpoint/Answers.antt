@@ -4,7 +4,7 @@ use Rattle.std.proofs.lemmas.Bool.{false≢true}
 use Rattle.std.proofs.lemmas.Result.{err_from_is_err_and}
 use Rattle.std.specs.Prelude.{decimal, codes, Err}
 use Rattle.yaml_grammar.specs.Trees.{text}
-use Rattle.yaml_laws.specs.Closed.{framed_text_bytes}
+use Rattle.yaml_recognizers.specs.Closings.{framed_text_bytes}
 use Rattle.conf_session.specs.Answers.{one}
 use Rattle.conf_session.specs.Requests.{checkpointing}
 use Rattle.conf_session.specs.Runs.{stored_of}

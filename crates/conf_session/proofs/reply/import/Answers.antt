@@ -1,13 +1,13 @@
 -- The text is given a tree, or refused.
 use Rattle.std.proofs.Common.{rules, ◌≢◌, refl, ap, ◌∙◌, subst}
-use Rattle.yaml_faults.specs.declared.fault.ReadFault.TheVariants as read
+use Rattle.yaml_events.specs.declared.read_fault.ReadFault.TheVariants as read
 use Rattle.yaml_tree.specs.Reading.{Refuses}
 use Rattle.yaml_data.specs.TextBytes.{text_bytes}
-use Rattle.yaml_tree.specs.Limits.{config_limits}
+use Rattle.yaml_config.specs.Limits.{config_limits}
 use Rattle.std.specs.Str.{chars}
-use Rattle.yaml_laws.specs.Closed.{framed_text_bytes}
+use Rattle.yaml_recognizers.specs.Closings.{framed_text_bytes}
 use Rattle.conf_session.specs.Answers.{refusal, word, unread_fault}
-use Rattle.conf_requests.specs.Said.{import_text}
+use Rattle.conf_session.specs.Said.{import_text}
 use Rattle.conf_session.specs.Requests.{unread}
 use Rattle.conf_session.proofs.LengthLemmas.{refusal-short}
 use Rattle.conf_session.proofs.RequestLemmas.{said-read, text-refused}

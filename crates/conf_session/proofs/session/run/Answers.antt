@@ -2,7 +2,7 @@
 use Rattle.std.proofs.Common.{◌≡◌, false, refl, sym, ◌∙◌, ap, subst, arith, length}
 use Rattle.std.specs.Prelude.{Ok}
 use Rattle.std.proofs.lemmas.Result.{err_from_is_err_and}
-use Rattle.conf_streams.specs.Input.{Advances, AdvancesToPiece, AdvancesToEnd, ahead, bytes_read, piece_or_rest as piece_of}
+use Rattle.conf_session.specs.Input.{Advances, AdvancesToPiece, AdvancesToEnd, ahead, bytes_read, piece_or_rest as piece_of}
 use Rattle.conf_session.specs.Progress.{Answered, Fails}
 use Rattle.conf_session.specs.Runs.{stored_of}
 use Rattle.conf_session.proofs.PassedLemmas.{few-accepted, few-refused}

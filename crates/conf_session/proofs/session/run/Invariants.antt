@@ -1,7 +1,7 @@
 -- What was read so far is pieces that were performed and answered, and bytes that are not looked at yet.
 use Rattle.std.proofs.Common.{◌≡◌, ◌≤◌, ◌+◌, ◌-◌, ◌*◌, false, length}
 use Rattle.conf_store.specs.Durable.{AllImagesMean}
-use Rattle.conf_streams.specs.Input.{IsSound, ahead, bytes_read, session_limit}
+use Rattle.conf_session.specs.Input.{IsSound, ahead, bytes_read, session_limit}
 use Rattle.conf_session.specs.Answers.{answer_limit}
 use Rattle.conf_session.proofs.SessionLemmas.{SoFar}
 use Rattle.conf_session.proofs.session.run.Given as goal

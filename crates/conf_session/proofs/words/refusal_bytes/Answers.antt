@@ -1,5 +1,5 @@
 use Rattle.std.proofs.Common.{sym, ap, ◌∙◌}
-use Rattle.yaml_laws.specs.Closed.{framed_text_bytes}
+use Rattle.yaml_recognizers.specs.Closings.{framed_text_bytes}
 use Rattle.conf_session.specs.Answers.{refusal, word}
 use Rattle.conf_session.proofs.WordLemmas.{spelled-JournalLong}
 use Rattle.conf_session.proofs.words.refusal_bytes.Goals as goal

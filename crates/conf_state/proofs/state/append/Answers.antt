@@ -3,12 +3,12 @@ use Rattle.std.specs.Map.{values_of}
 use Rattle.std.specs.Str.{chars}
 use Rattle.std.proofs.lemmas.Str.{IsUtf8-string_bytes}
 use Rattle.yaml_data.specs.Seen.{tree_of}
-use Rattle.conf_configs.specs.Numbers.{IsIndexed, heads}
+use Rattle.conf_state.specs.Numbers.{IsIndexed, heads}
 use Rattle.conf_state.specs.BaseTexts.{entry_length}
-use Rattle.conf_commands.specs.Commands.{text_of}
+use Rattle.conf_state.specs.Commands.{text_of}
 use Rattle.conf_state.specs.Kept.{ArePlain, entries_of, IsFit, IsUnfit}
 use Rattle.conf_state.proofs.EntryLemmas.{put_under-named, plain_put_under}
-use Rattle.conf_commands.proofs.NameLemmas.{good_name-ascii}
+use Rattle.conf_state.proofs.NameLemmas.{good_name-ascii}
 use Rattle.conf_state.proofs.PartLemmas.{one_more}
 use Rattle.conf_state.proofs.state.append.Goals as goal
 

@@ -2,9 +2,9 @@ use Rattle.std.proofs.Common.{inr, ◌<◌, ◌⊎◌, length, is_some, Err, IfE
 use Rattle.std.proofs.lemmas.Result.{on_ok_weaker, IfErr-weaker}
 use Rattle.std.specs.Str.{chars}
 use Rattle.yaml_data.specs.Seen.{tree_of}
-use Rattle.conf_commands.specs.Rooms.{has_room}
+use Rattle.conf_state.specs.Rooms.{has_room}
 use Rattle.conf_state.specs.Steps.{and_then, next_state}
-use Rattle.conf_commands.specs.declared.fault.StoreFault.TheVariants.{OutOfMemory}
+use Rattle.conf_state.specs.declared.fault.StoreFault.TheVariants.{OutOfMemory}
 use Rattle.conf_state.proofs.EditLemmas.{empty-pointer, delete-edits}
 use Rattle.conf_state.proofs.StepLemmas.{some_bytes, no_bytes, mapped_none, mapped_some, delete-nothing, delete-whole}
 use Rattle.conf_state.proofs.steps.delete.Goals as goal

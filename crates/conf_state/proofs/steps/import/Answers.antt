@@ -1,9 +1,9 @@
 use Rattle.std.proofs.Common.{◌⊎◌, inr, IfErr, Err, ◌≡◌, ◌∙◌, sym, subst}
 use Rattle.std.proofs.lemmas.Result.{on_ok_weaker, err_from_is_err_and}
 use Rattle.yaml_data.specs.Seen.{tree_of}
-use Rattle.conf_commands.specs.Commands.{text_of}
-use Rattle.conf_commands.specs.declared.fault.StoreFault.TheVariants.{OutOfMemory}
-use Rattle.conf_commands.specs.Rooms.{has_room}
+use Rattle.conf_state.specs.Commands.{text_of}
+use Rattle.conf_state.specs.declared.fault.StoreFault.TheVariants.{OutOfMemory}
+use Rattle.conf_state.specs.Rooms.{has_room}
 use Rattle.conf_state.proofs.StepLemmas.{import-checked, import-refused}
 use Rattle.conf_state.proofs.steps.import.Goals as goal
 

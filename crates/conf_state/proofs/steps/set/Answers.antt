@@ -2,11 +2,11 @@ use Rattle.std.proofs.Common.{◌⊎◌, inr, Ok, OnOk, Err, IfErr, ◌≡◌, N
 use Rattle.std.proofs.lemmas.Result.{on_ok_weaker}
 use Rattle.std.specs.Str.{chars}
 use Rattle.yaml_data.specs.Seen.{tree_of}
-use Rattle.conf_commands.specs.Commands.{text_of, set_at}
+use Rattle.conf_state.specs.Commands.{text_of, set_at}
 use Rattle.conf_state.specs.States.{config_named}
-use Rattle.conf_commands.specs.Rooms.{has_room}
+use Rattle.conf_state.specs.Rooms.{has_room}
 use Rattle.conf_state.specs.Steps.{state_after_command}
-use Rattle.conf_commands.specs.declared.fault.StoreFault.TheVariants.{OutOfMemory}
+use Rattle.conf_state.specs.declared.fault.StoreFault.TheVariants.{OutOfMemory}
 use Rattle.conf_state.proofs.EditLemmas.{empty-pointer}
 use Rattle.conf_state.proofs.StepLemmas.{no_bytes, mapped_none, mapped_some, set-nothing, set-whole}
 use Rattle.conf_state.proofs.steps.set.Goals as goal

@@ -1,7 +1,7 @@
 use Rattle.std.proofs.Common.{rules, ◌≡◌, inl, inr, ⊎_elim, ◌+◌, min, length, ◌∙◌, ap}
 use Rattle.std.specs.Prelude.{nat_le, string_bytes}
 use Rattle.conf_journal.specs.Store.{store_limit}
-use Rattle.conf_commands.specs.Commands.{command_of}
+use Rattle.conf_state.specs.Commands.{command_of}
 use Rattle.conf_state.specs.States.{count_limit}
 use Rattle.conf_record.specs.Records.{record_bytes}
 use Rattle.conf_store.specs.Calls.{next_record}

@@ -4,7 +4,7 @@ use Rattle.std.specs.Prelude.{not, [], ◌∷◌, ◌++◌}
 use Rattle.yaml_events.specs.Meant.{context_of}
 use Rattle.yaml_scan.specs.ScanPlaces.{unbroken_between}
 use Rattle.yaml_scan.proofs.Outcomes.{fault_passed, faults_so, ok_so}
-use Rattle.yaml_flow_leaves.specs.Scalars.{NoFlowScalar}
+use Rattle.yaml_flow.specs.Scalars.{NoFlowScalar}
 use Rattle.yaml_flow.specs.Frames.{LineMoves, Onward, place_of, steps_left}
 use Rattle.yaml_flow.proofs.NodeSteps.{node_missing}
 use Rattle.yaml_flow.proofs.GapPlaces.{broken_by, unbroken_by}

@@ -4,7 +4,7 @@ use Rattle.std.specs.Prelude.{[], ◌∷◌, ◌++◌}
 use Rattle.yaml_events.specs.Meant.{context_of}
 use Rattle.yaml_grammar.specs.FlowNodes.{scalar}
 use Rattle.yaml_scan.proofs.Outcomes.{fault_passed}
-use Rattle.yaml_flow_leaves.specs.Scalars.{NoFlowScalar}
+use Rattle.yaml_flow.specs.Scalars.{NoFlowScalar}
 use Rattle.yaml_flow.proofs.ScalarSteps.{scalar_appended, scalar_found, scalar_missing}
 use Rattle.yaml_flow.proofs.node.read_node.Goals as goal
 

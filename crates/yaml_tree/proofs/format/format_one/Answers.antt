@@ -3,7 +3,7 @@ use Rattle.std.proofs.lemmas.Bool.{not-false}
 use Rattle.std.proofs.lemmas.Result.{err_from_is_err_and}
 use Rattle.yaml_events.specs.Meant.{events_of}
 use Rattle.yaml_grammar.specs.Trees.{depth}
-use Rattle.yaml_tree.specs.Kept.{limits_of}
+use Rattle.yaml_config.specs.Kept.{limits_of}
 use Rattle.yaml_tree.specs.Formatting.{IsFormatted}
 use Rattle.yaml_tree.specs.Reading.{document_count}
 use Rattle.yaml_tree.proofs.ReadLemmas.{shallow_refused}

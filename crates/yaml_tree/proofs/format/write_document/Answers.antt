@@ -4,8 +4,8 @@ use Rattle.yaml_events.specs.Meant.{events_of}
 use Rattle.yaml_events.specs.declared.event.Event.{Event}
 use Rattle.yaml_grammar.specs.Trees.{shapes}
 use Rattle.yaml_tree.specs.OpenText.{indent_in}
-use Rattle.yaml_build.proofs.EventLemmas.{run_on, run_ended, run_tree, stopped_refuses, unfinished_refuses}
-use Rattle.yaml_build.proofs.FrameLemmas.{run}
+use Rattle.yaml_tree.proofs.EventLemmas.{run_on, run_ended, run_tree, stopped_refuses, unfinished_refuses}
+use Rattle.yaml_tree.proofs.FrameLemmas.{run}
 use Rattle.yaml_tree.proofs.OpenTextLemmas.{indent_in-emptied}
 use Rattle.yaml_tree.proofs.format.write_document.Goals as goal
 

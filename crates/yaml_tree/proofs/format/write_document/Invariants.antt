@@ -1,7 +1,7 @@
 use Rattle.std.proofs.Common.{List}
 use Rattle.yaml_tree.specs.Formatting.{Writes}
-use Rattle.yaml_build.specs.Frames.{Frame}
-use Rattle.yaml_build.proofs.EventLemmas.{RunsOn}
+use Rattle.yaml_tree.specs.Frames.{Frame}
+use Rattle.yaml_tree.proofs.EventLemmas.{RunsOn}
 use Rattle.yaml_tree.proofs.format.write_document.Given as goal
 
 -- the parts that the writer has come to, over the events that are left, become what all events become

@@ -1,7 +1,7 @@
 use Rattle.std.proofs.Common.{sym, ap, ◌∙◌}
-use Rattle.yaml_build.specs.Emptied.{open_frames}
-use Rattle.yaml_build.specs.Frames.{awaits_value}
-use Rattle.yaml_build.proofs.PartLemmas.{open_frames-push}
+use Rattle.yaml_tree.specs.Emptied.{open_frames}
+use Rattle.yaml_tree.specs.Frames.{awaits_value}
+use Rattle.yaml_tree.proofs.PartLemmas.{open_frames-push}
 use Rattle.yaml_tree.proofs.open_text.awaits_value.Goals as goal
 
 pub returns-in-Some : goal.returns-in-Some

@@ -3,7 +3,7 @@ use Rattle.std.proofs.lemmas.Result.{on_ok_weaker}
 use Rattle.std.specs.Str.{chars}
 use Rattle.std.specs.Vec.{vec_len}
 use Rattle.yaml_grammar.specs.Style.{key_lines}
-use Rattle.yaml_build.specs.Emptied.{frame_by_next, open_frames}
+use Rattle.yaml_tree.specs.Emptied.{frame_by_next, open_frames}
 use Rattle.yaml_tree.specs.OpenText.{line_start, key_start, scalar_in}
 use Rattle.yaml_data.specs.Keys.{key_members}
 use Rattle.yaml_tree.proofs.OpenPartLemmas.{key_start_of}

@@ -1,7 +1,7 @@
 use Rattle.std.proofs.Common.{◌≡◌, codes, length, subst, refl, sym, ap, ◌∙◌, arith}
 use Rattle.std.proofs.lemmas.Bool.{eqb-true, eqb-false}
 use Rattle.std.proofs.lemmas.Result.{on_ok_weaker}
-use Rattle.yaml_build.specs.Emptied.{open_frame, open_frames}
+use Rattle.yaml_tree.specs.Emptied.{open_frame, open_frames}
 use Rattle.yaml_tree.specs.OpenText.{empty_line, map_end}
 use Rattle.yaml_data.specs.Keys.{key_members}
 use Rattle.yaml_data.proofs.CharacterLemmas.{chars-literal}

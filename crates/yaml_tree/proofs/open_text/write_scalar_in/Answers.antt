@@ -1,4 +1,4 @@
-use Rattle.yaml_tree.proofs.TextTreeLemmas.{chars-IsText}
+use Rattle.yaml_config.proofs.TextTreeLemmas.{chars-IsText}
 use Rattle.yaml_tree.proofs.open_text.write_scalar_in.Goals as goal
 
 pub returns-in_err-write_dash-in-Seq-clause-text : goal.returns-in_err-write_dash-in-Seq-clause-text

@@ -2,7 +2,7 @@ use Rattle.std.proofs.Common.{◌≡◌, ◌<◌, sym, subst, ◌∙◌, arith}
 use Rattle.std.proofs.lemmas.Result.{err_from_is_err_and}
 use Rattle.yaml_events.specs.Meant.{events_of}
 use Rattle.yaml_grammar.specs.Trees.{Tree, IsTreeOf, depth}
-use Rattle.yaml_tree.specs.Kept.{limits_of}
+use Rattle.yaml_config.specs.Kept.{limits_of}
 use Rattle.yaml_tree.specs.Reading.{IsRead, document_count}
 use Rattle.yaml_data.specs.Seen.{tree_of}
 use Rattle.yaml_data.specs.declared.tree.Tree as trees

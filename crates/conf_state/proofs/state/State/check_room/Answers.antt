@@ -1,6 +1,6 @@
 use Rattle.std.proofs.Common.{◌≡◌, ◌+◌, min, ap, ap₂, sym, ◌∙◌, arith}
 use Rattle.conf_state.specs.BaseTexts.{framed_length}
-use Rattle.conf_commands.specs.Rooms.{has_room}
+use Rattle.conf_state.specs.Rooms.{has_room}
 use Rattle.conf_state.proofs.CountLemmas.{next_state-full, next_state-long, next_state-last, next_state-new}
 use Rattle.conf_state.proofs.state.State.check_room.Goals as goal
 

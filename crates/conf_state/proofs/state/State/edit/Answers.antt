@@ -7,19 +7,19 @@ use Rattle.std.specs.Option.{option_copied_mut}
 use Rattle.std.specs.Str.{chars}
 use Rattle.yaml_data.specs.Seen.{tree_of}
 use Rattle.tree_path.specs.Paths.{last_key}
-use Rattle.conf_configs.specs.Numbers.{heads, number_of, IsIndexed}
-use Rattle.conf_configs.proofs.NumberLemmas.{is_some-copied, number-there, number-name, lookup-none, indexed-set, indexed-more}
+use Rattle.conf_state.specs.Numbers.{heads, number_of, IsIndexed}
+use Rattle.conf_state.proofs.NumberLemmas.{is_some-copied, number-there, number-name, lookup-none, indexed-set, indexed-more}
 use Rattle.conf_state.specs.BaseTexts.{entries_length}
-use Rattle.edit_lengths.specs.Edits.{tree_after_edit}
+use Rattle.yaml_config.specs.Edits.{tree_after_edit}
 use Rattle.conf_state.specs.Edits.{configs_with_edit}
 use Rattle.conf_state.specs.Kept.{entries_of, next_number}
 use Rattle.conf_state.specs.States.{Entry, config_named, put_config}
-use Rattle.conf_commands.specs.Rooms.{has_room}
+use Rattle.conf_state.specs.Rooms.{has_room}
 use Rattle.conf_state.specs.Steps.{and_then, next_state}
 use Rattle.conf_state.proofs.EditLemmas.{numbered-named, present-numbered, edit-placed, same_value, same_edit, parsed-Ok, parsed-Err, pointer-steps, edited-unread, edited-refused, tree_after_edit-nothing, edited-at, tree_after_edit-new}
-use Rattle.conf_commands.specs.Names.{good_name}
+use Rattle.conf_state.specs.Names.{good_name}
 use Rattle.conf_state.proofs.EntryLemmas.{lookup-named, put_under-named}
-use Rattle.conf_commands.proofs.NameLemmas.{good_name-ascii}
+use Rattle.conf_state.proofs.NameLemmas.{good_name-ascii}
 use Rattle.conf_state.proofs.StateLemmas.{kept_put, kept_same, entries_same}
 use Rattle.conf_state.proofs.state.State.edit.Goals as goal
 use Rattle.conf_state.proofs.state.State.edit.Goals.{In_ok-perform}

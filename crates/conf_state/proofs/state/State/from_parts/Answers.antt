@@ -2,10 +2,10 @@ use Rattle.std.proofs.Common.{rules, ◌≡◌, List, length, min, [], ◌∷◌
 use Rattle.std.specs.Map.{values_of}
 use Rattle.std.specs.Vec.Iter.{into_iter_items}
 use Rattle.yaml_data.specs.Seen.{tree_of}
-use Rattle.conf_configs.specs.Numbers.{heads}
-use Rattle.conf_configs.proofs.NumberLemmas.{indexed-more}
+use Rattle.conf_state.specs.Numbers.{heads}
+use Rattle.conf_state.proofs.NumberLemmas.{indexed-more}
 use Rattle.conf_state.specs.BaseTexts.{framed_length}
-use Rattle.conf_commands.specs.Commands.{text_of}
+use Rattle.conf_state.specs.Commands.{text_of}
 use Rattle.conf_state.specs.Kept.{entries_of, next_number, Appended, IsUnfit}
 use Rattle.conf_state.proofs.PartLemmas.{none_counted, SoFar, so_far_first, so_far_more, unfit_none, parts_kept, parts_long, parts_state}
 use Rattle.conf_state.proofs.state.State.from_parts.Goals as goal

@@ -1,7 +1,7 @@
 use Rattle.std.proofs.Common.{arith, subst, sym}
 use Rattle.std.specs.Map.{values_of}
-use Rattle.conf_configs.specs.Numbers.{heads}
-use Rattle.conf_configs.proofs.NumberLemmas.{indexed-more}
+use Rattle.conf_state.specs.Numbers.{heads}
+use Rattle.conf_state.proofs.NumberLemmas.{indexed-more}
 use Rattle.conf_state.specs.Kept.{IsKept, next_number}
 use Rattle.conf_state.proofs.StateLemmas.{kept_empty}
 use Rattle.conf_state.proofs.state.State.new.Goals as goal

@@ -3,7 +3,7 @@ use Rattle.yaml_grammar.specs.Style.{style_text}
 use Rattle.yaml_grammar.specs.Texts.{byte_len}
 use Rattle.yaml_grammar.specs.Trees.{depth}
 use Rattle.yaml_data.specs.Seen.{tree_of}
-use Rattle.yaml_tree.specs.Limits.{config_limits}
+use Rattle.yaml_config.specs.Limits.{config_limits}
 use Rattle.conf_state.proofs.EditLemmas.{named-good, edit-length, edit-short, tree_after_edit-deep, tree_after_edit-large, at_most}
 use Rattle.conf_state.proofs.state.State.plan_edit.Goals as goal
 

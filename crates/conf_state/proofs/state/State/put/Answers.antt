@@ -2,14 +2,14 @@ use Rattle.std.proofs.Common.{◌≡◌, ◌+◌, string_bytes, min, Ok, IsUtf8,
 use Rattle.std.specs.Map.{values_of}
 use Rattle.std.specs.Str.{chars}
 use Rattle.yaml_data.specs.Seen.{tree_of}
-use Rattle.conf_configs.specs.Numbers.{IsIndexed, heads}
+use Rattle.conf_state.specs.Numbers.{IsIndexed, heads}
 use Rattle.conf_state.specs.States.{put_config}
 use Rattle.conf_state.specs.BaseTexts.{entries_length}
 use Rattle.conf_state.specs.Kept.{entries_of}
-use Rattle.conf_commands.specs.Rooms.{has_room}
+use Rattle.conf_state.specs.Rooms.{has_room}
 use Rattle.conf_state.specs.Steps.{next_state}
 use Rattle.conf_state.proofs.EntryLemmas.{put_under-named}
-use Rattle.conf_commands.proofs.NameLemmas.{good_name-ascii}
+use Rattle.conf_state.proofs.NameLemmas.{good_name-ascii}
 use Rattle.conf_state.proofs.StateLemmas.{kept_put}
 use Rattle.conf_state.proofs.state.State.put.Goals as goal
 

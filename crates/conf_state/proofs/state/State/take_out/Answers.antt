@@ -1,12 +1,12 @@
 use Rattle.std.proofs.Common.{◌≡◌, ◌+◌, Ok, ap, sym, subst, ◌∙◌, arith}
 use Rattle.std.specs.Map.{values_of}
 use Rattle.std.specs.Str.{chars}
-use Rattle.conf_configs.specs.Numbers.{heads}
-use Rattle.conf_configs.proofs.NumberLemmas.{indexed-more}
+use Rattle.conf_state.specs.Numbers.{heads}
+use Rattle.conf_state.proofs.NumberLemmas.{indexed-more}
 use Rattle.conf_state.specs.BaseTexts.{entries_length}
 use Rattle.conf_state.specs.States.{cut_config}
 use Rattle.conf_state.specs.Kept.{entries_of, next_number}
-use Rattle.conf_commands.specs.Rooms.{has_room}
+use Rattle.conf_state.specs.Rooms.{has_room}
 use Rattle.conf_state.specs.Steps.{next_state}
 use Rattle.conf_state.proofs.EntryLemmas.{cut_from-named}
 use Rattle.conf_state.proofs.StateLemmas.{kept_cut}

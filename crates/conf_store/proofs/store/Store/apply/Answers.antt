@@ -5,8 +5,8 @@ use Rattle.conf_disk.specs.Folder.{bytes_under}
 use Rattle.conf_disk.specs.Moments.{LeavesOnly}
 use Rattle.conf_disk.specs.declared.disk.Name.TheVariants.{Store}
 use Rattle.conf_journal.specs.Store.{store_limit, file_with_bytes}
-use Rattle.conf_commands.specs.Commands.{command_of}
-use Rattle.conf_commands.specs.declared.fault.StoreFault.TheVariants.{Reopen, Device}
+use Rattle.conf_state.specs.Commands.{command_of}
+use Rattle.conf_state.specs.declared.fault.StoreFault.TheVariants.{Reopen, Device}
 use Rattle.conf_store.specs.Meaning.{FileMeans}
 use Rattle.conf_store.specs.Durable.{IsDurable}
 use Rattle.conf_store.specs.View.{StoreView}

@@ -7,8 +7,8 @@ use Rattle.conf_disk.specs.Folder.{bytes_under}
 use Rattle.conf_disk.specs.declared.disk.Name.TheVariants.{Store}
 use Rattle.conf_disk.proofs.Moments.{LeavesOnly-start}
 use Rattle.conf_journal.specs.Store.{file_with_bytes}
-use Rattle.conf_commands.specs.Commands.{command_of}
-use Rattle.conf_commands.specs.declared.fault.StoreFault.TheVariants.{BadName, Reopen, Device}
+use Rattle.conf_state.specs.Commands.{command_of}
+use Rattle.conf_state.specs.declared.fault.StoreFault.TheVariants.{BadName, Reopen, Device}
 use Rattle.conf_store.specs.Calls.{Accepts, RefusesCommand, next_record}
 use Rattle.conf_store.specs.Imports.{RefusesImport}
 use Rattle.conf_store.specs.Meaning.{FileMeans}

@@ -4,7 +4,7 @@ use Rattle.yaml_scan.proofs.Outcomes.{faults_so, ok_so}
 use Rattle.yaml_block.specs.States.{BeforeLeaf, Fails, Onward, Leads}
 use Rattle.yaml_block.specs.declared.frame.Next.{Next}
 use Rattle.yaml_block.specs.declared.frame.Next.TheVariants as next
-use Rattle.yaml_block_lines.specs.declared.sign.Sign.TheVariants.{Asked}
+use Rattle.yaml_block.specs.declared.line_sign.Sign.TheVariants.{Asked}
 use Rattle.yaml_block.proofs.TextPlaces.{IsPastSign, past_sign}
 use Rattle.yaml_block.proofs.SignsAndLines.{ok_opens, asked_onward, asked_first}
 use Rattle.yaml_block.proofs.reader.Reader.leaf.Goals as goal

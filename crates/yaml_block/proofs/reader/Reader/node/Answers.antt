@@ -7,7 +7,7 @@ use Rattle.yaml_events.specs.EventPlaces.{line_starts}
 use Rattle.yaml_scan.proofs.Outcomes.{fault_passed}
 use Rattle.yaml_block.proofs.EachNode.{each_node}
 use Rattle.yaml_block.specs.States.{BeforeNode, BeforePair, BeforePart, Fails, IsPlaced, Onward, steps_left, place_of}
-use Rattle.yaml_block_lines.specs.Lines.{is_shallow}
+use Rattle.yaml_block.specs.Lines.{is_shallow}
 use Rattle.yaml_block.specs.declared.frame.Next.{Next}
 use Rattle.yaml_block.specs.declared.frame.Next.TheVariants as next
 use Rattle.yaml_block.proofs.Stacks.{grown_grown}

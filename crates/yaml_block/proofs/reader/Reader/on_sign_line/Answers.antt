@@ -3,11 +3,11 @@ use Rattle.std.specs.Prelude.{true, false, ◌⊎◌, Some, None}
 use Rattle.yaml_chars.specs.Places.{rest}
 use Rattle.yaml_scan.proofs.Outcomes.{faults_so, ok_so, refuses}
 use Rattle.yaml_block.specs.States.{BeforePart, BeforeLeaf, Fails, Onward, Leads}
-use Rattle.yaml_block_lines.specs.Signs.{is_colon}
+use Rattle.yaml_block.specs.Signs.{is_colon}
 use Rattle.yaml_block.specs.declared.frame.Leaf.{Leaf}
 use Rattle.yaml_block.specs.declared.frame.Next.{Next}
 use Rattle.yaml_block.specs.declared.frame.Next.TheVariants as next
-use Rattle.yaml_block_lines.specs.declared.sign.Sign.TheVariants.{Dash}
+use Rattle.yaml_block.specs.declared.line_sign.Sign.TheVariants.{Dash}
 use Rattle.yaml_block.proofs.TextPlaces.{IsPastSign, past_sign}
 use Rattle.yaml_chars.specs.Classes.{white}
 use Rattle.yaml_grammar.specs.Texts.{first}

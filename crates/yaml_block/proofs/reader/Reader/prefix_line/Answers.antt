@@ -1,8 +1,8 @@
 use Rattle.std.proofs.Common.{◌≡◌, arith, inl, inr, length, ◌-◌, ◌*◌, ◌≤◌}
 use Rattle.std.specs.Prelude.{◌⊎◌}
 use Rattle.yaml_block.specs.States.{BeforeNode, BeforeNodeLine}
-use Rattle.yaml_block_lines.specs.Lines.{is_shallow}
-use Rattle.yaml_block_lines.specs.declared.indentation.Indentation.{Indentation}
+use Rattle.yaml_block.specs.Lines.{is_shallow}
+use Rattle.yaml_block.specs.declared.indentation.Indentation.{Indentation}
 use Rattle.yaml_block.proofs.SignsAndLines.{Becomes, leads_so, fails_so, onward_so, prefix_line_there}
 use Rattle.yaml_block.proofs.reader.Reader.prefix_line.Goals as goal
 use Rattle.yaml_block.proofs.reader.Reader.prefix_line.Goals.{then-line-at, else-line-at}

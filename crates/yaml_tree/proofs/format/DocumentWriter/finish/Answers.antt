@@ -1,11 +1,11 @@
 use Rattle.std.proofs.Common.{refl, sym, ap, subst, ◌∙◌}
 use Rattle.std.proofs.lemmas.Result.{err_from_is_err_and}
-use Rattle.yaml_build.specs.Building.{HasNone}
-use Rattle.yaml_build.specs.Emptied.{emptied_frames}
-use Rattle.yaml_build.specs.Frames.{finished_tree}
+use Rattle.yaml_tree.specs.Building.{HasNone}
+use Rattle.yaml_tree.specs.Emptied.{emptied_frames}
+use Rattle.yaml_tree.specs.Frames.{finished_tree}
 use Rattle.yaml_data.specs.Keys.{nothing}
-use Rattle.yaml_build.proofs.CheckLemmas.{has_none}
-use Rattle.yaml_build.proofs.EmptiedLemmas.{finished_emptied, finished_none}
+use Rattle.yaml_tree.proofs.CheckLemmas.{has_none}
+use Rattle.yaml_tree.proofs.EmptiedLemmas.{finished_emptied, finished_none}
 use Rattle.yaml_tree.proofs.WriterLemmas.{has_written}
 use Rattle.yaml_tree.proofs.format.DocumentWriter.finish.Goals as goal
 

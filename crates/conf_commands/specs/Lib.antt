@@ -1,4 +1,0 @@
-pub mod Commands
-pub mod Names
-pub mod PathFaults
-pub mod Rooms

@@ -1,4 +1,0 @@
-pub mod DocumentLemmas
-pub mod FieldLemmas
-pub mod PieceLemmas
-pub mod TreeLemmas

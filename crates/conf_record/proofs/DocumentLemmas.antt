@@ -1,0 +1,142 @@
+-- What is written reads back, bytes are one document at most, and where documents close.
+use Rattle.std.proofs.Common.{◌≡◌, refl, sym, ◌∙◌, ap, subst, arith, ◌≤◌, take-append-drop}
+use Rattle.std.specs.Prelude.{ℕ, ◌+◌, true, List, [], ◌∷◌, ◌++◌, length, take, drop, replicate, map, Some, encode_utf8_all}
+use Rattle.std.specs.List.{concat}
+use Rattle.std.specs.Str.{chars, IsUtf8, all_scalars}
+use lib.Utf8.{scalar}
+use Rattle.std.proofs.lemmas.Bool.{and_parts, and_from}
+use Rattle.std.proofs.lemmas.Bool.Decides.{nat_tests}
+use Rattle.std.proofs.lemmas.Str.{chars-encodes}
+use Rattle.yaml_chars.specs.Classes.{code_point}
+use Rattle.yaml_grammar.specs.Texts.{IsText, byte_len}
+use Rattle.yaml_grammar.specs.Closings.{Pieces}
+use Rattle.yaml_grammar.specs.Trees.{Tree}
+use Rattle.yaml_grammar.specs.Reads.{Limits}
+use Rattle.yaml_config.specs.Kept.{own_limits}
+use Rattle.yaml_tree.specs.Reading.{IsRead}
+use Rattle.yaml_writer.proofs.ByteLemmas.{byte_len-chars}
+use Rattle.yaml_recognizers.specs.Closings.{framed_text_bytes, all_framed_bytes, TornInPieces, TornPieces}
+use Rattle.conf_state.specs.Commands.{Command}
+use Rattle.conf_state.specs.States.{Contents, base_limit}
+use Rattle.conf_state.specs.Limits.{IsState}
+use Rattle.conf_state.specs.BaseTexts.{base_tree, base_text, base_bytes, base_length}
+use Rattle.conf_record.specs.Records.{record_tree, record_text, record_bytes}
+use Rattle.conf_record.specs.RecordsRead.{record_of, base_of, ReadsRecord, ReadsBase}
+use Rattle.conf_record.proofs.RecordLemmas.{framed_document}
+use Rattle.conf_record.specs.Documents.{IsRecord, IsBase, record_pieces, records_bytes, OneBase, OneRecord, RecordsTear}
+
+-- ---- texts as bytes
+
+text_scalars : (cs : List ℕ) → IsText cs → all_scalars cs ≡ true
+text_scalars [] is = refl
+text_scalars (c ∷ cs) is =
+    let parts = and_parts _ _ is in
+    and_from _ _ (one c parts.0) (text_scalars cs parts.1)
+  where
+    one : (c : ℕ) → code_point c ≡ true → scalar c ≡ true
+    one c e = grind (arith, nat_tests)
+
+text_utf8 : (cs : List ℕ) → IsText cs → IsUtf8 (encode_utf8_all cs)
+text_utf8 cs is = (cs, (text_scalars cs is, refl))
+
+text_chars : (cs : List ℕ) → IsText cs → chars (encode_utf8_all cs) ≡ cs
+text_chars cs is = chars-encodes cs (text_scalars cs is)
+
+-- bytes of a record's text are that record
+pub record_is : (command other : Command) (n number : ℕ) → ReadsRecord (record_text command n) other number → IsRecord (record_bytes command n) other number
+unfolding record_bytes
+record_is command other n number reads = record {
+  utf8 = text_utf8 (record_text command n) reads.gives.reads.source;
+  reads = subst (λ cs. ReadsRecord cs other number) (sym (text_chars (record_text command n) reads.gives.reads.source)) reads;
+}
+
+-- bytes of a base's text are that base
+pub base_is : (s other : Contents) → ReadsBase (base_text s) other → IsBase (base_bytes s) other
+unfolding base_bytes
+base_is s other reads = record {
+  utf8 = text_utf8 (base_text s) reads.gives.reads.source;
+  reads = subst (λ cs. ReadsBase cs other) (sym (text_chars (base_text s) reads.gives.reads.source)) reads;
+}
+
+-- ---- one document at most
+
+some_same : {A : Type 0} (x y : A) → Some x ≡ Some y → y ≡ x
+some_same x y e = cc
+
+-- bytes give one tree at most
+abbrev pub BytesGiveOne : Type 0
+BytesGiveOne = (bytes : List ℕ) (limits : Limits) (t u : Tree) → IsRead bytes limits t → IsRead bytes limits u → t ≡ u
+
+module _ (give_one : BytesGiveOne) where
+  -- bytes hold one base at most
+  pub one_base : OneBase
+  one_base bytes s other first second =
+      let same = give_one bytes own_limits first.reads.tree second.reads.tree
+      (record { utf8 = first.utf8; gives = first.reads.gives }) (record { utf8 = second.utf8; gives = second.reads.gives }) in
+      some_same s other (sym first.reads.tells ∙ ap base_of same ∙ second.reads.tells)
+
+  -- bytes hold one record at most
+  pub one_record : OneRecord
+  one_record bytes command other number another first second =
+      let same = give_one bytes own_limits first.reads.tree second.reads.tree
+      (record { utf8 = first.utf8; gives = first.reads.gives }) (record { utf8 = second.utf8; gives = second.reads.gives }) in
+      let pair = some_same (command, number) (other, another) (sym first.reads.tells ∙ ap record_of same ∙ second.reads.tells) in
+      (ap (λ p. p.0) pair, ap (λ p. p.1) pair)
+
+-- ---- closings
+
+-- a record's bytes are those of its tree between `---` and `...`
+pub record_framed : (command : Command) (number : ℕ) → framed_text_bytes (record_tree command number) ≡ record_bytes command number
+unfolding record_bytes record_text
+record_framed command number = ap encode_utf8_all (framed_document (record_tree command number))
+
+-- a base's bytes are those of its tree between `---` and `...`
+pub base_framed : (s : Contents) → framed_text_bytes (base_tree s) ≡ base_bytes s
+unfolding base_bytes base_text
+base_framed s = ap encode_utf8_all (framed_document (base_tree s))
+
+-- the trees of consecutive records
+abbrev trees : ℕ → List Command → List Tree
+trees count [] = []
+trees count (command ∷ commands) = record_tree command (count + 1) ∷ trees (count + 1) commands
+
+trees_pieces : (count : ℕ) (commands : List Command) → map framed_text_bytes (trees count commands) ≡ record_pieces count commands
+trees_pieces count [] = refl
+trees_pieces count (command ∷ commands) = λ i. record_framed command (count + 1) i ∷ trees_pieces (count + 1) commands i
+
+-- the first of them are the records of the first commands
+first_pieces : (count : ℕ) (commands : List Command) (whole further : List Tree) → trees count commands ≡ whole ++ further
+    → map framed_text_bytes whole ≡ record_pieces count (take (length whole) commands)
+first_pieces count commands [] further e = refl
+first_pieces count [] (t ∷ ts) further e = absurd (cc e)
+first_pieces count (command ∷ commands) (t ∷ ts) further e =
+    let one : record_tree command (count + 1) ≡ t = cc e in
+    let more : trees (count + 1) commands ≡ ts ++ further = cc e in
+    let here = ap framed_text_bytes (sym one) ∙ record_framed command (count + 1) in
+    let rest = first_pieces (count + 1) commands ts further more in
+    λ i. here i ∷ rest i
+
+-- records that a crash has cut are pieces, by the law on cut trees
+pub records_tear : TornInPieces → RecordsTear
+records_tear torn count commands kept zeros =
+    let ts = trees count commands in
+    let all : all_framed_bytes ts ≡ records_bytes count commands = ap concat (trees_pieces count commands) in
+    let bytes = records_bytes count commands in
+    let t : TornPieces ts (take kept bytes) zeros = torn ts (take kept bytes) (drop kept bytes) zeros (all ∙ sym (take-append-drop kept bytes)) in
+    record {
+      whole = length t.whole;
+      rest = t.kept ++ replicate zeros 0;
+      pieces = subst (λ ps. Pieces (take kept bytes ++ replicate zeros 0) ps (t.kept ++ replicate zeros 0)) (first_pieces count commands t.whole t.further t.all) t.pieces;
+    }
+
+-- ---- the length of a base
+
+-- the bytes of a state's base keep the limit
+pub base_fits : (s : Contents) → IsState s → ReadsBase (base_text s) s → length (base_bytes s) ≤ base_limit
+unfolding base_bytes base_length
+base_fits s kept reads =
+    let cs = base_text s in
+    let size : byte_len (chars (encode_utf8_all cs)) ≡ length (encode_utf8_all cs) = byte_len-chars (encode_utf8_all cs) (text_utf8 cs reads.gives.reads.source) in
+    let same : byte_len (chars (encode_utf8_all cs)) ≡ byte_len cs = ap byte_len (text_chars cs reads.gives.reads.source) in
+    let short = kept.short in
+    omega (arith, size, same, short)

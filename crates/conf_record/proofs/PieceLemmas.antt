@@ -1,0 +1,95 @@
+-- The parts of a tree that a `Config` keeps.
+use Rattle.std.proofs.Common.{◌≡◌, ◌<◌, ◌≤◌, ℕ, ◌+◌, true, ◌&&◌, List, [], ◌∷◌, ◌++◌, length, max, not, String, Global, string_bytes, append_assoc, append-nil, arith, refl, sym, ap, ◌∙◌}
+use Rattle.std.proofs.lemmas.Bool.{and_parts}
+use Rattle.std.specs.Str.{chars}
+use Rattle.yaml_grammar.specs.Texts.{byte_len}
+use Rattle.yaml_grammar.specs.Style.{key_lines, value_at, members_after}
+use Rattle.yaml_grammar.specs.Trees.{Tree, mapping, Members, no_member, member, has_key, distinct, members_distinct, depth, members_depth, AreTextMembers}
+use Rattle.yaml_writer.specs.BudgetLaws.{byte_len-append}
+use Rattle.yaml_config.specs.Kept.{own_limits, IsKept}
+use Rattle.yaml_data.specs.Seen.{Pair, tree_of, members_of}
+use Rattle.yaml_data.specs.TextBytes.{text_bytes}
+use Rattle.yaml_data.specs.declared.text.Text.{Text}
+use Rattle.yaml_data.specs.declared.tree.Tree as code
+use Rattle.conf_state.specs.Kept.{entries_of}
+use Rattle.conf_record.specs.RecordsRead.{values, entries}
+use Rattle.conf_record.proofs.SizeLemmas.{value_size}
+use Rattle.conf_record.specs.Reading.{AreKept, trees_of}
+
+after_bytes : (key : List ℕ) (t : Tree) (ms : Members)
+    → byte_len (members_after (member key t ms) 0) ≡ byte_len (key_lines 0 key) + byte_len (value_at t 0) + byte_len (members_after ms 0)
+after_bytes key t ms =
+    omega (arith, byte_len-append (key_lines 0 key ++ value_at t 0) (members_after ms 0), byte_len-append (key_lines 0 key) (value_at t 0))
+
+max_parts : (a b c : ℕ) → max a b < c → (a < c) × (b < c)
+max_parts a b c h = (omega arith, omega arith)
+
+values_kept : (ms : Members) → AreTextMembers ms → members_distinct ms ≡ true → members_depth ms < own_limits.depth → byte_len (members_after ms 0) ≤ own_limits.style → AreKept (values ms)
+values_kept no_member are keys deep long = tt
+values_kept (member key t ms) are keys deep long =
+    let parts = and_parts (not (has_key key ms) && distinct t) (members_distinct ms) keys in
+    let own = (and_parts (not (has_key key ms)) (distinct t) parts.0).1 in
+    let levels = max_parts (depth t) (members_depth ms) own_limits.depth deep in
+    let bytes = after_bytes key t ms in
+    let alone = (value_size t).least in
+    let low = levels.0 in (
+      record { texts = are.1; keys = own; deep = omega (arith, low); long = omega (arith, bytes, alone, long) },
+      values_kept ms are.2 parts.1 levels.1 (omega (arith, bytes, long)),
+    )
+
+-- the values of a mapping within the limits are within them
+pub parts_kept : (ms : Members) → IsKept (mapping ms) → AreKept (values ms)
+parts_kept no_member kept = tt
+parts_kept (member key t ms) kept =
+    let deep = kept.deep in
+    values_kept (member key t ms) kept.texts kept.keys (omega (arith, deep)) kept.long
+
+-- the values of a mapping's pairs
+own_values : (items : List Pair) → AreKept (values (members_of items)) → AreKept (trees_of items)
+own_values [] kept = tt
+own_values (p ∷ ps) kept = (kept.0, own_values ps kept.1)
+
+-- so are the trees of pairs whose mapping is
+pub own_parts : (items : List Pair) → IsKept (mapping (members_of items)) → AreKept (trees_of items)
+own_parts items kept = own_values items (parts_kept (members_of items) kept)
+
+-- ---- pairs that are moved, in their order
+
+-- a configuration of the code under its name
+abbrev pub Named : Type 0
+Named = String Global × code.Tree
+
+pub record MovedSoFar (all : List Pair) (done : List Named) (left : List Pair) : Type 0 where
+  pub whole : entries_of done ++ entries (members_of left) ≡ entries (members_of all)
+  pub kept : AreKept (trees_of left)
+
+entries_of-one : (done : List Named) (e : Named) → entries_of (done ++ e ∷ []) ≡ entries_of done ++ (chars (string_bytes e.0), tree_of e.1) ∷ []
+entries_of-one [] e = refl
+entries_of-one (d ∷ ds) e = ap (λ es. (chars (string_bytes d.0), tree_of d.1) ∷ es) (entries_of-one ds e)
+
+-- at first no pair was moved
+pub none_moved : (all : List Pair) → AreKept (trees_of all) → MovedSoFar all [] all
+none_moved all kept = record { whole = refl; kept = kept }
+
+-- one more pair is moved
+pub one_moved : (all : List Pair) (done : List Named) (left : List Pair) (key : Text) (name : String Global) (t u : code.Tree)
+    → string_bytes name ≡ text_bytes key → u ≡ t → MovedSoFar all done ((key, t) ∷ left)
+    → (new : List Named) → new ≡ done ++ (name, u) ∷ [] → MovedSoFar all new left
+one_moved all done left key name t u spelled same so new is =
+    let rest = entries (members_of left) in
+    record {
+      whole =
+          ap (λ xs. entries_of xs ++ rest) is
+          ∙ ap (λ es. es ++ rest) (entries_of-one done (name, u))
+          ∙ ap (λ b. (entries_of done ++ (chars b, tree_of u) ∷ []) ++ rest) spelled
+          ∙ ap (λ v. (entries_of done ++ (chars (text_bytes key), tree_of v) ∷ []) ++ rest) same
+          ∙ append_assoc (entries_of done) ((chars (text_bytes key), tree_of t) ∷ []) rest
+          ∙ so.whole;
+      kept = so.kept.1;
+    }
+
+-- where no pair is left, all were moved
+pub all_moved : (all : List Pair) (done : List Named) (left : List Pair) → MovedSoFar all done left → length left ≡ 0
+    → entries_of done ≡ entries (members_of all)
+all_moved all done [] so none = sym (append-nil (entries_of done)) ∙ so.whole
+all_moved all done (p ∷ ps) so none = absurd (omega arith)

@@ -1,0 +1,32 @@
+use Rattle.std.proofs.Common.{◌≡◌, false, true, sym, ap, subst, ◌∙◌}
+use Rattle.yaml_config.specs.Kept.{IsKept}
+use Rattle.yaml_data.specs.Seen.{tree_of, members_of}
+use Rattle.yaml_data.proofs.SeenLemmas.{tree_of-Text, tree_of-Seq, tree_of-Map}
+use Rattle.conf_record.specs.RecordsRead.{base_of, keys_are, base_keys}
+use Rattle.conf_record.proofs.PieceLemmas.{parts_kept}
+use Rattle.conf_record.proofs.TreeLemmas.{base_text, base_sequence, base_keyed, base_other, base_texts, asked}
+use Rattle.conf_record.proofs.base_reader.base_from.Goals as goal
+
+pub returns-in-Text-clause-read : goal.returns-in-Text-clause-read
+returns-in-Text-clause-read c = sym (ap base_of (ap tree_of c.in-Text.is ∙ tree_of-Text c.in-Text.field-0) ∙ base_text _)
+
+pub returns-in-Seq-clause-read : goal.returns-in-Seq-clause-read
+returns-in-Seq-clause-read c = sym (ap base_of (ap tree_of c.in-Seq.is ∙ tree_of-Seq c.in-Seq.field-0) ∙ base_sequence _)
+
+pub returns-then-not-keys_are-clause-read : goal.returns-then-not-keys_are-clause-read
+returns-then-not-keys_are-clause-read c =
+    let ms = members_of c.in-Map.pairs.items in
+    let seen = ap base_of (ap tree_of c.in-Map.is ∙ tree_of-Map c.in-Map.pairs) in
+    let other : keys_are base_keys ms ≡ false = asked _ base_keys c.deref.result.now _ _ false c.keys_are.ensures base_texts c.deref.ensures.value c.if-not-keys_are.true in
+    sym (seen ∙ base_other ms other)
+
+pub contents_from-requires : goal.contents_from-requires
+contents_from-requires c =
+    record { kept = parts_kept (members_of c.in-Map.pairs.items) (subst IsKept (ap tree_of c.in-Map.is ∙ tree_of-Map c.in-Map.pairs) c.requires.kept) }
+
+pub returns-clause-read : goal.returns-clause-read
+returns-clause-read c =
+    let ms = members_of c.in-Map.pairs.items in
+    let seen = ap base_of (ap tree_of c.in-Map.is ∙ tree_of-Map c.in-Map.pairs) in
+    let keyed : keys_are base_keys ms ≡ true = asked _ base_keys c.deref.result.now _ _ true c.keys_are.ensures base_texts c.deref.ensures.value c.if-not-keys_are.false in
+    c.contents_from.ensures.read ∙ sym (seen ∙ base_keyed ms keyed)

@@ -1,0 +1,15 @@
+use Rattle.std.proofs.Common.{subst}
+use Rattle.yaml_grammar.specs.Closings.{ClosesOnce}
+use Rattle.conf_state.specs.BaseTexts.{base_tree}
+use Rattle.conf_record.specs.Records.{record_tree}
+use Rattle.conf_record.proofs.DocumentLemmas.{record_framed, base_framed, records_tear}
+use Rattle.conf_record.proofs.documents.documents_close.Goals as goal
+
+pub returns-clause-bases : goal.returns-clause-bases
+returns-clause-bases c = λ s. subst ClosesOnce (base_framed s) (c.closed_once.ensures.once (base_tree s))
+
+pub returns-clause-records : goal.returns-clause-records
+returns-clause-records c = λ command number. subst ClosesOnce (record_framed command number) (c.closed_once.ensures.once (record_tree command number))
+
+pub returns-clause-torn : goal.returns-clause-torn
+returns-clause-torn c = records_tear c.closed_once.ensures.pieces

@@ -1,0 +1,82 @@
+-- Records and bases as bytes: which bytes are one, and what is left of written ones that a crash cuts.
+use Rattle.std.specs.Prelude.{◌≡◌, ◌≤◌, ℕ, ◌+◌, List, [], ◌∷◌, ◌++◌, length, take, replicate, Bool, Ok}
+use Rattle.std.specs.List.{concat}
+use Rattle.std.specs.Str.{chars, IsUtf8}
+use Rattle.yaml_grammar.specs.Closings.{ClosesOnce, Pieces}
+use Rattle.conf_state.specs.Commands.{Command}
+use Rattle.conf_state.specs.States.{Contents, count_limit, base_limit}
+use Rattle.conf_state.specs.Limits.{IsState}
+use Rattle.conf_state.specs.Steps.{step}
+use Rattle.conf_state.specs.BaseTexts.{base_bytes}
+use Rattle.conf_record.specs.Records.{record_bytes}
+use Rattle.conf_record.specs.RecordsRead.{IsCommand, ReadsRecord, ReadsBase}
+
+-- the bytes are a text that reads as a command with a number
+pub record IsRecord (bytes : List ℕ) (command : Command) (number : ℕ) : Type 0 where
+  pub utf8 : IsUtf8 bytes
+  pub reads : ReadsRecord (chars bytes) command number
+
+-- the bytes are a text that reads as a state
+pub record IsBase (bytes : List ℕ) (state : Contents) : Type 0 where
+  pub utf8 : IsUtf8 bytes
+  pub reads : ReadsBase (chars bytes) state
+
+-- the bytes are no record
+abbrev pub IsNoRecord : List ℕ → Type 0
+IsNoRecord bytes = (command : Command) (number : ℕ) → IsRecord bytes command number → ⊥
+
+-- the bytes are no base
+abbrev pub IsNoBase : List ℕ → Type 0
+IsNoBase bytes = (state : Contents) → IsBase bytes state → ⊥
+
+-- the records of consecutive commands, numbered on from a count
+abbrev pub record_pieces : ℕ → List Command → List (List ℕ)
+record_pieces count [] = []
+record_pieces count (command ∷ commands) = record_bytes command (count + 1) ∷ record_pieces (count + 1) commands
+
+-- the same in a row
+abbrev pub records_bytes : ℕ → List Command → List ℕ
+records_bytes count commands = concat (record_pieces count commands)
+
+-- The bytes are the records of the first commands, whole, and a rest that is not closed.
+pub record TornRecords (count : ℕ) (commands : List Command) (bytes : List ℕ) : Type 0 where
+  pub whole : ℕ
+  pub rest : List ℕ
+  pub pieces : Pieces bytes (record_pieces count (take whole commands)) rest
+
+-- ---- laws
+
+-- the base of a state reads as that state
+abbrev pub BasesAreRead : Type 0
+BasesAreRead = (s : Contents) → IsState s → IsBase (base_bytes s) s
+
+-- the record of a command that some state accepts reads as that command with its number
+abbrev pub RecordsAreRead : Type 0
+RecordsAreRead = (s new : Contents) (command : Command) (fits : Bool) (number : ℕ) → IsState s → IsCommand command
+    → step s command fits ≡ Ok new → number ≤ count_limit → IsRecord (record_bytes command number) command number
+
+-- a base has at most 67,108,864 bytes
+abbrev pub BasesFit : Type 0
+BasesFit = (s : Contents) → IsState s → length (base_bytes s) ≤ base_limit
+
+-- any bytes are the base of at most one state
+abbrev pub OneBase : Type 0
+OneBase = (bytes : List ℕ) (s other : Contents) → IsBase bytes s → IsBase bytes other → other ≡ s
+
+-- any bytes are the record of at most one command, with one number
+abbrev pub OneRecord : Type 0
+OneRecord = (bytes : List ℕ) (command other : Command) (number another : ℕ)
+    → IsRecord bytes command number → IsRecord bytes other another → (other ≡ command) × (another ≡ number)
+
+-- a base closes once, at its end
+abbrev pub BasesClose : Type 0
+BasesClose = (s : Contents) → ClosesOnce (base_bytes s)
+
+-- a record closes once, at its end
+abbrev pub RecordsClose : Type 0
+RecordsClose = (command : Command) (number : ℕ) → ClosesOnce (record_bytes command number)
+
+-- consecutive records of which a prefix is kept, with any number of zeros after it
+abbrev pub RecordsTear : Type 0
+RecordsTear = (count : ℕ) (commands : List Command) (kept zeros : ℕ)
+    → TornRecords count commands (take kept (records_bytes count commands) ++ replicate zeros 0)

@@ -1,0 +1,78 @@
+// The configurations and the count of a base's tree.
+ghost use Rattle.std.specs.Prelude.{◌≡◌, [], ◌∷◌, None, IfSome, MatchOption, codes};
+ghost use Rattle.std.specs.Str.{chars};
+ghost use Rattle.yaml_grammar.specs.Texts.{same_text};
+ghost use Rattle.yaml_config.specs.Kept.{IsKept};
+ghost use Rattle.yaml_data.specs.TextBytes.{text_bytes};
+ghost use Rattle.yaml_data.specs.Seen.{tree_of, members_of};
+ghost use Rattle.yaml_grammar.specs.Trees.{text, mapping};
+ghost use Rattle.conf_record.specs.RecordsRead.{values, contents_of, base_of};
+ghost use Rattle.conf_record.specs.Reading.{AreKept, state_of_parts};
+
+use crate::fields::{is_same, keys_are, next_pairs, next_text, next_value, number_from};
+use yaml_tree::{Text, Tree};
+
+/// The configurations and the count of a base's tree, whose limits are not checked; `None` if it is no base's.
+pub(crate) fn base_from(tree: Tree) -> Option<(Vec<(Text, Tree)>, u64)>
+    requires kept { IsKept (tree_of tree) }
+    ensures read { state_of_parts result ≡ base_of (tree_of tree) }
+    ensures kept { IfSome result (λ p. IsKept (mapping (members_of p.0.items))) }
+{
+    let pairs = match tree {
+        Tree::Text(_) => return None,
+        Tree::Seq(_) => return None,
+        Tree::Map(pairs) => pairs,
+    };
+    if !keys_are(&["store", "at", "configs"], &pairs) {
+        return None;
+    }
+    contents_from(pairs)
+}
+
+/// The configurations and the count, from the values of a base: the format, the count and the configurations.
+fn contents_from(pairs: Vec<(Text, Tree)>) -> Option<(Vec<(Text, Tree)>, u64)>
+    requires kept { AreKept (values (members_of pairs.items)) }
+    ensures read { state_of_parts result ≡ contents_of (values (members_of pairs.items)) }
+    ensures kept { IfSome result (λ p. IsKept (mapping (members_of p.0.items))) }
+{
+    let Some((format, digits, configs)) = base_values(pairs) else {
+        return None;
+    };
+    if !is_format(&format) {
+        return None;
+    }
+    let Some(count) = number_from(&digits) else {
+        return None;
+    };
+    Some((configs, count))
+}
+
+/// The values of a base: two texts and a mapping; `None` if they are others.
+fn base_values(pairs: Vec<(Text, Tree)>) -> Option<(Text, Text, Vec<(Text, Tree)>)>
+    ensures { MatchOption result (contents_of (values (members_of pairs.items)) ≡ None)
+        (λ v. values (members_of pairs.items)
+        ≡ text (chars (text_bytes v.0)) ∷ text (chars (text_bytes v.1))
+        ∷ mapping (members_of v.2.items) ∷ []) }
+{
+    let mut values = pairs.into_iter();
+    let Some(format) = next_text(&mut values) else {
+        return None;
+    };
+    let Some(digits) = next_text(&mut values) else {
+        return None;
+    };
+    let Some(configs) = next_pairs(&mut values) else {
+        return None;
+    };
+    if next_value(&mut values).is_some() {
+        return None;
+    }
+    Some((format, digits, configs))
+}
+
+/// Whether a text is the name of the format.
+fn is_format(text: &str) -> bool
+    ensures { result ≡ same_text (chars text.now) (codes "confstore-1") }
+{
+    is_same(text, "confstore-1")
+}

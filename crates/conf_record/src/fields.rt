@@ -1,0 +1,104 @@
+// The fields of a document's mapping: its keys, its values in order, and what each value is.
+ghost use Rattle.std.specs.Prelude.{◌≡◌, List, [], ◌∷◌, IfOk, MatchOption, is_ok, map, None};
+ghost use Rattle.std.specs.Str.{chars};
+ghost use Rattle.std.specs.Vec.Iter.{into_iter_items};
+ghost use Rattle.yaml_grammar.specs.Texts.{same_text};
+ghost use Rattle.yaml_grammar.specs.Trees.{text, mapping};
+ghost use Rattle.yaml_data.specs.Seen.{tree_of, members_of};
+ghost use Rattle.yaml_data.specs.TextBytes.{text_bytes};
+ghost use Rattle.json_pointer.specs.Pointers.{path_of};
+ghost use Rattle.conf_record.specs.RecordsRead.{number_from_digits, keys_are, values};
+ghost use Rattle.conf_record.specs.Reading.{texts, text_first, mapping_first};
+
+use itoa::Buffer;
+use std::alloc::{AllocError, Global};
+use std::vec::IntoIter;
+use tree_path::{Path, PathFault};
+use yaml_tree::{Text, Tree};
+
+/// Whether the keys of a mapping's pairs are these, in this order, and no others.
+pub fn keys_are(keys: &[&str], pairs: &[(Text, Tree)]) -> bool
+    ensures { result ≡ keys_are (texts (map (λ k. k.now) keys.now)) (members_of pairs.now) }
+{
+    if keys.len() != pairs.len() {
+        return false;
+    }
+    for i in 0..keys.len() {
+        if !is_same(&pairs[i].0, keys[i]) {
+            return false;
+        }
+    }
+    true
+}
+
+/// Whether two texts have the same characters.
+pub fn is_same(one: &str, other: &str) -> bool
+    ensures { result ≡ same_text (chars one.now) (chars other.now) }
+{
+    one == other
+}
+
+/// Takes the next pair, and returns its value; `None` if no pair is left.
+pub fn next_value(pairs: &mut IntoIter<(Text, Tree)>) -> Option<Tree>
+    ensures { MatchOption result
+        (values (members_of (into_iter_items pairs.old)) ≡ [])
+        (λ t. values (members_of (into_iter_items pairs.old))
+        ≡ tree_of t ∷ values (members_of (into_iter_items pairs.new))) }
+{
+    let (_, value) = pairs.next()?;
+    Some(value)
+}
+
+/// Takes the next pair, and returns its value if that is a text; `None` if it is none, or no pair is left. A value that
+/// is no text is dropped.
+pub fn next_text(pairs: &mut IntoIter<(Text, Tree)>) -> Option<Text>
+    ensures { MatchOption result
+        (text_first (values (members_of (into_iter_items pairs.old))) ≡ None)
+        (λ t. values (members_of (into_iter_items pairs.old))
+        ≡ text (chars (text_bytes t)) ∷ values (members_of (into_iter_items pairs.new))) }
+{
+    match next_value(pairs)? {
+        Tree::Text(text) => Some(text),
+        Tree::Seq(_) => None,
+        Tree::Map(_) => None,
+    }
+}
+
+/// Takes the next pair, and returns the pairs of its value if that is a mapping; `None` if it is none, or no pair is
+/// left.
+pub(crate) fn next_pairs(pairs: &mut IntoIter<(Text, Tree)>) -> Option<Vec<(Text, Tree)>>
+    ensures { MatchOption result
+        (mapping_first (values (members_of (into_iter_items pairs.old))) ≡ None)
+        (λ v. values (members_of (into_iter_items pairs.old))
+        ≡ mapping (members_of v.items) ∷ values (members_of (into_iter_items pairs.new))) }
+{
+    match next_value(pairs)? {
+        Tree::Map(pairs) => Some(pairs),
+        Tree::Text(_) => None,
+        Tree::Seq(_) => None,
+    }
+}
+
+/// Whether a text is a pointer (RFC 6901, 3). It fails only if memory runs out.
+pub(crate) fn is_path(alloc: Global, path: &str) -> Result<bool, AllocError>
+    ensures { IfOk result (λ answer. answer ≡ is_ok (path_of (chars path.now))) }
+{
+    match Path::parse(alloc, path) {
+        Ok(_) => Ok(true),
+        Err(PathFault::OutOfMemory) => Err(AllocError),
+        Err(_) => Ok(false),
+    }
+}
+
+/// The number whose decimal text this is: `0`, or digits without a leading zero, at most 18,446,744,073,709,551,615.
+/// Returns `None` for any other text.
+pub(crate) fn number_from(digits: &str) -> Option<u64>
+    ensures { result ≡ number_from_digits (chars digits.now) }
+{
+    let number = digits.parse::<u64>().ok()?;
+    let mut buffer = Buffer::new();
+    if !is_same(buffer.format(number), digits) {
+        return None;
+    }
+    Some(number)
+}

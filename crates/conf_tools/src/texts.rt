@@ -1,0 +1,112 @@
+// The tools for texts, over any reader and writer.
+ghost use Rattle.std.specs.Prelude.{◌≡◌, IfErr, IfOk, OnOk};
+ghost use Rattle.std.specs.Io.KnownBytes.{Appends};
+ghost use Rattle.conf_tools.specs.Tools.{Checks, Formats, Stops};
+
+use crate::input::read_up_to;
+use crate::report::report;
+use std::alloc::{AllocError, Global};
+use std::io::{Read, Write};
+use thiserror::Error;
+use yaml_style::check;
+use yaml_tree::{Limits, ReadFault, format_one};
+
+/// The most bytes that are read: one more than a text may have, by which a text that is too long is found.
+const MOST_INPUT: usize = Limits::CONFIGURATION.bytes as usize + 1;
+
+/// Why a tool stopped.
+#[derive(Clone, Copy, Debug, PartialEq, Eq, Error)]
+pub enum ToolFault {
+    /// The reader failed. Nothing was written.
+    #[error("Input")]
+    Input,
+    /// The writer failed. Some of the text may have been written.
+    #[error("Output")]
+    Output,
+    /// The text was refused, or memory ran out. Nothing was written.
+    #[error("{}", .0.brief())]
+    Read(ReadFault),
+}
+
+impl From<AllocError> for ToolFault {
+    ghost use Rattle.conf_tools.specs.declared.texts.ToolFault.TheVariants.{Read};
+    ghost use Rattle.yaml_events.specs.declared.read_fault.ReadFault.TheVariants.{OutOfMemory};
+
+    ghost from_gives = { λ _ out. out ≡ Read OutOfMemory };
+
+    fn from(_: AllocError) -> Self {
+        ToolFault::Read(ReadFault::OutOfMemory)
+    }
+}
+
+/// Reads a text from `reader` to its end, and writes its tree in the one style to `writer`. It reads at most one
+/// byte more than the 1,048,576 that a text may have.
+///
+/// # Errors
+///
+/// - [`ToolFault::Input`] if the reader fails. Nothing is written.
+/// - [`ToolFault::Read`] if the text is refused, or memory runs out. Nothing is written.
+/// - [`ToolFault::Output`] if the writer fails. Some of the text may be written.
+pub fn format_text<R: Read, W: Write>(
+    alloc: Global,
+    reader: &mut R,
+    writer: &mut W,
+) -> Result<(), ToolFault>
+    ensures ok { OnOk result (Formats (R.remaining reader.old) (R.remaining reader.new)
+        (W.contents writer.old) (W.contents writer.new)) }
+    ensures stops { IfErr result (Stops (R.remaining reader.old) (R.remaining reader.new)
+        (W.contents writer.old) (W.contents writer.new)) }
+{
+    let bytes = read_up_to(alloc, reader, MOST_INPUT)?;
+    let text = match format_one(alloc, &bytes, &Limits::CONFIGURATION) {
+        Ok(text) => text,
+        Err(fault) => return Err(ToolFault::Read(fault)),
+    };
+    write_whole(writer, text.as_bytes())?;
+    Ok(())
+}
+
+/// Reads a text from `reader` to its end, and writes a line to `writer` for each of its findings, in the order of
+/// [`check`]. The line has the rule's name, a space, and the number of the line, from 1. Returns how many findings
+/// there are. It reads at most one byte more than the 1,048,576 that a text may have. The lines are held in memory and
+/// written at once. They have at most some 12 MB, since a text has at most two findings more than bytes.
+///
+/// # Errors
+///
+/// - [`ToolFault::Input`] if the reader fails. Nothing is written.
+/// - [`ToolFault::Read`] if the text is refused, or memory runs out. Nothing is written.
+/// - [`ToolFault::Output`] if the writer fails. Some of the lines may be written.
+pub fn check_text<R: Read, W: Write>(
+    alloc: Global,
+    reader: &mut R,
+    writer: &mut W,
+) -> Result<u64, ToolFault>
+    ensures ok { IfOk result (Checks (R.remaining reader.old) (R.remaining reader.new)
+        (W.contents writer.old) (W.contents writer.new)) }
+    ensures stops { IfErr result (Stops (R.remaining reader.old) (R.remaining reader.new)
+        (W.contents writer.old) (W.contents writer.new)) }
+{
+    let bytes = read_up_to(alloc, reader, MOST_INPUT)?;
+    let findings = match check(alloc, &bytes) {
+        Ok(findings) => findings,
+        Err(refused) => return Err(ToolFault::Read(refused)),
+    };
+    let lines = report(alloc, &findings)?;
+    write_whole(writer, &lines)?;
+    Ok(findings.len() as u64)
+}
+
+/// Writes all bytes, and flushes the writer. Returns [`ToolFault::Output`] if the writer fails; some of the bytes may
+/// then be written.
+pub(crate) fn write_whole<W: Write>(writer: &mut W, bytes: &[u8]) -> Result<(), ToolFault>
+    ensures ok { OnOk result (Appends (W.contents writer.old) (W.contents writer.new) bytes.now) }
+    ensures fault { IfErr result (λ fault. fault ≡ ToolFault.Output) }
+{
+    let Ok(()) = writer.write_all(bytes) else {
+        return Err(ToolFault::Output);
+    };
+    let Ok(()) = writer.flush() else {
+        return Err(ToolFault::Output);
+    };
+    Ok(())
+}

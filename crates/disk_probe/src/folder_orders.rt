@@ -1,0 +1,18 @@
+// Orders on folders of the system.
+use crate::folders::Folders;
+use std::alloc::{AllocError, Global};
+
+/// The answer to an order of the group `folder`.
+pub(crate) fn answer(
+    alloc: Global,
+    folders: &mut Folders<'_>,
+    words: &[&str],
+) -> Result<String, AllocError> {
+    match words {
+        ["make", name] => folders.make(alloc, name),
+        ["remove", name] => folders.remove(alloc, name),
+        ["take", name] => folders.take(alloc, name),
+        ["close"] => folders.close(alloc),
+        words => folders.call(alloc, words),
+    }
+}

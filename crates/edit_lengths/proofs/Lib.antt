@@ -1,5 +1,0 @@
-pub mod ChangeLaws
-pub mod DepthLemmas
-pub mod Located
-pub mod Measured
-pub mod Planned

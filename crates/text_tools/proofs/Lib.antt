@@ -1,2 +1,0 @@
-pub mod Formatting
-pub mod ReportLemmas

@@ -1,7 +1,0 @@
--- The lines so far, and then those of the findings that are left, are all of them.
-use Rattle.std.proofs.Common.{◌≡◌, ◌++◌, drop}
-use Rattle.text_tools.specs.Tools.{report}
-use Rattle.text_tools.proofs.report.report.Given as goal
-
-abbrev pub invariant-loop-finding : goal.invariant-loop-finding
-invariant-loop-finding l = l.lines.items ++ report (drop l.finding-index l.findings) ≡ report l.findings

@@ -1,2 +1,0 @@
-pub mod PairTests
-pub mod ScalarLines

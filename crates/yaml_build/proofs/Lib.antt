@@ -1,6 +1,0 @@
-pub mod FrameLemmas
-pub mod PartLemmas
-pub mod InnermostLemmas
-pub mod EventLemmas
-pub mod EmptiedLemmas
-pub mod CheckLemmas

@@ -1,0 +1,6 @@
+pub mod ChangeLaws
+pub mod DepthLemmas
+pub mod Located
+pub mod Measured
+pub mod Planned
+pub mod TextTreeLemmas

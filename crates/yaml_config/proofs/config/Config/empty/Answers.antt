@@ -1,0 +1,24 @@
+use Rattle.std.proofs.Common.{◌≡◌, [], refl, sym, ap, subst, ◌∙◌, arith}
+use Rattle.std.specs.Str.{chars}
+use Rattle.yaml_grammar.specs.Reads.{Good}
+use Rattle.yaml_grammar.specs.Style.{style_text}
+use Rattle.yaml_grammar.specs.Texts.{byte_len}
+use Rattle.yaml_grammar.specs.Trees.{Tree, text}
+use Rattle.yaml_config.specs.Kept.{own_limits}
+use Rattle.yaml_data.specs.Seen.{tree_of}
+use Rattle.yaml_data.specs.declared.tree.Tree.{Text}
+use Rattle.yaml_data.proofs.SeenLemmas.{tree_of-Text}
+use Rattle.std.proofs.lemmas.Str.{chars-nil}
+use Rattle.yaml_config.proofs.config.Config.empty.Goals as goal
+
+empty_text : Good (text []) own_limits × (3 ≡ byte_len (style_text (text [])))
+empty_text = (record { texts = refl; keys = refl; deep = omega arith; long = omega arith }, refl)
+
+pub invariant_of-result : goal.invariant_of-result
+invariant_of-result c =
+    let seen : tree_of (Text c.empty.result) ≡ text [] = tree_of-Text c.empty.result ∙ ap (λ bytes. text (chars bytes)) c.empty.ensures ∙ ap text chars-nil in
+    let P : Tree → Type 0 = λ t. Good t own_limits × (3 ≡ byte_len (style_text t)) in
+    subst P (sym seen) empty_text
+
+pub returns : goal.returns
+returns c = tree_of-Text c.empty.result ∙ ap (λ bytes. text (chars bytes)) c.empty.ensures ∙ ap text chars-nil

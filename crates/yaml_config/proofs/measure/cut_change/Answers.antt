@@ -1,0 +1,71 @@
+use Rattle.std.proofs.Common.{ap, ◌∙◌, arith}
+use Rattle.std.proofs.lemmas.Result.{err_from_is_err_and}
+use Rattle.std.specs.Str.{chars}
+use Rattle.yaml_data.specs.Seen.{tree_of}
+use Rattle.yaml_data.proofs.SeenLemmas.{tree_of-Text, tree_of-Seq, tree_of-Map}
+use Rattle.tree_path.specs.Paths.{cut}
+use Rattle.tree_path.proofs.Steps.{cut-Text}
+use Rattle.yaml_config.proofs.ChangeLaws.{cut-missed}
+use Rattle.yaml_config.proofs.Located.{child-within}
+use Rattle.yaml_config.proofs.Measured.{some_elements, some_members, taken_element, taken_member, vec_counted}
+use Rattle.yaml_config.proofs.measure.cut_change.Goals as goal
+
+pub returns-in_err-old-clause-missed : goal.returns-in_err-old-clause-missed
+returns-in_err-old-clause-missed c =
+    let p = err_from_is_err_and c.from_residual.result c.from_residual.ensures.1 in
+    rw (p.1, p.2) (cut-missed (tree_of c.args.parent.now.node.now) (chars c.args.token.now) c.in_err-old.field-0.0 c.in_err-old.ensures.missed)
+
+pub overflow_sub-len : goal.overflow_sub-len
+overflow_sub-len c =
+    let items = c.in-Seq.items in
+    let some = some_elements (tree_of c.args.parent.now.node.now) (tree_of c.in_ok-old.old.now) items.items (chars c.args.token.now)
+    (ap tree_of c.in-Seq.is ∙ tree_of-Seq items) c.in_ok-old.ensures.ok in
+    omega (arith, some, vec_counted items c.len.result c.len.ensures)
+
+pub element_row-requires-clause-deep : goal.element_row-requires-clause-deep
+element_row-requires-clause-deep c =
+    let inside = child-within (tree_of c.args.parent.now.node.now) (tree_of c.in_ok-old.old.now) (chars c.args.token.now) c.in_ok-old.ensures.ok in
+    omega (arith, inside.1, c.requires.deep)
+
+pub element_row-requires-clause-long : goal.element_row-requires-clause-long
+element_row-requires-clause-long c =
+    let inside = child-within (tree_of c.args.parent.now.node.now) (tree_of c.in_ok-old.old.now) (chars c.args.token.now) c.in_ok-old.ensures.ok in
+    omega (arith, inside.0, c.requires.long)
+
+pub overflow_sub-len-in-Map : goal.overflow_sub-len-in-Map
+overflow_sub-len-in-Map c =
+    let pairs = c.in-Map.pairs in
+    let some = some_members (tree_of c.args.parent.now.node.now) (tree_of c.in_ok-old.old.now) pairs.items (chars c.args.token.now)
+    (ap tree_of c.in-Map.is ∙ tree_of-Map pairs) c.in_ok-old.ensures.ok in
+    omega (arith, some, vec_counted pairs c.len-in-Map.result c.len-in-Map.ensures)
+
+pub member_row-requires-clause-deep : goal.member_row-requires-clause-deep
+member_row-requires-clause-deep c =
+    let inside = child-within (tree_of c.args.parent.now.node.now) (tree_of c.in_ok-old.old.now) (chars c.args.token.now) c.in_ok-old.ensures.ok in
+    omega (arith, inside.1, c.requires.deep)
+
+pub member_row-requires-clause-long : goal.member_row-requires-clause-long
+member_row-requires-clause-long c =
+    let inside = child-within (tree_of c.args.parent.now.node.now) (tree_of c.in_ok-old.old.now) (chars c.args.token.now) c.in_ok-old.ensures.ok in
+    omega (arith, inside.0, c.requires.long)
+
+pub returns-in-Text-clause-missed : goal.returns-in-Text-clause-missed
+returns-in-Text-clause-missed c =
+    let token = chars c.args.token.now in
+    ap (λ t. cut t token) (ap tree_of c.in-Text.is ∙ tree_of-Text _) ∙ cut-Text _ token
+
+pub returns-in-Seq-clause-ok : goal.returns-in-Seq-clause-ok
+returns-in-Seq-clause-ok c =
+    let items = c.in-Seq.items in
+    let small = c.element_row.ensures.small in
+    taken_element c.args.parent.now.slot (tree_of c.args.parent.now.node.now) (tree_of c.in_ok-old.old.now) items.items (chars c.args.token.now) c.len.result c.element_row.result c.growth.result c.reversed.result
+    (ap tree_of c.in-Seq.is ∙ tree_of-Seq items) c.in_ok-old.ensures.ok
+    (vec_counted items c.len.result c.len.ensures) c.element_row.ensures.size (record { bytes = small.0; lines = small.1 }) c.growth.ensures c.reversed.ensures
+
+pub returns-in-Map-clause-ok : goal.returns-in-Map-clause-ok
+returns-in-Map-clause-ok c =
+    let pairs = c.in-Map.pairs in
+    let small = c.member_row.ensures.small in
+    taken_member c.args.parent.now.slot (tree_of c.args.parent.now.node.now) (tree_of c.in_ok-old.old.now) pairs.items (chars c.args.token.now) c.len-in-Map.result c.member_row.result c.growth-in-Map.result c.reversed-in-Map.result
+    (ap tree_of c.in-Map.is ∙ tree_of-Map pairs) c.in_ok-old.ensures.ok
+    (vec_counted pairs c.len-in-Map.result c.len-in-Map.ensures) c.member_row.ensures.size (record { bytes = small.0; lines = small.1 }) c.growth-in-Map.ensures c.reversed-in-Map.ensures

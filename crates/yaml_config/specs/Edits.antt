@@ -1,0 +1,13 @@
+-- Edits inside a configuration.
+use Rattle.std.specs.Prelude.{ℕ, List, Result}
+use Rattle.yaml_grammar.specs.Trees.{Tree}
+use Rattle.yaml_data.specs.Seen.{tree_of}
+use Rattle.tree_path.specs.Paths.{set, delete}
+use Rattle.json_pointer.specs.declared.fault.PathFault.{PathFault}
+use Rattle.yaml_config.specs.declared.edit.Edit.{Edit}
+use Rattle.yaml_config.specs.declared.edit.Edit.TheVariants.{Set, Delete}
+
+-- the tree after an edit at a path
+abbrev pub tree_after_edit : Edit → Tree → List (List ℕ) → Result Tree PathFault
+tree_after_edit (Set value) t path = set t path (tree_of value)
+tree_after_edit Delete t path = delete t path

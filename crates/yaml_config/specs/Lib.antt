@@ -1,0 +1,4 @@
+pub mod Changes
+pub mod Edits
+pub mod Kept
+pub mod Limits

@@ -1,0 +1,173 @@
+// How an edit changes the length of a tree in the one style.
+ghost use Rattle.std.specs.Prelude.{◌≡◌, ◌+◌, ◌*◌, ◌^◌, ◌<◌, ◌≤◌};
+ghost use Rattle.std.specs.Str.{chars};
+ghost use Rattle.yaml_grammar.specs.Texts.{byte_len};
+ghost use Rattle.yaml_grammar.specs.Trees.{depth};
+ghost use Rattle.yaml_grammar.specs.Style.{style_text};
+ghost use Rattle.yaml_data.specs.OwnLimits.{own_limits};
+ghost use Rattle.yaml_data.specs.Seen.{tree_of};
+ghost use Rattle.yaml_writer.specs.Sizes.{length_at};
+ghost use Rattle.yaml_config.specs.Changes.{growth, reversed_change, shifted_change, shifted_size, slot_in, first_row, child_size, element_row, member_row};
+
+use yaml_data::Tree;
+use yaml_writer::Size;
+
+/// The bytes of `[]` or `{}` with a line feed.
+const EMPTY: Size = Size { bytes: 3, lines: 0 };
+
+/// No bytes, and no lines.
+const NOTHING: Size = Size { bytes: 0, lines: 0 };
+
+/// What an edit takes out of a tree's text in the one style, and what it puts in. Both grow with the indentation of the
+/// whole tree, which is 0 for a tree by itself, and two more than its key's for the value of a key.
+#[derive(Clone, Copy, Debug, PartialEq, Eq)]
+pub struct Change {
+    /// What is taken out.
+    pub removed: Size,
+    /// What is put in.
+    pub added: Size,
+}
+
+impl Change {
+    /// The length in bytes, after the change, of a text that had `before` bytes, where the tree's indentation is
+    /// `indent` spaces, at most 4. The change takes out no more than there is then.
+    pub fn length_after(self, before: u64, indent: u64) -> u128
+        requires bytes { self.added.bytes < 2 ^ 100 }
+        requires lines { self.added.lines < 2 ^ 100 }
+        requires indent { indent ≤ 4 }
+        requires there { length_at self.removed indent ≤ before + length_at self.added indent }
+        ensures { result + length_at self.removed indent ≡ before + length_at self.added indent }
+    {
+        let indent = u128::from(indent);
+        let added = self.added.bytes + indent * self.added.lines;
+        u128::from(before) + added - (self.removed.bytes + indent * self.removed.lines)
+    }
+
+    /// The change back: what was put in is taken out.
+    pub(crate) fn reversed(self) -> Change
+        ensures { result ≡ reversed_change self }
+    {
+        Change {
+            removed: self.added,
+            added: self.removed,
+        }
+    }
+
+    /// The same change at an indentation that is `by` spaces more.
+    pub(crate) fn shifted(self, by: u128) -> Change
+        requires removed { self.removed.bytes + by * self.removed.lines < 2 ^ 128 }
+        requires added { self.added.bytes + by * self.added.lines < 2 ^ 128 }
+        ensures { result ≡ shifted_change by self }
+    {
+        Change {
+            removed: shifted_size(self.removed, by),
+            added: shifted_size(self.added, by),
+        }
+    }
+}
+
+/// The same size at an indentation that is `by` spaces more.
+fn shifted_size(size: Size, by: u128) -> Size
+    requires { size.bytes + by * size.lines < 2 ^ 128 }
+    ensures { result ≡ shifted_size by size }
+{
+    Size {
+        bytes: size.bytes + by * size.lines,
+        lines: size.lines,
+    }
+}
+
+/// The context of a node. A whole tree counts as a value.
+#[derive(Clone, Copy, Debug, PartialEq, Eq)]
+pub enum Slot {
+    /// After the `:` of a key.
+    Value,
+    /// After a `- `.
+    Element,
+}
+
+impl Slot {
+    /// The context of the values in a collection.
+    pub(crate) fn in_collection(tree: &Tree) -> Slot
+        ensures { result ≡ slot_in (tree_of tree.now) }
+    {
+        match tree {
+            Tree::Map(_) => Slot::Value,
+            _ => Slot::Element,
+        }
+    }
+
+    /// The size of a value in this context.
+    pub(crate) fn size_of(self, tree: &Tree) -> Size
+        requires deep { depth (tree_of tree.now) ≤ own_limits.depth }
+        requires long { byte_len (style_text (tree_of tree.now)) ≤ own_limits.style }
+        ensures size { result ≡ child_size self (tree_of tree.now) }
+        ensures small { (result.bytes < 2 ^ 32) × (result.lines < 2 ^ 32) }
+    {
+        match self {
+            Slot::Value => Size::of_value(tree),
+            Slot::Element => Size::of_element(tree),
+        }
+    }
+}
+
+/// The size of an element that isn't the first, with the spaces before its `- `.
+pub(crate) fn element_row(tree: &Tree) -> Size
+    requires deep { depth (tree_of tree.now) ≤ own_limits.depth }
+    requires long { byte_len (style_text (tree_of tree.now)) ≤ own_limits.style }
+    ensures size { result ≡ element_row (tree_of tree.now) }
+    ensures small { (result.bytes < 2 ^ 80) × (result.lines < 2 ^ 33) }
+{
+    let element = Size::of_element(tree);
+    Size {
+        bytes: 2 + element.bytes,
+        lines: 1 + element.lines,
+    }
+}
+
+/// The size of a member that isn't the first, with the spaces before its key.
+pub(crate) fn member_row(key: &str, tree: &Tree) -> Size
+    requires deep { depth (tree_of tree.now) ≤ own_limits.depth }
+    requires long { byte_len (style_text (tree_of tree.now)) ≤ own_limits.style }
+    ensures size { result ≡ member_row (chars key.now) (tree_of tree.now) }
+    ensures small { (result.bytes < 2 ^ 80) × (result.lines < 2 ^ 33) }
+{
+    let key = Size::of_key(key);
+    let value = Size::of_value(tree);
+    Size {
+        bytes: key.bytes + value.bytes,
+        lines: 1 + key.lines + value.lines,
+    }
+}
+
+/// What one more row changes in a collection of `count` values in this slot. The row is the new value's, as one that
+/// isn't the first; an empty collection is `[]` or `{}` before.
+pub(crate) fn growth(count: usize, row: Size, slot: Slot) -> Change
+    requires { 0 < row.lines }
+    ensures { result ≡ growth count row slot }
+{
+    if count == 0 {
+        return Change {
+            removed: EMPTY,
+            added: first_row(slot, row),
+        };
+    }
+    Change {
+        removed: NOTHING,
+        added: row,
+    }
+}
+
+/// The size of a row that is the first: in a collection after a `- ` it has no spaces before it.
+fn first_row(slot: Slot, row: Size) -> Size
+    requires { 0 < row.lines }
+    ensures { result ≡ first_row slot row }
+{
+    match slot {
+        Slot::Value => row,
+        Slot::Element => Size {
+            bytes: row.bytes,
+            lines: row.lines - 1,
+        },
+    }
+}

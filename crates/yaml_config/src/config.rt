@@ -1,0 +1,190 @@
+// A tree that is good to keep.
+ghost use Rattle.std.specs.Prelude.{◌≡◌, ◌<◌, ◌≤◌, [], IfOk, OnOk, IfErr};
+ghost use Rattle.yaml_grammar.specs.Reads.{Good};
+ghost use Rattle.yaml_grammar.specs.Style.{style_text};
+ghost use Rattle.yaml_grammar.specs.Texts.{byte_len};
+ghost use Rattle.yaml_grammar.specs.Trees.{depth, text};
+ghost use Rattle.yaml_config.specs.Kept.{IsKept, IsFirstFault, own_limits, limits_of};
+ghost use Rattle.yaml_data.specs.Seen.{tree_of};
+
+use crate::limits::Limits;
+use std::alloc::{AllocError, Global};
+use std::marker::Model;
+use yaml_data::{Text, Tree, has_distinct_keys};
+use yaml_events::ReadFault;
+use yaml_writer::style_len;
+
+/// The bytes of the empty text in the one style, `""` and a line feed.
+const EMPTY_LENGTH: u64 = 3;
+
+/// A tree in whose mappings no key comes twice, which is at most 66 deep and has at most 67,108,864 bytes in the one
+/// style. Its length in the one style is kept with it. Contracts see the tree.
+#[derive(Debug, Drop)]
+pub struct Config {
+    tree: Tree,
+    length: u64,
+}
+
+impl Model for Config {
+    ghost use Rattle.yaml_data.specs.declared.tree.Tree.{Tree};
+    ghost use Rattle.yaml_data.specs.contracts.tree.Tree as trees;
+
+    ghost Value = { Tree };
+
+    ghost coded = { trees.the_row.coded };
+
+    ghost use Rattle.std.specs.Prelude.{◌≡◌};
+    ghost use Rattle.yaml_grammar.specs.Style.{style_text};
+    ghost use Rattle.yaml_grammar.specs.Texts.{byte_len};
+    ghost use Rattle.yaml_config.specs.Kept.{IsKept};
+    ghost use Rattle.yaml_data.specs.Seen.{tree_of};
+
+    ghost view = { λ c. c.tree };
+
+    ghost invariant = { λ c. IsKept (tree_of c.tree)
+        × (c.length ≡ byte_len (style_text (tree_of c.tree))) };
+}
+
+impl Config {
+    /// The configuration of a tree. The tree may have any depth.
+    ///
+    /// # Errors
+    ///
+    /// The tree is returned with the first of these faults that holds:
+    ///
+    /// - [`ReadFault::KeyTwice`] if a mapping holds a key twice.
+    /// - [`ReadFault::TooDeep`] if the tree is more than 66 deep.
+    /// - [`ReadFault::LargeInStyle`] if it has more than 67,108,864 bytes in the one style.
+    ///
+    /// [`ReadFault::OutOfMemory`] may come at any point: keys are looked up in memory.
+    pub fn new(alloc: Global, tree: Tree) -> Result<Config, (Tree, ReadFault)>
+        ensures ok { IfOk result (λ config. (config ≡ tree) × IsKept (tree_of tree)) }
+        ensures refused { IfErr result (λ refused. (refused.0 ≡ tree)
+            × IsFirstFault own_limits (tree_of tree) refused.1) }
+    {
+        if tree.is_deeper_than(Limits::KEPT.depth as u8) {
+            let fault = deep_fault(alloc, &tree);
+            return Err((tree, fault));
+        }
+        Config::within(alloc, tree, &Limits::KEPT)
+    }
+
+    /// The configuration of a tree that keeps the limit of depth. The limits are at most those that every
+    /// configuration keeps ([`Limits::KEPT`]).
+    ///
+    /// # Errors
+    ///
+    /// The tree is returned with the first of these faults that holds:
+    ///
+    /// - [`ReadFault::KeyTwice`] if a mapping holds a key twice.
+    /// - [`ReadFault::LargeInStyle`] if the tree has more than `limits.style` bytes in the one style.
+    ///
+    /// [`ReadFault::OutOfMemory`] may come at any point: keys are looked up in memory.
+    pub fn within(alloc: Global, tree: Tree, limits: &Limits) -> Result<Config, (Tree, ReadFault)>
+        requires shallow { depth (tree_of tree) ≤ limits.now.depth }
+        requires depth { limits.now.depth ≤ own_limits.depth }
+        requires style { limits.now.style ≤ own_limits.style }
+        ensures ok { IfOk result (λ config. (config ≡ tree)
+            × Good (tree_of tree) (limits_of limits.now)) }
+        ensures refused { IfErr result (λ refused. (refused.0 ≡ tree)
+            × IsFirstFault (limits_of limits.now) (tree_of tree) refused.1) }
+    {
+        match checked_length(alloc, &tree, limits) {
+            Ok(length) => Ok(Config { tree, length }),
+            Err(fault) => Err((tree, fault)),
+        }
+    }
+
+    /// The configuration of a tree within the limits, whose length in the one style, in bytes, is known. It takes no
+    /// memory, and counts nothing.
+    pub fn from_parts(tree: Tree, length: u64) -> Config
+        requires kept { IsKept (tree_of tree) }
+        requires length { length ≡ byte_len (style_text (tree_of tree)) }
+        ensures { result ≡ tree }
+    {
+        Config { tree, length }
+    }
+
+    /// The empty text as a configuration. It takes no memory.
+    pub fn empty() -> Config
+        ensures { tree_of result ≡ text [] }
+    {
+        Config {
+            tree: Tree::Text(Text::empty()),
+            length: EMPTY_LENGTH,
+        }
+    }
+
+    /// The tree.
+    pub fn tree(&self) -> &Tree
+        ensures same { result.now ≡ self.now }
+        ensures kept { IsKept (tree_of self.now) }
+    {
+        &self.tree
+    }
+
+    /// The tree, taken out of the configuration, so that it can be changed.
+    pub fn into_tree(self) -> Tree
+        ensures same { result ≡ self }
+        ensures kept { IsKept (tree_of self) }
+    {
+        let Config { tree, .. } = self;
+        tree
+    }
+
+    /// How many bytes the tree has in the one style, at most 67,108,864. They are not counted again.
+    pub fn style_length(&self) -> u64
+        ensures { result ≡ byte_len (style_text (tree_of self.now)) }
+    {
+        self.length
+    }
+
+    /// How deep the tree is, at most 66, as [`Tree::depth`] counts.
+    pub fn depth(&self) -> u64
+        ensures depth { result ≡ depth (tree_of self.now) }
+        ensures kept { IsKept (tree_of self.now) }
+    {
+        self.tree.depth()
+    }
+
+    /// A copy: the same texts in the same order. It fails only if memory runs out.
+    pub fn try_copy(&self, alloc: Global) -> Result<Config, AllocError>
+        ensures { IfOk result (λ copy. tree_of copy ≡ tree_of self.now) }
+    {
+        let tree = self.tree.try_copy(alloc)?;
+        Ok(Config {
+            tree,
+            length: self.length,
+        })
+    }
+}
+
+/// The fault of a tree that is too deep: `KeyTwice` if that holds, else `TooDeep`; or memory ran out.
+fn deep_fault(alloc: Global, tree: &Tree) -> ReadFault
+    requires { own_limits.depth < depth (tree_of tree.now) }
+    ensures { IsFirstFault own_limits (tree_of tree.now) result }
+{
+    match has_distinct_keys(alloc, tree) {
+        Ok(true) => ReadFault::TooDeep,
+        Ok(false) => ReadFault::KeyTwice,
+        Err(_) => ReadFault::OutOfMemory,
+    }
+}
+
+/// The length in the one style of a tree that is known to keep the limit of depth, if it keeps the other limits too;
+/// else the first fault that holds.
+fn checked_length(alloc: Global, tree: &Tree, limits: &Limits) -> Result<u64, ReadFault>
+    requires shallow { depth (tree_of tree.now) ≤ limits.now.depth }
+    requires depth { limits.now.depth ≤ own_limits.depth }
+    ensures good { OnOk result (Good (tree_of tree.now) (limits_of limits.now)) }
+    ensures length { IfOk result (λ length. length ≡ byte_len (style_text (tree_of tree.now))) }
+    ensures refused { IfErr result (IsFirstFault (limits_of limits.now) (tree_of tree.now)) }
+{
+    if !has_distinct_keys(alloc, tree)? {
+        return Err(ReadFault::KeyTwice);
+    }
+    match style_len(tree, limits.style) {
+        None => Err(ReadFault::LargeInStyle),
+        Some(length) => Ok(length),
+    }
+}

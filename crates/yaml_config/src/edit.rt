@@ -1,0 +1,135 @@
+// Edits inside a configuration, planned and made.
+ghost use Rattle.std.specs.Prelude.{◌≡◌, ◌⊎◌, ◌<◌, ◌≤◌, true, Ok, Err, OnOk, OnErr, IfOk, IfErr, length, nat_le};
+ghost use Rattle.yaml_grammar.specs.Reads.{Good};
+ghost use Rattle.yaml_grammar.specs.Texts.{byte_len};
+ghost use Rattle.yaml_grammar.specs.Trees.{Tree as Meant, depth, distinct};
+ghost use Rattle.yaml_grammar.specs.Style.{style_text};
+ghost use Rattle.yaml_data.specs.Seen.{tree_of};
+ghost use Rattle.yaml_config.specs.Changes.{Changes};
+ghost use Rattle.tree_path.specs.Paths.{last_key};
+ghost use Rattle.yaml_config.specs.Edits.{tree_after_edit};
+ghost use Rattle.yaml_config.specs.Limits.{config_limits};
+ghost use Rattle.json_pointer.specs.declared.fault.PathFault.{PathFault};
+
+use crate::config::Config;
+use crate::limits::Limits;
+use crate::measure::{Plan, plan_delete, plan_set};
+use std::alloc::Global;
+use std::mem;
+use tree_path::{Path, PathFault, delete_planned, set_planned};
+use yaml_data::Tree;
+
+/// An edit of a configuration, at a path that is not empty (RFC 6901). It can be planned before anything changes, and
+/// is then made in place.
+#[derive(Drop)]
+pub enum Edit {
+    /// Puts a value there.
+    Set(Config),
+    /// Removes what is there.
+    Delete,
+}
+
+impl Edit {
+    /// What the edit changes in the configuration's length, and the place of the path's last key. It changes nothing.
+    /// Returns the fault of the path that [`tree_path::set`] or [`tree_path::delete`] would return.
+    pub fn plan(&self, config: &Config, path: &Path) -> Result<Plan, PathFault>
+        requires { 0 < length path.now }
+        ensures ok { IfOk result (λ plan. (new : Meant)
+            × (tree_after_edit self.now (tree_of config.now) path.now ≡ Ok new)
+            × Changes plan.change (tree_of config.now) new) }
+        ensures place { IfOk result (λ plan.
+            plan.place ≡ last_key (tree_of config.now) path.now) }
+        ensures refused { IfErr result (λ fault. tree_after_edit self.now (tree_of config.now)
+            path.now ≡ Err fault) }
+    {
+        match self {
+            Edit::Set(value) => plan_set(config, path, value.tree()),
+            Edit::Delete => plan_delete(config, path),
+        }
+    }
+
+    /// Whether a configuration that is at most 64 deep is so after the edit too.
+    pub fn keeps_depth(&self, path: &Path) -> bool
+        ensures { (t new : Meant) → depth t ≤ config_limits.depth
+            → tree_after_edit self.now t path.now ≡ Ok new
+            → result ≡ nat_le (depth new) config_limits.depth }
+    {
+        match self {
+            Edit::Set(value) => {
+                (path.steps() as u64).saturating_add(value.depth()) <= Limits::CONFIGURATION.depth
+            }
+            Edit::Delete => true,
+        }
+    }
+
+    /// Makes the edit that was planned: `place` is that of the path's last key, and `bytes` is how many bytes the
+    /// configuration then has in the one style. It is then within the limits, too. Returns `OutOfMemory` if memory runs
+    /// out, and then changes nothing; no other fault comes.
+    pub fn perform(
+        self,
+        alloc: Global,
+        config: &mut Config,
+        path: &Path,
+        place: Option<usize>,
+        bytes: u64,
+    ) -> Result<(), PathFault>
+        requires steps { 0 < length path.now }
+        requires place { place ≡ last_key (tree_of config.old) path.now }
+        requires leaves { (new : Meant)
+            × (tree_after_edit self (tree_of config.old) path.now ≡ Ok new)
+            × (depth new ≤ config_limits.depth)
+            × (byte_len (style_text new) ≤ config_limits.style)
+            × (bytes ≡ byte_len (style_text new)) }
+        ensures ok { OnOk result (tree_after_edit self (tree_of config.old) path.now
+            ≡ Ok (tree_of config.new)) }
+        ensures within { OnOk result (Good (tree_of config.new) config_limits) }
+        ensures refused { IfErr result (λ fault. fault ≡ PathFault.OutOfMemory) }
+        ensures unchanged { OnErr result (tree_of config.new ≡ tree_of config.old) }
+    {
+        let before = config.style_length();
+        let mut tree = mem::replace(config, Config::empty()).into_tree();
+        match self.edit_tree(alloc, &mut tree, path, place) {
+            Ok(()) => {
+                *config = Config::from_parts(tree, bytes);
+                Ok(())
+            }
+            Err(fault) => {
+                *config = Config::from_parts(tree, before);
+                Err(fault)
+            }
+        }
+    }
+
+    /// Makes the edit in a tree, where the place of the path's last key is known. A fault changes nothing.
+    fn edit_tree(
+        self,
+        alloc: Global,
+        tree: &mut Tree,
+        path: &Path,
+        place: Option<usize>,
+    ) -> Result<(), PathFault>
+        requires steps { 0 < length path.now }
+        requires place { place ≡ last_key (tree_of tree.old) path.now }
+        ensures ok { OnOk result (tree_after_edit self (tree_of tree.old) path.now
+            ≡ Ok (tree_of tree.new)) }
+        ensures distinct { OnOk result (distinct (tree_of tree.old) ≡ true
+            → distinct (tree_of tree.new) ≡ true) }
+        ensures refused { IfErr result (λ fault. (fault ≡ PathFault.OutOfMemory)
+            ⊎ (tree_after_edit self (tree_of tree.old) path.now ≡ Err fault)) }
+        ensures unchanged { OnErr result (tree_of tree.new ≡ tree_of tree.old) }
+    {
+        match self {
+            Edit::Set(value) => {
+                let value = value.into_tree();
+                if let Err((_, fault)) = set_planned(alloc, tree, path, place, value) {
+                    return Err(fault);
+                }
+                Ok(())
+            }
+            Edit::Delete => {
+                let _ = delete_planned(tree, path, place)?;
+                Ok(())
+            }
+        }
+    }
+}

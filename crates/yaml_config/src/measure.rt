@@ -1,0 +1,238 @@
+// Lengths after edits, found without making the edits.
+ghost use Rattle.std.specs.Prelude.{◌≡◌, ◌<◌, ◌≤◌, Ok, Err, IfOk, IfErr, length};
+ghost use Rattle.std.specs.Str.{chars};
+ghost use Rattle.yaml_grammar.specs.Texts.{byte_len};
+ghost use Rattle.yaml_grammar.specs.Trees.{Tree as Meant, depth};
+ghost use Rattle.yaml_grammar.specs.Style.{style_text};
+ghost use Rattle.yaml_config.specs.Kept.{IsKept};
+ghost use Rattle.yaml_data.specs.OwnLimits.{own_limits};
+ghost use Rattle.yaml_data.specs.Seen.{tree_of};
+ghost use Rattle.yaml_config.specs.Changes.{Changes, ChangesSmall, Located};
+ghost use Rattle.tree_path.specs.Paths.{at, set, delete, child, put, cut, key_in, last_key};
+ghost use Rattle.json_pointer.specs.Tokens.{texts};
+
+use crate::change::{Change, Slot, element_row, growth, member_row};
+use crate::config::Config;
+use std::borrow::CowStr;
+use tree_path::{Miss, Path, PathFault, child, child_at, key_in};
+use yaml_data::Tree;
+use yaml_writer::style_len;
+
+/// The node that an edit changes, and its context.
+#[derive(Clone, Copy)]
+struct Parent<'t> {
+    node: &'t Tree,
+    slot: Slot,
+}
+
+/// What an edit changes in a tree's length, and the place of the path's last key in its mapping, from 0.
+#[derive(Clone, Copy, Debug, PartialEq, Eq)]
+pub struct Plan {
+    /// What the edit changes.
+    pub change: Change,
+    /// Where the key is, from 0; `None` if it is missing, or the last step leads into a sequence.
+    pub place: Option<usize>,
+}
+
+/// What [`set`](tree_path::set) changes in the length of a configuration, without setting anything, and where the
+/// path's last key is, for [`set_planned`](tree_path::set_planned). The path is not empty, and the value is the tree of
+/// a configuration. The faults are those of `set`, but for running out of memory.
+///
+/// It takes no memory. Its time grows with the path, the value and what the value replaces, and not with the
+/// configuration, except that a key is compared with the keys of its mapping one by one.
+pub fn plan_set(config: &Config, path: &Path, value: &Tree) -> Result<Plan, PathFault>
+    requires steps { 0 < length path.now }
+    requires kept { IsKept (tree_of value.now) }
+    ensures ok { IfOk result (λ plan. (new : Meant)
+        × (set (tree_of config.now) path.now (tree_of value.now) ≡ Ok new)
+        × Changes plan.change (tree_of config.now) new) }
+    ensures place { IfOk result (λ plan.
+        plan.place ≡ last_key (tree_of config.now) path.now) }
+    ensures refused { IfErr result (λ fault. set (tree_of config.now) path.now (tree_of value.now)
+        ≡ Err fault) }
+{
+    let tree = config.tree();
+    plan_set_at(tree, path.tokens(), value)
+}
+
+/// What [`delete`](tree_path::delete) changes in the length of a configuration, without deleting anything, and where
+/// the path's last key is, for [`delete_planned`](tree_path::delete_planned). The path is not empty. The faults are
+/// those of `delete`.
+///
+/// It takes no memory. Its time grows with the path and with what is deleted, and not with the configuration, except
+/// that a key is compared with the keys of its mapping one by one.
+pub fn plan_delete(config: &Config, path: &Path) -> Result<Plan, PathFault>
+    requires { 0 < length path.now }
+    ensures ok { IfOk result (λ plan. (new : Meant)
+        × (delete (tree_of config.now) path.now ≡ Ok new)
+        × Changes plan.change (tree_of config.now) new) }
+    ensures place { IfOk result (λ plan.
+        plan.place ≡ last_key (tree_of config.now) path.now) }
+    ensures refused { IfErr result (λ fault. delete (tree_of config.now) path.now ≡ Err fault) }
+{
+    let tree = config.tree();
+    plan_delete_at(tree, path.tokens())
+}
+
+/// How many bytes a configuration has in the one style after [`set`](tree_path::set), without setting anything. The
+/// value is the tree of a configuration, and the path may be empty. It takes no memory, and the time of [`plan_set`].
+/// The faults are those of `set`, but for running out of memory.
+pub fn set_len(config: &Config, path: &Path, value: &Tree) -> Result<u128, PathFault>
+    requires { IsKept (tree_of value.now) }
+    ensures ok { IfOk result (λ bytes. (new : Meant)
+        × (set (tree_of config.now) path.now (tree_of value.now) ≡ Ok new)
+        × (bytes ≡ byte_len (style_text new))) }
+    ensures refused { IfErr result (λ fault. set (tree_of config.now) path.now (tree_of value.now)
+        ≡ Err fault) }
+{
+    if path.steps() == 0 {
+        return Ok(u128::from(style_len(value, u64::MAX).unwrap()));
+    }
+    let plan = plan_set(config, path, value)?;
+    Ok(plan.change.length_after(config.style_length(), 0))
+}
+
+/// How many bytes a configuration has in the one style after [`delete`](tree_path::delete), without deleting anything.
+/// The path is not empty. It takes no memory, and the time of [`plan_delete`]. The faults are those of `delete`.
+pub fn delete_len(config: &Config, path: &Path) -> Result<u128, PathFault>
+    requires { 0 < length path.now }
+    ensures ok { IfOk result (λ bytes. (new : Meant)
+        × (delete (tree_of config.now) path.now ≡ Ok new) × (bytes ≡ byte_len (style_text new))) }
+    ensures refused { IfErr result (λ fault. delete (tree_of config.now) path.now ≡ Err fault) }
+{
+    let plan = plan_delete(config, path)?;
+    Ok(plan.change.length_after(config.style_length(), 0))
+}
+
+fn plan_set_at(tree: &Tree, tokens: &[CowStr<'_>], value: &Tree) -> Result<Plan, PathFault>
+    requires steps { 0 < length tokens.now }
+    requires tree { IsKept (tree_of tree.now) }
+    requires value { IsKept (tree_of value.now) }
+    ensures ok { IfOk result (λ plan. (new : Meant)
+        × (set (tree_of tree.now) (texts tokens.now) (tree_of value.now) ≡ Ok new)
+        × Changes plan.change (tree_of tree.now) new) }
+    ensures place { IfOk result (λ plan.
+        plan.place ≡ last_key (tree_of tree.now) (texts tokens.now)) }
+    ensures refused { IfErr result (λ fault.
+        set (tree_of tree.now) (texts tokens.now) (tree_of value.now) ≡ Err fault) }
+{
+    let (last, parents) = tokens.split_last().unwrap();
+    let parent = parent_at(tree, parents)?;
+    let token = last.as_str();
+    let place = key_in(parent.node, token);
+    match put_change(&parent, token, place, value) {
+        Ok(change) => Ok(Plan {
+            change: change.shifted(2 * parents.len() as u128),
+            place,
+        }),
+        Err(miss) => Err(miss.at_step(tokens.len())),
+    }
+}
+
+fn plan_delete_at(tree: &Tree, tokens: &[CowStr<'_>]) -> Result<Plan, PathFault>
+    requires steps { 0 < length tokens.now }
+    requires tree { IsKept (tree_of tree.now) }
+    ensures ok { IfOk result (λ plan. (new : Meant)
+        × (delete (tree_of tree.now) (texts tokens.now) ≡ Ok new)
+        × Changes plan.change (tree_of tree.now) new) }
+    ensures place { IfOk result (λ plan.
+        plan.place ≡ last_key (tree_of tree.now) (texts tokens.now)) }
+    ensures refused { IfErr result (λ fault. delete (tree_of tree.now) (texts tokens.now)
+        ≡ Err fault) }
+{
+    let (last, parents) = tokens.split_last().unwrap();
+    let parent = parent_at(tree, parents)?;
+    let token = last.as_str();
+    let place = key_in(parent.node, token);
+    match cut_change(&parent, token, place) {
+        Ok(change) => Ok(Plan {
+            change: change.shifted(2 * parents.len() as u128),
+            place,
+        }),
+        Err(miss) => Err(miss.at_step(tokens.len())),
+    }
+}
+
+/// The node to which the tokens lead, and its context.
+fn parent_at<'t>(tree: &'t Tree, tokens: &[CowStr<'_>]) -> Result<Parent<'t>, PathFault>
+    ensures ok { IfOk result (λ parent.
+        Located (texts tokens.now) Slot.Value (tree_of tree.now) parent.slot
+        (tree_of parent.node.now)) }
+    ensures refused { IfErr result (λ fault. at (tree_of tree.now) (texts tokens.now) ≡ Err fault) }
+{
+    let mut node = tree;
+    let mut slot = Slot::Value;
+    for (passed, token) in tokens.iter().enumerate() {
+        let child = match child(node, token.as_str()) {
+            Ok(child) => child,
+            Err(miss) => return Err(miss.at_step(passed + 1)),
+        };
+        slot = Slot::in_collection(node);
+        node = child;
+    }
+    Ok(Parent { node, slot })
+}
+
+/// What putting a value into a node changes in its length, where the place of its key is known.
+fn put_change(
+    parent: &Parent<'_>,
+    token: &str,
+    place: Option<usize>,
+    value: &Tree,
+) -> Result<Change, Miss>
+    requires place { place ≡ key_in (tree_of parent.now.node.now) (chars token.now) }
+    requires deep { depth (tree_of parent.now.node.now) ≤ own_limits.depth }
+    requires long { byte_len (style_text (tree_of parent.now.node.now)) ≤ own_limits.style }
+    requires value_deep { depth (tree_of value.now) ≤ own_limits.depth }
+    requires value_long { byte_len (style_text (tree_of value.now)) ≤ own_limits.style }
+    ensures ok { IfOk result (λ change. (new : Meant)
+        × (put (tree_of parent.now.node.now) (chars token.now) (tree_of value.now) ≡ Ok new)
+        × ChangesSmall parent.now.slot change (tree_of parent.now.node.now) new) }
+    ensures missed { IfErr result
+        (λ miss. put (tree_of parent.now.node.now) (chars token.now) (tree_of value.now)
+        ≡ Err miss) }
+{
+    let miss = match child_at(parent.node, token, place) {
+        Ok(old) => {
+            let slot = Slot::in_collection(parent.node);
+            return Ok(Change {
+                removed: slot.size_of(old),
+                added: slot.size_of(value),
+            });
+        }
+        Err(miss) => miss,
+    };
+    match parent.node {
+        Tree::Text(_) => Err(miss),
+        Tree::Seq(items) => {
+            if token == "-" {
+                return Ok(growth(items.len(), element_row(value), parent.slot));
+            }
+            Err(miss)
+        }
+        Tree::Map(pairs) => Ok(growth(pairs.len(), member_row(token, value), parent.slot)),
+    }
+}
+
+/// What taking a value out of a node changes in its length, where the place of its key is known.
+fn cut_change(parent: &Parent<'_>, token: &str, place: Option<usize>) -> Result<Change, Miss>
+    requires place { place ≡ key_in (tree_of parent.now.node.now) (chars token.now) }
+    requires deep { depth (tree_of parent.now.node.now) ≤ own_limits.depth }
+    requires long { byte_len (style_text (tree_of parent.now.node.now)) ≤ own_limits.style }
+    ensures ok { IfOk result (λ change. (new : Meant)
+        × (cut (tree_of parent.now.node.now) (chars token.now) ≡ Ok new)
+        × ChangesSmall parent.now.slot change (tree_of parent.now.node.now) new) }
+    ensures missed { IfErr result (λ miss. cut (tree_of parent.now.node.now) (chars token.now)
+        ≡ Err miss) }
+{
+    let old = child_at(parent.node, token, place)?;
+    match parent.node {
+        Tree::Text(_) => Err(Miss::Absent),
+        Tree::Seq(items) => Ok(growth(items.len() - 1, element_row(old), parent.slot).reversed()),
+        Tree::Map(pairs) => Ok(growth(
+            pairs.len() - 1,
+            member_row(token, old),
+            parent.slot,
+        ).reversed()),
+    }
+}

@@ -1,0 +1,102 @@
+// The flow scalar at a place.
+ghost use Rattle.std.specs.Prelude.{◌≡◌, ◌≤◌, true, not, IfOk, IfErr};
+ghost use Rattle.std.specs.Cow.{IsBorrowedStr};
+ghost use Rattle.std.specs.Str.{IsCharBoundary};
+ghost use Rattle.yaml_events.specs.Meant.{context_of};
+ghost use Rattle.yaml_events.specs.EventPlaces.{Refuses};
+ghost use Rattle.yaml_flow.specs.Scalars.{FlowScalarRead, NoFlowScalar, scalar_event_at};
+ghost use Rattle.yaml_scan.specs.ScanPlaces.{unbroken_between};
+
+use std::alloc::Global;
+use std::borrow::CowStr;
+use yaml_events::{Event, FlowContext, ScanFault, Span, Style};
+use yaml_flow_scalars::{double, plain, single};
+use yaml_scan::{has_break, stands_at};
+
+/// A flow scalar that starts at a known place.
+#[derive(Debug, Drop)]
+pub struct FlowScalar<'a> {
+    /// How it is written.
+    pub style: Style,
+    /// Its value, borrowed from the text where the text has it in one piece.
+    pub value: CowStr<'a>,
+    /// The place after it.
+    pub end: usize,
+}
+
+impl<'a> FlowScalar<'a> {
+    /// Returns the event of the scalar, which starts at `start`.
+    #[inline(always)]
+    pub fn into_event(self, start: usize) -> Event<'a>
+        ensures { result ≡ scalar_event_at start self.entry }
+    {
+        Event::Scalar {
+            style: self.style,
+            span: Span {
+                start,
+                end: self.end,
+            },
+            value: self.value,
+        }
+    }
+
+    /// Returns whether the scalar, which starts at `start`, runs over lines. A scalar whose value is borrowed has no
+    /// break, so only the others are searched for one.
+    pub fn is_over_lines(&self, text: &str, start: usize) -> bool
+        requires order { start ≤ self.now.end }
+        requires from { IsCharBoundary text.now start }
+        requires to { IsCharBoundary text.now self.now.end }
+        requires unbroken { IsBorrowedStr self.now.value
+            → unbroken_between text.now start self.now.end ≡ true }
+        ensures { result ≡ not (unbroken_between text.now start self.now.end) }
+    {
+        match &self.value {
+            CowStr::Borrowed(_) => false,
+            CowStr::Owned(_) => has_break(text, start, self.end),
+        }
+    }
+}
+
+/// Returns the flow scalar at `at` in the context `c` (YAML 1.2.2, 7.3): a quoted one if its first character is `"` or
+/// `'`, else a plain one. Further lines are indented by `n` spaces or more; a key has none.
+///
+/// # Errors
+///
+/// [`ScanFault::At`] only if no flow scalar is at `at`, and [`ScanFault::OutOfMemory`] if there is no memory for the
+/// value.
+#[inline(always)]
+pub fn scalar_at<'a>(
+    alloc: Global,
+    text: &'a str,
+    at: usize,
+    n: u64,
+    c: FlowContext,
+) -> Result<FlowScalar<'a>, ScanFault>
+    requires { IsCharBoundary text.now at }
+    ensures found { IfOk result (FlowScalarRead n (context_of c) text.now at) }
+    ensures none { IfErr result (λ fault.
+        Refuses fault (NoFlowScalar n (context_of c) text.now at)) }
+{
+    if stands_at(text, at, b'"') {
+        let (value, end) = double(alloc, text, at, n, c)?;
+        return Ok(FlowScalar {
+            style: Style::Double,
+            value,
+            end,
+        });
+    }
+    if stands_at(text, at, b'\'') {
+        let (value, end) = single(alloc, text, at, n, c)?;
+        return Ok(FlowScalar {
+            style: Style::Single,
+            value,
+            end,
+        });
+    }
+    let (value, end) = plain(alloc, text, at, n, c)?;
+    Ok(FlowScalar {
+        style: Style::Plain,
+        value,
+        end,
+    })
+}

@@ -1,9 +1,0 @@
-use Rattle.yaml_laws.proofs.PieceLists.{one_list}
-use Rattle.yaml_laws.proofs.PiecesFound.{some_pieces}
-use Rattle.yaml_laws.proofs.one_list_of_pieces.Goals as goal
-
-pub returns-clause-some : goal.returns-clause-some
-returns-clause-some c = some_pieces
-
-pub returns-clause-one : goal.returns-clause-one
-returns-clause-one c = one_list

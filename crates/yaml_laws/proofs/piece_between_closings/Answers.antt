@@ -1,8 +1,0 @@
-use Rattle.yaml_laws.proofs.PiecesFound.{piece_between, rest_unclosed}
-use Rattle.yaml_laws.proofs.piece_between_closings.Goals as goal
-
-pub returns-clause-piece : goal.returns-clause-piece
-returns-clause-piece c = piece_between
-
-pub returns-clause-rest : goal.returns-clause-rest
-returns-clause-rest c = rest_unclosed

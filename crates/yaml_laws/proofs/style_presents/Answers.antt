@@ -1,8 +1,0 @@
-use Rattle.yaml_laws.proofs.StyleRead.{style_presented, framed_presented}
-use Rattle.yaml_laws.proofs.style_presents.Goals as goal
-
-pub returns-clause-alone : goal.returns-clause-alone
-returns-clause-alone c = style_presented
-
-pub returns-clause-framed : goal.returns-clause-framed
-returns-clause-framed c = framed_presented

@@ -1,8 +1,0 @@
-use Rattle.yaml_laws.proofs.StyleRead.{style_read, framed_read}
-use Rattle.yaml_laws.proofs.style_reads.Goals as goal
-
-pub returns-clause-alone : goal.returns-clause-alone
-returns-clause-alone c = style_read c.unambiguous.ensures
-
-pub returns-clause-framed : goal.returns-clause-framed
-returns-clause-framed c = framed_read c.unambiguous.ensures

@@ -1,9 +1,0 @@
-use Rattle.std.proofs.lemmas.Result.{on_ok_weaker}
-use Rattle.yaml_scalar_style.proofs.quoted.write_quoted.Goals as goal
-
-pub returns : goal.returns
-returns g c =
-    let both = g.met.S.Sink.takes_both in
-    on_ok_weaker c.put_char-2.result
-    (both _ _ _ _ _ (both _ _ _ _ _ c.in_ok-put_char.ensures c.in_ok-write_quoted_chars.ensures))
-    c.put_char-2.ensures

@@ -1,5 +1,0 @@
-use Rattle.std.proofs.lemmas.Result.{on_ok_weaker}
-use Rattle.yaml_scalar_style.proofs.quoted.write_two_digits.Goals as goal
-
-pub returns : goal.returns
-returns g c = on_ok_weaker c.write_digit-2.result (g.met.S.Sink.takes_both _ _ _ _ _ c.in_ok-write_digit.ensures) c.write_digit-2.ensures

@@ -1,9 +1,0 @@
-use Rattle.std.proofs.lemmas.Bool.Decides.{same_from_decides}
-use Rattle.yaml_data.proofs.CharacterLemmas.{same_text-Decides}
-use Rattle.yaml_scalar_style.proofs.ScalarLemmas.{map-lower}
-use Rattle.yaml_scalar_style.proofs.scalar.is_same_word.Goals as goal
-
-pub returns : goal.returns
-returns c =
-    rw (c.requires, ← map-lower c.args.text.now, ← map-lower c.args.word.now)
-    (same_from_decides _ _ c.eq_ignore_ascii_case.ensures.test (same_text-Decides _ _))

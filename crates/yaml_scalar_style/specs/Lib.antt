@@ -1,4 +1,0 @@
-pub mod Encoded
-pub mod Lines
-pub mod Runs
-pub mod ScalarStyles

@@ -1,0 +1,49 @@
+use Rattle.std.proofs.Common.{◌≡◌, Some, List, [], sym, ap, ◌∙◌}
+use Rattle.std.proofs.lemmas.Result.{err_from_is_err_and}
+use Rattle.yaml_events.specs.Meant.{events_of}
+use Rattle.yaml_events.specs.declared.event.Event.{Event}
+use Rattle.yaml_grammar.specs.Trees.{shapes}
+use Rattle.yaml_tree.specs.Emptied.{open_frames}
+use Rattle.yaml_data.specs.Keys.{nothing}
+use Rattle.yaml_tree.specs.Frames.{finished_tree}
+use Rattle.yaml_tree.proofs.CheckLemmas.{emptied_refuses}
+use Rattle.yaml_tree.proofs.EmptiedLemmas.{finished_emptied}
+use Rattle.yaml_tree.proofs.EventLemmas.{run_on, run_ended, run_tree, stopped_refuses}
+use Rattle.yaml_tree.proofs.FrameLemmas.{run}
+use Rattle.yaml_tree.proofs.key_check.document_keys_differ.Goals as goal
+
+pub loop-event-preserved : goal.loop-event-preserved
+loop-event-preserved c =
+    let l = c.loop-event in
+    let fs = l.invariant.0 in
+    let took = c.in_ok-take.ensures fs l.invariant.2 in
+    (took.parts, run_on l.event-iterator c.next.new.self c.args.events c.in-Some.event fs took.parts c.in-Some.ensures.steps l.invariant.1 took.are, took.keeps)
+
+pub returns-in_err-take : goal.returns-in_err-take
+returns-in_err-take c =
+    let l = c.loop-event in
+    let fs = l.invariant.0 in
+    let p = err_from_is_err_and c.from_residual.result c.from_residual.ensures.1 in
+    rw (p.1, p.2)
+    (stopped_refuses l.event-iterator c.next.new.self c.args.events c.in-Some.event fs _
+    c.in-Some.ensures.steps l.invariant.1 (c.in_err-take.ensures fs l.invariant.2))
+
+pub returns-in_err-finish : goal.returns-in_err-finish
+returns-in_err-finish c =
+    let l = c.loop-event in
+    let fs = l.invariant.0 in
+    let all : List Event = c.args.events in
+    let done : run (Some []) (shapes (events_of all)) ≡ Some fs = run_ended l.event-iterator all fs c.in-None.ensures.steps.0 l.invariant.1 in
+    let p = err_from_is_err_and c.from_residual-in_err-finish.result c.from_residual-in_err-finish.ensures.1 in
+    rw (p.1, p.2)
+    (emptied_refuses (events_of all) fs (open_frames l.check.open.parts.items) _ done l.invariant.2.frames c.in_err-finish.ensures)
+
+pub returns : goal.returns
+returns c =
+    let l = c.loop-event in
+    let fs = l.invariant.0 in
+    let all : List Event = c.args.events in
+    let done : run (Some []) (shapes (events_of all)) ≡ Some fs = run_ended l.event-iterator all fs c.in-None.ensures.steps.0 l.invariant.1 in
+    let found = finished_emptied fs nothing l.check.keys_differ
+    (ap finished_tree (sym l.invariant.2.frames) ∙ c.in_ok-finish.ensures) l.invariant.2.differ in
+    (found.tree, run_tree (events_of all) fs found.tree done found.is, found.distinct)

@@ -1,0 +1,9 @@
+use Rattle.std.proofs.lemmas.Bool.Decides.{same_from_decides}
+use Rattle.yaml_data.proofs.CharacterLemmas.{same_text-Decides}
+use Rattle.yaml_writer.proofs.ScalarLemmas.{map-lower}
+use Rattle.yaml_writer.proofs.scalar_style.is_same_word.Goals as goal
+
+pub returns : goal.returns
+returns c =
+    rw (c.requires, ← map-lower c.args.text.now, ← map-lower c.args.word.now)
+    (same_from_decides _ _ c.eq_ignore_ascii_case.ensures.test (same_text-Decides _ _))

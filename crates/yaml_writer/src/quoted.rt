@@ -1,0 +1,147 @@
+// Texts in double quotes (YAML 1.2.2, 7.3.1).
+ghost use Rattle.std.specs.Prelude.{◌≡◌, ◌≤◌, ◌<◌, ◌/◌, ◌%◌, ◌^◌, ◌∷◌, [], true, false, ◌==◌, ◌||◌, length, take, OnOk, MatchOption};
+ghost use Rattle.std.specs.Str.{chars};
+ghost use Rattle.yaml_chars.specs.Classes.{in_range};
+ghost use Rattle.yaml_chars.specs.Signs.{null, bell, carriage_return, escape_char, backslash};
+ghost use Rattle.std.specs.List.{list_all};
+ghost use Rattle.yaml_grammar.specs.Style.{hex, letter_escape, quoted_char, quoted_chars, in_double_quotes};
+ghost use Rattle.yaml_writer.specs.Runs.{stands_alone, number_escape};
+
+use crate::bytes::{are_alone, is_alone};
+use crate::scalar_style::is_shown;
+use crate::sink::Sink;
+
+/// Writes a text in double quotes, on one line, without the line's end. It fails only if the sink does.
+pub(crate) fn write_quoted<S: Sink>(text: &str, sink: &mut S) -> Result<(), S::Fault>
+    ensures { OnOk result (S.Takes sink.old (in_double_quotes (chars text.now)) sink.new) }
+{
+    sink.put_char('"')?;
+    write_quoted_chars(text, sink)?;
+    sink.put_char('"')
+}
+
+/// Writes what is between the quotes: runs of ASCII that need no escape at once, other characters one by one.
+fn write_quoted_chars<S: Sink>(text: &str, sink: &mut S) -> Result<(), S::Fault>
+    ensures { OnOk result (S.Takes sink.old (quoted_chars (chars text.now)) sink.new) }
+{
+    let mut rest = text;
+    while let Some(c) = rest.chars().next() {
+        let run = run_len(rest);
+        if run > 0 {
+            sink.put_text(&rest[..run])?;
+            rest = &rest[run..];
+        } else {
+            write_quoted_char(c, sink)?;
+            rest = &rest[c.len_utf8()..];
+        }
+    }
+    Ok(())
+}
+
+/// How many bytes at the start are ASCII characters that need no escape.
+fn run_len(text: &str) -> usize
+    ensures within { result ≤ length text.now }
+    ensures alone { list_all stands_alone (take result text.now) ≡ true }
+{
+    let bytes = text.as_bytes();
+    let mut len = sixteens_len(bytes);
+    while len < bytes.len() && is_alone(bytes[len]) {
+        len += 1;
+    }
+    len
+}
+
+/// The same, counted sixteen bytes at a time: the length of the whole groups of sixteen at the start.
+fn sixteens_len(bytes: &[u8]) -> usize
+    ensures within { result ≤ length bytes.now }
+    ensures alone { list_all stands_alone (take result bytes.now) ≡ true }
+{
+    let mut len = 0;
+    while bytes.len() - len >= 16 && are_alone(&bytes[len..len + 16]) {
+        len += 16;
+    }
+    len
+}
+
+/// Writes a character between the quotes: as itself, or as an escape (YAML 1.2.2, 5.7).
+fn write_quoted_char<S: Sink>(c: char, sink: &mut S) -> Result<(), S::Fault>
+    ensures { OnOk result (S.Takes sink.old (quoted_char c) sink.new) }
+{
+    if c == '"' || c == '\\' {
+        write_escape(c, sink)
+    } else if is_shown(c) {
+        sink.put_char(c)
+    } else if let Some(letter) = escape_letter(c) {
+        write_escape(letter, sink)
+    } else {
+        write_number(c, sink)
+    }
+}
+
+/// Writes a backslash and a character.
+fn write_escape<S: Sink>(c: char, sink: &mut S) -> Result<(), S::Fault>
+    ensures { OnOk result (S.Takes sink.old (backslash ∷ c ∷ []) sink.new) }
+{
+    sink.put_char('\\')?;
+    sink.put_char(c)
+}
+
+/// The letter that means a character after a backslash (YAML 1.2.2, 5.7); `None` if it has no such letter.
+fn escape_letter(c: char) -> Option<char>
+    ensures { MatchOption result
+        ((c == null) || in_range bell carriage_return c || (c == escape_char) ≡ false)
+        (λ letter. ((c == null) || in_range bell carriage_return c || (c == escape_char) ≡ true)
+        × (letter ≡ letter_escape c)) }
+{
+    match c {
+        '\0' => Some('0'),
+        '\x07' => Some('a'),
+        '\x08' => Some('b'),
+        '\t' => Some('t'),
+        '\n' => Some('n'),
+        '\x0b' => Some('v'),
+        '\x0c' => Some('f'),
+        '\r' => Some('r'),
+        '\x1b' => Some('e'),
+        _ => None,
+    }
+}
+
+/// Writes a character by its number: `\x` and two hexadecimal digits if it is below 256, else `\u` and four. All
+/// characters from x10000 on are shown, so none of them comes here.
+fn write_number<S: Sink>(c: char, sink: &mut S) -> Result<(), S::Fault>
+    requires { c < 2 ^ 16 }
+    ensures { OnOk result (S.Takes sink.old (number_escape c) sink.new) }
+{
+    let number = c as u32;
+    if number <= 0xff {
+        write_escape('x', sink)?;
+        return write_two_digits(number, sink);
+    }
+    write_escape('u', sink)?;
+    write_two_digits(number / 256, sink)?;
+    write_two_digits(number % 256, sink)
+}
+
+/// Writes a number below 256 as two hexadecimal digits.
+fn write_two_digits<S: Sink>(number: u32, sink: &mut S) -> Result<(), S::Fault>
+    requires { number < 256 }
+    ensures { OnOk result (S.Takes sink.old (hex (number / 16) ∷ hex (number % 16) ∷ []) sink.new) }
+{
+    write_digit(number / 16, sink)?;
+    write_digit(number % 16, sink)
+}
+
+/// Writes a number below 16 as a hexadecimal digit in upper case.
+fn write_digit<S: Sink>(digit: u32, sink: &mut S) -> Result<(), S::Fault>
+    requires { digit < 16 }
+    ensures { OnOk result (S.Takes sink.old (hex digit ∷ []) sink.new) }
+{
+    let digit = digit as u8;
+    let code = if digit < 10 {
+        b'0' + digit
+    } else {
+        b'A' + (digit - 10)
+    };
+    sink.put_char(char::from(code))
+}
