@@ -23,6 +23,7 @@
 #define REAL(name) ((__typeof__(&name))dlsym(RTLD_NEXT, #name))
 #define STATUS_OF_EXIT 99
 #define HANDLES 64
+#define OPEN_FILES "/proc/self/fd/"
 
 // What becomes of a call: it is made as it is, it has the fault, or it fails because the fault came before.
 enum turn { CLEAR, HIT, LATER };
@@ -44,8 +45,12 @@ static const char *name_of(int handle) {
     return handle >= 0 && handle < HANDLES ? names[handle] : "";
 }
 
+// The last part of a path, and `proc` for an open folder's own name under /proc.
 static const char *last_part(const char *path) {
     const char *slash = strrchr(path, '/');
+    if (!strncmp(path, OPEN_FILES, strlen(OPEN_FILES)) && slash == path + strlen(OPEN_FILES) - 1) {
+        return "proc";
+    }
     return slash ? slash + 1 : path;
 }
 
@@ -121,7 +126,7 @@ int open(const char *path, int flags, ...) {
 }
 
 int statx(int handle, const char *path, int flags, unsigned mask, struct statx *out) {
-    enum turn turn = next_turn("statx", name_of(handle), 0);
+    enum turn turn = next_turn("statx", *path ? last_part(path) : name_of(handle), 0);
     return (int)answer(turn, is_made(turn) ? REAL(statx)(handle, path, flags, mask, out) : -1);
 }
 
@@ -133,6 +138,16 @@ int flock(int handle, int operation) {
 int fsync(int handle) {
     enum turn turn = next_turn("fsync", name_of(handle), 0);
     return (int)answer(turn, is_made(turn) ? REAL(fsync)(handle) : -1);
+}
+
+int fchmod(int handle, mode_t mode) {
+    enum turn turn = next_turn("fchmod", name_of(handle), 0);
+    return (int)answer(turn, is_made(turn) ? REAL(fchmod)(handle, mode) : -1);
+}
+
+int fchown(int handle, uid_t owner, gid_t group) {
+    enum turn turn = next_turn("fchown", name_of(handle), 0);
+    return (int)answer(turn, is_made(turn) ? REAL(fchown)(handle, owner, group) : -1);
 }
 
 int close(int handle) {

@@ -42,7 +42,7 @@ STOPPED = (ENDED, "")
 # docs/STORE.md have them: opening writes a base, and each of the three changes appends and syncs a record before its
 # answer.
 CHANGES_OF_NEW = [
-    "fsync folder", "unlink next.yaml", "create next.yaml", "write next.yaml", "fsync next.yaml", "rename next.yaml",
+    "create store.lock", "fsync folder", "create next.yaml", "write next.yaml", "fsync next.yaml", "rename next.yaml",
     "fsync folder",
     "write store.yaml", "fsync store.yaml", "write output",
     "write store.yaml", "fsync store.yaml", "write output",
@@ -102,13 +102,15 @@ OF_CALLS = {
 
 class Call:
     """A call of a session without faults: its number from 1, its name, the file that it is made on, and its place in
-    the session: whether input was read before, and how many bytes of output were written."""
+    the session: whether it is the first on its file, whether input was read before, and how many bytes of output were
+    written."""
 
-    def __init__(self, number, name, file, size, begun, written):
+    def __init__(self, number, name, file, size, first, begun, written):
         self.number = number
         self.name = name
         self.file = file
         self.size = size
+        self.first = first
         self.begun = begun
         self.written = written
 
@@ -131,6 +133,10 @@ class Call:
 
     def answers(self):
         return (self.name, self.file) == ("write", "output")
+
+    def is_dispensable(self):
+        """Whether the program does without the call: a handle that is closed, and the look whether there is a /proc."""
+        return self.name == "close" or (self.file == "proc" and self.first)
 
 
 class Trial:
@@ -167,12 +173,13 @@ class Trial:
         return ended, list(self.placed(lines))
 
     def placed(self, lines):
-        begun, written = False, 0
+        begun, written, files = False, 0, set()
         for number, line in enumerate(lines, 1):
             name, file, asked = line.split(" ")
             size = min(int(asked), self.most or int(asked))
             begun = begun or file == "input"
-            yield Call(number, name, file, size, begun, written)
+            yield Call(number, name, file, size, file not in files, begun, written)
+            files.add(file)
             written += size if (name, file) == ("write", "output") else 0
 
 
@@ -214,12 +221,12 @@ def ending(call, kind):
 
 def goes_on(call, kind):
     """Whether the program finishes the call, or does without it: one that was cut short, one on the folder that was
-    interrupted, and a handle that is closed."""
+    interrupted, and one that it doesn't need."""
     if kind.later:
         return False
     if kind.error == errno.EINTR:
         return call.file != "output"
-    return kind.answer == "count" or call.name == "close"
+    return kind.answer == "count" or call.is_dispensable()
 
 
 def try_fault(trial, call, kind):

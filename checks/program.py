@@ -10,12 +10,14 @@ The rows are in checks/program.txt. A row is some lines, and an empty line ends 
     input TEXT      what it reads; nothing without this line
     reader broken   reading fails after the input
     writer full     what it writes goes to a full device
+    closed STREAMS  these streams are closed when it starts, of input, output and errors
     status NUMBER   the status it ends with
     output TEXT     what it writes; nothing without a line on its output
     length NUMBER   or the number of bytes that it writes
     output_has TEXT or a part of what it writes; there may be several such lines
     errors TEXT     what it writes to standard error, in the same three ways: `errors_have` for a part
     errors_begin TEXT   and its first two words
+    left PATH TEXT  what is in a file afterwards
 
 A text has the escapes of checks/cases.py. All rows share one folder, and run in order. The program has to be built first:
 
@@ -33,9 +35,12 @@ import tempfile
 import threading
 
 from cases import bytes_of, long_runs
-from store_runs import PROGRAM, TOP, need_program, write_file
+from store_runs import PROGRAM, TOP, need_program, read_file, write_file
 
 ROWS = os.path.join(TOP, "checks", "program.txt")
+
+# The standard streams, by their numbers.
+STREAMS = ("input", "output", "errors")
 
 
 def read_rows(path):
@@ -100,6 +105,12 @@ def broken_reader(content):
         yield theirs
 
 
+def close(streams):
+    """Closes standard streams."""
+    for stream in streams:
+        os.close(STREAMS.index(stream))
+
+
 def run(row, top):
     """The status, the output and the errors of the program."""
     words = [PROGRAM, *value(row, "words").split()]
@@ -113,6 +124,9 @@ def run(row, top):
         output = subprocess.PIPE
         if value(row, "writer") == "full":
             output = ends.enter_context(open("/dev/full", "wb"))
+        closed = value(row, "closed").split()
+        if closed:
+            given["preexec_fn"] = lambda: close(closed)
         done = subprocess.run(words, cwd=top, stdout=output, stderr=subprocess.PIPE, check=False, **given)
     return done.returncode, done.stdout or b"", done.stderr
 
@@ -138,12 +152,21 @@ def faults_of_errors(row, errors):
     return [] if errors == bytes_of(value(row, "errors")) else [f"errors {errors!r}"]
 
 
+def faults_of_files(row, top):
+    """What is wrong with the files that the program left."""
+    for file in values(row, "left"):
+        path, _, text = file.partition(" ")
+        found = read_file(os.path.join(top, path))
+        if found != bytes_of(text):
+            yield f"{path} has {found!r}"
+
+
 def faults_of(row, top):
     """What is wrong with what the program does in a row."""
     prepare(row, top)
     status, output, errors = run(row, top)
     faults = [] if status == int(value(row, "status")) else [f"status {status}"]
-    return faults + faults_of_output(row, output) + faults_of_errors(row, errors)
+    return [*faults, *faults_of_output(row, output), *faults_of_errors(row, errors), *faults_of_files(row, top)]
 
 
 def main():

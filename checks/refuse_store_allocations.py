@@ -3,10 +3,11 @@
 then held.
 
 The run is a list of orders to `store_probe`, over a disk in memory: each call is made twice, and then the store is
-opened again, twice. A library under the program (refuse.c) refuses one allocation. A call that is refused memory has
-to leave the store as it was, and has to succeed when it is made again. If the disk in memory runs out of memory for a
-change, the call returns `Device`; the store that is opened then has to be in the state before the call or after it. If
-the program itself runs out of memory, for an order or an answer, it ends with the status 1.
+opened again, twice. Then a checkpoint is written in slices, and commands are submitted while it runs. A library under
+the program (refuse.c) refuses one allocation. A call that is refused memory has to leave the store as it was, also how
+many bytes of a running checkpoint are left, and has to succeed when it is made again. If the disk in memory runs out of
+memory for a change, the call returns `Device`; the store that is opened then has to be in the state before the call or
+after it. If the program itself runs out of memory, for an order or an answer, it ends with the status 1.
 
 Run it from the repository's root after the program is built. It takes some seconds, and needs a C compiler:
 
@@ -18,23 +19,32 @@ The status is 0 if all is as it should be.
 import os
 import sys
 
+from groups import SLICE, base_length, meant, record_length
 from store_runs import TOP, Failures, refuse_each
 
 PROGRAM = os.path.join(TOP, "crates", "store_probe", "out", "store_probe")
 LOOK = ["count", "get;a;"]
 OPEN = ["open", "open", *LOOK]
-# Each call, and the value of `a` after it.
-CALLS = {"import;a;x": "x", "set;a;;z": "z", "checkpoint": None, "delete;a;": None}
+CALLS = ["import;a;x", "set;a;;z", "checkpoint", "delete;a;"]
+# A checkpoint of two slices: it begins, and commands are submitted before the first one, and between the two.
+SUBMITS = ["submit;1;set;a;;z", "submit;2;delete;a;", "submit;1;import;a;x"]
+SLICED = ["import;a;*5000*", "begin", SUBMITS[0], "slice", *SUBMITS[1:], "slice"]
+# The calls that take no memory of their own: each is made once.
+ONCE = ["slice"]
 ORDERS = ["folder", *OPEN] + [order for call in CALLS for order in [call, *LOOK, call, *LOOK, *OPEN]]
-# A path, and the tree of a set, are read by `store_probe` itself.
+ORDERS += [order for call in SLICED for order in [call, "running", *LOOK] * (1 if call in ONCE else 2)]
+ORDERS += ["slice", SUBMITS[0], "flush", "running", *OPEN]
+# A path, and the tree of a set, are read by `store_probe` itself; so is the text of an import that is submitted.
 OUT_OF_MEMORY = ("OutOfMemory", "Path(OutOfMemory)", "Read(OutOfMemory)")
 
 
 class Store:
-    """What the store has to hold: the states that it may be in, each a count and the value of `a`."""
+    """What the store has to hold: the states that it may be in, each a count and the value of `a`, and how many bytes
+    of a running checkpoint are left."""
 
     def __init__(self):
         self.states = [(0, None)]
+        self.left = None
         self.is_open = self.needs_reopen = False
 
     def allows(self, order, answer):
@@ -47,15 +57,22 @@ class Store:
             return answer == "no store is open"
         if order in LOOK:
             return answer in OUT_OF_MEMORY or self.allows_look(order, answer)
+        if order == "running":
+            return answer == ("false" if self.left is None else "true")
+        if order == "begin" and self.left is not None:
+            return answer == "a checkpoint runs"
+        if order == "slice" and self.left is None:
+            return answer == "no checkpoint runs"
         return self.allows_call(order, answer)
 
     def allows_open(self, answer):
         self.is_open = answer.startswith("commands ") and answer.endswith(", dropped 0")
         self.needs_reopen = False
+        self.left = None
         return self.is_open or answer in (*OUT_OF_MEMORY, "Device")
 
     def allows_look(self, order, answer):
-        """The answer is of a state that the store may be in. Only those stay, unless the store has to be opened again."""
+        """The answer is of a state that the store may be in. Only such ones stay, unless it has to be opened again."""
         states = [state for state in self.states if answer == shown(order, state)]
         if not self.needs_reopen:
             self.states = states
@@ -65,12 +82,12 @@ class Store:
         if self.needs_reopen or answer in OUT_OF_MEMORY:
             return answer == "Reopen" if self.needs_reopen else True
         (before,) = self.states
-        right, after = performed(call, before)
+        right, after, left = performed(call, before, self.left)
         if answer == "Device":
             self.needs_reopen = True
             self.states = [before] if before == after else [before, after]
             return True
-        self.states = [after]
+        self.states, self.left = [after], left
         return answer == right
 
 
@@ -82,14 +99,21 @@ def shown(order, state):
     return "NoConfig" if value is None else f'Text("{value}")'
 
 
-def performed(call, state):
-    """The answer to a call with memory, and the state after it."""
+def performed(call, state, left):
+    """The answer to a call with memory, the state after it, and how many bytes of a running checkpoint are left."""
     count, value = state
-    if call == "checkpoint":
-        return "done", state
-    if value is None and not call.startswith("import"):
-        return "NoConfig", state
-    return str(count + 1), (count + 1, CALLS[call])
+    if call in ("checkpoint", "flush"):
+        return "done", state, None if call == "checkpoint" else left
+    if call == "begin":
+        return "done", state, base_length(count, {} if value is None else {"a": value})
+    if call == "slice":
+        return ("done", state, None) if left <= SLICE else (f"left {left - SLICE}", state, left - SLICE)
+    words = call.split(";")
+    kind, *rest = words = meant(words[2:] if words[0] == "submit" else words)
+    if value is None and kind != "import":
+        return "NoConfig", state, left
+    more = left if left is None else left + record_length(count + 1, words)
+    return str(count + 1), (count + 1, None if kind == "delete" else rest[-1]), more
 
 
 def outcome(status, answers, name, failures):

@@ -5,29 +5,52 @@
 - 200 sessions of 50 commands are killed at random moments. The store is opened again each time: no command that was
   answered is missing, and none is there that was not sent.
 - Output to a full device, and folders that are missing, a file, read-only or locked.
+- The lock's file is deleted or replaced and the folder moved during a session, also where there is no /proc; links,
+  FIFOs and folders lie at the names of the files.
+- A file that replaces a store has its owner, its group and its mode, for root and for `nobody`.
 - A small store with each of its bytes changed in turn is opened, or refused by name and left as it is.
 - Where strace is installed: one command is appended, synced and answered, in this order.
 
-Run it from the repository's root after the program is built; it takes some 10 seconds:
+Run it from the repository's root after the program is built; it takes some 10 seconds, and needs a C compiler:
 
     ./confstore --version && python3 checks/sessions.py
 
 A seed for the random moments may follow. The status is 0 if all is as it should be.
 """
 
+import errno
+import fcntl
 import os
+import pwd
 import random
 import re
 import shutil
+import socket
+import stat
 import subprocess
 import sys
 import tempfile
 import time
 
-from store_runs import EMPTY, IMPORT, PROGRAM, WORKED, Failures, need_program, read_file, session, write_file
+from store_runs import EMPTY, IMPORT, PROGRAM, WORKED, Failures, compiled, need_program, read_file, session, write_file
 
 # The user that owns no folder here.
 NOBODY = "nobody"
+
+# What a session ends with that can't use its folder.
+DEVICE = (3, b"", "confstore: Device\n")
+LOCKED = (3, b"", "confstore: Locked\n")
+
+# A change of the store that `EMPTY + IMPORT` is, and a look at it with its answer.
+SET = b'set: a\npath: ""\nvalue: z\n...\n'
+LOOK = b'get: a\npath: ""\n...\n'
+HELD = (0, b"---\nvalue: z\n...\n", "")
+CHECKPOINT = b"checkpoint:\n...\n"
+SECOND = '---\nok: "2"\n...\n'
+
+# The names of a folder, and how long a session may take that is to be refused at once.
+NAMES = ("store.lock", "store.yaml", "next.yaml")
+SECONDS = 10
 
 KILLED = 200
 COMMANDS = 50
@@ -55,6 +78,27 @@ def answers_come_before_the_next_command(top, failures):
         failures.expect(f"the answer to {command!r}", answer(process), wanted)
     process.stdin.close()
     failures.expect("the status", process.wait(), 0)
+
+
+def ask(process, command):
+    """The answer of a running session to a command."""
+    process.stdin.write(command)
+    process.stdin.flush()
+    return answer(process)
+
+
+def begun(folder, **more):
+    """A running session that holds the store in a folder: it has answered a command."""
+    process = started(folder, **more)
+    ask(process, b"names:\n...\n")
+    return process
+
+
+def ended(process):
+    """The status of a session at the end of its input."""
+    process.stdin.close()
+    process.stdout.close()
+    return process.wait()
 
 
 def input_comes_byte_by_byte(top, failures):
@@ -118,29 +162,31 @@ def outputs_and_folders_fail(top, failures):
     with open("/dev/full", "wb") as full:
         done = subprocess.run([PROGRAM, "run", folder], input=b"names:\n...\n", stdout=full, stderr=subprocess.PIPE, check=False)
     failures.expect("a full device", (done.returncode, done.stderr), (3, b"confstore: Output\n"))
-    failures.expect("a missing folder", session(os.path.join(top, "none"), b""), (3, b"", "confstore: Device\n"))
+    failures.expect("a missing folder", session(os.path.join(top, "none"), b""), DEVICE)
     file = os.path.join(top, "file")
     with open(file, "w", encoding="utf-8"):
         pass
-    failures.expect("a file for a folder", session(file, b""), (3, b"", "confstore: Device\n"))
+    failures.expect("a file for a folder", session(file, b""), DEVICE)
     held = os.path.join(top, "held")
     os.mkdir(held)
-    process = started(held)
-    process.stdin.write(b"names:\n...\n")
-    process.stdin.flush()
-    answer(process)
-    failures.expect("a locked folder", session(held, b""), (3, b"", "confstore: Locked\n"))
-    process.stdin.close()
-    process.wait()
+    process = begun(held)
+    failures.expect("a locked folder", session(held, b""), LOCKED)
+    ended(process)
     failures.expect("a folder that is free again", session(held, b"")[0], 0)
 
 
-def read_only_folders_are_refused(top, failures):
-    """Run as root, this is tried as `nobody`, with a copy of the program that it can reach."""
-    who = {"user": NOBODY, "cwd": top, "env": {}} if os.geteuid() == 0 else {}
+def program_for_all(top):
+    """A copy of the program that every user can reach."""
     os.chmod(top, 0o755)
     program = shutil.copy(PROGRAM, os.path.join(top, "confstore"))
     os.chmod(program, 0o755)
+    return program
+
+
+def read_only_folders_are_refused(top, failures):
+    """Run as root, this is tried as `nobody`."""
+    who = {"user": NOBODY, "cwd": top, "env": {}} if os.geteuid() == 0 else {}
+    program = program_for_all(top)
     for name, files in (("empty", {}), ("with a store", {"store.yaml": EMPTY + IMPORT, "store.lock": b""})):
         folder = os.path.join(top, f"read-only, {name}")
         os.mkdir(folder)
@@ -154,6 +200,181 @@ def read_only_folders_are_refused(top, failures):
         left = {file: read_file(os.path.join(folder, file)) for file in os.listdir(folder)}
         failures.expect(f"the files of a read-only folder, {name}", left, files)
         os.chmod(folder, 0o755)
+
+
+def folder_with_store(top, name):
+    """A new folder with a store that has one configuration."""
+    folder = os.path.join(top, name)
+    os.mkdir(folder)
+    write_file(os.path.join(folder, "store.yaml"), EMPTY + IMPORT)
+    return folder
+
+
+def a_lock_outlives_its_file(top, failures):
+    for way in ("deleted", "replaced"):
+        folder = folder_with_store(top, f"lock {way}")
+        lock = os.path.join(folder, "store.lock")
+        process = begun(folder)
+        os.remove(lock)
+        if way == "replaced":
+            write_file(lock, b"")
+        failures.expect(f"a second session, store.lock {way}", session(folder, LOOK), LOCKED)
+        failures.expect(f"a change, store.lock {way}", ask(process, SET), SECOND)
+        failures.expect(f"a checkpoint, store.lock {way}", ask(process, CHECKPOINT), SECOND)
+        failures.expect(f"the status, store.lock {way}", ended(process), 0)
+        failures.expect(f"what is held, store.lock {way}", session(folder, LOOK), HELD)
+    for name in (".", "store.lock"):
+        folder = folder_with_store(top, f"lock at {name}")
+        session(folder, b"")
+        handle = os.open(os.path.join(folder, name), os.O_RDONLY)
+        fcntl.flock(handle, fcntl.LOCK_EX)
+        failures.expect(f"another program's lock at {name}", session(folder, LOOK), LOCKED)
+        os.close(handle)
+
+
+def without_proc(top):
+    """The environment of a session that finds no /proc."""
+    library, log = compiled("fail_calls.c", top), os.path.join(top, "calls")
+    folder = folder_with_store(top, "logged")
+    session(folder, b"", env={**os.environ, "LD_PRELOAD": library, "FAULT_LOG": log})
+    calls = read_file(log).decode().splitlines()
+    fault = {"FAULT_CALL": str(calls.index("statx proc 0") + 1), "FAULT_DONE": "none", "FAULT_ANSWER": "error"}
+    return {**os.environ, "LD_PRELOAD": library, "FAULT_ERROR": str(errno.ENOENT), **fault}
+
+
+def a_moved_folder_keeps_its_store(top, failures):
+    """A folder is moved during a session, and another one is made under its name. Where there is no /proc, a checkpoint
+    is refused then."""
+    ways = (("moved", {}, SECOND, (0, "")), ("moved, no proc", {"env": without_proc(top)}, "", (3, DEVICE[2])))
+    for way, more, answered, end in ways:
+        folder = folder_with_store(top, f"{way}, before")
+        moved = os.path.join(top, f"{way}, after")
+        process = begun(folder, stderr=subprocess.PIPE, **more)
+        os.rename(folder, moved)
+        os.mkdir(folder)
+        failures.expect(f"a change, {way}", ask(process, SET), SECOND)
+        failures.expect(f"a second session, {way}", session(moved, LOOK), LOCKED)
+        failures.expect(f"a checkpoint, {way}", ask(process, CHECKPOINT), answered)
+        failures.expect(f"the end, {way}", (ended(process), process.stderr.read().decode()), end)
+        failures.expect(f"the folder under the old name, {way}", os.listdir(folder), [])
+        failures.expect(f"what the folder holds, {way}", session(moved, LOOK), HELD)
+
+
+def things():
+    """What may lie at a name in the place of a plain file: each with how it is made there. `outside` is a plain file in
+    another folder, and `missing` is not there."""
+    return (
+        ("a link", lambda path, outside, missing: os.symlink(outside, path)),
+        ("a link to nothing", lambda path, outside, missing: os.symlink(missing, path)),
+        ("a FIFO", lambda path, outside, missing: os.mkfifo(path)),
+        ("a folder", lambda path, outside, missing: os.mkdir(path)),
+        ("a socket", lambda path, outside, missing: socket.socket(socket.AF_UNIX).bind(path)),
+    )
+
+
+def only_plain_files_are_used(top, failures):
+    missing = os.path.join(top, "missing")
+    for name in NAMES:
+        for thing, make in things():
+            folder = folder_with_store(top, f"{thing} at {name}")
+            outside = os.path.join(top, f"outside of {thing} at {name}")
+            write_file(outside, EMPTY)
+            if name == "store.yaml":
+                os.remove(os.path.join(folder, name))
+            make(os.path.join(folder, name), outside, missing)
+            before = {file: os.lstat(os.path.join(folder, file)).st_ino for file in os.listdir(folder)}
+            failures.expect(f"{thing} at {name}", session(folder, CHECKPOINT, timeout=SECONDS), DEVICE)
+            after = {file: os.lstat(os.path.join(folder, file)).st_ino for file in os.listdir(folder)}
+            failures.expect(f"the folder with {thing} at {name}", after, before)
+            failures.expect(f"the file outside of {thing} at {name}", read_file(outside), EMPTY)
+            failures.expect(f"the missing file of {thing} at {name}", os.path.exists(missing), False)
+    folder = folder_with_store(top, "a FIFO during a session")
+    process = begun(folder, stderr=subprocess.PIPE)
+    os.mkfifo(os.path.join(folder, "next.yaml"))
+    failures.expect("a checkpoint over a FIFO", ask(process, CHECKPOINT), "")
+    failures.expect("the status after a checkpoint over a FIFO", ended(process), 3)
+    failures.expect("the fault of a checkpoint over a FIFO", process.stderr.read().decode(), DEVICE[2])
+    fifo = os.path.join(top, "fifo")
+    os.mkfifo(fifo)
+    failures.expect("a FIFO for a folder", session(fifo, b"", timeout=SECONDS), DEVICE)
+    link = os.path.join(top, "link")
+    os.symlink(folder_with_store(top, "linked"), link)
+    failures.expect("a link to a folder", session(link, b""), (0, b"", ""))
+
+
+def kept_rows():
+    """Rows of who runs the program, with which umask, over a store of which owner, group and mode; and the owner, the
+    group and the mode that the store has after it was written anew. A user or a group is its number."""
+    myself, mine = os.geteuid(), os.getegid()
+    alike = [
+        (myself, umask, (myself, mine, mode), (myself, mine, mode))
+        for umask in (0o000, 0o077)
+        for mode in (0o600, 0o640, 0o644, 0o664, 0o606)
+    ]
+    if myself != 0:
+        return alike
+    nobody, nogroup = pwd.getpwnam(NOBODY).pw_uid, pwd.getpwnam(NOBODY).pw_gid
+    others = ((nobody, nogroup, 0o600), (nobody, 0, 0o640), (0, nogroup, 0o604), (nobody, nogroup, 0o400))
+    by_root = [(0, umask, other, other) for umask in (0o000, 0o022, 0o077) for other in others]
+    by_nobody = [
+        (nobody, 0o000, (nobody, nogroup, 0o600), (nobody, nogroup, 0o600)),
+        (nobody, 0o077, (nobody, nogroup, 0o664), (nobody, nogroup, 0o664)),
+        (nobody, 0o000, (nobody, 0, 0o640), (nobody, nogroup, 0o600)),
+        (nobody, 0o000, (nobody, 0, 0o664), (nobody, nogroup, 0o644)),
+        (nobody, 0o000, (0, nogroup, 0o660), (nobody, nogroup, 0o660)),
+        (nobody, 0o000, (0, 0, 0o666), (nobody, nogroup, 0o666)),
+        (nobody, 0o000, (0, 0, 0o606), (nobody, nogroup, 0o600)),
+    ]
+    return alike + by_root + by_nobody
+
+
+def owner_group_and_mode(path):
+    found = os.stat(path)
+    return found.st_uid, found.st_gid, stat.S_IMODE(found.st_mode)
+
+
+def run_as(user, umask, top, words, commands):
+    """What the program does as a user, who has one group."""
+    who = {} if user == os.geteuid() else {"user": user, "group": pwd.getpwuid(user).pw_gid, "extra_groups": []}
+    done = subprocess.run([os.path.join(top, "confstore"), *words], input=commands, capture_output=True, check=False,
+                          umask=umask, cwd=top, env={}, **who)
+    return done.returncode, done.stdout, done.stderr
+
+
+def owners_and_modes_survive(top, failures):
+    """A checkpoint puts a new file in the place of `store.yaml`, and so does an opening that recovers a torn store. Run
+    as root, this is tried as root and as `nobody`."""
+    program_for_all(top)
+    for number, (user, umask, given, wanted) in enumerate(kept_rows()):
+        ways = (
+            ("checkpoint", "run", EMPTY + IMPORT, b"checkpoint:\n...\n", b'---\nok: "1"\n...\n'),
+            ("recovery", "export", EMPTY + IMPORT + b"---\nat", b"", b"x\n"),
+        )
+        for way, word, content, commands, answer in ways:
+            folder = os.path.join(top, f"{way} {number}")
+            os.mkdir(folder)
+            store = os.path.join(folder, "store.yaml")
+            write_file(store, content)
+            os.chown(store, given[0], given[1])
+            os.chmod(store, given[2])
+            os.chown(folder, user, -1)
+            inode = os.stat(store).st_ino
+            words = [word, folder, "a"] if word == "export" else [word, folder]
+            name = f"{way} by {user} with the umask {umask:o} over {given[0]}:{given[1]} {given[2]:o}"
+            failures.expect(name, run_as(user, umask, top, words, commands), (0, answer, b""))
+            failures.expect(f"{name}: a new file", os.stat(store).st_ino != inode, True)
+            failures.expect(f"{name}: its owner, group and mode", owner_group_and_mode(store), wanted)
+
+
+def new_stores_have_the_mode_of_any_new_file(top, failures):
+    program_for_all(top)
+    for umask in (0o000, 0o022, 0o077):
+        name = f"a new store with the umask {umask:o}"
+        folder = os.path.join(top, name)
+        os.mkdir(folder)
+        failures.expect(name, run_as(os.geteuid(), umask, top, ["run", folder], b""), (0, b"", b""))
+        found = owner_group_and_mode(os.path.join(folder, "store.yaml"))
+        failures.expect(f"{name}: its owner, group and mode", found, (os.geteuid(), os.getegid(), 0o666 & ~umask))
 
 
 def damage_is_named_or_harmless(top, failures):
@@ -196,6 +417,28 @@ def a_command_is_synced_before_its_answer(top, failures):
     failures.expect("the calls of a command", end[end.index("at"):] if "at" in end else end, ["at", "sync", "ok"])
 
 
+def a_staged_file_is_narrow_before_it_is_written(top, failures):
+    if not shutil.which("strace"):
+        return
+    folder = os.path.join(top, "staged")
+    os.mkdir(folder)
+    store = os.path.join(folder, "store.yaml")
+    write_file(store, EMPTY + IMPORT)
+    os.chmod(store, 0o640)
+    trace = os.path.join(top, "trace of staging")
+    subprocess.run(
+        ["strace", "-f", "-e", "trace=open,openat,fchmod,write", "-o", trace, PROGRAM, "run", folder],
+        input=b"checkpoint:\n...\n", stdout=subprocess.DEVNULL, check=True,
+    )
+    with open(trace, encoding="utf-8", errors="replace") as source:
+        made = source.read()
+    created = re.search(r"next\.yaml\", \S+O_EXCL\S+, (0\d+)\) = (\d+)", made)
+    failures.expect("the mode that next.yaml is made with", created and created[1], "0600")
+    if created:
+        after = re.findall(r"(fchmod|write)\(" + created[2] + r", (0\d+)?", made[created.end():])
+        failures.expect("what comes first at next.yaml", after[:2], [("fchmod", "0640"), ("write", "")])
+
+
 def main():
     need_program()
     seed = int(sys.argv[1]) if len(sys.argv) > 1 else random.randrange(10**6)
@@ -207,6 +450,12 @@ def main():
         killed_sessions_lose_nothing(top, failures, random.Random(seed))
         outputs_and_folders_fail(top, failures)
         read_only_folders_are_refused(top, failures)
+        a_lock_outlives_its_file(top, failures)
+        a_moved_folder_keeps_its_store(top, failures)
+        only_plain_files_are_used(top, failures)
+        owners_and_modes_survive(top, failures)
+        new_stores_have_the_mode_of_any_new_file(top, failures)
+        a_staged_file_is_narrow_before_it_is_written(top, failures)
         damage_is_named_or_harmless(top, failures)
         a_command_is_synced_before_its_answer(top, failures)
     return failures.report()

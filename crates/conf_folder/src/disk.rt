@@ -3,19 +3,25 @@ ghost use Rattle.std.specs.Prelude.{◌≡◌, ◌≢◌, ◌<◌, Err, min, ◌
 ghost use Rattle.conf_disk.specs.Moments.{CountsFailures};
 
 use crate::FolderFault;
+use crate::folder::OpenFolder;
 use crate::lock::lock_file;
+use crate::owner::{OWNER_ALONE, take_after};
+use crate::plain::{look, open_plain};
 use conf_disk::{Content, Disk, DiskFault, Name};
 use std::alloc::{AllocError, Global};
-use std::fs::{File, OpenOptions};
+use std::fs::{File, Metadata, OpenOptions};
 use std::io::{ErrorKind, Read, Write};
+use std::os::unix::fs::OpenOptionsExt;
 use std::rt::Files;
 use std::{fs, io};
 
-/// The disk of a real folder: `store.yaml` and `next.yaml` in it. It holds a lock on `store.lock`, and a handle for
-/// appending to each file that it appended to, until it is dropped.
+/// The disk of a real folder: `store.yaml` and `next.yaml` in it. It holds a lock on the folder, one on `store.lock`,
+/// and a handle for appending to each file that it appended to, until it is dropped. Where a name has no plain file but
+/// a link, a FIFO or a folder, a call on it fails.
 #[derive(Drop)]
 pub struct FolderDisk<'r, R: Files<File = File>> {
     rt: &'r R,
+    folder: OpenFolder,
     paths: Paths,
     _lock: File,
     store: Option<File>,
@@ -23,49 +29,25 @@ pub struct FolderDisk<'r, R: Files<File = File>> {
     failures: u64,
 }
 
-/// The paths of the folder and of its files.
+/// The paths of the files of a folder.
 #[derive(Drop)]
 struct Paths {
-    folder: String,
+    lock: String,
     store: String,
     next: String,
 }
 
 impl Paths {
     fn new(alloc: Global, folder: &str) -> Result<Paths, AllocError> {
+        let lock = path_in(alloc, folder, "store.lock")?;
         let store = path_in(alloc, folder, "store.yaml")?;
         let next = path_in(alloc, folder, "next.yaml")?;
-        let folder = String::from_str(alloc, folder)?;
-        Ok(Paths {
-            folder,
-            store,
-            next,
-        })
+        Ok(Paths { lock, store, next })
     }
 }
 
 fn path_in(alloc: Global, folder: &str, name: &str) -> Result<String, AllocError> {
     format!(in alloc; "{folder}/{name}")
-}
-
-/// Takes the lock of the folder at a path.
-fn lock_folder<R: Files<File = File>>(
-    rt: &R,
-    alloc: Global,
-    folder: &str,
-) -> Result<File, FolderFault> {
-    let path = path_in(alloc, folder, "store.lock")?;
-    lock_file(rt, path.as_str())
-}
-
-fn is_folder<R: Files<File = File>>(rt: &R, folder: &str) -> bool {
-    match File::open(rt, folder) {
-        Ok(file) => match file.metadata() {
-            Ok(metadata) => metadata.is_dir(),
-            Err(_) => false,
-        },
-        Err(_) => false,
-    }
 }
 
 /// The bytes of a file, or `TooLong` if it has more than `max`.
@@ -81,21 +63,40 @@ fn read_up_to(alloc: Global, file: File, max: u64) -> io::Result<Content> {
     Ok(Content::Bytes(bytes))
 }
 
+/// Makes an empty file under a path, for appending. If it is to replace a file, it takes after that one, and nobody but
+/// its owner has access before. Otherwise its mode is that of any new file.
+fn create_staged<R: Files<File = File>>(
+    rt: &R,
+    path: &str,
+    replaced: Option<Metadata>,
+) -> io::Result<File> {
+    let mut how = OpenOptions::new();
+    how.append(true).create_new(true);
+    let Some(replaced) = replaced else {
+        return how.open(rt, path);
+    };
+    let file = how.mode(OWNER_ALONE).open(rt, path)?;
+    take_after(&file, &replaced)?;
+    Ok(file)
+}
+
 impl<'r, R: Files<File = File>> FolderDisk<'r, R> {
-    /// The disk of the folder at a path. It looks for the folder first, and then takes the lock on its `store.lock`
-    /// without waiting. It makes that file if it is missing.
+    /// The disk of the folder at a path. It opens the folder and takes the lock on it, and then the one on its
+    /// `store.lock`, without waiting. It makes that file if it is missing.
     ///
     /// # Errors
-    /// `Device` if there is no folder at the path or a call of the system fails, `Locked` if another run holds the
-    /// lock, and `OutOfMemory`.
+    /// `Device` if there is no folder at the path, one of the names has no plain file but something else, or a call of
+    /// the system fails; `Locked` if another run holds a lock; and `OutOfMemory`.
     pub fn new(rt: &'r R, alloc: Global, folder: &str) -> Result<Self, FolderFault> {
-        if !is_folder(rt, folder) {
+        let folder = OpenFolder::new(rt, alloc, folder)?;
+        let paths = Paths::new(alloc, folder.path())?;
+        if look(rt, paths.store.as_str()).is_err() || look(rt, paths.next.as_str()).is_err() {
             return Err(FolderFault::Device);
         }
-        let paths = Paths::new(alloc, folder)?;
-        let lock = lock_folder(rt, alloc, folder)?;
+        let lock = lock_file(rt, paths.lock.as_str())?;
         Ok(FolderDisk {
             rt,
+            folder,
             paths,
             _lock: lock,
             store: None,
@@ -104,10 +105,17 @@ impl<'r, R: Files<File = File>> FolderDisk<'r, R> {
         })
     }
 
-    fn path(&self, name: Name) -> &str {
+    /// The path of a file in the folder.
+    ///
+    /// # Errors
+    /// If the path to the folder leads elsewhere by now.
+    fn path(&self, name: Name) -> io::Result<&str> {
+        if !self.folder.is_in_place(self.rt) {
+            return Err(io::Error::from(ErrorKind::NotADirectory));
+        }
         match name {
-            Name::Store => self.paths.store.as_str(),
-            Name::Next => self.paths.next.as_str(),
+            Name::Store => Ok(self.paths.store.as_str()),
+            Name::Next => Ok(self.paths.next.as_str()),
         }
     }
 
@@ -122,9 +130,7 @@ impl<'r, R: Files<File = File>> FolderDisk<'r, R> {
         };
         match kept {
             Some(file) => Ok(file),
-            None => OpenOptions::new()
-                .append(true)
-                .open(self.rt, self.path(name)),
+            None => open_plain(self.rt, OpenOptions::new().append(true), self.path(name)?),
         }
     }
 
@@ -162,10 +168,8 @@ impl<'r, R: Files<File = File>> FolderDisk<'r, R> {
     fn try_create_next(&mut self) -> io::Result<()>
         ensures { self.new.failures ≡ self.old.failures }
     {
-        let file = OpenOptions::new()
-            .append(true)
-            .create_new(true)
-            .open(self.rt, self.path(Name::Next))?;
+        let replaced = look(self.rt, self.path(Name::Store)?)?;
+        let file = create_staged(self.rt, self.path(Name::Next)?, replaced)?;
         self.keep_handle(Name::Next, file);
         Ok(())
     }
@@ -175,7 +179,7 @@ impl<'r, R: Files<File = File>> FolderDisk<'r, R> {
     {
         self.store = None;
         let staged = self.next.take();
-        fs::rename(self.rt, self.path(Name::Next), self.path(Name::Store))?;
+        fs::rename(self.rt, self.path(Name::Next)?, self.path(Name::Store)?)?;
         self.store = staged;
         Ok(())
     }
@@ -184,19 +188,16 @@ impl<'r, R: Files<File = File>> FolderDisk<'r, R> {
         ensures { self.new.failures ≡ self.old.failures }
     {
         self.next = None;
-        match fs::remove_file(self.rt, self.path(Name::Next)) {
-            Err(error) if error.kind() == ErrorKind::NotFound => Ok(()),
-            done => done,
+        let path = self.path(Name::Next)?;
+        match look(self.rt, path)? {
+            Some(_) => fs::remove_file(self.rt, path),
+            None => Ok(()),
         }
-    }
-
-    fn try_sync_folder(&self) -> io::Result<()> {
-        File::open(self.rt, self.paths.folder.as_str())?.sync_all()
     }
 
     /// Reads the file under a name, if there is one. A file of more than `max` bytes is `TooLong`.
     fn try_read(&self, alloc: Global, name: Name, max: u64) -> io::Result<Content> {
-        match File::open(self.rt, self.path(name)) {
+        match open_plain(self.rt, OpenOptions::new().read(true), self.path(name)?) {
             Ok(file) => read_up_to(alloc, file, max),
             Err(error) if error.kind() == ErrorKind::NotFound => Ok(Content::Missing),
             Err(error) => Err(error),
@@ -301,7 +302,7 @@ impl<'r, R: Files<File = File>> Disk for FolderDisk<'r, R> {
         if self.failures == u64::MAX {
             return Err(DiskFault::Device);
         }
-        let done = self.try_sync_folder();
+        let done = self.folder.sync();
         self.count(done)
     }
 }

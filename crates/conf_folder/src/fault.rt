@@ -5,10 +5,11 @@ use thiserror::Error;
 /// Why a folder can't be used as a disk. The folder is unchanged, except that an empty `store.lock` may be new in it.
 #[derive(Clone, Copy, Debug, PartialEq, Eq, Error)]
 pub enum FolderFault {
-    /// There is no folder at the path, or a call of the system on it failed.
+    /// There is no folder at the path, one of its names has something else than a plain file, or a call of the system
+    /// failed.
     #[error("Device")]
     Device,
-    /// Another run holds the lock on `store.lock`.
+    /// Another run holds the lock on the folder, or the one on its `store.lock`.
     #[error("Locked")]
     Locked,
     /// Out of memory.

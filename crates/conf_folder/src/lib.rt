@@ -1,13 +1,16 @@
 //! A disk over a real folder.
 //!
 //! [`FolderDisk`] makes the calls of [`Disk`](conf_disk::Disk) on the files `store.yaml` and `next.yaml` of a folder.
-//! It holds a lock on `store.lock` until it is dropped. Its contract says nothing of what the folder keeps: that a real
-//! folder is an honest disk is a premise that nothing here proves.
+//! It holds a lock on the folder, and one on its `store.lock`, until it is dropped. Its contract says nothing of what
+//! the folder keeps: that a real folder is an honest disk is a premise that nothing here proves.
 #![tactic(auto)]
 
 mod disk;
 mod fault;
+mod folder;
 mod lock;
+mod owner;
+mod plain;
 
 pub use disk::FolderDisk;
 pub use fault::FolderFault;

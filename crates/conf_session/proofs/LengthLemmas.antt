@@ -34,7 +34,7 @@ use Rattle.conf_record.proofs.SizeLemmas.{size, scalar_most, value_size}
 use Rattle.yaml_writer.proofs.ByteLemmas.{byte_len-encoded}
 use Rattle.conf_store.specs.Calls.{outcome, has_room, tree_named}
 use Rattle.conf_session.specs.Requests.{Request, changing, unread, getting, exporting, naming, checkpointing, bad}
-use Rattle.conf_session.specs.Answers.{Stored, one, text_elements, read_word, path_word, word, refusal, answer_or_refusal, value_at_path, unread_fault, change_answer, answer, answer_limit}
+use Rattle.conf_session.specs.Answers.{Stored, longest, one, text_elements, read_word, path_word, word, refusal, answer_or_refusal, value_at_path, unread_fault, change_answer, answer, answer_limit}
 use Rattle.conf_session.proofs.WordLemmas.{spelled-BadName, spelled-BadPath, spelled-ConfigLarge, spelled-CountFull, spelled-Documents, spelled-JournalLong, spelled-KeyNotText, spelled-KeyTwice, spelled-LargeInStyle, spelled-NoConfig, spelled-NoSuchPlace, spelled-NotIndex, spelled-NotUtf8, spelled-StoreFull, spelled-Syntax, spelled-TooDeep, spelled-TooLong, spelled-none, spelled-BadCommand}
 
 -- ---- a document of one key
@@ -293,10 +293,10 @@ text-answer-short s kept name (Err fault) is = refusal-short fault
 count-answer-short : (n : ℕ) → n ≤ count_limit → length (framed_text_bytes (one (codes "ok") (text (decimal n)))) ≤ answer_limit
 count-answer-short n small = omega (arith, document-length (codes "ok") (text (decimal n)), count-value-length n small)
 
-change-answer-short : (now : Stored) (command : Command) (r : Result Contents StoreFault) → outcome now.size now.state command ≡ r
+change-answer-short : (now : Stored) (command : Command) (r : Result Contents StoreFault) → outcome (longest now) now.state command ≡ r
     → length (framed_text_bytes (change_answer r)) ≤ answer_limit
 change-answer-short now command (Ok new) is =
-    let fits = has_room now.size now.state command in
+    let fits = has_room (longest now) now.state command in
     let few = step-few now.state new command fits is in
     let counts = step-one now.state new command fits is in
     count-answer-short new.count (omega (arith, few, counts))
@@ -304,7 +304,7 @@ change-answer-short now command (Err fault) is = refusal-short fault
 
 -- each answer keeps the limit, where the state keeps its limits
 pub answer-short : (now : Stored) (request : Request) → IsState now.state → length (framed_text_bytes (answer now request)) ≤ answer_limit
-answer-short now (changing command) kept = change-answer-short now command (outcome now.size now.state command) refl
+answer-short now (changing command) kept = change-answer-short now command (outcome (longest now) now.state command) refl
 answer-short now (unread name fault) kept = refusal-short (unread_fault name fault)
 answer-short now (getting name p) kept = value-answer-short now.state kept name p (value_at_path now.state name p) refl
 answer-short now (exporting name) kept = text-answer-short now.state kept name (tree_named now.state name) refl

@@ -3,6 +3,7 @@ pub mod LengthLemmas
 pub mod RequestLemmas
 pub mod PassedLemmas
 pub mod SessionLemmas
+pub mod RoundLemmas
 pub mod AnswerLemmas
 pub mod ReplyLemmas
 pub mod SaidLemmas

@@ -1,8 +1,6 @@
 -- One request after others.
-use Rattle.std.proofs.Common.{◌≡◌, refl, sym, ◌∙◌, ap, subst, arith, ◌≤◌, append_assoc}
-use Rattle.std.specs.Prelude.{ℕ, zero, suc, ◌+◌, false, List, [], ◌∷◌, ◌++◌, length, take, Option, Result, Ok, Err}
-use Rattle.std.specs.Io.KnownBytes.{Appends}
-use Rattle.std.proofs.KnownBytes.{Appends-nil, Appends-trans}
+use Rattle.std.proofs.Common.{◌≡◌, refl, sym, ◌∙◌, ap, subst, arith, ◌≤◌, append_assoc, length-append}
+use Rattle.std.specs.Prelude.{ℕ, ◌+◌, ◌-◌, suc, Bool, true, false, if◌then◌else◌, List, [], ◌∷◌, ◌++◌, length, take, Option, Result, Ok, Err, is_ok}
 use Rattle.std.proofs.lemmas.List.{append-nil}
 use Rattle.std.proofs.lemmas.List.Elements.{All-push}
 use Rattle.yaml_recognizers.specs.Closings.{framed_text_bytes}
@@ -17,17 +15,18 @@ use Rattle.conf_state.specs.States.{Contents}
 use Rattle.conf_state.specs.Steps.{after}
 use Rattle.conf_state.specs.declared.fault.StoreFault.{StoreFault}
 use Rattle.conf_store.specs.Calls.{outcome, has_room, tree_named}
-use Rattle.conf_store.specs.Durable.{AfterPrefix, AllImagesMean}
+use Rattle.conf_store.specs.Durable.{AfterPrefix, HasFlushed}
 use Rattle.conf_store.specs.View.{StoreView}
 use Rattle.conf_state.proofs.RefusalLemmas.{accepted-room}
 use Rattle.conf_store.proofs.StepLemmas.{accepted-anyway}
 use Rattle.conf_store.proofs.MeaningLemmas.{after-done, after-joined}
+use Rattle.conf_store.proofs.HeldLemmas.{prefix-longer}
 use Rattle.conf_session.specs.Said.{piece_limit}
 use Rattle.conf_session.specs.Requests.{Request, Asks, AllAsk, changing, unread, getting, exporting, naming, checkpointing, bad}
-use Rattle.conf_session.specs.Answers.{Stored, answer, output, stored_after, stored_after_all, file_after, file_after_all, accepted_commands, accepted_command, accepted_by, stored_after_change, refused_of, refusals, is_refused, value_at_path}
+use Rattle.conf_session.specs.Answers.{Stored, longest, syncs, flushed_after, waiting_after, acknowledged, AllAreAcknowledged, answer, output, stored_after, stored_after_all, file_after, file_after_all, accepted_commands, accepted_command, accepted_by, stored_after_change, refused_of, refusals, is_refused, value_at_path}
 use Rattle.conf_session.specs.Runs.{stored_of, ArePieces, AfterAtLeast}
-use Rattle.conf_session.specs.Replies.{Performs}
-use Rattle.conf_session.specs.Progress.{Passed}
+use Rattle.conf_session.specs.Replies.{LeavesPrefixes, Performs}
+use Rattle.conf_session.specs.Progress.{PerformsAll}
 
 -- ---- what the definitions give for one request more
 
@@ -89,7 +88,7 @@ one-refused (Err fault) = omega arith
 
 -- a request is one accepted command at most
 pub few-accepted : (now : Stored) (r : Request) → length (accepted_command now r) ≤ 1
-few-accepted now (changing command) = one-accepted_commands (outcome now.size now.state command) command
+few-accepted now (changing command) = one-accepted_commands (outcome (longest now) now.state command) command
 few-accepted now (unread name fault) = omega arith
 few-accepted now (getting name path) = omega arith
 few-accepted now (exporting name) = omega arith
@@ -99,7 +98,7 @@ few-accepted now bad = omega arith
 
 -- a request is refused once at most
 pub few-refused : (now : Stored) (r : Request) → refused_of now r ≤ 1
-few-refused now (changing command) = one-refused (outcome now.size now.state command)
+few-refused now (changing command) = one-refused (outcome (longest now) now.state command)
 few-refused now (unread name fault) = omega arith
 few-refused now (getting name path) = one-refused (value_at_path now.state name path)
 few-refused now (exporting name) = one-refused (tree_named now.state name)
@@ -110,10 +109,10 @@ few-refused now bad = omega arith
 -- ---- the states after them
 
 leads-one : (now : Stored) (r : Request) → after now.state (accepted_command now r) ≡ Ok (stored_after now r).state
-leads-one now (changing command) = by (outcome now.size now.state command) refl
+leads-one now (changing command) = by (outcome (longest now) now.state command) refl
   where
-    by : (j : Result Contents StoreFault) → outcome now.size now.state command ≡ j → after now.state (accepted_by j command) ≡ Ok (stored_after_change now command j).state
-    by (Ok new) e = after-done now.state new command (accepted-anyway accepted-room now.state new command (has_room now.size now.state command) e)
+    by : (j : Result Contents StoreFault) → outcome (longest now) now.state command ≡ j → after now.state (accepted_by j command) ≡ Ok (stored_after_change now command j).state
+    by (Ok new) e = after-done now.state new command (accepted-anyway accepted-room now.state new command (has_room (longest now) now.state command) e)
     by (Err fault) e = refl
 leads-one now (unread name fault) = refl
 leads-one now (getting name path) = refl
@@ -128,13 +127,71 @@ leads-all now [] = refl
 leads-all now (x ∷ rs) =
     after-joined now.state (stored_after now x).state (stored_after_all now (x ∷ rs)).state (accepted_command now x) (accepted_commands (stored_after now x) rs) (leads-one now x) (leads-all (stored_after now x) rs)
 
--- ---- prefixes of commands, with more after them
+-- ---- what is flushed, and what waits
 
--- a prefix of a list is one of a longer list
-take-within : {A : Type 0} (k : ℕ) (xs ys : List A) → (n : ℕ) × (take k xs ≡ take n (xs ++ ys))
-take-within zero xs ys = (0, refl)
-take-within (suc k) [] ys = (0, refl)
-take-within (suc k) (x ∷ xs) ys = let more = take-within k xs ys in (suc more.0, ap (λ l. x ∷ l) more.1)
+-- with one request more
+flushed-last : (at_once : Bool) (now : Stored) (flushed : Contents) (rs : List Request) (r : Request)
+    → flushed_after at_once now flushed (rs ++ r ∷ []) ≡ flushed_after at_once (stored_after_all now rs) (flushed_after at_once now flushed rs) (r ∷ [])
+flushed-last at_once now flushed [] r = refl
+flushed-last at_once now flushed (x ∷ rs) r =
+    flushed-last at_once (stored_after now x) (if syncs at_once now x then (stored_after now x).state else flushed) rs r
+
+waiting-last : (at_once : Bool) (now : Stored) (waiting : List Command) (rs : List Request) (r : Request)
+    → waiting_after at_once now waiting (rs ++ r ∷ []) ≡ waiting_after at_once (stored_after_all now rs) (waiting_after at_once now waiting rs) (r ∷ [])
+waiting-last at_once now waiting [] r = refl
+waiting-last at_once now waiting (x ∷ rs) r =
+    waiting-last at_once (stored_after now x) (if syncs at_once now x then [] else waiting ++ accepted_command now x) rs r
+
+quiet-one : (now : Stored) (r : Request) → syncs true now r ≡ false → accepted_command now r ≡ []
+quiet-one now (changing command) quiet = by (outcome (longest now) now.state command) quiet
+  where
+    by : (j : Result Contents StoreFault) → is_ok j ≡ false → accepted_by j command ≡ []
+    by (Ok new) e = cc
+    by (Err fault) e = refl
+quiet-one now (unread name fault) quiet = refl
+quiet-one now (getting name path) quiet = refl
+quiet-one now (exporting name) quiet = refl
+quiet-one now naming quiet = refl
+quiet-one now checkpointing quiet = refl
+quiet-one now bad quiet = refl
+
+-- where none waits and each command is flushed at once, none ever does
+none-waits : (now : Stored) (rs : List Request) → waiting_after true now [] rs ≡ []
+none-waits now [] = refl
+none-waits now (x ∷ rs) = by (syncs true now x) refl (none-waits (stored_after now x) rs)
+  where
+    by : (b : Bool) → syncs true now x ≡ b → waiting_after true (stored_after now x) [] rs ≡ []
+        → waiting_after true (stored_after now x) (if b then [] else [] ++ accepted_command now x) rs ≡ []
+    by true e rest = rest
+    by false e rest = ap (λ l. waiting_after true (stored_after now x) l rs) (quiet-one now x e) ∙ rest
+
+-- where nothing waits at the start, all accepted commands are acknowledged
+pub acknowledged-all : AllAreAcknowledged
+acknowledged-all now requests = let none = ap length (none-waits now requests) in omega (arith, none)
+
+-- one request more acknowledges no fewer commands
+pub acknowledged-more : (now : Stored) (waiting : List Command) (rs : List Request) (r : Request) → acknowledged now waiting rs ≤ acknowledged now waiting (rs ++ r ∷ [])
+acknowledged-more now waiting rs r =
+    subst (λ (l : List Command). acknowledged now waiting rs ≤ length (waiting ++ accepted_commands now (rs ++ r ∷ [])) - length l) (sym (waiting-last true now waiting rs r))
+    (by (syncs true (stored_after_all now rs) r))
+  where
+    grown : length (waiting ++ accepted_commands now (rs ++ r ∷ [])) ≡ length (waiting ++ accepted_commands now rs) + length (accepted_command (stored_after_all now rs) r)
+    grown =
+        let last = ap length (accepted_commands-last now rs r) in
+        let sum = length-append (accepted_commands now rs) (accepted_command (stored_after_all now rs) r) in
+        let one = length-append waiting (accepted_commands now (rs ++ r ∷ [])) in
+        let two = length-append waiting (accepted_commands now rs) in
+        omega (arith, last, sum, one, two)
+
+    by : (b : Bool) → length (waiting ++ accepted_commands now rs) - length (waiting_after true now waiting rs)
+        ≤ length (waiting ++ accepted_commands now (rs ++ r ∷ []))
+        - length (if b then [] else waiting_after true now waiting rs ++ accepted_command (stored_after_all now rs) r)
+    by true = omega (arith, grown)
+    by false =
+        let sum = length-append (waiting_after true now waiting rs) (accepted_command (stored_after_all now rs) r) in
+        omega (arith, grown, sum)
+
+-- ---- prefixes of commands, with more after them
 
 -- a prefix that goes beyond the first list is that list and a prefix of the second
 pub take-beyond : {A : Type 0} (k : ℕ) (xs ys : List A) → take (length xs + k) (xs ++ ys) ≡ xs ++ take k ys
@@ -143,110 +200,176 @@ take-beyond k (x ∷ xs) ys =
     let more : length (x ∷ xs) + k ≡ suc (length xs + k) = omega arith in
     ap (λ n. take n (x ∷ (xs ++ ys))) more ∙ ap (λ l. x ∷ l) (take-beyond k xs ys)
 
-prefix-of-more : (s : Contents) (first second : List Command) (file : Option (List ℕ)) → AfterPrefix s first file → AfterPrefix s (first ++ second) file
-prefix-of-more s first second file some = let among = take-within some.count first second in record {
-  count = among.0;
-  state = some.state;
-  leads = ap (after s) (sym among.1) ∙ some.leads;
-  means = some.means;
-}
+-- ---- commands of which some are flushed, and the others wait
 
-prefix-after : (s mid : Contents) (first second : List Command) (file : Option (List ℕ)) → after s first ≡ Ok mid → AfterPrefix mid second file → AfterPrefix s (first ++ second) file
-prefix-after s mid first second file leads some = record {
-  count = length first + some.count;
-  state = some.state;
-  leads = ap (after s) (take-beyond some.count first second) ∙ after-joined s mid some.state first (take some.count second) leads some.leads;
-  means = some.means;
-}
+-- some of the commands lead to what is flushed, and the others wait
+pub record Continues (start : Contents) (commands : List Command) (flushed : Contents) (waiting : List Command) : Type 0 where
+  pub first : List Command
+  pub is : commands ≡ first ++ waiting
+  pub leads : after start first ≡ Ok flushed
 
--- a prefix as long as a list is the list
-pub take-whole : {A : Type 0} (xs : List A) → take (length xs) xs ≡ xs
-take-whole [] = refl
-take-whole (a ∷ xs) = ap (λ l. a ∷ l) (take-whole xs)
+-- so it is of what waited and what the requests accept
+pub continues : (at_once : Bool) (now : Stored) (flushed : Contents) (waiting : List Command) (rs : List Request) → after flushed waiting ≡ Ok now.state
+    → Continues flushed (waiting ++ accepted_commands now rs) (flushed_after at_once now flushed rs) (waiting_after at_once now waiting rs)
+continues at_once now flushed waiting [] leads = record { first = []; is = append-nil waiting; leads = refl }
+continues at_once now flushed waiting (x ∷ rs) leads =
+    by (syncs at_once now x) (continues at_once (stored_after now x) (stored_after now x).state [] rs refl)
+    (continues at_once (stored_after now x) flushed (waiting ++ accepted_command now x) rs there)
+  where
+    there : after flushed (waiting ++ accepted_command now x) ≡ Ok (stored_after now x).state
+    there = after-joined flushed now.state (stored_after now x).state waiting (accepted_command now x) leads (leads-one now x)
 
--- ---- requests that were performed and answered
+    grouped : waiting ++ (accepted_command now x ++ accepted_commands (stored_after now x) rs) ≡ (waiting ++ accepted_command now x) ++ accepted_commands (stored_after now x) rs
+    grouped = sym (append_assoc waiting (accepted_command now x) (accepted_commands (stored_after now x) rs))
 
-module _ {D : Type 0} (honest : Type 0) (folder : D → Folder) (moment : D → ℕ) (since : D → ℕ → Image → Type 0) where
-  -- before the first request, nothing was performed, answered or written
-  pub passed-none : (held : Option (List ℕ)) (store : StoreView D) → store.reopen ≡ false
+    by : (b : Bool)
+        → Continues (stored_after now x).state (accepted_commands (stored_after now x) rs) (flushed_after at_once (stored_after now x) (stored_after now x).state rs)
+        (waiting_after at_once (stored_after now x) [] rs)
+        → Continues flushed ((waiting ++ accepted_command now x) ++ accepted_commands (stored_after now x) rs) (flushed_after at_once (stored_after now x) flushed rs)
+        (waiting_after at_once (stored_after now x) (waiting ++ accepted_command now x) rs)
+        → Continues flushed (waiting ++ (accepted_command now x ++ accepted_commands (stored_after now x) rs))
+        (flushed_after at_once (stored_after now x) (if b then (stored_after now x).state else flushed) rs)
+        (waiting_after at_once (stored_after now x) (if b then [] else waiting ++ accepted_command now x) rs)
+    by true synced waits = record {
+      first = (waiting ++ accepted_command now x) ++ synced.first;
+      is = grouped ∙ ap (λ l. (waiting ++ accepted_command now x) ++ l) synced.is
+          ∙ sym (append_assoc (waiting ++ accepted_command now x) synced.first (waiting_after at_once (stored_after now x) [] rs));
+      leads = after-joined flushed (stored_after now x).state (flushed_after at_once (stored_after now x) (stored_after now x).state rs) (waiting ++ accepted_command now x) synced.first there synced.leads;
+    }
+    by false synced waits = record { first = waits.first; is = grouped ∙ waits.is; leads = waits.leads }
+
+-- a file after a prefix of what waits, and more, is after at least the commands that are flushed
+pub at-least : (start flushed : Contents) (commands waiting more : List Command) (file : Option (List ℕ)) → Continues start commands flushed waiting → AfterPrefix flushed (waiting ++ more) file
+    → AfterAtLeast start (length commands - length waiting) (commands ++ more) file
+at-least start flushed commands waiting more file c some =
+    let same : c.first ++ (waiting ++ more) ≡ commands ++ more = sym (append_assoc c.first waiting more) ∙ ap (λ l. l ++ more) (sym c.is) in
+    let long = ap length c.is in
+    let sum = length-append c.first waiting in
+    subst (λ (l : List Command). AfterAtLeast start (length commands - length waiting) l file) same
+    (record {
+      count = length c.first + some.count;
+      enough = omega (arith, long, sum);
+      state = some.state;
+      leads = ap (after start) (take-beyond some.count c.first (waiting ++ more)) ∙ after-joined start flushed some.state c.first (take some.count (waiting ++ more)) c.leads some.leads;
+      means = some.means;
+    })
+
+-- and so after a prefix of all
+prefix-continued : (start flushed : Contents) (commands waiting more : List Command) (file : Option (List ℕ)) → Continues start commands flushed waiting → AfterPrefix flushed (waiting ++ more) file
+    → AfterPrefix start (commands ++ more) file
+prefix-continued start flushed commands waiting more file c some =
+    let all = at-least start flushed commands waiting more file c some in
+    record { count = all.count; state = all.state; leads = all.leads; means = all.means }
+
+-- where none comes after what waits
+pub prefix-whole : (start flushed : Contents) (commands waiting : List Command) (file : Option (List ℕ)) → Continues start commands flushed waiting → AfterPrefix flushed waiting file → AfterPrefix start commands file
+prefix-whole start flushed commands waiting file c some =
+    subst (λ (l : List Command). AfterPrefix start l file) (append-nil commands) (prefix-continued start flushed commands waiting [] file c (prefix-longer flushed waiting [] file some))
+
+-- ---- requests that were performed
+
+module _ (at_once : Bool) {D : Type 0} (honest : Type 0) (folder : D → Folder) (moment : D → ℕ) (since : D → ℕ → Image → Type 0) where
+  -- before the first request, nothing was performed
+  pub performs-none : (store : StoreView D) → store.reopen ≡ false
       → ((image : Image) → honest → since store.disk (moment store.disk) image → IsImage (folder store.disk) image)
-      → (honest → store.reopen ≡ false → AllImagesMean (folder store.disk) store.state)
-      → Passed honest folder moment since held held store store []
-  passed-none held store off only means = record {
-    out = Appends-nil held;
+      → (honest → store.reopen ≡ false → LeavesPrefixes (folder store.disk) store.state)
+      → PerformsAll at_once honest folder moment since store store []
+  performs-none store off only means = record {
     sound = off;
     stored = refl;
     reads = λ h. refl;
-    any_moment = λ h. LeavesOnly-start moment since store.disk _ (λ image is. record { count = 0; state = store.state; leads = refl; means = means h off image (only image h is) });
+    any_moment = λ h flushed waiting has. LeavesOnly-start moment since store.disk _
+        (λ image is. prefix-longer flushed waiting [] image.store (means h off flushed waiting has image (only image h is)));
+    waits = λ h flushed waiting has. has;
   }
 
-  module _ (held between : Option (List ℕ)) (old mid new : StoreView D) (rs : List Request) (r : Request) (passed : Passed honest folder moment since held between old mid rs) (does : Performs honest folder moment since mid new r) where
-    leads-mid : after old.state (accepted_commands (stored_of old) rs) ≡ Ok mid.state
-    leads-mid = leads-all (stored_of old) rs ∙ ap (λ (t : Stored). Ok t.state) (sym passed.stored)
-
-    -- what a crash leaves during one request more
-    pub moments-more : honest → LeavesOnly moment since old.disk new.disk (λ image. AfterPrefix old.state (accepted_commands (stored_of old) (rs ++ r ∷ [])) image.store)
-    moments-more h =
-        let now = stored_of old in
-        let first = accepted_commands now rs in
-        let second = accepted_command (stored_after_all now rs) r in
-        let there : accepted_command (stored_of mid) r ≡ second = ap (λ t. accepted_command t r) passed.stored in
-        subst (λ cs. LeavesOnly moment since old.disk new.disk (λ image. AfterPrefix old.state cs image.store)) (sym (accepted_commands-last now rs r))
-        (LeavesOnly-joined moment since old.disk mid.disk new.disk _ _ _ (passed.any_moment h) (does.any_moment h)
-        (λ image. prefix-of-more old.state first second image.store)
-        (λ image some. prefix-after old.state mid.state first second image.store leads-mid (subst (λ cs. AfterPrefix mid.state cs image.store) there some)))
-
+  module _ (old mid new : StoreView D) (rs : List Request) (r : Request) (before : PerformsAll at_once honest folder moment since old mid rs) (does : Performs at_once honest folder moment since mid new r) where
     pub state-more : new.state ≡ (stored_after_all (stored_of old) (rs ++ r ∷ [])).state
-    state-more = does.state ∙ ap (λ t. (stored_after t r).state) passed.stored ∙ ap (λ (t : Stored). t.state) (sym (stored-last (stored_of old) rs r))
+    state-more = does.state ∙ ap (λ t. (stored_after t r).state) before.stored ∙ ap (λ (t : Stored). t.state) (sym (stored-last (stored_of old) rs r))
 
     pub stored-more : new.reopen ≡ false → stored_of new ≡ stored_after_all (stored_of old) (rs ++ r ∷ [])
-    stored-more off =
-        (λ i. record { state = does.state i; size = does.size off i })
-        ∙ ap (λ t. stored_after t r) passed.stored ∙ sym (stored-last (stored_of old) rs r)
+    stored-more off = does.stored off ∙ ap (λ t. stored_after t r) before.stored ∙ sym (stored-last (stored_of old) rs r)
 
     -- what `store.yaml` reads as after one request more
     pub reads-more : honest → new.reopen ≡ false → bytes_under (folder new.disk) Store ≡ file_after_all (bytes_under (folder old.disk) Store) (stored_of old) (rs ++ r ∷ [])
     reads-more h off =
         let file = bytes_under (folder old.disk) Store in
-        does.reads h off ∙ ap (λ f. file_after f (stored_of mid) r) (passed.reads h) ∙ ap (λ t. file_after (file_after_all file (stored_of old) rs) t r) passed.stored
+        does.reads h off ∙ ap (λ f. file_after f (stored_of mid) r) (before.reads h) ∙ ap (λ t. file_after (file_after_all file (stored_of old) rs) t r) before.stored
         ∙ sym (file-last file (stored_of old) rs r)
 
-    pub passed-more : (written : Option (List ℕ)) → Appends between written (framed_text_bytes (answer (stored_of mid) r)) → new.reopen ≡ false
-        → Passed honest folder moment since held written old new (rs ++ r ∷ [])
-    passed-more written out off = record {
-      out = subst (Appends held written) (ap (λ t. output (stored_of old) rs ++ framed_text_bytes (answer t r)) passed.stored ∙ sym (output-last (stored_of old) rs r))
-          (Appends-trans held between written (output (stored_of old) rs) (framed_text_bytes (answer (stored_of mid) r)) passed.out out);
+    module _ (h : honest) (flushed : Contents) (waiting : List Command) (has : HasFlushed (folder old.disk) flushed waiting old.state) where
+      -- what is flushed before the last request, and what waits
+      continued : Continues flushed (waiting ++ accepted_commands (stored_of old) rs) (flushed_after at_once (stored_of old) flushed rs) (waiting_after at_once (stored_of old) waiting rs)
+      continued = continues at_once (stored_of old) flushed waiting rs has.journal.leads
+
+      -- all commands, with that of the last request
+      joined : (waiting ++ accepted_commands (stored_of old) rs) ++ accepted_command (stored_of mid) r ≡ waiting ++ accepted_commands (stored_of old) (rs ++ r ∷ [])
+      joined =
+          append_assoc waiting (accepted_commands (stored_of old) rs) (accepted_command (stored_of mid) r)
+          ∙ ap (λ l. waiting ++ l) (ap (λ t. accepted_commands (stored_of old) rs ++ accepted_command t r) before.stored ∙ sym (accepted_commands-last (stored_of old) rs r))
+
+      -- what a crash leaves during the last request
+      last-moments : LeavesOnly moment since mid.disk new.disk (λ image. AfterPrefix (flushed_after at_once (stored_of old) flushed rs) (waiting_after at_once (stored_of old) waiting rs ++ accepted_command (stored_of mid) r) image.store)
+      last-moments = does.any_moment h (flushed_after at_once (stored_of old) flushed rs) (waiting_after at_once (stored_of old) waiting rs) (before.waits h flushed waiting has)
+
+      -- and during all
+      pub moments-more : LeavesOnly moment since old.disk new.disk (λ image. AfterPrefix flushed (waiting ++ accepted_commands (stored_of old) (rs ++ r ∷ [])) image.store)
+      moments-more =
+          let first = waiting ++ accepted_commands (stored_of old) rs in
+          let second = accepted_command (stored_of mid) r in
+          subst (λ (l : List Command). LeavesOnly moment since old.disk new.disk (λ image. AfterPrefix flushed l image.store)) joined
+          (LeavesOnly-joined moment since old.disk mid.disk new.disk _ _ _ (before.any_moment h flushed waiting has) last-moments
+          (λ image. prefix-longer flushed first second image.store)
+          (λ image. prefix-continued flushed (flushed_after at_once (stored_of old) flushed rs) first (waiting_after at_once (stored_of old) waiting rs) second image.store continued))
+
+      -- what waits after one request more
+      pub waits-more : new.reopen ≡ false → HasFlushed (folder new.disk) (flushed_after at_once (stored_of old) flushed (rs ++ r ∷ [])) (waiting_after at_once (stored_of old) waiting (rs ++ r ∷ [])) new.state
+      waits-more off =
+          let f = flushed_after at_once (stored_of old) flushed rs in
+          let w = waiting_after at_once (stored_of old) waiting rs in
+          let flushes = ap (λ t. flushed_after at_once t f (r ∷ [])) before.stored ∙ sym (flushed-last at_once (stored_of old) flushed rs r) in
+          let waits = ap (λ t. waiting_after at_once t w (r ∷ [])) before.stored ∙ sym (waiting-last at_once (stored_of old) waiting rs r) in
+          subst (λ (l : List Command). HasFlushed (folder new.disk) (flushed_after at_once (stored_of old) flushed (rs ++ r ∷ [])) l new.state) waits
+          (subst (λ (s : Contents). HasFlushed (folder new.disk) s (waiting_after at_once (stored_of mid) w (r ∷ [])) new.state) flushes (does.waits h off f w (before.waits h flushed waiting has)))
+
+    pub performs-more : new.reopen ≡ false → PerformsAll at_once honest folder moment since old new (rs ++ r ∷ [])
+    performs-more off = record {
       sound = off;
       stored = stored-more off;
       reads = λ h. reads-more h off;
       any_moment = moments-more;
+      waits = λ h flushed waiting has. waits-more h flushed waiting has off;
     }
 
-    -- a crash after the last request, of which it isn't known how far it came
-    pub kept-most : (image : Image) → AfterPrefix mid.state (accepted_command (stored_of mid) r) image.store
-        → AfterAtLeast old.state (length (accepted_commands (stored_of old) rs)) (accepted_commands (stored_of old) (rs ++ r ∷ [])) image.store
-    kept-most image some =
-        let now = stored_of old in
-        let first = accepted_commands now rs in
-        let second = accepted_command (stored_after_all now rs) r in
-        let there : AfterPrefix mid.state second image.store = subst (λ t. AfterPrefix mid.state (accepted_command t r) image.store) passed.stored some in
-        subst (λ cs. AfterAtLeast old.state (length first) cs image.store) (sym (accepted_commands-last now rs r))
-        (record {
-          count = length first + there.count;
-          enough = omega arith;
-          state = there.state;
-          leads = ap (after old.state) (take-beyond there.count first second) ∙ after-joined old.state mid.state there.state first (take there.count second) leads-mid there.leads;
-          means = there.means;
-        })
+-- ---- what a session keeps, which flushes each command at once
+
+module _ {D : Type 0} (honest : Type 0) (folder : D → Folder) (moment : D → ℕ) (since : D → ℕ → Image → Type 0) where
+  -- a crash after the last request, of which it isn't known how far it came
+  pub kept-most : (old mid new : StoreView D) (rs : List Request) (r : Request) → PerformsAll true honest folder moment since old mid rs → Performs true honest folder moment since mid new r
+      → (h : honest) (flushed : Contents) (waiting : List Command) → HasFlushed (folder old.disk) flushed waiting old.state
+      → ((t : ℕ) (image : Image) → honest → t ≤ moment new.disk → IsImage (folder new.disk) image → since new.disk t image)
+      → (image : Image) → IsImage (folder new.disk) image
+      → AfterAtLeast flushed (acknowledged (stored_of old) waiting rs) (waiting ++ accepted_commands (stored_of old) (rs ++ r ∷ [])) image.store
+  kept-most old mid new rs r before does h flushed waiting has counts_now image is =
+      let run = last-moments true honest folder moment since old mid new rs r before does h flushed waiting has in
+      let some = run.each image (counts_now (moment mid.disk) image h run.later is) in
+      subst (λ (l : List Command). AfterAtLeast flushed (acknowledged (stored_of old) waiting rs) l image.store) (joined true honest folder moment since old mid new rs r before does h flushed waiting has)
+      (at-least flushed (flushed_after true (stored_of old) flushed rs) (waiting ++ accepted_commands (stored_of old) rs) (waiting_after true (stored_of old) waiting rs) (accepted_command (stored_of mid) r) image.store
+      (continues true (stored_of old) flushed waiting rs has.journal.leads) some)
 
   -- a crash after requests that are all performed
-  pub kept-all : (old new : StoreView D) (rs : List Request) (least : ℕ) → least ≤ length (accepted_commands (stored_of old) rs) → stored_of new ≡ stored_after_all (stored_of old) rs
-      → new.reopen ≡ false → (honest → new.reopen ≡ false → AllImagesMean (folder new.disk) new.state) → honest → (image : Image) → IsImage (folder new.disk) image
-      → AfterAtLeast old.state least (accepted_commands (stored_of old) rs) image.store
-  kept-all old new rs least few stored off means h image is = record {
-    count = length (accepted_commands (stored_of old) rs);
-    enough = few;
-    state = new.state;
-    leads = ap (after old.state) (take-whole (accepted_commands (stored_of old) rs)) ∙ leads-all (stored_of old) rs ∙ ap (λ (t : Stored). Ok t.state) (sym stored);
-    means = means h off image is;
-  }
+  pub kept-all : (old new : StoreView D) (rs : List Request) (least : ℕ) → new.reopen ≡ false → (honest → new.reopen ≡ false → LeavesPrefixes (folder new.disk) new.state)
+      → (h : honest) (flushed : Contents) (waiting : List Command) → HasFlushed (folder old.disk) flushed waiting old.state
+      → HasFlushed (folder new.disk) (flushed_after true (stored_of old) flushed rs) (waiting_after true (stored_of old) waiting rs) new.state
+      → least ≤ acknowledged (stored_of old) waiting rs → (image : Image) → IsImage (folder new.disk) image
+      → AfterAtLeast flushed least (waiting ++ accepted_commands (stored_of old) rs) image.store
+  kept-all old new rs least off means h flushed waiting has waits few image is =
+      let f = flushed_after true (stored_of old) flushed rs in
+      let w = waiting_after true (stored_of old) waiting rs in
+      let commands = waiting ++ accepted_commands (stored_of old) rs in
+      let some : AfterPrefix f (w ++ []) image.store = prefix-longer f w [] image.store (means h off f w waits image is) in
+      let all : AfterAtLeast flushed (length commands - length w) commands image.store =
+      subst (λ (l : List Command). AfterAtLeast flushed (length commands - length w) l image.store) (append-nil commands)
+      (at-least flushed f commands w [] image.store (continues true (stored_of old) flushed waiting rs has.journal.leads) some) in
+      let enough = all.enough in
+      record { count = all.count; enough = omega (arith, few, enough); state = all.state; leads = all.leads; means = all.means }

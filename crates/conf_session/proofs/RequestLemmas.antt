@@ -1,9 +1,10 @@
 -- What one request does.
-use Rattle.std.proofs.Common.{◌≡◌, ◌≢◌, ◌⊎◌, inl, inr, ⊎_elim, refl, sym, ◌∙◌, ap, subst, arith}
-use Rattle.std.specs.Prelude.{ℕ, ◌+◌, min, Bool, false, List, [], ◌∷◌, length, decimal, codes, Option, Some, Result, Ok, Err, String, string_bytes}
+use Rattle.std.proofs.Common.{◌≡◌, ◌≢◌, ◌⊎◌, inl, inr, ⊎_elim, refl, sym, ◌∙◌, ap, subst, arith, length-append}
+use Rattle.std.specs.Prelude.{ℕ, ◌+◌, min, max, Bool, true, false, List, [], ◌∷◌, ◌++◌, length, decimal, codes, Option, Some, None, option_map, unwrap_or, ◌&&◌, if◌then◌else◌, Result, Ok, Err, is_ok, String, string_bytes}
 use Rattle.std.specs.Str.{chars, IsUtf8}
 use Rattle.std.specs.declared.alloc.Global.{Global}
 use Rattle.std.proofs.lemmas.Str.{encodes-chars}
+use Rattle.std.proofs.lemmas.List.{append-nil, take_all}
 use Rattle.yaml_grammar.specs.Trees.{Tree, text}
 use Rattle.yaml_tree.specs.Reading.{IsRead, Refuses}
 use Rattle.yaml_events.specs.declared.read_fault.ReadFault.{ReadFault}
@@ -22,100 +23,182 @@ use Rattle.conf_state.specs.States.{Contents, count_limit}
 use Rattle.yaml_config.specs.Limits.{config_limits}
 use Rattle.conf_state.specs.Steps.{step, after}
 use Rattle.conf_state.specs.declared.fault.StoreFault.{StoreFault}
-use Rattle.conf_store.specs.Calls.{outcome, has_room, next_record}
+use Rattle.conf_store.specs.Calls.{outcome, has_room, next_record, journal_length, Accepts}
+use Rattle.conf_store.specs.Staged.{Staged, staged_length, with_more}
 use Rattle.conf_store.specs.Meaning.{FileMeans}
-use Rattle.conf_store.specs.Durable.{AfterPrefix, AllImagesMean}
+use Rattle.conf_store.specs.Durable.{AfterPrefix, AllImagesMean, HasFlushed}
 use Rattle.conf_store.specs.View.{StoreView}
 use Rattle.conf_state.proofs.RefusalLemmas.{accepted-room}
 use Rattle.conf_store.proofs.StepLemmas.{accepted-anyway}
-use Rattle.conf_store.proofs.MeaningLemmas.{after-done}
+use Rattle.conf_store.proofs.MeaningLemmas.{after-done, after-joined}
+use Rattle.conf_store.proofs.HeldLemmas.{prefix-longer}
 use Rattle.conf_session.specs.Said.{Said, import_text, Says}
 use Rattle.conf_session.specs.declared.fault.SessionFault.{SessionFault}
 use Rattle.conf_session.specs.declared.fault.SessionFault.TheVariants as fault
 use Rattle.conf_session.specs.Requests.{MeansRequest, Request, changing, unread, getting, exporting, naming, checkpointing, bad}
-use Rattle.conf_session.specs.Answers.{Stored, one, change_answer, stored_after_change, stored_after, file_after_change, accepted_by, accepted_command, is_refused}
+use Rattle.conf_session.specs.Answers.{Stored, longest, one, change_answer, stored_after_change, stored_after, file_after_change, accepted_by, accepted_command, is_refused}
 use Rattle.conf_session.specs.Runs.{stored_of}
-use Rattle.conf_session.specs.Replies.{OnlyReads, Performs, Replies, Did, DidSaid, DidPiece}
+use Rattle.conf_session.specs.Replies.{OnlyReads, LeavesPrefixes, Performs, Replies, Did, DidSaid, DidPiece}
 use Rattle.conf_session.proofs.LengthLemmas.{step-few, answer-short}
 use Rattle.conf_session.specs.declared.reply.Reply.{Reply}
 use Rattle.conf_session.specs.declared.reply.Reply.TheVariants.{Accepted, Refused}
 
+-- ---- the lengths of the two files
+
+length-of : (staged : Option Staged) → unwrap_or (option_map (λ (s : Staged). s.written + length s.left) staged) 0 ≡ staged_length staged
+length-of None = refl
+length-of (Some s) = refl
+
+-- JournalLong looks at the longer of the two files
+pub longest-of : {D : Type 0} (seen : StoreView D) → longest (stored_of seen) ≡ journal_length seen
+longest-of seen = ap (max seen.size) (length-of seen.staged)
+
+lengths-more : (bytes : List ℕ) (staged : Option Staged)
+    → option_map (λ (s : Staged). s.written + length s.left) (with_more bytes staged)
+    ≡ option_map (λ (n : ℕ). n + length bytes) (option_map (λ (s : Staged). s.written + length s.left) staged)
+lengths-more bytes None = refl
+lengths-more bytes (Some s) =
+    let parts = length-append s.left bytes in
+    let same : s.written + length (s.left ++ bytes) ≡ s.written + length s.left + length bytes = omega (arith, parts) in
+    ap Some same
+
+-- an accepted command adds the length of its record to both files
+stored-accepted : {D : Type 0} (old new : StoreView D) (command : Command) → Accepts old command new → stored_of new ≡ stored_after_change (stored_of old) command (Ok new.state)
+stored-accepted old new command accepts =
+    let lengths = ap (option_map (λ (s : Staged). s.written + length s.left)) accepts.staged ∙ lengths-more (next_record old.state command) old.staged in
+    λ i. record { state = new.state; size = accepts.size i; staged = lengths i }
+
 -- ---- what a crash leaves
 
-none-after : (s : Contents) (file : Option (List ℕ)) (commands : List Command) → FileMeans file s → AfterPrefix s commands file
-none-after s file commands means = record { count = 0; state = s; leads = refl; means = means }
+-- after a sync whatever a crash leaves means the state
+pub synced-leaves : (folder : Folder) (s : Contents) → AllImagesMean folder s → LeavesPrefixes folder s
+synced-leaves folder s means flushed waiting has image is = record {
+  count = length waiting;
+  state = s;
+  leads = ap (after flushed) (take_all (length waiting) waiting (omega arith)) ∙ has.journal.leads;
+  means = means image is;
+}
 
-module _ {D : Type 0} (honest : Type 0) (folder : D → Folder) (moment : D → ℕ) (since : D → ℕ → Image → Type 0) where
+-- and so it does of a store that is as it was
+pub leaves-same : {D : Type 0} (honest : Type 0) (folder : D → Folder) (old new : StoreView D) → new ≡ old → (honest → old.reopen ≡ false → LeavesPrefixes (folder old.disk) old.state)
+    → honest → new.reopen ≡ false → LeavesPrefixes (folder new.disk) new.state
+leaves-same {D} honest folder old new same means = subst (λ (s : StoreView D). honest → s.reopen ≡ false → LeavesPrefixes (folder s.disk) s.state) (sym same) means
+
+-- the state after all commands that wait, and one more
+all-after : (flushed s end : Contents) (waiting : List Command) (command : Command) (file : Option (List ℕ)) → after flushed waiting ≡ Ok s → after s (command ∷ []) ≡ Ok end → FileMeans file end
+    → AfterPrefix flushed (waiting ++ command ∷ []) file
+all-after flushed s end waiting command file leads done means =
+    let all = waiting ++ command ∷ [] in
+    record {
+      count = length all;
+      state = end;
+      leads = ap (after flushed) (take_all (length all) all (omega arith)) ∙ after-joined flushed s end waiting (command ∷ []) leads done;
+      means = means;
+    }
+
+-- ---- what waits after a command
+
+-- the commands that wait, where none is added
+still : (folder : Folder) (flushed s : Contents) (waiting : List Command) → HasFlushed folder flushed waiting s → HasFlushed folder flushed (waiting ++ []) s
+still folder flushed s waiting has = subst (λ (l : List Command). HasFlushed folder flushed l s) (sym (append-nil waiting)) has
+
+accepted-waits : (at_once : Bool) (folder : Folder) (flushed s : Contents) (more : List Command) → HasFlushed folder (if at_once then s else flushed) (if at_once then [] else more) s
+    → HasFlushed folder (if at_once && true then s else flushed) (if at_once && true then [] else more) s
+accepted-waits true folder flushed s more has = has
+accepted-waits false folder flushed s more has = has
+
+refused-waits : (at_once : Bool) (folder : Folder) (flushed s : Contents) (waiting : List Command) → HasFlushed folder flushed waiting s
+    → HasFlushed folder (if at_once && false then s else flushed) (if at_once && false then [] else waiting ++ []) s
+refused-waits true folder flushed s waiting has = still folder flushed s waiting has
+refused-waits false folder flushed s waiting has = still folder flushed s waiting has
+
+module _ (at_once : Bool) {D : Type 0} (honest : Type 0) (folder : D → Folder) (moment : D → ℕ) (since : D → ℕ → Image → Type 0) where
   -- a store that is as it was
-  unchanged : (store : StoreView D) → store.reopen ≡ false → (commands : List Command) → ((image : Image) → honest → since store.disk (moment store.disk) image → IsImage (folder store.disk) image)
-      → (honest → store.reopen ≡ false → AllImagesMean (folder store.disk) store.state)
-      → honest → LeavesOnly moment since store.disk store.disk (λ image. AfterPrefix store.state commands image.store)
-  unchanged store off commands only means h =
-      LeavesOnly-start moment since store.disk _ (λ image is. none-after store.state image.store commands (means h off image (only image h is)))
+  unchanged : (store : StoreView D) → store.reopen ≡ false → (more : List Command) → ((image : Image) → honest → since store.disk (moment store.disk) image → IsImage (folder store.disk) image)
+      → (honest → store.reopen ≡ false → LeavesPrefixes (folder store.disk) store.state)
+      → honest → (flushed : Contents) (waiting : List Command) → HasFlushed (folder store.disk) flushed waiting store.state
+      → LeavesOnly moment since store.disk store.disk (λ image. AfterPrefix flushed (waiting ++ more) image.store)
+  unchanged store off more only means h flushed waiting has =
+      LeavesOnly-start moment since store.disk _ (λ image is. prefix-longer flushed waiting more image.store (means h off flushed waiting has image (only image h is)))
 
   -- a request that only reads leaves the store as it is
   pub only-read : (store : StoreView D) → store.reopen ≡ false → (request : Request) → OnlyReads request
       → ((image : Image) → honest → since store.disk (moment store.disk) image → IsImage (folder store.disk) image)
-      → (honest → store.reopen ≡ false → AllImagesMean (folder store.disk) store.state) → Performs honest folder moment since store store request
+      → (honest → store.reopen ≡ false → LeavesPrefixes (folder store.disk) store.state) → Performs at_once honest folder moment since store store request
   only-read store off (changing command) is only means = absurd is
   only-read store off checkpointing is only means = absurd is
-  only-read store off (unread name f) is only means = record { state = refl; size = λ on. refl; reads = λ h on. refl; any_moment = unchanged store off [] only means }
-  only-read store off (getting name path) is only means = record { state = refl; size = λ on. refl; reads = λ h on. refl; any_moment = unchanged store off [] only means }
-  only-read store off (exporting name) is only means = record { state = refl; size = λ on. refl; reads = λ h on. refl; any_moment = unchanged store off [] only means }
-  only-read store off naming is only means = record { state = refl; size = λ on. refl; reads = λ h on. refl; any_moment = unchanged store off [] only means }
-  only-read store off bad is only means = record { state = refl; size = λ on. refl; reads = λ h on. refl; any_moment = unchanged store off [] only means }
+  only-read store off (unread name f) is only means = record { state = refl; stored = λ on. refl; reads = λ h on. refl; any_moment = unchanged store off [] only means; waits = λ h on flushed waiting. still (folder store.disk) flushed store.state waiting }
+  only-read store off (getting name path) is only means = record { state = refl; stored = λ on. refl; reads = λ h on. refl; any_moment = unchanged store off [] only means; waits = λ h on flushed waiting. still (folder store.disk) flushed store.state waiting }
+  only-read store off (exporting name) is only means = record { state = refl; stored = λ on. refl; reads = λ h on. refl; any_moment = unchanged store off [] only means; waits = λ h on flushed waiting. still (folder store.disk) flushed store.state waiting }
+  only-read store off naming is only means = record { state = refl; stored = λ on. refl; reads = λ h on. refl; any_moment = unchanged store off [] only means; waits = λ h on flushed waiting. still (folder store.disk) flushed store.state waiting }
+  only-read store off bad is only means = record { state = refl; stored = λ on. refl; reads = λ h on. refl; any_moment = unchanged store off [] only means; waits = λ h on flushed waiting. still (folder store.disk) flushed store.state waiting }
 
   -- ---- a command
 
-  -- a command that is accepted is performed, and its record appended
-  pub command-performed : (old new : StoreView D) (command : Command) → outcome old.size old.state command ≡ Ok new.state
-      → (new.reopen ≡ false → new.size ≡ old.size + length (next_record old.state command))
+  -- a command that is accepted is performed, its record appended and synced
+  pub command-performed : (old new : StoreView D) (command : Command) → outcome (journal_length old) old.state command ≡ Ok new.state
+      → (new.reopen ≡ false → Accepts old command new)
       → (honest → new.reopen ≡ false → bytes_under (folder new.disk) Store ≡ file_with_bytes (bytes_under (folder old.disk) Store) (next_record old.state command))
-      → (honest → LeavesOnly moment since old.disk new.disk (λ image. FileMeans image.store old.state ⊎ FileMeans image.store new.state))
-      → Performs honest folder moment since old new (changing command)
-  command-performed old new command done long grown moments =
+      → (honest → (flushed : Contents) (waiting : List Command) → HasFlushed (folder old.disk) flushed waiting old.state
+      → LeavesOnly moment since old.disk new.disk (λ image. AfterPrefix flushed waiting image.store ⊎ FileMeans image.store new.state))
+      → (honest → new.reopen ≡ false → (flushed : Contents) (waiting : List Command) → HasFlushed (folder old.disk) flushed waiting old.state
+      → HasFlushed (folder new.disk) (if at_once then new.state else flushed) (if at_once then [] else waiting ++ command ∷ []) new.state)
+      → Performs at_once honest folder moment since old new (changing command)
+  command-performed old new command done accepts grown moments flushes =
       let now = stored_of old in
-      let goes : stored_after now (changing command) ≡ stored_after_change now command (Ok new.state) = ap (stored_after_change now command) done in
-      let one : accepted_command now (changing command) ≡ command ∷ [] = ap (λ r. accepted_by r command) done in
-      let leads : after old.state (command ∷ []) ≡ Ok new.state = after-done old.state new.state command (accepted-anyway accepted-room old.state new.state command (has_room old.size old.state command) done) in
+      let here : outcome (longest now) now.state command ≡ Ok new.state = ap (λ n. outcome n old.state command) (longest-of old) ∙ done in
+      let goes : stored_after now (changing command) ≡ stored_after_change now command (Ok new.state) = ap (stored_after_change now command) here in
+      let one : accepted_command now (changing command) ≡ command ∷ [] = ap (λ r. accepted_by r command) here in
+      let leads : after old.state (command ∷ []) ≡ Ok new.state = after-done old.state new.state command (accepted-anyway accepted-room old.state new.state command (has_room (journal_length old) old.state command) done) in
       record {
         state = sym (ap (λ (t : Stored). t.state) goes);
-        size = λ on. long on ∙ sym (ap (λ (t : Stored). t.size) goes);
-        reads = λ h on. grown h on ∙ sym (ap (file_after_change (bytes_under (folder old.disk) Store) now command) done);
-        any_moment = λ h. subst (λ cs. LeavesOnly moment since old.disk new.disk (λ image. AfterPrefix old.state cs image.store)) (sym one)
-            (LeavesOnly-weaker moment since old.disk new.disk _ _ (moments h)
-            (λ image. ⊎_elim (none-after old.state image.store (command ∷ [])) (λ means. record { count = 1; state = new.state; leads = leads; means = means })));
+        stored = λ on. stored-accepted old new command (accepts on) ∙ sym goes;
+        reads = λ h on. grown h on ∙ sym (ap (file_after_change (bytes_under (folder old.disk) Store) now command) here);
+        any_moment = λ h flushed waiting has. subst (λ cs. LeavesOnly moment since old.disk new.disk (λ image. AfterPrefix flushed (waiting ++ cs) image.store)) (sym one)
+            (LeavesOnly-weaker moment since old.disk new.disk _ _ (moments h flushed waiting has)
+            (λ image. ⊎_elim (prefix-longer flushed waiting (command ∷ []) image.store) (all-after flushed old.state new.state waiting command image.store has.journal.leads leads)));
+        waits = λ h on flushed waiting has.
+            subst (λ (r : Result Contents StoreFault). HasFlushed (folder new.disk) (if at_once && is_ok r then (stored_after_change now command r).state else flushed) (if at_once && is_ok r then [] else waiting ++ accepted_by r command) new.state) (sym here)
+            (accepted-waits at_once (folder new.disk) flushed new.state (waiting ++ command ∷ []) (flushes h on flushed waiting has));
       }
 
-  pub command-refused : (store : StoreView D) → store.reopen ≡ false → (command : Command) (f : StoreFault) → outcome store.size store.state command ≡ Err f
+  pub command-refused : (store : StoreView D) → store.reopen ≡ false → (command : Command) (f : StoreFault) → outcome (journal_length store) store.state command ≡ Err f
       → ((image : Image) → honest → since store.disk (moment store.disk) image → IsImage (folder store.disk) image)
-      → (honest → store.reopen ≡ false → AllImagesMean (folder store.disk) store.state) → Performs honest folder moment since store store (changing command)
+      → (honest → store.reopen ≡ false → LeavesPrefixes (folder store.disk) store.state) → Performs at_once honest folder moment since store store (changing command)
   command-refused store off command f refused only means =
       let now = stored_of store in
-      let goes : stored_after now (changing command) ≡ now = ap (stored_after_change now command) refused in
+      let here : outcome (longest now) now.state command ≡ Err f = ap (λ n. outcome n store.state command) (longest-of store) ∙ refused in
+      let goes : stored_after now (changing command) ≡ now = ap (stored_after_change now command) here in
       record {
         state = sym (ap (λ (t : Stored). t.state) goes);
-        size = λ on. sym (ap (λ (t : Stored). t.size) goes);
-        reads = λ h on. sym (ap (file_after_change (bytes_under (folder store.disk) Store) now command) refused);
+        stored = λ on. sym goes;
+        reads = λ h on. sym (ap (file_after_change (bytes_under (folder store.disk) Store) now command) here);
         any_moment = unchanged store off (accepted_command now (changing command)) only means;
+        waits = λ h on flushed waiting has.
+            subst (λ (r : Result Contents StoreFault). HasFlushed (folder store.disk) (if at_once && is_ok r then (stored_after_change now command r).state else flushed) (if at_once && is_ok r then [] else waiting ++ accepted_by r command) store.state) (sym here)
+            (refused-waits at_once (folder store.disk) flushed store.state waiting has);
       }
 
   -- ---- a checkpoint
 
-  pub checkpointed : (old new : StoreView D) → new.state ≡ old.state → (new.reopen ≡ false → new.size ≡ length (base_bytes old.state))
+  pub checkpointed : (old new : StoreView D) → new.state ≡ old.state → (new.reopen ≡ false → (new.staged ≡ None) × (new.size ≡ length (base_bytes old.state)))
       → (honest → new.reopen ≡ false → bytes_under (folder new.disk) Store ≡ Some (base_bytes old.state))
-      → (honest → LeavesOnly moment since old.disk new.disk (λ image. FileMeans image.store old.state)) → Performs honest folder moment since old new checkpointing
-  checkpointed old new same long base moments = record {
+      → (honest → (flushed : Contents) (waiting : List Command) → HasFlushed (folder old.disk) flushed waiting old.state
+      → LeavesOnly moment since old.disk new.disk (λ image. AfterPrefix flushed waiting image.store))
+      → (honest → new.reopen ≡ false → HasFlushed (folder new.disk) new.state [] new.state)
+      → Performs at_once honest folder moment since old new checkpointing
+  checkpointed old new same long base moments flushes = record {
     state = same;
-    size = long;
+    stored = λ on. (λ i. record { state = same i; size = (long on).1 i; staged = option_map (λ (s : Staged). s.written + length s.left) ((long on).0 i) });
     reads = base;
-    any_moment = λ h. LeavesOnly-weaker moment since old.disk new.disk _ _ (moments h) (λ image. none-after old.state image.store []);
+    any_moment = λ h flushed waiting has. LeavesOnly-weaker moment since old.disk new.disk _ _ (moments h flushed waiting has) (λ image. prefix-longer flushed waiting [] image.store);
+    waits = λ h on flushed waiting has. subst (λ (s : Contents). HasFlushed (folder new.disk) s [] new.state) same (flushes h on);
   }
 
   -- ---- what is said, and the request that it means
 
   pub did-said : (old new : StoreView D) (said : Said) (request : Request) → MeansRequest said request → (r : Result Reply SessionFault)
-      → Did honest folder moment since old new request r → DidSaid honest folder moment since old new said r
+      → Did at_once honest folder moment since old new request r → DidSaid at_once honest folder moment since old new said r
   did-said old new said request means (Ok reply) did = (request, means, did)
   did-said old new said request means (Err fault.Device) did = (request, means, did)
   did-said old new said request means (Err fault.OutOfMemory) did = did
@@ -126,7 +209,7 @@ module _ {D : Type 0} (honest : Type 0) (folder : D → Folder) (moment : D → 
   did-said old new said request means (Err (fault.Write written)) did = absurd did
 
   pub did-piece : (old new : StoreView D) (piece : List ℕ) (said : Said) → Says piece said → (r : Result Reply SessionFault)
-      → DidSaid honest folder moment since old new said r → DidPiece honest folder moment since old new piece r
+      → DidSaid at_once honest folder moment since old new said r → DidPiece at_once honest folder moment since old new piece r
   did-piece old new piece said says (Ok reply) did = (did.0, (said, says, did.1), did.2)
   did-piece old new piece said says (Err fault.Device) did = (did.0, (said, says, did.1), did.2)
   did-piece old new piece said says (Err fault.OutOfMemory) did = did
@@ -137,10 +220,26 @@ module _ {D : Type 0} (honest : Type 0) (folder : D → Folder) (moment : D → 
   did-piece old new piece said says (Err (fault.Write written)) did = absurd did
 
   pub said-read : (store : StoreView D) → store.reopen ≡ false → ((image : Image) → honest → since store.disk (moment store.disk) image → IsImage (folder store.disk) image)
-      → (honest → store.reopen ≡ false → AllImagesMean (folder store.disk) store.state)
+      → (honest → store.reopen ≡ false → LeavesPrefixes (folder store.disk) store.state)
       → (said : Said) (request : Request) → MeansRequest said request → OnlyReads request → (reply : Reply) → Replies (stored_of store) request reply
-      → DidSaid honest folder moment since store store said (Ok reply)
+      → DidSaid at_once honest folder moment since store store said (Ok reply)
   said-read store off only means said request asks is reply replies = (request, asks, (replies, off, only-read store off request is only means))
+
+-- a checkpoint is the same, whenever commands are flushed
+pub did-checkpoint : (at_once : Bool) {D : Type 0} (honest : Type 0) (folder : D → Folder) (moment : D → ℕ) (since : D → ℕ → Image → Type 0) (old new : StoreView D) (r : Result Reply SessionFault)
+    → Did true honest folder moment since old new checkpointing r → Did at_once honest folder moment since old new checkpointing r
+did-checkpoint at_once honest folder moment since old new (Ok reply) did =
+    let p = did.2 in
+    (did.0, did.1, record { state = p.state; stored = p.stored; reads = p.reads; any_moment = p.any_moment; waits = p.waits })
+did-checkpoint at_once honest folder moment since old new (Err fault.Device) did =
+    let p = did.1 in
+    (did.0, record { state = p.state; stored = p.stored; reads = p.reads; any_moment = p.any_moment; waits = p.waits })
+did-checkpoint at_once honest folder moment since old new (Err fault.OutOfMemory) did = did
+did-checkpoint at_once honest folder moment since old new (Err fault.Read) did = absurd did
+did-checkpoint at_once honest folder moment since old new (Err fault.TooLong) did = absurd did
+did-checkpoint at_once honest folder moment since old new (Err fault.SessionLong) did = absurd did
+did-checkpoint at_once honest folder moment since old new (Err fault.Reopen) did = absurd did
+did-checkpoint at_once honest folder moment since old new (Err (fault.Write written)) did = absurd did
 
 -- an import's text, as bytes
 pub text-given : (name : List ℕ) (bytes : List ℕ) (t : Tree) → IsRead bytes config_limits t → MeansRequest (import_text name (chars bytes)) (changing (import_as name t))
@@ -160,7 +259,7 @@ count-after s new command fits count e one is = let few = step-few s new command
 -- ---- replies
 
 -- the answer to a command that is accepted is the count
-pub accepted-reply : (now : Stored) → IsState now.state → (new : Contents) (command : Command) (written : String Global) (count : ℕ) → outcome now.size now.state command ≡ Ok new → count ≡ new.count
+pub accepted-reply : (now : Stored) → IsState now.state → (new : Contents) (command : Command) (written : String Global) (count : ℕ) → outcome (longest now) now.state command ≡ Ok new → count ≡ new.count
     → string_bytes written ≡ framed_text_bytes (one (codes "ok") (text (decimal count))) → Replies now (changing command) (Accepted written)
 accepted-reply now kept new command written count done is bytes = record {
   bytes = bytes ∙ ap (λ n. framed_text_bytes (one (codes "ok") (text (decimal n)))) is ∙ ap (λ r. framed_text_bytes (change_answer r)) (sym done);
@@ -170,7 +269,7 @@ accepted-reply now kept new command written count done is bytes = record {
 }
 
 -- the answer to a command that is refused is its refusal
-pub refused-reply : (now : Stored) → IsState now.state → (command : Command) (f : StoreFault) → outcome now.size now.state command ≡ Err f → Replies now (changing command) (Refused f)
+pub refused-reply : (now : Stored) → IsState now.state → (command : Command) (f : StoreFault) → outcome (longest now) now.state command ≡ Err f → Replies now (changing command) (Refused f)
 refused-reply now kept command f refused = record {
   bytes = ap (λ r. framed_text_bytes (change_answer r)) (sym refused);
   accepted = ap (λ r. length (accepted_by r command)) (sym refused);

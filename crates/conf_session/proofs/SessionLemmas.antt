@@ -11,7 +11,6 @@ use Rattle.yaml_recognizers.specs.Closings.{framed_text_bytes}
 use Rattle.yaml_grammar.specs.Closings.{ClosesOnce}
 use Rattle.conf_disk.specs.Image.{Image, IsImage}
 use Rattle.conf_disk.specs.Folder.{Folder}
-use Rattle.conf_store.specs.Durable.{AllImagesMean}
 use Rattle.conf_store.specs.View.{StoreView}
 use Rattle.conf_session.specs.Said.{piece_limit}
 use Rattle.conf_session.specs.Input.{session_limit, ahead, bytes_read, piece_or_rest as piece_of, AdvancesToPiece, AdvancesToEnd, FailsToRead, FindsTooLong, FindsSessionLong, RunsOutOfMemory, Advances}
@@ -19,13 +18,13 @@ use Rattle.conf_session.specs.declared.fault.SessionFault.{SessionFault}
 use Rattle.conf_session.specs.declared.fault.SessionFault.TheVariants as fault
 use Rattle.conf_session.specs.declared.input.Input.{Input}
 use Rattle.conf_session.specs.Requests.{Request, Asks}
-use Rattle.conf_session.specs.Answers.{Stored, answer, answer_limit, output, stored_after_all, accepted_commands, accepted_command, refused_of}
+use Rattle.conf_session.specs.Answers.{Stored, acknowledged, answer, answer_limit, output, stored_after_all, accepted_commands, accepted_command, refused_of}
 use Rattle.conf_session.specs.Runs.{stored_of, ArePieces, Ends, Runs, BeginsWith}
-use Rattle.conf_session.specs.Replies.{Performs}
+use Rattle.conf_session.specs.Replies.{LeavesPrefixes, Performs}
 use Rattle.conf_session.specs.Progress.{AreCounted, Passed, Answered, Fails}
 use Rattle.conf_session.specs.declared.pieces.Counts.{Counts}
 use Rattle.conf_session.specs.declared.session.Tally.{Tally}
-use Rattle.conf_session.proofs.PassedLemmas.{pieces-last, passed-none, passed-more, moments-more, state-more, stored-more, reads-more, kept-all, kept-most, accepted_commands-last, output-last, refusals-last, take-beyond}
+use Rattle.conf_session.proofs.PassedLemmas.{pieces-last, performs-none, performs-more, moments-more, waits-more, state-more, stored-more, reads-more, kept-all, kept-most, acknowledged-more, accepted_commands-last, output-last, refusals-last, take-beyond}
 
 -- The bytes that were read are pieces, whose requests are performed and answered, and further bytes.
 pub record SoFar {D : Type 0} (honest : Type 0) (folder : D → Folder) (moment : D → ℕ) (since : D → ℕ → Image → Type 0) (given left held written : Option (List ℕ)) (old new : StoreView D)
@@ -47,7 +46,7 @@ module _ {D : Type 0} (honest : Type 0) (folder : D → Folder) (moment : D → 
   -- before the first piece, nothing was read, performed or written
   pub so_far-none : (given held : Option (List ℕ)) (store : StoreView D) (further : List ℕ) (counts : Counts) (total : ℕ) → store.reopen ≡ false
       → ((image : Image) → honest → since store.disk (moment store.disk) image → IsImage (folder store.disk) image)
-      → (honest → store.reopen ≡ false → AllImagesMean (folder store.disk) store.state) → further ≡ []
+      → (honest → store.reopen ≡ false → LeavesPrefixes (folder store.disk) store.state) → further ≡ []
       → counts.tally.documents ≡ 0 → counts.tally.accepted ≡ 0 → counts.tally.refused ≡ 0 → counts.written ≡ 0 → total ≡ 0
       → SoFar honest folder moment since given given held held store store further counts total
   so_far-none given held store further counts total off only means none d a r w t = record {
@@ -55,7 +54,7 @@ module _ {D : Type 0} (honest : Type 0) (folder : D → Folder) (moment : D → 
     requests = [];
     taken = subst (Consumes given given) (sym none) (Consumes-nil given);
     are = record { closed = All-nil ClosesOnce; short = All-nil (λ (p : List ℕ). length p ≤ piece_limit); ask = tt };
-    passed = passed-none honest folder moment since held store off only means;
+    passed = record { out = Appends-nil held; performs = performs-none true honest folder moment since store off only means };
     counted = record { documents = d; accepted = a; refused = r; written = w };
     read = t ∙ ap length (sym none);
   }
@@ -63,24 +62,27 @@ module _ {D : Type 0} (honest : Type 0) (folder : D → Folder) (moment : D → 
   module _ (given mid left held between : Option (List ℕ)) (old now : StoreView D) (was then : Input) (counts : Counts)
       (s : SoFar honest folder moment since given mid held between old now (ahead was) counts (bytes_read was)) where
     -- a run that ends when all requests so far are performed and answered
-    stopped : (written : Option (List ℕ)) (result : Result Tally SessionFault) → (honest → now.reopen ≡ false → AllImagesMean (folder now.disk) now.state)
+    stopped : (written : Option (List ℕ)) (result : Result Tally SessionFault) → (honest → now.reopen ≡ false → LeavesPrefixes (folder now.disk) now.state)
         → Ends given left held written (stored_of old) s.requests s.requests result
         → Runs honest folder moment since given left held written old now result
     stopped written result means ends = record {
       answered = s.requests;
       performed = s.requests;
       ends = ends;
-      state = ap (λ (t : Stored). t.state) s.passed.stored;
-      size = λ on. ap (λ (t : Stored). t.size) s.passed.stored;
-      reads = λ h on. s.passed.reads h;
-      any_moment = λ h on. s.passed.any_moment h;
-      kept = λ h on. kept-all honest folder moment since old now s.requests (length (accepted_commands (stored_of old) s.requests)) (omega arith) s.passed.stored s.passed.sound means h;
+      state = ap (λ (t : Stored). t.state) s.passed.performs.stored;
+      stored = λ on. s.passed.performs.stored;
+      reads = λ h on. s.passed.performs.reads h;
+      any_moment = λ h on. s.passed.performs.any_moment h;
+      kept = λ h on flushed waiting has.
+          kept-all honest folder moment since old now s.requests (acknowledged (stored_of old) waiting s.requests) s.passed.performs.sound means h flushed waiting has
+          (s.passed.performs.waits h flushed waiting has) (omega arith);
+      waits = λ h on. s.passed.performs.waits h;
     }
 
     -- ---- the exits that the input makes
 
     pub ends-well : (tally : Tally) → AdvancesToEnd mid left was then
-        → (honest → now.reopen ≡ false → AllImagesMean (folder now.disk) now.state)
+        → (honest → now.reopen ≡ false → LeavesPrefixes (folder now.disk) now.state)
         → tally.documents ≡ counts.tally.documents → tally.accepted ≡ counts.tally.accepted → tally.refused ≡ counts.tally.refused → tally.rest ≡ length (piece_of then)
         → Runs honest folder moment since given left held between old now (Ok tally)
     ends-well tally end means d a r rest = stopped between (Ok tally) means (record {
@@ -104,7 +106,7 @@ module _ {D : Type 0} (honest : Type 0) (folder : D → Folder) (moment : D → 
       unclosed = rest;
     })
 
-    ends-reading : FailsToRead mid left was → (honest → now.reopen ≡ false → AllImagesMean (folder now.disk) now.state)
+    ends-reading : FailsToRead mid left was → (honest → now.reopen ≡ false → LeavesPrefixes (folder now.disk) now.state)
         → Runs honest folder moment since given left held between old now (Err fault.Read)
     ends-reading fails means = stopped between (Err fault.Read) means (record {
       bytes = concat s.pieces ++ (ahead was ++ fails.more);
@@ -117,7 +119,7 @@ module _ {D : Type 0} (honest : Type 0) (folder : D → Folder) (moment : D → 
       out = s.passed.out;
     })
 
-    ends-too_long : FindsTooLong mid left was → (honest → now.reopen ≡ false → AllImagesMean (folder now.disk) now.state)
+    ends-too_long : FindsTooLong mid left was → (honest → now.reopen ≡ false → LeavesPrefixes (folder now.disk) now.state)
         → Runs honest folder moment since given left held between old now (Err fault.TooLong)
     ends-too_long finds means = stopped between (Err fault.TooLong) means (record {
       bytes = concat s.pieces ++ (ahead was ++ finds.more);
@@ -127,7 +129,7 @@ module _ {D : Type 0} (honest : Type 0) (folder : D → Folder) (moment : D → 
       out = s.passed.out;
     })
 
-    ends-session_long : FindsSessionLong mid left was → (honest → now.reopen ≡ false → AllImagesMean (folder now.disk) now.state)
+    ends-session_long : FindsSessionLong mid left was → (honest → now.reopen ≡ false → LeavesPrefixes (folder now.disk) now.state)
         → Runs honest folder moment since given left held between old now (Err fault.SessionLong)
     ends-session_long finds means =
         let rest = ahead was ++ finds.more in
@@ -152,7 +154,7 @@ module _ {D : Type 0} (honest : Type 0) (folder : D → Folder) (moment : D → 
           out = s.passed.out;
         })
 
-    ends-starved : RunsOutOfMemory mid left → (honest → now.reopen ≡ false → AllImagesMean (folder now.disk) now.state)
+    ends-starved : RunsOutOfMemory mid left → (honest → now.reopen ≡ false → LeavesPrefixes (folder now.disk) now.state)
         → Runs honest folder moment since given left held between old now (Err fault.OutOfMemory)
     ends-starved out means = stopped between (Err fault.OutOfMemory) means (record {
       bytes = concat s.pieces ++ (ahead was ++ out.more);
@@ -163,7 +165,7 @@ module _ {D : Type 0} (honest : Type 0) (folder : D → Folder) (moment : D → 
     })
 
     -- the input has no further piece for a reason
-    pub ends-in_input : (f : SessionFault) → Advances mid left was then (Err f) → (honest → now.reopen ≡ false → AllImagesMean (folder now.disk) now.state)
+    pub ends-in_input : (f : SessionFault) → Advances mid left was then (Err f) → (honest → now.reopen ≡ false → LeavesPrefixes (folder now.disk) now.state)
         → Runs honest folder moment since given left held between old now (Err f)
     ends-in_input fault.Read fails means = ends-reading fails means
     ends-in_input fault.TooLong fails means = ends-too_long fails means
@@ -191,13 +193,17 @@ module _ {D : Type 0} (honest : Type 0) (folder : D → Folder) (moment : D → 
           let start = stored_of old in
           let rs = s.requests in
           let r = one.request in
-          let here = s.passed.stored in
+          let here = s.passed.performs.stored in
           record {
             pieces = s.pieces ++ piece_of then ∷ [];
             requests = rs ++ r ∷ [];
             taken = all-taken;
             are = pieces-last s.pieces rs (piece_of then) r s.are advances.piece advances.short one.asks;
-            passed = passed-more honest folder moment since held between old now new rs r s.passed one.performs written one.out one.sound;
+            passed = record {
+              out = subst (Appends held written) (ap (λ t. output start rs ++ framed_text_bytes (answer t r)) here ∙ sym (output-last start rs r))
+                  (Appends-trans held between written (output start rs) (framed_text_bytes (answer (stored_of now) r)) s.passed.out one.out);
+              performs = performs-more true honest folder moment since old now new rs r s.passed.performs one.performs one.sound;
+            };
             counted = record {
               documents = one.documents ∙ ap (λ n. n + 1) s.counted.documents ∙ sym (length-append rs (r ∷ []));
               accepted = (let same = ap (λ t. length (accepted_command t r)) here in let last = ap length (accepted_commands-last start rs r) in
@@ -223,10 +229,10 @@ module _ {D : Type 0} (honest : Type 0) (folder : D → Folder) (moment : D → 
         are = pieces-last s.pieces s.requests (piece_of then) r s.are advances.piece advances.short asks;
       }
 
-      ends-memory : (written : Option (List ℕ)) (new : StoreView D) → new ≡ now → Keeps between written → (honest → new.reopen ≡ false → AllImagesMean (folder new.disk) new.state)
+      ends-memory : (written : Option (List ℕ)) (new : StoreView D) → new ≡ now → Keeps between written → (honest → new.reopen ≡ false → LeavesPrefixes (folder new.disk) new.state)
           → Runs honest folder moment since given left held written old new (Err fault.OutOfMemory)
       ends-memory written new same keeps means =
-          subst (λ (t : StoreView D). (honest → t.reopen ≡ false → AllImagesMean (folder t.disk) t.state) → Runs honest folder moment since given left held written old t (Err fault.OutOfMemory)) (sym same)
+          subst (λ (t : StoreView D). (honest → t.reopen ≡ false → LeavesPrefixes (folder t.disk) t.state) → Runs honest folder moment since given left held written old t (Err fault.OutOfMemory)) (sym same)
           (λ there. stopped written (Err fault.OutOfMemory) there (record {
             bytes = concat s.pieces ++ (ahead was ++ advances.more);
             taken = taken-more given mid left (concat s.pieces) (ahead was) advances.more s.taken advances.taken;
@@ -236,7 +242,7 @@ module _ {D : Type 0} (honest : Type 0) (folder : D → Folder) (moment : D → 
           }))
           means
 
-      ends-device : (written : Option (List ℕ)) (new : StoreView D) (r : Request) → Asks (piece_of then) r → new.reopen ≡ true → Performs honest folder moment since now new r → Keeps between written
+      ends-device : (written : Option (List ℕ)) (new : StoreView D) (r : Request) → Asks (piece_of then) r → new.reopen ≡ true → Performs true honest folder moment since now new r → Keeps between written
           → ((t : ℕ) (image : Image) → honest → t ≤ moment new.disk → IsImage (folder new.disk) image → since new.disk t image)
           → Runs honest folder moment since given left held written old new (Err fault.Device)
       ends-device written new r asks broken does keeps counts_now = record {
@@ -252,31 +258,30 @@ module _ {D : Type 0} (honest : Type 0) (folder : D → Folder) (moment : D → 
             out = Appends-kept held between written (output (stored_of old) s.requests) s.passed.out keeps;
           },
         );
-        state = state-more honest folder moment since held between old now new s.requests r s.passed does;
-        size = λ on. absurd (cc (on, broken));
+        state = state-more true honest folder moment since old now new s.requests r s.passed.performs does;
+        stored = λ on. absurd (cc (on, broken));
         reads = λ h on. absurd (cc (on, broken));
-        any_moment = λ h on. moments-more honest folder moment since held between old now new s.requests r s.passed does h;
-        kept = λ h on image is.
-            (let run = does.any_moment h in
-            kept-most honest folder moment since held between old now new s.requests r s.passed does image (run.each image (counts_now (moment now.disk) image h run.later is)));
+        any_moment = λ h on. moments-more true honest folder moment since old now new s.requests r s.passed.performs does h;
+        kept = λ h on flushed waiting has. kept-most honest folder moment since old now new s.requests r s.passed.performs does h flushed waiting has counts_now;
+        waits = λ h on. absurd (cc (on, broken));
       }
 
-      ends-write : (written : Option (List ℕ)) (new : StoreView D) (r : Request) (count total : ℕ) → Asks (piece_of then) r → new.reopen ≡ false → Performs honest folder moment since now new r
+      ends-write : (written : Option (List ℕ)) (new : StoreView D) (r : Request) (count total : ℕ) → Asks (piece_of then) r → new.reopen ≡ false → Performs true honest folder moment since now new r
           → total ≡ counts.written + count → count < length (framed_text_bytes (answer (stored_of now) r)) → Appends between written (take count (framed_text_bytes (answer (stored_of now) r)))
           → length (framed_text_bytes (answer (stored_of now) r)) ≤ answer_limit → counts.written ≤ counts.tally.documents * answer_limit
-          → (honest → new.reopen ≡ false → AllImagesMean (folder new.disk) new.state)
+          → (honest → new.reopen ≡ false → LeavesPrefixes (folder new.disk) new.state)
           → Runs honest folder moment since given left held written old new (Err (fault.Write total))
       ends-write written new r count total asks off does is short out small room means =
           let start = stored_of old in
           let rs = s.requests in
           let before = output start rs in
           let one = framed_text_bytes (answer (stored_of now) r) in
-          let all : output start (rs ++ r ∷ []) ≡ before ++ one = output-last start rs r ∙ ap (λ t. before ++ framed_text_bytes (answer t r)) (sym s.passed.stored) in
+          let all : output start (rs ++ r ∷ []) ≡ before ++ one = output-last start rs r ∙ ap (λ t. before ++ framed_text_bytes (answer t r)) (sym s.passed.performs.stored) in
           let long = ap length all ∙ length-append before one in
           let sum = s.counted.written in
           let prefix : take total (output start (rs ++ r ∷ [])) ≡ before ++ take count one =
           ap (take total) all ∙ ap (λ n. take n (before ++ one)) (is ∙ ap (λ n. n + count) sum) ∙ take-beyond count before one in
-          let stored = stored-more honest folder moment since held between old now new rs r s.passed does off in
+          let stored = stored-more true honest folder moment since old now new rs r s.passed.performs does off in
           record {
             answered = rs;
             performed = rs ++ r ∷ [];
@@ -292,17 +297,19 @@ module _ {D : Type 0} (honest : Type 0) (folder : D → Folder) (moment : D → 
               bound = (let documents = s.counted.documents in let more = length-append rs (r ∷ []) in omega (arith, is, short, small, room, documents, more));
             };
             state = ap (λ (t : Stored). t.state) stored;
-            size = λ on. ap (λ (t : Stored). t.size) stored;
-            reads = λ h on. reads-more honest folder moment since held between old now new rs r s.passed does h off;
-            any_moment = λ h on. moments-more honest folder moment since held between old now new rs r s.passed does h;
-            kept = λ h on. kept-all honest folder moment since old new (rs ++ r ∷ []) (length (accepted_commands start rs))
-                (let last = ap length (accepted_commands-last start rs r) ∙ length-append (accepted_commands start rs) (accepted_command (stored_after_all start rs) r) in omega (arith, last)) stored off means h;
+            stored = λ on. stored;
+            reads = λ h on. reads-more true honest folder moment since old now new rs r s.passed.performs does h off;
+            any_moment = λ h on. moments-more true honest folder moment since old now new rs r s.passed.performs does h;
+            kept = λ h on flushed waiting has.
+                kept-all honest folder moment since old new (rs ++ r ∷ []) (acknowledged start waiting rs) off means h flushed waiting has
+                (waits-more true honest folder moment since old now new rs r s.passed.performs does h flushed waiting has off) (acknowledged-more start waiting rs r);
+            waits = λ h on flushed waiting has. waits-more true honest folder moment since old now new rs r s.passed.performs does h flushed waiting has off;
           }
 
       -- the piece has no answer that was written whole
       pub ends-failing : (written : Option (List ℕ)) (new : StoreView D) (f : SessionFault) → Fails honest folder moment since between written now new (piece_of then) counts.written f
           → counts.written ≤ counts.tally.documents * answer_limit
-          → (honest → new.reopen ≡ false → AllImagesMean (folder new.disk) new.state)
+          → (honest → new.reopen ≡ false → LeavesPrefixes (folder new.disk) new.state)
           → ((t : ℕ) (image : Image) → honest → t ≤ moment new.disk → IsImage (folder new.disk) image → since new.disk t image)
           → Runs honest folder moment since given left held written old new (Err f)
       ends-failing written new fault.OutOfMemory fails room means counts_now = ends-memory written new fails.0 fails.1 means
@@ -322,18 +329,19 @@ module _ {D : Type 0} (honest : Type 0) (folder : D → Folder) (moment : D → 
     performed = [];
     ends = (Keeps-refl given, Keeps-refl held, refl, refl);
     state = refl;
-    size = λ on. refl;
+    stored = λ on. refl;
     reads = λ h on. refl;
     any_moment = λ h on. absurd (broken on);
     kept = λ h on. absurd (broken on);
+    waits = λ h on. absurd (broken on);
   }
 
   pub starts-without-memory : (given held : Option (List ℕ)) (store : StoreView D) → store.reopen ≡ false
       → ((image : Image) → honest → since store.disk (moment store.disk) image → IsImage (folder store.disk) image)
-      → (honest → store.reopen ≡ false → AllImagesMean (folder store.disk) store.state)
+      → (honest → store.reopen ≡ false → LeavesPrefixes (folder store.disk) store.state)
       → Runs honest folder moment since given given held held store store (Err fault.OutOfMemory)
   starts-without-memory given held store off only means =
-      let passed = passed-none honest folder moment since held store off only means in
+      let none = performs-none true honest folder moment since store off only means in
       record {
         answered = [];
         performed = [];
@@ -345,10 +353,11 @@ module _ {D : Type 0} (honest : Type 0) (folder : D → Folder) (moment : D → 
           out = Appends-nil held;
         };
         state = refl;
-        size = λ on. refl;
+        stored = λ on. refl;
         reads = λ h on. refl;
-        any_moment = λ h on. passed.any_moment h;
-        kept = λ h on. kept-all honest folder moment since store store [] 0 (omega arith) refl off means h;
+        any_moment = λ h on. none.any_moment h;
+        kept = λ h on flushed waiting has. kept-all honest folder moment since store store [] (acknowledged (stored_of store) waiting []) off means h flushed waiting has has (omega arith);
+        waits = λ h on flushed waiting has. has;
       }
 
 -- a piece has at least one byte, so less of the input is left after it

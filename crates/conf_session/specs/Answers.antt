@@ -1,5 +1,5 @@
 -- What a session answers, and what is stored then. All of it is computed from the requests.
-use Rattle.std.specs.Prelude.{◌≤◌, ℕ, ◌+◌, if◌then◌else◌, List, [], ◌∷◌, ◌++◌, length, codes, decimal, Option, Some, Result, Ok, Err}
+use Rattle.std.specs.Prelude.{◌≡◌, ◌≤◌, ℕ, ◌+◌, ◌-◌, max, Bool, true, false, ◌&&◌, if◌then◌else◌, List, [], ◌∷◌, ◌++◌, length, codes, decimal, Option, Some, None, option_map, unwrap_or, Result, Ok, Err, is_ok}
 use Rattle.std.specs.List.{concat}
 use Rattle.yaml_grammar.specs.Trees.{Tree, text, sequence, mapping, Elements, no_element, element, no_member, member}
 use Rattle.yaml_grammar.specs.Style.{style_text}
@@ -77,10 +77,15 @@ abbrev pub value_at_path : Contents → List ℕ → List ℕ → Result Tree St
 value_at_path s name p = and_then (tree_named s name)
     (λ t. and_then (by_path (path_of p)) (λ tokens. by_path (at t tokens)))
 
--- the state, and how many bytes `store.yaml` has
+-- the state, how many bytes `store.yaml` has, and how many the new file of a running checkpoint will have
 pub record Stored : Type 0 where
   pub state : Contents
   pub size : ℕ
+  pub staged : Option ℕ
+
+-- the length of the longer of the two files
+abbrev pub longest : Stored → ℕ
+longest now = max now.size (unwrap_or now.staged 0)
 
 -- why an import is refused if its text is refused: a bad name comes first
 abbrev pub unread_fault : List ℕ → ReadFault → StoreFault
@@ -91,7 +96,7 @@ change_answer r = answer_or_refusal (λ (new : Contents). one (codes "ok") (text
 
 -- the answer to a request, as the tree that is written in the one style
 abbrev pub answer : Stored → Request → Tree
-answer now (changing command) = change_answer (outcome now.size now.state command)
+answer now (changing command) = change_answer (outcome (longest now) now.state command)
 answer now (unread name fault) = refusal (word (unread_fault name fault))
 answer now (getting name p) = answer_or_refusal (one (codes "value")) (value_at_path now.state name p)
 answer now (exporting name) =
@@ -112,15 +117,18 @@ AnswersAreShort = (now : Stored) (request : Request) → IsState now.state
 -- ---- what is stored after a request
 
 abbrev pub stored_after_change : Stored → Command → Result Contents StoreFault → Stored
-stored_after_change now command (Ok new) =
-    record { state = new; size = now.size + length (next_record now.state command) }
+stored_after_change now command (Ok new) = record {
+  state = new;
+  size = now.size + length (next_record now.state command);
+  staged = option_map (λ (n : ℕ). n + length (next_record now.state command)) now.staged;
+}
 stored_after_change now command (Err fault) = now
 
--- An accepted command gives the next state, and adds the length of its record. A checkpoint leaves the state, and the
--- file is as long as its base. All else leaves both.
+-- An accepted command gives the next state, and adds the length of its record to both files. A checkpoint leaves the
+-- state, and the file is as long as its base; one that runs is given up. All else leaves all.
 abbrev pub stored_after : Stored → Request → Stored
-stored_after now (changing command) = stored_after_change now command (outcome now.size now.state command)
-stored_after now checkpointing = record { state = now.state; size = length (base_bytes now.state) }
+stored_after now (changing command) = stored_after_change now command (outcome (longest now) now.state command)
+stored_after now checkpointing = record { state = now.state; size = length (base_bytes now.state); staged = None }
 stored_after now request = now
 
 -- ---- what `store.yaml` reads as after a request
@@ -131,7 +139,7 @@ file_after_change file now command (Err fault) = file
 
 -- an accepted command appends its record, a checkpoint puts a base in the file's place, and all else leaves it
 abbrev pub file_after : Option (List ℕ) → Stored → Request → Option (List ℕ)
-file_after file now (changing command) = file_after_change file now command (outcome now.size now.state command)
+file_after file now (changing command) = file_after_change file now command (outcome (longest now) now.state command)
 file_after file now checkpointing = Some (base_bytes now.state)
 file_after file now request = file
 
@@ -163,7 +171,7 @@ accepted_by (Err fault) command = []
 
 -- the command of a request, if it is accepted
 abbrev pub accepted_command : Stored → Request → List Command
-accepted_command now (changing command) = accepted_by (outcome now.size now.state command) command
+accepted_command now (changing command) = accepted_by (outcome (longest now) now.state command) command
 accepted_command now request = []
 
 -- the accepted commands of the requests, in order
@@ -178,7 +186,7 @@ is_refused (Err fault) = 1
 
 -- whether a request is answered by a refusal: 1 or 0
 abbrev pub refused_of : Stored → Request → ℕ
-refused_of now (changing command) = is_refused (outcome now.size now.state command)
+refused_of now (changing command) = is_refused (outcome (longest now) now.state command)
 refused_of now (unread name fault) = 1
 refused_of now (getting name p) = is_refused (value_at_path now.state name p)
 refused_of now (exporting name) = is_refused (tree_named now.state name)
@@ -189,3 +197,37 @@ refused_of now request = 0
 abbrev pub refusals : Stored → List Request → ℕ
 refusals now [] = 0
 refusals now (request ∷ requests) = refused_of now request + refusals (stored_after now request) requests
+
+-- ---- what is flushed, and what waits
+
+-- Whether a request syncs `store.yaml`, so that no crash takes away what was submitted before. A checkpoint does, and
+-- so does an accepted command, where each is flushed at once.
+abbrev pub syncs : Bool → Stored → Request → Bool
+syncs at_once now (changing command) = at_once && is_ok (outcome (longest now) now.state command)
+syncs at_once now checkpointing = true
+syncs at_once now request = false
+
+-- the state that is flushed after the requests, where `flushed` was before
+abbrev pub flushed_after : Bool → Stored → Contents → List Request → Contents
+flushed_after at_once now flushed [] = flushed
+flushed_after at_once now flushed (request ∷ requests) =
+    flushed_after at_once (stored_after now request)
+    (if syncs at_once now request then (stored_after now request).state else flushed) requests
+
+-- the commands that wait after the requests, where `waiting` did before
+abbrev pub waiting_after : Bool → Stored → List Command → List Request → List Command
+waiting_after at_once now waiting [] = waiting
+waiting_after at_once now waiting (request ∷ requests) =
+    waiting_after at_once (stored_after now request)
+    (if syncs at_once now request then [] else waiting ++ accepted_command now request) requests
+
+-- How many commands no crash takes away once a session has answered the requests, of those that waited at its start and
+-- those that it accepted: all but those that still wait.
+abbrev pub acknowledged : Stored → List Command → List Request → ℕ
+acknowledged now waiting requests =
+    length (waiting ++ accepted_commands now requests) - length (waiting_after true now waiting requests)
+
+-- where no command waits at the start, these are all that are accepted
+abbrev pub AllAreAcknowledged : Type 0
+AllAreAcknowledged =
+    (now : Stored) (requests : List Request) → acknowledged now [] requests ≡ length (accepted_commands now requests)

@@ -5,3 +5,4 @@ pub mod Replies
 pub mod Progress
 pub mod Said
 pub mod Input
+pub mod Rounds

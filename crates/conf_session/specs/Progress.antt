@@ -1,18 +1,20 @@
 -- Pieces that were performed and answered, one after the other.
-use Rattle.std.specs.Prelude.{◌≡◌, ◌≤◌, ◌<◌, ℕ, ◌+◌, ◌*◌, true, false, List, length, take, Option}
+use Rattle.std.specs.Prelude.{◌≡◌, ◌≤◌, ◌<◌, ℕ, ◌+◌, ◌*◌, Bool, true, false, List, ◌++◌, length, take, Option}
 use Rattle.std.specs.Io.KnownBytes.{Appends, Keeps}
 use Rattle.yaml_recognizers.specs.Closings.{framed_text_bytes}
 use Rattle.conf_disk.specs.Folder.{Folder, bytes_under}
 use Rattle.conf_disk.specs.Image.{Image}
 use Rattle.conf_disk.specs.Moments.{LeavesOnly}
 use Rattle.conf_disk.specs.declared.disk.Name.TheVariants.{Store}
-use Rattle.conf_store.specs.Durable.{AfterPrefix}
+use Rattle.conf_state.specs.Commands.{Command}
+use Rattle.conf_state.specs.States.{Contents}
+use Rattle.conf_store.specs.Durable.{AfterPrefix, HasFlushed}
 use Rattle.conf_store.specs.View.{StoreView}
 use Rattle.conf_session.specs.Input.{session_limit}
 use Rattle.conf_session.specs.declared.fault.SessionFault.{SessionFault}
 use Rattle.conf_session.specs.declared.fault.SessionFault.TheVariants as fault
 use Rattle.conf_session.specs.Requests.{Request, Asks}
-use Rattle.conf_session.specs.Answers.{Stored, answer, answer_limit, output, stored_after_all, file_after_all, accepted_commands, accepted_command, refusals, refused_of}
+use Rattle.conf_session.specs.Answers.{Stored, answer, answer_limit, output, stored_after_all, file_after_all, accepted_commands, accepted_command, refusals, refused_of, flushed_after, waiting_after}
 use Rattle.conf_session.specs.Runs.{stored_of}
 use Rattle.conf_session.specs.Replies.{Performs}
 use Rattle.conf_session.specs.declared.pieces.Counts.{Counts}
@@ -24,16 +26,27 @@ pub record AreCounted (start : Stored) (requests : List Request) (counts : Count
   pub refused : counts.tally.refused ≡ refusals start requests
   pub written : counts.written ≡ length (output start requests)
 
--- the requests are performed, and all their answers are written
-pub record Passed {D : Type 0} (honest : Type 0) (folder : D → Folder) (moment : D → ℕ) (since : D → ℕ → Image → Type 0)
-    (held written : Option (List ℕ)) (old new : StoreView D) (requests : List Request) : Type 0 where
-  pub out : Appends held written (output (stored_of old) requests)
+-- The requests are performed, one after the other.
+pub record PerformsAll (at_once : Bool) {D : Type 0} (honest : Type 0) (folder : D → Folder) (moment : D → ℕ)
+    (since : D → ℕ → Image → Type 0) (old new : StoreView D) (requests : List Request) : Type 0 where
   pub sound : new.reopen ≡ false
   pub stored : stored_of new ≡ stored_after_all (stored_of old) requests
   pub reads : honest → bytes_under (folder new.disk) Store
       ≡ file_after_all (bytes_under (folder old.disk) Store) (stored_of old) requests
-  pub any_moment : honest → LeavesOnly moment since old.disk new.disk
-      (λ image. AfterPrefix old.state (accepted_commands (stored_of old) requests) image.store)
+  pub any_moment : honest → (flushed : Contents) (waiting : List Command)
+      → HasFlushed (folder old.disk) flushed waiting old.state
+      → LeavesOnly moment since old.disk new.disk
+      (λ image. AfterPrefix flushed (waiting ++ accepted_commands (stored_of old) requests) image.store)
+  pub waits : honest → (flushed : Contents) (waiting : List Command)
+      → HasFlushed (folder old.disk) flushed waiting old.state
+      → HasFlushed (folder new.disk) (flushed_after at_once (stored_of old) flushed requests)
+      (waiting_after at_once (stored_of old) waiting requests) new.state
+
+-- the requests are performed, and all their answers are written
+pub record Passed {D : Type 0} (honest : Type 0) (folder : D → Folder) (moment : D → ℕ) (since : D → ℕ → Image → Type 0)
+    (held written : Option (List ℕ)) (old new : StoreView D) (requests : List Request) : Type 0 where
+  pub out : Appends held written (output (stored_of old) requests)
+  pub performs : PerformsAll true honest folder moment since old new requests
 
 -- a piece is performed and its answer is written
 pub record Answered {D : Type 0} (honest : Type 0) (folder : D → Folder) (moment : D → ℕ)
@@ -43,7 +56,7 @@ pub record Answered {D : Type 0} (honest : Type 0) (folder : D → Folder) (mome
   pub asks : Asks piece request
   pub out : Appends held written (framed_text_bytes (answer (stored_of old) request))
   pub sound : new.reopen ≡ false
-  pub performs : Performs honest folder moment since old new request
+  pub performs : Performs true honest folder moment since old new request
   pub documents : after.tally.documents ≡ before.tally.documents + 1
   pub accepted : after.tally.accepted ≡ before.tally.accepted + length (accepted_command (stored_of old) request)
   pub refused : after.tally.refused ≡ before.tally.refused + refused_of (stored_of old) request
@@ -56,10 +69,10 @@ abbrev pub Fails : {D : Type 0} → Type 0 → (D → Folder) → (D → ℕ) �
 Fails honest folder moment since held written old new piece sent fault.OutOfMemory = (new ≡ old) × Keeps held written
 Fails honest folder moment since held written old new piece sent fault.Device =
     (request : Request) × Asks piece request × (new.reopen ≡ true)
-    × Performs honest folder moment since old new request × Keeps held written
+    × Performs true honest folder moment since old new request × Keeps held written
 Fails honest folder moment since held written old new piece sent (fault.Write total) =
     (request : Request) × Asks piece request × (new.reopen ≡ false)
-    × Performs honest folder moment since old new request
+    × Performs true honest folder moment since old new request
     × (count : ℕ) × (total ≡ sent + count) × (count < length (framed_text_bytes (answer (stored_of old) request)))
     × Appends held written (take count (framed_text_bytes (answer (stored_of old) request)))
     × (length (framed_text_bytes (answer (stored_of old) request)) ≤ answer_limit)

@@ -1,18 +1,22 @@
 -- What the code's requests and replies are, and what one request does.
-use Rattle.std.specs.Prelude.{◌≡◌, ◌≤◌, ℕ, true, false, List, codes, length, string_bytes, Result, Ok, Err}
+use Rattle.std.specs.Prelude.{◌≡◌, ◌≤◌, ℕ, Bool, true, false, List, [], ◌∷◌, ◌++◌, codes, length, string_bytes, Result, Ok, Err}
 use Rattle.yaml_recognizers.specs.Closings.{framed_text_bytes}
 use Rattle.conf_disk.specs.Folder.{Folder, bytes_under}
 use Rattle.conf_disk.specs.Image.{Image}
 use Rattle.conf_disk.specs.Moments.{LeavesOnly}
 use Rattle.conf_disk.specs.declared.disk.Name.TheVariants.{Store}
-use Rattle.conf_store.specs.Durable.{AfterPrefix}
+use Rattle.conf_state.specs.Commands.{Command}
+use Rattle.conf_state.specs.States.{Contents}
+use Rattle.conf_store.specs.Durable.{AfterPrefix, HasFlushed, AllImagesAfterPrefix}
 use Rattle.conf_store.specs.View.{StoreView}
 use Rattle.conf_session.specs.Said.{Said}
 use Rattle.conf_session.specs.declared.fault.SessionFault.{SessionFault}
 use Rattle.conf_session.specs.declared.fault.SessionFault.TheVariants.{OutOfMemory, Device}
 use Rattle.conf_session.specs.Requests.{Request, changing, checkpointing, MeansRequest, Asks}
-use Rattle.conf_session.specs.Answers.{Stored, answer, answer_limit, refusal, word, stored_after, file_after, accepted_command, refused_of}
+use Rattle.conf_session.specs.Answers.{Stored, answer, answer_limit, refusal, word, stored_after, file_after, accepted_command, refused_of, flushed_after, waiting_after}
 use Rattle.conf_session.specs.Runs.{stored_of}
+use Rattle.conf_session.specs.declared.reply.Way.{Way}
+use Rattle.conf_session.specs.declared.reply.Way.TheVariants.{AtOnce, Submitted}
 use Rattle.conf_session.specs.declared.reply.Reply.{Reply}
 use Rattle.conf_session.specs.declared.reply.Reply.TheVariants.{Accepted, Done, Refused, NoCommand}
 
@@ -40,16 +44,33 @@ refuses (Refused fault) = 1
 refuses NoCommand = 1
 refuses reply = 0
 
--- A request is performed: the state, the size and the file are those after it, and a crash leaves the state before it
--- or after it.
-pub record Performs {D : Type 0} (honest : Type 0) (folder : D → Folder) (moment : D → ℕ)
+-- whether an accepted command is flushed before it is answered
+abbrev pub is_at_once : Way → Bool
+is_at_once AtOnce = true
+is_at_once (Submitted client) = false
+
+-- whatever a crash leaves now means the state after a prefix of the commands that wait
+abbrev pub LeavesPrefixes : Folder → Contents → Type 0
+LeavesPrefixes folder s =
+    (flushed : Contents) (waiting : List Command) → HasFlushed folder flushed waiting s
+    → AllImagesAfterPrefix folder flushed waiting
+
+-- A request is performed: the state, the lengths and the file are those after it. A crash leaves the state after a
+-- prefix of the commands that waited and of this one. `at_once` says whether an accepted command is flushed at once.
+pub record Performs (at_once : Bool) {D : Type 0} (honest : Type 0) (folder : D → Folder) (moment : D → ℕ)
     (since : D → ℕ → Image → Type 0) (old new : StoreView D) (request : Request) : Type 0 where
   pub state : new.state ≡ (stored_after (stored_of old) request).state
-  pub size : new.reopen ≡ false → new.size ≡ (stored_after (stored_of old) request).size
+  pub stored : new.reopen ≡ false → stored_of new ≡ stored_after (stored_of old) request
   pub reads : honest → new.reopen ≡ false
       → bytes_under (folder new.disk) Store ≡ file_after (bytes_under (folder old.disk) Store) (stored_of old) request
-  pub any_moment : honest → LeavesOnly moment since old.disk new.disk
-      (λ image. AfterPrefix old.state (accepted_command (stored_of old) request) image.store)
+  pub any_moment : honest → (flushed : Contents) (waiting : List Command)
+      → HasFlushed (folder old.disk) flushed waiting old.state
+      → LeavesOnly moment since old.disk new.disk
+      (λ image. AfterPrefix flushed (waiting ++ accepted_command (stored_of old) request) image.store)
+  pub waits : honest → new.reopen ≡ false → (flushed : Contents) (waiting : List Command)
+      → HasFlushed (folder old.disk) flushed waiting old.state
+      → HasFlushed (folder new.disk) (flushed_after at_once (stored_of old) flushed (request ∷ []))
+      (waiting_after at_once (stored_of old) waiting (request ∷ [])) new.state
 
 -- the answer to the request
 pub record Replies (now : Stored) (request : Request) (reply : Reply) : Type 0 where
@@ -59,31 +80,33 @@ pub record Replies (now : Stored) (request : Request) (reply : Reply) : Type 0 w
   pub short : length (framed_text_bytes (answer now request)) ≤ answer_limit
 
 -- What became of a request. If memory ran out, nothing was changed.
-abbrev pub Did : {D : Type 0} → Type 0 → (D → Folder) → (D → ℕ) → (D → ℕ → Image → Type 0) → StoreView D → StoreView D
-    → Request → Result Reply SessionFault → Type 0
-Did honest folder moment since old new request (Ok reply) =
-    Replies (stored_of old) request reply × (new.reopen ≡ false) × Performs honest folder moment since old new request
-Did honest folder moment since old new request (Err Device) =
-    (new.reopen ≡ true) × Performs honest folder moment since old new request
-Did honest folder moment since old new request (Err OutOfMemory) = new ≡ old
-Did honest folder moment since old new request (Err fault) = ⊥
+abbrev pub Did : Bool → {D : Type 0} → Type 0 → (D → Folder) → (D → ℕ) → (D → ℕ → Image → Type 0) → StoreView D
+    → StoreView D → Request → Result Reply SessionFault → Type 0
+Did at_once honest folder moment since old new request (Ok reply) =
+    Replies (stored_of old) request reply × (new.reopen ≡ false)
+    × Performs at_once honest folder moment since old new request
+Did at_once honest folder moment since old new request (Err Device) =
+    (new.reopen ≡ true) × Performs at_once honest folder moment since old new request
+Did at_once honest folder moment since old new request (Err OutOfMemory) = new ≡ old
+Did at_once honest folder moment since old new request (Err fault) = ⊥
 
 -- The same of what a document says. If memory ran out, the request may be unknown.
-abbrev pub DidSaid : {D : Type 0} → Type 0 → (D → Folder) → (D → ℕ) → (D → ℕ → Image → Type 0) → StoreView D
+abbrev pub DidSaid : Bool → {D : Type 0} → Type 0 → (D → Folder) → (D → ℕ) → (D → ℕ → Image → Type 0) → StoreView D
     → StoreView D → Said → Result Reply SessionFault → Type 0
-DidSaid honest folder moment since old new said (Ok reply) =
-    (request : Request) × MeansRequest said request × Did honest folder moment since old new request (Ok reply)
-DidSaid honest folder moment since old new said (Err Device) =
-    (request : Request) × MeansRequest said request × Did honest folder moment since old new request (Err Device)
-DidSaid honest folder moment since old new said (Err OutOfMemory) = new ≡ old
-DidSaid honest folder moment since old new said (Err fault) = ⊥
+DidSaid at_once honest folder moment since old new said (Ok reply) =
+    (request : Request) × MeansRequest said request × Did at_once honest folder moment since old new request (Ok reply)
+DidSaid at_once honest folder moment since old new said (Err Device) =
+    (request : Request) × MeansRequest said request
+    × Did at_once honest folder moment since old new request (Err Device)
+DidSaid at_once honest folder moment since old new said (Err OutOfMemory) = new ≡ old
+DidSaid at_once honest folder moment since old new said (Err fault) = ⊥
 
 -- The same of a piece. If memory ran out, what it asks for may be unknown.
-abbrev pub DidPiece : {D : Type 0} → Type 0 → (D → Folder) → (D → ℕ) → (D → ℕ → Image → Type 0) → StoreView D
+abbrev pub DidPiece : Bool → {D : Type 0} → Type 0 → (D → Folder) → (D → ℕ) → (D → ℕ → Image → Type 0) → StoreView D
     → StoreView D → List ℕ → Result Reply SessionFault → Type 0
-DidPiece honest folder moment since old new piece (Ok reply) =
-    (request : Request) × Asks piece request × Did honest folder moment since old new request (Ok reply)
-DidPiece honest folder moment since old new piece (Err Device) =
-    (request : Request) × Asks piece request × Did honest folder moment since old new request (Err Device)
-DidPiece honest folder moment since old new piece (Err OutOfMemory) = new ≡ old
-DidPiece honest folder moment since old new piece (Err fault) = ⊥
+DidPiece at_once honest folder moment since old new piece (Ok reply) =
+    (request : Request) × Asks piece request × Did at_once honest folder moment since old new request (Ok reply)
+DidPiece at_once honest folder moment since old new piece (Err Device) =
+    (request : Request) × Asks piece request × Did at_once honest folder moment since old new request (Err Device)
+DidPiece at_once honest folder moment since old new piece (Err OutOfMemory) = new ≡ old
+DidPiece at_once honest folder moment since old new piece (Err fault) = ⊥

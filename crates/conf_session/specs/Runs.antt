@@ -1,5 +1,5 @@
 -- What a run of a session has read, answered and stored, for each of its results.
-use Rattle.std.specs.Prelude.{◌≡◌, ℕ, ◌*◌, ◌<◌, ◌≤◌, false, List, [], ◌∷◌, ◌++◌, length, take, Option, Result, Ok, Err, All}
+use Rattle.std.specs.Prelude.{◌≡◌, ℕ, ◌+◌, ◌*◌, ◌<◌, ◌≤◌, true, false, List, [], ◌∷◌, ◌++◌, length, take, Option, option_map, Result, Ok, Err, All}
 use Rattle.std.specs.List.{concat}
 use Rattle.std.specs.Io.KnownBytes.{Consumes, IsAtEnd, Keeps, Appends}
 use Rattle.yaml_grammar.specs.Closings.{ClosesOnce, Pieces}
@@ -11,19 +11,24 @@ use Rattle.conf_state.specs.Commands.{Command}
 use Rattle.conf_state.specs.States.{Contents}
 use Rattle.conf_state.specs.Steps.{after}
 use Rattle.conf_store.specs.Meaning.{FileMeans}
-use Rattle.conf_store.specs.Durable.{AfterPrefix}
+use Rattle.conf_store.specs.Durable.{AfterPrefix, HasFlushed}
+use Rattle.conf_store.specs.Staged.{Staged}
 use Rattle.conf_store.specs.View.{StoreView}
 use Rattle.conf_session.specs.Said.{piece_limit}
 use Rattle.conf_session.specs.Input.{session_limit, IsOverlong}
 use Rattle.conf_session.specs.declared.fault.SessionFault.{SessionFault}
 use Rattle.conf_session.specs.declared.fault.SessionFault.TheVariants as fault
 use Rattle.conf_session.specs.Requests.{Request, AllAsk}
-use Rattle.conf_session.specs.Answers.{Stored, answer_limit, output, stored_after_all, file_after_all, accepted_commands, refusals}
+use Rattle.conf_session.specs.Answers.{Stored, answer_limit, output, stored_after_all, file_after_all, accepted_commands, refusals, flushed_after, waiting_after, acknowledged}
 use Rattle.conf_session.specs.declared.session.Tally.{Tally}
 
--- the state of a store, and the length of its file
+-- the state of a store, the length of its file, and that of the new file of a running checkpoint
 abbrev pub stored_of : {D : Type 0} → StoreView D → Stored
-stored_of seen = record { state = seen.state; size = seen.size }
+stored_of seen = record {
+  state = seen.state;
+  size = seen.size;
+  staged = option_map (λ (s : Staged). s.written + length s.left) seen.staged;
+}
 
 -- the pieces ask for these requests; each is closed once, at its end, and no longer than allowed
 pub record ArePieces (pieces : List (List ℕ)) (requests : List Request) : Type 0 where
@@ -144,7 +149,8 @@ pub record AfterAtLeast (s : Contents) (least : ℕ) (commands : List Command) (
   pub leads : after s (take count commands) ≡ Ok state
   pub means : FileMeans store state
 
--- A run from one value of a store to the next.
+-- A run from one value of a store to the next. `flushed` is the state that is flushed at its start, and `waiting` are
+-- the commands that were submitted since.
 pub record Runs {D : Type 0} (honest : Type 0) (folder : D → Folder) (moment : D → ℕ) (since : D → ℕ → Image → Type 0)
     (given left held written : Option (List ℕ)) (old new : StoreView D)
     (result : Result Tally SessionFault) : Type 0 where
@@ -152,16 +158,23 @@ pub record Runs {D : Type 0} (honest : Type 0) (folder : D → Folder) (moment :
   pub performed : List Request
   pub ends : Ends given left held written (stored_of old) answered performed result
   pub state : new.state ≡ (stored_after_all (stored_of old) performed).state
-  pub size : new.reopen ≡ false → new.size ≡ (stored_after_all (stored_of old) performed).size
+  pub stored : new.reopen ≡ false → stored_of new ≡ stored_after_all (stored_of old) performed
   -- each accepted command appended its record to `store.yaml`, and each checkpoint put a base in its place
   pub reads : honest → new.reopen ≡ false
       → bytes_under (folder new.disk) Store
       ≡ file_after_all (bytes_under (folder old.disk) Store) (stored_of old) performed
-  -- a crash at any moment leaves the state after a prefix of the accepted commands
-  pub any_moment : honest → old.reopen ≡ false
+  -- a crash at any moment leaves the state after a prefix of the commands that waited and of the accepted ones
+  pub any_moment : honest → old.reopen ≡ false → (flushed : Contents) (waiting : List Command)
+      → HasFlushed (folder old.disk) flushed waiting old.state
       → LeavesOnly moment since old.disk new.disk
-      (λ image. AfterPrefix old.state (accepted_commands (stored_of old) performed) image.store)
+      (λ image. AfterPrefix flushed (waiting ++ accepted_commands (stored_of old) performed) image.store)
   -- and a crash after the run leaves one that has every command that was answered
-  pub kept : honest → old.reopen ≡ false → (image : Image) → IsImage (folder new.disk) image
-      → AfterAtLeast old.state (length (accepted_commands (stored_of old) answered))
-      (accepted_commands (stored_of old) performed) image.store
+  pub kept : honest → old.reopen ≡ false → (flushed : Contents) (waiting : List Command)
+      → HasFlushed (folder old.disk) flushed waiting old.state → (image : Image) → IsImage (folder new.disk) image
+      → AfterAtLeast flushed (acknowledged (stored_of old) waiting answered)
+      (waiting ++ accepted_commands (stored_of old) performed) image.store
+  -- what is flushed after the run, and what waits
+  pub waits : honest → new.reopen ≡ false → (flushed : Contents) (waiting : List Command)
+      → HasFlushed (folder old.disk) flushed waiting old.state
+      → HasFlushed (folder new.disk) (flushed_after true (stored_of old) flushed performed)
+      (waiting_after true (stored_of old) waiting performed) new.state

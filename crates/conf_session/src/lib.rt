@@ -2,6 +2,8 @@
 //!
 //! [`run`] reads the commands, performs them on a store, and writes the answers. Input and output may be any reader and
 //! writer, and the store may be on any disk. [`SessionFault`] says why a session stops before the end of its input.
+//!
+//! [`round`] performs the commands that a server has in hand from many clients, and syncs once for all of them.
 #![tactic(auto)]
 
 mod answer;
@@ -11,10 +13,12 @@ mod laws;
 mod output;
 mod pieces;
 mod reply;
+mod rounds;
 mod said;
 mod session;
 mod words;
 
 pub use fault::SessionFault;
-pub use laws::answers_are_short;
+pub use laws::{answers_acknowledge, answers_are_short};
+pub use rounds::{Piece, RoundFault, round};
 pub use session::{Tally, run};

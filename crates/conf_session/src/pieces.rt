@@ -1,13 +1,12 @@
 // Performing one piece, and writing its answer.
 ghost use Rattle.std.specs.Prelude.{◌≡◌, ◌≤◌, false, IfOk, IfErr, IsErrOf};
 ghost use Rattle.conf_store.specs.Calls.{HasFailed};
-ghost use Rattle.conf_store.specs.Durable.{AllImagesMean};
-ghost use Rattle.conf_session.specs.Replies.{accepts, refuses, reply_bytes};
+ghost use Rattle.conf_session.specs.Replies.{accepts, refuses, reply_bytes, LeavesPrefixes};
 ghost use Rattle.conf_session.specs.Progress.{Answered, Fails, HasRoom};
 
 use crate::fault::SessionFault;
 use crate::output::write_whole;
-use crate::reply::{Reply, answer_piece};
+use crate::reply::{Reply, Way, answer_piece};
 use crate::session::Tally;
 use crate::words::refusal_bytes;
 use conf_disk::Disk;
@@ -63,7 +62,7 @@ fn count_refused(reply: &Reply) -> u64
 }
 
 /// The bytes of a reply.
-fn bytes_of(reply: &Reply) -> &[u8]
+pub fn bytes_of(reply: &Reply) -> &[u8]
     ensures { result.now ≡ reply_bytes reply.now }
 {
     match reply {
@@ -88,7 +87,7 @@ pub fn perform_piece<D: Disk, W: Write>(
 ) -> Result<Counts, SessionFault>
     requires room { HasRoom counts }
     requires means { D.honest → store.old.reopen ≡ false →
-        AllImagesMean (D.folder store.old.disk) store.old.state }
+        LeavesPrefixes (D.folder store.old.disk) store.old.state }
     ensures ok { store.old.reopen ≡ false → IfOk result
         (Answered D.honest D.folder D.moment D.left (W.contents writer.old) (W.contents writer.new)
         store.old store.new piece.now counts) }
@@ -99,9 +98,9 @@ pub fn perform_piece<D: Disk, W: Write>(
         HasFailed (D.failure_count store.old.disk) (D.failure_count store.new.disk) }
     ensures risen { D.failure_count store.old.disk ≤ D.failure_count store.new.disk }
     ensures now { D.honest → store.new.reopen ≡ false →
-        AllImagesMean (D.folder store.new.disk) store.new.state }
+        LeavesPrefixes (D.folder store.new.disk) store.new.state }
 {
-    let reply = answer_piece(alloc, store, piece)?;
+    let reply = answer_piece(alloc, store, piece, Way::AtOnce)?;
     let accepted = count_accepted(&reply);
     let refused = count_refused(&reply);
     let bytes = bytes_of(&reply);

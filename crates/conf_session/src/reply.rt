@@ -1,20 +1,25 @@
 // What is answered to one piece, and what is done for it.
-ghost use Rattle.std.specs.Prelude.{◌≡◌, ◌≤◌, IsErrOf, false};
+ghost use Rattle.std.specs.Prelude.{◌≡◌, ◌≢◌, ◌≤◌, ◌⊎◌, ◌↔◌, ◌++◌, ◌∷◌, [], List, IsErrOf, IfOk, IfErr, OnOk, true, false, if◌then◌else◌};
 ghost use Rattle.std.specs.Str.{chars};
 ghost use Rattle.yaml_data.specs.TextBytes.{text_bytes};
-ghost use Rattle.conf_state.specs.Commands.{command_of};
-ghost use Rattle.conf_store.specs.Calls.{HasFailed};
-ghost use Rattle.conf_store.specs.Durable.{AllImagesMean};
+ghost use Rattle.conf_disk.specs.Folder.{bytes_under};
+ghost use Rattle.conf_disk.specs.Moments.{LeavesOnly};
+ghost use Rattle.conf_journal.specs.Store.{file_with_bytes};
+ghost use Rattle.conf_state.specs.Commands.{Command as GivenCommand, command_of};
+ghost use Rattle.conf_state.specs.States.{Contents};
+ghost use Rattle.conf_store.specs.Calls.{Accepts, HasFailed, RefusesCommand, next_record};
+ghost use Rattle.conf_store.specs.Durable.{AfterPrefix, AllImagesMean, HasFlushed};
+ghost use Rattle.conf_store.specs.Meaning.{FileMeans};
 ghost use Rattle.conf_session.specs.Said.{import_text};
 ghost use Rattle.conf_session.specs.Requests.{changing, checkpointing};
 ghost use Rattle.conf_session.specs.Answers.{unread_fault};
 ghost use Rattle.conf_session.specs.Said.{said_of};
-ghost use Rattle.conf_session.specs.Replies.{Did, DidPiece, DidSaid};
+ghost use Rattle.conf_session.specs.Replies.{Did, DidPiece, DidSaid, LeavesPrefixes, is_at_once};
 
 use crate::answer::{count_answer, export_answer, get_answer, names_answer};
 use crate::fault::SessionFault;
 use crate::said::{Said, read_said};
-use conf_disk::Disk;
+use conf_disk::{Disk, Name};
 use conf_state::{Command, StoreFault, good_name};
 use conf_store::Store;
 use std::alloc::Global;
@@ -44,26 +49,75 @@ fn unread_fault(name: &str, fault: ReadFault) -> StoreFault
     }
 }
 
+/// When a command that is accepted is flushed.
+#[derive(Clone, Copy)]
+pub enum Way {
+    /// Before it is answered.
+    AtOnce,
+    /// By a later flush. The client's number changes nothing.
+    Submitted { client: u64 },
+}
+
+/// Performs a command that changes the state.
+fn perform<D: Disk>(store: &mut Store<D>, command: Command, way: Way) -> Result<u64, StoreFault>
+    ensures reopen { IsErrOf result StoreFault.Reopen ↔ (store.old.reopen ≡ true) }
+    ensures ok { IfOk result (λ count.
+        Accepts store.old (command_of command) store.new × (count ≡ store.new.state.count)) }
+    ensures refused { IfErr result
+        (RefusesCommand store.old (command_of command) store.new) }
+    ensures unchanged { IfErr result (λ fault.
+        fault ≢ StoreFault.Device → store.new ≡ store.old) }
+    ensures device { IsErrOf result StoreFault.Device → store.new.reopen ≡ true }
+    ensures cause { IsErrOf result StoreFault.Device →
+        HasFailed (D.failure_count store.old.disk) (D.failure_count store.new.disk) }
+    ensures risen { D.failure_count store.old.disk ≤ D.failure_count store.new.disk }
+    ensures reads { D.honest → store.old.reopen ≡ false →
+        OnOk result (bytes_under (D.folder store.new.disk) Name.Store
+        ≡ file_with_bytes (bytes_under (D.folder store.old.disk) Name.Store)
+        (next_record store.old.state (command_of command))) }
+    ensures any_moment { D.honest → store.old.reopen ≡ false →
+        (flushed : Contents) (waiting : List GivenCommand)
+        → HasFlushed (D.folder store.old.disk) flushed waiting store.old.state →
+        LeavesOnly D.moment D.left store.old.disk store.new.disk
+        (λ image. AfterPrefix flushed waiting image.store
+        ⊎ FileMeans image.store store.new.state) }
+    ensures waits { D.honest → store.old.reopen ≡ false →
+        (flushed : Contents) (waiting : List GivenCommand)
+        → HasFlushed (D.folder store.old.disk) flushed waiting store.old.state →
+        OnOk result (HasFlushed (D.folder store.new.disk)
+        (if is_at_once way then store.new.state else flushed)
+        (if is_at_once way then [] else waiting ++ command_of command ∷ [])
+        store.new.state) }
+    ensures now { is_at_once way ≡ true → D.honest →
+        OnOk result (AllImagesMean (D.folder store.new.disk) store.new.state) }
+{
+    match way {
+        Way::AtOnce => store.apply(command),
+        Way::Submitted { client } => store.submit(client, command),
+    }
+}
+
 /// Performs a command that changes the state. The memory for its answer is taken first.
 fn change<D: Disk>(
     alloc: Global,
     store: &mut Store<D>,
     command: Command,
+    way: Way,
 ) -> Result<Reply, SessionFault>
     requires means { D.honest → store.old.reopen ≡ false →
-        AllImagesMean (D.folder store.old.disk) store.old.state }
+        LeavesPrefixes (D.folder store.old.disk) store.old.state }
     ensures did { store.old.reopen ≡ false →
-        Did D.honest D.folder D.moment D.left store.old store.new
+        Did (is_at_once way) D.honest D.folder D.moment D.left store.old store.new
         (changing (command_of command)) result }
     ensures cause { IsErrOf result SessionFault.Device →
         HasFailed (D.failure_count store.old.disk) (D.failure_count store.new.disk) }
     ensures risen { D.failure_count store.old.disk ≤ D.failure_count store.new.disk }
-    ensures now { D.honest → store.new.reopen ≡ false →
-        AllImagesMean (D.folder store.new.disk) store.new.state }
+    ensures now { is_at_once way ≡ true → D.honest → store.new.reopen ≡ false →
+        LeavesPrefixes (D.folder store.new.disk) store.new.state }
 {
     let next = store.count().saturating_add(1);
     let answer = count_answer(alloc, next)?;
-    match store.apply(command) {
+    match perform(store, command, way) {
         Ok(_) => Ok(Reply::Accepted(answer)),
         Err(StoreFault::OutOfMemory) => Err(SessionFault::OutOfMemory),
         Err(StoreFault::Device) => Err(SessionFault::Device),
@@ -75,14 +129,14 @@ fn change<D: Disk>(
 /// Makes a checkpoint. The memory for its answer is taken first.
 fn checkpoint<D: Disk>(alloc: Global, store: &mut Store<D>) -> Result<Reply, SessionFault>
     requires means { D.honest → store.old.reopen ≡ false →
-        AllImagesMean (D.folder store.old.disk) store.old.state }
+        LeavesPrefixes (D.folder store.old.disk) store.old.state }
     ensures did { store.old.reopen ≡ false →
-        Did D.honest D.folder D.moment D.left store.old store.new checkpointing result }
+        Did true D.honest D.folder D.moment D.left store.old store.new checkpointing result }
     ensures cause { IsErrOf result SessionFault.Device →
         HasFailed (D.failure_count store.old.disk) (D.failure_count store.new.disk) }
     ensures risen { D.failure_count store.old.disk ≤ D.failure_count store.new.disk }
     ensures now { D.honest → store.new.reopen ≡ false →
-        AllImagesMean (D.folder store.new.disk) store.new.state }
+        LeavesPrefixes (D.folder store.new.disk) store.new.state }
 {
     let answer = count_answer(alloc, store.count())?;
     match store.checkpoint() {
@@ -99,22 +153,23 @@ fn import<D: Disk>(
     store: &mut Store<D>,
     name: Text,
     source: &str,
+    way: Way,
 ) -> Result<Reply, SessionFault>
     requires means { D.honest → store.old.reopen ≡ false →
-        AllImagesMean (D.folder store.old.disk) store.old.state }
+        LeavesPrefixes (D.folder store.old.disk) store.old.state }
     ensures did { store.old.reopen ≡ false →
-        DidSaid D.honest D.folder D.moment D.left store.old store.new
+        DidSaid (is_at_once way) D.honest D.folder D.moment D.left store.old store.new
         (import_text (chars (text_bytes name)) (chars source.now)) result }
     ensures cause { IsErrOf result SessionFault.Device →
         HasFailed (D.failure_count store.old.disk) (D.failure_count store.new.disk) }
     ensures risen { D.failure_count store.old.disk ≤ D.failure_count store.new.disk }
-    ensures now { D.honest → store.new.reopen ≡ false →
-        AllImagesMean (D.folder store.new.disk) store.new.state }
+    ensures now { is_at_once way ≡ true → D.honest → store.new.reopen ≡ false →
+        LeavesPrefixes (D.folder store.new.disk) store.new.state }
 {
     match read_one(alloc, source.as_bytes(), &Limits::CONFIGURATION) {
         Ok(tree) => {
             let name = name.into_string(alloc)?;
-            change(alloc, store, Command::Import { name, tree })
+            change(alloc, store, Command::Import { name, tree }, way)
         }
         Err(ReadFault::OutOfMemory) => Err(SessionFault::OutOfMemory),
         Err(fault) => Ok(Reply::Refused(unread_fault(&name, fault))),
@@ -126,20 +181,21 @@ fn answer_said<D: Disk>(
     alloc: Global,
     store: &mut Store<D>,
     said: Said,
+    way: Way,
 ) -> Result<Reply, SessionFault>
     requires means { D.honest → store.old.reopen ≡ false →
-        AllImagesMean (D.folder store.old.disk) store.old.state }
+        LeavesPrefixes (D.folder store.old.disk) store.old.state }
     ensures did { store.old.reopen ≡ false →
-        DidSaid D.honest D.folder D.moment D.left store.old store.new (said_of said) result }
+        DidSaid (is_at_once way) D.honest D.folder D.moment D.left store.old store.new (said_of said) result }
     ensures cause { IsErrOf result SessionFault.Device →
         HasFailed (D.failure_count store.old.disk) (D.failure_count store.new.disk) }
     ensures risen { D.failure_count store.old.disk ≤ D.failure_count store.new.disk }
-    ensures now { D.honest → store.new.reopen ≡ false →
-        AllImagesMean (D.folder store.new.disk) store.new.state }
+    ensures now { is_at_once way ≡ true → D.honest → store.new.reopen ≡ false →
+        LeavesPrefixes (D.folder store.new.disk) store.new.state }
 {
     match said {
-        Said::Import { name, text } => import(alloc, store, name, &text),
-        Said::Change(command) => change(alloc, store, command),
+        Said::Import { name, text } => import(alloc, store, name, &text, way),
+        Said::Change(command) => change(alloc, store, command, way),
         Said::Checkpoint => checkpoint(alloc, store),
         Said::Get { name, path } => Ok(get_answer(alloc, store, &name, &path)?),
         Said::Export(name) => Ok(export_answer(alloc, store, &name)?),
@@ -153,17 +209,18 @@ pub fn answer_piece<D: Disk>(
     alloc: Global,
     store: &mut Store<D>,
     piece: &[u8],
+    way: Way,
 ) -> Result<Reply, SessionFault>
     requires means { D.honest → store.old.reopen ≡ false →
-        AllImagesMean (D.folder store.old.disk) store.old.state }
+        LeavesPrefixes (D.folder store.old.disk) store.old.state }
     ensures did { store.old.reopen ≡ false →
-        DidPiece D.honest D.folder D.moment D.left store.old store.new piece.now result }
+        DidPiece (is_at_once way) D.honest D.folder D.moment D.left store.old store.new piece.now result }
     ensures cause { IsErrOf result SessionFault.Device →
         HasFailed (D.failure_count store.old.disk) (D.failure_count store.new.disk) }
     ensures risen { D.failure_count store.old.disk ≤ D.failure_count store.new.disk }
-    ensures now { D.honest → store.new.reopen ≡ false →
-        AllImagesMean (D.folder store.new.disk) store.new.state }
+    ensures now { is_at_once way ≡ true → D.honest → store.new.reopen ≡ false →
+        LeavesPrefixes (D.folder store.new.disk) store.new.state }
 {
     let said = read_said(alloc, piece)?;
-    answer_said(alloc, store, said)
+    answer_said(alloc, store, said, way)
 }

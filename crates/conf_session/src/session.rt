@@ -32,7 +32,8 @@ pub struct Tally {
 /// `refused: BadCommand`. Bytes after the last closing line are neither performed nor answered.
 ///
 /// A crash at any moment leaves the state after a prefix of the accepted commands. Once this returns, that
-/// prefix has every command whose answer was written.
+/// prefix has every command whose answer was written. Commands that were submitted before, and wait for a
+/// flush, come first: the first command that is accepted acknowledges them too, and so does a checkpoint.
 ///
 /// # Errors
 /// All pieces before the fault are performed and answered.

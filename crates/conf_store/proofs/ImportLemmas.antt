@@ -13,7 +13,7 @@ use Rattle.conf_state.specs.Steps.{step, state_after_command, next_state}
 use Rattle.conf_state.specs.declared.fault.StoreFault.{StoreFault}
 use Rattle.conf_state.specs.declared.fault.StoreFault.TheVariants.{BadName, NoConfig, Path, Read, TooDeep, ConfigLarge, StoreFull, JournalLong, CountFull, Reopen, Device, OutOfMemory}
 use Rattle.conf_store.specs.View.{StoreView}
-use Rattle.conf_store.specs.Calls.{has_room, RefusesCommand}
+use Rattle.conf_store.specs.Calls.{has_room, journal_length, RefusesCommand}
 use Rattle.conf_store.specs.Accepting.{IsOfState}
 use Rattle.conf_store.specs.Imports.{RefusesText, RefusesImport}
 
@@ -55,9 +55,9 @@ unfolding OfTree
 import-refused old new name source t Reopen good reads is = tt
 import-refused old new name source t OutOfMemory good reads is = tt
 import-refused old new name source t BadName good reads is =
-    absurd (subst OfTree is (step-of_tree old.state name t (has_room old.size old.state (import_as name t)) good))
+    absurd (subst OfTree is (step-of_tree old.state name t (has_room (journal_length old) old.state (import_as name t)) good))
 import-refused old new name source t (Read fault) good reads is =
-    absurd (subst OfTree is (step-of_tree old.state name t (has_room old.size old.state (import_as name t)) good))
+    absurd (subst OfTree is (step-of_tree old.state name t (has_room (journal_length old) old.state (import_as name t)) good))
 import-refused old new name source t NoConfig good reads is = record { tree = t; reads = reads; refuses = is }
 import-refused old new name source t (Path fault) good reads is = record { tree = t; reads = reads; refuses = is }
 import-refused old new name source t TooDeep good reads is = record { tree = t; reads = reads; refuses = is }

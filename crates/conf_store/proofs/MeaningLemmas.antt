@@ -25,7 +25,7 @@ records-count count [] (command ∷ commands) are = absurd are
 records-count count (piece ∷ pieces) [] are = absurd are
 records-count count (piece ∷ pieces) (command ∷ commands) are = ap suc (records-count (count + 1) pieces commands are.1)
 
-records-joined : (count : ℕ) (ps qs : List (List ℕ)) (cs ds : List Command) → AreRecords count ps cs → AreRecords (count + length cs) qs ds → AreRecords count (ps ++ qs) (cs ++ ds)
+pub records-joined : (count : ℕ) (ps qs : List (List ℕ)) (cs ds : List Command) → AreRecords count ps cs → AreRecords (count + length cs) qs ds → AreRecords count (ps ++ qs) (cs ++ ds)
 records-joined count [] qs [] ds first second = subst (λ n. AreRecords n qs ds) (omega arith) second
 records-joined count [] qs (c ∷ cs) ds first second = absurd first
 records-joined count (p ∷ ps) qs [] ds first second = absurd first
@@ -82,7 +82,7 @@ pub record-means : (pieces : List (List ℕ)) (piece : List ℕ) (s end : Conten
 record-means pieces piece s end command mean is done =
     pieces-mean-more pieces (piece ∷ []) s end (command ∷ []) mean (is, tt) (ap (λ r. and_then r (λ t. after t [])) done)
 
-one-list : (count : ℕ) → OneRecord → (pieces : List (List ℕ)) (cs ds : List Command) → AreRecords count pieces cs → AreRecords count pieces ds → cs ≡ ds
+pub one-list : (count : ℕ) → OneRecord → (pieces : List (List ℕ)) (cs ds : List Command) → AreRecords count pieces cs → AreRecords count pieces ds → cs ≡ ds
 one-list count one [] [] [] first second = refl
 one-list count one [] (c ∷ cs) ds first second = absurd first
 one-list count one [] [] (d ∷ ds) first second = absurd second

@@ -8,7 +8,7 @@ use Rattle.conf_state.specs.declared.fault.StoreFault.{StoreFault}
 use Rattle.conf_state.specs.declared.fault.StoreFault.TheVariants.{BadName, NoConfig, Path, Read, TooDeep, ConfigLarge, StoreFull, JournalLong, CountFull, Reopen, Device, OutOfMemory}
 use Rattle.conf_store.specs.View.{StoreView}
 use Rattle.conf_store.specs.Accepting.{IsOfState}
-use Rattle.conf_store.specs.Calls.{outcome, RefusesCommand}
+use Rattle.conf_store.specs.Calls.{outcome, journal_length, RefusesCommand}
 
 -- a step refuses for the command and the state alone
 abbrev pub StepsRefuse : Type 0
@@ -20,7 +20,7 @@ of-state refuse s command fits fault (inl memory) = (λ same. cc (memory, same),
 of-state refuse s command fits fault (inr e) = (λ same. subst IsRefusal same (refuse s command fits fault e), λ same. subst IsRefusal same (refuse s command fits fault e))
 
 -- and a store returns that fault
-pub refusal-returned : {D : Type 0} (old new : StoreView D) (command : Command) (fault : StoreFault) → IsOfState fault → (fault ≡ OutOfMemory) ⊎ (outcome old.size old.state command ≡ Err fault)
+pub refusal-returned : {D : Type 0} (old new : StoreView D) (command : Command) (fault : StoreFault) → IsOfState fault → (fault ≡ OutOfMemory) ⊎ (outcome (journal_length old) old.state command ≡ Err fault)
     → RefusesCommand old command new fault
 refusal-returned old new command Reopen own is = tt
 refusal-returned old new command Device own is = absurd (own.1 refl)

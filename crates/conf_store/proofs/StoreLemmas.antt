@@ -1,18 +1,18 @@
 -- What an open store keeps on its disk, and what a crash during its calls leaves.
-use Rattle.std.proofs.Common.{◌≡◌, ◌⊎◌, refl, sym, ◌∙◌, ap, subst, arith, ◌≤◌, length-append}
-use Rattle.std.specs.Prelude.{ℕ, true, ◌+◌, Bool, nat_le, List, [], ◌∷◌, ◌++◌, length, Option, Some, None, option_map, Ok, Err}
-use Rattle.std.proofs.lemmas.List.{append-nil}
+use Rattle.std.proofs.Common.{◌≡◌, ◌⊎◌, inl, ⊎_elim, refl, sym, ◌∙◌, ap, subst, arith, ◌≤◌, length-append}
+use Rattle.std.specs.Prelude.{ℕ, true, false, ◌+◌, Bool, nat_le, List, [], ◌∷◌, ◌++◌, length, Option, Some, option_map, Ok, Err}
+use Rattle.std.proofs.lemmas.Bool.{false≢true}
 use Rattle.yaml_grammar.specs.Closings.{ClosesOnce}
-use Rattle.conf_disk.specs.Folder.{Folder, with_pending, synced_whole}
+use Rattle.conf_disk.specs.Folder.{Folder, with_pending}
 use Rattle.conf_disk.specs.Image.{Image, IsImage, synced_file}
 use Rattle.conf_disk.specs.Moments.{LeavesOnly}
 use Rattle.conf_disk.proofs.Moments.{LeavesOnly-start, LeavesOnly-weaker}
-use Rattle.conf_journal.specs.Held.{HoldsStore, IsLeftOf, SyncedIsLeft}
+use Rattle.conf_journal.specs.Held.{HoldsStore, IsLeftOf, HeldIsLeft, SyncedIsLeft}
 use Rattle.conf_journal.specs.Store.{IsStoreOf, store_limit}
 use Rattle.conf_state.specs.Commands.{Command}
 use Rattle.conf_state.specs.States.{Contents, count_limit}
 use Rattle.conf_state.specs.Limits.{IsState}
-use Rattle.conf_state.specs.Steps.{step}
+use Rattle.conf_state.specs.Steps.{step, after}
 use Rattle.conf_record.specs.Documents.{IsRecord, IsBase, BasesAreRead, BasesClose, BasesFit, RecordsAreRead, RecordsClose, RecordsTear}
 use Rattle.conf_state.specs.BaseTexts.{base_bytes}
 use Rattle.conf_record.specs.Records.{record_bytes}
@@ -23,8 +23,10 @@ use Rattle.conf_store.specs.Accepting.{IsAccepted, IsBaseOf}
 use Rattle.conf_store.specs.Calls.{next_number, next_record, has_room, outcome}
 use Rattle.conf_store.proofs.StepLemmas.{StepsNeedRoom, StepsCount, accepted-anyway, accepted-number}
 use Rattle.conf_store.specs.Meaning.{FileMeans}
-use Rattle.conf_store.specs.Durable.{IsWholeStore, IsJournal, IsDurable, AllImagesMean}
-use Rattle.conf_store.proofs.MeaningLemmas.{whole-means, base-whole, record-whole, journal-left, after-one, after-done}
+use Rattle.conf_store.specs.Durable.{IsJournal, HasFlushed, IsHeld, IsDurable, AllImagesMean, AfterPrefix}
+use Rattle.conf_store.proofs.MeaningLemmas.{whole-means, base-whole, ok-same}
+use Rattle.conf_store.proofs.HeldLemmas.{held-journal, held-images, held-stores, journal-more, journal-synced, appended-left}
+use Rattle.conf_store.proofs.StagedLemmas.{means-waiting}
 
 -- a durable store's images mean its state
 pub durable-means : SyncedIsLeft → (folder : Folder) (s : Contents) (size : ℕ) → IsDurable folder s size → AllImagesMean folder s
@@ -36,38 +38,6 @@ durable-means left folder s size durable image is =
 -- each store that a crash may leave of a durable one means its state
 pub store-means : SyncedIsLeft → (folder : Folder) (s : Contents) (size : ℕ) → IsDurable folder s size → (store : Option (List ℕ)) → IsStoreOf folder store → FileMeans store s
 store-means left folder s size durable store is = subst (λ b. FileMeans b s) is.same (durable-means left folder s size durable is.image is.is)
-
--- the file with one pending record
-one-pending : (bytes more : List ℕ) (s end : Contents) (command : Command) → IsWholeStore bytes s → more ≡ record_bytes command (s.count + 1) → IsRecord more command (s.count + 1)
-    → step s command true ≡ Ok end → length bytes + length more ≤ store_limit → IsJournal (with_pending more (synced_file bytes)) s (command ∷ []) end
-one-pending bytes more s end command whole is reads done short = record {
-  whole = whole;
-  pending = is ∙ sym (append-nil (record_bytes command (s.count + 1)));
-  are_records = (subst (λ r. IsRecord r command (s.count + 1)) is reads, tt);
-  leads = after-done s end command done;
-  short = short;
-}
-
--- what a crash leaves while a record is appended means the state before the command or after it
-pub applied-left : RecordsTear → (bytes more : List ℕ) (s end : Contents) (command : Command) → IsWholeStore bytes s → more ≡ record_bytes command (s.count + 1)
-    → IsRecord more command (s.count + 1) → step s command true ≡ Ok end → length bytes + length more ≤ store_limit
-    → (store : Option (List ℕ)) → IsLeftOf (Some (with_pending more (synced_file bytes))) store → FileMeans store s ⊎ FileMeans store end
-applied-left tear bytes more s end command whole is reads done short None left = absurd left
-applied-left tear bytes more s end command whole is reads done short (Some torn) left =
-    after-one s end command (Some torn) done
-    (journal-left tear (with_pending more (synced_file bytes)) s end (command ∷ []) torn (one-pending bytes more s end command whole is reads done short) left)
-
--- the file with the record synced
-pub applied-durable : (folder : Folder) (bytes more : List ℕ) (s end : Contents) (command : Command) (size : ℕ) → IsWholeStore bytes s → ClosesOnce more
-    → IsRecord more command (s.count + 1) → step s command true ≡ Ok end → length bytes ≡ size → size + length more ≤ store_limit
-    → HoldsStore folder (Some (synced_file (bytes ++ more))) → IsDurable folder end (size + length more)
-applied-durable folder bytes more s end command size whole closes reads done long short holds = record {
-  bytes = bytes ++ more;
-  holds = holds;
-  whole = record-whole bytes more s end command whole closes reads done;
-  long = length-append bytes more ∙ ap (λ n. n + length more) long;
-  short = short;
-}
 
 -- ---- a base as the new file
 
@@ -92,12 +62,20 @@ pub base-file-means : (s : Contents) (bytes : List ℕ) → IsBaseOf s bytes →
 base-file-means s bytes base file same =
     subst (λ b. FileMeans b s) (sym same) (whole-means bytes s (base-whole bytes s base.closes base.reads) base.short)
 
--- before any call of the disk
-pub start-leaves : {D : Type 0} (folder : D → Folder) (moment : D → ℕ) (left : D → ℕ → Image → Type 0) (disk : D) (s : Contents) (size : ℕ) (P : Image → Type 0) → SyncedIsLeft
-    → ((image : Image) → left disk (moment disk) image → IsImage (folder disk) image) → IsDurable (folder disk) s size → ((image : Image) → FileMeans image.store s → P image)
-    → LeavesOnly moment left disk disk P
-start-leaves folder moment left disk s size P synced only durable means =
-    LeavesOnly-start moment left disk P (λ image is. means image (durable-means synced (folder disk) s size durable image (only image is)))
+-- ---- before any call of the disk
+
+pub start-prefix : {D : Type 0} (folder : D → Folder) (moment : D → ℕ) (left : D → ℕ → Image → Type 0) (disk : D) (s : Contents) (size : ℕ) (waits : Bool) → HeldIsLeft → RecordsTear
+    → ((image : Image) → left disk (moment disk) image → IsImage (folder disk) image) → IsHeld (folder disk) s size waits → (flushed : Contents) (since : List Command) → HasFlushed (folder disk) flushed since s
+    → LeavesOnly moment left disk disk (λ image. AfterPrefix flushed since image.store)
+start-prefix folder moment left disk s size waits held_left tear only held flushed since has =
+    LeavesOnly-start moment left disk (λ image. AfterPrefix flushed since image.store)
+    (λ image is. held-images held_left tear (folder disk) s size waits held flushed since has image (only image is))
+
+-- what may also mean another state
+pub or-means : {D : Type 0} (moment : D → ℕ) (left : D → ℕ → Image → Type 0) (old new : D) (flushed end : Contents) (since : List Command) → LeavesOnly moment left old new (λ image. AfterPrefix flushed since image.store)
+    → LeavesOnly moment left old new (λ image. AfterPrefix flushed since image.store ⊎ FileMeans image.store end)
+or-means moment left old new flushed end since leaves =
+    LeavesOnly-weaker moment left old new (λ image. AfterPrefix flushed since image.store) (λ image. AfterPrefix flushed since image.store ⊎ FileMeans image.store end) leaves (λ image is. inl is)
 
 -- ---- a command that is accepted
 
@@ -132,19 +110,96 @@ accepted need_room counts are_read close s new command fits bytes size kept kept
       short = within (size + length bytes) (sym room ∙ need_room s new command fits done);
     }
 
--- a crash while the record is appended leaves the state before the command or after it
-pub append-leaves : {D : Type 0} (moment : D → ℕ) (left : D → ℕ → Image → Type 0) (old new : D) (folder : Folder) (s end : Contents) (command : Command) (more : List ℕ) (size : ℕ)
-    → RecordsTear → (durable : IsDurable folder s size) → IsAccepted s command end size more
-    → LeavesOnly moment left old new (λ image. IsLeftOf (option_map (with_pending more) (Some (synced_file durable.bytes))) image.store)
-    → LeavesOnly moment left old new (λ image. FileMeans image.store s ⊎ FileMeans image.store end)
-append-leaves moment left old new folder s end command more size tear durable ok run =
-    LeavesOnly-weaker moment left old new (λ image. IsLeftOf (option_map (with_pending more) (Some (synced_file durable.bytes))) image.store)
-    (λ image. FileMeans image.store s ⊎ FileMeans image.store end) run
-    (λ image is. applied-left tear durable.bytes more s end command durable.whole (ok.is ∙ ap (record_bytes command) ok.number) ok.reads ok.done
-    (let short = ok.short in omega (arith, durable.long, short)) image.store is)
+-- its record, as the definitions number it
+accepted-record : (s end : Contents) (command : Command) (longest : ℕ) (more : List ℕ) → (ok : IsAccepted s command end longest more) → more ≡ record_bytes command (s.count + 1)
+accepted-record s end command longest more ok = ok.is ∙ ap (record_bytes command) ok.number
 
--- after its sync every image has the state after it
-pub append-durable : (old new : Folder) (s end : Contents) (command : Command) (more : List ℕ) (size : ℕ) → (durable : IsDurable old s size) → IsAccepted s command end size more
-    → HoldsStore new (option_map synced_whole (option_map (with_pending more) (Some (synced_file durable.bytes)))) → IsDurable new end (size + length more)
-append-durable old new s end command more size durable ok holds =
-    applied-durable new durable.bytes more s end command size durable.whole ok.closes ok.reads ok.done durable.long ok.short holds
+accepted-short : (folder : Folder) (s end : Contents) (command : Command) (size longest : ℕ) (waits : Bool) (more : List ℕ) → (held : IsHeld folder s size waits) → size ≤ longest → IsAccepted s command end longest more
+    → length held.file.synced + length held.file.pending + length more ≤ store_limit
+accepted-short folder s end command size longest waits more held within ok = (let short = ok.short in omega (arith, held.long, within, short))
+
+-- after its record is appended, every stage has the file with it
+pub append-held : (old new : Folder) (s end : Contents) (command : Command) (size longest : ℕ) (waits : Bool) (more : List ℕ) → (held : IsHeld old s size waits) → size ≤ longest → IsAccepted s command end longest more
+    → HoldsStore new (option_map (with_pending more) (Some held.file)) → IsHeld new end (size + length more) true
+append-held old new s end command size longest waits more held within ok holds = record {
+  file = with_pending more held.file;
+  holds = holds;
+  flushed = held.flushed;
+  since = held.since ++ command ∷ [];
+  journal =
+      journal-more held.file held.flushed s end held.since command more held.journal (accepted-record s end command longest more ok) ok.reads ok.done
+      (accepted-short old s end command size longest waits more held within ok);
+  long = omega (arith, held.long, length-append held.file.pending more);
+  none = λ quiet. absurd (false≢true (sym quiet));
+}
+
+-- and it waits
+pub append-flushed : (old new : Folder) (s end : Contents) (command : Command) (size longest : ℕ) (waits : Bool) (more : List ℕ) → (held : IsHeld old s size waits) → size ≤ longest → IsAccepted s command end longest more
+    → HoldsStore new (option_map (with_pending more) (Some held.file)) → (flushed : Contents) (since : List Command) → HasFlushed old flushed since s → HasFlushed new flushed (since ++ command ∷ []) end
+append-flushed old new s end command size longest waits more held within ok holds flushed since has = record {
+  file = with_pending more held.file;
+  is = holds.is;
+  journal =
+      journal-more held.file flushed s end since command more (held-journal old s size waits held flushed since has) (accepted-record s end command longest more ok) ok.reads ok.done
+      (accepted-short old s end command size longest waits more held within ok);
+}
+
+-- a crash while it is appended leaves the state after a prefix of what waits, or after it
+pub append-leaves : {D : Type 0} (moment : D → ℕ) (left : D → ℕ → Image → Type 0) (old new : D) (folder : Folder) (s end : Contents) (command : Command) (size longest : ℕ) (waits : Bool) (more : List ℕ) → RecordsTear
+    → (held : IsHeld folder s size waits) → size ≤ longest → IsAccepted s command end longest more → (flushed : Contents) (since : List Command) → HasFlushed folder flushed since s
+    → LeavesOnly moment left old new (λ image. IsLeftOf (option_map (with_pending more) (Some held.file)) image.store)
+    → LeavesOnly moment left old new (λ image. AfterPrefix flushed since image.store ⊎ FileMeans image.store end)
+append-leaves moment left old new folder s end command size longest waits more tear held within ok flushed since has run =
+    LeavesOnly-weaker moment left old new (λ image. IsLeftOf (option_map (with_pending more) (Some held.file)) image.store)
+    (λ image. AfterPrefix flushed since image.store ⊎ FileMeans image.store end) run
+    (λ image. appended-left tear held.file flushed s end since command more (held-journal folder s size waits held flushed since has) (accepted-record s end command longest more ok) ok.reads ok.done
+    (accepted-short folder s end command size longest waits more held within ok) image.store)
+
+-- ---- calls that change no meaning
+
+-- a crash leaves an old store, so the state after a prefix of what waits
+pub old-prefix : {D : Type 0} (moment : D → ℕ) (left : D → ℕ → Image → Type 0) (old new : D) (folder : Folder) (s : Contents) (size : ℕ) (waits : Bool) → HeldIsLeft → RecordsTear → IsHeld folder s size waits
+    → (flushed : Contents) (since : List Command) → HasFlushed folder flushed since s → LeavesOnly moment left old new (λ image. IsStoreOf folder image.store)
+    → LeavesOnly moment left old new (λ image. AfterPrefix flushed since image.store)
+old-prefix moment left old new folder s size waits held_left tear held flushed since has run =
+    LeavesOnly-weaker moment left old new (λ image. IsStoreOf folder image.store) (λ image. AfterPrefix flushed since image.store) run
+    (λ image. held-stores held_left tear folder s size waits held flushed since has image.store)
+
+-- or another file that means the state
+pub other-prefix : {D : Type 0} (moment : D → ℕ) (left : D → ℕ → Image → Type 0) (old new : D) (folder : Folder) (s : Contents) (size : ℕ) (waits : Bool) (P : Image → Type 0) → HeldIsLeft → RecordsTear → IsHeld folder s size waits
+    → (flushed : Contents) (since : List Command) → HasFlushed folder flushed since s → ((image : Image) → P image → FileMeans image.store s)
+    → LeavesOnly moment left old new (λ image. IsStoreOf folder image.store ⊎ P image)
+    → LeavesOnly moment left old new (λ image. AfterPrefix flushed since image.store)
+other-prefix moment left old new folder s size waits P held_left tear held flushed since has means run =
+    LeavesOnly-weaker moment left old new (λ image. IsStoreOf folder image.store ⊎ P image) (λ image. AfterPrefix flushed since image.store) run
+    (λ image. ⊎_elim (held-stores held_left tear folder s size waits held flushed since has image.store)
+    (λ other. means-waiting held.file flushed s since image.store (held-journal folder s size waits held flushed since has) (means image other)))
+
+-- the same file in another folder
+pub held-along : (old new : Folder) (s : Contents) (size : ℕ) (waits : Bool) → (held : IsHeld old s size waits) → HoldsStore new (Some held.file) → IsHeld new s size waits
+held-along old new s size waits held holds =
+    record { file = held.file; holds = holds; flushed = held.flushed; since = held.since; journal = held.journal; long = held.long; none = held.none }
+
+pub flushed-along : (old new : Folder) (s : Contents) (size : ℕ) (waits : Bool) → (held : IsHeld old s size waits) → HoldsStore new (Some held.file) → (flushed : Contents) (since : List Command) → HasFlushed old flushed since s
+    → HasFlushed new flushed since s
+flushed-along old new s size waits held holds flushed since has = record { file = held.file; is = holds.is; journal = held-journal old s size waits held flushed since has }
+
+-- a durable store has flushed its state, and none waits
+pub durable-flushed : (folder : Folder) (s : Contents) (size : ℕ) → IsDurable folder s size → HasFlushed folder s [] s
+durable-flushed folder s size durable = record {
+  file = synced_file durable.bytes;
+  is = durable.holds.is;
+  journal = journal-synced durable.bytes s durable.whole (let short = durable.short in omega (arith, durable.long, short));
+}
+
+-- where none waits, the state is flushed
+pub quiet-flushed : (folder : Folder) (s : Contents) (size : ℕ) (waits : Bool) → (held : IsHeld folder s size waits) → waits ≡ false → HasFlushed folder s [] s
+quiet-flushed folder s size waits held quiet =
+    let none = held.none quiet in
+    let leads : after held.flushed [] ≡ Ok s = ap (after held.flushed) (sym none) ∙ held.journal.leads in
+    let same : held.flushed ≡ s = ok-same held.flushed s (Ok held.flushed) refl leads in
+    record {
+      file = held.file;
+      is = held.holds.is;
+      journal = subst (λ f. IsJournal held.file f [] s) same (subst (λ cs. IsJournal held.file held.flushed cs s) none held.journal);
+    }

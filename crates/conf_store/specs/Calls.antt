@@ -1,5 +1,5 @@
 -- What the calls of an open store return, and how they change it.
-use Rattle.std.specs.Prelude.{◌≡◌, ◌⊎◌, ℕ, ◌+◌, ◌<◌, ◌≤◌, min, Bool, false, nat_le, if◌then◌else◌, List, length, Result, Ok, Err}
+use Rattle.std.specs.Prelude.{◌≡◌, ◌⊎◌, ℕ, ◌+◌, ◌<◌, ◌≤◌, min, max, Bool, false, nat_le, if◌then◌else◌, List, length, Result, Ok, Err}
 use Rattle.conf_disk.specs.Moments.{greatest}
 use Rattle.conf_journal.specs.Store.{store_limit}
 use Rattle.conf_state.specs.Commands.{Command}
@@ -12,6 +12,7 @@ use Rattle.conf_state.specs.Steps.{step, and_then, found, by_path}
 use Rattle.conf_state.specs.declared.fault.StoreFault.{StoreFault}
 use Rattle.conf_state.specs.declared.fault.StoreFault.TheVariants.{BadName, Reopen, Device, OutOfMemory}
 use Rattle.conf_record.specs.Records.{record_bytes}
+use Rattle.conf_store.specs.Staged.{staged_length, with_more}
 use Rattle.conf_store.specs.View.{StoreView}
 
 -- The number of the next record. At the greatest count it is that count, which has as many digits as the number after
@@ -36,11 +37,17 @@ has_room size s command = nat_le (size + length (next_record s command)) store_l
 abbrev pub outcome : ℕ → Contents → Command → Result Contents StoreFault
 outcome size s command = step s command (has_room size s command)
 
--- The command was accepted: the state is the one after it, the count rose by one, and `store.yaml` grew by the record.
+-- The length that JournalLong looks at: of `store.yaml`, or of the new file of a running checkpoint, if that is longer.
+abbrev pub journal_length : {D : Type 0} → StoreView D → ℕ
+journal_length seen = max seen.size (staged_length seen.staged)
+
+-- The command was accepted: the state is the one after it, the count rose by one, and `store.yaml` grew by the record,
+-- and so did the new file of a running checkpoint.
 pub record Accepts {D : Type 0} (old : StoreView D) (command : Command) (new : StoreView D) : Type 0 where
-  pub step : outcome old.size old.state command ≡ Ok new.state
+  pub step : outcome (journal_length old) old.state command ≡ Ok new.state
   pub count : new.state.count ≡ old.state.count + 1
   pub size : new.size ≡ old.size + length (next_record old.state command)
+  pub staged : new.staged ≡ with_more (next_record old.state command) old.staged
   pub reopen : new.reopen ≡ false
 
 -- Why a command was refused. At Device the state is the one after the command: Device is never returned for a command
@@ -48,8 +55,8 @@ pub record Accepts {D : Type 0} (old : StoreView D) (command : Command) (new : S
 abbrev pub RefusesCommand : {D : Type 0} → StoreView D → Command → StoreView D → StoreFault → Type 0
 RefusesCommand old command new Reopen = Unit {0}
 RefusesCommand old command new OutOfMemory = Unit {0}
-RefusesCommand old command new Device = outcome old.size old.state command ≡ Ok new.state
-RefusesCommand old command new fault = outcome old.size old.state command ≡ Err fault
+RefusesCommand old command new Device = outcome (journal_length old) old.state command ≡ Ok new.state
+RefusesCommand old command new fault = outcome (journal_length old) old.state command ≡ Err fault
 
 -- the device failed during the call, or its failures were at their greatest number before
 abbrev pub HasFailed : ℕ → ℕ → Type 0

@@ -1,15 +1,17 @@
 -- What an open store keeps on its disk, and what a crash leaves of it.
-use Rattle.std.specs.Prelude.{◌≡◌, ◌≤◌, ℕ, ◌+◌, List, [], length, take, Option, Some, Ok}
+use Rattle.std.specs.Prelude.{◌≡◌, ◌≤◌, ℕ, ◌+◌, Bool, false, List, [], ◌++◌, length, take, Option, Some, None, option_map, Ok}
 use Rattle.yaml_grammar.specs.Closings.{Pieces}
-use Rattle.conf_disk.specs.Folder.{File, Folder}
+use Rattle.conf_disk.specs.Folder.{File, Folder, bytes_under}
 use Rattle.conf_disk.specs.Image.{Image, IsImage, synced_file}
-use Rattle.conf_journal.specs.Held.{HoldsStore}
+use Rattle.conf_disk.specs.declared.disk.Name.TheVariants.{Next}
+use Rattle.conf_journal.specs.Held.{HoldsStore, file_at}
 use Rattle.conf_journal.specs.Store.{store_limit}
 use Rattle.conf_state.specs.Commands.{Command}
 use Rattle.conf_state.specs.States.{Contents}
 use Rattle.conf_state.specs.Steps.{after}
 use Rattle.conf_record.specs.Documents.{record_pieces, records_bytes}
 use Rattle.conf_store.specs.Meaning.{AreRecords, PiecesMean, FileMeans}
+use Rattle.conf_store.specs.Staged.{Staged}
 
 -- The bytes mean `s`, and end with a closing line: nothing follows the last piece.
 pub record IsWholeStore (bytes : List ℕ) (s : Contents) : Type 0 where
@@ -25,6 +27,24 @@ pub record IsJournal (file : File) (flushed : Contents) (since : List Command) (
   pub are_records : AreRecords flushed.count (record_pieces flushed.count since) since
   pub leads : after flushed since ≡ Ok s
   pub short : length file.synced + length file.pending ≤ store_limit
+
+-- What is flushed of an open store whose state is `s`, and which commands were submitted since: in the last stage, the
+-- synced bytes of `store.yaml` mean `flushed`, and its pending bytes are the records of `since`.
+pub record HasFlushed (folder : Folder) (flushed : Contents) (since : List Command) (s : Contents) : Type 0 where
+  pub file : File
+  pub is : file_at folder.files folder.now.store ≡ Some file
+  pub journal : IsJournal file flushed since s
+
+-- Every stage of the folder has one and the same `store.yaml`, of `size` bytes. Its synced bytes mean a state, and its
+-- pending bytes are the records of the commands that were submitted since. If none `waits`, nothing is pending.
+pub record IsHeld (folder : Folder) (s : Contents) (size : ℕ) (waits : Bool) : Type 0 where
+  pub file : File
+  pub holds : HoldsStore folder (Some file)
+  pub flushed : Contents
+  pub since : List Command
+  pub journal : IsJournal file flushed since s
+  pub long : length file.synced + length file.pending ≡ size
+  pub none : waits ≡ false → since ≡ []
 
 -- Every stage of the folder has one and the same `store.yaml`. All its bytes are synced, there are `size` of them, and
 -- they mean `s`.
@@ -45,3 +65,38 @@ pub record AfterPrefix (s : Contents) (commands : List Command) (file : Option (
   pub state : Contents
   pub leads : after s (take count commands) ≡ Ok state
   pub means : FileMeans file state
+
+-- whatever a crash now leaves means the state after a prefix of the commands
+abbrev pub AllImagesAfterPrefix : Folder → Contents → List Command → Type 0
+AllImagesAfterPrefix folder flushed since =
+    (image : Image) → IsImage folder image → AfterPrefix flushed since image.store
+
+-- ---- laws
+
+-- the disk says in one way at most what is flushed, which commands wait, and to which state they lead
+abbrev pub OneFlushed : Type 0
+OneFlushed = (folder : Folder) (flushed other : Contents) (since others : List Command) (s t : Contents)
+    → HasFlushed folder flushed since s → HasFlushed folder other others t
+    → (flushed ≡ other) × (since ≡ others) × (s ≡ t)
+
+-- the state after a prefix of no commands is the state
+abbrev pub NothingWaits : Type 0
+NothingWaits = (s : Contents) (file : Option (List ℕ)) → AfterPrefix s [] file → FileMeans file s
+
+-- ---- a checkpoint that runs
+
+-- the new file: what `next.yaml` reads as, and then what is left to append
+abbrev pub staged_text : Folder → Option Staged → Option (List ℕ)
+staged_text folder None = None
+staged_text folder (Some staged) = option_map (λ (start : List ℕ). start ++ staged.left) (bytes_under folder Next)
+
+-- As many bytes as were written are in `next.yaml`. Together with what is left they are a whole store that means `s`.
+pub record IsStaged (folder : Folder) (s : Contents) (staged : Staged) : Type 0 where
+  pub start : List ℕ
+  pub reads : bytes_under folder Next ≡ Some start
+  pub long : length start ≡ staged.written
+  pub whole : IsWholeStore (start ++ staged.left) s
+
+abbrev pub IsStaging : Folder → Contents → Option Staged → Type 0
+IsStaging folder s None = Unit {0}
+IsStaging folder s (Some staged) = IsStaged folder s staged

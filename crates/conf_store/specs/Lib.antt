@@ -1,9 +1,12 @@
 pub mod Meaning
+pub mod Staged
 pub mod Durable
 pub mod View
 pub mod Calls
+pub mod Slices
 pub mod Faults
 pub mod Accepting
 pub mod Opens
+pub mod Files
 pub mod Lives
 pub mod Imports

@@ -1,26 +1,53 @@
 // Laws of the definitions.
 ghost use Rattle.conf_store.specs.Calls.{RecordsAreMeasured};
+ghost use Rattle.conf_store.specs.Durable.{OneFlushed, NothingWaits};
 ghost use Rattle.conf_store.specs.Lives.{LivesHold};
 ghost use Rattle.conf_store.specs.Opens.{OneMeaning, RefusedMeansNothing, RecoveredIsMeant};
 
-use conf_record::documents_are_read;
+use conf_record::{documents_are_read, documents_close};
 use yaml_recognizers::closings::one_list_of_pieces;
 
 /// Whatever crashes happen, no acknowledged command is lost, and no command is kept that was not accepted.
 ///
-/// A life is what happens to a store from one opening to the next crash: calls with their results, the last one perhaps
-/// cut off. Take any list of lives, each starting in the state in which the one before ended. The last state is the
-/// first one after a list of commands. This list has, for each life in turn, a prefix of the commands that it accepted.
-/// The prefix holds every command that was acknowledged, which means that its call returned `Ok`.
+/// A life is what happens to a store from one opening to the next: calls with what they returned, the last one perhaps
+/// cut off by a crash. Between two calls there are a state that is flushed, a list of commands that wait, and perhaps a
+/// checkpoint that runs. At the start nothing waits and none runs. Of the calls that return `Ok`,
 ///
-/// That the calls of a [`Store`](crate::Store) on an honest disk are such lives is what their contracts say. `now` says
-/// that a crash between two calls leaves the state, and `any_moment` that one within a call leaves the state before it
-/// or the one after it. `ok`, `refused` and `unchanged` say in which state the life goes on. `reopen` says that after
-/// `Device` only `Reopen` follows. `open` has the same clauses: it changes no meaning, and its state is what
-/// `store.yaml` means.
+/// - `submit` adds its command to those that wait;
+/// - `flush`, `apply` and `import` flush all commands that wait, the two with their own command as the last;
+/// - `checkpoint`, and a `slice` that is done, flush them too, and end a checkpoint that runs;
+/// - `begin_checkpoint`, and a `slice` that is not done, leave what is flushed and what waits.
+///
+/// A refusal changes nothing, and after `Device` only `Reopen` follows. A crash between two calls leaves the flushed
+/// state after a prefix of the commands that wait, and so it may be after a close. A crash within a call, or `Device`,
+/// leaves what one before the call or after it would.
+///
+/// A command is accepted if the state allows it and its call returned `Ok`, returned `Device` or was cut off. It is
+/// acknowledged if its own call or a later one of the same life returned `Ok` and flushed.
+///
+/// Take any list of lives, each starting in the state in which the one before ended. The last state is the first one
+/// after a list of commands. This list has, for each life in turn, a prefix of the commands that it accepted. The
+/// prefix holds every command that was acknowledged.
+///
+/// That the calls of a [`Store`](crate::Store) on an honest disk are such lives is what their contracts say. `ok`,
+/// `waits` and `flushed` say what is flushed after a call, and what waits; `unchanged`, that a refusal changes nothing;
+/// `device` and `reopen`, that after `Device` only `Reopen` follows. `any_moment` says what a crash within a call
+/// leaves, and `now` of `needs_reopen` what one between two calls leaves. An opening begins a life, in the state that
+/// `store.yaml` means. One that was refused or cut off is a life without calls, since it changes no meaning.
 pub fn lives_hold()
     ensures { LivesHold }
 {}
+
+/// What is flushed, and which commands wait, is read from the disk alone, in one way at most. Where none waits, the
+/// state after a prefix of what waits is the state itself.
+pub fn one_state_is_flushed()
+    ensures one { OneFlushed }
+    ensures nothing { NothingWaits }
+{
+    documents_are_read();
+    documents_close();
+    one_list_of_pieces();
+}
 
 /// Bytes mean at most one state; it is the one that opening recovers, and bytes that opening refuses mean none.
 pub fn bytes_mean_one_state()

@@ -1,8 +1,18 @@
 //! A crash-safe store of named configurations in a folder.
 //!
-//! [`Store::open`] reads the state that `store.yaml` means. [`Store::apply`], [`Store::import`] and
-//! [`Store::checkpoint`] change it, and are synced when they return. After a crash at any moment, opening finds the
-//! state after a prefix of the accepted commands, with every command for which `Ok` was returned ([`lives_hold`]).
+//! [`Store::open`] reads the state that `store.yaml` means. Commands change the state, and each adds a record to the
+//! file:
+//!
+//! - [`Store::apply`] and [`Store::import`] perform one command and sync it. It is acknowledged when they return `Ok`.
+//! - [`Store::submit`] performs a command without a sync: it waits. [`Store::flush`] acknowledges all commands that
+//!   wait, by one sync.
+//!
+//! A checkpoint puts a base of the state in the place of the base and the records. [`Store::checkpoint`] does so in one
+//! call. [`Store::begin_checkpoint`] and [`Store::slice`] write the new file in slices, and commands go on between
+//! them.
+//!
+//! After a crash at any moment, opening finds the state after a prefix of the accepted commands, with every command
+//! that was acknowledged ([`lives_hold`]).
 #![tactic(auto)]
 
 mod accepting;
@@ -12,9 +22,12 @@ mod importing;
 mod laws;
 mod opening;
 mod recovery;
+mod slicing;
+mod staging;
 mod store;
 
 pub use fault::OpenFault;
-pub use laws::{bytes_mean_one_state, lives_hold, records_are_measured};
+pub use laws::{bytes_mean_one_state, lives_hold, one_state_is_flushed, records_are_measured};
 pub use recovery::Opened;
+pub use slicing::Progress;
 pub use store::Store;

@@ -1,15 +1,86 @@
 //! confstore: a crash-safe store of named configuration trees, and tools for their texts. What it does is in
 //! [`conf_tools`].
+//!
+//! A standard stream that is closed at the start is a stream whose reads or writes fail. Else the first file that is
+//! opened would have its number: the answers, or the commands, would be those of a store's own file.
 #![tactic(auto)]
 
-use conf_tools::{perform, refuse_words};
+use conf_tools::{ToolFault, perform, refuse_words};
+use std::fs::{File, OpenOptions};
+use std::io::Write;
+use std::os::fd::AsFd;
 use std::process::ExitCode;
 use std::{env, io};
+
+/// The status where a closed stream can't be held.
+const DEVICE: u8 = 3;
+
+/// The system's number for the error of a descriptor that is not open.
+const NOT_OPEN: i32 = 9;
+
+/// What has the numbers of the standard streams that are closed, as long as it lives.
+#[derive(Drop)]
+struct Held {
+    _input: Option<File>,
+    _output: Option<File>,
+    _errors: Option<File>,
+}
+
+impl Held {
+    /// Opens /dev/null for each stream that is closed, and the wrong way round: input for writing and output for
+    /// reading, so that a read or a write fails. Each takes the lowest number that is free, which is the stream's own
+    /// since those below it are open by then.
+    ///
+    /// # Errors
+    /// The fault of the stream for which /dev/null can't be opened.
+    fn new(rt: &HostRuntime) -> Result<Held, ToolFault> {
+        let (input, output, errors) = (rt.stdin(), rt.stdout(), rt.stderr());
+        let mut to_write = OpenOptions::new();
+        to_write.write(true);
+        let mut to_read = OpenOptions::new();
+        to_read.read(true);
+        Ok(Held {
+            _input: hold(rt, &input, &to_write, ToolFault::Input)?,
+            _output: hold(rt, &output, &to_read, ToolFault::Output)?,
+            _errors: hold(rt, &errors, &to_read, ToolFault::Output)?,
+        })
+    }
+}
+
+/// Opens /dev/null if a stream is closed.
+fn hold<S: AsFd>(
+    rt: &HostRuntime,
+    stream: &S,
+    how: &OpenOptions,
+    fault: ToolFault,
+) -> Result<Option<File>, ToolFault> {
+    if !is_closed(stream) {
+        return Ok(None);
+    }
+    match how.open(rt, "/dev/null") {
+        Ok(file) => Ok(Some(file)),
+        Err(_) => Err(fault),
+    }
+}
+
+fn is_closed<S: AsFd>(stream: &S) -> bool {
+    match stream.as_fd().try_clone_to_owned() {
+        Ok(_) => false,
+        Err(error) => error.raw_os_error() == Some(NOT_OPEN),
+    }
+}
 
 fn main(rt: HostRuntime) -> ExitCode {
     let alloc = rt.alloc();
     let stderr = rt.stderr();
     let mut errors = io::writer(&stderr);
+    let _held = match Held::new(&rt) {
+        Ok(held) => held,
+        Err(fault) => {
+            let _ = writeln!(errors, "confstore: {fault}");
+            return ExitCode::from(DEVICE);
+        }
+    };
     let words = match env::args(&rt).and_then(|words| Ok(words.collect::<Vec<String>>(alloc)?)) {
         Ok(words) => words,
         Err(error) => return ExitCode::from(refuse_words(&mut errors, &error)),

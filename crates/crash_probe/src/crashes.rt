@@ -26,7 +26,7 @@ const CUT: usize = 53;
 const BASES: [usize; 4] = [47, 51, 51, 47];
 
 /// The cuts that keep so many bytes and zeros of one file.
-fn cuts_of(name: Name, cut: (usize, usize)) -> Cuts {
+pub(crate) fn cuts_of(name: Name, cut: (usize, usize)) -> Cuts {
     match name {
         Name::Store => Cuts {
             store: cut,

@@ -8,6 +8,13 @@
 //!
 //! - `crash;CALLS`: a run of commands is cut off after so many calls of its disk. The answer is how many images a crash
 //!   leaves then, each of which is opened, and how many more after each of their openings was cut off.
+//! - `waiting;CALLS`: three commands are submitted and then flushed, over a disk that stops after so many calls. The
+//!   answer is how many of the images that a crash leaves have how many of the commands.
+//! - `lists;LENGTH`: each list of so many calls, which are submit, flush, slice (a checkpoint begins if none runs),
+//!   checkpoint, apply, and close and open. It is stopped after each disk call of its last call, and what a crash leaves
+//!   is cut at the ends of records and beside them. Each image is opened, and its store goes on. The answer is how many
+//!   lists, stops and images there are. `lists again;LENGTH`: each opening is cut off too, and the answer has how many
+//!   images that leaves, each of which is opened.
 //! - `device;FUSE;CALLS`: the worked session over a disk that lets so many calls pass. Then all fail (`stop`), or one
 //!   fails, which has no effect (`undone`) or has it (`done`). The answer is how the session ends, whether the store
 //!   has to be opened again, how many bytes are answered, the count that the file has then, and the count that it has
@@ -21,10 +28,17 @@
 mod crashes;
 mod cuts;
 mod device;
+mod list_calls;
+mod list_images;
+mod list_openings;
+mod list_stages;
+mod lists;
 mod orders;
+mod pairs;
 mod run;
 mod session_orders;
 mod states;
+mod waiting;
 mod worked;
 mod wrong;
 mod wrong_session;

@@ -60,7 +60,7 @@ pub(crate) struct Counts {
 
 impl Counts {
     /// Whether an image may have this count.
-    fn contains(self, count: u64) -> bool {
+    pub(crate) fn contains(self, count: u64) -> bool {
         self.least <= count && count <= self.most
     }
 }
@@ -121,8 +121,17 @@ pub(crate) fn open_image(alloc: Global, image: MemoryDisk, counts: Counts) -> Re
     }
 }
 
+/// The command that imports `x` as `a`.
+pub(crate) fn import_a(alloc: Global) -> Result<Command, StoreFault> {
+    let name = String::from_str(alloc, "a")?;
+    match read_one(alloc, b"x", &Limits::CONFIGURATION) {
+        Ok(tree) => Ok(Command::Import { name, tree }),
+        Err(fault) => Err(StoreFault::Read(fault)),
+    }
+}
+
 /// The command that sets `a` to `z`.
-fn set_a(alloc: Global) -> Result<Command, StoreFault> {
+pub(crate) fn set_a(alloc: Global) -> Result<Command, StoreFault> {
     let name = String::from_str(alloc, "a")?;
     let path = String::new(alloc);
     match read_one(alloc, b"z", &Limits::CONFIGURATION) {
@@ -132,7 +141,7 @@ fn set_a(alloc: Global) -> Result<Command, StoreFault> {
 }
 
 /// The command that deletes `a`.
-fn delete_a(alloc: Global) -> Result<Command, AllocError> {
+pub(crate) fn delete_a(alloc: Global) -> Result<Command, AllocError> {
     let name = String::from_str(alloc, "a")?;
     let path = String::new(alloc);
     Ok(Command::Delete { name, path })

@@ -17,6 +17,8 @@ pub(crate) enum Wrong {
     Left(StateFault),
     /// It has this count.
     Count(u64),
+    /// A checkpoint is not done after its last slice.
+    NotDone,
     /// Out of memory.
     OutOfMemory,
 }
@@ -24,6 +26,12 @@ pub(crate) enum Wrong {
 impl From<AllocError> for Wrong {
     fn from(_: AllocError) -> Wrong {
         Wrong::OutOfMemory
+    }
+}
+
+impl From<StoreFault> for Wrong {
+    fn from(fault: StoreFault) -> Wrong {
+        Wrong::Call(Err(fault))
     }
 }
 

@@ -1,4 +1,5 @@
 // Calls of an open store.
+use crate::groups::{begin, flush, running, slice, slices, submit};
 use crate::sessions::{copies, failing, parts, roomy};
 use crate::store_commands::{delete, set};
 use conf_state::{Command, StoreFault};
@@ -26,6 +27,12 @@ pub(crate) fn call(
         ["import", name, text] => import(alloc, store, name, text),
         ["set", name, path, value] => apply(alloc, store, set(alloc, name, path, value)),
         ["delete", name, path] => apply(alloc, store, delete(alloc, name, path)),
+        ["submit", client, words @ ..] => submit(alloc, store, number_of(client), words),
+        ["flush"] => flush(alloc, store),
+        ["begin"] => begin(alloc, store),
+        ["slice"] => slice(alloc, store),
+        ["slices"] => slices(alloc, store),
+        ["running"] => running(alloc, store),
         ["checkpoint"] => checkpoint(alloc, store),
         ["count"] => count(alloc, store),
         ["names"] => names(alloc, store),
@@ -43,7 +50,10 @@ pub(crate) fn call(
 }
 
 /// The count, or why a command is refused.
-fn counted(alloc: Global, answer: Result<u64, StoreFault>) -> Result<String, AllocError> {
+pub(crate) fn counted(
+    alloc: Global,
+    answer: Result<u64, StoreFault>,
+) -> Result<String, AllocError> {
     match answer {
         Ok(count) => format!(in alloc; "{count}"),
         Err(fault) => format!(in alloc; "{fault:?}"),
@@ -75,7 +85,12 @@ fn apply(
 
 /// Makes a checkpoint.
 fn checkpoint(alloc: Global, store: &mut FusedStore) -> Result<String, AllocError> {
-    match store.checkpoint() {
+    done(alloc, store.checkpoint())
+}
+
+/// Whether a call is done, or why it is refused.
+pub(crate) fn done(alloc: Global, answer: Result<(), StoreFault>) -> Result<String, AllocError> {
+    match answer {
         Ok(()) => String::from_str(alloc, "done"),
         Err(fault) => format!(in alloc; "{fault:?}"),
     }

@@ -16,6 +16,15 @@
 //! On the open store:
 //!
 //! - `import;NAME;TEXT`, `set;NAME;PATH;TREE` and `delete;NAME;PATH`: the count after it, or why it is refused.
+//! - `submit;CLIENT;` before such a command: submits it for the client of this number, without a sync. The answer is the
+//!   same.
+//! - `flush`: syncs what was submitted. The answer is `done`, or why it is refused.
+//! - `begin`: begins a checkpoint in slices. The answer is `done`, or why it is refused; `a checkpoint runs`, and no
+//!   call, if one runs.
+//! - `slice`: writes the next slice. The answer is how many bytes are `left`, or `done`, or why it is refused; `no
+//!   checkpoint runs`, and no call, if none runs. `slices` writes all that are left: how many there were, or why one was
+//!   refused.
+//! - `running`: whether a checkpoint runs.
 //! - `checkpoint`, `count`, `names`, `export;NAME`, `get;NAME;PATH` and `reopen`: the call of this name, the last one
 //!   for whether the store has to be opened again.
 //! - `session;TEXT`: a session on this input. The answer is how it ends, how many bytes of its input are not read, and
@@ -29,6 +38,7 @@
 
 mod calls;
 mod folders;
+mod groups;
 mod orders;
 mod sessions;
 mod store_commands;

@@ -6,10 +6,10 @@ use Rattle.conf_state.specs.Commands.{command_of}
 use Rattle.conf_session.specs.Said.{import_text, change, get_at, export_of, checkpoint_now}
 use Rattle.conf_session.specs.Requests.{MeansRequest, changing, checkpointing, getting, exporting, naming, bad}
 use Rattle.conf_session.specs.Said.{said_of}
-use Rattle.conf_session.specs.Replies.{DidSaid}
+use Rattle.conf_session.specs.Replies.{DidSaid, is_at_once}
 use Rattle.conf_session.specs.declared.reply.Reply.TheVariants.{NoCommand}
 use Rattle.conf_session.proofs.LengthLemmas.{bad-short}
-use Rattle.conf_session.proofs.RequestLemmas.{did-said, said-read}
+use Rattle.conf_session.proofs.RequestLemmas.{did-said, did-checkpoint, said-read}
 use Rattle.conf_session.proofs.reply.answer_said.Goals as goal
 
 pub returns-in-Import-clause-did : goal.returns-in-Import-clause-did
@@ -17,7 +17,7 @@ returns-in-Import-clause-did g c off =
     let d = g.D.Disk in
     let same : import_text (chars (text_bytes c.in-Import.name)) (chars c.deref.result.now) ≡ said_of c.args.said =
     ap (λ b. import_text (chars (text_bytes c.in-Import.name)) (chars b)) c.deref.ensures ∙ sym (ap said_of c.in-Import.is) in
-    subst (λ s. DidSaid d.honest d.folder d.moment d.left c.args.store.now c.import.new.store s c.import.result) same (c.import.ensures.did off)
+    subst (λ s. DidSaid (is_at_once c.args.way) d.honest d.folder d.moment d.left c.args.store.now c.import.new.store s c.import.result) same (c.import.ensures.did off)
 
 pub returns-in-Import-clause-cause : goal.returns-in-Import-clause-cause
 returns-in-Import-clause-cause g c = c.import.ensures.cause
@@ -32,8 +32,8 @@ pub returns-in-Change-clause-did : goal.returns-in-Change-clause-did
 returns-in-Change-clause-did g c off =
     let d = g.D.Disk in
     let command = command_of c.in-Change.command in
-    subst (λ s. DidSaid d.honest d.folder d.moment d.left c.args.store.now c.change.new.store s c.change.result) (sym (ap said_of c.in-Change.is))
-    (did-said d.honest d.folder d.moment d.left c.args.store.now c.change.new.store (change command) (changing command) refl c.change.result (c.change.ensures.did off))
+    subst (λ s. DidSaid (is_at_once c.args.way) d.honest d.folder d.moment d.left c.args.store.now c.change.new.store s c.change.result) (sym (ap said_of c.in-Change.is))
+    (did-said (is_at_once c.args.way) d.honest d.folder d.moment d.left c.args.store.now c.change.new.store (change command) (changing command) refl c.change.result (c.change.ensures.did off))
 
 pub returns-in-Change-clause-cause : goal.returns-in-Change-clause-cause
 returns-in-Change-clause-cause g c = c.change.ensures.cause
@@ -47,8 +47,9 @@ returns-in-Change-clause-now g c = c.change.ensures.now
 pub returns-in-Checkpoint-clause-did : goal.returns-in-Checkpoint-clause-did
 returns-in-Checkpoint-clause-did g c off =
     let d = g.D.Disk in
-    subst (λ s. DidSaid d.honest d.folder d.moment d.left c.args.store.now c.checkpoint.new.store s c.checkpoint.result) (sym (ap said_of c.in-Checkpoint.is))
-    (did-said d.honest d.folder d.moment d.left c.args.store.now c.checkpoint.new.store checkpoint_now checkpointing refl c.checkpoint.result (c.checkpoint.ensures.did off))
+    subst (λ s. DidSaid (is_at_once c.args.way) d.honest d.folder d.moment d.left c.args.store.now c.checkpoint.new.store s c.checkpoint.result) (sym (ap said_of c.in-Checkpoint.is))
+    (did-said (is_at_once c.args.way) d.honest d.folder d.moment d.left c.args.store.now c.checkpoint.new.store checkpoint_now checkpointing refl c.checkpoint.result
+    (did-checkpoint (is_at_once c.args.way) d.honest d.folder d.moment d.left c.args.store.now c.checkpoint.new.store c.checkpoint.result (c.checkpoint.ensures.did off)))
 
 pub returns-in-Checkpoint-clause-cause : goal.returns-in-Checkpoint-clause-cause
 returns-in-Checkpoint-clause-cause g c = c.checkpoint.ensures.cause
@@ -57,7 +58,7 @@ pub returns-in-Checkpoint-clause-risen : goal.returns-in-Checkpoint-clause-risen
 returns-in-Checkpoint-clause-risen g c = c.checkpoint.ensures.risen
 
 pub returns-in-Checkpoint-clause-now : goal.returns-in-Checkpoint-clause-now
-returns-in-Checkpoint-clause-now g c = c.checkpoint.ensures.now
+returns-in-Checkpoint-clause-now g c at = c.checkpoint.ensures.now
 
 pub returns-in_ok-get_answer-in-Get-clause-did : goal.returns-in_ok-get_answer-in-Get-clause-did
 returns-in_ok-get_answer-in-Get-clause-did g c off =
@@ -66,7 +67,7 @@ returns-in_ok-get_answer-in-Get-clause-did g c off =
     let path = chars c.deref-in-Get-2.result.now in
     let same : get_at name path ≡ said_of c.args.said =
     ap (λ b. get_at (chars b) path) c.deref-in-Get.ensures ∙ ap (λ b. get_at (chars (text_bytes c.in-Get.name)) (chars b)) c.deref-in-Get-2.ensures ∙ sym (ap said_of c.in-Get.is) in
-    said-read d.honest d.folder d.moment d.left c.args.store.now off (λ image h is. g.met.D.Disk.only_now c.args.store.now.disk image h is) c.requires.means
+    said-read (is_at_once c.args.way) d.honest d.folder d.moment d.left c.args.store.now off (λ image h is. g.met.D.Disk.only_now c.args.store.now.disk image h is) c.requires.means
     (said_of c.args.said) (getting name path) (subst (λ s. MeansRequest s (getting name path)) same refl) tt c.in_ok-get_answer-in-Get.field-0 c.in_ok-get_answer-in-Get.ensures
 
 pub returns-in_ok-export_answer-in-Export-clause-did : goal.returns-in_ok-export_answer-in-Export-clause-did
@@ -74,17 +75,17 @@ returns-in_ok-export_answer-in-Export-clause-did g c off =
     let d = g.D.Disk in
     let name = chars c.deref-in-Export.result.now in
     let same : export_of name ≡ said_of c.args.said = ap (λ b. export_of (chars b)) c.deref-in-Export.ensures ∙ sym (ap said_of c.in-Export.is) in
-    said-read d.honest d.folder d.moment d.left c.args.store.now off (λ image h is. g.met.D.Disk.only_now c.args.store.now.disk image h is) c.requires.means
+    said-read (is_at_once c.args.way) d.honest d.folder d.moment d.left c.args.store.now off (λ image h is. g.met.D.Disk.only_now c.args.store.now.disk image h is) c.requires.means
     (said_of c.args.said) (exporting name) (subst (λ s. MeansRequest s (exporting name)) same refl) tt c.in_ok-export_answer-in-Export.field-0 c.in_ok-export_answer-in-Export.ensures
 
 pub returns-in-Nothing-clause-did : goal.returns-in-Nothing-clause-did
 returns-in-Nothing-clause-did g c off =
     let d = g.D.Disk in
-    said-read d.honest d.folder d.moment d.left c.args.store.now off (λ image h is. g.met.D.Disk.only_now c.args.store.now.disk image h is) c.requires.means
+    said-read (is_at_once c.args.way) d.honest d.folder d.moment d.left c.args.store.now off (λ image h is. g.met.D.Disk.only_now c.args.store.now.disk image h is) c.requires.means
     (said_of c.args.said) bad (subst (λ s. MeansRequest s bad) (sym (ap said_of c.in-Nothing.is)) refl) tt NoCommand (record { bytes = refl; accepted = refl; refused = refl; short = bad-short })
 
 pub returns-in_ok-names_answer-in-Names-clause-did : goal.returns-in_ok-names_answer-in-Names-clause-did
 returns-in_ok-names_answer-in-Names-clause-did g c off =
     let d = g.D.Disk in
-    said-read d.honest d.folder d.moment d.left c.args.store.now off (λ image h is. g.met.D.Disk.only_now c.args.store.now.disk image h is) c.requires.means
+    said-read (is_at_once c.args.way) d.honest d.folder d.moment d.left c.args.store.now off (λ image h is. g.met.D.Disk.only_now c.args.store.now.disk image h is) c.requires.means
     (said_of c.args.said) naming (subst (λ s. MeansRequest s naming) (sym (ap said_of c.in-Names.is)) refl) tt c.in_ok-names_answer-in-Names.field-0 c.in_ok-names_answer-in-Names.ensures

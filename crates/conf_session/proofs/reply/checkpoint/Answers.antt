@@ -1,5 +1,5 @@
 -- What the store did at the checkpoint.
-use Rattle.std.proofs.Common.{sym, ap, ◌∙◌, refl}
+use Rattle.std.proofs.Common.{rules, ◌≡◌, true, sym, ap, ◌∙◌, refl}
 use Rattle.std.proofs.lemmas.Bool.{false≢true}
 use Rattle.std.proofs.lemmas.Result.{err_from_is_err_and}
 use Rattle.std.specs.Prelude.{decimal, codes, Err}
@@ -9,7 +9,7 @@ use Rattle.conf_session.specs.Answers.{one}
 use Rattle.conf_session.specs.Requests.{checkpointing}
 use Rattle.conf_session.specs.Runs.{stored_of}
 use Rattle.conf_session.proofs.LengthLemmas.{answer-short}
-use Rattle.conf_session.proofs.RequestLemmas.{checkpointed}
+use Rattle.conf_session.proofs.RequestLemmas.{checkpointed, synced-leaves, leaves-same}
 use Rattle.conf_session.proofs.reply.checkpoint.Goals as goal
 
 -- ---- what the store did
@@ -27,7 +27,7 @@ returns-in-Ok-clause-did g c off =
         short = answer-short (stored_of old) checkpointing c.count.ensures.limits;
       },
       ok.0,
-      checkpointed d.honest d.folder d.moment d.left old new c.checkpoint.ensures.state (λ on. ok.1) (λ h on. c.in-Ok.ensures.reads h) (λ h. c.in-Ok.ensures.any_moment h off),
+      checkpointed true d.honest d.folder d.moment d.left old new c.checkpoint.ensures.state (λ on. (ok.1, ok.2)) (λ h on. c.in-Ok.ensures.reads h) (λ h. c.in-Ok.ensures.any_moment h off) (λ h on. c.in-Ok.ensures.flushed h),
     )
 
 pub returns-in-Err-Device-clause-did : goal.returns-in-Err-Device-clause-did
@@ -35,7 +35,8 @@ returns-in-Err-Device-clause-did g c off =
     let d = g.D.Disk in
     let broken = c.in-Err-Device.ensures.device (ap Err c.in-Err-Device.field-0-is) in (
       broken,
-      checkpointed d.honest d.folder d.moment d.left c.args.store.now c.checkpoint.new.self c.checkpoint.ensures.state (λ on. absurd (cc (on, broken))) (λ h on. absurd (cc (on, broken))) (λ h. c.in-Err-Device.ensures.any_moment h off),
+      checkpointed true d.honest d.folder d.moment d.left c.args.store.now c.checkpoint.new.self c.checkpoint.ensures.state (λ on. absurd (cc (on, broken))) (λ h on. absurd (cc (on, broken))) (λ h. c.in-Err-Device.ensures.any_moment h off)
+          (λ h on. absurd (cc (on, broken))),
     )
 
 -- ---- failures of the device, and what a crash leaves
@@ -56,7 +57,7 @@ pub returns-in-Ok-clause-risen : goal.returns-in-Ok-clause-risen
 returns-in-Ok-clause-risen g c = c.checkpoint.ensures.risen
 
 pub returns-in-Ok-clause-now : goal.returns-in-Ok-clause-now
-returns-in-Ok-clause-now g c = c.checkpoint.ensures.now
+returns-in-Ok-clause-now g c h on = synced-leaves (g.D.Disk.folder c.checkpoint.new.self.disk) c.checkpoint.new.self.state (c.in-Ok.ensures.now h)
 
 pub returns-in-Err-Device-clause-cause : goal.returns-in-Err-Device-clause-cause
 returns-in-Err-Device-clause-cause g c e = c.checkpoint.ensures.cause (c.in-Err-Device.is ∙ ap Err c.in-Err-Device.field-0-is)
@@ -65,7 +66,7 @@ pub returns-in-Err-Device-clause-risen : goal.returns-in-Err-Device-clause-risen
 returns-in-Err-Device-clause-risen g c = c.checkpoint.ensures.risen
 
 pub returns-in-Err-Device-clause-now : goal.returns-in-Err-Device-clause-now
-returns-in-Err-Device-clause-now g c = c.checkpoint.ensures.now
+returns-in-Err-Device-clause-now g c h on = absurd (false≢true (sym on ∙ c.in-Err-Device.ensures.device (ap Err c.in-Err-Device.field-0-is)))
 
 pub returns-in-Err-Reopen-clause-did : goal.returns-in-Err-Reopen-clause-did
 returns-in-Err-Reopen-clause-did g c off = absurd (false≢true (sym off ∙ c.checkpoint.ensures.reopen.0 (c.in-Err-Reopen.is ∙ ap Err c.in-Err-Reopen.field-0-is)))
@@ -77,7 +78,8 @@ pub returns-in-Err-Reopen-clause-risen : goal.returns-in-Err-Reopen-clause-risen
 returns-in-Err-Reopen-clause-risen g c = c.checkpoint.ensures.risen
 
 pub returns-in-Err-Reopen-clause-now : goal.returns-in-Err-Reopen-clause-now
-returns-in-Err-Reopen-clause-now g c = c.checkpoint.ensures.now
+returns-in-Err-Reopen-clause-now g c =
+    leaves-same g.D.Disk.honest g.D.Disk.folder c.args.store.now c.checkpoint.new.self (c.in-Err-Reopen.ensures.unchanged (λ e. cc (e, c.in-Err-Reopen.field-0-is))) c.requires.means
 
 pub returns-clause-cause : goal.returns-clause-cause
 returns-clause-cause g c e = absurd (cc e)
@@ -86,4 +88,6 @@ pub returns-clause-risen : goal.returns-clause-risen
 returns-clause-risen g c = c.checkpoint.ensures.risen
 
 pub returns-clause-now : goal.returns-clause-now
-returns-clause-now g c = c.checkpoint.ensures.now
+returns-clause-now g c =
+    let same : c.checkpoint.new.self ≡ c.args.store.now = search rules in
+    leaves-same g.D.Disk.honest g.D.Disk.folder c.args.store.now c.checkpoint.new.self same c.requires.means

@@ -1,8 +1,8 @@
 -- What was read so far is pieces that were performed and answered, and bytes that are not looked at yet.
 use Rattle.std.proofs.Common.{◌≡◌, ◌≤◌, ◌+◌, ◌-◌, ◌*◌, false, length}
-use Rattle.conf_store.specs.Durable.{AllImagesMean}
 use Rattle.conf_session.specs.Input.{IsSound, ahead, bytes_read, session_limit}
 use Rattle.conf_session.specs.Answers.{answer_limit}
+use Rattle.conf_session.specs.Replies.{LeavesPrefixes}
 use Rattle.conf_session.proofs.SessionLemmas.{SoFar}
 use Rattle.conf_session.proofs.session.run.Given as goal
 
@@ -13,7 +13,7 @@ invariant-pieces g l = let d = g.D.Disk in record {
   input : IsSound l.input;
   so_far : SoFar d.honest d.folder d.moment d.left (g.R.Read.remaining l.fn.reader) (g.R.Read.remaining l.reader) (g.W.Write.contents l.fn.writer) (g.W.Write.contents l.writer)
       l.fn.store l.store (ahead l.input) l.counts (bytes_read l.input);
-  means : d.honest → l.store.reopen ≡ false → AllImagesMean (d.folder l.store.disk) l.store.state;
+  means : d.honest → l.store.reopen ≡ false → LeavesPrefixes (d.folder l.store.disk) l.store.state;
   risen : d.failure_count l.fn.store.disk ≤ d.failure_count l.store.disk;
   few : l.counts.tally.documents + length (ahead l.input) ≤ bytes_read l.input;
   accepted : l.counts.tally.accepted ≤ l.counts.tally.documents;

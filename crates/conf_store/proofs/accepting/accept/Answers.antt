@@ -1,10 +1,11 @@
-use Rattle.std.proofs.Common.{rules, ◌≡◌, inl, inr, ⊎_elim, ◌+◌, min, length, ◌∙◌, ap}
+use Rattle.std.proofs.Common.{rules, ◌≡◌, inl, inr, ⊎_elim, ◌+◌, min, max, length, ◌∙◌, ap}
 use Rattle.std.specs.Prelude.{nat_le, string_bytes}
 use Rattle.conf_journal.specs.Store.{store_limit}
 use Rattle.conf_state.specs.Commands.{command_of}
 use Rattle.conf_state.specs.States.{count_limit}
 use Rattle.conf_record.specs.Records.{record_bytes}
 use Rattle.conf_store.specs.Calls.{next_record}
+use Rattle.conf_store.specs.Staged.{staged_length}
 use Rattle.conf_store.proofs.RefusalLemmas.{of-state}
 use Rattle.conf_store.proofs.StoreLemmas.{accepted, refused-outcome}
 use Rattle.conf_store.proofs.accepting.accept.Goals as goal
@@ -16,10 +17,12 @@ returns-in-Ok-clause-ok c =
     let bytes = string_bytes c.in_ok-record.record in
     let is : bytes ≡ next_record s command =
     c.in_ok-record.ensures.bytes ∙ ap (record_bytes command) (c.saturating_add-number.ensures ∙ ap (λ n. min (n + 1) count_limit) c.count.ensures.count) in
-    let long : c.len.result ≡ length bytes = search rules in (
-      accepted c.steps_are_counted_or_refused.ensures.room c.steps_are_counted_or_refused.ensures.count c.documents_are_read.ensures.records c.documents_close.ensures.records s c.step.new.state command _ bytes c.args.size
+    let longest = max c.args.size (staged_length c.args.staging.now) in
+    let most : c.max-longest.result ≡ longest = search (rules, c.max-longest.ensures, c.len.ensures) in
+    let long : c.len-2.result ≡ length bytes = search rules in (
+      accepted c.steps_are_counted_or_refused.ensures.room c.steps_are_counted_or_refused.ensures.count c.documents_are_read.ensures.records c.documents_close.ensures.records s c.step.new.state command _ bytes longest
           c.count.ensures.limits c.count-in-Ok.ensures.limits c.in_ok-record.ensures.kept c.in-Ok.ensures.ok is
-          (c.within-room.ensures ∙ ap (λ n. nat_le (c.args.size + n) store_limit) long),
+          (c.within-room.ensures ∙ ap (λ n. nat_le (n + c.len-2.result) store_limit) most ∙ ap (λ n. nat_le (longest + n) store_limit) long),
       c.count-in-Ok.ensures.count,
     )
 
@@ -30,9 +33,12 @@ returns-in-Err-clause-refused c =
     let bytes = string_bytes c.in_ok-record.record in
     let is : bytes ≡ next_record s command =
     c.in_ok-record.ensures.bytes ∙ ap (record_bytes command) (c.saturating_add-number.ensures ∙ ap (λ n. min (n + 1) count_limit) c.count.ensures.count) in
-    let long : c.len.result ≡ length bytes = search rules in
+    let longest = max c.args.size (staged_length c.args.staging.now) in
+    let most : c.max-longest.result ≡ longest = search (rules, c.max-longest.ensures, c.len.ensures) in
+    let long : c.len-2.result ≡ length bytes = search rules in
     ⊎_elim (λ memory. inl memory)
-    (λ e. inr (refused-outcome c.args.size s command _ bytes c.in-Err.fault (c.within-room.ensures ∙ ap (λ n. nat_le (c.args.size + n) store_limit) long) is e))
+    (λ e. inr (refused-outcome longest s command _ bytes c.in-Err.fault
+    (c.within-room.ensures ∙ ap (λ n. nat_le (n + c.len-2.result) store_limit) most ∙ ap (λ n. nat_le (longest + n) store_limit) long) is e))
     c.in-Err.ensures.refused
 
 pub returns-in-Err-clause-of_state : goal.returns-in-Err-clause-of_state

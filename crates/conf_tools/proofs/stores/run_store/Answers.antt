@@ -1,8 +1,9 @@
+use Rattle.conf_session.specs.Runs.{stored_of}
 use Rattle.conf_tools.proofs.stores.run_store.Goals as goal
 
 pub returns-in-Err : goal.returns-in-Err
 returns-in-Err g c = record {
-  start = record { state = c.in_ok-store.store.state; size = c.in_ok-store.store.size };
+  start = stored_of c.in_ok-store.store;
   means = λ honest. c.in_ok-store.ensures.means honest;
   answers = record {
     answered = c.in-Err.ensures.runs.answered;

@@ -12,6 +12,7 @@ use Rattle.conf_state.specs.declared.fault.StoreFault.TheVariants.{BadName, Reop
 use Rattle.conf_store.specs.Calls.{Accepts, RefusesCommand, next_record}
 use Rattle.conf_store.specs.Imports.{RefusesImport}
 use Rattle.conf_store.specs.Meaning.{FileMeans}
+use Rattle.conf_store.specs.Durable.{AfterPrefix, staged_text}
 use Rattle.conf_store.proofs.ImportLemmas.{import-refused, unread-refused, unread-of_state}
 use Rattle.conf_store.proofs.store.Store.import.Goals as goal
 
@@ -25,9 +26,6 @@ returns-then-needs_reopen-clause-bad_name g c off = absurd (false≢true (sym of
 
 pub returns-then-needs_reopen-clause-any_moment : goal.returns-then-needs_reopen-clause-any_moment
 returns-then-needs_reopen-clause-any_moment g c h off = absurd (false≢true (sym off ∙ sym c.needs_reopen.ensures.reopen ∙ c.if-needs_reopen.true))
-
-pub returns-then-needs_reopen-clause-now : goal.returns-then-needs_reopen-clause-now
-returns-then-needs_reopen-clause-now g c = c.needs_reopen.ensures.now
 
 -- ---- the command is performed
 
@@ -76,11 +74,27 @@ returns-in-Ok-clause-reads g c h off =
     (λ is. record { tree = made.tree; reads = made.reads; is = is ∙ ap (λ x. file_with_bytes before (next_record old.state x)) made.is })
     (c.apply.ensures.reads h off)
 
+pub returns-in-Ok-clause-stages : goal.returns-in-Ok-clause-stages
+returns-in-Ok-clause-stages g c h off =
+    let d = g.D.Disk in
+    let old = c.args.self.now in
+    let before = staged_text (d.folder old.disk) old.staged in
+    let made = c.in-Ok.ensures.ok in
+    on_ok_weaker c.apply.result
+    (λ is. record { tree = made.tree; reads = made.reads; is = is ∙ ap (λ x. file_with_bytes before (next_record old.state x)) made.is })
+    (c.apply.ensures.stages h off)
+
+pub returns-in-Ok-clause-running : goal.returns-in-Ok-clause-running
+returns-in-Ok-clause-running g c = c.apply.ensures.running
+
 pub returns-in-Ok-clause-any_moment : goal.returns-in-Ok-clause-any_moment
 returns-in-Ok-clause-any_moment g c = c.apply.ensures.any_moment
 
 pub returns-in-Ok-clause-now : goal.returns-in-Ok-clause-now
 returns-in-Ok-clause-now g c = c.apply.ensures.now
+
+pub returns-in-Ok-clause-flushed : goal.returns-in-Ok-clause-flushed
+returns-in-Ok-clause-flushed g c = c.apply.ensures.flushed
 
 -- ---- there is no command
 
@@ -112,11 +126,8 @@ returns-in-Err-clause-cause g c e =
     absurd (own.1 (let same : c.in-Err.fault ≡ Device = cc e in same))
 
 pub returns-in-Err-clause-any_moment : goal.returns-in-Err-clause-any_moment
-returns-in-Err-clause-any_moment g c h off =
+returns-in-Err-clause-any_moment g c h off flushed since has =
     let d = g.D.Disk in
     let old = c.args.self.now in
-    LeavesOnly-start d.moment d.left old.disk (λ image. FileMeans image.store old.state ⊎ FileMeans image.store old.state)
-    (λ image left. inl (c.needs_reopen.ensures.now h off image (g.met.D.Disk.only_now old.disk image h left)))
-
-pub returns-in-Err-clause-now : goal.returns-in-Err-clause-now
-returns-in-Err-clause-now g c = c.needs_reopen.ensures.now
+    LeavesOnly-start d.moment d.left old.disk (λ image. AfterPrefix flushed since image.store ⊎ FileMeans image.store old.state)
+    (λ image left. inl (c.needs_reopen.ensures.now h off flushed since has image (g.met.D.Disk.only_now old.disk image h left)))

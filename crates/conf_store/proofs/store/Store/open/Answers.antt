@@ -1,4 +1,4 @@
-use Rattle.std.proofs.Common.{◌≡◌, ◌⊎◌, ⊎_elim, ◌≤◌, Some, Err, refl, sym, ◌∙◌, ap, subst}
+use Rattle.std.proofs.Common.{arith, false, ◌≡◌, ◌⊎◌, inl, ⊎_elim, ◌≤◌, Some, Err, refl, sym, ◌∙◌, ap, subst}
 use Rattle.std.specs.Prelude.{IfSome}
 use Rattle.conf_disk.specs.Folder.{bytes_under}
 use Rattle.conf_disk.specs.Image.{Image, IsImage}
@@ -7,11 +7,14 @@ use Rattle.conf_disk.specs.declared.disk.Name.TheVariants.{Store}
 use Rattle.conf_disk.proofs.Moments.{LeavesOnly-weaker, LeavesOnly-joined}
 use Rattle.conf_journal.specs.Store.{IsStoreOf, store_limit}
 use Rattle.conf_state.specs.BaseTexts.{base_bytes}
-use Rattle.conf_store.specs.Durable.{IsDurable}
+use Rattle.conf_store.specs.Durable.{IsDurable, IsStaging}
+use Rattle.conf_store.specs.Staged.{staged_length}
 use Rattle.conf_store.specs.Meaning.{FileMeans}
 use Rattle.conf_store.specs.Opens.{MeantAtEntry}
+use Rattle.conf_store.specs.Files.{FilesStay, IsOldOrBase, LeavesOldOrBase}
 use Rattle.conf_store.proofs.OpenLemmas.{image-meant, loaded-meant, state-meant, found-means, found-durable, failed-later, reads-stays, reads-staged, refused-nothing, disk-refused, disk-no-meaning, disk-device}
-use Rattle.conf_store.proofs.StoreLemmas.{durable-means}
+use Rattle.conf_store.proofs.HeldLemmas.{durable-held, held-means}
+use Rattle.conf_store.proofs.FileLemmas.{held-length, files-stay, images-old, not-needed, disk-memory, base-leaves, base-reads}
 use Rattle.conf_store.proofs.store.Store.open.Goals as goal
 
 pub returns-in-Err-clause-no_meaning : goal.returns-in-Err-clause-no_meaning
@@ -56,16 +59,20 @@ invariant_of-store g c =
         | goal.in-None+in-Ok-write_base w ↦ (let short = w.in-Ok-write_base.ensures.short in subst (λ n. n ≤ store_limit) (sym w.size-is) short)
       ],
       c.in-Ok.ensures.limits,
-      λ h same. elim c.match-size.branch [
-        | goal.in-Some w ↦
-            subst (λ n. IsDurable (d.folder c.match-size.disk) s n) (sym w.size-is)
-            (subst (λ (x : g.row.D.Denot). IsDurable (d.folder x) s w.in-Some.size) (sym w.disk-is)
-            (found-durable (d.folder c.find_store.new.disk) (bytes_under (d.folder c.args.disk) Store) s c.in-Ok.found.opened.commands c.in-Ok.found.opened.dropped w.in-Some.size c.in-Ok.found.size
-            (c.in-Ok.ensures.ok h) w.in-Some.is (c.in-Ok.ensures.holds h)))
-        | goal.in-None+in-Ok-write_base w ↦
-            subst (λ n. IsDurable (d.folder c.match-size.disk) s n) (sym w.size-is)
-            (subst (λ (x : g.row.D.Denot). IsDurable (d.folder x) s w.in-Ok-write_base.size) (sym w.disk-is) (w.in-Ok-write_base.ensures.durable h))
-      ],
+      subst (λ x. staged_length x ≤ store_limit) (sym c.none.ensures) (omega arith),
+      λ h same. (
+        durable-held (d.folder c.match-size.disk) s c.match-size.size false (elim c.match-size.branch [
+          | goal.in-Some w ↦
+              subst (λ n. IsDurable (d.folder c.match-size.disk) s n) (sym w.size-is)
+              (subst (λ (x : g.row.D.Denot). IsDurable (d.folder x) s w.in-Some.size) (sym w.disk-is)
+              (found-durable (d.folder c.find_store.new.disk) (bytes_under (d.folder c.args.disk) Store) s c.in-Ok.found.opened.commands c.in-Ok.found.opened.dropped w.in-Some.size c.in-Ok.found.size
+              (c.in-Ok.ensures.ok h) w.in-Some.is (c.in-Ok.ensures.holds h)))
+          | goal.in-None+in-Ok-write_base w ↦
+              subst (λ n. IsDurable (d.folder c.match-size.disk) s n) (sym w.size-is)
+              (subst (λ (x : g.row.D.Denot). IsDurable (d.folder x) s w.in-Ok-write_base.size) (sym w.disk-is) (w.in-Ok-write_base.ensures.durable h))
+        ]),
+        subst (IsStaging (d.folder c.match-size.disk) s) (sym c.none.ensures) tt,
+      ),
     )
 
 pub returns-clause-any_moment : goal.returns-clause-any_moment
@@ -95,10 +102,10 @@ returns-clause-means g c h =
     found-means (bytes_under (g.D.Disk.folder c.args.disk) Store) c.in-Ok.found.state c.in-Ok.found.opened.commands c.in-Ok.found.opened.dropped c.in-Ok.found.size (c.in-Ok.ensures.ok h)
 
 pub returns-clause-now : goal.returns-clause-now
-returns-clause-now g c h image is =
+returns-clause-now g c h =
     let d = g.D.Disk in
     let s = c.in-Ok.found.state in
-    durable-means c.held_store_is_left.ensures.synced (d.folder c.match-size.disk) s c.match-size.size ((invariant_of-store g c).2 h refl) image is
+    held-means c.held_store_is_left.ensures.held c.documents_close.ensures.torn (d.folder c.match-size.disk) s c.match-size.size false ((invariant_of-store g c).3 h refl).0 refl
 
 pub returns-clause-reads : goal.returns-clause-reads
 returns-clause-reads g c h =
@@ -113,4 +120,92 @@ returns-clause-reads g c h =
       | goal.in-None+in-Ok-write_base w ↦
           reads-staged store _ s c.in-Ok.found.opened.commands c.in-Ok.found.opened.dropped c.in-Ok.found.size (c.in-Ok.ensures.ok h) w.in-None.is
           (subst (λ (x : g.row.D.Denot). bytes_under (d.folder x) Store ≡ Some (base_bytes s)) (sym w.disk-is) (w.in-Ok-write_base.ensures.reads h))
+    ]
+
+pub returns-clause-size : goal.returns-clause-size
+returns-clause-size g c h =
+    let d = g.D.Disk in
+    held-length (d.folder c.match-size.disk) c.in-Ok.found.state c.match-size.size false ((invariant_of-store g c).3 h refl).0
+
+-- ---- the files
+
+pub returns-in-Err-clause-refused_stays : goal.returns-in-Err-clause-refused_stays
+returns-in-Err-clause-refused_stays g c h some =
+    let d = g.D.Disk in
+    let new = c.find_store.new.disk in
+    files-stay d.folder d.moment d.left c.args.disk new (λ t image le is. g.met.D.Disk.counts_now new t image h le is) (c.find_store.ensures.reads h) (c.find_store.ensures.any_moment h)
+
+pub returns-in-Err-clause-old_or_base : goal.returns-in-Err-clause-old_or_base
+returns-in-Err-clause-old_or_base g c h = inl (ap (λ (image : Image). image.store) (c.find_store.ensures.reads h))
+
+pub returns-in-Err-clause-leaves : goal.returns-in-Err-clause-leaves
+returns-in-Err-clause-leaves g c h =
+    let d = g.D.Disk in
+    images-old d.folder d.moment d.left c.args.disk c.find_store.new.disk (c.find_store.ensures.any_moment h)
+
+-- without memory for the base, nothing was written
+pub returns-in-Err-write_base-clause-refused_stays : goal.returns-in-Err-write_base-clause-refused_stays
+returns-in-Err-write_base-clause-refused_stays g c h some =
+    let d = g.D.Disk in
+    let old = c.args.disk in
+    let mid = c.find_store.new.disk in
+    let memory = disk-memory c.in-Err-write_base.fault c.from.result c.from.ensures some in
+    let same : c.write_base.new.disk ≡ mid = c.write_base.ensures.unchanged (c.in-Err-write_base.is ∙ ap Err memory) in
+    subst (λ (x : g.row.D.Denot). FilesStay d.folder d.moment d.left old x) (sym same)
+    (files-stay d.folder d.moment d.left old mid (λ t image le is. g.met.D.Disk.counts_now mid t image h le is) (c.find_store.ensures.reads h) (c.find_store.ensures.any_moment h))
+
+pub returns-in-Err-write_base-clause-old_or_base : goal.returns-in-Err-write_base-clause-old_or_base
+returns-in-Err-write_base-clause-old_or_base g c h =
+    let d = g.D.Disk in
+    let new = c.write_base.new.disk in
+    base-reads d.folder d.moment d.left c.args.disk c.find_store.new.disk new c.reading_is_an_image.ensures c.held_store_is_the_only_one.ensures.left
+    c.in-Ok.found.state _ _ c.in-Ok.found.size (c.in-Ok.ensures.ok h) c.in-None.is (c.in-Ok.ensures.holds h) (c.write_base.ensures.leaves h)
+    (λ t image le is. g.met.D.Disk.counts_now new t image h le is)
+
+pub returns-in-Err-write_base-clause-leaves : goal.returns-in-Err-write_base-clause-leaves
+returns-in-Err-write_base-clause-leaves g c h =
+    let d = g.D.Disk in
+    base-leaves d.folder d.moment d.left c.args.disk c.find_store.new.disk c.write_base.new.disk c.reading_is_an_image.ensures c.held_store_is_the_only_one.ensures.left
+    c.in-Ok.found.state _ _ c.in-Ok.found.size (c.in-Ok.ensures.ok h) c.in-None.is (c.in-Ok.ensures.holds h) (c.write_base.ensures.leaves h) (c.find_store.ensures.any_moment h)
+
+pub returns-clause-whole_stays : goal.returns-clause-whole_stays
+returns-clause-whole_stays g c h none some =
+    let d = g.D.Disk in
+    let old = c.args.disk in
+    let mid = c.find_store.new.disk in
+    elim c.match-size.branch [
+      | goal.in-Some w ↦
+          subst (λ (x : g.row.D.Denot). FilesStay d.folder d.moment d.left old x) (sym w.disk-is)
+          (files-stay d.folder d.moment d.left old mid (λ t image le is. g.met.D.Disk.counts_now mid t image h le is) (c.find_store.ensures.reads h) (c.find_store.ensures.any_moment h))
+      | goal.in-None+in-Ok-write_base w ↦
+          absurd (not-needed (bytes_under (d.folder old) Store) c.in-Ok.found.state _ c.in-Ok.found.opened.dropped c.in-Ok.found.size (c.in-Ok.ensures.ok h) w.in-None.is none some)
+    ]
+
+pub returns-clause-old_or_base : goal.returns-clause-old_or_base
+returns-clause-old_or_base g c h =
+    let d = g.D.Disk in
+    let store = bytes_under (d.folder c.args.disk) Store in
+    elim c.match-size.branch [
+      | goal.in-Some w ↦
+          subst (λ (x : g.row.D.Denot). IsOldOrBase store (bytes_under (d.folder x) Store)) (sym w.disk-is) (inl (ap (λ (image : Image). image.store) (c.find_store.ensures.reads h)))
+      | goal.in-None+in-Ok-write_base w ↦
+          subst (λ (x : g.row.D.Denot). IsOldOrBase store (bytes_under (d.folder x) Store)) (sym w.disk-is)
+          (let new = w.write_base.new.disk in
+          base-reads d.folder d.moment d.left c.args.disk c.find_store.new.disk new c.reading_is_an_image.ensures c.held_store_is_the_only_one.ensures.left
+          c.in-Ok.found.state _ _ c.in-Ok.found.size (c.in-Ok.ensures.ok h) w.in-None.is (c.in-Ok.ensures.holds h) (w.write_base.ensures.leaves h)
+          (λ t image le is. g.met.D.Disk.counts_now new t image h le is))
+    ]
+
+pub returns-clause-leaves : goal.returns-clause-leaves
+returns-clause-leaves g c h =
+    let d = g.D.Disk in
+    let old = c.args.disk in
+    elim c.match-size.branch [
+      | goal.in-Some w ↦
+          subst (λ (x : g.row.D.Denot). LeavesOldOrBase d.folder d.moment d.left old x) (sym w.disk-is)
+          (images-old d.folder d.moment d.left old c.find_store.new.disk (c.find_store.ensures.any_moment h))
+      | goal.in-None+in-Ok-write_base w ↦
+          subst (λ (x : g.row.D.Denot). LeavesOldOrBase d.folder d.moment d.left old x) (sym w.disk-is)
+          (base-leaves d.folder d.moment d.left old c.find_store.new.disk w.write_base.new.disk c.reading_is_an_image.ensures c.held_store_is_the_only_one.ensures.left
+          c.in-Ok.found.state _ _ c.in-Ok.found.size (c.in-Ok.ensures.ok h) w.in-None.is (c.in-Ok.ensures.holds h) (w.write_base.ensures.leaves h) (c.find_store.ensures.any_moment h))
     ]

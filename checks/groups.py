@@ -1,0 +1,334 @@
+#!/usr/bin/env python3
+"""Runs random lists of calls on stores, by orders to the built store_probe, beside a model.
+
+The calls are submits, flushes, slices, checkpoints, commands, closes and openings, over a disk in memory. One call of
+the disk may fail, or all from one on, and a crash may keep no pending byte. The model is the list of the accepted
+commands, how many of them are flushed, and how many bytes of a running checkpoint are left.
+
+- Each answer has to be the model's. A call of which the disk may fail may also return `Device`, and then the store
+  answers `Reopen` until it is opened again, and shows the state with the command that met it.
+- Opening finds all accepted commands, if no call failed; after a crash those that are flushed; and otherwise a number
+  between. The state is the one after so many of them, and no checkpoint runs.
+
+Run it from the repository's root after the program is built. It takes at most a minute or so: what is not begun by then
+is left out, and the number of lists that were run is printed.
+
+    (cd crates/store_probe && rt run < stdin > /dev/null) && python3 checks/groups.py
+
+A number of lists and a seed may follow; the same seed makes the same lists. The status is 0 if all is as it should
+be.
+"""
+
+import os
+import random
+import re
+import subprocess
+import sys
+import time
+from collections import Counter
+from concurrent.futures import ProcessPoolExecutor
+
+from store_runs import TOP, Failures
+
+PROGRAM = os.path.join(TOP, "crates", "store_probe", "out", "store_probe")
+COUNT = 6_000
+CHUNK = 100
+
+# After so many seconds no further lists are begun. How long one process may take, and the most calls of a list.
+SECONDS = 60
+HANGS = 100
+LONGEST = 60
+
+SLICE = 4_096
+NAMES = ["a", "b", "c"]
+# The lengths of texts: short ones, and such as make one slice, two, or several.
+LENGTHS = [1, 2, 3, 100, 128, 129, 1_500, 3_990, 4_044, 4_045, 5_000, 8_140, 9_948]
+
+# The orders that a list draws from, and how often.
+ORDERS = {
+    "submit": 12, "command": 4, "flush": 5, "begin": 6, "slice": 12, "slices": 1, "checkpoint": 1, "running": 2,
+    "reopen": 1, "names": 1, "export": 4, "open": 2, "fused": 3, "crash": 2, "file": 1,
+}
+
+
+def command_words(chance):
+    """An import, a set or a delete."""
+    name, length = chance.choice(NAMES), chance.choice(LENGTHS)
+    imports, sets, deletes = f"import;{name};*{length}*", f"set;{name};;*{length}*", f"delete;{name};"
+    return chance.choice([imports, imports, sets, sets, deletes])
+
+
+def orders_of(chance):
+    """A list of calls. Behind each opening the count is asked, and behind all of them each configuration."""
+    orders = ["folder", "open", "count"]
+    for order in chance.choices(list(ORDERS), list(ORDERS.values()), k=chance.randrange(LONGEST)):
+        if order == "submit":
+            orders.append(f"submit;{chance.randrange(9)};{command_words(chance)}")
+        elif order == "command":
+            orders.append(command_words(chance))
+        elif order == "export":
+            orders.append(f"export;{chance.choice(NAMES)}")
+        elif order == "fused":
+            orders += [f"open;{chance.choice(['stop', 'done', 'undone'])};{chance.randrange(20)}", "count"]
+        elif order == "crash":
+            orders += [f"image;{chance.choice([0, 0, 1, 2])}", "open", "count"]
+        elif order == "open":
+            orders += ["open", "count"]
+        elif order == "file":
+            orders += ["file", "open", "count"]
+        else:
+            orders.append(order)
+    return orders + ["open", "count", "names", *(f"export;{name}" for name in NAMES)]
+
+
+def styled(text):
+    """A text of letters in the one style: within quotes if it is longer than 128."""
+    return text if len(text) <= 128 else f'"{text}"'
+
+
+def record_length(number, words):
+    """The length of the record of a command under a number."""
+    kind, name, *rest = words
+    path = "" if kind == "import" else 'path: ""\n'
+    value = {"import": "tree: ", "set": "value: ", "delete": ""}[kind]
+    if kind != "delete":
+        value += styled(rest[-1]) + "\n"
+    return len(f'---\nat: "{number}"\n{kind}: {name}\n{path}{value}...\n')
+
+
+def base_length(count, state):
+    """The length of the base of a state."""
+    configs = "".join(f"  {name}: {styled(text)}\n" for name, text in state.items())
+    return len(f'---\nstore: confstore-1\nat: "{count}"\nconfigs:{"" if state else " {}"}\n{configs}...\n')
+
+
+def meant(words):
+    """The words of a command, with the letters that a run means."""
+    *before, value = words
+    run = re.fullmatch(r"\*(\d+)\*", value)
+    return [*before, "x" * int(run[1]) if run else value]
+
+
+class Model:
+    """The accepted commands, by the states after each of them, and what is known of the store and its folder."""
+
+    def __init__(self):
+        self.states = [{}]          # the state after so many commands
+        self.flushed = 0            # how many commands no crash takes away
+        self.least = 0              # how many commands opening finds at least; at most it is all of them
+        self.left = None            # how many bytes a running checkpoint has left
+        self.is_open = self.needs_reopen = self.may_fail = False
+        self.has_failed = False     # whether a call failed since the last opening
+
+    count = property(lambda self: len(self.states) - 1)
+
+    def all_flushed(self):
+        self.flushed = self.count
+
+    def fails(self, answer):
+        """Whether the answer is that the disk failed, if it may. The store has to be opened again then."""
+        if answer != "Device" or not self.may_fail:
+            return False
+        self.needs_reopen = self.has_failed = True
+        return True
+
+    def close(self):
+        """The store is closed, if it is open. All its commands are read then, if no call failed."""
+        if self.is_open:
+            self.least = self.flushed if self.has_failed else self.count
+        self.is_open = self.needs_reopen = False
+        self.left = None
+
+    def allows(self, order, answer):
+        """Whether the answer to an order is right. The model is then that of the store after it."""
+        kind, *words = order.split(";")
+        if kind == "folder":
+            self.__init__()
+            return answer == "no file"
+        if kind in ("open", "image", "file"):
+            self.close()
+            return getattr(self, kind)(words, answer)
+        if not self.is_open:
+            return answer == "no store is open"
+        if kind == "submit":
+            return self.command(words[1:], answer, False)
+        if kind in ("import", "set", "delete"):
+            return self.command([kind, *words], answer, True)
+        return getattr(self, kind)(words, answer)
+
+    def open(self, words, answer):
+        self.may_fail = bool(words)
+        self.is_open = re.fullmatch(r"commands \d+, dropped 0", answer) is not None
+        self.has_failed = not self.is_open
+        return self.is_open or (self.may_fail and answer == "Device")
+
+    def image(self, words, answer):
+        """A crash that keeps no pending byte. Every stage between calls has the same store."""
+        if answer == "an image":
+            self.least = self.flushed
+            if not self.has_failed:
+                del self.states[self.flushed + 1:]
+        return answer == "an image" or (answer == "no image" and words != ["0"])
+
+    def file(self, _words, answer):
+        return answer.split()[0].isdigit() or answer == "no file"
+
+    def found(self, answer):
+        """Behind an opening the count is found, and all its commands are flushed."""
+        if not answer.isdigit() or not self.least <= int(answer) <= self.count:
+            return False
+        count = int(answer)
+        del self.states[count + 1:]
+        self.flushed = self.least = count
+        return True
+
+    def command(self, words, answer, flushes):
+        if self.needs_reopen:
+            return answer == "Reopen"
+        kind, name, *rest = words = meant(words)
+        state = self.states[-1]
+        if kind != "import" and name not in state:
+            return answer == "NoConfig"
+        after = {key: text for key, text in state.items() if kind != "delete" or key != name}
+        if kind != "delete":
+            after[name] = rest[-1]
+        if self.left is not None:
+            self.left += record_length(self.count + 1, words)
+        self.states.append(after)
+        if self.fails(answer):
+            return True
+        if flushes:
+            self.all_flushed()
+        return answer == str(self.count)
+
+    def flush(self, _words, answer):
+        if self.needs_reopen:
+            return answer == "Reopen"
+        if self.fails(answer):
+            return True
+        self.all_flushed()
+        return answer == "done"
+
+    def begin(self, _words, answer):
+        if self.left is not None:
+            return answer == "a checkpoint runs"
+        if self.needs_reopen:
+            return answer == "Reopen"
+        if self.fails(answer):
+            return True
+        self.left = base_length(self.count, self.states[-1])
+        return answer == "done"
+
+    def slice(self, _words, answer):
+        if self.left is None:
+            return answer == "no checkpoint runs"
+        if self.needs_reopen:
+            return answer == "Reopen"
+        if self.fails(answer):
+            return True
+        if self.left > SLICE:
+            self.left -= SLICE
+            return answer == f"left {self.left}"
+        self.left = None
+        self.all_flushed()
+        return answer == "done"
+
+    def slices(self, _words, answer):
+        if self.left is None:
+            return answer == "0 slices"
+        if self.needs_reopen:
+            return answer == "Reopen"
+        if self.fails(answer):
+            return True
+        count = -(-self.left // SLICE)
+        self.left = None
+        self.all_flushed()
+        return answer == f"{count} slices"
+
+    def checkpoint(self, _words, answer):
+        if self.needs_reopen:
+            return answer == "Reopen"
+        if self.fails(answer):
+            return True
+        self.left = None
+        self.all_flushed()
+        return answer == "done"
+
+    def running(self, _words, answer):
+        return answer == ("false" if self.left is None else "true")
+
+    def reopen(self, _words, answer):
+        return answer == ("true" if self.needs_reopen else "false")
+
+    def names(self, _words, answer):
+        return answer == "[" + ", ".join(f'"{name}"' for name in self.states[-1]) + "]"
+
+    def export(self, words, answer):
+        text = self.states[-1].get(words[0])
+        return answer == ("NoConfig" if text is None else measured(styled(text) + "\n"))
+
+
+def measured(text):
+    """The length of a text, and the text if it has at most 1,000 bytes, as the program shows it."""
+    shown = text.replace("\\", "\\\\").replace('"', '\\"').replace("\n", "\\n")
+    return str(len(text)) if len(text) > 1_000 else f'{len(text)} "{shown}"'
+
+
+def look(orders, answers):
+    """The first order of a list that is not answered as it has to be, if there is one, and what the answers were."""
+    model, counts = Model(), Counter()
+    for number, (order, answer) in enumerate(zip(orders, answers)):
+        follows_open = number > 0 and orders[number - 1].split(";")[0] == "open"
+        if order == "count" and follows_open and model.is_open:
+            is_right = model.found(answer)
+        elif order == "count":
+            is_right = answer == (str(model.count) if model.is_open else "no store is open")
+        else:
+            is_right = model.allows(order, answer)
+        if not is_right:
+            return f"{number} {order}: {answer}, in {orders[:number + 1]}", counts
+        counts[answer if answer in ("Device", "Reopen", "NoConfig", "an image") else order.split(";")[0]] += 1
+    return None, counts
+
+
+def try_lists(seed, count, end):
+    """Runs so many lists in one process, unless it is past the end. Returns what was counted, and what went wrong."""
+    chance, failures, counts = random.Random(seed), Failures(), Counter()
+    if time.monotonic() > end:
+        return counts, failures.tried, failures.wrong
+    lists = [orders_of(chance) for _ in range(count)]
+    lines = "".join(f"{order}\n" for orders in lists for order in orders).encode()
+    done = subprocess.run([PROGRAM], input=lines, capture_output=True, check=False, timeout=HANGS)
+    answers = done.stdout.decode().splitlines()
+    failures.expect(f"seed {seed}: status and answers", (done.returncode, len(answers)), (0, sum(map(len, lists))))
+    at = 0
+    for orders in lists:
+        wrong, found = look(orders, answers[at:at + len(orders)])
+        failures.expect(f"seed {seed}", wrong, None)
+        counts += found
+        at += len(orders)
+    return counts, failures.tried, failures.wrong
+
+
+def main():
+    if not os.access(PROGRAM, os.X_OK):
+        sys.exit(f"{PROGRAM} is not built: run `rt run < stdin` in its crate first")
+    count = int(sys.argv[1]) if len(sys.argv) > 1 else COUNT
+    seed = int(sys.argv[2]) if len(sys.argv) > 2 else random.randrange(10**6)
+    print(f"seed {seed}")
+    failures, counts, end = Failures(), Counter(), time.monotonic() + SECONDS
+    with ProcessPoolExecutor() as workers:
+        parts = range(0, count, CHUNK)
+        for part in [workers.submit(try_lists, f"{seed} {part}", min(CHUNK, count - part), end) for part in parts]:
+            found, tried, wrong = part.result()
+            counts += found
+            failures.tried += tried
+            failures.wrong += wrong
+    counted = ", ".join(f"{number} {word}" for word, number in counts.most_common())
+    print(f"  {counts['folder']} lists, {sum(counts.values())} answers: {counted}")
+    failures.expect("lists were run", counts["folder"] > 0, True)
+    return failures.report()
+
+
+if __name__ == "__main__":
+    sys.exit(main())

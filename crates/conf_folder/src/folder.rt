@@ -1,0 +1,100 @@
+// The folder of a disk, open and locked.
+use crate::FolderFault;
+use crate::lock::take_lock;
+use crate::plain::Identity;
+use std::alloc::{AllocError, Global};
+use std::fs::File;
+use std::io::ErrorKind;
+use std::os::fd::AsRawFd;
+use std::rt::Files;
+use std::{fs, io};
+
+/// A folder that is open and locked until it is dropped, and a path to it.
+///
+/// The path is that of the open folder under /proc, which leads to it even if it is moved. Where there is no /proc, it
+/// is the path that was given, which may come to lead to another folder.
+#[derive(Drop)]
+pub(crate) struct OpenFolder {
+    file: File,
+    identity: Identity,
+    path: String,
+}
+
+impl OpenFolder {
+    /// Opens the folder at a path and takes its lock without waiting.
+    ///
+    /// # Errors
+    /// `Device` if there is no folder at the path or a call of the system fails, `Locked` if another run holds the
+    /// lock, and `OutOfMemory`.
+    pub(crate) fn new<R: Files<File = File>>(
+        rt: &R,
+        alloc: Global,
+        path: &str,
+    ) -> Result<OpenFolder, FolderFault> {
+        let Ok((file, identity)) = open_folder(rt, path) else {
+            return Err(FolderFault::Device);
+        };
+        take_lock(&file)?;
+        let path = lasting_path(rt, alloc, &file, identity, path)?;
+        Ok(OpenFolder {
+            file,
+            identity,
+            path,
+        })
+    }
+
+    /// The path to the folder.
+    pub(crate) fn path(&self) -> &str {
+        self.path.as_str()
+    }
+
+    /// Whether the path still leads to the folder.
+    pub(crate) fn is_in_place<R: Files<File = File>>(&self, rt: &R) -> bool {
+        leads_to(rt, self.path.as_str(), self.identity)
+    }
+
+    /// Syncs the folder.
+    pub(crate) fn sync(&self) -> io::Result<()> {
+        self.file.sync_all()
+    }
+}
+
+/// Opens the folder at a path, if it is one: anything else is not opened, since that might wait.
+fn open_folder<R: Files<File = File>>(rt: &R, path: &str) -> io::Result<(File, Identity)> {
+    let found = fs::metadata(rt, path)?;
+    if !found.is_dir() {
+        return Err(io::Error::from(ErrorKind::NotADirectory));
+    }
+    let file = File::open(rt, path)?;
+    let identity = Identity::of(&file.metadata()?);
+    if identity == Identity::of(&found) {
+        Ok((file, identity))
+    } else {
+        Err(io::Error::from(ErrorKind::NotFound))
+    }
+}
+
+/// The path of an open folder under /proc, if there is one, or else the one that is given.
+fn lasting_path<R: Files<File = File>>(
+    rt: &R,
+    alloc: Global,
+    file: &File,
+    identity: Identity,
+    given: &str,
+) -> Result<String, AllocError> {
+    let descriptor = file.as_raw_fd();
+    let path = format!(in alloc; "/proc/self/fd/{descriptor}")?;
+    if leads_to(rt, path.as_str(), identity) {
+        Ok(path)
+    } else {
+        String::from_str(alloc, given)
+    }
+}
+
+/// Whether a path leads to the file or folder of this identity.
+fn leads_to<R: Files<File = File>>(rt: &R, path: &str, identity: Identity) -> bool {
+    match fs::metadata(rt, path) {
+        Ok(found) => Identity::of(&found) == identity,
+        Err(_) => false,
+    }
+}

@@ -1,0 +1,56 @@
+// Plain files under paths. What is no plain file, as a link, a FIFO or a folder, is neither opened nor followed.
+use std::fs::{File, Metadata, OpenOptions};
+use std::io::ErrorKind;
+use std::os::unix::fs::MetadataExt;
+use std::rt::Files;
+use std::{fs, io};
+
+/// Which file or folder of the system it is, whatever its paths are.
+#[derive(Clone, Copy, PartialEq, Eq)]
+pub(crate) struct Identity {
+    device: u64,
+    number: u64,
+}
+
+impl Identity {
+    /// The identity of what is described.
+    pub(crate) fn of(metadata: &Metadata) -> Identity {
+        Identity {
+            device: metadata.dev(),
+            number: metadata.ino(),
+        }
+    }
+}
+
+/// What is known of the plain file under a path, if anything is there.
+///
+/// # Errors
+/// If what is there is no plain file, or the system refuses.
+pub(crate) fn look<R: Files<File = File>>(rt: &R, path: &str) -> io::Result<Option<Metadata>> {
+    match fs::symlink_metadata(rt, path) {
+        Ok(metadata) if metadata.is_file() => Ok(Some(metadata)),
+        Ok(_) => Err(io::Error::from(ErrorKind::InvalidInput)),
+        Err(error) if error.kind() == ErrorKind::NotFound => Ok(None),
+        Err(error) => Err(error),
+    }
+}
+
+/// Opens the plain file under a path. It is the file that was looked at before.
+///
+/// # Errors
+/// `NotFound` if nothing is there. If it is no plain file, or another one by now, or the system refuses.
+pub(crate) fn open_plain<R: Files<File = File>>(
+    rt: &R,
+    how: &OpenOptions,
+    path: &str,
+) -> io::Result<File> {
+    let Some(found) = look(rt, path)? else {
+        return Err(io::Error::from(ErrorKind::NotFound));
+    };
+    let file = how.open(rt, path)?;
+    if Identity::of(&file.metadata()?) == Identity::of(&found) {
+        Ok(file)
+    } else {
+        Err(io::Error::from(ErrorKind::InvalidInput))
+    }
+}

@@ -1,0 +1,266 @@
+-- Pieces of a round, one after the other.
+use Rattle.std.proofs.Common.{◌≡◌, inl, inr, refl, sym, ◌∙◌, ap, subst, arith, ◌≤◌, ◌<◌, get_or, length-append}
+use Rattle.std.specs.Prelude.{ℕ, ◌+◌, false, List, [], ◌∷◌, ◌++◌, length, codes, take, option_map, Result, Ok, Err}
+use Rattle.std.specs.declared.vec.Vec.{Vec}
+use Rattle.std.specs.declared.alloc.Global.{Global}
+use Rattle.std.proofs.lemmas.List.{length-take-le, length-map, take_more, get_or-map}
+use Rattle.yaml_recognizers.specs.Closings.{framed_text_bytes}
+use Rattle.yaml_grammar.specs.Closings.{ClosesAt, ClosesOnce}
+use Rattle.yaml_docs.specs.NextClosing.{IsNextClosing, NoClosingAfter}
+use Rattle.conf_disk.specs.Folder.{Folder, bytes_under}
+use Rattle.conf_disk.specs.Image.{Image, IsImage}
+use Rattle.conf_disk.specs.Moments.{LeavesOnly}
+use Rattle.conf_disk.specs.declared.disk.Name.TheVariants.{Store}
+use Rattle.conf_disk.proofs.Moments.{LeavesOnly-joined}
+use Rattle.conf_state.specs.Commands.{Command}
+use Rattle.conf_state.specs.States.{Contents}
+use Rattle.conf_store.specs.Durable.{AfterPrefix, AllImagesMean, HasFlushed}
+use Rattle.conf_store.specs.Slices.{StaysTheSame}
+use Rattle.conf_store.specs.Staged.{Staged}
+use Rattle.conf_store.specs.View.{StoreView}
+use Rattle.conf_session.specs.Requests.{Request}
+use Rattle.conf_session.specs.Answers.{Stored, answer, answers, stored_after, stored_after_all, accepted_commands, flushed_after, waiting_after}
+use Rattle.conf_session.specs.Runs.{stored_of}
+use Rattle.conf_session.specs.Replies.{LeavesPrefixes, Performs, DidPiece, reply_bytes}
+use Rattle.conf_session.specs.declared.reply.Reply.{Reply}
+use Rattle.conf_session.specs.declared.fault.SessionFault.{SessionFault}
+use Rattle.conf_session.specs.declared.fault.SessionFault.TheVariants as session
+use Rattle.conf_session.specs.declared.rounds.Piece.{Piece}
+use Rattle.conf_session.specs.declared.rounds.RoundFault.{RoundFault}
+use Rattle.conf_session.specs.declared.rounds.RoundFault.TheVariants as fault
+use Rattle.conf_session.specs.Progress.{PerformsAll}
+use Rattle.conf_session.specs.Rounds.{RoundAsks, AllRoundAsk, Rounds, DidInRound, AnswersPiece, FailsPiece, round_fault, answer_bytes, piece_bytes}
+use Rattle.conf_session.proofs.PassedLemmas.{continues, prefix-whole, performs-none, performs-more, state-more, moments-more}
+
+-- ---- pieces that are closed once
+
+closes-within : (bytes : List ℕ) (place : ℕ) → ClosesAt bytes place → place ≤ length bytes
+closes-within bytes place c = omega (arith, c.ends, ap length c.is, length-append c.before (codes "...\n" ++ c.after), length-append (codes "...\n") c.after)
+
+-- the first closing line is at the end
+pub once-at : (bytes : List ℕ) (place : ℕ) → IsNextClosing bytes 0 place → place ≡ length bytes → ClosesOnce bytes
+once-at bytes place next whole = record {
+  closes = subst (ClosesAt bytes) whole next.closes;
+  once = λ other c.
+      (let within = closes-within bytes other c in
+      let ends = c.ends in
+      let first = next.first other (omega (arith, ends)) c in
+      omega (arith, within, first, whole));
+}
+
+-- there is no closing line
+pub once-nowhere : (bytes : List ℕ) → NoClosingAfter bytes 0 → ClosesOnce bytes → ⊥
+once-nowhere bytes none closes = let ends = closes.closes.ends in none (length bytes) (omega (arith, ends)) closes.closes
+
+-- ---- the pieces and the answers, by their bytes
+
+-- the first pieces with the next one
+pub next-piece : (pieces : List Piece) (i : ℕ) (piece : Piece) → piece ≡ get_or pieces i piece → i < length pieces
+    → (i + 1 ≤ length (piece_bytes pieces)) × (take (i + 1) (piece_bytes pieces) ≡ take i (piece_bytes pieces) ++ piece.bytes.items ∷ [])
+next-piece pieces i piece is below =
+    let long : length (piece_bytes pieces) ≡ length pieces = length-map pieces (λ (p : Piece). p.bytes.items) in
+    let within : i < length (piece_bytes pieces) = omega (arith, long, below) in (
+      omega (arith, within),
+      take_more (piece_bytes pieces) i piece.bytes.items within
+          ∙ ap (λ b. take i (piece_bytes pieces) ++ b ∷ [])
+          (get_or-map (λ (p : Piece). p.bytes.items) pieces i piece piece.bytes.items below ∙ ap (λ (p : Piece). p.bytes.items) (sym is)),
+    )
+
+pub all-pieces : (pieces : List Piece) → length (piece_bytes pieces) ≡ length pieces
+all-pieces pieces = length-map pieces (λ (p : Piece). p.bytes.items)
+
+-- one answer more
+pub one-more : (old new : List (Vec ℕ Global)) (bytes : List ℕ) → answer_bytes new ≡ answer_bytes old ++ bytes ∷ [] → length new ≡ length old + 1
+one-more old new bytes e =
+    let same = ap length e in
+    let sum = length-append (answer_bytes old) (bytes ∷ []) in
+    let after = length-map new (λ (answer : Vec ℕ Global). answer.items) in
+    let before = length-map old (λ (answer : Vec ℕ Global). answer.items) in
+    omega (arith, same, sum, after, before)
+
+-- ---- what became of one piece
+
+module _ {D : Type 0} (honest : Type 0) (folder : D → Folder) (moment : D → ℕ) (since : D → ℕ → Image → Type 0) (old new : StoreView D) where
+  -- bytes that are closed once ask for what they ask for in a session
+  pub in-round : (piece : List ℕ) → ClosesOnce piece → (r : Result Reply SessionFault) → DidPiece false honest folder moment since old new piece r → DidInRound honest folder moment since old new piece r
+  in-round piece closes (Ok reply) did = (did.0, inl (closes, did.1), did.2)
+  in-round piece closes (Err session.Device) did = (did.0, inl (closes, did.1), did.2)
+  in-round piece closes (Err session.OutOfMemory) did = did
+  in-round piece closes (Err session.Read) did = absurd did
+  in-round piece closes (Err session.TooLong) did = absurd did
+  in-round piece closes (Err session.SessionLong) did = absurd did
+  in-round piece closes (Err session.Reopen) did = absurd did
+  in-round piece closes (Err (session.Write written)) did = absurd did
+
+  -- a piece that was not performed, or whose command met the device's failure
+  pub fails-by : (piece : List ℕ) (f : SessionFault) (count performed : ℕ) → performed ≡ count → DidInRound honest folder moment since old new piece (Err f)
+      → FailsPiece honest folder moment since old new piece count (round_fault f performed)
+  fails-by piece session.OutOfMemory count performed is did = inl (is, did)
+  fails-by piece session.Device count performed is did = (did.2.0, record { request = did.0; asks = did.1; performs = did.2.1 })
+  fails-by piece session.Read count performed is did = absurd did
+  fails-by piece session.TooLong count performed is did = absurd did
+  fails-by piece session.SessionLong count performed is did = absurd did
+  fails-by piece session.Reopen count performed is did = absurd did
+  fails-by piece (session.Write written) count performed is did = absurd did
+
+  -- a piece that was performed and answered
+  pub answered : (piece : List ℕ) (reply : Reply) (before after : List (List ℕ)) → DidInRound honest folder moment since old new piece (Ok reply) → after ≡ before ++ reply_bytes reply ∷ []
+      → AnswersPiece honest folder moment since old new piece before after
+  answered piece reply before after did is = record {
+    takes = record { request = did.0; asks = did.1; performs = did.2.2 };
+    sound = did.2.1;
+    answered = is ∙ ap (λ bytes. before ++ bytes ∷ []) did.2.0.bytes;
+  }
+
+-- ---- one piece more
+
+-- the answers with one request more
+answers-last : (now : Stored) (rs : List Request) (r : Request) → answers now (rs ++ r ∷ []) ≡ answers now rs ++ framed_text_bytes (answer (stored_after_all now rs) r) ∷ []
+answers-last now [] r = refl
+answers-last now (x ∷ rs) r = ap (λ l. framed_text_bytes (answer now x) ∷ l) (answers-last (stored_after now x) rs r)
+
+ask-last : (pieces : List (List ℕ)) (rs : List Request) (piece : List ℕ) (r : Request) → AllRoundAsk pieces rs → RoundAsks piece r → AllRoundAsk (pieces ++ piece ∷ []) (rs ++ r ∷ [])
+ask-last [] [] piece r all one = (one, tt)
+ask-last [] (x ∷ rs) piece r all one = absurd all
+ask-last (p ∷ pieces) [] piece r all one = absurd all
+ask-last (p ∷ pieces) (x ∷ rs) piece r all one = (all.0, ask-last pieces rs piece r all.1 one)
+
+-- there are as many requests as pieces
+ask-count : (pieces : List (List ℕ)) (rs : List Request) → AllRoundAsk pieces rs → length rs ≡ length pieces
+ask-count [] [] all = refl
+ask-count [] (x ∷ rs) all = absurd all
+ask-count (p ∷ pieces) [] all = absurd all
+ask-count (p ∷ pieces) (x ∷ rs) all = let more = ask-count pieces rs all.1 in omega (arith, more)
+
+-- the pieces so far are performed and answered, and nothing was flushed but by a checkpoint
+pub record RoundSoFar {D : Type 0} (honest : Type 0) (folder : D → Folder) (moment : D → ℕ) (since : D → ℕ → Image → Type 0)
+    (old now : StoreView D) (pieces written : List (List ℕ)) : Type 0 where
+  pub requests : List Request
+  pub ask : AllRoundAsk pieces requests
+  pub answers : written ≡ answers (stored_of old) requests
+  pub performs : PerformsAll false honest folder moment since old now requests
+
+module _ {D : Type 0} (honest : Type 0) (folder : D → Folder) (moment : D → ℕ) (since : D → ℕ → Image → Type 0) where
+  pub round-none : (store : StoreView D) → store.reopen ≡ false
+      → ((image : Image) → honest → since store.disk (moment store.disk) image → IsImage (folder store.disk) image)
+      → (honest → store.reopen ≡ false → LeavesPrefixes (folder store.disk) store.state) → RoundSoFar honest folder moment since store store [] []
+  round-none store off only means = record { requests = []; ask = tt; answers = refl; performs = performs-none false honest folder moment since store off only means }
+
+  module _ (old now : StoreView D) (pieces written : List (List ℕ)) (s : RoundSoFar honest folder moment since old now pieces written) where
+    -- ---- one piece more
+
+    module _ (new : StoreView D) (piece : List ℕ) (r : Request) (asks : RoundAsks piece r) (does : Performs false honest folder moment since now new r) where
+      pub round-more : new.reopen ≡ false → RoundSoFar honest folder moment since old new (pieces ++ piece ∷ []) (written ++ framed_text_bytes (answer (stored_of now) r) ∷ [])
+      round-more off = record {
+        requests = s.requests ++ r ∷ [];
+        ask = ask-last pieces s.requests piece r s.ask asks;
+        answers = ap (λ l. l ++ framed_text_bytes (answer (stored_of now) r) ∷ []) s.answers
+            ∙ ap (λ t. answers (stored_of old) s.requests ++ framed_text_bytes (answer t r) ∷ []) s.performs.stored
+            ∙ sym (answers-last (stored_of old) s.requests r);
+        performs = performs-more false honest folder moment since old now new s.requests r s.performs does off;
+      }
+
+    -- what a crash leaves up to a flush
+    flush-moments : (new : StoreView D)
+        → (honest → (flushed : Contents) (waiting : List Command) → HasFlushed (folder now.disk) flushed waiting now.state → LeavesOnly moment since now.disk new.disk (λ image. AfterPrefix flushed waiting image.store))
+        → honest → (flushed : Contents) (waiting : List Command) → HasFlushed (folder old.disk) flushed waiting old.state
+        → LeavesOnly moment since old.disk new.disk (λ image. AfterPrefix flushed (waiting ++ accepted_commands (stored_of old) s.requests) image.store)
+    flush-moments new run h flushed waiting has =
+        let f = flushed_after false (stored_of old) flushed s.requests in
+        let w = waiting_after false (stored_of old) waiting s.requests in
+        LeavesOnly-joined moment since old.disk now.disk new.disk _ _ _ (s.performs.any_moment h flushed waiting has) (run h f w (s.performs.waits h flushed waiting has))
+        (λ image some. some)
+        (λ image. prefix-whole flushed f (waiting ++ accepted_commands (stored_of old) s.requests) w image.store (continues false (stored_of old) flushed waiting s.requests has.journal.leads))
+
+    -- a flush leaves what is stored
+    same-stored : (new : StoreView D) → StaysTheSame now new → stored_of new ≡ stored_after_all (stored_of old) s.requests
+    same-stored new same =
+        (λ i. record { state = same.state i; size = same.size i; staged = option_map (λ (t : Staged). t.written + length t.left) (same.staged i) }) ∙ s.performs.stored
+
+    -- ---- how a round ends, where these are the first pieces of all
+
+    module _ (all : List (List ℕ)) (i : ℕ) (few : i ≤ length all) (first : pieces ≡ take i all) where
+      first-ask : (rs : List Request) → AllRoundAsk pieces rs → AllRoundAsk (take (length rs) all) rs
+      first-ask rs ask =
+          let count : length rs ≡ i = ask-count pieces rs ask ∙ ap length first ∙ length-take-le i all few in
+          subst (λ n. AllRoundAsk (take n all) rs) (sym count) (subst (λ ps. AllRoundAsk ps rs) first ask)
+
+      counted : length s.requests ≡ i
+      counted = ask-count pieces s.requests s.ask ∙ ap length first ∙ length-take-le i all few
+
+      -- memory ran out
+      pub ends-memory : Rounds honest folder moment since old now all (Err (fault.OutOfMemory i))
+      ends-memory = record {
+        requests = s.requests;
+        ask = first-ask s.requests s.ask;
+        ends = record {
+          all = counted;
+          performs = record { stored = s.performs.stored; reads = s.performs.reads };
+          waits = s.performs.waits;
+        };
+        any_moment = λ h on. s.performs.any_moment h;
+      }
+
+      -- the flush failed
+      pub ends-unflushed : (new : StoreView D) → StaysTheSame now new
+          → (honest → (flushed : Contents) (waiting : List Command) → HasFlushed (folder now.disk) flushed waiting now.state → LeavesOnly moment since now.disk new.disk (λ image. AfterPrefix flushed waiting image.store))
+          → Rounds honest folder moment since old new all (Err fault.Device)
+      ends-unflushed new same run = record {
+        requests = s.requests;
+        ask = first-ask s.requests s.ask;
+        ends = ap (λ (t : Stored). t.state) (same-stored new same);
+        any_moment = λ h on. flush-moments new run h;
+      }
+
+      -- all is flushed
+      pub ends-flushed : i ≡ length all → (new : StoreView D) (given : Vec (Vec ℕ Global) Global) → answer_bytes given.items ≡ written → StaysTheSame now new
+          → (honest → bytes_under (folder new.disk) Store ≡ bytes_under (folder now.disk) Store)
+          → (honest → (flushed : Contents) (waiting : List Command) → HasFlushed (folder now.disk) flushed waiting now.state → LeavesOnly moment since now.disk new.disk (λ image. AfterPrefix flushed waiting image.store))
+          → (honest → HasFlushed (folder new.disk) new.state [] new.state) → (honest → AllImagesMean (folder new.disk) new.state)
+          → Rounds honest folder moment since old new all (Ok given)
+      ends-flushed whole new given is same reads run flushes means = record {
+        requests = s.requests;
+        ask = first-ask s.requests s.ask;
+        ends = record {
+          all = counted ∙ whole;
+          performs = record { stored = same-stored new same; reads = λ h. reads h ∙ s.performs.reads h };
+          answers = is ∙ s.answers;
+          flushed = flushes;
+          now = means;
+        };
+        any_moment = λ h on. flush-moments new run h;
+      }
+
+      -- the device failed at the next piece
+      pub ends-device : (new : StoreView D) (piece : List ℕ) (r : Request) → RoundAsks piece r → Performs false honest folder moment since now new r → i + 1 ≤ length all → take (i + 1) all ≡ take i all ++ piece ∷ []
+          → Rounds honest folder moment since old new all (Err fault.Device)
+      ends-device new piece r asks does more next =
+          let ask : AllRoundAsk (take (i + 1) all) (s.requests ++ r ∷ []) = subst (λ ps. AllRoundAsk ps (s.requests ++ r ∷ [])) (ap (λ ps. ps ++ piece ∷ []) first ∙ sym next) (ask-last pieces s.requests piece r s.ask asks) in
+          let count : length (s.requests ++ r ∷ []) ≡ i + 1 = ask-count (take (i + 1) all) (s.requests ++ r ∷ []) ask ∙ length-take-le (i + 1) all more in
+          record {
+            requests = s.requests ++ r ∷ [];
+            ask = subst (λ n. AllRoundAsk (take n all) (s.requests ++ r ∷ [])) (sym count) ask;
+            ends = state-more false honest folder moment since old now new s.requests r s.performs does;
+            any_moment = λ h on. moments-more false honest folder moment since old now new s.requests r s.performs does h;
+          }
+
+  -- a round that ends at the next piece
+  pub ends-failing : (old now new : StoreView D) (written : List (List ℕ)) (all : List (List ℕ)) (i : ℕ) (piece : List ℕ) (f : RoundFault) → RoundSoFar honest folder moment since old now (take i all) written
+      → i + 1 ≤ length all → take (i + 1) all ≡ take i all ++ piece ∷ [] → (count : ℕ) → count ≡ i → FailsPiece honest folder moment since now new piece count f
+      → Rounds honest folder moment since old new all (Err f)
+  ends-failing old now new written all i piece (fault.OutOfMemory performed) s more next count is (inl fails) =
+      let here : i ≡ performed = sym (fails.0 ∙ is) in
+      subst (λ (t : StoreView D). Rounds honest folder moment since old t all (Err (fault.OutOfMemory performed))) (sym fails.1)
+      (subst (λ n. Rounds honest folder moment since old now all (Err (fault.OutOfMemory n))) here (ends-memory old now (take i all) written s all i (omega (arith, more)) refl))
+  ends-failing old now new written all i piece (fault.OutOfMemory performed) s more next count is (inr fails) =
+      let here : i + 1 ≡ performed = omega (arith, fails.0, is) in
+      let takes = fails.2 in
+      subst (λ n. Rounds honest folder moment since old new all (Err (fault.OutOfMemory n))) here
+      (ends-memory old new (take i all ++ piece ∷ []) _ (round-more old now (take i all) written s new piece takes.request takes.asks takes.performs fails.1) all (i + 1) more (sym next))
+  ends-failing old now new written all i piece fault.Device s more next count is fails =
+      ends-device old now (take i all) written s all i (omega (arith, more)) refl new piece fails.1.request fails.1.asks fails.1.performs more next
+  ends-failing old now new written all i piece fault.Reopen s more next count is fails = absurd fails
+
+  -- a store that has to be opened again
+  pub round-reopens : (store : StoreView D) (all : List (List ℕ)) → (store.reopen ≡ false → ⊥) → Rounds honest folder moment since store store all (Err fault.Reopen)
+  round-reopens store all broken = record { requests = []; ask = tt; ends = refl; any_moment = λ h on. absurd (broken on) }

@@ -1,0 +1,83 @@
+-- Each turn performs and answers one piece. The flush comes last.
+use Rattle.std.proofs.Common.{◌≡◌, ◌≤◌, ◌+◌, false, refl, sym, ◌∙◌, ap, subst, arith, length}
+use Rattle.std.specs.Prelude.{ℕ, List, [], ◌∷◌, ◌++◌, take}
+use Rattle.std.proofs.lemmas.Result.{err_from_is_err_and}
+use Rattle.yaml_recognizers.specs.Closings.{framed_text_bytes}
+use Rattle.conf_session.specs.Answers.{answer}
+use Rattle.conf_session.specs.Runs.{stored_of}
+use Rattle.conf_session.specs.Rounds.{answer_bytes, piece_bytes}
+use Rattle.conf_session.proofs.RoundLemmas.{RoundSoFar, round-none, round-more, next-piece, all-pieces, one-more, ends-failing, ends-flushed, ends-unflushed}
+use Rattle.conf_session.proofs.rounds.round.Goals as goal
+
+pub turns-init : goal.turns-init
+turns-init g c =
+    let d = g.D.Disk in
+    let store = c.args.store.now in
+    let off : store.reopen ≡ false = sym c.needs_reopen.ensures.reopen ∙ c.if-needs_reopen.false in
+    let none : c.new-answers.result.items ≡ [] = c.new-answers.ensures.items in
+    record {
+      off = off;
+      sound = off;
+      so_far = subst (λ (l : List (List ℕ)). RoundSoFar d.honest d.folder d.moment d.left store store [] l) (sym (ap answer_bytes none))
+          (round-none d.honest d.folder d.moment d.left store off (λ image h is. g.met.D.Disk.only_now store.disk image h is) c.needs_reopen.ensures.now);
+      risen = omega arith;
+      few = ap length none;
+    }
+
+pub returns-in_err-take_piece-clause-rounds : goal.returns-in_err-take_piece-clause-rounds
+returns-in_err-take_piece-clause-rounds g c =
+    let d = g.D.Disk in
+    let inv = c.turns.invariant in
+    let i = c.turns.piece-index in
+    let piece = c.piece-item.result in
+    let next = next-piece c.args.pieces.now i piece c.piece-item.is c.turns-test.true in
+    let ends = ends-failing d.honest d.folder d.moment d.left c.args.store.now c.turns.store c.take_piece.new.store (answer_bytes c.turns.answers.items) (piece_bytes c.args.pieces.now) i
+    piece.bytes.items c.in_err-take_piece.field-0.0 inv.so_far next.0 next.1 (length c.turns.answers.items) inv.few (c.in_err-take_piece.ensures.fails inv.sound) in
+    let p = err_from_is_err_and c.from_residual.result c.from_residual.ensures.1 in
+    rw (p.1, p.2) ends
+
+pub turns-preserved : goal.turns-preserved
+turns-preserved g c =
+    let d = g.D.Disk in
+    let inv = c.turns.invariant in
+    let old = c.args.store.now in
+    let now = c.turns.store in
+    let new = c.take_piece.new.store in
+    let i = c.turns.piece-index in
+    let all = piece_bytes c.args.pieces.now in
+    let piece = c.piece-item.result.bytes.items in
+    let next = next-piece c.args.pieces.now i c.piece-item.result c.piece-item.is c.turns-test.true in
+    let one = c.in_ok-take_piece.ensures.ok inv.sound in
+    let r = one.takes.request in
+    record {
+      off = inv.off;
+      sound = one.sound;
+      so_far = subst (λ (ps : List (List ℕ)). RoundSoFar d.honest d.folder d.moment d.left old new ps (answer_bytes c.take_piece.new.answers.items)) (sym next.1)
+          (subst (λ (l : List (List ℕ)). RoundSoFar d.honest d.folder d.moment d.left old new (take i all ++ piece ∷ []) l) (sym one.answered)
+          (round-more d.honest d.folder d.moment d.left old now (take i all) (answer_bytes c.turns.answers.items) inv.so_far new piece r one.takes.asks one.takes.performs one.sound));
+      risen = omega (arith, inv.risen, c.take_piece.ensures.risen);
+      few = one-more c.turns.answers.items c.take_piece.new.answers.items (framed_text_bytes (answer (stored_of now) r)) one.answered ∙ ap (λ n. n + 1) inv.few;
+    }
+
+pub returns-in-Ok-clause-rounds : goal.returns-in-Ok-clause-rounds
+returns-in-Ok-clause-rounds g c =
+    let d = g.D.Disk in
+    let inv = c.turns.invariant in
+    let i = c.turns.piece-index in
+    let all = piece_bytes c.args.pieces.now in
+    let long = all-pieces c.args.pieces.now in
+    let upto : i ≤ length c.args.pieces.now = c.turns.auto.piece-index-end in
+    let past : length c.args.pieces.now ≤ i = c.turns-test.false in
+    ends-flushed d.honest d.folder d.moment d.left c.args.store.now c.turns.store (take i all) (answer_bytes c.turns.answers.items) inv.so_far all i (omega (arith, long, upto)) refl (omega (arith, long, upto, past))
+    c.flush.new.self c.turns.answers refl c.flush.ensures.same c.flush.ensures.reads (λ h. c.flush.ensures.any_moment h inv.sound) c.in-Ok.ensures.flushed c.in-Ok.ensures.now
+
+pub returns-in-Err-clause-rounds : goal.returns-in-Err-clause-rounds
+returns-in-Err-clause-rounds g c =
+    let d = g.D.Disk in
+    let inv = c.turns.invariant in
+    let i = c.turns.piece-index in
+    let all = piece_bytes c.args.pieces.now in
+    let long = all-pieces c.args.pieces.now in
+    let upto : i ≤ length c.args.pieces.now = c.turns.auto.piece-index-end in
+    ends-unflushed d.honest d.folder d.moment d.left c.args.store.now c.turns.store (take i all) (answer_bytes c.turns.answers.items) inv.so_far all i (omega (arith, long, upto)) refl
+    c.flush.new.self c.flush.ensures.same (λ h. c.flush.ensures.any_moment h inv.sound)

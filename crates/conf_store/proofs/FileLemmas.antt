@@ -1,0 +1,119 @@
+-- How long the files are, and what opening makes of them.
+use Rattle.std.proofs.Common.{◌≡◌, ◌≢◌, ◌⊎◌, inl, inr, ⊎_elim, refl, sym, ◌∙◌, ap, subst, ◌≤◌, length-append}
+use Rattle.std.specs.Prelude.{ℕ, Bool, List, get_or, Option, Some, None, IsSome, option_map}
+use Rattle.std.proofs.lemmas.Bool.{false≢true}
+use Rattle.conf_disk.specs.Folder.{File, empty_file, file_bytes, Folder, bytes_at, bytes_under}
+use Rattle.conf_disk.specs.Image.{Image, IsImage, image_now, synced_file}
+use Rattle.conf_disk.specs.Laws.{ReadingIsAnImage}
+use Rattle.conf_disk.specs.Moments.{LeavesOnly}
+use Rattle.conf_disk.specs.declared.disk.DiskFault.{DiskFault}
+use Rattle.conf_disk.specs.declared.disk.DiskFault.TheVariants as disk
+use Rattle.conf_disk.specs.declared.disk.Name.TheVariants.{Store}
+use Rattle.conf_disk.proofs.Moments.{LeavesOnly-weaker, LeavesOnly-joined, LeavesOnly-now}
+use Rattle.conf_journal.specs.Held.{HoldsStore, OnlyHeldIsLeft, file_at}
+use Rattle.conf_journal.specs.Store.{IsStoreOf, LeavesStoreOr}
+use Rattle.conf_state.specs.States.{Contents}
+use Rattle.conf_state.specs.BaseTexts.{base_bytes}
+use Rattle.conf_store.specs.Faults.{open_fault}
+use Rattle.conf_store.specs.Staged.{Staged, staged_length}
+use Rattle.conf_store.specs.Durable.{IsHeld, IsStaging, staged_text}
+use Rattle.conf_store.specs.Opens.{IsFound}
+use Rattle.conf_store.specs.Files.{HasLength, FilesStay, IsNewBase, IsOldOrBase, LeavesOldOrBase}
+use Rattle.conf_store.specs.declared.fault.OpenFault.{OpenFault}
+use Rattle.conf_store.specs.declared.fault.OpenFault.TheVariants.{Device}
+use Rattle.conf_store.proofs.StagedLemmas.{text-of, text-length}
+use Rattle.conf_store.proofs.OpenLemmas.{found-means}
+
+-- ---- lengths
+
+file-read : (files : List File) (place : Option ℕ) (file : File) → file_at files place ≡ Some file → bytes_at files place ≡ Some (file_bytes file)
+file-read files None file is = absurd (cc is)
+file-read files (Some id) file is =
+    let same : get_or files id empty_file ≡ file = cc is in
+    ap (λ (x : File). Some (file_bytes x)) same
+
+-- an open store keeps the length of `store.yaml`
+pub held-length : (folder : Folder) (s : Contents) (size : ℕ) (waits : Bool) → IsHeld folder s size waits → HasLength (bytes_under folder Store) size
+held-length folder s size waits held =
+    let file = held.file in
+    subst (λ (o : Option (List ℕ)). HasLength o size) (sym (file-read folder.files folder.now.store file held.holds.is))
+    (length-append file.synced file.pending ∙ held.long)
+
+-- and that of a running checkpoint's new file
+pub staging-length : (folder : Folder) (s : Contents) (staged : Option Staged) → IsStaging folder s staged → IsSome staged → HasLength (staged_text folder staged) (staged_length staged)
+staging-length folder s None is some = absurd (false≢true some)
+staging-length folder s (Some staged) is some =
+    subst (λ (o : Option (List ℕ)). HasLength o (staged_length (Some staged))) (sym (text-of folder s staged is)) (text-length folder s staged is)
+
+-- ---- nothing is written
+
+-- a run that leaves only old images and reads as before
+pub files-stay : {D : Type 0} (folder : D → Folder) (moment : D → ℕ) (left : D → ℕ → Image → Type 0) (old new : D)
+    → ((t : ℕ) (image : Image) → t ≤ moment new → IsImage (folder new) image → left new t image)
+    → image_now (folder new) ≡ image_now (folder old) → LeavesOnly moment left old new (IsImage (folder old)) → FilesStay folder moment left old new
+files-stay folder moment left old new counts reads run = record {
+  reads = reads;
+  now = LeavesOnly-now folder moment left old new (IsImage (folder old)) counts run;
+  any_moment = run;
+}
+
+-- it leaves an old store
+pub images-old : {D : Type 0} (folder : D → Folder) (moment : D → ℕ) (left : D → ℕ → Image → Type 0) (old new : D)
+    → LeavesOnly moment left old new (IsImage (folder old)) → LeavesOldOrBase folder moment left old new
+images-old folder moment left old new run =
+    LeavesOnly-weaker moment left old new (IsImage (folder old))
+    (λ image. IsStoreOf (folder old) image.store ⊎ IsNewBase (bytes_under (folder old) Store) image.store) run
+    (λ image is. inl (record { image = image; is = is; same = refl }))
+
+-- where a base is written, the file is missing or has bytes after its last closing line
+pub not-needed : (store : Option (List ℕ)) (s : Contents) (records dropped : ℕ) (size : Option ℕ) → IsFound store s records dropped size → size ≡ None → dropped ≡ 0 → IsSome store → ⊥
+not-needed None s records dropped size found is none some = absurd (false≢true some)
+not-needed (Some bytes) s records dropped size found is none some = ⊎_elim (λ e. cc e) (λ other. other none) (found.staged is)
+
+-- a fault of the disk that isn't `Device`
+pub disk-memory : (fault : DiskFault) (reason : OpenFault) → reason ≡ open_fault fault → reason ≢ Device → fault ≡ disk.OutOfMemory
+disk-memory disk.Device reason is some = absurd (some is)
+disk-memory disk.OutOfMemory reason is some = refl
+
+-- ---- a base is written
+
+new-base : (store file : Option (List ℕ)) (s : Contents) (records dropped : ℕ) (size : Option ℕ) → IsFound store s records dropped size → size ≡ None → file ≡ Some (base_bytes s) → IsNewBase store file
+new-base store file s records dropped size found is same = record {
+  state = s;
+  means = found-means store s records dropped size found;
+  records = records;
+  dropped = dropped;
+  recovers = found.recovers;
+  needed = found.staged is;
+  is = same;
+}
+
+-- an image of the loaded folder has the store that was read, which is an old one
+loaded-old : ReadingIsAnImage → OnlyHeldIsLeft → (entry now : Folder) → HoldsStore now (option_map synced_file (bytes_under entry Store)) → (store : Option (List ℕ)) → IsStoreOf now store → IsStoreOf entry store
+loaded-old reading only entry now holds store is = record {
+  image = image_now entry;
+  is = reading entry;
+  same = sym (only now (bytes_under entry Store) store holds is);
+}
+
+module _ {D : Type 0} (folder : D → Folder) (moment : D → ℕ) (left : D → ℕ → Image → Type 0) (old mid new : D)
+    (reading : ReadingIsAnImage) (only : OnlyHeldIsLeft)
+    (s : Contents) (records dropped : ℕ) (size : Option ℕ) (found : IsFound (bytes_under (folder old) Store) s records dropped size) (is : size ≡ None)
+    (holds : HoldsStore (folder mid) (option_map synced_file (bytes_under (folder old) Store)))
+    (writes : LeavesStoreOr folder moment left (Some (base_bytes s)) mid new) where
+  -- after `old` was loaded, a run that leaves the store or the base
+  pub base-leaves : LeavesOnly moment left old mid (IsImage (folder old)) → LeavesOldOrBase folder moment left old new
+  base-leaves loads =
+      LeavesOnly-joined moment left old mid new (IsImage (folder old)) (λ image. IsStoreOf (folder mid) image.store ⊎ (image.store ≡ Some (base_bytes s)))
+      (λ image. IsStoreOf (folder old) image.store ⊎ IsNewBase (bytes_under (folder old) Store) image.store) loads writes
+      (λ image was. inl (record { image = image; is = was; same = refl }))
+      (λ image. ⊎_elim (λ was. inl (loaded-old reading only (folder old) (folder mid) holds image.store was))
+      (λ same. inr (new-base (bytes_under (folder old) Store) image.store s records dropped size found is same)))
+
+  -- what is read then
+  pub base-reads : ((t : ℕ) (image : Image) → t ≤ moment new → IsImage (folder new) image → left new t image) → IsOldOrBase (bytes_under (folder old) Store) (bytes_under (folder new) Store)
+  base-reads counts =
+      let image = image_now (folder new) in
+      ⊎_elim (λ was. inl (only (folder mid) (bytes_under (folder old) Store) image.store holds was))
+      (λ same. inr (new-base (bytes_under (folder old) Store) image.store s records dropped size found is same))
+      (LeavesOnly-now folder moment left mid new (λ (i : Image). IsStoreOf (folder mid) i.store ⊎ (i.store ≡ Some (base_bytes s))) counts writes image (reading (folder new)))

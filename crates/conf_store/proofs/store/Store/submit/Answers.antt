@@ -1,0 +1,224 @@
+use Rattle.std.proofs.Common.{rules, arith, ◌≡◌, ◌⊎◌, inl, inr, ⊎_elim, ◌+◌, ◌≤◌, max, false, true, length, string_bytes, Some, Ok, Err, refl, sym, ◌∙◌, ap, subst}
+use Rattle.std.proofs.lemmas.Bool.{false≢true}
+use Rattle.conf_disk.specs.Image.{Image}
+use Rattle.conf_disk.specs.Folder.{bytes_under}
+use Rattle.conf_disk.specs.Moments.{LeavesOnly}
+use Rattle.conf_disk.specs.declared.disk.Name.TheVariants.{Store}
+use Rattle.conf_journal.specs.Store.{store_limit, file_with_bytes}
+use Rattle.conf_state.specs.Commands.{command_of}
+use Rattle.conf_state.specs.declared.fault.StoreFault.TheVariants.{Reopen, Device}
+use Rattle.conf_store.specs.Meaning.{FileMeans}
+use Rattle.conf_store.specs.Durable.{HasFlushed, AfterPrefix, IsHeld, IsStaging, staged_text}
+use Rattle.conf_store.specs.Staged.{staged_length, with_more}
+use Rattle.conf_store.specs.View.{StoreView}
+use Rattle.conf_store.specs.Accepting.{IsAccepted}
+use Rattle.conf_store.specs.Calls.{outcome, journal_length, next_record, Accepts}
+use Rattle.conf_store.proofs.RefusalLemmas.{refusal-returned}
+use Rattle.conf_store.proofs.StagedLemmas.{staging-more, text-more, length-more}
+use Rattle.conf_store.proofs.StoreLemmas.{start-prefix, or-means, append-leaves, append-held, append-flushed}
+use Rattle.conf_store.proofs.store.Store.submit.Goals as goal
+
+-- ---- a command that is refused
+
+pub returns-in-Err-clause-reopen : goal.returns-in-Err-clause-reopen
+returns-in-Err-clause-reopen g c = (
+  λ e. absurd (c.in-Err.ensures.of_state.0 (let same : c.in-Err.fault ≡ Reopen = cc e in same)),
+  λ on. absurd (false≢true (sym c.if-self.false ∙ ap (λ (s : StoreView g.row.D.Denot). s.reopen) c.self.view_is ∙ on)),
+)
+
+pub returns-in-Err-clause-device : goal.returns-in-Err-clause-device
+returns-in-Err-clause-device g c e = absurd (c.in-Err.ensures.of_state.1 (let same : c.in-Err.fault ≡ Device = cc e in same))
+
+pub returns-in-Err-clause-cause : goal.returns-in-Err-clause-cause
+returns-in-Err-clause-cause g c e = absurd (c.in-Err.ensures.of_state.1 (let same : c.in-Err.fault ≡ Device = cc e in same))
+
+pub returns-in-Err-clause-refused : goal.returns-in-Err-clause-refused
+returns-in-Err-clause-refused g c =
+    let inside = c.self.inside in
+    let command = command_of c.args.command in
+    refusal-returned c.args.self.now (record { disk = inside.disk; state = c.accept.new.state; size = inside.size; staged = c.accept.new.staging; reopen = inside.reopen }) command c.in-Err.fault c.in-Err.ensures.of_state
+    (⊎_elim (λ memory. inl memory)
+    (λ e. inr (subst (λ (s : StoreView g.row.D.Denot). outcome (journal_length s) s.state command ≡ Err c.in-Err.fault) c.self.view_is e))
+    c.in-Err.ensures.refused)
+
+pub returns-in-Err-clause-any_moment : goal.returns-in-Err-clause-any_moment
+returns-in-Err-clause-any_moment g c h on flushed since has =
+    let d = g.D.Disk in
+    let inside = c.self.inside in
+    let held = c.self.invariant.3 h c.if-self.false in
+    let new = c.accept.new.state in
+    subst (λ (s : StoreView g.row.D.Denot). HasFlushed (d.folder s.disk) flushed since s.state → LeavesOnly d.moment d.left s.disk inside.disk (λ image. AfterPrefix flushed since image.store ⊎ FileMeans image.store new)) c.self.view_is
+    (λ inner. or-means d.moment d.left inside.disk inside.disk flushed new since
+    (start-prefix d.folder d.moment d.left inside.disk inside.state inside.size inside.waits c.held_store_is_left.ensures.held c.documents_close.ensures.torn (λ image left. g.met.D.Disk.only_now inside.disk image h left) held.0 flushed since inner)) has
+
+pub returns-in-Err-clause-risen : goal.returns-in-Err-clause-risen
+returns-in-Err-clause-risen g c =
+    let count = g.D.Disk.failure_count in
+    subst (λ (s : StoreView g.row.D.Denot). count s.disk ≤ count c.self.inside.disk) c.self.view_is (omega arith)
+
+pub returns-in-Err-clause-unchanged : goal.returns-in-Err-clause-unchanged
+returns-in-Err-clause-unchanged g c some =
+    let inside = c.self.inside in
+    ap (λ s. record { disk = inside.disk; state = s; size = inside.size; staged = c.accept.new.staging; reopen = inside.reopen }) c.in-Err.ensures.unchanged
+    ∙ ap (λ s. record { disk = inside.disk; state = inside.state; size = inside.size; staged = s; reopen = inside.reopen }) c.in-Err.ensures.unstaged
+    ∙ c.self.view_is
+
+-- ---- its record is appended
+
+pub invariant_of-self-in-Ok-append_store : goal.invariant_of-self-in-Ok-append_store
+invariant_of-self-in-Ok-append_store g c =
+    let d = g.D.Disk in
+    let inside = c.self.inside in
+    let bytes = c.as_bytes.result.now in
+    let command = command_of c.args.command in
+    let longest = max inside.size (staged_length inside.staging) in
+    let ok = subst (λ b. IsAccepted inside.state command c.accept.new.state longest b) (sym c.as_bytes.ensures.value) c.in-Ok.ensures.ok.0 in
+    let staged : c.accept.new.staging ≡ with_more bytes inside.staging = c.in-Ok.ensures.staged ∙ ap (λ b. with_more b inside.staging) (sym c.as_bytes.ensures.value) in
+    let long : c.len.result ≡ length bytes = search rules in
+    let short = ok.short in (
+      (omega (arith, short, long)),
+      ok.kept,
+      subst (λ s. staged_length s ≤ store_limit) (sym staged) (length-more bytes inside.staging store_limit (omega (arith, short))),
+      λ h on.
+          (let held = c.self.invariant.3 h c.if-self.false in
+          let new = c.append_store.new.disk in
+          let next = ap (λ (image : Image). image.next) (c.in-Ok-append_store.ensures.reads h) in (
+            subst (λ n. IsHeld (d.folder new) c.accept.new.state (inside.size + n) true) (sym long)
+                (append-held (d.folder inside.disk) (d.folder new) inside.state c.accept.new.state command inside.size longest inside.waits bytes held.0 (omega arith) ok (c.in-Ok-append_store.ensures.holds h (Some held.0.file) held.0.holds)),
+            subst (λ s. IsStaging (d.folder new) c.accept.new.state s) (sym staged)
+                (staging-more (d.folder inside.disk) (d.folder new) inside.state c.accept.new.state command bytes inside.staging next ok.closes ok.reads ok.done held.1),
+          )),
+    )
+
+pub returns-in-Ok-append_store-clause-ok : goal.returns-in-Ok-append_store-clause-ok
+returns-in-Ok-append_store-clause-ok g c =
+    let inside = c.self.inside in
+    let command = command_of c.args.command in
+    let ok = c.in-Ok.ensures.ok.0 in
+    let long : c.len.result ≡ length (string_bytes c.in-Ok.accepted.0) = search rules in (
+      subst (λ (s : StoreView g.row.D.Denot). Accepts s command (record { disk = c.append_store.new.disk; state = c.accept.new.state; size = inside.size + c.len.result; staged = c.accept.new.staging; reopen = inside.reopen })) c.self.view_is
+          (record {
+            step = ok.outcome;
+            count = ok.count;
+            size = ap (λ n. inside.size + n) (long ∙ ap length ok.is);
+            staged = c.in-Ok.ensures.staged ∙ ap (λ b. with_more b inside.staging) ok.is;
+            reopen = c.if-self.false;
+          }),
+      c.in-Ok.ensures.ok.1,
+    )
+
+pub returns-in-Ok-append_store-clause-reads : goal.returns-in-Ok-append_store-clause-reads
+returns-in-Ok-append_store-clause-reads g c h on =
+    let d = g.D.Disk in
+    let inside = c.self.inside in
+    let command = command_of c.args.command in
+    let now = bytes_under (d.folder c.append_store.new.disk) Store in
+    subst (λ (s : StoreView g.row.D.Denot). now ≡ file_with_bytes (bytes_under (d.folder s.disk) Store) (next_record s.state command)) c.self.view_is
+    (ap (λ (image : Image). image.store) (c.in-Ok-append_store.ensures.reads h)
+    ∙ ap (file_with_bytes (bytes_under (d.folder inside.disk) Store)) (c.as_bytes.ensures.value ∙ c.in-Ok.ensures.ok.0.is))
+
+pub returns-in-Ok-append_store-clause-stages : goal.returns-in-Ok-append_store-clause-stages
+returns-in-Ok-append_store-clause-stages g c h on =
+    let d = g.D.Disk in
+    let inside = c.self.inside in
+    let command = command_of c.args.command in
+    let new = d.folder c.append_store.new.disk in
+    let record_ = next_record inside.state command in
+    let staged : c.accept.new.staging ≡ with_more record_ inside.staging = c.in-Ok.ensures.staged ∙ ap (λ b. with_more b inside.staging) c.in-Ok.ensures.ok.0.is in
+    subst (λ (s : StoreView g.row.D.Denot). staged_text new c.accept.new.staging ≡ file_with_bytes (staged_text (d.folder s.disk) s.staged) (next_record s.state command)) c.self.view_is
+    (ap (staged_text new) staged ∙ text-more (d.folder inside.disk) new record_ inside.staging (ap (λ (image : Image). image.next) (c.in-Ok-append_store.ensures.reads h)))
+
+pub returns-in-Ok-append_store-clause-any_moment : goal.returns-in-Ok-append_store-clause-any_moment
+returns-in-Ok-append_store-clause-any_moment g c h on flushed since has =
+    let d = g.D.Disk in
+    let inside = c.self.inside in
+    let bytes = c.as_bytes.result.now in
+    let command = command_of c.args.command in
+    let longest = max inside.size (staged_length inside.staging) in
+    let ok = subst (λ b. IsAccepted inside.state command c.accept.new.state longest b) (sym c.as_bytes.ensures.value) c.in-Ok.ensures.ok.0 in
+    let held = c.self.invariant.3 h c.if-self.false in
+    subst (λ (s : StoreView g.row.D.Denot). HasFlushed (d.folder s.disk) flushed since s.state → LeavesOnly d.moment d.left s.disk c.append_store.new.disk (λ image. AfterPrefix flushed since image.store ⊎ FileMeans image.store c.accept.new.state)) c.self.view_is
+    (λ inner. append-leaves d.moment d.left inside.disk c.append_store.new.disk (d.folder inside.disk) inside.state c.accept.new.state command inside.size longest inside.waits bytes c.documents_close.ensures.torn held.0 (omega arith) ok flushed since inner
+    ((c.append_store.ensures.leaves h).held (Some held.0.file) held.0.holds)) has
+
+pub returns-in-Ok-append_store-clause-waits : goal.returns-in-Ok-append_store-clause-waits
+returns-in-Ok-append_store-clause-waits g c h on flushed since has =
+    let d = g.D.Disk in
+    let inside = c.self.inside in
+    let bytes = c.as_bytes.result.now in
+    let command = command_of c.args.command in
+    let longest = max inside.size (staged_length inside.staging) in
+    let ok = subst (λ b. IsAccepted inside.state command c.accept.new.state longest b) (sym c.as_bytes.ensures.value) c.in-Ok.ensures.ok.0 in
+    let held = c.self.invariant.3 h c.if-self.false in
+    append-flushed (d.folder inside.disk) (d.folder c.append_store.new.disk) inside.state c.accept.new.state command inside.size longest inside.waits bytes held.0 (omega arith) ok
+    (c.in-Ok-append_store.ensures.holds h (Some held.0.file) held.0.holds) flushed since
+    (subst (λ (s : StoreView g.row.D.Denot). HasFlushed (d.folder s.disk) flushed since s.state) (sym c.self.view_is) has)
+
+pub returns-in-Ok-append_store-clause-reopen : goal.returns-in-Ok-append_store-clause-reopen
+returns-in-Ok-append_store-clause-reopen g c =
+    let off : c.args.self.now.reopen ≡ false = ap (λ (s : StoreView g.row.D.Denot). s.reopen) (sym c.self.view_is) ∙ c.if-self.false in
+    (λ e. absurd (cc e), λ on. absurd (false≢true (sym off ∙ on)))
+
+pub returns-in-Ok-append_store-clause-device : goal.returns-in-Ok-append_store-clause-device
+returns-in-Ok-append_store-clause-device g c e = absurd (cc e)
+
+pub returns-in-Ok-append_store-clause-cause : goal.returns-in-Ok-append_store-clause-cause
+returns-in-Ok-append_store-clause-cause g c e = absurd (cc e)
+
+pub returns-in-Ok-append_store-clause-risen : goal.returns-in-Ok-append_store-clause-risen
+returns-in-Ok-append_store-clause-risen g c =
+    let count = g.D.Disk.failure_count in
+    subst (λ (s : StoreView g.row.D.Denot). count s.disk ≤ count c.append_store.new.disk) c.self.view_is c.append_store.ensures.fails.failures.never_falls
+
+-- ---- the device failed
+
+pub returns-clause-any_moment : goal.returns-clause-any_moment
+returns-clause-any_moment g c h on flushed since has =
+    let d = g.D.Disk in
+    let inside = c.self.inside in
+    let bytes = c.as_bytes.result.now in
+    let command = command_of c.args.command in
+    let longest = max inside.size (staged_length inside.staging) in
+    let ok = subst (λ b. IsAccepted inside.state command c.accept.new.state longest b) (sym c.as_bytes.ensures.value) c.in-Ok.ensures.ok.0 in
+    let held = c.self.invariant.3 h c.if-self.false in
+    subst (λ (s : StoreView g.row.D.Denot). HasFlushed (d.folder s.disk) flushed since s.state → LeavesOnly d.moment d.left s.disk c.append_store.new.disk (λ image. AfterPrefix flushed since image.store ⊎ FileMeans image.store c.accept.new.state)) c.self.view_is
+    (λ inner. append-leaves d.moment d.left inside.disk c.append_store.new.disk (d.folder inside.disk) inside.state c.accept.new.state command inside.size longest inside.waits bytes c.documents_close.ensures.torn held.0 (omega arith) ok flushed since inner
+    ((c.append_store.ensures.leaves h).held (Some held.0.file) held.0.holds)) has
+
+pub returns-clause-refused : goal.returns-clause-refused
+returns-clause-refused g c =
+    subst (λ (s : StoreView g.row.D.Denot). outcome (journal_length s) s.state (command_of c.args.command) ≡ Ok c.accept.new.state) c.self.view_is c.in-Ok.ensures.ok.0.outcome
+
+pub returns-clause-reopen : goal.returns-clause-reopen
+returns-clause-reopen g c =
+    let off : c.args.self.now.reopen ≡ false = ap (λ (s : StoreView g.row.D.Denot). s.reopen) (sym c.self.view_is) ∙ c.if-self.false in
+    (λ e. absurd (cc e), λ on. absurd (false≢true (sym off ∙ on)))
+
+pub returns-clause-unchanged : goal.returns-clause-unchanged
+returns-clause-unchanged g c some = absurd (some refl)
+
+pub returns-clause-device : goal.returns-clause-device
+returns-clause-device g c e = refl
+
+pub returns-clause-risen : goal.returns-clause-risen
+returns-clause-risen g c =
+    let count = g.D.Disk.failure_count in
+    subst (λ (s : StoreView g.row.D.Denot). count s.disk ≤ count c.append_store.new.disk) c.self.view_is c.append_store.ensures.fails.failures.never_falls
+
+-- ---- the store has to be opened again
+
+pub returns-then-self-clause-reopen : goal.returns-then-self-clause-reopen
+returns-then-self-clause-reopen g c =
+    let on : c.args.self.now.reopen ≡ true = ap (λ (s : StoreView g.row.D.Denot). s.reopen) (sym c.self.view_is) ∙ c.if-self.true in
+    (λ e. on, λ _. refl)
+
+pub returns-then-self-clause-device : goal.returns-then-self-clause-device
+returns-then-self-clause-device g c e = absurd (cc e)
+
+pub returns-then-self-clause-cause : goal.returns-then-self-clause-cause
+returns-then-self-clause-cause g c e = absurd (cc e)
+
+pub returns-then-self-clause-any_moment : goal.returns-then-self-clause-any_moment
+returns-then-self-clause-any_moment g c h off =
+    let on : c.args.self.now.reopen ≡ true = ap (λ (s : StoreView g.row.D.Denot). s.reopen) (sym c.self.view_is) ∙ c.if-self.true in
+    absurd (false≢true (sym off ∙ on))

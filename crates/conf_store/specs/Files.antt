@@ -1,0 +1,45 @@
+-- What the files of a folder read as, and what opening makes of them.
+use Rattle.std.specs.Prelude.{◌≡◌, ◌≢◌, ◌⊎◌, ℕ, List, length, Option, Some, None}
+use Rattle.conf_disk.specs.Folder.{Folder, bytes_under}
+use Rattle.conf_disk.specs.Image.{Image, IsImage, image_now}
+use Rattle.conf_disk.specs.Moments.{LeavesOnly}
+use Rattle.conf_disk.specs.declared.disk.Name.TheVariants.{Store}
+use Rattle.conf_journal.specs.Store.{IsStoreOf}
+use Rattle.conf_state.specs.States.{Contents}
+use Rattle.conf_state.specs.BaseTexts.{base_bytes}
+use Rattle.conf_store.specs.Meaning.{FileMeans}
+use Rattle.conf_store.specs.Opens.{FileRecoversTo}
+
+-- the file is there, and has so many bytes
+abbrev pub HasLength : Option (List ℕ) → ℕ → Type 0
+HasLength None size = ⊥
+HasLength (Some bytes) size = length bytes ≡ size
+
+-- No file and no name has changed. Both names read as before. What a crash leaves of both files, now and at any moment
+-- since `old`, it could leave at `old`.
+pub record FilesStay {D : Type 0} (folder : D → Folder) (moment : D → ℕ) (left : D → ℕ → Image → Type 0)
+    (old new : D) : Type 0 where
+  pub reads : image_now (folder new) ≡ image_now (folder old)
+  pub now : (image : Image) → IsImage (folder new) image → IsImage (folder old) image
+  pub any_moment : LeavesOnly moment left old new (IsImage (folder old))
+
+-- `file` is the whole new base that opening writes over `old`. The old file means this state, and is missing or has
+-- bytes after its last closing line.
+pub record IsNewBase (old file : Option (List ℕ)) : Type 0 where
+  pub state : Contents
+  pub means : FileMeans old state
+  pub records : ℕ
+  pub dropped : ℕ
+  pub recovers : FileRecoversTo old state records dropped
+  pub needed : (old ≡ None) ⊎ (dropped ≢ 0)
+  pub is : file ≡ Some (base_bytes state)
+
+-- the old file, or the whole new base
+abbrev pub IsOldOrBase : Option (List ℕ) → Option (List ℕ) → Type 0
+IsOldOrBase old file = (file ≡ old) ⊎ IsNewBase old file
+
+-- a crash at any moment since `old` leaves an old `store.yaml`, or the whole new base
+abbrev pub LeavesOldOrBase : {D : Type 0} → (D → Folder) → (D → ℕ) → (D → ℕ → Image → Type 0) → D → D → Type 0
+LeavesOldOrBase folder moment left old new =
+    LeavesOnly moment left old new
+    (λ image. IsStoreOf (folder old) image.store ⊎ IsNewBase (bytes_under (folder old) Store) image.store)

@@ -1,0 +1,93 @@
+-- What a checkpoint does that is written in slices.
+use Rattle.std.specs.Prelude.{◌≡◌, ℕ, ◌<◌, false, List, [], length, Option, Some, None}
+use Rattle.conf_disk.specs.Folder.{File, Folder, bytes_under}
+use Rattle.conf_disk.specs.Image.{synced_file}
+use Rattle.conf_disk.specs.declared.disk.Name.TheVariants.{Store, Next}
+use Rattle.conf_journal.specs.Held.{HoldsStore}
+use Rattle.conf_journal.specs.Store.{file_with_bytes}
+use Rattle.conf_store.specs.Staged.{Staged, staged_length, next_slice, after_slice}
+use Rattle.conf_state.specs.Commands.{Command}
+use Rattle.conf_state.specs.States.{Contents}
+use Rattle.conf_state.specs.BaseTexts.{base_bytes}
+use Rattle.conf_store.specs.Durable.{HasFlushed, AllImagesMean, staged_text}
+use Rattle.conf_store.specs.View.{StoreView}
+use Rattle.conf_store.specs.declared.slicing.Progress.{Progress}
+use Rattle.conf_store.specs.declared.slicing.Progress.TheVariants.{Left, Done}
+
+-- The next slice is in `next.yaml`, and something is left.
+pub record WritesPart {D : Type 0} (honest : Type 0) (folder : D → Folder) (old : D) (staged : Staged) (bytes : ℕ)
+    (new : D) (after : Option Staged) : Type 0 where
+  pub passed : after ≡ Some (after_slice staged)
+  pub left : bytes ≡ length (after_slice staged).left
+  pub some : 0 < bytes
+  pub fewer : bytes < length staged.left
+  pub next : honest
+      → bytes_under (folder new) Next ≡ file_with_bytes (bytes_under (folder old) Next) (next_slice staged)
+  pub store : honest → bytes_under (folder new) Store ≡ bytes_under (folder old) Store
+  pub holds : honest → (file : Option File) → HoldsStore (folder old) file → HoldsStore (folder new) file
+
+-- All that was left is in the file, which is synced and in the place of `store.yaml`.
+pub record WritesLast {D : Type 0} (honest : Type 0) (folder : D → Folder) (old : D) (staged : Staged)
+    (new : D) : Type 0 where
+  pub none : (after_slice staged).left ≡ []
+  pub store : honest → bytes_under (folder new) Store ≡ staged_text (folder old) (Some staged)
+  pub holds : honest → (bytes : List ℕ) → staged_text (folder old) (Some staged) ≡ Some bytes
+      → HoldsStore (folder new) (Some (synced_file bytes))
+
+abbrev pub WritesSlice : {D : Type 0} → Type 0 → (D → Folder) → D → Option Staged → Progress → D → Option Staged
+    → Type 0
+WritesSlice honest folder old staged (Left bytes) new after =
+    (s : Staged) × (staged ≡ Some s) × WritesPart honest folder old s bytes new after
+WritesSlice honest folder old staged Done new after =
+    (s : Staged) × (staged ≡ Some s) × WritesLast honest folder old s new
+
+-- ---- a store
+
+-- only the disk, and whether the store has to be opened again, may be others
+pub record StaysTheSame {D : Type 0} (old new : StoreView D) : Type 0 where
+  pub state : new.state ≡ old.state
+  pub size : new.size ≡ old.size
+  pub staged : new.staged ≡ old.staged
+
+-- a checkpoint runs, and the base of the state is left to write
+pub record Begins {D : Type 0} (old new : StoreView D) : Type 0 where
+  pub size : new.size ≡ old.size
+  pub staged : new.staged ≡ Some (record { written = 0; left = base_bytes old.state })
+  pub reopen : new.reopen ≡ false
+
+-- a slice was written, and so many bytes are left: some, and fewer than before
+pub record SlicesPart {D : Type 0} (old : StoreView D) (bytes : ℕ) (new : StoreView D) : Type 0 where
+  pub before : Staged
+  pub ran : old.staged ≡ Some before
+  pub staged : new.staged ≡ Some (after_slice before)
+  pub left : bytes ≡ length (after_slice before).left
+  pub some : 0 < bytes
+  pub fewer : bytes < length before.left
+  pub size : new.size ≡ old.size
+  pub reopen : new.reopen ≡ false
+
+-- the last slice was written: the new file is `store.yaml`, and no checkpoint runs
+pub record SlicesLast {D : Type 0} (old new : StoreView D) : Type 0 where
+  pub before : Staged
+  pub ran : old.staged ≡ Some before
+  pub last : (after_slice before).left ≡ []
+  pub staged : new.staged ≡ None
+  pub size : new.size ≡ staged_length old.staged
+  pub reopen : new.reopen ≡ false
+
+abbrev pub Slices : {D : Type 0} → StoreView D → StoreView D → Progress → Type 0
+Slices old new (Left bytes) = SlicesPart old bytes new
+Slices old new Done = SlicesLast old new
+
+-- what the two files read as
+abbrev pub SliceReads : {D : Type 0} → (D → Folder) → StoreView D → StoreView D → Progress → Type 0
+SliceReads folder old new (Left bytes) =
+    (bytes_under (folder new.disk) Store ≡ bytes_under (folder old.disk) Store)
+    × (staged_text (folder new.disk) new.staged ≡ staged_text (folder old.disk) old.staged)
+SliceReads folder old new Done = bytes_under (folder new.disk) Store ≡ staged_text (folder old.disk) old.staged
+
+-- what is flushed after a slice
+abbrev pub SliceFlushes : {D : Type 0} → (D → Folder) → Contents → List Command → StoreView D → Progress → Type 0
+SliceFlushes folder flushed since new (Left bytes) = HasFlushed (folder new.disk) flushed since new.state
+SliceFlushes folder flushed since new Done =
+    HasFlushed (folder new.disk) new.state [] new.state × AllImagesMean (folder new.disk) new.state
