@@ -15,7 +15,7 @@ use Rattle.conf_state.specs.States.{Contents}
 use Rattle.conf_state.specs.Steps.{after}
 use Rattle.conf_state.specs.declared.fault.StoreFault.{StoreFault}
 use Rattle.conf_store.specs.Calls.{outcome, has_room, tree_named}
-use Rattle.conf_store.specs.Durable.{AfterPrefix, HasFlushed}
+use Rattle.conf_store.specs.Durable.{AfterPrefix, HasFlushed, staged_text}
 use Rattle.conf_store.specs.View.{StoreView}
 use Rattle.conf_state.proofs.RefusalLemmas.{accepted-room}
 use Rattle.conf_store.proofs.StepLemmas.{accepted-anyway}
@@ -23,7 +23,7 @@ use Rattle.conf_store.proofs.MeaningLemmas.{after-done, after-joined}
 use Rattle.conf_store.proofs.HeldLemmas.{prefix-longer}
 use Rattle.conf_session.specs.Said.{piece_limit}
 use Rattle.conf_session.specs.Requests.{Request, Asks, AllAsk, changing, unread, getting, exporting, naming, checkpointing, bad}
-use Rattle.conf_session.specs.Answers.{Stored, longest, syncs, flushed_after, waiting_after, acknowledged, AllAreAcknowledged, answer, output, stored_after, stored_after_all, file_after, file_after_all, accepted_commands, accepted_command, accepted_by, stored_after_change, refused_of, refusals, is_refused, value_at_path}
+use Rattle.conf_session.specs.Answers.{Stored, longest, syncs, flushed_after, waiting_after, acknowledged, AllAreAcknowledged, answer, output, stored_after, stored_after_all, file_after, file_after_all, staged_after, staged_after_all, accepted_commands, accepted_command, accepted_by, stored_after_change, refused_of, refusals, is_refused, value_at_path}
 use Rattle.conf_session.specs.Runs.{stored_of, ArePieces, AfterAtLeast}
 use Rattle.conf_session.specs.Replies.{LeavesPrefixes, Performs}
 use Rattle.conf_session.specs.Progress.{PerformsAll}
@@ -40,6 +40,12 @@ pub file-last : (file : Option (List ℕ)) (now : Stored) (rs : List Request) (r
     → file_after_all file now (rs ++ r ∷ []) ≡ file_after (file_after_all file now rs) (stored_after_all now rs) r
 file-last file now [] r = refl
 file-last file now (x ∷ rs) r = file-last (file_after file now x) (stored_after now x) rs r
+
+-- the new file of a running checkpoint after one more request
+pub staged-last : (file : Option (List ℕ)) (now : Stored) (rs : List Request) (r : Request)
+    → staged_after_all file now (rs ++ r ∷ []) ≡ staged_after (staged_after_all file now rs) (stored_after_all now rs) r
+staged-last file now [] r = refl
+staged-last file now (x ∷ rs) r = staged-last (staged_after file now x) (stored_after now x) rs r
 
 -- the accepted commands with one more request
 pub accepted_commands-last : (now : Stored) (rs : List Request) (r : Request) → accepted_commands now (rs ++ r ∷ []) ≡ accepted_commands now rs ++ accepted_command (stored_after_all now rs) r
@@ -278,6 +284,7 @@ module _ (at_once : Bool) {D : Type 0} (honest : Type 0) (folder : D → Folder)
     sound = off;
     stored = refl;
     reads = λ h. refl;
+    stages = λ h. refl;
     any_moment = λ h flushed waiting has. LeavesOnly-start moment since store.disk _
         (λ image is. prefix-longer flushed waiting [] image.store (means h off flushed waiting has image (only image h is)));
     waits = λ h flushed waiting has. has;
@@ -296,6 +303,13 @@ module _ (at_once : Bool) {D : Type 0} (honest : Type 0) (folder : D → Folder)
         let file = bytes_under (folder old.disk) Store in
         does.reads h off ∙ ap (λ f. file_after f (stored_of mid) r) (before.reads h) ∙ ap (λ t. file_after (file_after_all file (stored_of old) rs) t r) before.stored
         ∙ sym (file-last file (stored_of old) rs r)
+
+    -- and the new file of a running checkpoint
+    pub stages-more : honest → new.reopen ≡ false → staged_text (folder new.disk) new.staged ≡ staged_after_all (staged_text (folder old.disk) old.staged) (stored_of old) (rs ++ r ∷ [])
+    stages-more h off =
+        let file = staged_text (folder old.disk) old.staged in
+        does.stages h off ∙ ap (λ f. staged_after f (stored_of mid) r) (before.stages h) ∙ ap (λ t. staged_after (staged_after_all file (stored_of old) rs) t r) before.stored
+        ∙ sym (staged-last file (stored_of old) rs r)
 
     module _ (h : honest) (flushed : Contents) (waiting : List Command) (has : HasFlushed (folder old.disk) flushed waiting old.state) where
       -- what is flushed before the last request, and what waits
@@ -337,6 +351,7 @@ module _ (at_once : Bool) {D : Type 0} (honest : Type 0) (folder : D → Folder)
       sound = off;
       stored = stored-more off;
       reads = λ h. reads-more h off;
+      stages = λ h. stages-more h off;
       any_moment = moments-more;
       waits = λ h flushed waiting has. waits-more h flushed waiting has off;
     }

@@ -26,7 +26,7 @@ use Rattle.conf_state.specs.declared.fault.StoreFault.{StoreFault}
 use Rattle.conf_store.specs.Calls.{outcome, has_room, next_record, journal_length, Accepts}
 use Rattle.conf_store.specs.Staged.{Staged, staged_length, with_more}
 use Rattle.conf_store.specs.Meaning.{FileMeans}
-use Rattle.conf_store.specs.Durable.{AfterPrefix, AllImagesMean, HasFlushed}
+use Rattle.conf_store.specs.Durable.{AfterPrefix, AllImagesMean, HasFlushed, staged_text}
 use Rattle.conf_store.specs.View.{StoreView}
 use Rattle.conf_state.proofs.RefusalLemmas.{accepted-room}
 use Rattle.conf_store.proofs.StepLemmas.{accepted-anyway}
@@ -127,11 +127,11 @@ module _ (at_once : Bool) {D : Type 0} (honest : Type 0) (folder : D → Folder)
       → (honest → store.reopen ≡ false → LeavesPrefixes (folder store.disk) store.state) → Performs at_once honest folder moment since store store request
   only-read store off (changing command) is only means = absurd is
   only-read store off checkpointing is only means = absurd is
-  only-read store off (unread name f) is only means = record { state = refl; stored = λ on. refl; reads = λ h on. refl; any_moment = unchanged store off [] only means; waits = λ h on flushed waiting. still (folder store.disk) flushed store.state waiting }
-  only-read store off (getting name path) is only means = record { state = refl; stored = λ on. refl; reads = λ h on. refl; any_moment = unchanged store off [] only means; waits = λ h on flushed waiting. still (folder store.disk) flushed store.state waiting }
-  only-read store off (exporting name) is only means = record { state = refl; stored = λ on. refl; reads = λ h on. refl; any_moment = unchanged store off [] only means; waits = λ h on flushed waiting. still (folder store.disk) flushed store.state waiting }
-  only-read store off naming is only means = record { state = refl; stored = λ on. refl; reads = λ h on. refl; any_moment = unchanged store off [] only means; waits = λ h on flushed waiting. still (folder store.disk) flushed store.state waiting }
-  only-read store off bad is only means = record { state = refl; stored = λ on. refl; reads = λ h on. refl; any_moment = unchanged store off [] only means; waits = λ h on flushed waiting. still (folder store.disk) flushed store.state waiting }
+  only-read store off (unread name f) is only means = record { state = refl; stored = λ on. refl; reads = λ h on. refl; stages = λ h on. refl; any_moment = unchanged store off [] only means; waits = λ h on flushed waiting. still (folder store.disk) flushed store.state waiting }
+  only-read store off (getting name path) is only means = record { state = refl; stored = λ on. refl; reads = λ h on. refl; stages = λ h on. refl; any_moment = unchanged store off [] only means; waits = λ h on flushed waiting. still (folder store.disk) flushed store.state waiting }
+  only-read store off (exporting name) is only means = record { state = refl; stored = λ on. refl; reads = λ h on. refl; stages = λ h on. refl; any_moment = unchanged store off [] only means; waits = λ h on flushed waiting. still (folder store.disk) flushed store.state waiting }
+  only-read store off naming is only means = record { state = refl; stored = λ on. refl; reads = λ h on. refl; stages = λ h on. refl; any_moment = unchanged store off [] only means; waits = λ h on flushed waiting. still (folder store.disk) flushed store.state waiting }
+  only-read store off bad is only means = record { state = refl; stored = λ on. refl; reads = λ h on. refl; stages = λ h on. refl; any_moment = unchanged store off [] only means; waits = λ h on flushed waiting. still (folder store.disk) flushed store.state waiting }
 
   -- ---- a command
 
@@ -139,12 +139,13 @@ module _ (at_once : Bool) {D : Type 0} (honest : Type 0) (folder : D → Folder)
   pub command-performed : (old new : StoreView D) (command : Command) → outcome (journal_length old) old.state command ≡ Ok new.state
       → (new.reopen ≡ false → Accepts old command new)
       → (honest → new.reopen ≡ false → bytes_under (folder new.disk) Store ≡ file_with_bytes (bytes_under (folder old.disk) Store) (next_record old.state command))
+      → (honest → new.reopen ≡ false → staged_text (folder new.disk) new.staged ≡ file_with_bytes (staged_text (folder old.disk) old.staged) (next_record old.state command))
       → (honest → (flushed : Contents) (waiting : List Command) → HasFlushed (folder old.disk) flushed waiting old.state
       → LeavesOnly moment since old.disk new.disk (λ image. AfterPrefix flushed waiting image.store ⊎ FileMeans image.store new.state))
       → (honest → new.reopen ≡ false → (flushed : Contents) (waiting : List Command) → HasFlushed (folder old.disk) flushed waiting old.state
       → HasFlushed (folder new.disk) (if at_once then new.state else flushed) (if at_once then [] else waiting ++ command ∷ []) new.state)
       → Performs at_once honest folder moment since old new (changing command)
-  command-performed old new command done accepts grown moments flushes =
+  command-performed old new command done accepts grown staged moments flushes =
       let now = stored_of old in
       let here : outcome (longest now) now.state command ≡ Ok new.state = ap (λ n. outcome n old.state command) (longest-of old) ∙ done in
       let goes : stored_after now (changing command) ≡ stored_after_change now command (Ok new.state) = ap (stored_after_change now command) here in
@@ -154,6 +155,7 @@ module _ (at_once : Bool) {D : Type 0} (honest : Type 0) (folder : D → Folder)
         state = sym (ap (λ (t : Stored). t.state) goes);
         stored = λ on. stored-accepted old new command (accepts on) ∙ sym goes;
         reads = λ h on. grown h on ∙ sym (ap (file_after_change (bytes_under (folder old.disk) Store) now command) here);
+        stages = λ h on. staged h on ∙ sym (ap (file_after_change (staged_text (folder old.disk) old.staged) now command) here);
         any_moment = λ h flushed waiting has. subst (λ cs. LeavesOnly moment since old.disk new.disk (λ image. AfterPrefix flushed (waiting ++ cs) image.store)) (sym one)
             (LeavesOnly-weaker moment since old.disk new.disk _ _ (moments h flushed waiting has)
             (λ image. ⊎_elim (prefix-longer flushed waiting (command ∷ []) image.store) (all-after flushed old.state new.state waiting command image.store has.journal.leads leads)));
@@ -173,6 +175,7 @@ module _ (at_once : Bool) {D : Type 0} (honest : Type 0) (folder : D → Folder)
         state = sym (ap (λ (t : Stored). t.state) goes);
         stored = λ on. sym goes;
         reads = λ h on. sym (ap (file_after_change (bytes_under (folder store.disk) Store) now command) here);
+        stages = λ h on. sym (ap (file_after_change (staged_text (folder store.disk) store.staged) now command) here);
         any_moment = unchanged store off (accepted_command now (changing command)) only means;
         waits = λ h on flushed waiting has.
             subst (λ (r : Result Contents StoreFault). HasFlushed (folder store.disk) (if at_once && is_ok r then (stored_after_change now command r).state else flushed) (if at_once && is_ok r then [] else waiting ++ accepted_by r command) store.state) (sym here)
@@ -191,6 +194,7 @@ module _ (at_once : Bool) {D : Type 0} (honest : Type 0) (folder : D → Folder)
     state = same;
     stored = λ on. (λ i. record { state = same i; size = (long on).1 i; staged = option_map (λ (s : Staged). s.written + length s.left) ((long on).0 i) });
     reads = base;
+    stages = λ h on. ap (staged_text (folder new.disk)) (long on).0;
     any_moment = λ h flushed waiting has. LeavesOnly-weaker moment since old.disk new.disk _ _ (moments h flushed waiting has) (λ image. prefix-longer flushed waiting [] image.store);
     waits = λ h on flushed waiting has. subst (λ (s : Contents). HasFlushed (folder new.disk) s [] new.state) same (flushes h on);
   }
@@ -230,10 +234,10 @@ pub did-checkpoint : (at_once : Bool) {D : Type 0} (honest : Type 0) (folder : D
     → Did true honest folder moment since old new checkpointing r → Did at_once honest folder moment since old new checkpointing r
 did-checkpoint at_once honest folder moment since old new (Ok reply) did =
     let p = did.2 in
-    (did.0, did.1, record { state = p.state; stored = p.stored; reads = p.reads; any_moment = p.any_moment; waits = p.waits })
+    (did.0, did.1, record { state = p.state; stored = p.stored; reads = p.reads; stages = p.stages; any_moment = p.any_moment; waits = p.waits })
 did-checkpoint at_once honest folder moment since old new (Err fault.Device) did =
     let p = did.1 in
-    (did.0, record { state = p.state; stored = p.stored; reads = p.reads; any_moment = p.any_moment; waits = p.waits })
+    (did.0, record { state = p.state; stored = p.stored; reads = p.reads; stages = p.stages; any_moment = p.any_moment; waits = p.waits })
 did-checkpoint at_once honest folder moment since old new (Err fault.OutOfMemory) did = did
 did-checkpoint at_once honest folder moment since old new (Err fault.Read) did = absurd did
 did-checkpoint at_once honest folder moment since old new (Err fault.TooLong) did = absurd did

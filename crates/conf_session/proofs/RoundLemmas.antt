@@ -14,7 +14,7 @@ use Rattle.conf_disk.specs.declared.disk.Name.TheVariants.{Store}
 use Rattle.conf_disk.proofs.Moments.{LeavesOnly-joined}
 use Rattle.conf_state.specs.Commands.{Command}
 use Rattle.conf_state.specs.States.{Contents}
-use Rattle.conf_store.specs.Durable.{AfterPrefix, AllImagesMean, HasFlushed}
+use Rattle.conf_store.specs.Durable.{AfterPrefix, AllImagesMean, HasFlushed, staged_text}
 use Rattle.conf_store.specs.Slices.{StaysTheSame}
 use Rattle.conf_store.specs.Staged.{Staged}
 use Rattle.conf_store.specs.View.{StoreView}
@@ -195,7 +195,7 @@ module _ {D : Type 0} (honest : Type 0) (folder : D → Folder) (moment : D → 
         ask = first-ask s.requests s.ask;
         ends = record {
           all = counted;
-          performs = record { stored = s.performs.stored; reads = s.performs.reads };
+          performs = record { stored = s.performs.stored; reads = s.performs.reads; stages = s.performs.stages };
           waits = s.performs.waits;
         };
         any_moment = λ h on. s.performs.any_moment h;
@@ -215,15 +215,16 @@ module _ {D : Type 0} (honest : Type 0) (folder : D → Folder) (moment : D → 
       -- all is flushed
       pub ends-flushed : i ≡ length all → (new : StoreView D) (given : Vec (Vec ℕ Global) Global) → answer_bytes given.items ≡ written → StaysTheSame now new
           → (honest → bytes_under (folder new.disk) Store ≡ bytes_under (folder now.disk) Store)
+          → (honest → staged_text (folder new.disk) new.staged ≡ staged_text (folder now.disk) now.staged)
           → (honest → (flushed : Contents) (waiting : List Command) → HasFlushed (folder now.disk) flushed waiting now.state → LeavesOnly moment since now.disk new.disk (λ image. AfterPrefix flushed waiting image.store))
           → (honest → HasFlushed (folder new.disk) new.state [] new.state) → (honest → AllImagesMean (folder new.disk) new.state)
           → Rounds honest folder moment since old new all (Ok given)
-      ends-flushed whole new given is same reads run flushes means = record {
+      ends-flushed whole new given is same reads stages run flushes means = record {
         requests = s.requests;
         ask = first-ask s.requests s.ask;
         ends = record {
           all = counted ∙ whole;
-          performs = record { stored = same-stored new same; reads = λ h. reads h ∙ s.performs.reads h };
+          performs = record { stored = same-stored new same; reads = λ h. reads h ∙ s.performs.reads h; stages = λ h. stages h ∙ s.performs.stages h };
           answers = is ∙ s.answers;
           flushed = flushes;
           now = means;

@@ -24,7 +24,7 @@ use Rattle.conf_session.specs.Replies.{LeavesPrefixes, Performs}
 use Rattle.conf_session.specs.Progress.{AreCounted, Passed, Answered, Fails}
 use Rattle.conf_session.specs.declared.pieces.Counts.{Counts}
 use Rattle.conf_session.specs.declared.session.Tally.{Tally}
-use Rattle.conf_session.proofs.PassedLemmas.{pieces-last, performs-none, performs-more, moments-more, waits-more, state-more, stored-more, reads-more, kept-all, kept-most, acknowledged-more, accepted_commands-last, output-last, refusals-last, take-beyond}
+use Rattle.conf_session.proofs.PassedLemmas.{pieces-last, performs-none, performs-more, moments-more, waits-more, state-more, stored-more, reads-more, stages-more, kept-all, kept-most, acknowledged-more, accepted_commands-last, output-last, refusals-last, take-beyond}
 
 -- The bytes that were read are pieces, whose requests are performed and answered, and further bytes.
 pub record SoFar {D : Type 0} (honest : Type 0) (folder : D → Folder) (moment : D → ℕ) (since : D → ℕ → Image → Type 0) (given left held written : Option (List ℕ)) (old new : StoreView D)
@@ -72,6 +72,7 @@ module _ {D : Type 0} (honest : Type 0) (folder : D → Folder) (moment : D → 
       state = ap (λ (t : Stored). t.state) s.passed.performs.stored;
       stored = λ on. s.passed.performs.stored;
       reads = λ h on. s.passed.performs.reads h;
+      stages = λ h on. s.passed.performs.stages h;
       any_moment = λ h on. s.passed.performs.any_moment h;
       kept = λ h on flushed waiting has.
           kept-all honest folder moment since old now s.requests (acknowledged (stored_of old) waiting s.requests) s.passed.performs.sound means h flushed waiting has
@@ -261,6 +262,7 @@ module _ {D : Type 0} (honest : Type 0) (folder : D → Folder) (moment : D → 
         state = state-more true honest folder moment since old now new s.requests r s.passed.performs does;
         stored = λ on. absurd (cc (on, broken));
         reads = λ h on. absurd (cc (on, broken));
+        stages = λ h on. absurd (cc (on, broken));
         any_moment = λ h on. moments-more true honest folder moment since old now new s.requests r s.passed.performs does h;
         kept = λ h on flushed waiting has. kept-most honest folder moment since old now new s.requests r s.passed.performs does h flushed waiting has counts_now;
         waits = λ h on. absurd (cc (on, broken));
@@ -299,6 +301,7 @@ module _ {D : Type 0} (honest : Type 0) (folder : D → Folder) (moment : D → 
             state = ap (λ (t : Stored). t.state) stored;
             stored = λ on. stored;
             reads = λ h on. reads-more true honest folder moment since old now new rs r s.passed.performs does h off;
+            stages = λ h on. stages-more true honest folder moment since old now new rs r s.passed.performs does h off;
             any_moment = λ h on. moments-more true honest folder moment since old now new rs r s.passed.performs does h;
             kept = λ h on flushed waiting has.
                 kept-all honest folder moment since old new (rs ++ r ∷ []) (acknowledged start waiting rs) off means h flushed waiting has
@@ -331,6 +334,7 @@ module _ {D : Type 0} (honest : Type 0) (folder : D → Folder) (moment : D → 
     state = refl;
     stored = λ on. refl;
     reads = λ h on. refl;
+    stages = λ h on. refl;
     any_moment = λ h on. absurd (broken on);
     kept = λ h on. absurd (broken on);
     waits = λ h on. absurd (broken on);
@@ -355,6 +359,7 @@ module _ {D : Type 0} (honest : Type 0) (folder : D → Folder) (moment : D → 
         state = refl;
         stored = λ on. refl;
         reads = λ h on. refl;
+        stages = λ h on. refl;
         any_moment = λ h on. none.any_moment h;
         kept = λ h on flushed waiting has. kept-all honest folder moment since store store [] (acknowledged (stored_of store) waiting []) off means h flushed waiting has has (omega arith);
         waits = λ h on flushed waiting has. has;

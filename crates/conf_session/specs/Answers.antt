@@ -143,6 +143,14 @@ file_after file now (changing command) = file_after_change file now command (out
 file_after file now checkpointing = Some (base_bytes now.state)
 file_after file now request = file
 
+-- ---- what the new file of a running checkpoint will read as after a request
+
+-- an accepted command appends its record to it too, a checkpoint gives it up, and all else leaves it
+abbrev pub staged_after : Option (List ℕ) → Stored → Request → Option (List ℕ)
+staged_after file now (changing command) = file_after_change file now command (outcome (longest now) now.state command)
+staged_after file now checkpointing = None
+staged_after file now request = file
+
 -- ---- requests, one after the other
 
 -- the bytes of each answer
@@ -164,6 +172,12 @@ abbrev pub file_after_all : Option (List ℕ) → Stored → List Request → Op
 file_after_all file now [] = file
 file_after_all file now (request ∷ requests) =
     file_after_all (file_after file now request) (stored_after now request) requests
+
+-- what the new file of a running checkpoint will read as after all requests
+abbrev pub staged_after_all : Option (List ℕ) → Stored → List Request → Option (List ℕ)
+staged_after_all file now [] = file
+staged_after_all file now (request ∷ requests) =
+    staged_after_all (staged_after file now request) (stored_after now request) requests
 
 abbrev pub accepted_by : Result Contents StoreFault → Command → List Command
 accepted_by (Ok new) command = command ∷ []

@@ -8,13 +8,13 @@ use Rattle.conf_disk.specs.Moments.{LeavesOnly}
 use Rattle.conf_disk.specs.declared.disk.Name.TheVariants.{Store}
 use Rattle.conf_state.specs.Commands.{Command}
 use Rattle.conf_state.specs.States.{Contents}
-use Rattle.conf_store.specs.Durable.{AfterPrefix, HasFlushed}
+use Rattle.conf_store.specs.Durable.{AfterPrefix, HasFlushed, staged_text}
 use Rattle.conf_store.specs.View.{StoreView}
 use Rattle.conf_session.specs.Input.{session_limit}
 use Rattle.conf_session.specs.declared.fault.SessionFault.{SessionFault}
 use Rattle.conf_session.specs.declared.fault.SessionFault.TheVariants as fault
 use Rattle.conf_session.specs.Requests.{Request, Asks}
-use Rattle.conf_session.specs.Answers.{Stored, answer, answer_limit, output, stored_after_all, file_after_all, accepted_commands, accepted_command, refusals, refused_of, flushed_after, waiting_after}
+use Rattle.conf_session.specs.Answers.{Stored, answer, answer_limit, output, stored_after_all, file_after_all, staged_after_all, accepted_commands, accepted_command, refusals, refused_of, flushed_after, waiting_after}
 use Rattle.conf_session.specs.Runs.{stored_of}
 use Rattle.conf_session.specs.Replies.{Performs}
 use Rattle.conf_session.specs.declared.pieces.Counts.{Counts}
@@ -33,6 +33,8 @@ pub record PerformsAll (at_once : Bool) {D : Type 0} (honest : Type 0) (folder :
   pub stored : stored_of new ≡ stored_after_all (stored_of old) requests
   pub reads : honest → bytes_under (folder new.disk) Store
       ≡ file_after_all (bytes_under (folder old.disk) Store) (stored_of old) requests
+  pub stages : honest → staged_text (folder new.disk) new.staged
+      ≡ staged_after_all (staged_text (folder old.disk) old.staged) (stored_of old) requests
   pub any_moment : honest → (flushed : Contents) (waiting : List Command)
       → HasFlushed (folder old.disk) flushed waiting old.state
       → LeavesOnly moment since old.disk new.disk

@@ -7,13 +7,13 @@ use Rattle.conf_disk.specs.Moments.{LeavesOnly}
 use Rattle.conf_disk.specs.declared.disk.Name.TheVariants.{Store}
 use Rattle.conf_state.specs.Commands.{Command}
 use Rattle.conf_state.specs.States.{Contents}
-use Rattle.conf_store.specs.Durable.{AfterPrefix, HasFlushed, AllImagesAfterPrefix}
+use Rattle.conf_store.specs.Durable.{AfterPrefix, HasFlushed, AllImagesAfterPrefix, staged_text}
 use Rattle.conf_store.specs.View.{StoreView}
 use Rattle.conf_session.specs.Said.{Said}
 use Rattle.conf_session.specs.declared.fault.SessionFault.{SessionFault}
 use Rattle.conf_session.specs.declared.fault.SessionFault.TheVariants.{OutOfMemory, Device}
 use Rattle.conf_session.specs.Requests.{Request, changing, checkpointing, MeansRequest, Asks}
-use Rattle.conf_session.specs.Answers.{Stored, answer, answer_limit, refusal, word, stored_after, file_after, accepted_command, refused_of, flushed_after, waiting_after}
+use Rattle.conf_session.specs.Answers.{Stored, answer, answer_limit, refusal, word, stored_after, file_after, staged_after, accepted_command, refused_of, flushed_after, waiting_after}
 use Rattle.conf_session.specs.Runs.{stored_of}
 use Rattle.conf_session.specs.declared.reply.Way.{Way}
 use Rattle.conf_session.specs.declared.reply.Way.TheVariants.{AtOnce, Submitted}
@@ -55,7 +55,7 @@ LeavesPrefixes folder s =
     (flushed : Contents) (waiting : List Command) → HasFlushed folder flushed waiting s
     → AllImagesAfterPrefix folder flushed waiting
 
--- A request is performed: the state, the lengths and the file are those after it. A crash leaves the state after a
+-- A request is performed: the state, the lengths and the files are those after it. A crash leaves the state after a
 -- prefix of the commands that waited and of this one. `at_once` says whether an accepted command is flushed at once.
 pub record Performs (at_once : Bool) {D : Type 0} (honest : Type 0) (folder : D → Folder) (moment : D → ℕ)
     (since : D → ℕ → Image → Type 0) (old new : StoreView D) (request : Request) : Type 0 where
@@ -63,6 +63,9 @@ pub record Performs (at_once : Bool) {D : Type 0} (honest : Type 0) (folder : D 
   pub stored : new.reopen ≡ false → stored_of new ≡ stored_after (stored_of old) request
   pub reads : honest → new.reopen ≡ false
       → bytes_under (folder new.disk) Store ≡ file_after (bytes_under (folder old.disk) Store) (stored_of old) request
+  pub stages : honest → new.reopen ≡ false
+      → staged_text (folder new.disk) new.staged
+      ≡ staged_after (staged_text (folder old.disk) old.staged) (stored_of old) request
   pub any_moment : honest → (flushed : Contents) (waiting : List Command)
       → HasFlushed (folder old.disk) flushed waiting old.state
       → LeavesOnly moment since old.disk new.disk

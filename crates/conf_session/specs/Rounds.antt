@@ -10,10 +10,10 @@ use Rattle.conf_disk.specs.Moments.{LeavesOnly}
 use Rattle.conf_disk.specs.declared.disk.Name.TheVariants.{Store}
 use Rattle.conf_state.specs.Commands.{Command}
 use Rattle.conf_state.specs.States.{Contents}
-use Rattle.conf_store.specs.Durable.{AfterPrefix, AllImagesMean, HasFlushed}
+use Rattle.conf_store.specs.Durable.{AfterPrefix, AllImagesMean, HasFlushed, staged_text}
 use Rattle.conf_store.specs.View.{StoreView}
 use Rattle.conf_session.specs.Requests.{Request, bad, Asks}
-use Rattle.conf_session.specs.Answers.{answer, answers, stored_after_all, file_after_all, accepted_commands, flushed_after, waiting_after}
+use Rattle.conf_session.specs.Answers.{answer, answers, stored_after_all, file_after_all, staged_after_all, accepted_commands, flushed_after, waiting_after}
 use Rattle.conf_session.specs.Runs.{stored_of}
 use Rattle.conf_session.specs.Replies.{Did, Performs}
 use Rattle.conf_session.specs.declared.reply.Reply.{Reply}
@@ -48,6 +48,8 @@ pub record RoundPerforms {D : Type 0} (honest : Type 0) (folder : D → Folder) 
   pub stored : stored_of new ≡ stored_after_all (stored_of old) requests
   pub reads : honest → bytes_under (folder new.disk) Store
       ≡ file_after_all (bytes_under (folder old.disk) Store) (stored_of old) requests
+  pub stages : honest → staged_text (folder new.disk) new.staged
+      ≡ staged_after_all (staged_text (folder old.disk) old.staged) (stored_of old) requests
 
 -- all pieces are performed, answered and flushed
 pub record EndsFlushed {D : Type 0} (honest : Type 0) (folder : D → Folder) (old new : StoreView D) (count : ℕ)

@@ -11,7 +11,7 @@ use Rattle.conf_state.specs.Commands.{Command}
 use Rattle.conf_state.specs.States.{Contents}
 use Rattle.conf_state.specs.Steps.{after}
 use Rattle.conf_store.specs.Meaning.{FileMeans}
-use Rattle.conf_store.specs.Durable.{AfterPrefix, HasFlushed}
+use Rattle.conf_store.specs.Durable.{AfterPrefix, HasFlushed, staged_text}
 use Rattle.conf_store.specs.Staged.{Staged}
 use Rattle.conf_store.specs.View.{StoreView}
 use Rattle.conf_session.specs.Said.{piece_limit}
@@ -19,7 +19,7 @@ use Rattle.conf_session.specs.Input.{session_limit, IsOverlong}
 use Rattle.conf_session.specs.declared.fault.SessionFault.{SessionFault}
 use Rattle.conf_session.specs.declared.fault.SessionFault.TheVariants as fault
 use Rattle.conf_session.specs.Requests.{Request, AllAsk}
-use Rattle.conf_session.specs.Answers.{Stored, answer_limit, output, stored_after_all, file_after_all, accepted_commands, refusals, flushed_after, waiting_after, acknowledged}
+use Rattle.conf_session.specs.Answers.{Stored, answer_limit, output, stored_after_all, file_after_all, staged_after_all, accepted_commands, refusals, flushed_after, waiting_after, acknowledged}
 use Rattle.conf_session.specs.declared.session.Tally.{Tally}
 
 -- the state of a store, the length of its file, and that of the new file of a running checkpoint
@@ -163,6 +163,10 @@ pub record Runs {D : Type 0} (honest : Type 0) (folder : D → Folder) (moment :
   pub reads : honest → new.reopen ≡ false
       → bytes_under (folder new.disk) Store
       ≡ file_after_all (bytes_under (folder old.disk) Store) (stored_of old) performed
+  -- the records were appended to the new file of a running checkpoint too
+  pub stages : honest → new.reopen ≡ false
+      → staged_text (folder new.disk) new.staged
+      ≡ staged_after_all (staged_text (folder old.disk) old.staged) (stored_of old) performed
   -- a crash at any moment leaves the state after a prefix of the commands that waited and of the accepted ones
   pub any_moment : honest → old.reopen ≡ false → (flushed : Contents) (waiting : List Command)
       → HasFlushed (folder old.disk) flushed waiting old.state

@@ -8,7 +8,7 @@ ghost use Rattle.conf_journal.specs.Store.{file_with_bytes};
 ghost use Rattle.conf_state.specs.Commands.{Command as GivenCommand, command_of};
 ghost use Rattle.conf_state.specs.States.{Contents};
 ghost use Rattle.conf_store.specs.Calls.{Accepts, HasFailed, RefusesCommand, next_record};
-ghost use Rattle.conf_store.specs.Durable.{AfterPrefix, AllImagesMean, HasFlushed};
+ghost use Rattle.conf_store.specs.Durable.{AfterPrefix, AllImagesMean, HasFlushed, staged_text};
 ghost use Rattle.conf_store.specs.Meaning.{FileMeans};
 ghost use Rattle.conf_session.specs.Said.{import_text};
 ghost use Rattle.conf_session.specs.Requests.{changing, checkpointing};
@@ -74,6 +74,10 @@ fn perform<D: Disk>(store: &mut Store<D>, command: Command, way: Way) -> Result<
     ensures reads { D.honest → store.old.reopen ≡ false →
         OnOk result (bytes_under (D.folder store.new.disk) Name.Store
         ≡ file_with_bytes (bytes_under (D.folder store.old.disk) Name.Store)
+        (next_record store.old.state (command_of command))) }
+    ensures stages { D.honest → store.old.reopen ≡ false →
+        OnOk result (staged_text (D.folder store.new.disk) store.new.staged
+        ≡ file_with_bytes (staged_text (D.folder store.old.disk) store.old.staged)
         (next_record store.old.state (command_of command))) }
     ensures any_moment { D.honest → store.old.reopen ≡ false →
         (flushed : Contents) (waiting : List GivenCommand)

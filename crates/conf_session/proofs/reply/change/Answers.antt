@@ -28,7 +28,7 @@ returns-in-Ok-clause-did g c off =
     let same = count-after old.state new.state command (has_room (journal_length old) old.state command) c.saturating_add-next.result ok.step ok.count next in (
       accepted-reply (stored_of old) c.count.ensures.limits new.state command c.in_ok-answer.answer c.saturating_add-next.result here same c.in_ok-answer.ensures,
       ok.reopen,
-      command-performed (is_at_once c.args.way) d.honest d.folder d.moment d.left old new command ok.step (λ on. ok) (λ h on. c.in-Ok.ensures.reads h off) (λ h. c.in-Ok.ensures.any_moment h off)
+      command-performed (is_at_once c.args.way) d.honest d.folder d.moment d.left old new command ok.step (λ on. ok) (λ h on. c.in-Ok.ensures.reads h off) (λ h on. c.in-Ok.ensures.stages h off) (λ h. c.in-Ok.ensures.any_moment h off)
           (λ h on. c.in-Ok.ensures.waits h off),
     )
 
@@ -41,7 +41,7 @@ returns-in-Err-Device-clause-did g c off =
     let broken : new.reopen ≡ true = c.in-Err-Device.ensures.device (ap Err c.in-Err-Device.field-0-is) in
     let done : outcome (journal_length old) old.state command ≡ Ok new.state = subst (RefusesCommand old command new) c.in-Err-Device.field-0-is c.in-Err-Device.ensures.refused in (
       broken,
-      command-performed (is_at_once c.args.way) d.honest d.folder d.moment d.left old new command done (λ on. absurd (cc (on, broken))) (λ h on. absurd (cc (on, broken))) (λ h. c.in-Err-Device.ensures.any_moment h off)
+      command-performed (is_at_once c.args.way) d.honest d.folder d.moment d.left old new command done (λ on. absurd (cc (on, broken))) (λ h on. absurd (cc (on, broken))) (λ h on. absurd (cc (on, broken))) (λ h. c.in-Err-Device.ensures.any_moment h off)
           (λ h on. absurd (cc (on, broken))),
     )
 

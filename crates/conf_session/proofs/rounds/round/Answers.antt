@@ -69,7 +69,7 @@ returns-in-Ok-clause-rounds g c =
     let upto : i ≤ length c.args.pieces.now = c.turns.auto.piece-index-end in
     let past : length c.args.pieces.now ≤ i = c.turns-test.false in
     ends-flushed d.honest d.folder d.moment d.left c.args.store.now c.turns.store (take i all) (answer_bytes c.turns.answers.items) inv.so_far all i (omega (arith, long, upto)) refl (omega (arith, long, upto, past))
-    c.flush.new.self c.turns.answers refl c.flush.ensures.same c.flush.ensures.reads (λ h. c.flush.ensures.any_moment h inv.sound) c.in-Ok.ensures.flushed c.in-Ok.ensures.now
+    c.flush.new.self c.turns.answers refl c.flush.ensures.same c.flush.ensures.reads c.flush.ensures.stages (λ h. c.flush.ensures.any_moment h inv.sound) c.in-Ok.ensures.flushed c.in-Ok.ensures.now
 
 pub returns-in-Err-clause-rounds : goal.returns-in-Err-clause-rounds
 returns-in-Err-clause-rounds g c =
