@@ -1,3 +1,5 @@
 pub mod StoreLemmas
 pub mod Formatting
 pub mod ReportLemmas
+pub mod OpeningLemmas
+pub mod SessionLemmas

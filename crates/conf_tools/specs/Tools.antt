@@ -19,6 +19,16 @@ pub record HasRead (given left : Option (List ℕ)) (bytes : List ℕ) (most : �
   pub within : length bytes ≤ most
   pub at_end : length bytes < most → IsAtEnd left
 
+-- no more than so many bytes were taken from the reader
+pub record ReadsAtMost (given left : Option (List ℕ)) (most : ℕ) : Type 0 where
+  pub bytes : List ℕ
+  pub taken : Consumes given left bytes
+  pub within : length bytes ≤ most
+
+-- The most bytes of an input that are read: one more than a text may have, by which a text that is too long is found.
+abbrev pub most_input : ℕ
+most_input = config_limits.bytes + 1
+
 -- the reader's bytes, to its end, give a tree, and its text in the one style was written
 pub record Formats (given left held written : Option (List ℕ)) : Type 0 where
   pub bytes : List ℕ
@@ -50,7 +60,7 @@ pub record Checks (given left held written : Option (List ℕ)) (count : ℕ) : 
 -- the bytes that were read are refused, and nothing was written
 pub record RefusesInput (given left held written : Option (List ℕ)) (fault : ReadFault) : Type 0 where
   pub bytes : List ℕ
-  pub read : HasRead given left bytes (config_limits.bytes + 1)
+  pub read : HasRead given left bytes most_input
   pub refuses : Refuses bytes config_limits fault
   pub keeps : Keeps held written
 

@@ -1,6 +1,6 @@
 // Reading an input, up to a limit.
 ghost use Rattle.std.specs.Prelude.{◌≡◌, ◌⊎◌, IfOk, IfErr};
-ghost use Rattle.conf_tools.specs.Tools.{HasRead};
+ghost use Rattle.conf_tools.specs.Tools.{HasRead, ReadsAtMost};
 
 use crate::texts::ToolFault;
 use std::alloc::Global;
@@ -10,8 +10,8 @@ use yaml_tree::ReadFault;
 /// The most bytes that are read at once.
 const CHUNK: usize = 65_536;
 
-/// The bytes that the reader gives up to its end, or the first `most` of them. A read that was interrupted is tried
-/// again.
+/// The bytes that the reader gives up to its end, or the first `most` of them. Whatever it returns, at most so many are
+/// read. A read that was interrupted is tried again.
 ///
 /// # Errors
 ///
@@ -22,6 +22,7 @@ pub fn read_up_to<R: Read>(alloc: Global, reader: &mut R, most: usize) -> Result
         HasRead (R.remaining reader.old) (R.remaining reader.new) bytes.items most) }
     ensures faults { IfErr result (λ fault. (fault ≡ ToolFault.Input)
         ⊎ (fault ≡ ToolFault.Read ReadFault.OutOfMemory)) }
+    ensures bounded { ReadsAtMost (R.remaining reader.old) (R.remaining reader.new) most }
 {
     let mut bytes = Vec::new(alloc);
     let mut chunk = [0; CHUNK];

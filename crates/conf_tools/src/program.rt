@@ -131,8 +131,14 @@ fn run_folder<F: Files<File = File>, R: Read, W: Write, E: Write>(
         Err(fault) => return write_store_fault(errors, StoreToolFault::Folder(fault)),
     };
     match run_store(alloc, disk, reader, writer) {
-        Ok(_) => Status::Done,
-        Err(fault) => write_store_fault(errors, fault),
+        Ok((disk, _)) => {
+            drop(disk);
+            Status::Done
+        }
+        Err((disk, fault)) => {
+            drop(disk);
+            write_store_fault(errors, fault)
+        }
     }
 }
 

@@ -1,17 +1,14 @@
 // The tools for stores, over any disk, reader and writer.
-ghost use Rattle.std.specs.Prelude.{◌≡◌, ◌≢◌, OnOk, IfOk, IfErr, false};
-ghost use Rattle.std.specs.Io.KnownBytes.{Keeps};
+ghost use Rattle.std.specs.Prelude.{OnOk, IfOk, IfErr};
 ghost use Rattle.std.specs.Str.{chars};
-ghost use Rattle.conf_disk.specs.Folder.{bytes_under};
-ghost use Rattle.conf_store.specs.Meaning.{FileMeans};
-ghost use Rattle.conf_tools.specs.Stores.{RunsOn, ExportsFrom};
+ghost use Rattle.conf_tools.specs.Stores.{CannotOpen, ExportsFrom, OpensOn, RefusesExport, RunsOn, SurvivesCrashes};
 
 use crate::texts::write_whole;
-use conf_disk::{Disk, Name};
+use conf_disk::Disk;
 use conf_folder::FolderFault;
-use conf_session::{SessionFault, Tally, run};
+use conf_session::{SessionFault, Tally, answers_acknowledge, run};
 use conf_state::StoreFault;
-use conf_store::{OpenFault, Store};
+use conf_store::{OpenFault, Store, bytes_mean_one_state};
 use std::alloc::Global;
 use std::io::{Read, Write};
 use thiserror::Error;
@@ -36,41 +33,53 @@ pub enum StoreToolFault {
     Output,
 }
 
-/// Opens the store on `disk`.
-fn open_store<D: Disk + Drop>(alloc: Global, disk: D) -> Result<Store<D>, StoreToolFault>
-    ensures means { D.honest → IfOk result (λ store.
-        FileMeans (bytes_under (D.folder disk) Name.Store) store.state) }
-    ensures no_reopen { IfOk result (λ store. store.reopen ≡ false) }
-    ensures fault { IfErr result (λ fault. (cause : OpenFault)
-        × (fault ≡ StoreToolFault.Open cause)) }
+/// Opens the store on `disk`. Nothing waits then, and no checkpoint runs.
+fn open_store<D: Disk + Drop>(alloc: Global, disk: D) -> Result<Store<D>, (D, OpenFault)>
+    ensures opens { IfOk result (OpensOn D.honest D.folder D.moment D.left disk) }
+    ensures refused { IfErr result (λ r.
+        CannotOpen D.honest D.folder D.moment D.left disk r.0 r.1) }
 {
+    bytes_mean_one_state();
     match Store::open(alloc, disk) {
-        Ok((store, _)) => Ok(store),
-        Err((_, fault)) => Err(StoreToolFault::Open(fault)),
+        Ok((store, _)) => {
+            let _ = store.needs_reopen();
+            Ok(store)
+        }
+        Err(refused) => Err(refused),
     }
 }
 
 /// Opens the store on `disk`, performs the commands that `reader` gives, and writes the answers to `writer`, as
-/// [`run`](conf_session::run) does. Returns what was done.
+/// [`run`](conf_session::run) does. Returns the disk, and what was done.
+///
+/// A crash at any moment leaves a `store.yaml` that means the state after a prefix of the accepted commands. Once this
+/// returns, that prefix has every command whose answer was written.
 ///
 /// # Errors
-/// `Open` if the store can't be opened: nothing is read or written. `Session` if the session ends before the end of its
-/// input.
+/// The disk is returned with the fault. `Open` if the store can't be opened: nothing is read or written, and, but for
+/// `Device`, no file has changed. `Session` if the session ends before the end of its input.
 pub fn run_store<D: Disk + Drop, R: Read, W: Write>(
     alloc: Global,
     disk: D,
     reader: &mut R,
     writer: &mut W,
-) -> Result<Tally, StoreToolFault>
-    ensures { RunsOn D.honest D.folder disk (R.remaining reader.old) (R.remaining reader.new)
-        (W.contents writer.old) (W.contents writer.new) result }
+) -> Result<(D, Tally), (D, StoreToolFault)>
+    ensures runs { RunsOn D.honest D.folder D.moment D.left (R.remaining reader.old)
+        (R.remaining reader.new) (W.contents writer.old) (W.contents writer.new) disk result }
+    // No crash loses a command that was answered, or keeps one that was not accepted.
+    ensures crashes { D.honest → SurvivesCrashes D.folder D.moment D.left (R.remaining reader.old)
+        (R.remaining reader.new) (W.contents writer.old) (W.contents writer.new) disk result }
 {
-    let mut store = open_store(alloc, disk)?;
+    answers_acknowledge();
+    let mut store = match open_store(alloc, disk) {
+        Ok(store) => store,
+        Err((disk, fault)) => return Err((disk, StoreToolFault::Open(fault))),
+    };
     let result = run(alloc, &mut store, reader, writer);
-    store.close();
+    let disk = store.close();
     match result {
-        Ok(tally) => Ok(tally),
-        Err(fault) => Err(StoreToolFault::Session(fault)),
+        Ok(tally) => Ok((disk, tally)),
+        Err(fault) => Err((disk, StoreToolFault::Session(fault))),
     }
 }
 
@@ -87,10 +96,13 @@ pub fn export_store<D: Disk + Drop, W: Write>(
 ) -> Result<(), StoreToolFault>
     ensures ok { OnOk result (ExportsFrom D.honest D.folder disk (chars name.now)
         (W.contents writer.old) (W.contents writer.new)) }
-    ensures refused { IfErr result (λ fault. fault ≢ StoreToolFault.Output →
-        Keeps (W.contents writer.old) (W.contents writer.new)) }
+    ensures refused { IfErr result (RefusesExport D.honest D.folder disk (chars name.now)
+        (W.contents writer.old) (W.contents writer.new)) }
 {
-    let store = open_store(alloc, disk)?;
+    let store = match open_store(alloc, disk) {
+        Ok(store) => store,
+        Err((_, fault)) => return Err(StoreToolFault::Open(fault)),
+    };
     let exported = store.export(name);
     store.close();
     let text = match exported {

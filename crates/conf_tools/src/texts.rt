@@ -1,7 +1,7 @@
 // The tools for texts, over any reader and writer.
 ghost use Rattle.std.specs.Prelude.{◌≡◌, IfErr, IfOk, OnOk};
 ghost use Rattle.std.specs.Io.KnownBytes.{Appends};
-ghost use Rattle.conf_tools.specs.Tools.{Checks, Formats, Stops};
+ghost use Rattle.conf_tools.specs.Tools.{Checks, Formats, ReadsAtMost, Stops, most_input};
 
 use crate::input::read_up_to;
 use crate::report::report;
@@ -56,6 +56,8 @@ pub fn format_text<R: Read, W: Write>(
         (W.contents writer.old) (W.contents writer.new)) }
     ensures stops { IfErr result (Stops (R.remaining reader.old) (R.remaining reader.new)
         (W.contents writer.old) (W.contents writer.new)) }
+    // Whatever it returns, at most 1,048,577 bytes of the input were read.
+    ensures bounded { ReadsAtMost (R.remaining reader.old) (R.remaining reader.new) most_input }
 {
     let bytes = read_up_to(alloc, reader, MOST_INPUT)?;
     let text = match format_one(alloc, &bytes, &Limits::CONFIGURATION) {
@@ -85,6 +87,8 @@ pub fn check_text<R: Read, W: Write>(
         (W.contents writer.old) (W.contents writer.new)) }
     ensures stops { IfErr result (Stops (R.remaining reader.old) (R.remaining reader.new)
         (W.contents writer.old) (W.contents writer.new)) }
+    // Whatever it returns, at most 1,048,577 bytes of the input were read.
+    ensures bounded { ReadsAtMost (R.remaining reader.old) (R.remaining reader.new) most_input }
 {
     let bytes = read_up_to(alloc, reader, MOST_INPUT)?;
     let findings = match check(alloc, &bytes) {

@@ -1,5 +1,6 @@
 // Calls of an open store.
 use crate::groups::{begin, flush, running, slice, slices, submit};
+use crate::rounds::round_of;
 use crate::sessions::{copies, failing, parts, roomy};
 use crate::store_commands::{delete, set};
 use conf_state::{Command, StoreFault};
@@ -39,6 +40,7 @@ pub(crate) fn call(
         ["export", name] => export(alloc, store, name),
         ["get", name, path] => get(alloc, store, name, path),
         ["reopen"] => reopen(alloc, store),
+        ["round", pieces @ ..] => round_of(alloc, store, pieces),
         ["session", input] => parts(alloc, store, usize::MAX, input),
         ["parts", bytes, input] => parts(alloc, store, number_of(bytes) as usize, input),
         ["broken", input] => failing(alloc, store, ErrorKind::BrokenPipe, input),

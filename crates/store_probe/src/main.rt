@@ -27,6 +27,8 @@
 //! - `running`: whether a checkpoint runs.
 //! - `checkpoint`, `count`, `names`, `export;NAME`, `get;NAME;PATH` and `reopen`: the call of this name, the last one
 //!   for whether the store has to be opened again.
+//! - `round;TEXT;TEXT;..`: a round of these pieces. The answer is how many answers there are and their text, or why there
+//!   are none.
 //! - `session;TEXT`: a session on this input. The answer is how it ends, how many bytes of its input are not read, and
 //!   its output. `parts;BYTES;TEXT`: at most so many bytes are read at a time. `broken;TEXT` and `interrupted;TEXT`: at
 //!   most 100, and after them a read fails. `room;BYTES;TEXT`: the output takes so many bytes. `copies;COUNT;TEXT`: the
@@ -40,6 +42,7 @@ mod calls;
 mod folders;
 mod groups;
 mod orders;
+mod rounds;
 mod sessions;
 mod store_commands;
 

@@ -1,5 +1,5 @@
 -- What was read so far and what the last read gave are what the reader lost.
-use Rattle.std.proofs.Common.{[], ◌++◌, ◌≤◌, length, sym, Ok, refl, ap, ◌∙◌, append-nil, subst, arith}
+use Rattle.std.proofs.Common.{[], ◌++◌, ◌≤◌, length, take, sym, Ok, refl, ap, ◌∙◌, append-nil, subst, arith}
 use Rattle.std.proofs.KnownBytes.{Consumes-trans, Consumes-kept}
 use Rattle.std.proofs.lemmas.Grind.{common_steps}
 use Rattle.std.proofs.lemmas.List.{take-append-le}
@@ -21,6 +21,28 @@ returns-in-Ok-eq0-clause-ok g c =
       within = c.loop.invariant.0;
       at_end = λ _. read.1 refl (grind (arith, common_steps));
     }
+
+pub returns-then-room-eq0-clause-bounded : goal.returns-then-room-eq0-clause-bounded
+returns-then-room-eq0-clause-bounded g c =
+    record { bytes = c.loop.bytes.items; taken = c.loop.invariant.1; within = c.loop.invariant.0 }
+
+pub returns-in-Ok-eq0-clause-bounded : goal.returns-in-Ok-eq0-clause-bounded
+returns-in-Ok-eq0-clause-bounded g c =
+    let left = g.R.Read.remaining c.read.new.self in
+    let read = subst (λ r. ReadConsumes (g.R.Read.remaining c.loop.reader) left r c.read.new.buf) (c.in-Ok-eq0.is ∙ ap Ok c.in-Ok-eq0.field-0-test) c.read.ensures.bytes in
+    let joined = Consumes-trans _ _ _ c.loop.bytes.items [] c.loop.invariant.1 read.0 in
+    record {
+      bytes = c.loop.bytes.items;
+      taken = subst (Consumes (g.R.Read.remaining c.args.reader.now) left) (append-nil c.loop.bytes.items) joined;
+      within = c.loop.invariant.0;
+    }
+
+pub returns-in_err-extend_from_slice-in-Ok-clause-bounded : goal.returns-in_err-extend_from_slice-in-Ok-clause-bounded
+returns-in_err-extend_from_slice-in-Ok-clause-bounded g c = record {
+  bytes = c.loop.bytes.items ++ take c.in-Ok.count c.read.new.buf;
+  taken = Consumes-trans _ _ _ c.loop.bytes.items _ c.loop.invariant.1 c.in-Ok.ensures.bytes.0;
+  within = grind (arith, common_steps);
+}
 
 pub loop-preserved : goal.loop-preserved
 loop-preserved g c =
