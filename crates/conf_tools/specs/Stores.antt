@@ -92,9 +92,9 @@ RunsOn honest folder moment since given left held written old (Err (new, fault))
 
 -- ---- what a crash leaves of a session
 
--- What a session on a store promises. A crash at any moment of the call leaves the state after a prefix of the accepted commands, from the
--- state that `store.yaml` meant; or, as while it is being opened, what the disk might have left before. Once the call
--- has returned, it is the state after a prefix that has every command whose answer was written.
+-- What a session on a store promises. A crash at any moment of the call leaves the state after a prefix of the accepted
+-- commands, from the state that `store.yaml` meant; or, as while it is being opened, what the disk might have left
+-- before. Once the call has returned, it is the state after a prefix that has every command whose answer was written.
 pub record KeepsAnswered {D : Type 0} (folder : D → Folder) (moment : D → ℕ) (since : D → ℕ → Image → Type 0)
     (given left held written : Option (List ℕ)) (old new : D) (result : Result Tally SessionFault) : Type 0 where
   pub start : Stored
