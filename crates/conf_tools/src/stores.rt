@@ -52,8 +52,9 @@ fn open_store<D: Disk + Drop>(alloc: Global, disk: D) -> Result<Store<D>, (D, Op
 /// Opens the store on `disk`, performs the commands that `reader` gives, and writes the answers to `writer`, as
 /// [`run`](conf_session::run) does. Returns the disk, and what was done.
 ///
-/// A crash at any moment leaves a `store.yaml` that means the state after a prefix of the accepted commands. Once this
-/// returns, that prefix has every command whose answer was written.
+/// A crash at any moment leaves a `store.yaml` that means the state after a prefix of the accepted commands, or what one
+/// before the call could have left. Once this returns after a session, it leaves the state after a prefix that has every
+/// command whose answer was written.
 ///
 /// # Errors
 /// The disk is returned with the fault. `Open` if the store can't be opened: nothing is read or written, and, but for
