@@ -4,7 +4,8 @@
 - Each answer arrives before the next command is sent, and a session's input may come byte by byte.
 - 200 sessions of 50 commands are killed at random moments. The store is opened again each time: no command that was
   answered is missing, and none is there that was not sent.
-- Output to a full device, and folders that are missing, a file, read-only or locked.
+- Output to a full device, and folders that are missing, a file, read-only or locked. An export reads a store in a
+  folder that is read-only, and one that a full device keeps from being recovered.
 - The lock's file is deleted or replaced and the folder moved during a session, also where there is no /proc; links,
   FIFOs and folders lie at the names of the files.
 - A file that replaces a store has its owner, its group and its mode, for root and for `nobody`.
@@ -20,10 +21,12 @@ A seed for the random moments may follow. The status is 0 if all is as it should
 
 import errno
 import fcntl
+import functools
 import os
 import pwd
 import random
 import re
+import resource
 import shutil
 import socket
 import stat
@@ -197,9 +200,34 @@ def read_only_folders_are_refused(top, failures):
         done = subprocess.run([program, "run", folder], input=b"names:\n...\n", capture_output=True, check=False, **who)
         wanted = (3, b"", b"confstore: Device\n")
         failures.expect(f"a read-only folder, {name}", (done.returncode, done.stdout, done.stderr), wanted)
+        done = subprocess.run([program, "export", folder, "a"], capture_output=True, check=False, **who)
+        wanted = (0, b"x\n", b"") if files else (1, b"", b"confstore: NoConfig\n")
+        failures.expect(f"an export, {name}", (done.returncode, done.stdout, done.stderr), wanted)
         left = {file: read_file(os.path.join(folder, file)) for file in os.listdir(folder)}
         failures.expect(f"the files of a read-only folder, {name}", left, files)
         os.chmod(folder, 0o755)
+
+
+def limited(most, words, commands=b""):
+    """The program where no file may have more bytes, and a write that would pass that fails."""
+    limit = functools.partial(resource.setrlimit, resource.RLIMIT_FSIZE, (most, most))
+    more = {"input": commands, "capture_output": True, "check": False, "restore_signals": False, "preexec_fn": limit}
+    done = subprocess.run([PROGRAM, *words], **more)
+    return done.returncode, done.stdout, done.stderr.decode()
+
+
+def a_full_device_is_read(top, failures):
+    """A limit on the sizes of files stands for a full device, which tears an append."""
+    folder = folder_with_store(top, "full device")
+    store = os.path.join(folder, "store.yaml")
+    failures.expect("a torn append", limited(len(EMPTY + IMPORT) + 10, ["run", folder], SET), DEVICE)
+    torn = read_file(store)
+    failures.expect("what the append left", (torn.startswith(EMPTY + IMPORT), len(torn)), (True, len(EMPTY + IMPORT) + 10))
+    failures.expect("a session on a full device", limited(0, ["run", folder], LOOK), DEVICE)
+    failures.expect("an export from a full device", limited(0, ["export", folder, "a"]), (0, b"x\n", ""))
+    failures.expect("an unknown name", limited(0, ["export", folder, "b"]), (1, b"", "confstore: NoConfig\n"))
+    failures.expect("the file", read_file(store), torn)
+    failures.expect("a session with space again", session(folder, LOOK), (0, b"---\nvalue: x\n...\n", ""))
 
 
 def folder_with_store(top, name):
@@ -450,6 +478,7 @@ def main():
         killed_sessions_lose_nothing(top, failures, random.Random(seed))
         outputs_and_folders_fail(top, failures)
         read_only_folders_are_refused(top, failures)
+        a_full_device_is_read(top, failures)
         a_lock_outlives_its_file(top, failures)
         a_moved_folder_keeps_its_store(top, failures)
         only_plain_files_are_used(top, failures)

@@ -1,0 +1,71 @@
+#!/usr/bin/env python3
+"""Flips single bits of journals, and counts how many a session notices.
+
+A store has no checksums. A flipped bit is noticed if the file is then refused (`Damaged`, `NotAStore`), or ends in a
+piece that isn't closed, which opening drops and counts. Otherwise it changed a text, a key, a name or a spelling, and
+the session goes on with what the file now says. Nothing is judged but that no session ends in any other way. The
+figures say what to expect of a device that changes bytes.
+
+Run it from the repository's root after the program is built; it takes some seconds:
+
+    ./confstore --version && python3 checks/flipped_bits.py
+
+A seed may follow. The status is 0 if all is as it should be.
+"""
+
+import os
+import random
+import sys
+import tempfile
+from collections import Counter
+
+from store_runs import Failures, need_program, read_file, session, write_file
+
+FLIPS = 300
+
+# Short edits as a program makes them, texts as people write them, and lists of numbers.
+JOURNALS = {
+    "edits of one value": ['import: app\ntext: "port: 80"\n...\n']
+    + [f"set: app\npath: /port\nvalue: {number}\n...\n" for number in range(300)],
+    "texts": [
+        f"import: page{number}\ntext: |\n  title: Page {number}\n  body: |\n    Some words about it,\n    on two lines.\n...\n"
+        for number in range(100)
+    ],
+    "lists": ['import: log\ntext: "[]"\n...\n']
+    + [f"set: log\npath: /-\nvalue: [{number}, {number * 7919}]\n...\n" for number in range(300)],
+}
+
+
+def seen(folder, before, failures):
+    """What a session makes of the file in the folder, where it answered `before` for the whole one."""
+    status, answers, errors = session(folder, b"---\nnames:\n...\n")
+    if status == 1 and errors in ("confstore: Damaged\n", "confstore: NotAStore\n"):
+        return "refused"
+    failures.expect("a session on a changed file", (status, errors), (0, ""))
+    size = os.path.getsize(os.path.join(folder, "store.yaml"))
+    return "read as it is" if size == before and answers else "cut at its end"
+
+
+def main():
+    need_program()
+    seed = int(sys.argv[1]) if len(sys.argv) > 1 else random.randrange(10**9)
+    print(f"seed {seed}")
+    chance, failures = random.Random(seed), Failures()
+    with tempfile.TemporaryDirectory() as top:
+        for name, commands in JOURNALS.items():
+            store = os.path.join(top, name)
+            os.mkdir(store)
+            session(store, "".join(commands).encode())
+            journal = read_file(os.path.join(store, "store.yaml"))
+            counts = Counter()
+            for _ in range(FLIPS):
+                changed, place = bytearray(journal), chance.randrange(len(journal))
+                changed[place] ^= 1 << chance.randrange(8)
+                write_file(os.path.join(store, "store.yaml"), changed)
+                counts[seen(store, len(journal), failures)] += 1
+            print(f"{name}: of {FLIPS} flipped bits", ", ".join(f"{count} {what}" for what, count in counts.items()))
+    return failures.report()
+
+
+if __name__ == "__main__":
+    sys.exit(main())
