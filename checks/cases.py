@@ -1,5 +1,5 @@
 #!/usr/bin/env python3
-"""Runs the built programs on the texts of checks/cases, and compares what they answer with what is expected.
+"""Runs the built programs on the texts of checks/data/cases, and compares what they answer with what is expected.
 
 A case is some lines, and an empty line ends it. Each begins with a word:
 
@@ -25,7 +25,7 @@ import sys
 TOP = os.path.dirname(os.path.dirname(os.path.abspath(__file__)))
 PROGRAM = os.path.join(TOP, "crates", "confstore", "out", "confstore")
 PROBE = os.path.join(TOP, "crates", "text_probe", "out", "text_probe")
-CASES = os.path.join(TOP, "checks", "cases")
+CASES = os.path.join(TOP, "checks", "data", "cases")
 ESCAPES = {"n": "\n", "r": "\r", "t": "\t", "\\": "\\"}
 
 

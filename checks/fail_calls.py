@@ -1,8 +1,8 @@
 #!/usr/bin/env python3
 """Lets each system call of two sessions go wrong in turn, and looks at what they answer and at what is left.
 
-A library under the built program (fail_calls.c) makes one call fail, with its effect or without it, moves only a part
-of its bytes, or ends the process before, in the middle of, or after it. The sessions are in stories.py: one over a new
+A library under the built program (shims/fail_calls.c) makes one call fail, with its effect or without it, moves only a part
+of its bytes, or ends the process before, in the middle of, or after it. The sessions are in lib/stories.py: one over a new
 folder, and one over a torn store with checkpoints. Both are run once more with 7 bytes at most to each read and write.
 
 Each time the status and the fault are the promised ones, and the output is exactly the answers that were written
@@ -24,8 +24,8 @@ import tempfile
 from collections import Counter
 from concurrent.futures import ThreadPoolExecutor
 
-from stories import LOOK, NEW, TORN
-from store_runs import Failures, compiled, need_program, read_file, session, write_file
+from lib.stories import LOOK, NEW, TORN
+from lib.store_runs import Failures, compiled, need_program, read_file, session, write_file
 
 # The status of a process that the library ended.
 ENDED = 99

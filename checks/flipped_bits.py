@@ -19,7 +19,7 @@ import sys
 import tempfile
 from collections import Counter
 
-from store_runs import Failures, need_program, read_file, session, write_file
+from lib.store_runs import Failures, need_program, read_file, session, write_file
 
 FLIPS = 300
 

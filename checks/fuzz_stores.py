@@ -6,8 +6,8 @@ swapped, doubled, taken out or exchanged with those of another store, cut anywhe
 checkpoint is made, and the state is read from the new base.
 
 - Each file is opened, or refused by `NotAStore` or `Damaged`. A refused file stays as it is.
-- After a change of whole pieces, a cut, or zeros, the state or the refusal has to be that of store_model.py.
-- After a change of bytes, the states have to be the same where both find one. store_model.py reads by libyaml, which
+- After a change of whole pieces, a cut, or zeros, the state or the refusal has to be that of lib/store_model.py.
+- After a change of bytes, the states have to be the same where both find one. The model reads by libyaml, which
   reads another YAML in places. Files that only one of them opens are counted, and so are those with breaks of YAML
   1.1 alone on which they differ.
 - Of the files with one flipped bit it counts how many are refused, how many differ in one text, and how many do not.
@@ -27,9 +27,9 @@ import tempfile
 from collections import Counter
 from concurrent.futures import ProcessPoolExecutor
 
-from mutations import changed, flip_bit, place
-from store_model import OLD_BREAKS, Damaged, NotAStore, Refused, meaning, pieces_of, read_base
-from store_runs import EMPTY, Failures, need_program, read_file, session, write_file
+from lib.mutations import changed, flip_bit, place
+from lib.store_model import OLD_BREAKS, Damaged, NotAStore, Refused, meaning, pieces_of, read_base
+from lib.store_runs import EMPTY, Failures, need_program, read_file, session, write_file
 
 COUNT = 100_000
 CHUNK = 500

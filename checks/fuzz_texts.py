@@ -1,7 +1,7 @@
 #!/usr/bin/env python3
 """Reads a million changed texts to trees in one process, and looks at how long each takes.
 
-The texts are those of checks/cases and every_form.yaml after random changes. `style` of `tree_probe` reads them, one
+The texts are those of checks/data after random changes. `style` of `tree_probe` reads them, one
 after the other; another process reads a thousand that are repeated to 64 to 256 KiB.
 
 - Each is answered by a tree or by the name of a fault, within a time and a memory that are linear in its length.
@@ -30,8 +30,8 @@ from collections import Counter
 from concurrent.futures import ProcessPoolExecutor
 
 from cases import CASES, TOP, bytes_of, read_cases
-from mutations import changed
-from store_runs import Failures, read_file
+from lib.mutations import changed
+from lib.store_runs import Failures, read_file
 
 try:
     import yaml
@@ -80,7 +80,7 @@ ESCAPES.update({0x0A: "\\n", 0x0D: "\\r", 0x09: "\\t", 0x5C: "\\\\"})
 
 def seeds():
     """The texts that are changed."""
-    texts = [read_file(os.path.join(TOP, "checks", "every_form.yaml"))]
+    texts = [read_file(os.path.join(TOP, "checks", "data", "every_form.yaml"))]
     for name in sorted(os.listdir(CASES)):
         texts += [bytes_of(case["text"]) for case in read_cases(os.path.join(CASES, name))]
     return [text for text in texts if len(text) <= 2000]

@@ -28,7 +28,7 @@ import time
 from collections import Counter
 from concurrent.futures import ProcessPoolExecutor
 
-from store_runs import TOP, Failures
+from lib.store_runs import TOP, Failures
 
 PROGRAM = os.path.join(TOP, "crates", "store_probe", "out", "store_probe")
 COUNT = 6_000

@@ -24,7 +24,7 @@ import tempfile
 import threading
 import time
 
-from store_runs import PROGRAM, Failures, need_program, session
+from lib.store_runs import PROGRAM, Failures, need_program, session
 
 COMMANDS = 10_000
 KILLS = 500

@@ -21,7 +21,7 @@ import subprocess
 import sys
 import tempfile
 
-from store_runs import EMPTY, PROGRAM, Failures, need_program, read_file, session
+from lib.store_runs import EMPTY, PROGRAM, Failures, need_program, read_file, session
 
 SESSION_LIMIT = STORE_LIMIT = 1_073_741_824
 PIECE_LIMIT = 4_194_304

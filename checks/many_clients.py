@@ -24,7 +24,7 @@ import tempfile
 import threading
 import time
 
-from store_runs import PROGRAM, TOP, Failures, need_program, session
+from lib.store_runs import PROGRAM, TOP, Failures, need_program, session
 
 CLIENTS = 16
 KILLS = 10

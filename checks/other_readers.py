@@ -23,9 +23,9 @@ import subprocess
 import sys
 import tempfile
 
-from store_runs import TOP, Failures, need_program, read_file, session
+from lib.store_runs import TOP, Failures, need_program, read_file, session
 
-READERS = os.path.join(TOP, "checks", "readers")
+READERS = os.path.join(TOP, "checks", "data", "readers")
 
 TEXTS = [
     "", " ", "x", "-", "- a", "a: b", "a #b", "# c", "'", '"', "''", "\\", "true", "null", "~", "no", "12", "0x1F", "1e3",

@@ -1,7 +1,7 @@
 #!/usr/bin/env python3
 """Runs the built program with words and inputs, and compares what it does with what is expected.
 
-The rows are in checks/program.txt. A row is some lines, and an empty line ends it. Each begins with a word:
+The rows are in checks/data/program.txt. A row is some lines, and an empty line ends it. Each begins with a word:
 
     folder NAME     makes a folder before the program runs
     file PATH TEXT  makes a file there
@@ -35,9 +35,9 @@ import tempfile
 import threading
 
 from cases import bytes_of, long_runs
-from store_runs import PROGRAM, TOP, need_program, read_file, write_file
+from lib.store_runs import PROGRAM, TOP, need_program, read_file, write_file
 
-ROWS = os.path.join(TOP, "checks", "program.txt")
+ROWS = os.path.join(TOP, "checks", "data", "program.txt")
 
 # The standard streams, by their numbers.
 STREAMS = ("input", "output", "errors")

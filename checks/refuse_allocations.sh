@@ -6,12 +6,12 @@
 set -u
 top=$(cd "$(dirname "${BASH_SOURCE[0]}")/.." && pwd)
 program=$top/crates/confstore/out/confstore
-text=$top/checks/every_form.yaml
-expected=$top/checks/every_form.expected
+text=$top/checks/data/every_form.yaml
+expected=$top/checks/data/every_form.expected
 [ -x "$program" ] || { echo "the program is not built: run ./confstore --version first" >&2; exit 1; }
 work=$(mktemp -d) || exit 1
 trap 'rm -rf "$work"' EXIT
-cc -shared -fPIC -O1 -o "$work/refuse.so" "$top/checks/refuse.c" -ldl || exit 1
+cc -shared -fPIC -O1 -o "$work/refuse.so" "$top/checks/shims/refuse.c" -ldl || exit 1
 
 # Takes the word of the program, and the status that it has if no allocation is refused. The input is $work/input, and
 # $work/wanted is what the program has to write.

@@ -1,7 +1,7 @@
 #!/usr/bin/env python3
 """Refuses each allocation of two sessions in turn, and looks at what they answer and at what is left.
 
-The sessions are those of stories.py. A library under the built program (refuse.c) refuses one allocation. Then the
+The sessions are those of lib/stories.py. A library under the built program (shims/refuse.c) refuses one allocation. Then the
 session ends with 'confstore: OutOfMemory' and the status 1, or does without that allocation and answers everything.
 Its output is the answers to the commands before the one that met it. A new session has to find the state after
 exactly these commands: the one that met it changed nothing.
@@ -19,8 +19,8 @@ import shutil
 import sys
 import tempfile
 
-from stories import LOOK, NEW, TORN
-from store_runs import Failures, compiled, need_program, session, write_file
+from lib.stories import LOOK, NEW, TORN
+from lib.store_runs import Failures, compiled, need_program, session, write_file
 
 OUT_OF_MEMORY = (1, "confstore: OutOfMemory\n")
 

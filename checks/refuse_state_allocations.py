@@ -3,7 +3,7 @@
 then held.
 
 The run is a list of orders to `state_probe`. For each command the state before it is taken from a base, and the command
-is performed twice, with a look at the state after each. A library under the program (refuse.c) refuses one allocation.
+is performed twice, with a look at the state after each. A library under the program (shims/refuse.c) refuses one allocation.
 A command that is refused memory has to leave the state as it was, and has to succeed when it is performed again. If the
 program itself runs out of memory, for an order, a record or an answer, it ends with the status 1.
 
@@ -17,7 +17,7 @@ The status is 0 if all is as it should be.
 import os
 import sys
 
-from store_runs import TOP, Failures, refuse_each
+from lib.store_runs import TOP, Failures, refuse_each
 
 PROGRAM = os.path.join(TOP, "crates", "state_probe", "out", "state_probe")
 OUT_OF_MEMORY = "OutOfMemory"

@@ -4,7 +4,7 @@ then held.
 
 The run is a list of orders to `store_probe`, over a disk in memory: each call is made twice, and then the store is
 opened again, twice. Then a checkpoint is written in slices, and commands are submitted while it runs. A library under
-the program (refuse.c) refuses one allocation. A call that is refused memory has to leave the store as it was, also how
+the program (shims/refuse.c) refuses one allocation. A call that is refused memory has to leave the store as it was, also how
 many bytes of a running checkpoint are left, and has to succeed when it is made again. If the disk in memory runs out of
 memory for a change, the call returns `Device`; the store that is opened then has to be in the state before the call or
 after it. If the program itself runs out of memory, for an order or an answer, it ends with the status 1.
@@ -20,7 +20,7 @@ import os
 import sys
 
 from groups import SLICE, base_length, meant, record_length
-from store_runs import TOP, Failures, refuse_each
+from lib.store_runs import TOP, Failures, refuse_each
 
 PROGRAM = os.path.join(TOP, "crates", "store_probe", "out", "store_probe")
 LOOK = ["count", "get;a;"]

@@ -11,14 +11,14 @@ program=$top/crates/bench_driver/out/bench_driver
 [ -x "$program" ] || { echo "the program is not built: run 'rt run -- edits tree wide 1 1' in crates/bench_driver" >&2; exit 1; }
 work=$(mktemp -d) || exit 1
 trap 'rm -rf "$work"' EXIT
-cc -shared -fPIC -O1 -o "$work/refuse.so" "$top/checks/refuse.c" -ldl || exit 1
+cc -shared -fPIC -O1 -o "$work/refuse.so" "$top/checks/shims/refuse.c" -ldl || exit 1
 
-wanted=$(wc -c <"$top/checks/every_form.expected")
+wanted=$(wc -c <"$top/checks/data/every_form.expected")
 memory=0 spared=0 own=0 wrong=0
 for ((number = 1; number <= 10000; number++)); do
     rm -f "$work/refused"
     output=$(REFUSE_ALLOCATION=$number REFUSED_FILE=$work/refused LD_PRELOAD=$work/refuse.so \
-        "$program" read tree "$top/checks/every_form.yaml" 1 2>/dev/null </dev/null)
+        "$program" read tree "$top/checks/data/every_form.yaml" 1 2>/dev/null </dev/null)
     status=$?
     [ -e "$work/refused" ] || break
     case "$status $output" in

@@ -35,7 +35,7 @@ import sys
 import tempfile
 import time
 
-from store_runs import EMPTY, IMPORT, PROGRAM, WORKED, Failures, compiled, need_program, read_file, session, write_file
+from lib.store_runs import EMPTY, IMPORT, PROGRAM, WORKED, Failures, compiled, need_program, read_file, session, write_file
 
 # The user that owns no folder here.
 NOBODY = "nobody"

@@ -1,6 +1,6 @@
 """Two sessions whose every fault is tried: their commands, what is answered, and what the store then holds."""
 
-from store_runs import EMPTY, IMPORT, WORKED
+from lib.store_runs import EMPTY, IMPORT, WORKED
 
 
 class Story:

@@ -8,7 +8,7 @@ import sys
 import tempfile
 from collections import Counter
 
-TOP = os.path.dirname(os.path.dirname(os.path.abspath(__file__)))
+TOP = os.path.dirname(os.path.dirname(os.path.dirname(os.path.abspath(__file__))))
 PROGRAM = os.path.join(TOP, "crates", "confstore", "out", "confstore")
 
 # The file of an empty state.
@@ -63,7 +63,7 @@ def session(folder, commands, **more):
 def compiled(source, folder):
     """A library made of a C file of checks/, to be loaded with LD_PRELOAD."""
     library = os.path.join(folder, os.path.splitext(source)[0] + ".so")
-    path = os.path.join(TOP, "checks", source)
+    path = os.path.join(TOP, "checks", "shims", source)
     subprocess.run(["cc", "-shared", "-fPIC", "-O1", "-o", library, path, "-ldl"], check=True)
     return library
 
