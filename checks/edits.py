@@ -1,8 +1,8 @@
 #!/usr/bin/env python3
 """Looks at each edit that the prover has to refuse, and fails if one no longer fits the code.
 
-These are the edits of crates/*/must-fail and checks/wrong_bodies/*. The file that an edit names has to be there, and
-each `old:` text has to occur in it exactly once. In the file with the edit applied, each name that is imported from a
+These are the edits of crates/*/must-fail, which the gate tries, and of the folders `beside` there. The file that an edit
+names has to be there, and each `old:` text has to occur in it exactly once. In the file with the edit applied, each name that is imported from a
 module of this repository has to be defined there: else the edit would be refused for that alone. A module that the
 toolchain writes, or one that exports another whole, is not looked at. The last line is 'N edits, M wrong', and the
 status is 1 if M is above 0. It takes a second.
@@ -91,15 +91,16 @@ def faults(path, crate):
     yield from missing_imports(edited)
 
 
-def edits_in(pattern, part):
-    """The edits, each with its crate, which is this part of its path."""
-    for path in sorted(glob.glob(os.path.join(TOP, pattern))):
-        path = os.path.relpath(path, TOP)
-        yield path, path.split(os.sep)[part]
+def all_edits():
+    """The edits, each with its crate."""
+    for pattern in ("crates/*/must-fail/*.edit", "crates/*/must-fail/beside/*.edit"):
+        for path in sorted(glob.glob(os.path.join(TOP, pattern))):
+            path = os.path.relpath(path, TOP)
+            yield path, path.split(os.sep)[1]
 
 
 def main():
-    edits = [*edits_in("crates/*/must-fail/*.edit", 1), *edits_in("checks/wrong_bodies/*/*.edit", 2)]
+    edits = list(all_edits())
     wrong = 0
     for path, crate in edits:
         found = sorted(set(faults(path, crate)))
