@@ -1,7 +1,7 @@
 #!/usr/bin/env python3
 """Looks at each edit that the prover has to refuse, and fails if one no longer fits the code.
 
-These are the edits of crates/*/must-fail, which the gate tries, and of the folders `beside` there. The file that an edit
+These are the edits of crates/*/must-fail, which the gate tries, and of crates/*/must-fail-beside. The file that an edit
 names has to be there, and each `old:` text has to occur in it exactly once. In the file with the edit applied, each name that is imported from a
 module of this repository has to be defined there: else the edit would be refused for that alone. A module that the
 toolchain writes, or one that exports another whole, is not looked at. The last line is 'N edits, M wrong', and the
@@ -93,7 +93,7 @@ def faults(path, crate):
 
 def all_edits():
     """The edits, each with its crate."""
-    for pattern in ("crates/*/must-fail/*.edit", "crates/*/must-fail/beside/*.edit"):
+    for pattern in ("crates/*/must-fail/*.edit", "crates/*/must-fail-beside/*.edit"):
         for path in sorted(glob.glob(os.path.join(TOP, pattern))):
             path = os.path.relpath(path, TOP)
             yield path, path.split(os.sep)[1]

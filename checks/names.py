@@ -43,7 +43,7 @@ def is_function(crate, name, file="*.rt"):
 
 
 def is_edit(crate, name):
-    places = (f"crates/{crate}/must-fail", f"crates/{crate}/must-fail/beside")
+    places = (f"crates/{crate}/must-fail", f"crates/{crate}/must-fail-beside")
     return any(os.path.exists(os.path.join(TOP, place, f"{name}.edit")) for place in places)
 
 

@@ -1,5 +1,5 @@
 #!/usr/bin/env bash
-# Tries the edits of crates/CRATE/must-fail/beside: wrong bodies that the prover has to refuse, beside those that the
+# Tries the edits of crates/CRATE/must-fail-beside: wrong bodies that the prover has to refuse, beside those that the
 # gate tries (crates/CRATE/must-fail). They are tried in a copy of the repository, so nothing here is changed.
 #
 #   checks/wrong_bodies.sh [CRATE..]     the crates that are named, or all
@@ -9,8 +9,8 @@ set -u
 top=$(cd "$(dirname "${BASH_SOURCE[0]}")/.." && pwd) || exit 1
 if [ $# -eq 0 ]; then
     cd "$top/crates" || exit 1
-    set -- */must-fail/beside
-    set -- "${@%/must-fail/beside}"
+    set -- */must-fail-beside
+    set -- "${@%/must-fail-beside}"
 fi
 work=$(mktemp -d) || exit 1
 trap 'rm -rf "$work"' EXIT
@@ -21,7 +21,7 @@ rm -rf "$work"/crates/*/must-fail
 refused=0
 passed=0
 for crate in "$@"; do
-    edits=$top/crates/$crate/must-fail/beside
+    edits=$top/crates/$crate/must-fail-beside
     [ -d "$edits" ] || { echo "$crate has no edits beside the gate" >&2; exit 1; }
     cp -a "$edits" "$work/crates/$crate/must-fail" || exit 1
     log=$work/$crate.log
