@@ -2,10 +2,10 @@
 """Looks at each edit that the prover has to refuse, and fails if one no longer fits the code.
 
 These are the edits of crates/*/must-fail, which the gate tries, and of crates/*/must-fail-beside. The file that an edit
-names has to be there, and each `old:` text has to occur in it exactly once. In the file with the edit applied, each name that is imported from a
-module of this repository has to be defined there: else the edit would be refused for that alone. A module that the
-toolchain writes, or one that exports another whole, is not looked at. The last line is 'N edits, M wrong', and the
-status is 1 if M is above 0. It takes a second.
+names has to be there, and each `old:` text has to occur in it exactly once. In the file with the edit applied, each
+name that is imported from a module of this repository has to be defined there: else the edit would be refused for that
+alone. A module that the toolchain writes, or one that exports another whole, is not looked at. The last line is
+'N edits, M wrong', and the status is 1 if M is above 0. It takes a second.
 """
 
 import functools
