@@ -1,13 +1,14 @@
 #!/usr/bin/env python3
-"""Lets each system call of two sessions go wrong in turn, and looks at what they answer and at what is left.
+"""Lets each system call of some sessions go wrong in turn, and looks at what they answer and at what is left.
 
-A library under the built program (shims/fail_calls.c) makes one call fail, with its effect or without it, moves only a part
-of its bytes, or ends the process before, in the middle of, or after it. The sessions are in lib/stories.py: one over a new
-folder, and one over a torn store with checkpoints. Both are run once more with 7 bytes at most to each read and write.
+A library under the built program (shims/fail_calls.c) makes one call fail, with its effect or without it, moves only a
+part of its bytes, or ends the process before, in the middle of, or after it. The sessions are in lib/stories.py: one
+over a new folder, and one over a torn store with checkpoints, one command at a time and in groups, with checkpoints in
+slices beside them. All are run once more with 7 bytes at most to each read and write.
 
 Each time the status and the fault are the promised ones, and the output is exactly the answers that were written
 before. A new session then has to find the state after a prefix of the commands, which holds each one that was
-answered.
+answered. All commands of a group whose answers were begun to be written are held.
 
 Run it from the repository's root after the program is built. It takes half a minute, and needs a C compiler:
 
@@ -25,7 +26,7 @@ from collections import Counter
 from concurrent.futures import ThreadPoolExecutor
 
 from lib.stories import LOOK, NEW, TORN
-from lib.store_runs import Failures, compiled, need_program, read_file, session, write_file
+from lib.store_runs import SINGLE, Failures, compiled, need_program, read_file, session, write_file
 
 # The status of a process that the library ended.
 ENDED = 99
@@ -50,6 +51,13 @@ CHANGES_OF_NEW = [
     "write store.yaml", "fsync store.yaml", "write output",
     "write output",
     "write output",
+]
+
+
+# The same of that session in groups: all changes share one sync and one write of answers, and then a checkpoint begins.
+CHANGES_IN_A_GROUP = [
+    *CHANGES_OF_NEW[:7],
+    "write store.yaml", "write store.yaml", "write store.yaml", "fsync store.yaml", "write output", "create next.yaml",
 ]
 
 
@@ -160,7 +168,11 @@ class Trial:
         environment = {**os.environ, "LD_PRELOAD": self.library, **faults}
         if self.most:
             environment["FAULT_MOST"] = str(self.most)
-        return session(folder, self.story.commands, env=environment)
+        return session(folder, self.story.commands, self.story.words, env=environment)
+
+    def is_one_group(self):
+        """Whether all commands are one group: they come by one read."""
+        return self.story.words != SINGLE and not self.most
 
     def calls(self):
         """The calls of the session without faults, and what it answers."""
@@ -186,13 +198,14 @@ class Trial:
 class Expected:
     """How a session with a fault ends, how many bytes of output it writes, and how many commands may be held."""
 
-    def __init__(self, story, call, kind):
-        self.story = story
+    def __init__(self, trial, call, kind):
+        story = trial.story
         self.ended, whole = ending(call, kind)
         self.written = len(story.output) if whole else call.written + written_by(call, kind)
         performed = len(story.changes) if whole else story.answered(call.written)
+        most = len(story.changes) if trial.is_one_group() else performed + 1
         self.least = story.accepted(performed)
-        self.most = story.accepted(performed + 1) if call.begun else self.least
+        self.most = story.accepted(most) if call.begun else self.least
         if call.answers() and not whole:
             self.least = self.most
         if call.reads_input() and not whole:
@@ -235,7 +248,7 @@ def try_fault(trial, call, kind):
     folder = trial.folder(f"{call.number} {kind}")
     status, output, errors = trial.run(folder, kind.environment(call.number))
     failures = Failures()
-    expected = Expected(trial.story, call, kind)
+    expected = Expected(trial, call, kind)
     failures.expect(f"{name}: ending", (status, errors), expected.ended)
     failures.expect(f"{name}: output", output, trial.story.output[: expected.written])
     status, output, errors = session(folder, LOOK)
@@ -252,9 +265,10 @@ def try_story(top, story, most, failures):
     trial = Trial(top, story, most)
     ended, calls = trial.calls()
     failures.expect(f"{story.name} without faults", ended, (0, story.output, ""))
-    if story is NEW and not most:
+    if story.name.startswith(NEW.name) and not most:
         changing = [f"{call.name} {call.file}" for call in calls if is_change(call)]
-        failures.expect("the calls that change a new folder", changing, CHANGES_OF_NEW)
+        wanted = CHANGES_OF_NEW if story is NEW else CHANGES_IN_A_GROUP
+        failures.expect(f"the calls that change {story.name}", changing, wanted)
     pairs = [(call, kind) for call in calls for kind in call.kinds()]
     with ThreadPoolExecutor(os.cpu_count()) as workers:
         results = list(workers.map(lambda pair: try_fault(trial, *pair), pairs))
@@ -282,7 +296,7 @@ def main():
     failures = Failures()
     with tempfile.TemporaryDirectory() as top:
         compiled("fail_calls.c", top)
-        for story in (NEW, TORN):
+        for story in (NEW, TORN, NEW.in_groups(), TORN.in_groups()):
             for most in (0, 7):
                 try_story(top, story, most, failures)
     return failures.report()

@@ -7,7 +7,7 @@ there that was not sent. Some sessions are killed while they open the store, som
 every other one each answer is awaited before the next command is sent.
 
 `kill -9` takes away what the process has, and nothing of the system's: what a crash of the machine leaves is tested
-over a disk in memory (crates/crash_probe).
+over a disk in memory (crates/crash_probe). Half of the sessions are in groups, with checkpoints in slices beside them.
 
 Run it from the repository's root after the program is built; it takes half a minute:
 
@@ -24,7 +24,7 @@ import tempfile
 import threading
 import time
 
-from lib.store_runs import PROGRAM, Failures, need_program, session
+from lib.store_runs import PROGRAM, SINGLE, SLICED, Failures, need_program, session
 
 COMMANDS = 10_000
 KILLS = 500
@@ -61,11 +61,11 @@ def numbers_of(folder):
 class Life:
     """A session that is killed. `first` is the first number that it is sent, `sent` the last one."""
 
-    def __init__(self, folder, first, moment):
+    def __init__(self, folder, first, moment, words):
         self.first = first
         self.sent = first - 1
         self.oks = 0
-        self.process = subprocess.Popen([PROGRAM, "run", folder], stdin=subprocess.PIPE, stdout=subprocess.PIPE)
+        self.process = subprocess.Popen([PROGRAM, *words, folder], stdin=subprocess.PIPE, stdout=subprocess.PIPE)
         self.killer = threading.Timer(moment, self.process.kill)
         self.killer.start()
 
@@ -110,7 +110,7 @@ class Life:
 def live(folder, first, most, chance):
     """A session from its start to its kill."""
     moment = chance.uniform(0, OPENING if chance.random() < 0.125 else LONGEST)
-    life = Life(folder, first, moment)
+    life = Life(folder, first, moment, chance.choice([SINGLE, SLICED]))
     if chance.random() < 0.5:
         life.send(most)
     else:

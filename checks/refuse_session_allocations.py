@@ -1,10 +1,11 @@
 #!/usr/bin/env python3
-"""Refuses each allocation of two sessions in turn, and looks at what they answer and at what is left.
+"""Refuses each allocation of some sessions in turn, and looks at what they answer and at what is left.
 
-The sessions are those of lib/stories.py. A library under the built program (shims/refuse.c) refuses one allocation. Then the
-session ends with 'confstore: OutOfMemory' and the status 1, or does without that allocation and answers everything.
-Its output is the answers to the commands before the one that met it. A new session has to find the state after
-exactly these commands: the one that met it changed nothing.
+The sessions are those of lib/stories.py, one command at a time and in groups with a checkpoint in slices beside them. A
+library under the built program (shims/refuse.c) refuses one allocation. Then the session ends with
+'confstore: OutOfMemory' and the status 1, or does without that allocation and answers everything. Its output is the
+answers to the commands before the one that met it. A new session has to find the state after exactly these commands:
+the one that met it changed nothing.
 
 Run it from the repository's root after the program is built. It takes some 15 seconds, and needs a C compiler:
 
@@ -19,7 +20,7 @@ import shutil
 import sys
 import tempfile
 
-from lib.stories import LOOK, NEW, TORN
+from lib.stories import LARGE, LOOK, NEW, TORN
 from lib.store_runs import Failures, compiled, need_program, session, write_file
 
 OUT_OF_MEMORY = (1, "confstore: OutOfMemory\n")
@@ -34,7 +35,7 @@ def refuse(top, story, number):
     for file, content in story.files.items():
         write_file(os.path.join(folder, file), content)
     names = {"LD_PRELOAD": os.path.join(top, "refuse.so"), "REFUSE_ALLOCATION": str(number), "REFUSED_FILE": refused_file}
-    status, output, errors = session(folder, story.commands, env={**os.environ, **names})
+    status, output, errors = session(folder, story.commands, story.words, env={**os.environ, **names})
     was_refused = os.path.exists(refused_file)
     if was_refused:
         os.remove(refused_file)
@@ -71,7 +72,7 @@ def main():
     failures = Failures()
     with tempfile.TemporaryDirectory() as top:
         compiled("refuse.c", top)
-        for story in (NEW, TORN):
+        for story in (NEW, TORN, NEW.in_groups(), TORN.in_groups(), LARGE):
             refuse_each(top, story, failures)
     return failures.report()
 

@@ -53,15 +53,20 @@ def need_program():
         sys.exit("the program is not built: run ./confstore --version first")
 
 
-def session(folder, commands, **more):
+# The words for a session, for one in groups, and for one that also makes checkpoints in slices, as often as it can.
+SINGLE = ("run",)
+GROUPED = ("run", "--group")
+SLICED = ("run", "--group", "--checkpoint-after", "1")
+
+
+def session(folder, commands, words=SINGLE, **more):
     """A session from start to end: its status, its answers, and what it wrote to standard error."""
-    words = [PROGRAM, "run", folder]
-    done = subprocess.run(words, input=commands, capture_output=True, check=False, **more)
+    done = subprocess.run([PROGRAM, *words, folder], input=commands, capture_output=True, check=False, **more)
     return done.returncode, done.stdout, done.stderr.decode()
 
 
 def compiled(source, folder):
-    """A library made of a C file of checks/, to be loaded with LD_PRELOAD."""
+    """A library made of a C file of checks/shims, to be loaded with LD_PRELOAD."""
     library = os.path.join(folder, os.path.splitext(source)[0] + ".so")
     path = os.path.join(TOP, "checks", "shims", source)
     subprocess.run(["cc", "-shared", "-fPIC", "-O1", "-o", library, path, "-ldl"], check=True)

@@ -1,6 +1,8 @@
 """Two sessions whose every fault is tried: their commands, what is answered, and what the store then holds."""
 
-from lib.store_runs import EMPTY, IMPORT, WORKED
+import copy
+
+from lib.store_runs import EMPTY, IMPORT, SINGLE, SLICED, WORKED
 
 
 class Story:
@@ -14,6 +16,13 @@ class Story:
         self.answers = [answer.encode() for _, answer in steps]
         self.changes = changes
         self.states = [state.encode() for state in states]
+        self.words = SINGLE
+
+    def in_groups(self):
+        """The same session in groups, with a checkpoint in slices beside it as often as it can."""
+        story = copy.copy(self)
+        story.name, story.words = f"{self.name}, in groups", SLICED
+        return story
 
     def accepted(self, performed):
         """How many of the first so many commands changed the state."""
@@ -64,3 +73,18 @@ TORN = Story(
     [False, True, False, False, True],
     [looked(1, "x"), looked(2, "z"), looked(3, None)],
 )
+
+# A store whose base takes several slices. Each command has as many bytes of a comment as a read may bring, so that no
+# two are in one group, and a checkpoint goes on between them.
+TEXT = "x" * 9_000
+PADDING = f"# {'x' * 65_536}\n"
+LARGE = Story(
+    "a large store",
+    {"store.yaml": EMPTY + IMPORT.replace(b"import: a", b"import: app").replace(b"tree: x", f"tree: {TEXT}".encode())},
+    [
+        (f"{PADDING}set: app\npath: \"\"\nvalue: {TEXT}{number}\n...\n", f'---\nok: "{number}"\n...\n')
+        for number in range(2, 7)
+    ],
+    [True] * 5,
+    [looked(1, TEXT), *(looked(number, f"{TEXT}{number}") for number in range(2, 7))],
+).in_groups()
