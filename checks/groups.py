@@ -28,6 +28,7 @@ import time
 from collections import Counter
 from concurrent.futures import ProcessPoolExecutor
 
+from lib.lengths import SLICE, base_length, meant, record_length, styled
 from lib.store_runs import TOP, Failures
 
 PROGRAM = os.path.join(TOP, "crates", "store_probe", "out", "store_probe")
@@ -39,7 +40,6 @@ SECONDS = 60
 HANGS = 100
 LONGEST = 60
 
-SLICE = 4_096
 NAMES = ["a", "b", "c"]
 # The lengths of texts: short ones, and such as make one slice, two, or several.
 LENGTHS = [1, 2, 3, 100, 128, 129, 1_500, 3_990, 4_044, 4_045, 5_000, 8_140, 9_948]
@@ -79,34 +79,6 @@ def orders_of(chance):
         else:
             orders.append(order)
     return orders + ["open", "count", "names", *(f"export;{name}" for name in NAMES)]
-
-
-def styled(text):
-    """A text of letters in the one style: within quotes if it is longer than 128."""
-    return text if len(text) <= 128 else f'"{text}"'
-
-
-def record_length(number, words):
-    """The length of the record of a command under a number."""
-    kind, name, *rest = words
-    path = "" if kind == "import" else 'path: ""\n'
-    value = {"import": "tree: ", "set": "value: ", "delete": ""}[kind]
-    if kind != "delete":
-        value += styled(rest[-1]) + "\n"
-    return len(f'---\nat: "{number}"\n{kind}: {name}\n{path}{value}...\n')
-
-
-def base_length(count, state):
-    """The length of the base of a state."""
-    configs = "".join(f"  {name}: {styled(text)}\n" for name, text in state.items())
-    return len(f'---\nstore: confstore-1\nat: "{count}"\nconfigs:{"" if state else " {}"}\n{configs}...\n')
-
-
-def meant(words):
-    """The words of a command, with the letters that a run means."""
-    *before, value = words
-    run = re.fullmatch(r"\*(\d+)\*", value)
-    return [*before, "x" * int(run[1]) if run else value]
 
 
 class Model:

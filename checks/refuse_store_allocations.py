@@ -3,11 +3,12 @@
 then held.
 
 The run is a list of orders to `store_probe`, over a disk in memory: each call is made twice, and then the store is
-opened again, twice. Then a checkpoint is written in slices, and commands are submitted while it runs. A library under
-the program (shims/refuse.c) refuses one allocation. A call that is refused memory has to leave the store as it was, also how
-many bytes of a running checkpoint are left, and has to succeed when it is made again. If the disk in memory runs out of
-memory for a change, the call returns `Device`; the store that is opened then has to be in the state before the call or
-after it. If the program itself runs out of memory, for an order or an answer, it ends with the status 1.
+opened again, twice. Then a checkpoint is written in slices, and commands are submitted while it runs, one by one and in
+a round. A library under the program (shims/refuse.c) refuses one allocation. A call that is refused memory has to leave
+the store as it was, also how many bytes of a running checkpoint are left, and has to succeed when it is made again. A
+round that is refused memory says how many of its pieces are performed. If the disk in memory runs out of memory for a
+change, the call returns `Device`; the store that is opened then has to be in the state before the call or after it. If
+the program itself runs out of memory, for an order or an answer, it ends with the status 1.
 
 Run it from the repository's root after the program is built. It takes some seconds, and needs a C compiler:
 
@@ -16,10 +17,13 @@ Run it from the repository's root after the program is built. It takes some seco
 The status is 0 if all is as it should be.
 """
 
+import json
 import os
+import re
 import sys
+from typing import NamedTuple
 
-from groups import SLICE, base_length, meant, record_length
+from lib.lengths import SLICE, base_length, meant, record_length
 from lib.store_runs import TOP, Failures, refuse_each
 
 PROGRAM = os.path.join(TOP, "crates", "store_probe", "out", "store_probe")
@@ -29,22 +33,75 @@ CALLS = ["import;a;x", "set;a;;z", "checkpoint", "delete;a;"]
 # A checkpoint of two slices: it begins, and commands are submitted before the first one, and between the two.
 SUBMITS = ["submit;1;set;a;;z", "submit;2;delete;a;", "submit;1;import;a;x"]
 SLICED = ["import;a;*5000*", "begin", SUBMITS[0], "slice", *SUBMITS[1:], "slice"]
+# A round, by its pieces' commands. The last one is a question.
+ROUND = ["import;a;x", "set;a;;z", "names"]
+ROUND_ORDER = r'round;import: a\ntext: x\n...\n;set: a\npath: ""\nvalue: z\n...\n;names:\n...\n'
 # The calls that take no memory of their own: each is made once.
 ONCE = ["slice"]
 ORDERS = ["folder", *OPEN] + [order for call in CALLS for order in [call, *LOOK, call, *LOOK, *OPEN]]
 ORDERS += [order for call in SLICED for order in [call, "running", *LOOK] * (1 if call in ONCE else 2)]
 ORDERS += ["slice", SUBMITS[0], "flush", "running", *OPEN]
+ORDERS += ["import;a;*5000*", "begin", "slice", ROUND_ORDER, *LOOK, ROUND_ORDER, "slice", "running", *OPEN]
 # A path, and the tree of a set, are read by `store_probe` itself; so is the text of an import that is submitted.
 OUT_OF_MEMORY = ("OutOfMemory", "Path(OutOfMemory)", "Read(OutOfMemory)")
 
 
+class State(NamedTuple):
+    """A count, the value of `a`, and how many bytes of a running checkpoint are left."""
+
+    count: int = 0
+    value: str | None = None
+    left: int | None = None
+
+    def shown(self, order):
+        """The answer to a look."""
+        if order == "count":
+            return str(self.count)
+        return "NoConfig" if self.value is None else f'Text("{self.value}")'
+
+    def after(self, call):
+        """The answer to a call with memory, and the state after it."""
+        if call == "flush":
+            return "done", self
+        if call == "checkpoint":
+            return "done", State(self.count, self.value)
+        if call == "begin":
+            length = base_length(self.count, {} if self.value is None else {"a": self.value})
+            return "done", State(self.count, self.value, length)
+        if call == "slice":
+            left = self.left - SLICE
+            return ("done", State(self.count, self.value)) if left <= 0 else (f"left {left}", State(self.count, self.value, left))
+        if call == ROUND_ORDER:
+            states = self.in_round()
+            answers = [f'ok: "{states[1].count}"', f'ok: "{states[2].count}"', "names:\n  - a"]
+            text = "".join(f"---\n{answer}\n...\n" for answer in answers)
+            return f"3 answers {json.dumps(text)}", states[-1]
+        return self.after_command(call)
+
+    def after_command(self, call):
+        words = call.split(";")
+        kind, *rest = words = meant(words[2:] if words[0] == "submit" else words)
+        if kind == "names":
+            return "a", self
+        if self.value is None and kind != "import":
+            return "NoConfig", self
+        count = self.count + 1
+        left = self.left if self.left is None else self.left + record_length(count, words)
+        return str(count), State(count, None if kind == "delete" else rest[-1], left)
+
+    def in_round(self):
+        """The states after each number of pieces of the round."""
+        states = [self]
+        for command in ROUND:
+            states.append(states[-1].after_command(command)[1])
+        return states
+
+
 class Store:
-    """What the store has to hold: the states that it may be in, each a count and the value of `a`, and how many bytes
-    of a running checkpoint are left."""
+    """What the store has to hold: the states that it may be in."""
 
     def __init__(self):
-        self.states = [(0, None)]
-        self.left = None
+        self.states = [State()]
         self.is_open = self.needs_reopen = False
 
     def allows(self, order, answer):
@@ -57,23 +114,24 @@ class Store:
             return answer == "no store is open"
         if order in LOOK:
             return answer in OUT_OF_MEMORY or self.allows_look(order, answer)
+        runs = self.states[0].left is not None
         if order == "running":
-            return answer == ("false" if self.left is None else "true")
-        if order == "begin" and self.left is not None:
+            return answer == ("true" if runs else "false")
+        if order == "begin" and runs:
             return answer == "a checkpoint runs"
-        if order == "slice" and self.left is None:
+        if order == "slice" and not runs:
             return answer == "no checkpoint runs"
         return self.allows_call(order, answer)
 
     def allows_open(self, answer):
         self.is_open = answer.startswith("commands ") and answer.endswith(", dropped 0")
         self.needs_reopen = False
-        self.left = None
+        self.states = list(dict.fromkeys(State(state.count, state.value) for state in self.states))
         return self.is_open or answer in (*OUT_OF_MEMORY, "Device")
 
     def allows_look(self, order, answer):
         """The answer is of a state that the store may be in. Only such ones stay, unless it has to be opened again."""
-        states = [state for state in self.states if answer == shown(order, state)]
+        states = [state for state in self.states if answer == state.shown(order)]
         if not self.needs_reopen:
             self.states = states
         return bool(states)
@@ -82,38 +140,16 @@ class Store:
         if self.needs_reopen or answer in OUT_OF_MEMORY:
             return answer == "Reopen" if self.needs_reopen else True
         (before,) = self.states
-        right, after, left = performed(call, before, self.left)
+        if call == ROUND_ORDER and (cut := re.fullmatch(r"OutOfMemory \{ performed: ([0-3]) \}", answer)):
+            self.states = [before.in_round()[int(cut[1])]]
+            return True
+        right, after = before.after(call)
         if answer == "Device":
             self.needs_reopen = True
-            self.states = [before] if before == after else [before, after]
+            self.states = list(dict.fromkeys(before.in_round() if call == ROUND_ORDER else [before, after]))
             return True
-        self.states, self.left = [after], left
+        self.states = [after]
         return answer == right
-
-
-def shown(order, state):
-    """The answer to a look at a state."""
-    count, value = state
-    if order == "count":
-        return str(count)
-    return "NoConfig" if value is None else f'Text("{value}")'
-
-
-def performed(call, state, left):
-    """The answer to a call with memory, the state after it, and how many bytes of a running checkpoint are left."""
-    count, value = state
-    if call in ("checkpoint", "flush"):
-        return "done", state, None if call == "checkpoint" else left
-    if call == "begin":
-        return "done", state, base_length(count, {} if value is None else {"a": value})
-    if call == "slice":
-        return ("done", state, None) if left <= SLICE else (f"left {left - SLICE}", state, left - SLICE)
-    words = call.split(";")
-    kind, *rest = words = meant(words[2:] if words[0] == "submit" else words)
-    if value is None and kind != "import":
-        return "NoConfig", state, left
-    more = left if left is None else left + record_length(count + 1, words)
-    return str(count + 1), (count + 1, None if kind == "delete" else rest[-1]), more
 
 
 def outcome(status, answers, name, failures):
@@ -127,7 +163,7 @@ def outcome(status, answers, name, failures):
     if status == 1:
         return "ended by the program"
     failures.expect(f"{name}: status and answers", (status, len(answers)), (0, len(ORDERS)))
-    if any(answer in OUT_OF_MEMORY for answer in answers):
+    if any(answer in OUT_OF_MEMORY or answer.startswith("OutOfMemory") for answer in answers):
         return "answered by out of memory"
     return "answered by the device" if "Device" in answers else "done without"
 
