@@ -129,7 +129,8 @@ fn findings_of(alloc: Global, text: &str) -> Result<String, AllocError> {
 fn listed(alloc: Global, findings: &[Finding]) -> Result<String, AllocError> {
     let mut list = String::new(alloc);
     for finding in findings {
-        list = format!(in alloc; "{list}{} {};", finding.rule.name(), finding.line)?;
+        let told = format!(in alloc; "{} {};", finding.rule.name(), finding.line)?;
+        list.push_str(&told)?;
     }
     Ok(list)
 }

@@ -44,12 +44,6 @@ use Rattle.yaml_block.proofs.LeafSteps.{asked_pair, first_key, leaf_goes_on, lea
 use Rattle.yaml_block.proofs.PlaceSteps.{WhiteTo, comments_to, flow_to, short_is, unbroken_is, white_to}
 use Rattle.yaml_block.proofs.TextPlaces.{IsPastSign, past_sign}
 
--- a fault that is reported in other words
-pub fault_kept : (fault other : ScanFault) (P Q : Type 0) → (fault ≡ OutOfMemory → other ≡ OutOfMemory) → (P → Q)
-    → Refuses fault P → Refuses other Q
-fault_kept (At at why) other P Q k f h = refuses other Q (f h)
-fault_kept OutOfMemory other P Q k f h = subst (λ (x : ScanFault). Refuses x Q) (sym (k refl)) tt
-
 -- a step to a place after a sign leads on
 pub after_onward : (text : List ℕ) (at bound p k : ℕ) (before : Sign) → IsPastSign text p → at ≤ p → k ≤ p
     → 3 * (length text - (p + 1)) + 2 < bound → Onward text at bound (next.After (p + 1) k before)

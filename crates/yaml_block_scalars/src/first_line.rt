@@ -13,7 +13,7 @@ ghost use Rattle.yaml_block_scalars.specs.HeaderPlaces.{IsDigit, IsMark, AreSign
 
 use crate::parts::{Chomping, Header};
 use yaml_events::{ScanFault, Why};
-use yaml_scan::rest_of_line_end;
+use yaml_scan::{nb_end, rest_of_line_end, stands_at, white_end};
 
 /// Returns the digit at `at`, from 1 to 9, if there is one, and the place after it.
 fn digit_at(text: &str, at: usize) -> (Option<u8>, usize)
@@ -82,6 +82,19 @@ fn header_end(text: &str, at: usize) -> Option<usize>
     rest_of_line_end(text, at)
 }
 
+/// Returns the place of the character that ends no header's line, where the rest of the line is at `at`. No contract
+/// says this: it only helps the person who writes the text.
+fn odd_place(text: &str, at: usize) -> usize
+    requires { IsCharBoundary text.now at }
+{
+    let white = white_end(text, at);
+    if white > at && stands_at(text, white, b'#') {
+        nb_end(text, white)
+    } else {
+        white
+    }
+}
+
 /// Returns the header of the block scalar at `at`, and the place after its line and its break (YAML 1.2.2, 8.1.1).
 ///
 /// The header is `|` or `>`, then at most one digit from 1 to 9 and at most one of `-` and `+`, in either order. Then
@@ -89,7 +102,9 @@ fn header_end(text: &str, at: usize) -> Option<usize>
 ///
 /// # Errors
 ///
-/// [`ScanFault::At`] with [`Why::BlockHeader`] if no header is at `at`. It is never [`ScanFault::OutOfMemory`].
+/// [`ScanFault::At`] with [`Why::BlockHeader`] if no header is at `at`. The place is that of the first character that
+/// no header has there: `at` if there is no sign, else the first one that is neither of the sign, the digit and the
+/// mark nor of the whitespace and the comment after them. It is never [`ScanFault::OutOfMemory`].
 pub fn header(text: &str, at: usize) -> Result<(Header, usize), ScanFault>
     requires { IsCharBoundary text.now at }
     ensures found { IfOk result (λ found. IsHeaderAt text.now at found.0 found.1) }
@@ -112,7 +127,10 @@ pub fn header(text: &str, at: usize) -> Result<(Header, usize), ScanFault>
     }
     let (digit, chomping, place) = signs_at(text, at + 1);
     let Some(end) = header_end(text, place) else {
-        return Err(none);
+        return Err(ScanFault::At {
+            at: odd_place(text, place),
+            why: Why::BlockHeader,
+        });
     };
     let header = Header {
         folded: sign == b'>',

@@ -5,8 +5,8 @@ use std::alloc::{AllocError, AllocFailed};
 use std::fmt;
 use thiserror::Error;
 
-/// Why no node is where one is looked for. No contract says which reason a text gets: it only helps the person who
-/// writes the text. `Display` shows it in words, `Debug` by its name.
+/// Why no node is where one is looked for. No contract says which reason a text gets, nor at which place: they only
+/// help the person who writes the text. `Display` shows it in words, `Debug` by its name.
 #[derive(Clone, Copy, Debug, PartialEq, Eq)]
 pub enum Why {
     /// An alias (`*name`), which the profile leaves out.
@@ -17,7 +17,8 @@ pub enum Why {
     Tag,
     /// A directive other than `%YAML 1.1` and `%YAML 1.2`, or one in a wrong place.
     Directive,
-    /// A value without a key, which the profile leaves out.
+    /// A value without a key, which the profile leaves out. The place is that of the `:`. After a `?` it is where the
+    /// key is missing: right after the `?`, or between brackets at the sign that is there instead.
     OmittedKey,
     /// A byte order mark that is not at the text's start.
     ByteOrderMark,
@@ -25,17 +26,19 @@ pub enum Why {
     Character,
     /// An unknown escape.
     Escape,
-    /// A line that has too few or too many spaces.
+    /// A line that has too few or too many spaces. In quotes and between brackets it is only this if the quote or the
+    /// bracket is closed further down.
     Indent,
-    /// A quote that is not closed.
+    /// A quote that is not closed. The place is that of the quote.
     Quote,
-    /// A flow collection that is not closed, or has a malformed entry.
+    /// A flow collection that is not closed, or has a malformed entry. The place is that of the innermost open bracket,
+    /// or of what is malformed.
     Flow,
     /// A key that is too long or runs over lines, or a second one on its line.
     Key,
-    /// A malformed header of a block scalar.
+    /// A malformed header of a block scalar. The place is that of the first character that no header has there.
     BlockHeader,
-    /// A document marker inside a node.
+    /// A document marker inside a node, at its place, or more than a comment after a `...`, at the end of the `...`.
     Marker,
     /// None of these.
     Other,

@@ -15,6 +15,7 @@ ghost use Rattle.yaml_scan.specs.Gaps.{NoGap};
 
 use crate::pair::plug;
 use crate::push::push;
+use crate::refusals::{bracket_fault, no_scalar, why_not_ended};
 use crate::scalar::scalar_at;
 use std::alloc::Global;
 use yaml_events::{Event, Events, FlowContext, ScanFault, Style, Why};
@@ -267,7 +268,7 @@ fn after_entry(
         push(events, end_event(top.kind))?;
         return Ok(Next::Closed { end: at + 1 });
     }
-    Err(fault(at, Why::Flow))
+    Err(fault(at, why_not_ended(text, at)))
 }
 
 fn in_flow(c: FlowContext) -> FlowContext
@@ -396,7 +397,10 @@ fn scalar<'a>(
     ensures kept { (k : ℕ) → Kept k events.old events.new }
 {
     let start = top.start;
-    let found = scalar_at(alloc, text, start, setting.n, setting.context)?;
+    let found = match scalar_at(alloc, text, start, setting.n, setting.context) {
+        Ok(found) => found,
+        Err(fault) => return Err(no_scalar(text, *top, fault)),
+    };
     let end = found.end;
     let node_end = node_end(found.style);
     if found.is_over_lines(text, start) {
@@ -434,12 +438,47 @@ pub(crate) fn collection<'a>(
         Refuses fault (NoFlowNodeFound n (context_of c) text.now at)) }
     ensures kept { (k : ℕ) → Kept k events.old events.new }
 {
+    let mut outer: Vec<Open> = Vec::new(alloc);
+    match collection_end(alloc, events, text, at, kind, n, c, &mut outer) {
+        Ok(end) => Ok(end),
+        Err(fault) => Err(bracket_fault(text, innermost(&outer, at), c, fault)),
+    }
+}
+
+/// Returns where the innermost open bracket is. `outer` has the brackets around it, and the outermost one is at `at`.
+fn innermost(outer: &[Open], at: usize) -> usize {
+    match outer.last() {
+        Some(open) => open.start,
+        None => at,
+    }
+}
+
+/// The same as [`collection`], with the list of the brackets around the innermost open one, the outermost first. The
+/// list is empty at first. After a failure it has those where the reading stopped.
+#[inline(always)]
+fn collection_end<'a>(
+    alloc: Global,
+    events: &mut Events<'a>,
+    text: &'a str,
+    at: usize,
+    kind: BracketKind,
+    n: u64,
+    c: FlowContext,
+    outer: &mut Vec<Open>,
+) -> Result<usize, ScanFault>
+    requires at { IsCharBoundary text.now at }
+    requires bracket { IsBracket text.now at (in_sequence kind) }
+    requires empty { outer.old.items ≡ [] }
+    ensures found { IfOk result (λ end.
+        FlowNodeRead n (context_of c) text.now at end events.old events.new) }
+    ensures none { IfErr result (λ fault.
+        Refuses fault (NoFlowNodeFound n (context_of c) text.now at)) }
+    ensures kept { (k : ℕ) → Kept k events.old events.new }
+{
     let setting = Setting {
         n,
         context: in_flow(c),
     };
-    // The brackets around the innermost one, the outermost first.
-    let mut outer: Vec<Open> = Vec::new(alloc);
     // No break is between this place and the place that is read. Each open node that started before it has a break
     // after its start.
     let mut line = at;
@@ -449,7 +488,7 @@ pub(crate) fn collection<'a>(
         next = match next {
             Next::Entry { at } => entry(events, text, at, setting, &mut top, &mut line)?,
             Next::Node { at } => node(
-                alloc, events, text, at, setting, &mut top, &mut outer, &mut line,
+                alloc, events, text, at, setting, &mut top, outer, &mut line,
             )?,
             Next::AfterEntry { at } => after_entry(events, text, at, setting, top, &mut line)?,
             Next::Closed { end } => match outer.pop() {

@@ -11,6 +11,7 @@ mod node;
 mod omission;
 mod pair;
 mod push;
+mod refusals;
 mod scalar;
 
 pub use node::flow_node;

@@ -217,7 +217,7 @@ fn is_left_out(text: &str, start: usize, at: usize, key_end: NodeEnd) -> bool
 }
 
 /// Returns whether an entry ends at a place: at a comma, a closing bracket or the end of the text.
-fn entry_ends(text: &str, at: usize) -> bool
+pub(crate) fn entry_ends(text: &str, at: usize) -> bool
     requires { IsCharBoundary text.now at }
     ensures { result ≡ ends_entry (rest text.now at) }
 {

@@ -16,6 +16,7 @@ ghost use Rattle.yaml_flow_scalars.specs.DoubleScan.{double_value, raw_char, Add
 ghost use Rattle.yaml_flow_scalars.specs.DoubleBorrowed.{BorrowsVerbatim};
 
 use crate::fold::{Fold, fold_at, fold_fault, push_fold, white_start};
+use crate::unclosed::{Quotes, quote_fault};
 use std::alloc::Global;
 use std::borrow::CowStr;
 use yaml_events::{FlowContext, ScanFault, Why};
@@ -34,8 +35,9 @@ struct Escape {
 ///
 /// # Errors
 ///
-/// [`ScanFault::At`] only if no such scalar is at `at`. The reason is a missing quote at its start or end, an unknown
-/// escape, a control character, a break in a key, or a line that is indented too little or is a document marker.
+/// [`ScanFault::At`] only if no such scalar is at `at`. The reason is a missing quote at its start or end, both with
+/// the place `at`, an unknown escape, a control character, a break in a key, or a line that is indented too little or
+/// is a document marker.
 /// [`ScanFault::OutOfMemory`] if there is no memory for a value that is not borrowed.
 #[inline(never)]
 pub fn double<'a>(
@@ -65,8 +67,10 @@ pub fn double<'a>(
     if stands_at(text, end, b'"') {
         return Ok((CowStr::Borrowed(&text[start..end]), end + 1));
     }
-    let (value, end) = unescaped(alloc, text, start, end, n, context)?;
-    Ok((CowStr::Owned(value), end))
+    match unescaped(alloc, text, start, end, n, context) {
+        Ok((value, end)) => Ok((CowStr::Owned(value), end)),
+        Err(fault) => Err(quote_fault(text, at, Quotes::Double, fault)),
+    }
 }
 
 /// Returns the value of a scalar whose first run of characters goes from `start` to `first`, and the place after its

@@ -9,6 +9,7 @@ mod double_quoted;
 mod fold;
 mod plain_scalar;
 mod single_quoted;
+mod unclosed;
 
 pub use double_quoted::double;
 pub use plain_scalar::plain;

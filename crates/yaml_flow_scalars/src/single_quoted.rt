@@ -1,5 +1,5 @@
 // Scalars in single quotes (YAML 1.2.2, 7.3.2).
-ghost use Rattle.std.specs.Prelude.{◌≡◌, ◌+◌, ◌-◌, ◌≤◌, false, IfOk, IfErr, IfSome, IfNone, None};
+ghost use Rattle.std.specs.Prelude.{◌≡◌, ◌+◌, ◌-◌, ◌<◌, ◌≤◌, false, IfOk, IfErr, IfSome, IfNone, None};
 ghost use Rattle.std.specs.Str.{IsCharBoundary, chars};
 ghost use Rattle.std.specs.Cow.{cow_str_bytes};
 ghost use Rattle.yaml_chars.specs.Places.{rest, IsRun};
@@ -14,6 +14,7 @@ ghost use Rattle.yaml_flow_scalars.specs.SingleScalars.{content, BorrowsContent,
 ghost use Rattle.yaml_flow_scalars.specs.Standing.{ScalarAt, NoScalarAt, IsUnbroken};
 
 use crate::fold::{Fold, fold_at, fold_fault, push_fold, white_start};
+use crate::unclosed::{Quotes, quote_fault};
 use std::alloc::Global;
 use std::borrow::CowStr;
 use yaml_events::{FlowContext, ScanFault, Why};
@@ -25,10 +26,10 @@ use yaml_scan::{Class, break_end, is_on_one_line, run_end, stands_at};
 ///
 /// # Errors
 ///
-/// [`ScanFault::At`] only if no such scalar is at `at`, with the place at fault and the reason: `Quote` if no quote
-/// opens or closes it, `Character` at a control character, `Key` if a key goes over lines, `Indent` or `Marker` if a
-/// further line is indented too little or is a document marker. [`ScanFault::OutOfMemory`] if there is no memory for a
-/// value that is not borrowed.
+/// [`ScanFault::At`] only if no such scalar is at `at`, with the place at fault and the reason: `Quote` with `at` if no
+/// quote opens or closes it, `Character` at a control character, `Key` if a key goes over lines, `Indent` or `Marker`
+/// if a further line is indented too little or is a document marker. [`ScanFault::OutOfMemory`] if there is no memory
+/// for a value that is not borrowed.
 #[inline(never)]
 pub fn single<'a>(
     alloc: Global,
@@ -63,7 +64,8 @@ fn unquoted<'a>(
     n: u64,
     context: FlowContext,
 ) -> Result<(CowStr<'a>, usize), ScanFault>
-    requires { IsCharBoundary text.now start }
+    requires start { IsCharBoundary text.now start }
+    requires opened { 0 < start }
     ensures found { IfOk result (λ r.
         IsInside n (context_of context) text.now start (chars (cow_str_bytes r.0)) r.1) }
     ensures none { IfErr result (λ fault.
@@ -89,7 +91,7 @@ fn unquoted<'a>(
         }
         let white = white_start(text, place, end);
         let Some(fold) = fold_in(text, end, n, context) else {
-            return Err(fault_at(text, end, context));
+            return Err(fault_at(text, start, end, context));
         };
         value.push_str(&text[place..white])?;
         push_fold(&mut value, fold.empties)?;
@@ -110,8 +112,19 @@ fn fold_in(text: &str, at: usize, n: u64, context: FlowContext) -> Option<Fold>
     fold_at(text, at, n)
 }
 
+/// Returns why no scalar is between quotes, the first of which is before `start`: it does not go on at `at`, where
+/// neither a quote nor a fold is.
+#[inline(never)]
+fn fault_at(text: &str, start: usize, at: usize, context: FlowContext) -> ScanFault
+    requires at { IsCharBoundary text.now at }
+    requires opened { 0 < start }
+{
+    let fault = stop_fault(text, at, context);
+    quote_fault(text, start - 1, Quotes::Single, fault)
+}
+
 /// Returns why a scalar does not go on at `at`, where neither a quote nor a fold is.
-fn fault_at(text: &str, at: usize, context: FlowContext) -> ScanFault
+fn stop_fault(text: &str, at: usize, context: FlowContext) -> ScanFault
     requires { IsCharBoundary text.now at }
 {
     if break_end(text, at).is_none() {

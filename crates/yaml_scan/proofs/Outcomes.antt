@@ -1,5 +1,5 @@
 -- What holds of each outcome of a call, and how a fault that a callee returns is passed on.
-use Rattle.std.proofs.Common.{◌≡◌, Some, None, sym, subst, Ok, Err}
+use Rattle.std.proofs.Common.{◌≡◌, Some, None, refl, sym, subst, Ok, Err}
 use Rattle.std.specs.Prelude.{Option, Result, IfOk, IfErr, IfSome, IfNone}
 use Rattle.yaml_events.specs.EventPlaces.{Refuses}
 use Rattle.yaml_events.specs.declared.fault.ScanFault.{ScanFault}
@@ -31,6 +31,12 @@ pub fault_passed : {T : Type 0} (r : Result T ScanFault) (fault : ScanFault) (P 
 fault_passed {T} r fault P Q f h w =
     let M : Result T ScanFault → Type 0 = λ x. IfErr x (λ y. Refuses y Q) in
     subst M (sym w.1) (subst (λ y. Refuses y Q) (sym w.2) (refuses_so fault P Q f h))
+
+-- a fault that is reported in other words
+pub fault_kept : (fault other : ScanFault) (P Q : Type 0) → (fault ≡ OutOfMemory → other ≡ OutOfMemory) → (P → Q)
+    → Refuses fault P → Refuses other Q
+fault_kept (At at why) other P Q k f h = refuses other Q (f h)
+fault_kept OutOfMemory other P Q k f h = subst (λ (x : ScanFault). Refuses x Q) (sym (k refl)) tt
 
 -- a callee's result that is returned as it is
 pub faults_so : {T : Type 0} (r : Result T ScanFault) (P Q : Type 0) → (P → Q) → IfErr r (λ fault. Refuses fault P) → IfErr r (λ fault. Refuses fault Q)

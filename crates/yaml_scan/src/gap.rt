@@ -9,7 +9,7 @@ ghost use Rattle.yaml_scan.specs.Gaps.{IsGap, NoGap, IsLinesGap, NoLinesGap};
 
 use crate::lines::{rest_of_line_end, solid_line};
 use crate::runs::white_end;
-use crate::signs::solid_at;
+use crate::signs::{is_marker, solid_at};
 use yaml_events::{FlowContext, ScanFault, Why};
 
 /// A gap between two parts of a flow node, which may be empty.
@@ -37,7 +37,8 @@ pub fn is_on_one_line(context: FlowContext) -> bool
 /// # Errors
 ///
 /// [`ScanFault::At`] if nothing of the node can follow: with [`Why::Flow`] if the text ends after the lines of the gap,
-/// and with [`Why::Indent`] if its last line has fewer than `n` spaces. It is never [`ScanFault::OutOfMemory`].
+/// and if its last line has fewer than `n` spaces, with [`Why::Marker`] at a document marker and else with
+/// [`Why::Indent`]. It is never [`ScanFault::OutOfMemory`].
 pub fn gap_end(text: &str, at: usize, n: u64, context: FlowContext) -> Result<Gap, ScanFault>
     requires { IsCharBoundary text.now at }
     ensures found { IfOk result (IsGap n (context_of context) text.now at) }
@@ -74,11 +75,24 @@ fn gap_over_lines(text: &str, next: usize, n: u64) -> Result<Gap, ScanFault>
     if ((at - line.start) as u64) < n {
         return Err(ScanFault::At {
             at,
-            why: Why::Indent,
+            why: why_too_few_spaces(text, line.start),
         });
     }
     Ok(Gap {
         end: white_end(text, at),
         is_over_lines: true,
     })
+}
+
+/// Returns why a line with too few spaces, which starts at `start`, ends a gap. No contract says this: it only helps
+/// the person who writes the text.
+#[inline(never)]
+fn why_too_few_spaces(text: &str, start: usize) -> Why
+    requires { IsCharBoundary text.now start }
+{
+    if is_marker(text, start) {
+        Why::Marker
+    } else {
+        Why::Indent
+    }
 }

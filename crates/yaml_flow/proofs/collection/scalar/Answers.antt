@@ -1,9 +1,8 @@
-use Rattle.std.proofs.lemmas.Result.{err_from_is_err_and}
 use Rattle.std.proofs.Common.{◌≡◌, sym, subst, ap, ◌∙◌, arith, ◌-◌, ◌*◌, ◌<◌, length}
 use Rattle.std.specs.Prelude.{not, [], ◌∷◌, ◌++◌}
 use Rattle.yaml_events.specs.Meant.{context_of}
 use Rattle.yaml_scan.specs.ScanPlaces.{unbroken_between}
-use Rattle.yaml_scan.proofs.Outcomes.{fault_passed, faults_so, ok_so}
+use Rattle.yaml_scan.proofs.Outcomes.{fault_kept, faults_so, ok_so}
 use Rattle.yaml_flow.specs.Scalars.{NoFlowScalar}
 use Rattle.yaml_flow.specs.Frames.{LineMoves, Onward, place_of, steps_left}
 use Rattle.yaml_flow.proofs.NodeSteps.{node_missing}
@@ -14,31 +13,30 @@ use Rattle.yaml_flow.proofs.Stacks.{kept_then}
 use Rattle.yaml_flow.proofs.collection.scalar.Goals as goal
 use Rattle.yaml_flow.proofs.collection.scalar.Goals.{then-is_over_lines, else-is_over_lines}
 
-pub returns-in_err-found-clause-none : goal.returns-in_err-found-clause-none
-returns-in_err-found-clause-none c =
+pub returns-in-Err-clause-none : goal.returns-in-Err-clause-none
+returns-in-Err-clause-none c =
     let n = c.args.setting.n in
     let d = context_of c.args.setting.context in
     let text = c.args.text.now in
     let start = c.args.top.now.start in
-    fault_passed c.from_residual.result c.in_err-found.field-0.0 (NoFlowScalar n d text start) _
-    (λ none. λ w here. node_missing n d text w c.args.top.now start c.args.events.now (scalar_missing n d text start c.requires.no_seq c.requires.no_map none) here) c.in_err-found.ensures.none
-    (err_from_is_err_and c.from_residual.result c.from_residual.ensures.1)
+    fault_kept c.in-Err.fault c.no_scalar.result (NoFlowScalar n d text start) _ c.no_scalar.ensures
+    (λ none. λ w here. node_missing n d text w c.args.top.now start c.args.events.now (scalar_missing n d text start c.requires.no_seq c.requires.no_map none) here) c.in-Err.ensures.none
 
 pub returns-clause-line : goal.returns-clause-line
 returns-clause-line c =
     let text = c.args.text.now in
     let start = c.args.top.now.start in
-    let read = c.in_ok-found.ensures.found in
+    let read = c.in-Ok.ensures.found in
     let above = read.above in
-    let over : c.is_over_lines.result ≡ not (unbroken_between text start c.in_ok-found.found.end) = c.is_over_lines.ensures in
-    let moves : LineMoves text c.args.line.now start c.if-is_over_lines.line c.in_ok-found.found.end = elim c.if-is_over_lines.branch [
-      | then-is_over_lines w ↦ subst (λ k. LineMoves text c.args.line.now start k c.in_ok-found.found.end) (sym w.line-is)
-          (line_follows text c.args.line.now start c.in_ok-found.found.end c.utf8.text above c.requires.at read.boundary (broken_by _ _ over w.if-is_over_lines.true))
-      | else-is_over_lines w ↦ subst (λ k. LineMoves text c.args.line.now start k c.in_ok-found.found.end) (sym w.line-is)
-          (line_stays text c.args.line.now start c.in_ok-found.found.end c.utf8.text (omega (arith, above)) c.requires.at read.boundary (unbroken_by _ _ over w.if-is_over_lines.false))
+    let over : c.is_over_lines.result ≡ not (unbroken_between text start c.in-Ok.found.end) = c.is_over_lines.ensures in
+    let moves : LineMoves text c.args.line.now start c.if-is_over_lines.line c.in-Ok.found.end = elim c.if-is_over_lines.branch [
+      | then-is_over_lines w ↦ subst (λ k. LineMoves text c.args.line.now start k c.in-Ok.found.end) (sym w.line-is)
+          (line_follows text c.args.line.now start c.in-Ok.found.end c.utf8.text above c.requires.at read.boundary (broken_by _ _ over w.if-is_over_lines.true))
+      | else-is_over_lines w ↦ subst (λ k. LineMoves text c.args.line.now start k c.in-Ok.found.end) (sym w.line-is)
+          (line_stays text c.args.line.now start c.in-Ok.found.end c.utf8.text (omega (arith, above)) c.requires.at read.boundary (unbroken_by _ _ over w.if-is_over_lines.false))
     ] in
     ok_so c.plug.result _ _
-    (λ next h. line_then text c.args.line.now start c.if-is_over_lines.line c.in_ok-found.found.end c.plug.new.line (place_of next) (omega (arith, above)) c.requires.at moves h) c.plug.ensures.line
+    (λ next h. line_then text c.args.line.now start c.if-is_over_lines.line c.in-Ok.found.end c.plug.new.line (place_of next) (omega (arith, above)) c.requires.at moves h) c.plug.ensures.line
 
 pub returns-clause-stands : goal.returns-clause-stands
 returns-clause-stands c =
@@ -48,8 +46,8 @@ returns-clause-stands c =
     let top = c.args.top.now in
     let events = c.args.events.now in
     ok_so c.plug.result _ _
-    (λ next h. λ w here. h w (scalar_node n d text w top c.node_end-node_end.result c.in_ok-found.found events c.push.new.events c.utf8.text c.requires.at c.requires.no_seq c.requires.no_map c.requires.count
-    c.in_ok-found.ensures.found c.node_end-node_end.ensures (c.in_ok-push.ensures.ok ∙ ap (λ e. events ++ e ∷ []) c.into_event.ensures) here)) c.plug.ensures.stands
+    (λ next h. λ w here. h w (scalar_node n d text w top c.node_end-node_end.result c.in-Ok.found events c.push.new.events c.utf8.text c.requires.at c.requires.no_seq c.requires.no_map c.requires.count
+    c.in-Ok.ensures.found c.node_end-node_end.ensures (c.in_ok-push.ensures.ok ∙ ap (λ e. events ++ e ∷ []) c.into_event.ensures) here)) c.plug.ensures.stands
 
 pub returns-clause-none : goal.returns-clause-none
 returns-clause-none c =
@@ -59,27 +57,27 @@ returns-clause-none c =
     let top = c.args.top.now in
     let events = c.args.events.now in
     faults_so c.plug.result _ _
-    (λ h. λ w here. h w (scalar_node n d text w top c.node_end-node_end.result c.in_ok-found.found events c.push.new.events c.utf8.text c.requires.at c.requires.no_seq c.requires.no_map c.requires.count
-    c.in_ok-found.ensures.found c.node_end-node_end.ensures (c.in_ok-push.ensures.ok ∙ ap (λ e. events ++ e ∷ []) c.into_event.ensures) here)) c.plug.ensures.none
+    (λ h. λ w here. h w (scalar_node n d text w top c.node_end-node_end.result c.in-Ok.found events c.push.new.events c.utf8.text c.requires.at c.requires.no_seq c.requires.no_map c.requires.count
+    c.in-Ok.ensures.found c.node_end-node_end.ensures (c.in_ok-push.ensures.ok ∙ ap (λ e. events ++ e ∷ []) c.into_event.ensures) here)) c.plug.ensures.none
 
 pub plug-requires-clause-line : goal.plug-requires-clause-line
 plug-requires-clause-line c =
     let text = c.args.text.now in
     let start = c.args.top.now.start in
-    let read = c.in_ok-found.ensures.found in
+    let read = c.in-Ok.ensures.found in
     let above = read.above in
-    let over : c.is_over_lines.result ≡ not (unbroken_between text start c.in_ok-found.found.end) = c.is_over_lines.ensures in
-    let moves : LineMoves text c.args.line.now start c.if-is_over_lines.line c.in_ok-found.found.end = elim c.if-is_over_lines.branch [
-      | then-is_over_lines w ↦ subst (λ k. LineMoves text c.args.line.now start k c.in_ok-found.found.end) (sym w.line-is)
-          (line_follows text c.args.line.now start c.in_ok-found.found.end c.utf8.text above c.requires.at read.boundary (broken_by _ _ over w.if-is_over_lines.true))
-      | else-is_over_lines w ↦ subst (λ k. LineMoves text c.args.line.now start k c.in_ok-found.found.end) (sym w.line-is)
-          (line_stays text c.args.line.now start c.in_ok-found.found.end c.utf8.text (omega (arith, above)) c.requires.at read.boundary (unbroken_by _ _ over w.if-is_over_lines.false))
+    let over : c.is_over_lines.result ≡ not (unbroken_between text start c.in-Ok.found.end) = c.is_over_lines.ensures in
+    let moves : LineMoves text c.args.line.now start c.if-is_over_lines.line c.in-Ok.found.end = elim c.if-is_over_lines.branch [
+      | then-is_over_lines w ↦ subst (λ k. LineMoves text c.args.line.now start k c.in-Ok.found.end) (sym w.line-is)
+          (line_follows text c.args.line.now start c.in-Ok.found.end c.utf8.text above c.requires.at read.boundary (broken_by _ _ over w.if-is_over_lines.true))
+      | else-is_over_lines w ↦ subst (λ k. LineMoves text c.args.line.now start k c.in-Ok.found.end) (sym w.line-is)
+          (line_stays text c.args.line.now start c.in-Ok.found.end c.utf8.text (omega (arith, above)) c.requires.at read.boundary (unbroken_by _ _ over w.if-is_over_lines.false))
     ] in
     moves.tells start c.requires.at (omega arith) (same_line_here text c.args.line.now start c.requires.line)
 
 pub returns-clause-onward : goal.returns-clause-onward
 returns-clause-onward c =
-    let above = c.in_ok-found.ensures.found.above in
+    let above = c.in-Ok.ensures.found.above in
     ok_so c.plug.result _ (Onward c.args.text.now c.args.top.now.start)
     (λ next h. let on = h.above in record { boundary = h.boundary; above = omega (arith, above, on); within = h.within })
     c.plug.ensures.onward
@@ -87,8 +85,8 @@ returns-clause-onward c =
 pub returns-clause-less : goal.returns-clause-less
 returns-clause-less c =
     let text = c.args.text.now in
-    let above = c.in_ok-found.ensures.found.above in
-    let within = c.in_ok-found.ensures.found.within in
+    let above = c.in-Ok.ensures.found.above in
+    let within = c.in-Ok.ensures.found.within in
     ok_so c.plug.result _ (λ next. steps_left text next < 2 * (length text - c.args.top.now.start))
     (λ next h. omega (arith, above, within, h)) c.plug.ensures.less
 

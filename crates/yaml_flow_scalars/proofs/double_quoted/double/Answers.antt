@@ -2,11 +2,10 @@ use Rattle.std.proofs.Common.{◌≡◌, refl, sym, subst, arith, ◌+◌, None}
 use Rattle.std.specs.String.{string_bytes}
 use Rattle.std.specs.Prelude.{slice_range}
 use Rattle.std.specs.Str.{chars}
-use Rattle.std.proofs.lemmas.Result.{err_from_is_err_and}
 use Rattle.yaml_chars.specs.Places.{rest, IsRun}
 use Rattle.yaml_grammar.specs.Events.{double_style}
 use Rattle.yaml_events.specs.Meant.{context_of}
-use Rattle.yaml_scan.proofs.Outcomes.{fault_passed}
+use Rattle.yaml_scan.proofs.Outcomes.{fault_kept}
 use Rattle.yaml_flow_scalars.specs.Standing.{ScalarAt, NoScalarAt}
 use Rattle.yaml_flow_scalars.specs.DoubleScan.{double_value, raw_char}
 use Rattle.yaml_flow_scalars.proofs.DoublePlaces.{stands, stands_not, after_byte, raw_run}
@@ -50,35 +49,35 @@ unescaped-requires-clause-start c =
     let there = stands c.args.text.now c.args.at 34 c.stands_at.result c.utf8.text c.requires (omega arith) c.stands_at.ensures c.if-not-stands_at.false in
     after_byte c.args.text.now c.args.at 34 c.utf8.text there.0 there.1 (omega arith)
 
-pub returns-in_err-value-clause-none : goal.returns-in_err-value-clause-none
-returns-in_err-value-clause-none c =
+pub returns-in-Err-clause-none : goal.returns-in-Err-clause-none
+returns-in-Err-clause-none c =
     let a = c.args in
     let d = context_of a.context in
     let text = a.text.now in
     let there = stands c.args.text.now c.args.at 34 c.stands_at.result c.utf8.text c.requires (omega arith) c.stands_at.ensures c.if-not-stands_at.false in
-    fault_passed c.from_residual.result c.in_err-value.field-0.0 (double_value a.n d (rest text (a.at + 1)) ≡ None) (NoScalarAt double_style a.n d text a.at)
-    (none_after a.n d text c.utf8.text a.at there.0 there.1) c.in_err-value.ensures.err (err_from_is_err_and c.from_residual.result c.from_residual.ensures.1)
+    fault_kept c.in-Err.fault c.quote_fault.result (double_value a.n d (rest text (a.at + 1)) ≡ None) (NoScalarAt double_style a.n d text a.at)
+    c.quote_fault.ensures (none_after a.n d text c.utf8.text a.at there.0 there.1) c.in-Err.ensures.err
 
-pub returns-clause-found : goal.returns-clause-found
-returns-clause-found c =
+pub returns-in-Ok-clause-found : goal.returns-in-Ok-clause-found
+returns-in-Ok-clause-found c =
     let a = c.args in
     let d = context_of a.context in
     let text = a.text.now in
     let there = stands c.args.text.now c.args.at 34 c.stands_at.result c.utf8.text c.requires (omega arith) c.stands_at.ensures c.if-not-stands_at.false in
-    let closing = c.in_ok-value.ensures.ok in
+    let closing = c.in-Ok.ensures.ok in
     let above = c.run_end-end.ensures.above in
     let beyond = closing.above in
-    scalar_there a.n d text c.utf8.text a.at there.0 there.1 (chars (string_bytes c.in_ok-value.value)) c.in_ok-value.end (omega arith) closing.boundary closing.means
+    scalar_there a.n d text c.utf8.text a.at there.0 there.1 (chars (string_bytes c.in-Ok.value)) c.in-Ok.end (omega arith) closing.boundary closing.means
 
-pub returns-clause-borrowed : goal.returns-clause-borrowed
-returns-clause-borrowed c = λ verbatim.
+pub returns-in-Ok-clause-borrowed : goal.returns-in-Ok-clause-borrowed
+returns-in-Ok-clause-borrowed c = λ verbatim.
     let a = c.args in
     let text = a.text.now in
     let end = c.run_end-end.result in
     let there = stands text a.at 34 c.stands_at.result c.utf8.text c.requires (omega arith) c.stands_at.ensures c.if-not-stands_at.false in
     let start = after_byte text a.at 34 c.utf8.text there.0 there.1 (omega arith) in
-    absurd (not_verbatim a.n (context_of a.context) text c.utf8.text (a.at + 1) end (string_bytes c.in_ok-value.value) c.in_ok-value.end start (raw_run text (a.at + 1) end c.run_end-end.ensures)
-    (stands_not text end 34 c.stands_at-2.result c.utf8.text (omega arith) c.stands_at-2.ensures c.if-stands_at.false) c.in_ok-value.ensures.ok verbatim)
+    absurd (not_verbatim a.n (context_of a.context) text c.utf8.text (a.at + 1) end (string_bytes c.in-Ok.value) c.in-Ok.end start (raw_run text (a.at + 1) end c.run_end-end.ensures)
+    (stands_not text end 34 c.stands_at-2.result c.utf8.text (omega arith) c.stands_at-2.ensures c.if-stands_at.false) c.in-Ok.ensures.ok verbatim)
 
 pub returns-then-stands_at-clause-unbroken : goal.returns-then-stands_at-clause-unbroken
 returns-then-stands_at-clause-unbroken c = λ _.
@@ -96,9 +95,9 @@ pub returns-then-stands_at-clause-ends_inside_line : goal.returns-then-stands_at
 returns-then-stands_at-clause-ends_inside_line c =
     ends_inside_line double_style c.args.n (context_of c.args.context) c.args.text.now c.args.at (chars c.range.result.now) (c.run_end-end.result + 1) c.utf8.text c.requires (returns-then-stands_at-clause-found c)
 
-pub returns-clause-ends_inside_line : goal.returns-clause-ends_inside_line
-returns-clause-ends_inside_line c =
-    ends_inside_line double_style c.args.n (context_of c.args.context) c.args.text.now c.args.at (chars (string_bytes c.in_ok-value.value)) c.in_ok-value.end c.utf8.text c.requires (returns-clause-found c)
+pub returns-in-Ok-clause-ends_inside_line : goal.returns-in-Ok-clause-ends_inside_line
+returns-in-Ok-clause-ends_inside_line c =
+    ends_inside_line double_style c.args.n (context_of c.args.context) c.args.text.now c.args.at (chars (string_bytes c.in-Ok.value)) c.in-Ok.end c.utf8.text c.requires (returns-in-Ok-clause-found c)
 
 pub unescaped-requires-clause-run : goal.unescaped-requires-clause-run
 unescaped-requires-clause-run c = raw_run c.args.text.now (c.args.at + 1) c.run_end-end.result c.run_end-end.ensures

@@ -16,8 +16,8 @@ use Rattle.yaml_flow_scalars.proofs.InsideLines.{ends_inside_line}
 use Rattle.yaml_flow_scalars.proofs.Unbroken.{opened_unbroken}
 use Rattle.yaml_flow_scalars.proofs.single_quoted.single.Goals as goal
 
-pub unquoted-requires : goal.unquoted-requires
-unquoted-requires c =
+pub unquoted-requires-clause-start : goal.unquoted-requires-clause-start
+unquoted-requires-clause-start c =
     let q : first quote (rest c.args.text.now c.args.at) ≡ true = sym c.stands_at.ensures ∙ c.if-not-stands_at.false in
     (quote_at c.args.text.now c.args.at c.utf8.text c.requires q).next
 

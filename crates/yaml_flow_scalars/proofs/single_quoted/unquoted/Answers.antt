@@ -15,7 +15,7 @@ use Rattle.yaml_flow_scalars.proofs.single_quoted.unquoted.Goals as goal
 pub runs-init : goal.runs-init
 runs-init c = record {
   above = omega arith;
-  boundary = c.requires;
+  boundary = c.requires.start;
   reads = begun c.args.n (context_of c.args.context) c.args.text.now c.args.start (string_bytes c.new-value.result) c.new-value.ensures.bytes;
   changed = λ l. absurd (omega arith);
 }
@@ -52,7 +52,7 @@ returns-then-place-start-clause-found c =
     let run = subst (λ x. IsRun content c.args.text.now x c.run_end-end.result) c.if-place-start.true c.run_end-end.ensures in
     let q : first quote (rest c.args.text.now c.run_end-end.result) ≡ true = sym c.stands_at.ensures ∙ c.if-stands_at.true in
     let r : first quote (rest c.args.text.now (c.run_end-end.result + 1)) ≡ false = sym c.stands_at-then-stands_at.ensures ∙ c.if-stands_at-2.false in
-    reads_at_once c.args.n (context_of c.args.context) c.args.text.now c.args.start c.run_end-end.result c.range-then-place-start.result.now c.utf8.text c.requires run q r c.range-then-place-start.ensures.value
+    reads_at_once c.args.n (context_of c.args.context) c.args.text.now c.args.start c.run_end-end.result c.range-then-place-start.result.now c.utf8.text c.requires.start run q r c.range-then-place-start.ensures.value
 
 pub returns-then-stands_at-clause-found : goal.returns-then-stands_at-clause-found
 returns-then-stands_at-clause-found c =
@@ -108,4 +108,4 @@ returns-then-place-start-clause-unbroken c = λ _.
     let run = subst (λ x. IsRun content c.args.text.now x c.run_end-end.result) c.if-place-start.true c.run_end-end.ensures in
     let q : first quote (rest c.args.text.now c.run_end-end.result) ≡ true = sym c.stands_at.ensures ∙ c.if-stands_at.true in
     let there = quote_at c.args.text.now c.run_end-end.result c.utf8.text run.boundary q in
-    run_closed_unbroken content c.args.text.now c.args.start c.run_end-end.result 39 c.utf8.text c.requires content_unbroken run there.within there.byte (omega arith) refl
+    run_closed_unbroken content c.args.text.now c.args.start c.run_end-end.result 39 c.utf8.text c.requires.start content_unbroken run there.within there.byte (omega arith) refl

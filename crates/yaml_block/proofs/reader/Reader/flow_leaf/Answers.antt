@@ -3,12 +3,12 @@ use Rattle.std.specs.Prelude.{ℕ, [], ◌∷◌, ◌++◌, Option, IfSome, inse
 use Rattle.std.proofs.lemmas.Result.{err_from_is_err_and}
 use Rattle.yaml_grammar.specs.FlowScalars.{outer}
 use Rattle.yaml_events.specs.declared.event.Event.TheVariants.{MapStart}
-use Rattle.yaml_scan.proofs.Outcomes.{fault_passed, refuses}
+use Rattle.yaml_scan.proofs.Outcomes.{fault_kept, fault_passed, refuses}
 use Rattle.yaml_flow.specs.FlowNodes.{NoFlowNodeFound}
 use Rattle.yaml_block.specs.States.{BeforeLeaf, Fails}
 use Rattle.yaml_block.specs.declared.line_sign.Sign.TheVariants.{Colon}
 use Rattle.yaml_block.specs.declared.frame.Waits.TheVariants.{Value}
-use Rattle.yaml_block.proofs.KeysAndPairs.{after_onward, fault_kept, leaf_key, leaf_line, leaf_nothing, leaf_unclosed, leaf_unkeyed}
+use Rattle.yaml_block.proofs.KeysAndPairs.{after_onward, leaf_key, leaf_line, leaf_nothing, leaf_unclosed, leaf_unkeyed}
 use Rattle.yaml_block.proofs.Stacks.{grown_appended, grown_before, grown_grown, grown_same}
 use Rattle.yaml_block.proofs.TextPlaces.{past_sign}
 use Rattle.yaml_block.proofs.reader.Reader.flow_leaf.Goals as goal

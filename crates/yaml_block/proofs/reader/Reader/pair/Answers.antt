@@ -1,11 +1,11 @@
 use Rattle.std.proofs.Common.{arith, inl, inr, refl, sym, ◌∙◌}
 use Rattle.std.proofs.lemmas.Result.{err_from_is_err_and}
 use Rattle.yaml_grammar.specs.FlowScalars.{block_key}
-use Rattle.yaml_scan.proofs.Outcomes.{fault_passed, refuses}
+use Rattle.yaml_scan.proofs.Outcomes.{fault_kept, fault_passed, refuses}
 use Rattle.yaml_flow.specs.FlowNodes.{NoFlowNodeFound}
 use Rattle.yaml_block.specs.States.{BeforePair, Fails}
 use Rattle.yaml_block.specs.declared.line_sign.Sign.TheVariants.{Asked, Colon}
-use Rattle.yaml_block.proofs.KeysAndPairs.{after_onward, fault_kept, pair_asked, pair_key, pair_missing, pair_unkeyed}
+use Rattle.yaml_block.proofs.KeysAndPairs.{after_onward, pair_asked, pair_key, pair_missing, pair_unkeyed}
 use Rattle.yaml_block.proofs.Stacks.{grown_appended, grown_grown, grown_same}
 use Rattle.yaml_block.proofs.TextPlaces.{past_sign}
 use Rattle.yaml_block.proofs.reader.Reader.pair.Goals as goal

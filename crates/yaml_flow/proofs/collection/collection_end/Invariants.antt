@@ -3,7 +3,7 @@ use Rattle.yaml_events.specs.Meant.{context_of}
 use Rattle.yaml_grammar.specs.FlowScalars.{in_flow}
 use Rattle.yaml_flow.specs.Frames.{steps_left}
 use Rattle.yaml_flow.proofs.Stacks.{Reading, outermost}
-use Rattle.yaml_flow.proofs.collection.collection.Given as goal
+use Rattle.yaml_flow.proofs.collection.collection_end.Given as goal
 
 abbrev pub invariant-nodes : goal.invariant-nodes
 invariant-nodes l = record {
