@@ -19,7 +19,8 @@ pub record ReadsAs (bytes : List ℕ) (max : ℕ) (events : List Event) : Type 0
   pub text : IsShortText bytes max
   pub reads : Reads (chars bytes) (events_of events)
 
--- What bytes are refused for as a stream, where no earlier fault holds. A stream has no faults of trees.
+-- What bytes are refused for as a stream, where no earlier fault holds. A stream has no faults of trees. Memory is taken
+-- only for a text.
 abbrev pub RefusesBytes : List ℕ → ℕ → ReadFault → Type 0
 RefusesBytes bytes max TooLong = max < length bytes
 RefusesBytes bytes max (NotUtf8 at) = (length bytes ≤ max) × (IsUtf8 bytes → ⊥) × (at ≡ utf8_valid_len bytes)
@@ -30,7 +31,7 @@ RefusesBytes bytes max KeyNotText = ⊥
 RefusesBytes bytes max KeyTwice = ⊥
 RefusesBytes bytes max TooDeep = ⊥
 RefusesBytes bytes max LargeInStyle = ⊥
-RefusesBytes bytes max OutOfMemory = Unit {0}
+RefusesBytes bytes max OutOfMemory = IsShortText bytes max
 
 -- the fault is one of syntax
 abbrev pub IsSyntax : ReadFault → Type 0

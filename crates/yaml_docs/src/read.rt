@@ -1,5 +1,7 @@
 // Reading bytes as a stream of documents.
 ghost use Rattle.std.specs.Prelude.{All, ◌≡◌, ◌<◌, ◌≤◌, ◌↔◌, Err, IfOk, IfErr, length};
+ghost use Rattle.std.specs.Str.{IsUtf8};
+ghost use Rattle.std.specs.Str.Lossy.{utf8_valid_len};
 ghost use Rattle.yaml_events.specs.Borrowed.{BorrowsPlain};
 ghost use Rattle.yaml_events.specs.Meant.{events_of};
 ghost use Rattle.yaml_recognizers.specs.Ranges.{RangesInOrder};
@@ -19,14 +21,17 @@ use yaml_events::{Events, ReadFault, ScanFault, Why};
 /// # Errors
 ///
 /// - [`ReadFault::TooLong`] exactly if there are more than `max` bytes.
-/// - [`ReadFault::NotUtf8`] only if they are not UTF-8, with the length in bytes of the longest prefix that is.
+/// - [`ReadFault::NotUtf8`] exactly if there are at most so many and they are not UTF-8, with the length in bytes of the
+///   longest prefix that is.
 /// - [`ReadFault::Syntax`] only if they are not a stream of the profile, as `docs/READING.md` describes it.
-/// - [`ReadFault::OutOfMemory`] if there is no memory for the events.
+/// - [`ReadFault::OutOfMemory`] if they are UTF-8 and there is no memory for the events.
 ///
 /// It returns no other fault.
 pub fn events<'a>(alloc: Global, bytes: &'a [u8], max: u64) -> Result<Events<'a>, ReadFault>
     ensures reads { IfOk result (λ events. ReadsAs bytes.now max events) }
     ensures too_long { (result ≡ Err ReadFault.TooLong) ↔ (max < length bytes.now) }
+    ensures not_utf8 { length bytes.now ≤ max → (IsUtf8 bytes.now → ⊥) →
+        result ≡ Err (ReadFault.NotUtf8 (utf8_valid_len bytes.now)) }
     ensures refused { IfErr result (RefusesBytes bytes.now max) }
     ensures borrowed { IfOk result (λ events. All (BorrowsPlain bytes.now) events) }
     ensures in_order { IfOk result (λ events.

@@ -29,3 +29,6 @@ returns-in-Err-At-clause-refused c =
     subst (λ (fault : ScanFault). Refuses fault (stream_meaning (chars c.in-Ok.text.now) ≡ None)) c.in-Err-At.field-0-is c.in-Err-At.ensures.none in
     let none : stream_meaning (chars bytes) ≡ None = subst (λ (t : List ℕ). stream_meaning (chars t) ≡ None) c.in-Ok.ensures.text refused in
     syntax_refused bytes c.args.max c.syntax.result (record { short = c.if-bytes-max.false; utf8 = utf8 }) none c.syntax.ensures
+
+pub returns-in-Err-OutOfMemory-clause-refused : goal.returns-in-Err-OutOfMemory-clause-refused
+returns-in-Err-OutOfMemory-clause-refused c = record { short = c.if-bytes-max.false; utf8 = c.in-Ok.ensures.valid.0 refl }
