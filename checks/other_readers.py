@@ -51,8 +51,8 @@ class Stream:
         self.answers.append(answer)
 
     def put(self, name, tree):
-        self.trees[name] = tree
-        self.change({"import": name, "text": json.dumps(tree)}, {"import": name, "tree": tree})
+        self.trees[name] = dict(tree)
+        self.change({"import": name, "text": flow(tree)}, {"import": name, "tree": tree})
 
     def set(self, name, key, value):
         self.trees[name][key] = value
@@ -147,9 +147,14 @@ def other_readers(folder):
     yield "yq", shutil.which("yq") and (lambda stream: by_tool(["yq", "-c", "."], stream))
 
 
+def flow(value):
+    """A value as JSON, which every reader of YAML reads: older ones take two more characters for breaks."""
+    return json.dumps(value, ensure_ascii=False).replace("\u0085", "\\u0085").replace("\u2028", "\\u2028")
+
+
 def document(tree):
-    """A document that a session reads as the tree, in JSON within YAML."""
-    lines = (f"{key}: {json.dumps(value)}" if value != "" else f'{key}: ""' for key, value in tree.items())
+    """A document that a session reads as the tree."""
+    lines = (f"{key}: {flow(value)}" for key, value in tree.items())
     return "---\n" + "\n".join(lines) + "\n...\n"
 
 
