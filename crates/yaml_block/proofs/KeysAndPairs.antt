@@ -20,15 +20,12 @@ use Rattle.yaml_recognizers.specs.Reading.{Read}
 use Rattle.yaml_recognizers.specs.Recognizers.{flow_node_at}
 use Rattle.yaml_recognizers.proofs.Flow.OneLineText.{unbroken}
 use Rattle.yaml_recognizers.proofs.Basics.Reading.{none_some}
-use Rattle.yaml_events.specs.EventPlaces.{Refuses, line_starts}
+use Rattle.yaml_events.specs.EventPlaces.{line_starts}
 use Rattle.yaml_events.specs.declared.event.Event.{Event}
 use Rattle.yaml_events.specs.declared.event.Event.TheVariants.{MapStart}
-use Rattle.yaml_events.specs.declared.fault.ScanFault.{ScanFault}
-use Rattle.yaml_events.specs.declared.fault.ScanFault.TheVariants.{At, OutOfMemory}
 use Rattle.yaml_scan.specs.Lines.{IsSolidLine}
 use Rattle.yaml_scan.specs.ScanPlaces.{AreTaken}
 use Rattle.yaml_scan.specs.declared.lines.Line.{Line}
-use Rattle.yaml_scan.proofs.Outcomes.{refuses}
 use Rattle.yaml_flow.specs.FlowNodes.{Appended, FlowNodeRead}
 use Rattle.yaml_block.specs.Frames.{AtLeaf, AtLine}
 use Rattle.yaml_block.specs.States.{BeforeLeaf, BeforePair, Fails, Leads, Onward, Stack}
