@@ -18,15 +18,27 @@ use std::{fs, io};
 /// The disk of a real folder: `store.yaml` and `next.yaml` in it. It holds a lock on the folder, one on `store.lock`,
 /// and a handle for appending to each file that it appended to, until it is dropped. Where a name has no plain file but
 /// a link, a FIFO or a folder, a call on it fails.
+///
+/// One that was opened [`for_reading`](FolderDisk::for_reading) holds the lock on the folder alone. On it each call but
+/// `read` and `failures` fails, and changes nothing.
 #[derive(Drop)]
 pub struct FolderDisk<'r, R: Files<File = File>> {
     rt: &'r R,
     folder: OpenFolder,
     paths: Paths,
-    _lock: File,
+    access: Access,
     store: Option<File>,
     next: Option<File>,
     failures: u64,
+}
+
+/// What a disk does with its folder.
+#[derive(Drop)]
+enum Access {
+    /// It reads and changes the files, under the lock on `store.lock`.
+    Changing { _lock: File },
+    /// It reads alone.
+    Reading,
 }
 
 /// The paths of the files of a folder.
@@ -63,6 +75,21 @@ fn read_up_to(alloc: Global, file: File, max: u64) -> io::Result<Content> {
     Ok(Content::Bytes(bytes))
 }
 
+/// Opens and locks the folder at a path, and looks at `store.yaml` and `next.yaml` in it. Returns it with the paths of
+/// its files.
+fn open_paths<R: Files<File = File>>(
+    rt: &R,
+    alloc: Global,
+    folder: &str,
+) -> Result<(OpenFolder, Paths), FolderFault> {
+    let folder = OpenFolder::new(rt, alloc, folder)?;
+    let paths = Paths::new(alloc, folder.path())?;
+    if look(rt, paths.store.as_str()).is_err() || look(rt, paths.next.as_str()).is_err() {
+        return Err(FolderFault::Device);
+    }
+    Ok((folder, paths))
+}
+
 /// Makes an empty file under a path, for appending. If it is to replace a file, it takes after that one, and nobody but
 /// its owner has access before. Otherwise its mode is that of any new file.
 fn create_staged<R: Files<File = File>>(
@@ -88,21 +115,47 @@ impl<'r, R: Files<File = File>> FolderDisk<'r, R> {
     /// `Device` if there is no folder at the path, one of the names has no plain file but something else, or a call of
     /// the system fails; `Locked` if another run holds a lock; and `OutOfMemory`.
     pub fn new(rt: &'r R, alloc: Global, folder: &str) -> Result<Self, FolderFault> {
-        let folder = OpenFolder::new(rt, alloc, folder)?;
-        let paths = Paths::new(alloc, folder.path())?;
-        if look(rt, paths.store.as_str()).is_err() || look(rt, paths.next.as_str()).is_err() {
-            return Err(FolderFault::Device);
-        }
+        let (folder, paths) = open_paths(rt, alloc, folder)?;
         let lock = lock_file(rt, paths.lock.as_str())?;
-        Ok(FolderDisk {
+        let access = Access::Changing { _lock: lock };
+        Ok(FolderDisk::over(rt, folder, paths, access))
+    }
+
+    /// The disk of the folder at a path, for reading alone: for a folder or files that can't be written, or are not to
+    /// be. It opens the folder and takes the lock on it, without waiting. It takes none on `store.lock`, and makes no
+    /// file.
+    ///
+    /// # Errors
+    /// `Device` if there is no folder at the path, `store.yaml` or `next.yaml` is no plain file but something else, or
+    /// a call of the system fails; `Locked` if another run holds the lock on the folder; and `OutOfMemory`. The folder
+    /// is unchanged.
+    pub fn for_reading(rt: &'r R, alloc: Global, folder: &str) -> Result<Self, FolderFault> {
+        let (folder, paths) = open_paths(rt, alloc, folder)?;
+        Ok(FolderDisk::over(rt, folder, paths, Access::Reading))
+    }
+
+    /// The disk of an open folder, on which no call has failed.
+    fn over(rt: &'r R, folder: OpenFolder, paths: Paths, access: Access) -> Self {
+        FolderDisk {
             rt,
             folder,
             paths,
-            _lock: lock,
+            access,
             store: None,
             next: None,
             failures: 0,
-        })
+        }
+    }
+
+    /// Returns if the disk may change its files.
+    ///
+    /// # Errors
+    /// If it was opened for reading alone.
+    fn may_change(&self) -> io::Result<()> {
+        match self.access {
+            Access::Changing { .. } => Ok(()),
+            Access::Reading => Err(io::Error::from(ErrorKind::PermissionDenied)),
+        }
     }
 
     /// The path of a file in the folder.
@@ -146,6 +199,7 @@ impl<'r, R: Files<File = File>> FolderDisk<'r, R> {
     fn try_append(&mut self, name: Name, bytes: &[u8]) -> io::Result<()>
         ensures { self.new.failures ≡ self.old.failures }
     {
+        self.may_change()?;
         let mut file = self.take_handle(name)?;
         file.write_all(bytes)?;
         self.keep_handle(name, file);
@@ -155,6 +209,7 @@ impl<'r, R: Files<File = File>> FolderDisk<'r, R> {
     fn try_sync(&mut self, name: Name) -> io::Result<()>
         ensures { self.new.failures ≡ self.old.failures }
     {
+        self.may_change()?;
         let file = match self.take_handle(name) {
             Ok(file) => file,
             Err(error) if error.kind() == ErrorKind::NotFound => return Ok(()),
@@ -168,6 +223,7 @@ impl<'r, R: Files<File = File>> FolderDisk<'r, R> {
     fn try_create_next(&mut self) -> io::Result<()>
         ensures { self.new.failures ≡ self.old.failures }
     {
+        self.may_change()?;
         let replaced = look(self.rt, self.path(Name::Store)?)?;
         let file = create_staged(self.rt, self.path(Name::Next)?, replaced)?;
         self.keep_handle(Name::Next, file);
@@ -177,6 +233,7 @@ impl<'r, R: Files<File = File>> FolderDisk<'r, R> {
     fn try_rename_next(&mut self) -> io::Result<()>
         ensures { self.new.failures ≡ self.old.failures }
     {
+        self.may_change()?;
         self.store = None;
         let staged = self.next.take();
         fs::rename(self.rt, self.path(Name::Next)?, self.path(Name::Store)?)?;
@@ -187,12 +244,18 @@ impl<'r, R: Files<File = File>> FolderDisk<'r, R> {
     fn try_remove_next(&mut self) -> io::Result<()>
         ensures { self.new.failures ≡ self.old.failures }
     {
+        self.may_change()?;
         self.next = None;
         let path = self.path(Name::Next)?;
         match look(self.rt, path)? {
             Some(_) => fs::remove_file(self.rt, path),
             None => Ok(()),
         }
+    }
+
+    fn try_sync_folder(&self) -> io::Result<()> {
+        self.may_change()?;
+        self.folder.sync()
     }
 
     /// Reads the file under a name, if there is one. A file of more than `max` bytes is `TooLong`.
@@ -302,7 +365,7 @@ impl<'r, R: Files<File = File>> Disk for FolderDisk<'r, R> {
         if self.failures == u64::MAX {
             return Err(DiskFault::Device);
         }
-        let done = self.folder.sync();
+        let done = self.try_sync_folder();
         self.count(done)
     }
 }

@@ -2,7 +2,8 @@
 use std::alloc::AllocError;
 use thiserror::Error;
 
-/// Why a folder can't be used as a disk. The folder is unchanged, except that an empty `store.lock` may be new in it.
+/// Why a folder can't be used as a disk. The folder is unchanged, except that an empty `store.lock` may be new in it if
+/// it was opened for changes.
 #[derive(Clone, Copy, Debug, PartialEq, Eq, Error)]
 pub enum FolderFault {
     /// There is no folder at the path, one of its names has something else than a plain file, or a call of the system

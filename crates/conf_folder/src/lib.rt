@@ -1,8 +1,11 @@
 //! A disk over a real folder.
 //!
 //! [`FolderDisk`] makes the calls of [`Disk`](conf_disk::Disk) on the files `store.yaml` and `next.yaml` of a folder.
-//! It holds a lock on the folder, and one on its `store.lock`, until it is dropped. Its contract says nothing of what
-//! the folder keeps: that a real folder is an honest disk is a premise that nothing here proves.
+//! It holds a lock on the folder, and one on its `store.lock`, until it is dropped. One for reading alone holds the lock
+//! on the folder and changes nothing, so it serves for a folder that can't be written.
+//!
+//! Its contract says nothing of what the folder keeps: that a real folder is an honest disk is a premise that nothing
+//! here proves.
 #![tactic(auto)]
 
 mod disk;
@@ -11,6 +14,8 @@ mod folder;
 mod lock;
 mod owner;
 mod plain;
+#[cfg(test)]
+mod tests;
 
 pub use disk::FolderDisk;
 pub use fault::FolderFault;

@@ -1,5 +1,5 @@
 -- Reading on to the next piece.
-use Rattle.std.proofs.Common.{◌≡◌, ℕ, ◌+◌, ◌-◌, ◌≤◌, Bool, true, false, List, [], ◌∷◌, ◌++◌, length, take, drop, refl, sym, ap, ◌∙◌, subst, arith, append_assoc, length-append, length-drop, take-append-drop, length-take-le}
+use Rattle.std.proofs.Common.{◌≡◌, ℕ, ◌+◌, ◌-◌, ◌≤◌, ◌<◌, Bool, true, false, List, [], ◌∷◌, ◌++◌, length, take, drop, refl, sym, ap, ◌∙◌, subst, arith, append_assoc, length-append, length-drop, take-append-drop, length-take-le}
 use Rattle.std.specs.Prelude.{Option, Ok, Err, slice_range}
 use Rattle.std.specs.Io.KnownBytes.{Consumes}
 use Rattle.std.proofs.KnownBytes.{Consumes-nil, Consumes-trans}
@@ -11,7 +11,7 @@ use Rattle.yaml_docs.specs.declared.cutter.Fed.{Fed}
 use Rattle.yaml_docs.proofs.ClosingLines.{lies_within}
 use Rattle.yaml_docs.proofs.CutLines.{closes-shorter}
 use Rattle.conf_session.specs.Said.{piece_limit}
-use Rattle.conf_session.specs.Input.{ahead, piece_or_rest, IsSound, IsOverlong, Feeds, Fills, Advances, FeedsAll, FillsSome, FillsNone, FillsBeyond, FeedsPiece, AdvancesToPiece, AdvancesToEnd, FailsToRead, FindsTooLong, FindsSessionLong, RunsOutOfMemory}
+use Rattle.conf_session.specs.Input.{ahead, piece_or_rest, IsSound, IsOverlong, Feeds, Fills, Advances, FeedsAll, FillsSome, FillsNone, FillsBeyond, FeedsPiece, AdvancesToPiece, AdvancesToEnd, FailsToRead, FindsTooLong, FindsSessionLong, RunsOutOfMemory, HasPieceAhead, AdvancesWithin, AdvancesAhead}
 use Rattle.conf_session.specs.declared.input.Input.{Input}
 use Rattle.conf_session.specs.declared.fault.SessionFault.{SessionFault}
 use Rattle.conf_session.specs.declared.fault.SessionFault.TheVariants as fault
@@ -215,3 +215,33 @@ module _ (given mid left : Option (List ℕ)) (old now fed new : Input) where
   -- where memory runs out, some bytes were taken from the reader
   pub out-of-memory : SoFar given mid old now → RunsOutOfMemory given mid
   out-of-memory s = record { more = s.more; taken = s.taken }
+
+-- ---- the next piece without a read
+
+module _ (old cleared new : Input) (none : piece_or_rest cleared ≡ []) (same : ahead cleared ≡ ahead old) where
+  joined-ahead : piece_or_rest cleared ++ ahead cleared ≡ ahead old
+  joined-ahead = ap (λ l. l ++ ahead cleared) none ∙ same
+
+  -- bytes that close a piece are not all taken in
+  pub advances-ahead : HasPieceAhead old → cleared.total ≡ old.total → (closed : Bool) → Feeds cleared new (Ok closed) → AdvancesWithin old new
+  advances-ahead piece total true fed = record {
+    sound = fed.sound;
+    joined = sym joined-ahead ∙ fed.joined;
+    piece = fed.piece;
+    short = fed.short;
+    total = fed.total ∙ total;
+  }
+  advances-ahead piece total false fed = absurd (fed.unclosed piece.0 (subst (λ l. ClosesAt l piece.0) (sym joined-ahead ∙ fed.joined) piece.1))
+
+  -- a chunk is no longer than a piece may be
+  pub fails-ahead : IsSound old → (f : SessionFault) → Feeds cleared new (Err f) → AdvancesAhead old new (Err f)
+  fails-ahead sound fault.TooLong fed =
+      let size = range-length old.chunk.items old.start old.end sound.ordered (omega (arith, sound.within, sound.room)) in
+      let long : piece_limit < length (ahead old) = subst (λ l. piece_limit < length l) joined-ahead fed.long in
+      absurd (omega (arith, size, long, sound.within))
+  fails-ahead sound fault.OutOfMemory fed = tt
+  fails-ahead sound fault.Read fed = absurd fed
+  fails-ahead sound fault.SessionLong fed = absurd fed
+  fails-ahead sound fault.Device fed = absurd fed
+  fails-ahead sound fault.Reopen fed = absurd fed
+  fails-ahead sound (fault.Write written) fed = absurd fed

@@ -9,3 +9,7 @@ pub mod ReplyLemmas
 pub mod SaidLemmas
 pub mod InputLemmas
 pub mod OutputLemmas
+pub mod TurnLemmas
+pub mod TendLemmas
+pub mod GatherLemmas
+pub mod GroupLemmas

@@ -114,7 +114,7 @@ few-refused now bad = omega arith
 
 -- ---- the states after them
 
-leads-one : (now : Stored) (r : Request) → after now.state (accepted_command now r) ≡ Ok (stored_after now r).state
+pub leads-one : (now : Stored) (r : Request) → after now.state (accepted_command now r) ≡ Ok (stored_after now r).state
 leads-one now (changing command) = by (outcome (longest now) now.state command) refl
   where
     by : (j : Result Contents StoreFault) → outcome (longest now) now.state command ≡ j → after now.state (accepted_by j command) ≡ Ok (stored_after_change now command j).state
@@ -261,7 +261,7 @@ at-least start flushed commands waiting more file c some =
     })
 
 -- and so after a prefix of all
-prefix-continued : (start flushed : Contents) (commands waiting more : List Command) (file : Option (List ℕ)) → Continues start commands flushed waiting → AfterPrefix flushed (waiting ++ more) file
+pub prefix-continued : (start flushed : Contents) (commands waiting more : List Command) (file : Option (List ℕ)) → Continues start commands flushed waiting → AfterPrefix flushed (waiting ++ more) file
     → AfterPrefix start (commands ++ more) file
 prefix-continued start flushed commands waiting more file c some =
     let all = at-least start flushed commands waiting more file c some in

@@ -86,49 +86,55 @@ module _ {D : Type 0} (honest : Type 0) (folder : D → Folder) (moment : D → 
         → (honest → now.reopen ≡ false → LeavesPrefixes (folder now.disk) now.state)
         → tally.documents ≡ counts.tally.documents → tally.accepted ≡ counts.tally.accepted → tally.refused ≡ counts.tally.refused → tally.rest ≡ length (piece_of then)
         → Runs honest folder moment since given left held between old now (Ok tally)
-    ends-well tally end means d a r rest = stopped between (Ok tally) means (record {
-      bytes = concat s.pieces ++ (ahead was ++ end.more);
-      rest = piece_of then;
-      taken = taken-more given mid left (concat s.pieces) (ahead was) end.more s.taken end.taken;
-      at_end = end.at_end;
-      within = (let total = s.read in let size = length-append (concat s.pieces) (ahead was ++ end.more) in let prefix = length-append (concat s.pieces) (ahead was) in
-          let back = length-append (ahead was) end.more in let few = end.total in omega (arith, total, size, prefix, back, few));
-      input = record {
-        pieces = s.pieces;
-        cut = record { joined = ap (λ l. concat s.pieces ++ l) end.joined; closed = s.are.closed; unclosed = end.unclosed };
-        are = s.are;
-        short = end.short;
-      };
-      all = refl;
-      out = s.passed.out;
-      documents = d ∙ s.counted.documents;
-      accepted = a ∙ s.counted.accepted;
-      refused = r ∙ s.counted.refused;
-      unclosed = rest;
-    })
+    ends-well tally end means d a r rest = stopped between (Ok tally) means (
+      refl,
+      record {
+        bytes = concat s.pieces ++ (ahead was ++ end.more);
+        rest = piece_of then;
+        taken = taken-more given mid left (concat s.pieces) (ahead was) end.more s.taken end.taken;
+        at_end = end.at_end;
+        within = (let total = s.read in let size = length-append (concat s.pieces) (ahead was ++ end.more) in let prefix = length-append (concat s.pieces) (ahead was) in
+            let back = length-append (ahead was) end.more in let few = end.total in omega (arith, total, size, prefix, back, few));
+        input = record {
+          pieces = s.pieces;
+          cut = record { joined = ap (λ l. concat s.pieces ++ l) end.joined; closed = s.are.closed; unclosed = end.unclosed };
+          are = s.are;
+          short = end.short;
+        };
+        out = s.passed.out;
+        documents = d ∙ s.counted.documents;
+        accepts = a ∙ s.counted.accepted;
+        refuses = r ∙ s.counted.refused;
+        unclosed = rest;
+      },
+    )
 
     ends-reading : FailsToRead mid left was → (honest → now.reopen ≡ false → LeavesPrefixes (folder now.disk) now.state)
         → Runs honest folder moment since given left held between old now (Err fault.Read)
-    ends-reading fails means = stopped between (Err fault.Read) means (record {
-      bytes = concat s.pieces ++ (ahead was ++ fails.more);
-      taken = taken-more given mid left (concat s.pieces) (ahead was) fails.more s.taken fails.taken;
-      shows = record {
-        rest = ahead was ++ fails.more;
-        input = record { pieces = s.pieces; cut = record { joined = refl; closed = s.are.closed; unclosed = fails.unclosed }; are = s.are; short = fails.short };
-      };
-      all = refl;
-      out = s.passed.out;
-    })
+    ends-reading fails means = stopped between (Err fault.Read) means (
+      refl,
+      record {
+        bytes = concat s.pieces ++ (ahead was ++ fails.more);
+        taken = taken-more given mid left (concat s.pieces) (ahead was) fails.more s.taken fails.taken;
+        shows = record {
+          rest = ahead was ++ fails.more;
+          input = record { pieces = s.pieces; cut = record { joined = refl; closed = s.are.closed; unclosed = fails.unclosed }; are = s.are; short = fails.short };
+        };
+        out = s.passed.out;
+      },
+    )
 
     ends-too_long : FindsTooLong mid left was → (honest → now.reopen ≡ false → LeavesPrefixes (folder now.disk) now.state)
         → Runs honest folder moment since given left held between old now (Err fault.TooLong)
-    ends-too_long finds means = stopped between (Err fault.TooLong) means (record {
-      bytes = concat s.pieces ++ (ahead was ++ finds.more);
-      taken = taken-more given mid left (concat s.pieces) (ahead was) finds.more s.taken finds.taken;
-      shows = record { pieces = s.pieces; further = ahead was ++ finds.more; is = refl; are = s.are; overlong = finds.overlong };
-      all = refl;
-      out = s.passed.out;
-    })
+    ends-too_long finds means = stopped between (Err fault.TooLong) means (
+      refl,
+      record {
+        bytes = concat s.pieces ++ (ahead was ++ finds.more);
+        taken = taken-more given mid left (concat s.pieces) (ahead was) finds.more s.taken finds.taken;
+        shows = record { pieces = s.pieces; further = ahead was ++ finds.more; is = refl; are = s.are; overlong = finds.overlong };
+        out = s.passed.out;
+      },
+    )
 
     ends-session_long : FindsSessionLong mid left was → (honest → now.reopen ≡ false → LeavesPrefixes (folder now.disk) now.state)
         → Runs honest folder moment since given left held between old now (Err fault.SessionLong)
@@ -141,29 +147,33 @@ module _ {D : Type 0} (honest : Type 0) (folder : D → Folder) (moment : D → 
         let three = length-append (ahead was) finds.more in omega (arith, total, full, one, two, three)) in
         let within : take session_limit bytes ≡ prefix =
         ap (take session_limit) split ∙ take-append-le session_limit prefix finds.beyond (omega (arith, size)) ∙ take_all session_limit prefix (omega (arith, size)) in
-        stopped between (Err fault.SessionLong) means (record {
-          bytes = bytes;
-          taken = taken-more given mid left (concat s.pieces) (ahead was) (finds.more ++ finds.beyond) s.taken finds.taken;
-          shows = record {
-            input = record {
-              rest = rest;
-              input = record { pieces = s.pieces; cut = record { joined = within; closed = s.are.closed; unclosed = finds.unclosed }; are = s.are; short = finds.short };
+        stopped between (Err fault.SessionLong) means (
+          refl,
+          record {
+            bytes = bytes;
+            taken = taken-more given mid left (concat s.pieces) (ahead was) (finds.more ++ finds.beyond) s.taken finds.taken;
+            shows = record {
+              input = record {
+                rest = rest;
+                input = record { pieces = s.pieces; cut = record { joined = within; closed = s.are.closed; unclosed = finds.unclosed }; are = s.are; short = finds.short };
+              };
+              long = (let all = ap length split in let more = length-append prefix finds.beyond in let some = finds.some in omega (arith, all, more, size, some));
             };
-            long = (let all = ap length split in let more = length-append prefix finds.beyond in let some = finds.some in omega (arith, all, more, size, some));
-          };
-          all = refl;
-          out = s.passed.out;
-        })
+            out = s.passed.out;
+          },
+        )
 
     ends-starved : RunsOutOfMemory mid left → (honest → now.reopen ≡ false → LeavesPrefixes (folder now.disk) now.state)
         → Runs honest folder moment since given left held between old now (Err fault.OutOfMemory)
-    ends-starved out means = stopped between (Err fault.OutOfMemory) means (record {
-      bytes = concat s.pieces ++ (ahead was ++ out.more);
-      taken = taken-more given mid left (concat s.pieces) (ahead was) out.more s.taken out.taken;
-      begins = record { pieces = s.pieces; further = ahead was ++ out.more; is = refl; are = subst (ArePieces s.pieces) (sym (append-nil s.requests)) s.are };
-      all = sym (append-nil s.requests);
-      out = s.passed.out;
-    })
+    ends-starved out means = stopped between (Err fault.OutOfMemory) means (
+      refl,
+      record {
+        bytes = concat s.pieces ++ (ahead was ++ out.more);
+        taken = taken-more given mid left (concat s.pieces) (ahead was) out.more s.taken out.taken;
+        begins = record { pieces = s.pieces; further = ahead was ++ out.more; is = refl; are = subst (ArePieces s.pieces) (sym (append-nil s.requests)) s.are };
+        out = s.passed.out;
+      },
+    )
 
     -- the input has no further piece for a reason
     pub ends-in_input : (f : SessionFault) → Advances mid left was then (Err f) → (honest → now.reopen ≡ false → LeavesPrefixes (folder now.disk) now.state)
@@ -234,13 +244,15 @@ module _ {D : Type 0} (honest : Type 0) (folder : D → Folder) (moment : D → 
           → Runs honest folder moment since given left held written old new (Err fault.OutOfMemory)
       ends-memory written new same keeps means =
           subst (λ (t : StoreView D). (honest → t.reopen ≡ false → LeavesPrefixes (folder t.disk) t.state) → Runs honest folder moment since given left held written old t (Err fault.OutOfMemory)) (sym same)
-          (λ there. stopped written (Err fault.OutOfMemory) there (record {
-            bytes = concat s.pieces ++ (ahead was ++ advances.more);
-            taken = taken-more given mid left (concat s.pieces) (ahead was) advances.more s.taken advances.taken;
-            begins = record { pieces = s.pieces; further = ahead was ++ advances.more; is = refl; are = subst (ArePieces s.pieces) (sym (append-nil s.requests)) s.are };
-            all = sym (append-nil s.requests);
-            out = Appends-kept held between written (output (stored_of old) s.requests) s.passed.out keeps;
-          }))
+          (λ there. stopped written (Err fault.OutOfMemory) there (
+            refl,
+            record {
+              bytes = concat s.pieces ++ (ahead was ++ advances.more);
+              taken = taken-more given mid left (concat s.pieces) (ahead was) advances.more s.taken advances.taken;
+              begins = record { pieces = s.pieces; further = ahead was ++ advances.more; is = refl; are = subst (ArePieces s.pieces) (sym (append-nil s.requests)) s.are };
+              out = Appends-kept held between written (output (stored_of old) s.requests) s.passed.out keeps;
+            },
+          ))
           means
 
       ends-device : (written : Option (List ℕ)) (new : StoreView D) (r : Request) → Asks (piece_of then) r → new.reopen ≡ true → Performs true honest folder moment since now new r → Keeps between written
@@ -251,11 +263,11 @@ module _ {D : Type 0} (honest : Type 0) (folder : D → Folder) (moment : D → 
         performed = s.requests ++ r ∷ [];
         ends = (
           r,
+          refl,
           record {
             bytes = concat (s.pieces ++ piece_of then ∷ []) ++ ahead then;
             taken = all-taken;
             begins = begins-more r asks;
-            all = refl;
             out = Appends-kept held between written (output (stored_of old) s.requests) s.passed.out keeps;
           },
         );
@@ -349,13 +361,15 @@ module _ {D : Type 0} (honest : Type 0) (folder : D → Folder) (moment : D → 
       record {
         answered = [];
         performed = [];
-        ends = record {
-          bytes = [];
-          taken = Consumes-nil given;
-          begins = record { pieces = []; further = []; is = refl; are = record { closed = All-nil ClosesOnce; short = All-nil (λ (p : List ℕ). length p ≤ piece_limit); ask = tt } };
-          all = refl;
-          out = Appends-nil held;
-        };
+        ends = (
+          refl,
+          record {
+            bytes = [];
+            taken = Consumes-nil given;
+            begins = record { pieces = []; further = []; is = refl; are = record { closed = All-nil ClosesOnce; short = All-nil (λ (p : List ℕ). length p ≤ piece_limit); ask = tt } };
+            out = Appends-nil held;
+          },
+        );
         state = refl;
         stored = λ on. refl;
         reads = λ h on. refl;

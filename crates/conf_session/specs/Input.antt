@@ -154,3 +154,22 @@ Advances given left old new (Err fault.TooLong) = FindsTooLong given left old
 Advances given left old new (Err fault.SessionLong) = FindsSessionLong given left old
 Advances given left old new (Err fault.OutOfMemory) = RunsOutOfMemory given left
 Advances given left old new (Err fault) = ⊥
+
+-- ---- the next piece, without a read
+
+-- the bytes that were read close a further piece
+abbrev pub HasPieceAhead : Input → Type 0
+HasPieceAhead input = (place : ℕ) × ClosesAt (ahead input) place
+
+-- the next piece is of bytes that were ahead
+pub record AdvancesWithin (old new : Input) : Type 0 where
+  pub sound : IsSound new
+  pub joined : ahead old ≡ piece_or_rest new ++ ahead new
+  pub piece : ClosesOnce (piece_or_rest new)
+  pub short : length (piece_or_rest new) ≤ piece_limit
+  pub total : new.total ≡ old.total
+
+abbrev pub AdvancesAhead : Input → Input → Result (Unit {0}) SessionFault → Type 0
+AdvancesAhead old new (Ok done) = AdvancesWithin old new
+AdvancesAhead old new (Err fault.OutOfMemory) = Unit {0}
+AdvancesAhead old new (Err fault) = ⊥

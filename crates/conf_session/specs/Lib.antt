@@ -6,3 +6,5 @@ pub mod Progress
 pub mod Said
 pub mod Input
 pub mod Rounds
+pub mod Groups
+pub mod Gathering

@@ -68,32 +68,38 @@ pub record ShowsSessionLong (bytes : List ℕ) (requests : List Request) : Type 
   pub input : AsksAll (take session_limit bytes) requests
   pub long : session_limit < length bytes
 
--- ---- how a run ends, by the requests that were performed, and those of them whose answers were written whole
+-- ---- how a run ends, by the requests that were answered and the bytes of their answers
 
--- all was read, performed and answered
-pub record EndsWell (given left held written : Option (List ℕ)) (start : Stored) (answered performed : List Request)
-    (tally : Tally) : Type 0 where
+-- all was read and answered
+pub record EndsWell (given left held written : Option (List ℕ)) (answered : List Request) (answers : List ℕ)
+    (accepted refused : ℕ) (tally : Tally) : Type 0 where
   pub bytes : List ℕ
   pub rest : List ℕ
   pub taken : Consumes given left bytes
   pub at_end : IsAtEnd left
   pub within : length bytes ≤ session_limit
   pub input : IsInput bytes answered rest
-  pub all : performed ≡ answered
-  pub out : Appends held written (output start answered)
+  pub out : Appends held written answers
   pub documents : tally.documents ≡ length answered
-  pub accepted : tally.accepted ≡ length (accepted_commands start answered)
-  pub refused : tally.refused ≡ refusals start answered
+  pub accepts : tally.accepted ≡ accepted
+  pub refuses : tally.refused ≡ refused
   pub unclosed : tally.rest ≡ length rest
 
--- all pieces that were closed before the fault are performed and answered
-pub record EndsInInput (given left held written : Option (List ℕ)) (start : Stored)
-    (answered performed : List Request) (Shows : List ℕ → List Request → Type 0) : Type 0 where
+-- all pieces that were closed before the fault are answered
+pub record EndsInInput (given left held written : Option (List ℕ)) (answered : List Request) (answers : List ℕ)
+    (Shows : List ℕ → List Request → Type 0) : Type 0 where
   pub bytes : List ℕ
   pub taken : Consumes given left bytes
   pub shows : Shows bytes answered
-  pub all : performed ≡ answered
-  pub out : Appends held written (output start answered)
+  pub out : Appends held written answers
+
+-- a prefix of the pieces is answered, and so many after them aren't
+pub record EndsEarly (given left held written : Option (List ℕ)) (answered unanswered : List Request)
+    (answers : List ℕ) : Type 0 where
+  pub bytes : List ℕ
+  pub taken : Consumes given left bytes
+  pub begins : BeginsWith bytes (answered ++ unanswered)
+  pub out : Appends held written answers
 
 -- Exactly so many bytes of the answers were written, at most the limit of an answer for each piece. The first piece
 -- whose answer was not written whole is performed, and none after it.
@@ -109,33 +115,26 @@ pub record EndsInOutput (given left held written : Option (List ℕ)) (start : S
   pub cut : count < length (output start performed)
   pub bound : count ≤ length performed * answer_limit
 
--- a prefix of the pieces is performed and answered, and these are performed without an answer
-pub record EndsEarly (given left held written : Option (List ℕ)) (start : Stored) (answered performed : List Request)
-    (unanswered : List Request) : Type 0 where
-  pub bytes : List ℕ
-  pub taken : Consumes given left bytes
-  pub begins : BeginsWith bytes (answered ++ unanswered)
-  pub all : performed ≡ answered ++ unanswered
-  pub out : Appends held written (output start answered)
-
--- How a run ends, by its result. `given` and `left` are what the reader has before and after, `held` and `written` what
--- the writer has, where they are known.
+-- How a run ends, by its result, where these requests were performed. `given` and `left` are what the reader has before
+-- and after, `held` and `written` what the writer has, where they are known.
 abbrev pub Ends : Option (List ℕ) → Option (List ℕ) → Option (List ℕ) → Option (List ℕ) → Stored → List Request
     → List Request → Result Tally SessionFault → Type 0
 Ends given left held written start answered performed (Ok tally) =
-    EndsWell given left held written start answered performed tally
+    (performed ≡ answered) × EndsWell given left held written answered (output start answered)
+    (length (accepted_commands start answered)) (refusals start answered) tally
 Ends given left held written start answered performed (Err fault.Read) =
-    EndsInInput given left held written start answered performed AsksAll
+    (performed ≡ answered) × EndsInInput given left held written answered (output start answered) AsksAll
 Ends given left held written start answered performed (Err (fault.Write count)) =
     EndsInOutput given left held written start answered performed count
 Ends given left held written start answered performed (Err fault.TooLong) =
-    EndsInInput given left held written start answered performed ShowsTooLong
+    (performed ≡ answered) × EndsInInput given left held written answered (output start answered) ShowsTooLong
 Ends given left held written start answered performed (Err fault.SessionLong) =
-    EndsInInput given left held written start answered performed ShowsSessionLong
+    (performed ≡ answered) × EndsInInput given left held written answered (output start answered) ShowsSessionLong
 Ends given left held written start answered performed (Err fault.OutOfMemory) =
-    EndsEarly given left held written start answered performed []
+    (performed ≡ answered) × EndsEarly given left held written answered [] (output start answered)
 Ends given left held written start answered performed (Err fault.Device) =
-    (last : Request) × EndsEarly given left held written start answered performed (last ∷ [])
+    (last : Request) × (performed ≡ answered ++ last ∷ [])
+    × EndsEarly given left held written answered (last ∷ []) (output start answered)
 Ends given left held written start answered performed (Err fault.Reopen) =
     Keeps given left × Keeps held written × (answered ≡ []) × (performed ≡ [])
 

@@ -1,15 +1,15 @@
 // The input of a session, cut into pieces as it is read.
-ghost use Rattle.std.specs.Prelude.{◌≡◌, ◌≤◌, [], IfOk, length, take};
+ghost use Rattle.std.specs.Prelude.{◌≡◌, ◌≤◌, ◌↔◌, true, [], IfOk, length, take};
 ghost use Rattle.std.specs.Io.KnownBytes.{ReadConsumes};
 ghost use Rattle.yaml_docs.specs.Cutting.{Unclosed};
-ghost use Rattle.conf_session.specs.Input.{Advances, Feeds, Fills, IsSound, ahead, bytes_read, piece_or_rest};
+ghost use Rattle.conf_session.specs.Input.{Advances, AdvancesAhead, Feeds, Fills, HasPieceAhead, IsSound, ahead, bytes_read, piece_or_rest};
 
 use crate::fault::SessionFault;
 use crate::said::PIECE_LIMIT;
 use std::alloc::{AllocError, Global};
 use std::io;
 use std::io::Read;
-use yaml_docs::{CutFault, Cutter};
+use yaml_docs::{CutFault, Cutter, next_close};
 
 /// The most bytes that are read at once.
 const CHUNK: usize = 65_536;
@@ -75,7 +75,32 @@ impl Input {
         }
     }
 
-    /// Returns the piece, or the bytes after the last one, as the last call of [`advance`](Input::advance) left them.
+    /// Returns whether the bytes that were read close a further piece, so that there is one without a read.
+    pub fn has_piece_ahead(&self) -> bool
+        requires { IsSound self.now }
+        ensures { (result ≡ true) ↔ HasPieceAhead self.now }
+    {
+        next_close(&self.chunk[self.start..self.end], 0).is_some()
+    }
+
+    /// Goes on to the next piece, which the bytes that were read close. It never reads.
+    ///
+    /// # Errors
+    /// `OutOfMemory`: there is no memory for the piece. After it nothing is promised of the input.
+    pub fn advance_ahead(&mut self) -> Result<(), SessionFault>
+        requires sound { IsSound self.old }
+        requires ahead { HasPieceAhead self.old }
+        ensures { AdvancesAhead self.old self.new result }
+    {
+        self.cutter.clear();
+        match self.feed() {
+            Ok(_) => Ok(()),
+            Err(fault) => Err(fault),
+        }
+    }
+
+    /// Returns the piece, or the bytes after the last one, as the last call of [`advance`](Input::advance) or
+    /// [`advance_ahead`](Input::advance_ahead) left them.
     pub fn piece(&self) -> &[u8]
         ensures { result.now ≡ piece_or_rest self.now }
     {

@@ -3,11 +3,16 @@
 //! [`run`] reads the commands, performs them on a store, and writes the answers. Input and output may be any reader and
 //! writer, and the store may be on any disk. [`SessionFault`] says why a session stops before the end of its input.
 //!
+//! [`run_grouped`] does so in groups: it performs all commands that one read brought, syncs once for them, and then writes
+//! their answers. A group promises less than [`run`] of commands after a cut answer, and of those in hand when the device
+//! fails. It can also write the checkpoints that nobody asked for, in slices between the groups ([`Checkpoints`]).
+//!
 //! [`round`] performs the commands that a server has in hand from many clients, and syncs once for all of them.
 #![tactic(auto)]
 
 mod answer;
 mod fault;
+mod groups;
 mod input;
 mod laws;
 mod output;
@@ -16,9 +21,11 @@ mod reply;
 mod rounds;
 mod said;
 mod session;
+mod unwritten;
 mod words;
 
 pub use fault::SessionFault;
+pub use groups::{Checkpoints, run_grouped};
 pub use laws::{answers_acknowledge, answers_are_short};
 pub use rounds::{Piece, RoundFault, round};
 pub use session::{Tally, run};

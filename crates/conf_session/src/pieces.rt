@@ -40,7 +40,7 @@ impl Counts {
 }
 
 /// How many commands a reply accepts: 1 or 0.
-fn count_accepted(reply: &Reply) -> u64
+pub fn count_accepted(reply: &Reply) -> u64
     ensures { result ≡ accepts reply.now }
 {
     match reply {
@@ -50,7 +50,7 @@ fn count_accepted(reply: &Reply) -> u64
 }
 
 /// How many commands a reply refuses: 1 or 0.
-fn count_refused(reply: &Reply) -> u64
+pub fn count_refused(reply: &Reply) -> u64
     ensures { result ≡ refuses reply.now }
 {
     match reply {

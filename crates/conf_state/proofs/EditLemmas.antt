@@ -1,9 +1,7 @@
 -- What an edit inside a configuration makes of a state's configurations and of their length.
-use Rattle.std.proofs.Common.{inl, inr, ◌⊎◌, ◌==◌, length, ◌≡◌, ℕ, ◌+◌, ◌<◌, ◌≤◌, nat_le, nat_lt, Bool, true, false, if◌then◌else◌, List, [], ◌∷◌, ◌++◌, Option, Some, None, option_map, is_some, Result, Ok, Err, String, Global, string_bytes, bytes_eq, IsUtf8, refl, sym, ap, subst, ◌∙◌, arith}
+use Rattle.std.proofs.Common.{inl, inr, ◌⊎◌, ◌==◌, length, ◌≡◌, ℕ, ◌+◌, ◌<◌, ◌≤◌, nat_le, nat_lt, Bool, true, false, if◌then◌else◌, List, [], ◌∷◌, ◌++◌, Option, Some, None, option_map, Result, Ok, Err, String, Global, IsUtf8, refl, sym, ap, subst, ◌∙◌, arith}
 use Rattle.std.proofs.lemmas.Bool.Decides.{nat_tests}
-use Rattle.std.specs.BTreeMap.{is_at}
-use Rattle.std.specs.Map.{lookup, values_of, set_value}
-use Rattle.std.specs.Ordering.{nat_cmp}
+use Rattle.std.specs.Map.{lookup}
 use Rattle.std.specs.Str.{chars}
 use Rattle.yaml_grammar.specs.Reads.{Good}
 use Rattle.yaml_grammar.specs.Texts.{byte_len, spaces, same_text}
@@ -23,8 +21,7 @@ use Rattle.std.proofs.lemmas.Str.{chars-nil, encodes-chars}
 use lib.Utf8.{encodes}
 use Rattle.yaml_config.specs.declared.change.Change.{Change}
 use Rattle.json_pointer.specs.declared.fault.PathFault.{PathFault}
-use Rattle.conf_state.specs.Numbers.{heads, number_of, put_under, AreApart}
-use Rattle.conf_state.proofs.NumberLemmas.{lookup-number, number-there, number-name, set-number}
+use Rattle.conf_state.specs.Configs.{is_name}
 use Rattle.conf_state.specs.BaseTexts.{entry_length, entries_length}
 use Rattle.yaml_config.specs.Edits.{tree_after_edit}
 use Rattle.conf_state.specs.Edits.{configs_with_edit, configs_after_edit}
@@ -55,33 +52,8 @@ named-good (e ∷ es) name t all is = by (same_text name e.0) is (named-good es 
 
 -- what the map finds under a name is the configuration of that name
 pub found-named : (q : List ℕ) → IsUtf8 q → (es : List (String Global × Tree)) → ArePlain es → (v : Tree)
-    → lookup (λ k. bytes_eq q (string_bytes k)) es ≡ Some v → config_named (entries_of es) (chars q) ≡ Some (tree_of v)
+    → lookup (is_name q) es ≡ Some v → config_named (entries_of es) (chars q) ≡ Some (tree_of v)
 found-named q utf8 es plain v is = sym (lookup-named q utf8 es plain) ∙ ap (option_map tree_of) is
-
-some_there : {A : Type 0} (o : Option A) → true ≡ is_some o → (v : A) × (o ≡ Some v)
-some_there (Some v) is = (v, refl)
-some_there None is = cc
-
--- the configuration of a name's number is the one under the name
-pub numbered-named : (q : List ℕ) → IsUtf8 q → (ns : List (ℕ × (String Global × Tree))) (n : ℕ) → AreApart (heads ns) → number_of q (heads ns) ≡ Some n
-    → ArePlain (values_of ns) → (e : String Global × Tree) → lookup (is_at (nat_cmp n)) ns ≡ Some e → config_named (entries_of (values_of ns)) (chars q) ≡ Some (tree_of e.1)
-numbered-named q utf8 ns n apart is plain e found =
-    found-named q utf8 (values_of ns) plain e.1 (sym (lookup-number q ns n apart is) ∙ ap (option_map (λ e. e.1)) found)
-
--- a name that has a number is the name of a configuration
-pub present-numbered : (q : List ℕ) → IsUtf8 q → (ns : List (ℕ × (String Global × Tree))) (n : ℕ) → AreApart (heads ns) → number_of q (heads ns) ≡ Some n
-    → ArePlain (values_of ns) → (v : Tree) × (config_named (entries_of (values_of ns)) (chars q) ≡ Some (tree_of v))
-present-numbered q utf8 ns n apart is plain =
-    let found = some_there (lookup (is_at (nat_cmp n)) ns) (sym (number-there q ns n is)) in
-    (found.0.1, numbered-named q utf8 ns n apart is plain found.0 found.1)
-
--- another configuration under the number of a name is put under the name
-pub edit-placed : (q : List ℕ) (ns : List (ℕ × (String Global × Tree))) (n : ℕ) (old : String Global × Tree) (t : Tree) → AreApart (heads ns)
-    → number_of q (heads ns) ≡ Some n → lookup (is_at (nat_cmp n)) ns ≡ Some old → (new : List (ℕ × (String Global × Tree)))
-    → new ≡ set_value (is_at (nat_cmp n)) ns (old.0, t) → values_of new ≡ put_under old.0 t (values_of ns)
-edit-placed q ns n old t apart is held new set =
-    ap values_of set
-    ∙ set-number old.0 t ns n old apart (subst (λ bs. number_of bs (heads ns) ≡ Some n) (number-name q ns n old apart is held) is) held
 
 -- an option has one value at most
 pub same_value : {A : Type 0} (o : Option A) (t u : A) → o ≡ Some t → o ≡ Some u → t ≡ u

@@ -4,14 +4,14 @@ use Rattle.std.proofs.lemmas.Bool.Decides.{same_from_decides}
 use Rattle.std.proofs.lemmas.Slice.Eq.{bytes_eq-Decides}
 use Rattle.std.proofs.lemmas.Str.{encodes-chars, IsUtf8-from_ascii}
 use Rattle.std.specs.Bool.{Decides}
-use Rattle.std.specs.Map.{lookup}
+use Rattle.std.specs.Map.{lookup, set_value}
 use Rattle.std.specs.Str.{chars}
 use Rattle.yaml_grammar.specs.Texts.{same_text}
 use Rattle.yaml_grammar.specs.Trees as grammar
 use Rattle.yaml_data.specs.Seen.{tree_of}
 use Rattle.yaml_data.specs.declared.tree.Tree.{Tree}
 use Rattle.yaml_data.proofs.CharacterLemmas.{same_text-Decides}
-use Rattle.conf_state.specs.Numbers.{put_under, cut_from}
+use Rattle.conf_state.specs.Configs.{is_name, put_under, cut_from}
 use Rattle.conf_state.specs.States.{Entry, config_named, put_config, cut_config}
 use Rattle.conf_state.specs.Kept.{entries_of, ArePlain}
 
@@ -29,7 +29,7 @@ same_key q k utf8 ascii = same_from_decides _ _ (bytes_eq-Decides q k) (same_cha
 module _ (q : List ℕ) (utf8 : IsUtf8 q) where
   -- a lookup in the map finds the configuration of the name
   pub lookup-named : (es : List (String Global × Tree)) → ArePlain es
-      → option_map tree_of (lookup (λ k. bytes_eq q (string_bytes k)) es) ≡ config_named (entries_of es) (chars q)
+      → option_map tree_of (lookup (is_name q) es) ≡ config_named (entries_of es) (chars q)
   lookup-named [] plain = refl
   lookup-named (e ∷ es) plain =
       by (bytes_eq q (string_bytes e.0)) _ _ (lookup-named es plain.1)
@@ -52,6 +52,22 @@ module _ (q : List ℕ) (utf8 : IsUtf8 q) where
           → entries_of (cond b es (e ∷ rest)) ≡ (if b then entries_of es else (chars (string_bytes e.0), tree_of e.1) ∷ cut)
       by true rest others same = refl
       by false rest others same = ap (λ xs. (chars (string_bytes e.0), tree_of e.1) ∷ xs) same
+
+  -- a configuration changed in its place is put under its name
+  pub set_value-named : (es : List (String Global × Tree)) (old t : Tree) → ArePlain es → lookup (is_name q) es ≡ Some old
+      → entries_of (set_value (is_name q) es t) ≡ put_config (entries_of es) (chars q) (tree_of t)
+  set_value-named [] old t plain is = cc
+  set_value-named (e ∷ es) old t plain is =
+      by (bytes_eq q (string_bytes e.0)) refl is (set_value-named es old t plain.1)
+      ∙ ap (λ b. if b then (chars (string_bytes e.0), tree_of t) ∷ entries_of es else (chars (string_bytes e.0), tree_of e.1) ∷ put_config (entries_of es) (chars q) (tree_of t))
+      (same_key q (string_bytes e.0) utf8 plain.0)
+    where
+      by : (b : Bool) → bytes_eq q (string_bytes e.0) ≡ b → cond b (Some e.1) (lookup (is_name q) es) ≡ Some old
+          → (lookup (is_name q) es ≡ Some old → entries_of (set_value (is_name q) es t) ≡ put_config (entries_of es) (chars q) (tree_of t))
+          → entries_of (cond b ((e.0, t) ∷ es) (e ∷ set_value (is_name q) es t))
+          ≡ (if b then (chars (string_bytes e.0), tree_of t) ∷ entries_of es else (chars (string_bytes e.0), tree_of e.1) ∷ put_config (entries_of es) (chars q) (tree_of t))
+      by true named is rest = refl
+      by false named is rest = ap (λ xs. (chars (string_bytes e.0), tree_of e.1) ∷ xs) (rest is)
 
 module _ (name : String Global) (utf8 : IsUtf8 (string_bytes name)) (t : Tree) where
   -- an insertion into the map puts the tree under the name
@@ -87,6 +103,15 @@ plain_cut_from q (e ∷ es) plain = by (bytes_eq q (string_bytes e.0)) _ (plain_
   where
     by : (b : Bool) (rest : List (String Global × Tree)) → ArePlain rest → ArePlain (cond b es (e ∷ rest))
     by true rest others = plain.1
+    by false rest others = (plain.0, others)
+
+-- a configuration changed in its place leaves the names ASCII
+pub plain_set_value : (q : List ℕ) (t : Tree) (es : List (String Global × Tree)) → ArePlain es → ArePlain (set_value (is_name q) es t)
+plain_set_value q t [] plain = tt
+plain_set_value q t (e ∷ es) plain = by (bytes_eq q (string_bytes e.0)) _ (plain_set_value q t es plain.1)
+  where
+    by : (b : Bool) (rest : List (String Global × Tree)) → ArePlain rest → ArePlain (cond b ((e.0, t) ∷ es) (e ∷ rest))
+    by true rest others = plain
     by false rest others = (plain.0, others)
 
 -- an ASCII name that is put in leaves all of them ASCII

@@ -10,4 +10,4 @@ pub mod RunLaws
 pub mod StateLemmas
 pub mod StepLemmas
 pub mod NameLemmas
-pub mod NumberLemmas
+pub mod PlaceLemmas

@@ -1,7 +1,6 @@
 -- A state from its parts: what holds of the configurations so far, and why there is no state with one that is unfit.
 use Rattle.std.proofs.Common.{length, ◌≡◌, ◌≤◌, inl, inr, ℕ, ◌+◌, min, Bool, true, false, not, ◌||◌, if◌then◌else◌, List, [], ◌∷◌, ◌++◌, String, Global, Option, Some, None, is_some, nat_lt, Result, Ok, Err, OnOk, IfErr, is_err, ◌<◌, ◌^◌, append-nil, refl, sym, ap, subst, ◌∙◌, append_assoc, arith}
 use Rattle.std.proofs.lemmas.Bool.{and_parts}
-use Rattle.std.specs.Map.{values_of}
 use Rattle.yaml_grammar.specs.Trees as grammar
 use Rattle.yaml_grammar.specs.Reads.{Good}
 use Rattle.yaml_grammar.specs.Texts.{byte_len, same_text}
@@ -9,8 +8,6 @@ use Rattle.yaml_grammar.specs.Trees.{depth}
 use Rattle.yaml_grammar.specs.Style.{style_text}
 use Rattle.yaml_data.specs.declared.tree.Tree.{Tree}
 use Rattle.yaml_data.proofs.CharacterLemmas.{same_text-true, same_text-self}
-use Rattle.conf_state.specs.Configs.{AreNumbered, AreCounted}
-use Rattle.conf_state.specs.declared.configs.Configs.{Configs}
 use Rattle.conf_state.specs.Names.{good_name}
 use Rattle.conf_state.specs.States.{Entry, Contents, base_limit, names_of, config_named, put_config, has_name, names_differ}
 use Rattle.yaml_config.specs.Limits.{config_limits}
@@ -33,31 +30,6 @@ put_absent (e ∷ es) name t absent = by (same_text name e.0) absent (put_absent
         → (if b then (e.0, t) ∷ es else e ∷ put_config es name t) ≡ e ∷ (es ++ (name, t) ∷ [])
     by true found rest = absurd (cc)
     by false found rest = ap (λ xs. e ∷ xs) (rest found)
-
-length_values : (ns : List (ℕ × (String Global × Tree))) → length (entries_of (values_of ns)) ≡ length ns
-length_values [] = refl
-length_values (n ∷ ns) = omega (arith, length_values ns)
-
--- no configurations are counted
-pub none_counted : (configs : Configs) → configs.named.entries ≡ [] → AreNumbered configs 0 → AreCounted configs
-none_counted configs none is =
-    let few : length configs.named.entries ≡ 0 = ap length none in
-    record {
-      numbered = subst (AreNumbered configs) (sym few) is;
-      short = omega (arith, few);
-    }
-
-length_last : (es : List Entry) (e : Entry) → length (es ++ e ∷ []) ≡ length es + 1
-length_last [] e = refl
-length_last (d ∷ es) e = omega (arith, length_last es e)
-
--- with a new name there is one more configuration
-pub one_more : (old new : List (ℕ × (String Global × Tree))) (name : List ℕ) (t : grammar.Tree) → config_named (entries_of (values_of old)) name ≡ None
-    → entries_of (values_of new) ≡ put_config (entries_of (values_of old)) name t → length new ≡ length old + 1
-one_more old new name t absent put =
-    let es = entries_of (values_of old) in
-    let same = ap length (put ∙ put_absent es name t absent) in
-    omega (arith, same, length_values new, length_values old, length_last es (name, t))
 
 pub record SoFar (all : List Entry) (done : List (String Global × Tree)) (left : List Entry) (length : ℕ) : Type 0 where
   pub whole : entries_of done ++ left ≡ all

@@ -1,21 +1,21 @@
 -- The limits of a state stay kept: at the start, and with each configuration put in or taken out.
-use Rattle.std.proofs.Common.{◌≡◌, ℕ, ◌+◌, ◌<◌, Bool, true, List, [], String, Global, string_bytes, IsUtf8, IsAscii, Some, Ok, ap, sym, subst, ◌∙◌, refl, arith}
+use Rattle.std.proofs.Common.{◌≡◌, ℕ, ◌+◌, ◌<◌, Bool, true, List, [], String, Global, IsUtf8, Ok, ap, sym, subst, ◌∙◌, refl, arith}
 use Rattle.std.proofs.lemmas.Fmt.{length-decimal-le}
 use Rattle.std.specs.Str.{chars}
 use Rattle.yaml_grammar.specs.Reads.{Good}
-use Rattle.yaml_data.specs.Seen.{tree_of}
+use Rattle.yaml_grammar.specs.Trees as grammar
 use Rattle.yaml_data.specs.declared.tree.Tree.{Tree}
-use Rattle.conf_state.specs.Numbers.{put_under, cut_from}
+use Rattle.conf_state.specs.Configs.{cut_from}
 use Rattle.conf_state.specs.Names.{good_name}
 use Rattle.conf_state.specs.Kept.{entries_of, ArePlain, IsKept}
 use Rattle.conf_state.specs.Limits.{IsState}
 use Rattle.conf_state.specs.BaseTexts.{entries_length}
-use Rattle.conf_state.specs.States.{Entry, Contents, config_named, put_config, cut_config, count_limit}
+use Rattle.conf_state.specs.States.{Entry, Contents, put_config, cut_config, count_limit}
 use Rattle.yaml_config.specs.Limits.{config_limits}
 use Rattle.conf_state.specs.Steps.{next_state}
 use Rattle.conf_state.proofs.BaseLemmas.{base_length-framed}
 use Rattle.conf_state.proofs.CountLemmas.{next_state-short}
-use Rattle.conf_state.proofs.EntryLemmas.{put_under-named, cut_from-named, put_config-same, plain_put_under, plain_cut_from}
+use Rattle.conf_state.proofs.EntryLemmas.{cut_from-named, plain_cut_from}
 use Rattle.conf_state.proofs.LimitLemmas.{names_differ-put, names_differ-cut, AreConfigs-put, AreConfigs-cut}
 
 -- an empty state keeps its limits
@@ -32,25 +32,21 @@ kept_empty = record {
 }
 
 module _ (es : List (String Global × Tree)) (count bytes : ℕ) (kept : IsKept es count bytes) (below : count < count_limit) where
-  -- with a configuration put in
-  module _ (name : String Global) (t : Tree) (utf8 : IsUtf8 (string_bytes name)) (ascii : IsAscii (string_bytes name))
-      (named : good_name (chars (string_bytes name)) ≡ true) (good : Good (tree_of t) config_limits) (fits : Bool) (after : Contents)
-      (ok : next_state (record { configs = entries_of es; count = count }) fits (put_config (entries_of es) (chars (string_bytes name)) (tree_of t)) ≡ Ok after) where
-    pub kept_put : (new : List (String Global × Tree)) (length : ℕ) → new ≡ put_under name t es
-        → length ≡ entries_length (put_config (entries_of es) (chars (string_bytes name)) (tree_of t)) → IsKept new (count + 1) length
-    kept_put new length is counts =
-        let configs : List Entry = put_config (entries_of es) (chars (string_bytes name)) (tree_of t) in
-        let seen : entries_of new ≡ configs = ap entries_of is ∙ put_under-named name utf8 t es kept.plain in
-        record {
-          plain = subst ArePlain (sym is) (plain_put_under name t es ascii kept.plain);
-          state = subst (λ cs. IsState (record { configs = cs; count = count + 1 })) (sym seen) (record {
-            configs = AreConfigs-put (entries_of es) (chars (string_bytes name)) (tree_of t) named good kept.state.configs;
-            distinct = names_differ-put (entries_of es) (chars (string_bytes name)) (tree_of t) kept.state.distinct;
-            short = next_state-short (record { configs = entries_of es; count = count }) fits configs after ok;
-            numbered = omega arith;
-          });
-          counted = counts ∙ ap entries_length (sym seen);
-        }
+  -- with a configuration put in, or changed in its place
+  module _ (name : List ℕ) (t : grammar.Tree) (named : good_name name ≡ true) (good : Good t config_limits) (fits : Bool) (after : Contents)
+      (ok : next_state (record { configs = entries_of es; count = count }) fits (put_config (entries_of es) name t) ≡ Ok after) where
+    pub kept_put : (new : List (String Global × Tree)) (length : ℕ) → ArePlain new → entries_of new ≡ put_config (entries_of es) name t
+        → length ≡ entries_length (put_config (entries_of es) name t) → IsKept new (count + 1) length
+    kept_put new length plain seen counts = record {
+      plain = plain;
+      state = subst (λ cs. IsState (record { configs = cs; count = count + 1 })) (sym seen) (record {
+        configs = AreConfigs-put (entries_of es) name t named good kept.state.configs;
+        distinct = names_differ-put (entries_of es) name t kept.state.distinct;
+        short = next_state-short (record { configs = entries_of es; count = count }) fits (put_config (entries_of es) name t) after ok;
+        numbered = omega arith;
+      });
+      counted = counts ∙ ap entries_length (sym seen);
+    }
 
   -- with a configuration taken out
   module _ (name : List ℕ) (utf8 : IsUtf8 name) (fits : Bool) (after : Contents)
@@ -71,21 +67,11 @@ module _ (es : List (String Global × Tree)) (count bytes : ℕ) (kept : IsKept 
           counted = counts ∙ ap entries_length (sym seen);
         }
 
--- with the same configuration under its name again
-pub entries_same : (es : List (String Global × Tree)) (name : String Global) (utf8 : IsUtf8 (string_bytes name)) (t : Tree) → ArePlain es
-    → config_named (entries_of es) (chars (string_bytes name)) ≡ Some (tree_of t) → entries_of (put_under name t es) ≡ entries_of es
-entries_same es name utf8 t plain there =
-    put_under-named name utf8 t es plain ∙ put_config-same (entries_of es) (chars (string_bytes name)) (tree_of t) there
-
--- a configuration that is replaced by the same one leaves the limits kept
+-- the same configurations keep the limits
 pub kept_same : (es : List (String Global × Tree)) (count bytes : ℕ) → IsKept es count bytes
-    → (name : String Global) (utf8 : IsUtf8 (string_bytes name)) (ascii : IsAscii (string_bytes name)) (t : Tree)
-    → config_named (entries_of es) (chars (string_bytes name)) ≡ Some (tree_of t)
-    → (new : List (String Global × Tree)) → new ≡ put_under name t es → IsKept new count bytes
-kept_same es count bytes kept name utf8 ascii t there new is =
-    let seen = ap entries_of is ∙ entries_same es name utf8 t kept.plain there in
-    record {
-      plain = subst ArePlain (sym is) (plain_put_under name t es ascii kept.plain);
-      state = subst (λ cs. IsState (record { configs = cs; count = count })) (sym seen) kept.state;
-      counted = kept.counted ∙ ap entries_length (sym seen);
-    }
+    → (new : List (String Global × Tree)) → ArePlain new → entries_of new ≡ entries_of es → IsKept new count bytes
+kept_same es count bytes kept new plain seen = record {
+  plain = plain;
+  state = subst (λ cs. IsState (record { configs = cs; count = count })) (sym seen) kept.state;
+  counted = kept.counted ∙ ap entries_length (sym seen);
+}

@@ -1,20 +1,20 @@
--- The configurations of a state, as the code holds them.
-use Rattle.std.specs.Prelude.{◌≤◌, length, ℕ, List, String}
+-- Configurations with their names, in order.
+use Rattle.std.specs.Prelude.{ℕ, Bool, cond, List, [], ◌∷◌, String, string_bytes}
 use Rattle.std.specs.declared.alloc.Global.{Global}
-use Rattle.std.specs.Map.{values_of}
-use Rattle.yaml_data.specs.declared.tree.Tree.{Tree}
-use Rattle.conf_state.specs.Numbers.{heads, IsIndexed}
-use Rattle.conf_state.specs.declared.configs.Configs.{Configs}
+use Rattle.std.specs.Str.{bytes_eq}
 
--- the configurations with their names, in order
-abbrev pub listed : Configs → List (String Global × Tree)
-listed configs = values_of configs.named.entries
+-- the name is this text
+abbrev pub is_name : List ℕ → String Global → Bool
+is_name text name = bytes_eq text (string_bytes name)
 
--- each name has its number, and each number is below the limit
-abbrev pub AreNumbered : Configs → ℕ → Type 0
-AreNumbered configs limit = IsIndexed configs.numbers (heads configs.named.entries) limit
+module _ {X : Type 0} where
+  -- with a configuration under a name: a name that is there keeps its place, and a new one goes last
+  abbrev pub put_under : String Global → X → List (String Global × X) → List (String Global × X)
+  put_under name x [] = (name, x) ∷ []
+  put_under name x (e ∷ es) =
+      cond (is_name (string_bytes name) e.0) ((e.0, x) ∷ es) (e ∷ put_under name x es)
 
--- the configurations that a state begins with are numbered from 0
-pub record AreCounted (configs : Configs) : Type 0 where
-  pub numbered : AreNumbered configs (length configs.named.entries)
-  pub short : length configs.named.entries ≤ 18446744073709551616
+  -- without the configuration under a name, if there is one
+  abbrev pub cut_from : List ℕ → List (String Global × X) → List (String Global × X)
+  cut_from name [] = []
+  cut_from name (e ∷ es) = cond (is_name name e.0) es (e ∷ cut_from name es)

@@ -1,5 +1,5 @@
 -- What a state of src/ is as a value, and the limits that it keeps.
-use Rattle.std.specs.Prelude.{◌≡◌, ◌⊎◌, ◌+◌, ℕ, min, true, false, List, [], ◌∷◌, None, is_some, String, string_bytes, IsAscii}
+use Rattle.std.specs.Prelude.{◌≡◌, ◌⊎◌, ℕ, min, true, false, List, [], ◌∷◌, None, is_some, String, string_bytes, IsAscii}
 use Rattle.std.specs.declared.alloc.Global.{Global}
 use Rattle.yaml_grammar.specs.Reads.{Good}
 use Rattle.yaml_grammar.specs.Trees as grammar
@@ -31,10 +31,6 @@ pub record IsKept (es : List (String Global × Tree)) (count bytes : ℕ) : Type
   pub plain : ArePlain es
   pub state : IsState (record { configs = entries_of es; count = count })
   pub counted : bytes ≡ entries_length (entries_of es)
-
--- the number of a configuration that is put after so many commands
-abbrev pub next_number : ℕ → ℕ
-next_number count = 18446744073709551616 + count
 
 -- a configuration was put after the others, under a name that is good and new; it has so many bytes in the base text
 pub record Appended (old new : List (String Global × Tree)) (name : List ℕ) (t : grammar.Tree)

@@ -10,4 +10,5 @@ pub mod Names
 pub mod PathFaults
 pub mod Rooms
 pub mod Configs
-pub mod Numbers
+pub mod Places
+pub mod Lends

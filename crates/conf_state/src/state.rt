@@ -4,10 +4,9 @@ ghost use Rattle.std.specs.Str.{chars};
 ghost use Rattle.std.specs.Iterator.{YieldsFirstBy, item_count};
 ghost use Rattle.yaml_grammar.specs.Reads.{Good};
 ghost use Rattle.yaml_data.specs.Seen.{tree_of};
-ghost use Rattle.conf_state.specs.Configs.{listed, AreCounted};
 ghost use Rattle.conf_state.specs.Commands.{text_of};
 ghost use Rattle.conf_state.specs.Names.{good_name};
-ghost use Rattle.conf_state.specs.Kept.{entries_of, next_number, ArePlain, Appended, IsFit, IsUnfit};
+ghost use Rattle.conf_state.specs.Kept.{entries_of, ArePlain, Appended, IsFit, IsUnfit};
 ghost use Rattle.conf_state.specs.Limits.{IsState};
 ghost use Rattle.conf_state.specs.States.{Entry, names_of, config_named, put_config, cut_config};
 ghost use Rattle.yaml_config.specs.Limits.{config_limits};
@@ -19,13 +18,12 @@ ghost use Rattle.conf_state.specs.Steps.{and_then, next_state};
 ghost use Rattle.conf_state.specs.Edits.{configs_after_edit, configs_with_edit, IsPlan};
 
 use crate::base::{BASE_LIMIT, base_length, entry_length, write_entry};
-use crate::configs::Configs;
+use crate::configs::{Configs, Entries};
 use crate::fault::StoreFault;
 use crate::name::good_name;
 use crate::room::Room;
 use crate::steps::check_limits;
 use std::alloc::{AllocError, Global};
-use std::collections::btree_map::Values;
 use std::marker::Model;
 use tree_path::Path;
 use yaml_config::{Config, Edit, Limits};
@@ -33,10 +31,6 @@ use yaml_writer::Sink;
 
 /// The indentation of a configuration in a base text: two more than that of its name.
 const ENTRY_INDENT: u64 = 4;
-
-/// The number of a configuration that the first command puts. One that a later command puts has a greater number, and
-/// those that a state begins with have smaller ones.
-const FIRST_PUT: u128 = 18_446_744_073_709_551_616;
 
 /// How many bytes there are after an edit: of the configuration in the one style, and of all configurations in the base
 /// text. And the place of the last key of the edit's path.
@@ -65,13 +59,11 @@ impl Model for State {
 
     ghost coded = { contents_code };
 
-    ghost use Rattle.conf_state.specs.Configs.{listed, AreNumbered};
-    ghost use Rattle.conf_state.specs.Kept.{entries_of, IsKept, next_number};
+    ghost use Rattle.conf_state.specs.Kept.{entries_of, IsKept};
 
-    ghost view = { λ s. record { configs = entries_of (listed s.configs); count = s.count } };
+    ghost view = { λ s. record { configs = entries_of s.configs; count = s.count } };
 
-    ghost invariant = { λ s. IsKept (listed s.configs) s.count s.entries
-        × AreNumbered s.configs (next_number s.count) };
+    ghost invariant = { λ s. IsKept s.configs s.count s.entries };
 }
 
 impl State {
@@ -126,13 +118,6 @@ impl State {
         self.count
     }
 
-    /// The number of a configuration that is put last: greater than those of all others.
-    fn next_number(&self) -> u128
-        ensures { result ≡ next_number self.now.count }
-    {
-        FIRST_PUT + u128::from(self.count)
-    }
-
     /// The configuration under a name; `None` if no configuration has the name.
     pub fn get(&self, name: &str) -> Option<&Config>
         ensures { option_map (λ config. tree_of config.now) result
@@ -145,8 +130,9 @@ impl State {
     pub fn names(&self) -> Names<'_>
         ensures { result ≡ names_of self.now.configs }
     {
-        let named = self.configs.named.values();
-        Names { named }
+        Names {
+            configs: self.configs.iter(),
+        }
     }
 
     /// Puts a configuration under a name, if the store has room for it. A refusal changes nothing.
@@ -163,8 +149,7 @@ impl State {
     {
         let entries = self.length_with(&name, &config);
         self.check_room(entries, room)?;
-        let number = self.next_number();
-        self.configs.put(number, name, config)?;
+        self.configs.put(name, config)?;
         self.entries = entries;
         self.count += 1;
         Ok(())
@@ -193,13 +178,13 @@ impl State {
             (next_state self.old (has_room room)) ≡ Err fault)) }
         ensures unchanged { OnErr result (self.new ≡ self.old) }
     {
-        let Some(number) = self.configs.number_of(name) else {
+        let Some(config) = self.configs.get(name) else {
             return Err(StoreFault::NoConfig);
         };
         let path = Path::parse(alloc, pointer)?;
-        let plan = self.plan_edit(&self.configs.named[&number].1, &path, &edit)?;
+        let plan = self.plan_edit(config, &path, &edit)?;
         self.check_room(plan.entries, room)?;
-        let config = &mut self.configs.named.get_mut(&number).unwrap().1;
+        let config = self.configs.get_mut(name).unwrap();
         edit.perform(alloc, config, &path, plan.place, plan.config)?;
         self.entries = plan.entries;
         self.count += 1;
@@ -299,11 +284,11 @@ impl State {
         ensures { OnOk result (S.Takes sink.old (value_at
             (mapping (members self.now.configs)) 0) sink.new) }
     {
-        if self.configs.named.is_empty() {
+        if self.configs.is_empty() {
             return sink.put_text(" {}\n");
         }
         sink.put_char('\n')?;
-        for (name, config) in self.configs.named.values() {
+        for (name, config) in self.configs.iter() {
             write_entry(name, config, sink)?;
         }
         Ok(())
@@ -341,31 +326,26 @@ impl State {
 /// Puts a configuration after the others, and returns how many bytes it has in the base text, at most the greatest
 /// `u64`. Returns `None` if its name is not good or is there, or the configuration is over its limits.
 fn append(configs: &mut Configs, name: String, config: Config) -> Result<Option<u64>, AllocError>
-    requires plain { ArePlain (listed configs.old) }
-    requires counted { AreCounted configs.old }
-    ensures parts { IfOk result (λ read. MatchOption read
-        (IsUnfit (entries_of (listed configs.old)) (text_of name) (tree_of config))
-        (Appended (listed configs.old) (listed configs.new) (text_of name)
-        (tree_of config))) }
-    ensures counted { OnOk result (AreCounted configs.new) }
+    requires { ArePlain configs.old }
+    ensures { IfOk result (λ read. MatchOption read
+        (IsUnfit (entries_of configs.old) (text_of name) (tree_of config))
+        (Appended configs.old configs.new (text_of name) (tree_of config))) }
 {
     if !is_fit(configs, &name, &config) {
         return Ok(None);
     }
     let length = entry_length(&name, &config);
-    let number = configs.named.len() as u128;
-    configs.put(number, name, config)?;
+    configs.put(name, config)?;
     Ok(Some(length))
 }
 
 /// Whether a configuration may be put after the others: its name is good and new, and it keeps its limits.
 fn is_fit(configs: &Configs, name: &str, config: &Config) -> bool
-    requires plain { ArePlain (listed configs.now) }
-    requires counted { AreCounted configs.now }
+    requires { ArePlain configs.now }
     ensures fit { result ≡ true
-        → IsFit (entries_of (listed configs.now)) (chars name.now) (tree_of config.now) }
+        → IsFit (entries_of configs.now) (chars name.now) (tree_of config.now) }
     ensures unfit { result ≡ false
-        → IsUnfit (entries_of (listed configs.now)) (chars name.now) (tree_of config.now) }
+        → IsUnfit (entries_of configs.now) (chars name.now) (tree_of config.now) }
 {
     if !good_name(name) {
         return false;
@@ -378,9 +358,8 @@ fn is_fit(configs: &Configs, name: &str, config: &Config) -> bool
 
 /// Whether there is a configuration under a name.
 fn has(configs: &Configs, name: &str) -> bool
-    requires plain { ArePlain (listed configs.now) }
-    requires counted { AreCounted configs.now }
-    ensures { result ≡ is_some (config_named (entries_of (listed configs.now)) (chars name.now)) }
+    requires { ArePlain configs.now }
+    ensures { result ≡ is_some (config_named (entries_of configs.now) (chars name.now)) }
 {
     configs.get(name).is_some()
 }
@@ -388,7 +367,7 @@ fn has(configs: &Configs, name: &str) -> bool
 /// An iterator over the names of a state's configurations, in order. Contracts see the list of them.
 #[derive(Drop)]
 pub struct Names<'a> {
-    named: Values<'a, u128, (String, Config)>,
+    configs: Entries<'a>,
 }
 
 impl<'a> Model for Names<'a> {
@@ -397,7 +376,7 @@ impl<'a> Model for Names<'a> {
 
     ghost Value = { List (List ℕ) };
 
-    ghost view = { λ names. names_from names.named };
+    ghost view = { λ names. names_from names.configs };
 }
 
 impl<'a> Iterator for Names<'a> {
@@ -408,7 +387,7 @@ impl<'a> Iterator for Names<'a> {
     ghost remaining = { item_count (λ names. names) };
 
     fn next(&mut self) -> Option<&'a str> {
-        let (name, _) = self.named.next()?;
+        let (name, _) = self.configs.next()?;
         Some(name.as_str())
     }
 }

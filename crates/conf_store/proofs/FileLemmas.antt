@@ -5,11 +5,11 @@ use Rattle.std.proofs.lemmas.Bool.{false≢true}
 use Rattle.conf_disk.specs.Folder.{File, empty_file, file_bytes, Folder, bytes_at, bytes_under}
 use Rattle.conf_disk.specs.Image.{Image, IsImage, image_now, synced_file}
 use Rattle.conf_disk.specs.Laws.{ReadingIsAnImage}
-use Rattle.conf_disk.specs.Moments.{LeavesOnly}
+use Rattle.conf_disk.specs.Moments.{LeavesOnly, TimeGoesOn}
 use Rattle.conf_disk.specs.declared.disk.DiskFault.{DiskFault}
 use Rattle.conf_disk.specs.declared.disk.DiskFault.TheVariants as disk
 use Rattle.conf_disk.specs.declared.disk.Name.TheVariants.{Store}
-use Rattle.conf_disk.proofs.Moments.{LeavesOnly-weaker, LeavesOnly-joined, LeavesOnly-now}
+use Rattle.conf_disk.proofs.Moments.{LeavesOnly-weaker, LeavesOnly-joined, LeavesOnly-now, LeavesOnly-same}
 use Rattle.conf_journal.specs.Held.{HoldsStore, OnlyHeldIsLeft, file_at}
 use Rattle.conf_journal.specs.Store.{IsStoreOf, LeavesStoreOr}
 use Rattle.conf_state.specs.States.{Contents}
@@ -57,6 +57,13 @@ files-stay folder moment left old new counts reads run = record {
   any_moment = run;
 }
 
+-- a read, which changes nothing
+pub read-stays : {D : Type 0} (folder : D → Folder) (moment : D → ℕ) (left : D → ℕ → Image → Type 0) (old new : D)
+    → ((t : ℕ) (image : Image) → t ≤ moment new → IsImage (folder new) image → left new t image) → ((image : Image) → left old (moment old) image → IsImage (folder old) image)
+    → TimeGoesOn folder moment left old new → folder new ≡ folder old → FilesStay folder moment left old new
+read-stays folder moment left old new counts only time same =
+    files-stay folder moment left old new counts (ap image_now same) (LeavesOnly-same folder moment left old new only time same)
+
 -- it leaves an old store
 pub images-old : {D : Type 0} (folder : D → Folder) (moment : D → ℕ) (left : D → ℕ → Image → Type 0) (old new : D)
     → LeavesOnly moment left old new (IsImage (folder old)) → LeavesOldOrBase folder moment left old new
@@ -69,6 +76,12 @@ images-old folder moment left old new run =
 pub not-needed : (store : Option (List ℕ)) (s : Contents) (records dropped : ℕ) (size : Option ℕ) → IsFound store s records dropped size → size ≡ None → dropped ≡ 0 → IsSome store → ⊥
 not-needed None s records dropped size found is none some = absurd (false≢true some)
 not-needed (Some bytes) s records dropped size found is none some = ⊎_elim (λ e. cc e) (λ other. other none) (found.staged is)
+
+-- where the file stays as it is, it is there and ends with a closing line
+pub kept-as-it-is : (store : Option (List ℕ)) (s : Contents) (records dropped n : ℕ) (size : Option ℕ) → IsFound store s records dropped size → size ≡ Some n → (store ≡ None) ⊎ (dropped ≢ 0) → ⊥
+kept-as-it-is store s records dropped n size found is needed =
+    let stays = found.stays n is in
+    ⊎_elim (λ none. let both : Some stays.1 ≡ None = sym stays.2 ∙ none in cc both) (λ some. some stays.0) needed
 
 -- a fault of the disk that isn't `Device`
 pub disk-memory : (fault : DiskFault) (reason : OpenFault) → reason ≡ open_fault fault → reason ≢ Device → fault ≡ disk.OutOfMemory

@@ -76,6 +76,10 @@ pub length-more : (more : List ℕ) (staged : Option Staged) (limit : ℕ) → s
 length-more more None limit short = omega arith
 length-more more (Some staged) limit short = omega (arith, short, length-append staged.left more)
 
+pub length-least : (more : List ℕ) (staged : Option Staged) (least : ℕ) → least ≤ staged_length staged → least ≤ staged_length (with_more more staged)
+length-least more None least within = within
+length-least more (Some staged) least within = omega (arith, within, length-append staged.left more)
+
 -- ---- slices
 
 slice-read : (before : Option (List ℕ)) (some further left : List ℕ) → some ++ further ≡ left → option_map (λ (start : List ℕ). start ++ further) (file_with_bytes before some) ≡ option_map (λ (start : List ℕ). start ++ left) before

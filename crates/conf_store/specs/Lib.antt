@@ -1,6 +1,7 @@
 pub mod Meaning
 pub mod Staged
 pub mod Durable
+pub mod Grown
 pub mod View
 pub mod Calls
 pub mod Slices

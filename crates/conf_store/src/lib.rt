@@ -11,6 +11,8 @@
 //! call. [`Store::begin_checkpoint`] and [`Store::slice`] write the new file in slices, and commands go on between
 //! them.
 //!
+//! [`read_state`] reads the state of a folder and changes nothing, also where nothing can be written.
+//!
 //! After a crash at any moment, opening finds the state after a prefix of the accepted commands, with every command
 //! that was acknowledged ([`lives_hold`]).
 #![tactic(auto)]
@@ -21,6 +23,7 @@ mod fault;
 mod importing;
 mod laws;
 mod opening;
+mod reading;
 mod recovery;
 mod slicing;
 mod staging;
@@ -28,6 +31,7 @@ mod store;
 
 pub use fault::OpenFault;
 pub use laws::{bytes_mean_one_state, lives_hold, one_state_is_flushed, records_are_measured};
+pub use reading::read_state;
 pub use recovery::Opened;
 pub use slicing::Progress;
 pub use store::Store;

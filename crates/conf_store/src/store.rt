@@ -12,6 +12,7 @@ ghost use Rattle.conf_state.specs.States.{Contents, names_of};
 ghost use Rattle.conf_state.specs.BaseTexts.{base_bytes};
 ghost use Rattle.conf_store.specs.Meaning.{FileMeans};
 ghost use Rattle.conf_store.specs.Durable.{AllImagesMean, AllImagesAfterPrefix, AfterPrefix, HasFlushed, staged_text};
+ghost use Rattle.conf_store.specs.Grown.{HasGrown};
 ghost use Rattle.conf_store.specs.Staged.{staged_length};
 ghost use Rattle.conf_store.specs.Slices.{Begins, SliceFlushes, SliceReads, Slices, StaysTheSame};
 ghost use Rattle.conf_store.specs.Calls.{Accepts, RefusesCommand, HasFailed, next_record, Exports, tree_named, tree_at};
@@ -58,18 +59,25 @@ pub struct Store<D: Disk> {
     disk: D,
     state: State,
     size: u64,
+    /// The length of the base of `store.yaml`.
+    base: u64,
     /// Whether a record was appended since the last sync of `store.yaml`.
     waits: bool,
     /// The running checkpoint, if one runs.
     staging: Staging,
+    /// The length of the base of the running checkpoint's new file; 0 if none runs.
+    staged_base: u64,
     reopen: bool,
 }
 
 impl<D: Disk> Model for Store<D> {
     ghost use Rattle.std.specs.Prelude.{◌≡◌, ◌≤◌, false};
+    ghost use Rattle.conf_disk.specs.Folder.{bytes_under};
+    ghost use Rattle.conf_disk.specs.declared.disk.Name.TheVariants.{Store};
     ghost use Rattle.conf_journal.specs.Store.{store_limit};
     ghost use Rattle.conf_state.specs.Limits.{IsState};
     ghost use Rattle.conf_store.specs.Durable.{IsHeld, IsStaging};
+    ghost use Rattle.conf_store.specs.Grown.{FileStartsWithBase, StagedStartsWithBase};
     ghost use Rattle.conf_store.specs.Staged.{staged_length};
     ghost use Rattle.conf_store.specs.View.{StoreView, store_view_code};
 
@@ -83,16 +91,21 @@ impl<D: Disk> Model for Store<D> {
     ghost invariant = { λ s. (s.size ≤ store_limit) × IsState s.state
         × (staged_length s.staging ≤ store_limit)
         × (D.honest → s.reopen ≡ false → IsHeld (D.folder s.disk) s.state s.size s.waits
-        × IsStaging (D.folder s.disk) s.state s.staging) };
+        × IsStaging (D.folder s.disk) s.state s.staging)
+        × (s.base ≤ s.size) × (s.staged_base ≤ staged_length s.staging)
+        × (D.honest → s.reopen ≡ false →
+        FileStartsWithBase (bytes_under (D.folder s.disk) Store) s.base
+        × StagedStartsWithBase (D.folder s.disk) s.staging s.staged_base) };
 }
 
 impl<D: Disk> Store<D> {
     /// Opens the folder on `disk`, and returns the store with what was found.
     ///
     /// The state is what `store.yaml` means; a missing file is the empty state. If the file is missing, or bytes
-    /// follow its last closing line, a base of the state is written as the new `store.yaml`, by way of `next.yaml`.
-    /// Otherwise neither file changes. What `next.yaml` holds is ignored. The folder and `store.yaml` are synced before
-    /// it is read, so no later crash takes back what was read. Nothing waits, and no checkpoint runs.
+    /// follow its last closing line, a base of the state is written as the new `store.yaml`, by way of `next.yaml`,
+    /// which is gone then. Otherwise neither file changes. What `next.yaml` holds is ignored. The folder and
+    /// `store.yaml` are synced before it is read, so no later crash takes back what was read. Nothing waits, and no
+    /// checkpoint runs.
     ///
     /// The time is linear in the length of the file, and each command costs what it costs in [`apply`](Store::apply).
     ///
@@ -119,11 +132,16 @@ impl<D: Disk> Store<D> {
             RefusalMeans r.1 (bytes_under (D.folder disk) Name.Store)) }
         ensures cause { IfErr result (λ r.
             r.1 ≡ OpenFault.Device → HasFailed (D.failure_count disk) (D.failure_count r.0)) }
+        // The number of failures never falls.
+        ensures risen { D.failure_count disk ≤ D.failure_count (disk_after result) }
         // A crash at any moment of the call leaves what some image at its start meant, whatever it returns.
         ensures any_moment { D.honest → LeavesOnly D.moment D.left disk (disk_after result)
             (λ image. MeantAtEntry (D.folder disk) image.store) }
         // After Ok, whatever a crash leaves means the state.
         ensures now { D.honest → IfOk result (λ r. AllImagesMean (D.folder r.0.disk) r.0.state) }
+        // The state is flushed, and nothing waits.
+        ensures flushed { D.honest → IfOk result (λ r.
+            HasFlushed (D.folder r.0.disk) r.0.state [] r.0.state) }
         // A refusal other than Device changes no file.
         ensures refused_stays { D.honest → IfErr result (λ r. r.1 ≢ OpenFault.Device →
             FilesStay D.folder D.moment D.left disk r.0) }
@@ -131,6 +149,10 @@ impl<D: Disk> Store<D> {
         ensures whole_stays { D.honest → IfOk result (λ r. r.1.dropped ≡ 0 →
             IsSome (bytes_under (D.folder disk) Name.Store) →
             FilesStay D.folder D.moment D.left disk r.0.disk) }
+        // If a base was written, `next.yaml` is gone.
+        ensures gone { D.honest → IfOk result (λ r.
+            ((bytes_under (D.folder disk) Name.Store ≡ None) ⊎ (r.1.dropped ≢ 0)) →
+            bytes_under (D.folder r.0.disk) Name.Next ≡ None) }
         // Whatever it returns, `store.yaml` reads as before, or as the whole new base.
         ensures old_or_base { D.honest → IsOldOrBase (bytes_under (D.folder disk) Name.Store)
             (bytes_under (D.folder (disk_after result)) Name.Store) }
@@ -153,14 +175,15 @@ impl<D: Disk> Store<D> {
             state,
             opened,
             size,
+            base,
         } = match find_store(alloc, &mut disk) {
             Ok(found) => found,
             Err(fault) => return Err((disk, fault)),
         };
-        let size = match size {
-            Some(size) => size,
+        let (size, base) = match size {
+            Some(size) => (size, base),
             None => match write_base(alloc, &mut disk, &state) {
-                Ok(size) => size,
+                Ok(size) => (size, size),
                 Err(fault) => return Err((disk, OpenFault::from(fault))),
             },
         };
@@ -169,8 +192,10 @@ impl<D: Disk> Store<D> {
             disk,
             state,
             size,
+            base,
             waits: false,
             staging: Staging::none(alloc),
+            staged_base: 0,
             reopen: false,
         };
         Ok((store, opened))
@@ -420,7 +445,8 @@ impl<D: Disk> Store<D> {
     }
 
     /// Writes a base of the state as the new `store.yaml`, in place of the base and the records that are there. The
-    /// state and its count are unchanged. Commands that waited are acknowledged. A checkpoint that runs is given up.
+    /// state and its count are unchanged. Commands that waited are acknowledged. A checkpoint that runs is given up. No
+    /// `next.yaml` is left.
     ///
     /// # Errors
     /// `Reopen` if the store has to be opened again. `OutOfMemory` leaves the store and the disk as they were, also a
@@ -445,6 +471,9 @@ impl<D: Disk> Store<D> {
         ensures reads { D.honest →
             OnOk result (bytes_under (D.folder self.new.disk) Name.Store
             ≡ Some (base_bytes self.old.state)) }
+        // After Ok there is no `next.yaml`.
+        ensures gone { D.honest →
+            OnOk result (bytes_under (D.folder self.new.disk) Name.Next ≡ None) }
         // A crash at any moment of the call leaves the state after a prefix of the commands that waited.
         ensures any_moment { D.honest → self.old.reopen ≡ false →
             (flushed : Contents) (since : List GivenCommand)
@@ -465,8 +494,10 @@ impl<D: Disk> Store<D> {
         match write_base(self.alloc, &mut self.disk, &self.state) {
             Ok(size) => {
                 self.size = size;
+                self.base = size;
                 self.waits = false;
                 self.staging = Staging::none(self.alloc);
+                self.staged_base = 0;
                 Ok(())
             }
             Err(DiskFault::OutOfMemory) => Err(StoreFault::OutOfMemory),
@@ -528,6 +559,7 @@ impl<D: Disk> Store<D> {
         };
         match begin_next(&mut self.disk) {
             Ok(()) => {
+                self.staged_base = base.len() as u64;
                 self.staging = Staging::begun(base);
                 Ok(())
             }
@@ -585,8 +617,10 @@ impl<D: Disk> Store<D> {
             Ok(Progress::Left { bytes }) => Ok(Progress::Left { bytes }),
             Ok(Progress::Done) => {
                 self.size = self.staging.len() as u64;
+                self.base = self.staged_base;
                 self.waits = false;
                 self.staging = Staging::none(self.alloc);
+                self.staged_base = 0;
                 Ok(Progress::Done)
             }
             Err(_) => {
@@ -678,6 +712,19 @@ impl<D: Disk> Store<D> {
         self.state.count()
     }
 
+    /// By how many bytes `store.yaml` has grown since its base was written: the length of all its records, also of those
+    /// that wait. A [`checkpoint`](Store::checkpoint) makes this 0. After the last [`slice`](Store::slice) of a
+    /// checkpoint it is the length of the records that were accepted while that ran. Once the store has to be opened
+    /// again, nothing is known of the file.
+    pub fn grown(&self) -> u64
+        // Unless the store has to be opened again, so many bytes follow the base.
+        ensures grown { D.honest → self.now.reopen ≡ false →
+            HasGrown (bytes_under (D.folder self.now.disk) Name.Store) result }
+        ensures within { result ≤ self.now.size }
+    {
+        self.size - self.base
+    }
+
     /// Whether a call returned `Device`, so that the store has to be opened again.
     pub fn needs_reopen(&self) -> bool
         ensures reopen { result ≡ self.now.reopen }
@@ -714,8 +761,10 @@ impl<D: Disk> Store<D> {
             disk,
             state: _,
             size: _,
+            base: _,
             waits: _,
             staging: _,
+            staged_base: _,
             reopen: _,
         } = self;
         disk

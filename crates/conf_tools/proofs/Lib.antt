@@ -1,5 +1,7 @@
 pub mod StoreLemmas
 pub mod Formatting
 pub mod ReportLemmas
-pub mod OpeningLemmas
 pub mod SessionLemmas
+pub mod TailLemmas
+pub mod CallLemmas
+pub mod ExportLemmas

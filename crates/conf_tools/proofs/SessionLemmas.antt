@@ -1,18 +1,22 @@
 -- What a session leaves of the disk of the store that was opened for it.
-use Rattle.std.proofs.Common.{◌≡◌, ◌≢◌, ◌⊎◌, ◌↔◌, ℕ, Bool, true, false, List, [], inl, inr, refl, sym, ◌∙◌, subst}
+use Rattle.std.proofs.Common.{◌≡◌, ◌≢◌, ◌⊎◌, ◌↔◌, ℕ, Bool, true, false, List, [], ◌∷◌, ◌++◌, ap, inl, inr, length, refl, sym, ◌∙◌, subst}
 use Rattle.std.proofs.lemmas.Bool.{false≢true}
-use Rattle.std.specs.Prelude.{Option, Result, Err, IsErrOf}
+use Rattle.std.specs.Prelude.{Option, None, Result, Err, IsErrOf}
 use Rattle.conf_disk.specs.Folder.{Folder, bytes_under}
 use Rattle.conf_disk.specs.Image.{Image}
 use Rattle.conf_disk.specs.declared.disk.Name.TheVariants.{Store}
-use Rattle.conf_disk.proofs.Moments.{LeavesOnly-joined}
+use Rattle.conf_store.specs.Durable.{staged_text}
 use Rattle.conf_store.specs.View.{StoreView}
-use Rattle.conf_session.specs.Answers.{AllAreAcknowledged, accepted_commands}
+use Rattle.conf_session.specs.Answers.{AllAreAcknowledged, Stored, accepted_commands, file_after_all}
+use Rattle.conf_session.specs.Groups.{RunsGrouped, Turn, acknowledged_turns, all_asked, files_after_turns, turns_accepted}
 use Rattle.conf_session.specs.Runs.{AfterAtLeast, Runs, stored_of}
+use Rattle.conf_session.specs.declared.groups.Checkpoints.{Checkpoints}
 use Rattle.conf_session.specs.declared.fault.SessionFault.{SessionFault}
 use Rattle.conf_session.specs.declared.fault.SessionFault.TheVariants.{Device}
 use Rattle.conf_session.specs.declared.session.Tally.{Tally}
-use Rattle.conf_tools.specs.Stores.{Answers, AnswersOn, KeepsAnswered, OpensOn}
+use Rattle.conf_tools.specs.Stores.{Answers, AnswersOn, KeepsAnswered, OpensOn, SessionRuns, Work}
+use Rattle.conf_tools.specs.declared.stores.Grouping.{Grouping}
+use Rattle.conf_tools.specs.declared.stores.Grouping.TheVariants.{Single, Grouped}
 
 -- a store that was in order needs to be opened again only after Device
 in-order : (before after : Bool) (result : Result Tally SessionFault) → before ≡ false → ((after ≡ true) ↔ ((before ≡ true) ⊎ IsErrOf result Device)) → result ≢ Err Device → after ≡ false
@@ -23,31 +27,108 @@ in-order before true result off device other = absurd (neither (device.0 refl))
     neither (inl on) = false≢true (sym off ∙ on)
     neither (inr is) = other is
 
+-- where nothing waits at the start, all that was accepted is acknowledged
+all-acknowledged : (now : Stored) (turns : List Turn) → acknowledged_turns now [] turns ≡ length (turns_accepted now turns)
+all-acknowledged now [] = refl
+all-acknowledged now (turn ∷ turns) = refl
+
 module _ {D : Type 0} (honest : Type 0) (folder : D → Folder) (moment : D → ℕ) (since : D → ℕ → Image → Type 0) (given left held written : Option (List ℕ))
-    (old : D) (store new : StoreView D) (result : Result Tally SessionFault)
-    (opens : OpensOn honest folder moment since old store) (runs : Runs honest folder moment since given left held written store new result) where
-  abbrev answers : Answers given left held written (stored_of store) result
-  answers = record { answered = runs.answered; performed = runs.performed; ends = runs.ends }
+    (old : D) (store new : StoreView D) (result : Result Tally SessionFault) (opens : OpensOn honest folder moment since old store) where
+  -- what `store.yaml` reads as when the store is open
+  abbrev file : Option (List ℕ)
+  file = bytes_under (folder store.disk) Store
+
+  -- ---- each command by itself
+
+  module _ (runs : Runs honest folder moment since given left held written store new result) where
+    abbrev each-work : Work
+    each-work = record {
+      accepted = accepted_commands (stored_of store) runs.performed;
+      answered = length (accepted_commands (stored_of store) runs.answered);
+      file = file_after_all file (stored_of store) runs.performed;
+    }
+
+    abbrev each-answers : Answers given left held written (stored_of store) file Single result each-work
+    each-answers = record { answered = runs.answered; performed = runs.performed; ends = runs.ends; does = refl }
+
+    each-on : ((new.reopen ≡ true) ↔ ((store.reopen ≡ true) ⊎ IsErrOf result Device)) → AnswersOn honest folder given left held written Single old new.disk result
+    each-on device = record {
+      start = stored_of store;
+      file = file;
+      work = each-work;
+      answers = each-answers;
+      opens = opens.opens;
+      reads = λ h other. runs.reads h (in-order store.reopen new.reopen result opens.no_reopen device other);
+    }
+
+    each-kept : AllAreAcknowledged → honest → KeepsAnswered folder moment since given left held written Single old new.disk result
+    each-kept all h = record {
+      start = stored_of store;
+      opened = store.disk;
+      work = each-work;
+      answers = each-answers;
+      opens = opens.opens h;
+      nothing_waits = opens.flushed h;
+      while_opening = opens.at_any_moment h;
+      once_open = runs.any_moment h opens.no_reopen store.state [] (opens.flushed h);
+      returned = λ image is. subst (λ n. AfterAtLeast store.state n each-work.accepted image.store) (all (stored_of store) runs.answered)
+          (runs.kept h opens.no_reopen store.state [] (opens.flushed h) image is);
+    }
+
+  -- ---- in groups
+
+  module _ (checkpoints : Checkpoints) (runs : RunsGrouped honest folder moment since given left held written checkpoints store new result) where
+    abbrev turns : List Turn
+    turns = runs.answered ++ all_asked runs.unanswered
+
+    abbrev file-after : Option (List ℕ) → Option (List ℕ)
+    file-after staged = (files_after_turns (record { store = file; staged = staged }) (stored_of store) turns).store
+
+    abbrev groups-work : Work
+    groups-work = record {
+      accepted = turns_accepted (stored_of store) turns;
+      answered = length (turns_accepted (stored_of store) runs.answered);
+      file = file-after None;
+    }
+
+    abbrev groups-answers : Answers given left held written (stored_of store) file (Grouped checkpoints) result groups-work
+    groups-answers = record { answered = runs.answered; unanswered = runs.unanswered; ends = runs.ends; only_asked = runs.only_asked; does = refl }
+
+    groups-on : ((new.reopen ≡ true) ↔ ((store.reopen ≡ true) ⊎ IsErrOf result Device)) → AnswersOn honest folder given left held written (Grouped checkpoints) old new.disk result
+    groups-on device = record {
+      start = stored_of store;
+      file = file;
+      work = groups-work;
+      answers = groups-answers;
+      opens = opens.opens;
+      reads = λ h other. ap (λ files. files.store) (runs.files h (in-order store.reopen new.reopen result opens.no_reopen device other))
+          ∙ ap (λ staged. file-after (staged_text (folder store.disk) staged)) opens.no_checkpoint;
+    }
+
+    groups-kept : honest → KeepsAnswered folder moment since given left held written (Grouped checkpoints) old new.disk result
+    groups-kept h = record {
+      start = stored_of store;
+      opened = store.disk;
+      work = groups-work;
+      answers = groups-answers;
+      opens = opens.opens h;
+      nothing_waits = opens.flushed h;
+      while_opening = opens.at_any_moment h;
+      once_open = runs.any_moment h opens.no_reopen store.state [] (opens.flushed h);
+      returned = λ image is. subst (λ n. AfterAtLeast store.state n groups-work.accepted image.store) (all-acknowledged (stored_of store) runs.answered)
+          (runs.kept h opens.no_reopen store.state [] (opens.flushed h) image is);
+    }
+
+  -- ---- either
 
   -- what was answered, and what `store.yaml` reads as
-  pub answers-on : ((new.reopen ≡ true) ↔ ((store.reopen ≡ true) ⊎ IsErrOf result Device)) → AnswersOn honest folder given left held written old new.disk result
-  answers-on device = record {
-    start = stored_of store;
-    answers = answers;
-    file = bytes_under (folder store.disk) Store;
-    opens = opens.opens;
-    reads = λ h other. runs.reads h (in-order store.reopen new.reopen result opens.no_reopen device other);
-  }
+  pub answers-on : (grouping : Grouping) → SessionRuns honest folder moment since given left held written grouping store new result
+      → ((new.reopen ≡ true) ↔ ((store.reopen ≡ true) ⊎ IsErrOf result Device)) → AnswersOn honest folder given left held written grouping old new.disk result
+  answers-on Single runs device = each-on runs device
+  answers-on (Grouped checkpoints) runs device = groups-on checkpoints runs device
 
   -- what a crash leaves: opening first, and then the session, at whose start nothing waits
-  pub keeps-answered : AllAreAcknowledged → honest → KeepsAnswered folder moment since given left held written old new.disk result
-  keeps-answered all h = record {
-    start = stored_of store;
-    file = bytes_under (folder store.disk) Store;
-    opens = opens.opens h;
-    answers = answers;
-    at_any_moment = LeavesOnly-joined moment since old store.disk new.disk _ _ _ (opens.at_any_moment h) (runs.any_moment h opens.no_reopen store.state [] (opens.flushed h))
-        (λ image is. inr is) (λ image is. inl is);
-    returned = λ image is. subst (λ n. AfterAtLeast store.state n (accepted_commands (stored_of store) runs.performed) image.store) (all (stored_of store) runs.answered)
-        (runs.kept h opens.no_reopen store.state [] (opens.flushed h) image is);
-  }
+  pub keeps-answered : (grouping : Grouping) → SessionRuns honest folder moment since given left held written grouping store new result
+      → AllAreAcknowledged → honest → KeepsAnswered folder moment since given left held written grouping old new.disk result
+  keeps-answered Single runs all h = each-kept runs all h
+  keeps-answered (Grouped checkpoints) runs all h = groups-kept checkpoints runs h

@@ -6,6 +6,7 @@ use Rattle.conf_disk.specs.Image.{Image}
 use Rattle.conf_store.specs.declared.fault.OpenFault.TheVariants as OpenFault
 use Rattle.conf_tools.specs.Stores.{RunsOn}
 use Rattle.conf_tools.specs.Statuses.{Performs, FindsSome, AnswersSome, code_of, status_of_store}
+use Rattle.conf_tools.specs.declared.stores.Grouping.{Grouping}
 use Rattle.conf_tools.specs.declared.stores.StoreToolFault.{StoreToolFault}
 use Rattle.conf_tools.specs.declared.stores.StoreToolFault.TheVariants.{Folder as InFolder, Open, Session, Export, Output as StoreOutput}
 use Rattle.conf_session.specs.declared.fault.SessionFault.TheVariants as SessionFaults
@@ -28,20 +29,20 @@ at_one why = record {
 }
 
 -- a fault of a run on a store has its status, and what that says of the output
-pub performs_refused : {D : Type 0} (honest : Type 0) (folder : D → Folder) (moment : D → ℕ) (since : D → ℕ → Image → Type 0) (old new : D) {given left held written : Option (List ℕ)}
-    → (fault : StoreToolFault) → RunsOn honest folder moment since given left held written old (Err (new, fault))
+pub performs_refused : {D : Type 0} (honest : Type 0) (folder : D → Folder) (moment : D → ℕ) (since : D → ℕ → Image → Type 0) (failures : D → ℕ) (grouping : Grouping) (old new : D) {given left held written : Option (List ℕ)}
+    → (fault : StoreToolFault) → RunsOn honest folder moment since failures given left held written grouping old (Err (new, fault))
     → Performs given left held written (code_of (status_of_store fault))
-performs_refused honest folder moment since old new (InFolder fault) runs = absurd runs
-performs_refused honest folder moment since old new (Open OpenFault.NotAStore) runs = at_one (inr (inr runs.1))
-performs_refused honest folder moment since old new (Open (OpenFault.Damaged number)) runs = at_one (inr (inr runs.1))
-performs_refused honest folder moment since old new (Open OpenFault.Device) runs = at_three
-performs_refused honest folder moment since old new (Open OpenFault.OutOfMemory) runs = at_one (inr (inr runs.1))
-performs_refused honest folder moment since old new (Session SessionFaults.Read) runs = at_three
-performs_refused honest folder moment since old new (Session (SessionFaults.Write count)) runs = at_three
-performs_refused honest folder moment since old new (Session SessionFaults.TooLong) runs = at_one (inr (inl (runs.start, SessionFaults.TooLong, runs.answers)))
-performs_refused honest folder moment since old new (Session SessionFaults.SessionLong) runs = at_one (inr (inl (runs.start, SessionFaults.SessionLong, runs.answers)))
-performs_refused honest folder moment since old new (Session SessionFaults.OutOfMemory) runs = at_one (inr (inl (runs.start, SessionFaults.OutOfMemory, runs.answers)))
-performs_refused honest folder moment since old new (Session SessionFaults.Device) runs = at_three
-performs_refused honest folder moment since old new (Session SessionFaults.Reopen) runs = at_three
-performs_refused honest folder moment since old new (Export fault) runs = absurd runs
-performs_refused honest folder moment since old new StoreOutput runs = absurd runs
+performs_refused honest folder moment since failures grouping old new (InFolder fault) runs = absurd runs
+performs_refused honest folder moment since failures grouping old new (Open OpenFault.NotAStore) runs = at_one (inr (inr runs.1))
+performs_refused honest folder moment since failures grouping old new (Open (OpenFault.Damaged number)) runs = at_one (inr (inr runs.1))
+performs_refused honest folder moment since failures grouping old new (Open OpenFault.Device) runs = at_three
+performs_refused honest folder moment since failures grouping old new (Open OpenFault.OutOfMemory) runs = at_one (inr (inr runs.1))
+performs_refused honest folder moment since failures grouping old new (Session SessionFaults.Read) runs = at_three
+performs_refused honest folder moment since failures grouping old new (Session (SessionFaults.Write count)) runs = at_three
+performs_refused honest folder moment since failures grouping old new (Session SessionFaults.TooLong) runs = at_one (inr (inl (runs.start, runs.file, grouping, SessionFaults.TooLong, runs.work, runs.answers)))
+performs_refused honest folder moment since failures grouping old new (Session SessionFaults.SessionLong) runs = at_one (inr (inl (runs.start, runs.file, grouping, SessionFaults.SessionLong, runs.work, runs.answers)))
+performs_refused honest folder moment since failures grouping old new (Session SessionFaults.OutOfMemory) runs = at_one (inr (inl (runs.start, runs.file, grouping, SessionFaults.OutOfMemory, runs.work, runs.answers)))
+performs_refused honest folder moment since failures grouping old new (Session SessionFaults.Device) runs = at_three
+performs_refused honest folder moment since failures grouping old new (Session SessionFaults.Reopen) runs = at_three
+performs_refused honest folder moment since failures grouping old new (Export fault) runs = absurd runs
+performs_refused honest folder moment since failures grouping old new StoreOutput runs = absurd runs

@@ -8,8 +8,9 @@ use Rattle.conf_session.specs.declared.fault.SessionFault.{SessionFault}
 use Rattle.conf_session.specs.declared.fault.SessionFault.TheVariants as SessionFaults
 use Rattle.conf_session.specs.Answers.{Stored}
 use Rattle.conf_session.specs.declared.session.Tally.{Tally}
-use Rattle.conf_tools.specs.Stores.{Answers}
+use Rattle.conf_tools.specs.Stores.{Answers, Work}
 use Rattle.conf_tools.specs.Tools.{Checks, Formats}
+use Rattle.conf_tools.specs.declared.stores.Grouping.{Grouping}
 use Rattle.conf_tools.specs.declared.stores.StoreToolFault.{StoreToolFault}
 use Rattle.conf_tools.specs.declared.stores.StoreToolFault.TheVariants.{Folder as InFolder, Open, Session, Export, Output as StoreOutput}
 use Rattle.conf_tools.specs.declared.program.Status.{Status}
@@ -55,12 +56,14 @@ FindsSome given left held written = (count : ℕ) × (0 < count) × Checks given
 -- a session on some store answered all commands of the input
 abbrev pub AnswersAll : Option (List ℕ) → Option (List ℕ) → Option (List ℕ) → Option (List ℕ) → Type 0
 AnswersAll given left held written =
-    (start : Stored) × (tally : Tally) × Answers given left held written start (Ok tally)
+    (start : Stored) × (file : Option (List ℕ)) × (grouping : Grouping) × (tally : Tally) × (work : Work)
+    × Answers given left held written start file grouping (Ok tally) work
 
 -- a session on some store ended with a fault, and wrote what `Ends` says of that fault
 abbrev pub AnswersSome : Option (List ℕ) → Option (List ℕ) → Option (List ℕ) → Option (List ℕ) → Type 0
 AnswersSome given left held written =
-    (start : Stored) × (fault : SessionFault) × Answers given left held written start (Err fault)
+    (start : Stored) × (file : Option (List ℕ)) × (grouping : Grouping) × (fault : SessionFault) × (work : Work)
+    × Answers given left held written start file grouping (Err fault) work
 
 -- At 0 the input was formatted, or checked and nothing found in it, or its commands were answered, or nothing of it was
 -- read, as for help and `export`. At 1 the findings of the input were written, or some answers, or nothing: the input

@@ -6,12 +6,19 @@
 //! [`export_store`] writes one configuration; the store may be on any disk.
 #![tactic(auto)]
 
+mod exports;
 mod input;
+mod laws;
 mod program;
 mod report;
+mod rest;
 mod stores;
+mod tail;
 mod texts;
 
+pub use exports::export_store;
+pub use laws::calls_hold;
 pub use program::{perform, refuse_words};
-pub use stores::{StoreToolFault, export_store, run_store};
+pub use stores::{Grouping, StoreToolFault, run_store};
+pub use tail::{KEPT, Tail, TailReader};
 pub use texts::{ToolFault, check_text, format_text};

@@ -3,14 +3,17 @@ ghost use Rattle.std.specs.Prelude.{◌≡◌, ◌⊎◌, ◌≤◌};
 ghost use Rattle.std.specs.Io.KnownBytes.{Keeps};
 ghost use Rattle.conf_tools.specs.Statuses.{Performs, code_of, status_of, status_of_store};
 
-use crate::stores::{StoreToolFault, export_store, run_store};
+use crate::exports::export_store;
+use crate::rest::write_rest;
+use crate::stores::{Grouping, StoreToolFault, run_store};
+use crate::tail::TailReader;
 use crate::texts::{ToolFault, check_text, format_text};
 use clap::ArgMatches;
 use conf_folder::{FolderDisk, FolderFault};
-use conf_session::SessionFault;
+use conf_session::{Checkpoints, SessionFault};
 use conf_state::StoreFault;
 use conf_store::OpenFault;
-use conf_words::{CHECK, EXPORT, FOLDER, FORMAT, NAME, RUN, command};
+use conf_words::{CHECK, CHECKPOINT_AFTER, EXPORT, FOLDER, FORMAT, GROUP, NAME, RUN, command};
 use std::alloc::{AllocError, Global};
 use std::fs::File;
 use std::io;
@@ -52,16 +55,17 @@ impl Status {
 /// The status is 0 if all was done (help and version too), and 2 for wrong words. It is 1 if a text or a store is
 /// refused, memory ran out or something was found in a text. It is 3 if reading or writing failed, or the folder is
 /// missing or locked. A fault is written to `errors` in one line; if that write fails, it is ignored. Commands that are
-/// refused inside a session leave the status 0.
+/// refused inside a session leave the status 0. So do bytes after the last closing line of its input; if they are not
+/// blank, one line to `errors` says that they were not performed, and the likely cause.
 pub fn perform<F: Files<File = File>, R: Read, W: Write, E: Write>(
     rt: &F,
     alloc: Global,
     words: &[String],
-    reader: &mut R,
+    reader: &mut TailReader<R>,
     writer: &mut W,
     errors: &mut E,
 ) -> u8
-    ensures { Performs (R.remaining reader.old) (R.remaining reader.new)
+    ensures { Performs (R.remaining reader.old.inner) (R.remaining reader.new.inner)
         (W.contents writer.old) (W.contents writer.new) result }
 {
     let Ok(command) = command(alloc) else {
@@ -88,11 +92,11 @@ fn obey<F: Files<File = File>, R: Read, W: Write, E: Write>(
     rt: &F,
     alloc: Global,
     matches: &ArgMatches<'_>,
-    reader: &mut R,
+    reader: &mut TailReader<R>,
     writer: &mut W,
     errors: &mut E,
 ) -> Status
-    ensures { Performs (R.remaining reader.old) (R.remaining reader.new)
+    ensures { Performs (R.remaining reader.old.inner) (R.remaining reader.new.inner)
         (W.contents writer.old) (W.contents writer.new) (code_of result) }
 {
     match matches.subcommand() {
@@ -111,16 +115,17 @@ fn obey<F: Files<File = File>, R: Read, W: Write, E: Write>(
     }
 }
 
-/// Performs the commands of `reader` on the store in the folder that the words name.
+/// Performs the commands of `reader` on the store in the folder that the words name. One line to `errors` says if bytes
+/// at the end of the input were not performed.
 fn run_folder<F: Files<File = File>, R: Read, W: Write, E: Write>(
     rt: &F,
     alloc: Global,
     words: &ArgMatches<'_>,
-    reader: &mut R,
+    reader: &mut TailReader<R>,
     writer: &mut W,
     errors: &mut E,
 ) -> Status
-    ensures { Performs (R.remaining reader.old) (R.remaining reader.new)
+    ensures { Performs (R.remaining reader.old.inner) (R.remaining reader.new.inner)
         (W.contents writer.old) (W.contents writer.new) (code_of result) }
 {
     let Some(folder) = words.get_str(FOLDER) else {
@@ -130,9 +135,10 @@ fn run_folder<F: Files<File = File>, R: Read, W: Write, E: Write>(
         Ok(disk) => disk,
         Err(fault) => return write_store_fault(errors, StoreToolFault::Folder(fault)),
     };
-    match run_store(alloc, disk, reader, writer) {
-        Ok((disk, _)) => {
+    match run_store(alloc, disk, grouping_of(words), reader, writer) {
+        Ok((disk, tally)) => {
             drop(disk);
+            write_rest(errors, &reader.tail, tally.rest);
             Status::Done
         }
         Err((disk, fault)) => {
@@ -142,7 +148,19 @@ fn run_folder<F: Files<File = File>, R: Read, W: Write, E: Write>(
     }
 }
 
-/// Writes the configuration that the words name, from the store in the folder that they name, in the one style.
+/// How the words of `run` group its commands.
+fn grouping_of(words: &ArgMatches<'_>) -> Grouping {
+    if !words.get_flag(GROUP) {
+        return Grouping::Single;
+    }
+    match words.get_one::<u64>(CHECKPOINT_AFTER) {
+        Some(bytes) => Grouping::Grouped(Checkpoints::After { bytes }),
+        None => Grouping::Grouped(Checkpoints::Asked),
+    }
+}
+
+/// Writes the configuration that the words name, from the store in the folder that they name, in the one style. If
+/// nothing can be written in the folder, it is read.
 fn export_folder<F: Files<File = File>, W: Write, E: Write>(
     rt: &F,
     alloc: Global,
@@ -160,13 +178,31 @@ fn export_folder<F: Files<File = File>, W: Write, E: Write>(
     let Some(name) = words.get_str(NAME) else {
         return Status::WrongWords;
     };
-    let disk = match FolderDisk::new(rt, alloc, folder) {
+    let disk = match disk_to_read(rt, alloc, folder) {
         Ok(disk) => disk,
         Err(fault) => return write_store_fault(errors, StoreToolFault::Folder(fault)),
     };
     match export_store(alloc, disk, name, writer) {
-        Ok(()) => Status::Done,
-        Err(fault) => write_store_fault(errors, fault),
+        Ok(disk) => {
+            drop(disk);
+            Status::Done
+        }
+        Err((disk, fault)) => {
+            drop(disk);
+            write_store_fault(errors, fault)
+        }
+    }
+}
+
+/// The disk of a folder, for reading alone if nothing can be written there.
+fn disk_to_read<'r, F: Files<File = File>>(
+    rt: &'r F,
+    alloc: Global,
+    folder: &str,
+) -> Result<FolderDisk<'r, F>, FolderFault> {
+    match FolderDisk::new(rt, alloc, folder) {
+        Err(FolderFault::Device) => FolderDisk::for_reading(rt, alloc, folder),
+        done => done,
     }
 }
 

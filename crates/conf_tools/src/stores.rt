@@ -1,14 +1,12 @@
-// The tools for stores, over any disk, reader and writer.
-ghost use Rattle.std.specs.Prelude.{OnOk, IfOk, IfErr};
-ghost use Rattle.std.specs.Str.{chars};
-ghost use Rattle.conf_tools.specs.Stores.{CannotOpen, ExportsFrom, OpensOn, RefusesExport, RunsOn, SurvivesCrashes};
+// Sessions on a store, over any disk, reader and writer.
+ghost use Rattle.std.specs.Prelude.{◌≡◌, ◌⊎◌, ◌↔◌, true, IfOk, IfErr, IsErrOf};
+ghost use Rattle.conf_tools.specs.Stores.{CannotOpen, OpensOn, RunsOn, SessionRuns, SurvivesCrashes};
 
-use crate::texts::write_whole;
 use conf_disk::Disk;
 use conf_folder::FolderFault;
-use conf_session::{SessionFault, Tally, answers_acknowledge, run};
+use conf_session::{Checkpoints, SessionFault, Tally, answers_acknowledge, run, run_grouped};
 use conf_state::StoreFault;
-use conf_store::{OpenFault, Store, bytes_mean_one_state};
+use conf_store::{OpenFault, Store};
 use std::alloc::Global;
 use std::io::{Read, Write};
 use thiserror::Error;
@@ -33,28 +31,56 @@ pub enum StoreToolFault {
     Output,
 }
 
+/// How many commands of a session share one sync.
+#[derive(Clone, Copy, Debug, PartialEq, Eq)]
+pub enum Grouping {
+    /// Each command has its own, and is answered before anything else is read, as by [`run`](conf_session::run).
+    Single,
+    /// All commands that one read brought share one, as by [`run_grouped`](conf_session::run_grouped).
+    Grouped(Checkpoints),
+}
+
 /// Opens the store on `disk`. Nothing waits then, and no checkpoint runs.
-fn open_store<D: Disk + Drop>(alloc: Global, disk: D) -> Result<Store<D>, (D, OpenFault)>
+pub(crate) fn open_store<D: Disk + Drop>(alloc: Global, disk: D) -> Result<Store<D>, (D, OpenFault)>
     ensures opens { IfOk result (OpensOn D.honest D.folder D.moment D.left disk) }
     ensures refused { IfErr result (λ r.
-        CannotOpen D.honest D.folder D.moment D.left disk r.0 r.1) }
+        CannotOpen D.honest D.folder D.moment D.left D.failure_count disk r.0 r.1) }
 {
-    bytes_mean_one_state();
     match Store::open(alloc, disk) {
-        Ok((store, _)) => {
-            let _ = store.needs_reopen();
-            Ok(store)
-        }
+        Ok((store, _)) => Ok(store),
         Err(refused) => Err(refused),
     }
 }
 
-/// Opens the store on `disk`, performs the commands that `reader` gives, and writes the answers to `writer`, as
-/// [`run`](conf_session::run) does. Returns the disk, and what was done.
+/// Performs the commands that `reader` gives on an open store, and writes the answers to `writer`.
 ///
-/// A crash at any moment leaves a `store.yaml` that means the state after a prefix of the accepted commands, or what one
-/// before the call could have left. Once this returns after a session, it leaves the state after a prefix that has every
-/// command whose answer was written.
+/// # Errors
+/// Those of the call for the grouping.
+fn run_session<D: Disk, R: Read, W: Write>(
+    alloc: Global,
+    store: &mut Store<D>,
+    grouping: Grouping,
+    reader: &mut R,
+    writer: &mut W,
+) -> Result<Tally, SessionFault>
+    ensures runs { SessionRuns D.honest D.folder D.moment D.left (R.remaining reader.old)
+        (R.remaining reader.new) (W.contents writer.old) (W.contents writer.new)
+        grouping store.old store.new result }
+    ensures device { (store.new.reopen ≡ true)
+        ↔ ((store.old.reopen ≡ true) ⊎ IsErrOf result SessionFault.Device) }
+{
+    match grouping {
+        Grouping::Single => run(alloc, store, reader, writer),
+        Grouping::Grouped(checkpoints) => run_grouped(alloc, store, reader, writer, checkpoints),
+    }
+}
+
+/// Opens the store on `disk`, performs the commands that `reader` gives, and writes the answers to `writer`. The
+/// grouping says which call of `conf_session` does so. Returns the disk, and what was done.
+///
+/// While the store is opened, a crash leaves a `store.yaml` that means what it might have meant before the call. From
+/// then on, a crash at any moment leaves the state after a prefix of the accepted commands. Once this returns after a
+/// session, that prefix has every command whose answer was written.
 ///
 /// # Errors
 /// The disk is returned with the fault. `Open` if the store can't be opened: nothing is read or written, and, but for
@@ -62,56 +88,28 @@ fn open_store<D: Disk + Drop>(alloc: Global, disk: D) -> Result<Store<D>, (D, Op
 pub fn run_store<D: Disk + Drop, R: Read, W: Write>(
     alloc: Global,
     disk: D,
+    grouping: Grouping,
     reader: &mut R,
     writer: &mut W,
 ) -> Result<(D, Tally), (D, StoreToolFault)>
-    ensures runs { RunsOn D.honest D.folder D.moment D.left (R.remaining reader.old)
-        (R.remaining reader.new) (W.contents writer.old) (W.contents writer.new) disk result }
+    ensures runs { RunsOn D.honest D.folder D.moment D.left D.failure_count
+        (R.remaining reader.old) (R.remaining reader.new)
+        (W.contents writer.old) (W.contents writer.new)
+        grouping disk result }
     // No crash loses a command that was answered, or keeps one that was not accepted.
     ensures crashes { D.honest → SurvivesCrashes D.folder D.moment D.left (R.remaining reader.old)
-        (R.remaining reader.new) (W.contents writer.old) (W.contents writer.new) disk result }
+        (R.remaining reader.new) (W.contents writer.old) (W.contents writer.new)
+        grouping disk result }
 {
     answers_acknowledge();
     let mut store = match open_store(alloc, disk) {
         Ok(store) => store,
         Err((disk, fault)) => return Err((disk, StoreToolFault::Open(fault))),
     };
-    let result = run(alloc, &mut store, reader, writer);
+    let result = run_session(alloc, &mut store, grouping, reader, writer);
     let disk = store.close();
     match result {
         Ok(tally) => Ok((disk, tally)),
         Err(fault) => Err((disk, StoreToolFault::Session(fault))),
-    }
-}
-
-/// Opens the store on `disk`, and writes the configuration under a name to `writer`, in the one style.
-///
-/// # Errors
-/// `Open` if the store can't be opened; `Export` if the name may not be used, no configuration has it, or memory runs
-/// out. Then nothing is written. `Output` if the writer fails: some of the text may be written.
-pub fn export_store<D: Disk + Drop, W: Write>(
-    alloc: Global,
-    disk: D,
-    name: &str,
-    writer: &mut W,
-) -> Result<(), StoreToolFault>
-    ensures ok { OnOk result (ExportsFrom D.honest D.folder disk (chars name.now)
-        (W.contents writer.old) (W.contents writer.new)) }
-    ensures refused { IfErr result (RefusesExport D.honest D.folder disk (chars name.now)
-        (W.contents writer.old) (W.contents writer.new)) }
-{
-    let store = match open_store(alloc, disk) {
-        Ok(store) => store,
-        Err((_, fault)) => return Err(StoreToolFault::Open(fault)),
-    };
-    let exported = store.export(name);
-    store.close();
-    let text = match exported {
-        Ok(text) => text,
-        Err(fault) => return Err(StoreToolFault::Export(fault)),
-    };
-    match write_whole(writer, text.as_bytes()) {
-        Ok(()) => Ok(()),
-        Err(_) => Err(StoreToolFault::Output),
     }
 }

@@ -3,4 +3,4 @@
 
 mod words;
 
-pub use words::{CHECK, EXPORT, FOLDER, FORMAT, NAME, RUN, command};
+pub use words::{CHECK, CHECKPOINT_AFTER, EXPORT, FOLDER, FORMAT, GROUP, NAME, RUN, command};

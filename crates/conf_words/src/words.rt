@@ -1,5 +1,5 @@
 // The words of the program, and what its help says of them.
-use clap::{Arg, Command};
+use clap::{Arg, ArgAction, Command, value_parser};
 use std::alloc::{AllocError, Global};
 
 const VERSION: &str = "0.1.0";
@@ -34,14 +34,37 @@ has come, and answered by one document. `ok` comes after the change is on the di
   checkpoint:                              makes the store file as short as its state
 
 A refused command changes nothing, and leaves the status 0. The folder must be there; the store in
-it is made on the first run, and locked while a run lasts.
+it is made on the first run, and locked while a run lasts. What follows the last closing line is not
+performed; if it is not blank, a line on standard error says so.
+
+With `--group`, all commands that one read brings are performed, then synced together, and only then
+answered. So a client that sends many commands before it reads an answer waits for one sync, and not
+for one each. Every answer still comes after its change is on the disk. But if an answer can't be
+written, or the device fails, more than one command after the last answer may have been performed.
+`--checkpoint-after BYTES` makes the store file short again each time that it has grown by so many
+bytes. The new file is written in slices, one after each group of commands.
 
 Limits: a name has 1 to 64 of a-z, 0-9, `_` and `-`, a letter first. A text and a configuration have
 at most 1,048,576 bytes, and are at most 64 deep. A command has at most 4,194,304 bytes.
 
 Example:
   mkdir store
-  printf 'import: web\\ntext: \"host: example\"\\n...\\n' | confstore run store";
+  printf '---\\nimport: web\\ntext: \"host: example\"\\n...\\n' | confstore run store
+
+The `---` before a command may be left out. Other YAML readers want one after each `...`.";
+
+/// The word of `run` that has the commands of one read share a sync.
+pub const GROUP: &str = "group";
+
+const GROUP_HELP: &str = "Syncs once for all commands that one read brings, and then answers them";
+
+/// The word of `run` that says after how many bytes a checkpoint is made. It needs [`GROUP`].
+pub const CHECKPOINT_AFTER: &str = "checkpoint-after";
+
+const BYTES: &str = "BYTES";
+
+const CHECKPOINT_AFTER_HELP: &str =
+    "Makes a checkpoint each time the store file has grown by so many bytes; needs --group";
 
 /// The word of the subcommand that writes a configuration.
 pub const EXPORT: &str = "export";
@@ -104,7 +127,23 @@ fn run_command<'a>(alloc: Global) -> Result<Command<'a>, AllocError> {
     Command::new(alloc, RUN)
         .about(RUN_ABOUT)
         .after_help(RUN_HELP)
+        .arg(
+            Arg::new(alloc, GROUP)
+                .long(GROUP)
+                .action(ArgAction::SetTrue)
+                .help(GROUP_HELP),
+        )?
+        .arg(checkpoint_after(alloc)?)?
         .arg(Arg::new(alloc, FOLDER).required(true).help(FOLDER_HELP))
+}
+
+fn checkpoint_after<'a>(alloc: Global) -> Result<Arg<'a>, AllocError> {
+    Arg::new(alloc, CHECKPOINT_AFTER)
+        .long(CHECKPOINT_AFTER)
+        .value_name(BYTES)
+        .value_parser(value_parser!(u64).range(1..))
+        .help(CHECKPOINT_AFTER_HELP)
+        .requires_arg(GROUP)
 }
 
 fn export_command<'a>(alloc: Global) -> Result<Command<'a>, AllocError> {

@@ -5,7 +5,7 @@
 //! opened would have its number: the answers, or the commands, would be those of a store's own file.
 #![tactic(auto)]
 
-use conf_tools::{ToolFault, perform, refuse_words};
+use conf_tools::{TailReader, ToolFault, perform, refuse_words};
 use std::fs::{File, OpenOptions};
 use std::io::Write;
 use std::os::fd::AsFd;
@@ -85,7 +85,7 @@ fn main(rt: HostRuntime) -> ExitCode {
         Ok(words) => words,
         Err(error) => return ExitCode::from(refuse_words(&mut errors, &error)),
     };
-    let mut reader = rt.reader();
+    let mut reader = TailReader::new(rt.reader());
     let mut writer = io::writer(&rt);
     ExitCode::from(perform(&rt, alloc, &words, &mut reader, &mut writer, &mut errors))
 }

@@ -1,5 +1,4 @@
 use Rattle.std.proofs.Common.{◌≡◌, Bor, Option, Some, None, is_some, option_map, option_copied, refl, ap, ◌∙◌}
-use Rattle.std.specs.Map.{values_of}
 use Rattle.yaml_data.specs.Seen.{tree_of}
 use Rattle.yaml_data.specs.declared.tree.Tree.{Tree}
 use Rattle.conf_state.proofs.EntryLemmas.{lookup-named}
@@ -12,4 +11,4 @@ mapped None = refl
 pub returns : goal.returns
 returns c =
     c.is_some.ensures ∙ mapped c.get.result ∙ ap (λ o. is_some (option_map tree_of o)) c.get.ensures
-    ∙ ap is_some (lookup-named c.args.name.now c.utf8.name (values_of c.args.configs.now.named.entries) c.requires.plain)
+    ∙ ap is_some (lookup-named c.args.name.now c.utf8.name c.args.configs.now c.requires)

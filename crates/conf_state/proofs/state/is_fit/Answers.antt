@@ -1,5 +1,4 @@
 use Rattle.std.proofs.Common.{inl, inr, ◌≡◌, Bool, true, false, not, refl, sym, ◌∙◌}
-use Rattle.std.specs.Map.{values_of}
 use Rattle.std.specs.Str.{chars}
 use Rattle.yaml_data.specs.Seen.{tree_of}
 use Rattle.conf_state.specs.Kept.{entries_of}
@@ -26,7 +25,7 @@ pub returns-clause-fit : goal.returns-clause-fit
 returns-clause-fit c = λ e. record {
   named = sym c.good_name.ensures.named ∙ c.if-not-good_name.false;
   within = on_ok_from c.check_limits.result _ (sym c.is_err.ensures.value ∙ c.if-is_err.false) c.check_limits.ensures.within;
-  absent = is_none (config_named (entries_of (values_of c.args.configs.now.named.entries)) (chars c.args.name.now)) (sym c.has.ensures ∙ not_true c.has.result e);
+  absent = is_none (config_named (entries_of c.args.configs.now) (chars c.args.name.now)) (sym c.has.ensures ∙ not_true c.has.result e);
 }
 
 pub returns-clause-unfit : goal.returns-clause-unfit

@@ -7,7 +7,7 @@ use Rattle.conf_state.proofs.state.State.base_length.Goals as goal
 pub returns : goal.returns
 returns c =
     let state = c.args.self.now in
-    let kept : IsState state = subst IsState c.self.view_is c.self.invariant.0.state in
+    let kept : IsState state = subst IsState c.self.view_is c.self.invariant.state in
     let count : c.from.result ≡ state.count = c.from.ensures ∙ ap (λ s. s.count) c.self.view_is in
     let numbered = kept.numbered in
     let short = kept.short in

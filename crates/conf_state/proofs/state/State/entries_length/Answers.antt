@@ -1,5 +1,4 @@
 use Rattle.std.proofs.Common.{subst, arith}
-use Rattle.std.specs.Map.{values_of}
 use Rattle.conf_state.specs.Kept.{entries_of}
 use Rattle.conf_state.specs.Limits.{IsState}
 use Rattle.conf_state.proofs.BaseLemmas.{entries_length-short}
@@ -7,10 +6,10 @@ use Rattle.conf_state.proofs.state.State.entries_length.Goals as goal
 
 pub returns-clause-short : goal.returns-clause-short
 returns-clause-short c =
-    let state = c.self.invariant.0.state in
-    let short = entries_length-short c.self.inside.count (entries_of (values_of c.self.inside.configs.named.entries)) state.numbered state.short in
-    let counted = c.self.invariant.0.counted in
+    let state = c.self.invariant.state in
+    let short = entries_length-short c.self.inside.count (entries_of c.self.inside.configs) state.numbered state.short in
+    let counted = c.self.invariant.counted in
     omega arith
 
 pub returns-clause-kept : goal.returns-clause-kept
-returns-clause-kept c = subst IsState c.self.view_is c.self.invariant.0.state
+returns-clause-kept c = subst IsState c.self.view_is c.self.invariant.state

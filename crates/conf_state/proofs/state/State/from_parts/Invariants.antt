@@ -1,13 +1,10 @@
 use Rattle.std.proofs.Common.{◌≡◌, length}
-use Rattle.std.specs.Map.{values_of}
 use Rattle.std.specs.Vec.Iter.{into_iter_items, into_iter_len}
-use Rattle.conf_state.specs.Configs.{AreCounted}
 use Rattle.conf_state.specs.Kept.{entries_of}
 use Rattle.conf_state.proofs.PartLemmas.{SoFar}
 use Rattle.conf_state.proofs.state.State.from_parts.Given as goal
 
 abbrev pub invariant-loop-name : goal.invariant-loop-name
 invariant-loop-name l =
-    SoFar (entries_of l.fn.parts.items) (values_of l.configs.named.entries) (entries_of (into_iter_items l.name-iterator)) l.entries
+    SoFar (entries_of l.fn.parts.items) l.configs (entries_of (into_iter_items l.name-iterator)) l.entries
     × (length (into_iter_items l.name-iterator) ≡ into_iter_len l.name-iterator)
-    × AreCounted l.configs

@@ -1,5 +1,4 @@
 use Rattle.std.proofs.Common.{Option, Some, None, Bor, option_map, option_copied, ◌≡◌, refl, ap, ◌∙◌}
-use Rattle.std.specs.Map.{values_of}
 use Rattle.std.specs.Str.{chars}
 use Rattle.yaml_data.specs.Seen.{tree_of}
 use Rattle.yaml_data.specs.declared.tree.Tree.{Tree}
@@ -14,5 +13,5 @@ seen None = refl
 pub returns : goal.returns
 returns c =
     seen c.get.result ∙ ap (option_map tree_of) c.get.ensures
-    ∙ lookup-named c.args.name.now c.utf8.name (values_of c.self.inside.configs.named.entries) c.self.invariant.0.plain
+    ∙ lookup-named c.args.name.now c.utf8.name c.self.inside.configs c.self.invariant.plain
     ∙ ap (λ s. config_named s.configs (chars c.args.name.now)) c.self.view_is

@@ -1,5 +1,4 @@
 use Rattle.std.proofs.Common.{◌≤◌, option_map, ap, sym, subst, ◌∙◌, arith}
-use Rattle.std.specs.Map.{values_of}
 use Rattle.std.specs.Str.{chars}
 use Rattle.yaml_data.specs.Seen.{tree_of}
 use Rattle.conf_state.specs.States.{base_limit, config_named}
@@ -14,12 +13,12 @@ pub returns-in-Some : goal.returns-in-Some
 returns-in-Some c =
     let named =
     ap (option_map tree_of) c.in-Some.ensures
-    ∙ lookup-named c.args.name.now c.utf8.name (values_of c.self.inside.configs.named.entries) c.self.invariant.0.plain
+    ∙ lookup-named c.args.name.now c.utf8.name c.self.inside.configs c.self.invariant.plain
     ∙ ap (λ s. config_named s.configs (chars c.args.name.now)) c.self.view_is in
-    let state = c.self.invariant.0.state in
+    let state = c.self.invariant.state in
     let short : entries_length c.args.self.now.configs ≤ base_limit =
     subst (λ s. entries_length s.configs ≤ base_limit) c.self.view_is
-    (entries_length-short c.self.inside.count (entries_of (values_of c.self.inside.configs.named.entries)) state.numbered state.short) in
+    (entries_length-short c.self.inside.count (entries_of c.self.inside.configs) state.numbered state.short) in
     omega (
       arith,
       short,
@@ -31,6 +30,6 @@ pub returns-in-None : goal.returns-in-None
 returns-in-None c =
     let named =
     ap (option_map tree_of) c.in-None.ensures
-    ∙ lookup-named c.args.name.now c.utf8.name (values_of c.self.inside.configs.named.entries) c.self.invariant.0.plain
+    ∙ lookup-named c.args.name.now c.utf8.name c.self.inside.configs c.self.invariant.plain
     ∙ ap (λ s. config_named s.configs (chars c.args.name.now)) c.self.view_is in
     omega (arith, entries_length-absent c.args.self.now.configs (chars c.args.name.now) (sym named))

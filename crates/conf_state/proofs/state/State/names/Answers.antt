@@ -1,5 +1,4 @@
 use Rattle.std.proofs.Common.{List, [], ◌∷◌, String, Global, string_bytes, ◌≡◌, refl, ap, ◌∙◌}
-use Rattle.std.specs.Map.{values_of}
 use Rattle.std.specs.Str.{chars}
 use Rattle.yaml_data.specs.declared.tree.Tree.{Tree}
 use Rattle.conf_state.specs.States.{names_of}
@@ -12,4 +11,4 @@ same_names (e ∷ es) = ap (λ names. chars (string_bytes e.0) ∷ names) (same_
 
 pub returns : goal.returns
 returns c =
-    ap names_from c.values-named.ensures.rest ∙ same_names (values_of c.self.inside.configs.named.entries) ∙ ap (λ s. names_of s.configs) c.self.view_is
+    ap names_from c.iter.ensures ∙ same_names c.self.inside.configs ∙ ap (λ s. names_of s.configs) c.self.view_is

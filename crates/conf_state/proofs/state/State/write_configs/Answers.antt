@@ -1,5 +1,4 @@
-use Rattle.std.proofs.Common.{ℕ, ◌≡◌, true, false, ◌∷◌, ◌++◌, [], List, String, Global, length, codes, refl, ap, subst, sym, ◌∙◌, arith}
-use Rattle.std.specs.Map.{values_of}
+use Rattle.std.proofs.Common.{◌≡◌, true, false, ◌∷◌, ◌++◌, [], List, String, Global, length, codes, refl, ap, subst, sym, ◌∙◌, arith}
 use Rattle.std.proofs.lemmas.Result.{on_ok_weaker}
 use Rattle.std.specs.Str.{chars}
 use Rattle.yaml_grammar.specs.Trees.{mapping}
@@ -14,13 +13,9 @@ use Rattle.conf_state.proofs.state.State.write_configs.Goals as goal
 no_truth : false ≡ true → ⊥
 no_truth e = cc
 
-no_entries : (ns : List (ℕ × (String Global × Tree))) → length ns ≡ 0 → values_of ns ≡ []
+no_entries : (es : List (String Global × Tree)) → length es ≡ 0 → es ≡ []
 no_entries [] e = refl
-no_entries (n ∷ ns) some = absurd (omega arith)
-
-no_values : (ns : List (ℕ × (String Global × Tree))) → values_of ns ≡ [] → length ns ≡ 0
-no_values [] e = refl
-no_values (n ∷ ns) some = cc
+no_entries (e ∷ es) some = absurd (omega arith)
 
 -- after `configs:`, as there are none or some
 none_lines : (es : List (String Global × Tree)) → es ≡ [] → codes " {}\n" ≡ value_at (mapping (members (entries_of es))) 0
@@ -33,8 +28,8 @@ some_lines (e ∷ es) some = refl
 
 pub returns-then-is_empty : goal.returns-then-is_empty
 returns-then-is_empty g c =
-    let es = (values_of c.self.inside.configs.named.entries) in
-    let none : es ≡ [] = no_entries c.self.inside.configs.named.entries (c.if-is_empty.ensures.0 refl) in
+    let es = c.self.inside.configs in
+    let none : es ≡ [] = no_entries c.self.inside.configs (c.if-is_empty.ensures.0 refl) in
     on_ok_weaker c.put_text.result
     (subst (λ cs. g.S.Sink.Takes c.args.sink.now cs c.put_text.new.self)
     (ascii (codes " {}\n") refl ∙ none_lines es none ∙ ap (λ s. value_at (mapping (members s.configs)) 0) c.self.view_is))
@@ -43,8 +38,8 @@ returns-then-is_empty g c =
 pub loop-name-preserved : goal.loop-name-preserved
 loop-name-preserved g c = λ end left.
     let rest = c.next.new.self in
-    let name = c.in-Some.field-0.now.0 in
-    let config = c.in-Some.field-0.now.1 in
+    let name = c.in-Some.name.now in
+    let config = c.in-Some.config.now in
     let entry = subst (λ bytes. g.S.Sink.Takes c.loop-name.sink (entry_lines (chars bytes) (tree_of config)) c.write_entry.new.sink) c.deref.ensures c.in_ok-write_entry.ensures in
     c.loop-name.invariant end
     (subst (λ es. g.S.Sink.Takes c.loop-name.sink (members_after (members (entries_of es)) 2) end) (sym c.in-Some.ensures.steps)
@@ -52,8 +47,8 @@ loop-name-preserved g c = λ end left.
 
 pub returns : goal.returns
 returns g c =
-    let es = (values_of c.self.inside.configs.named.entries) in
-    let some : es ≡ [] → ⊥ = λ e. no_truth (c.if-is_empty.ensures.1 (no_values c.self.inside.configs.named.entries e)) in
+    let es = c.self.inside.configs in
+    let some : es ≡ [] → ⊥ = λ e. no_truth (c.if-is_empty.ensures.1 (ap length e)) in
     let ends = c.loop-name.invariant c.loop-name.sink
     (subst (λ xs. g.S.Sink.Takes c.loop-name.sink (members_after (members (entries_of xs)) 2) c.loop-name.sink) (sym c.in-None.ensures.steps.0)
     (g.met.S.Sink.takes_none c.loop-name.sink)) in

@@ -1,20 +1,23 @@
 use Rattle.std.proofs.Common.{arith, false, ◌≡◌, ◌⊎◌, inl, ⊎_elim, ◌≤◌, Some, Err, refl, sym, ◌∙◌, ap, subst}
-use Rattle.std.specs.Prelude.{IfSome}
+use Rattle.std.specs.Prelude.{ℕ, Option, None, IfSome}
 use Rattle.conf_disk.specs.Folder.{bytes_under}
 use Rattle.conf_disk.specs.Image.{Image, IsImage}
 use Rattle.conf_disk.specs.Moments.{LeavesOnly}
-use Rattle.conf_disk.specs.declared.disk.Name.TheVariants.{Store}
+use Rattle.conf_disk.specs.declared.disk.Name.TheVariants.{Store, Next}
 use Rattle.conf_disk.proofs.Moments.{LeavesOnly-weaker, LeavesOnly-joined}
 use Rattle.conf_journal.specs.Store.{IsStoreOf, store_limit}
 use Rattle.conf_state.specs.BaseTexts.{base_bytes}
 use Rattle.conf_store.specs.Durable.{IsDurable, IsStaging}
+use Rattle.conf_store.specs.Grown.{FileStartsWithBase, StagedStartsWithBase}
 use Rattle.conf_store.specs.Staged.{staged_length}
 use Rattle.conf_store.specs.Meaning.{FileMeans}
 use Rattle.conf_store.specs.Opens.{MeantAtEntry}
 use Rattle.conf_store.specs.Files.{FilesStay, IsOldOrBase, LeavesOldOrBase}
 use Rattle.conf_store.proofs.OpenLemmas.{image-meant, loaded-meant, state-meant, found-means, found-durable, failed-later, reads-stays, reads-staged, refused-nothing, disk-refused, disk-no-meaning, disk-device}
+use Rattle.conf_store.proofs.GrownLemmas.{found-base}
 use Rattle.conf_store.proofs.HeldLemmas.{durable-held, held-means}
-use Rattle.conf_store.proofs.FileLemmas.{held-length, files-stay, images-old, not-needed, disk-memory, base-leaves, base-reads}
+use Rattle.conf_store.proofs.StoreLemmas.{quiet-flushed}
+use Rattle.conf_store.proofs.FileLemmas.{held-length, files-stay, images-old, not-needed, kept-as-it-is, disk-memory, base-leaves, base-reads}
 use Rattle.conf_store.proofs.store.Store.open.Goals as goal
 
 pub returns-in-Err-clause-no_meaning : goal.returns-in-Err-clause-no_meaning
@@ -52,28 +55,50 @@ returns-in-Err-write_base-clause-any_moment g c h =
 pub invariant_of-store : goal.invariant_of-store
 invariant_of-store g c =
     let d = g.D.Disk in
-    let s = c.in-Ok.found.state in (
+    let s = c.in-Ok.found.state in
+    let store = bytes_under (d.folder c.args.disk) Store in (
       elim c.match-size.branch [
-        | goal.in-Some w ↦ (let bound : IfSome (Some w.in-Some.size) (λ n. n ≤ store_limit) = subst (λ o. IfSome o (λ n. n ≤ store_limit)) w.in-Some.is c.in-Ok.ensures.bound in
-            subst (λ n. n ≤ store_limit) (sym w.size-is) bound)
-        | goal.in-None+in-Ok-write_base w ↦ (let short = w.in-Ok-write_base.ensures.short in subst (λ n. n ≤ store_limit) (sym w.size-is) short)
+        | goal.in-Some w ↦ subst (λ (p : ℕ × ℕ). p.0 ≤ store_limit) (sym w.size-is) (subst (bounded c.in-Ok.found.base) w.in-Some.is c.in-Ok.ensures.bound).0
+        | goal.in-None+in-Ok-write_base w ↦ (let short = w.in-Ok-write_base.ensures.short in subst (λ (p : ℕ × ℕ). p.0 ≤ store_limit) (sym w.size-is) short)
       ],
       c.in-Ok.ensures.limits,
       subst (λ x. staged_length x ≤ store_limit) (sym c.none.ensures) (omega arith),
       λ h same. (
-        durable-held (d.folder c.match-size.disk) s c.match-size.size false (elim c.match-size.branch [
+        durable-held (d.folder c.match-size.disk) s c.match-size.size.0 false (elim c.match-size.branch [
           | goal.in-Some w ↦
-              subst (λ n. IsDurable (d.folder c.match-size.disk) s n) (sym w.size-is)
+              subst (λ (p : ℕ × ℕ). IsDurable (d.folder c.match-size.disk) s p.0) (sym w.size-is)
               (subst (λ (x : g.row.D.Denot). IsDurable (d.folder x) s w.in-Some.size) (sym w.disk-is)
-              (found-durable (d.folder c.find_store.new.disk) (bytes_under (d.folder c.args.disk) Store) s c.in-Ok.found.opened.commands c.in-Ok.found.opened.dropped w.in-Some.size c.in-Ok.found.size
+              (found-durable (d.folder c.find_store.new.disk) store s c.in-Ok.found.opened.commands c.in-Ok.found.opened.dropped w.in-Some.size c.in-Ok.found.size
               (c.in-Ok.ensures.ok h) w.in-Some.is (c.in-Ok.ensures.holds h)))
           | goal.in-None+in-Ok-write_base w ↦
-              subst (λ n. IsDurable (d.folder c.match-size.disk) s n) (sym w.size-is)
+              subst (λ (p : ℕ × ℕ). IsDurable (d.folder c.match-size.disk) s p.0) (sym w.size-is)
               (subst (λ (x : g.row.D.Denot). IsDurable (d.folder x) s w.in-Ok-write_base.size) (sym w.disk-is) (w.in-Ok-write_base.ensures.durable h))
         ]),
         subst (IsStaging (d.folder c.match-size.disk) s) (sym c.none.ensures) tt,
       ),
+      elim c.match-size.branch [
+        | goal.in-Some w ↦ subst (λ (p : ℕ × ℕ). p.1 ≤ p.0) (sym w.size-is) (subst (bounded c.in-Ok.found.base) w.in-Some.is c.in-Ok.ensures.bound).1
+        | goal.in-None+in-Ok-write_base w ↦ subst (λ (p : ℕ × ℕ). p.1 ≤ p.0) (sym w.size-is) (omega arith)
+      ],
+      omega arith,
+      λ h same. (
+        elim c.match-size.branch [
+          | goal.in-Some w ↦
+              subst (λ (p : ℕ × ℕ). FileStartsWithBase (bytes_under (d.folder c.match-size.disk) Store) p.1) (sym w.size-is)
+              (subst (λ (x : g.row.D.Denot). FileStartsWithBase (bytes_under (d.folder x) Store) c.in-Ok.found.base) (sym w.disk-is)
+              (subst (λ o. FileStartsWithBase o c.in-Ok.found.base) (sym (c.held_store_is_the_only_one.ensures.reads (d.folder c.find_store.new.disk) store (c.in-Ok.ensures.holds h)))
+              (found-base store s c.in-Ok.found.opened.commands c.in-Ok.found.opened.dropped w.in-Some.size c.in-Ok.found.size c.in-Ok.found.base
+              (c.in-Ok.ensures.ok h) w.in-Some.is (c.in-Ok.ensures.base h))))
+          | goal.in-None+in-Ok-write_base w ↦
+              subst (λ (p : ℕ × ℕ). FileStartsWithBase (bytes_under (d.folder c.match-size.disk) Store) p.1) (sym w.size-is)
+              (subst (λ (x : g.row.D.Denot). FileStartsWithBase (bytes_under (d.folder x) Store) w.in-Ok-write_base.size) (sym w.disk-is) (w.in-Ok-write_base.ensures.starts h))
+        ],
+        subst (λ x. StagedStartsWithBase (d.folder c.match-size.disk) x 0) (sym c.none.ensures) tt,
+      ),
     )
+  where
+    bounded : ℕ → Option ℕ → Type 0
+    bounded base size = IfSome size (λ n. (n ≤ store_limit) × (base ≤ n))
 
 pub returns-clause-any_moment : goal.returns-clause-any_moment
 returns-clause-any_moment g c h =
@@ -105,7 +130,7 @@ pub returns-clause-now : goal.returns-clause-now
 returns-clause-now g c h =
     let d = g.D.Disk in
     let s = c.in-Ok.found.state in
-    held-means c.held_store_is_left.ensures.held c.documents_close.ensures.torn (d.folder c.match-size.disk) s c.match-size.size false ((invariant_of-store g c).3 h refl).0 refl
+    held-means c.held_store_is_left.ensures.held c.documents_close.ensures.torn (d.folder c.match-size.disk) s c.match-size.size.0 false ((invariant_of-store g c).3 h refl).0 refl
 
 pub returns-clause-reads : goal.returns-clause-reads
 returns-clause-reads g c h =
@@ -125,7 +150,43 @@ returns-clause-reads g c h =
 pub returns-clause-size : goal.returns-clause-size
 returns-clause-size g c h =
     let d = g.D.Disk in
-    held-length (d.folder c.match-size.disk) c.in-Ok.found.state c.match-size.size false ((invariant_of-store g c).3 h refl).0
+    held-length (d.folder c.match-size.disk) c.in-Ok.found.state c.match-size.size.0 false ((invariant_of-store g c).3 h refl).0
+
+pub returns-clause-flushed : goal.returns-clause-flushed
+returns-clause-flushed g c h =
+    let d = g.D.Disk in
+    quiet-flushed (d.folder c.match-size.disk) c.in-Ok.found.state c.match-size.size.0 false ((invariant_of-store g c).3 h refl).0 refl
+
+pub returns-in-Err-clause-risen : goal.returns-in-Err-clause-risen
+returns-in-Err-clause-risen g c = c.find_store.ensures.risen
+
+pub returns-in-Err-write_base-clause-risen : goal.returns-in-Err-write_base-clause-risen
+returns-in-Err-write_base-clause-risen g c =
+    let first = c.find_store.ensures.risen in
+    let second = c.write_base.ensures.risen in
+    omega (arith, first, second)
+
+pub returns-clause-risen : goal.returns-clause-risen
+returns-clause-risen g c =
+    let count = g.D.Disk.failure_count in
+    let first = c.find_store.ensures.risen in
+    elim c.match-size.branch [
+      | goal.in-Some w ↦ subst (λ (x : g.row.D.Denot). count c.args.disk ≤ count x) (sym w.disk-is) first
+      | goal.in-None+in-Ok-write_base w ↦
+          subst (λ (x : g.row.D.Denot). count c.args.disk ≤ count x) (sym w.disk-is)
+          (let second = w.write_base.ensures.risen in omega (arith, first, second))
+    ]
+
+pub returns-clause-gone : goal.returns-clause-gone
+returns-clause-gone g c h needed =
+    let d = g.D.Disk in
+    let store = bytes_under (d.folder c.args.disk) Store in
+    elim c.match-size.branch [
+      | goal.in-Some w ↦
+          absurd (kept-as-it-is store c.in-Ok.found.state c.in-Ok.found.opened.commands c.in-Ok.found.opened.dropped w.in-Some.size c.in-Ok.found.size (c.in-Ok.ensures.ok h) w.in-Some.is needed)
+      | goal.in-None+in-Ok-write_base w ↦
+          subst (λ (x : g.row.D.Denot). bytes_under (d.folder x) Next ≡ None) (sym w.disk-is) (w.in-Ok-write_base.ensures.gone h)
+    ]
 
 -- ---- the files
 

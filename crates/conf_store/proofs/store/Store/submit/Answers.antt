@@ -9,12 +9,14 @@ use Rattle.conf_state.specs.Commands.{command_of}
 use Rattle.conf_state.specs.declared.fault.StoreFault.TheVariants.{Reopen, Device}
 use Rattle.conf_store.specs.Meaning.{FileMeans}
 use Rattle.conf_store.specs.Durable.{HasFlushed, AfterPrefix, IsHeld, IsStaging, staged_text}
+use Rattle.conf_store.specs.Grown.{FileStartsWithBase, StagedStartsWithBase}
 use Rattle.conf_store.specs.Staged.{staged_length, with_more}
 use Rattle.conf_store.specs.View.{StoreView}
 use Rattle.conf_store.specs.Accepting.{IsAccepted}
 use Rattle.conf_store.specs.Calls.{outcome, journal_length, next_record, Accepts}
 use Rattle.conf_store.proofs.RefusalLemmas.{refusal-returned}
-use Rattle.conf_store.proofs.StagedLemmas.{staging-more, text-more, length-more}
+use Rattle.conf_store.proofs.GrownLemmas.{file-more, staged-base-more}
+use Rattle.conf_store.proofs.StagedLemmas.{staging-more, text-more, length-more, length-least}
 use Rattle.conf_store.proofs.StoreLemmas.{start-prefix, or-means, append-leaves, append-held, append-flushed}
 use Rattle.conf_store.proofs.store.Store.submit.Goals as goal
 
@@ -87,6 +89,17 @@ invariant_of-self-in-Ok-append_store g c =
                 (append-held (d.folder inside.disk) (d.folder new) inside.state c.accept.new.state command inside.size longest inside.waits bytes held.0 (omega arith) ok (c.in-Ok-append_store.ensures.holds h (Some held.0.file) held.0.holds)),
             subst (λ s. IsStaging (d.folder new) c.accept.new.state s) (sym staged)
                 (staging-more (d.folder inside.disk) (d.folder new) inside.state c.accept.new.state command bytes inside.staging next ok.closes ok.reads ok.done held.1),
+          )),
+      omega (arith, c.self.invariant.4),
+      subst (λ s. inside.staged_base ≤ staged_length s) (sym staged) (length-least bytes inside.staging inside.staged_base c.self.invariant.5),
+      λ h on.
+          (let starts = c.self.invariant.6 h c.if-self.false in
+          let new = c.append_store.new.disk in
+          let reads = c.in-Ok-append_store.ensures.reads h in (
+            subst (λ o. FileStartsWithBase o inside.base) (sym (ap (λ (image : Image). image.store) reads))
+                (file-more (bytes_under (d.folder inside.disk) Store) bytes inside.base starts.0),
+            subst (λ s. StagedStartsWithBase (d.folder new) s inside.staged_base) (sym staged)
+                (staged-base-more (d.folder inside.disk) (d.folder new) bytes inside.staging inside.staged_base (ap (λ (image : Image). image.next) reads) starts.1),
           )),
     )
 

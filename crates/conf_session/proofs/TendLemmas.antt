@@ -1,0 +1,175 @@
+-- Turns that no request asked for.
+use Rattle.std.proofs.Common.{◌≡◌, refl, sym, ◌∙◌, ap, subst, arith, ◌≤◌, length-drop}
+use Rattle.std.specs.Prelude.{ℕ, ◌+◌, min, false, List, [], ◌∷◌, ◌++◌, length, Option, Some, None, option_map, unwrap_or, Result, Ok, Err}
+use Rattle.std.proofs.lemmas.List.{append-nil, take_all}
+use Rattle.conf_disk.specs.Folder.{Folder, bytes_under}
+use Rattle.conf_disk.specs.Image.{Image, IsImage}
+use Rattle.conf_disk.specs.Moments.{LeavesOnly}
+use Rattle.conf_disk.specs.declared.disk.Name.TheVariants.{Store}
+use Rattle.conf_disk.proofs.Moments.{LeavesOnly-start}
+use Rattle.conf_state.specs.BaseTexts.{base_bytes}
+use Rattle.conf_state.specs.Commands.{Command}
+use Rattle.conf_state.specs.States.{Contents}
+use Rattle.conf_state.specs.Steps.{after}
+use Rattle.conf_store.specs.Meaning.{FileMeans}
+use Rattle.conf_store.specs.Durable.{AfterPrefix, AllImagesMean, HasFlushed, staged_text}
+use Rattle.conf_store.specs.Slices.{Begins, SlicesPart, SlicesLast, Slices, SliceReads, SliceFlushes}
+use Rattle.conf_store.specs.Staged.{Staged, staged_length, slice_limit, after_slice}
+use Rattle.conf_store.specs.Grown.{HasGrown}
+use Rattle.conf_store.specs.View.{StoreView}
+use Rattle.conf_store.specs.declared.slicing.Progress.{Progress}
+use Rattle.conf_store.specs.declared.slicing.Progress.TheVariants.{Left, Done}
+use Rattle.conf_session.specs.Replies.{LeavesPrefixes}
+use Rattle.conf_session.specs.declared.fault.SessionFault.{SessionFault}
+use Rattle.conf_session.specs.declared.fault.SessionFault.TheVariants as fault
+use Rattle.conf_session.specs.declared.groups.Checkpoints.{Checkpoints}
+use Rattle.conf_session.specs.declared.groups.Checkpoints.TheVariants.{Asked, After}
+use Rattle.conf_session.specs.Groups.{Turn, begun, finished, files_of}
+use Rattle.conf_session.specs.Gathering.{PerformsTurns, Tends, TendsByBeginning, TendsBySlice}
+use Rattle.conf_session.proofs.TurnLemmas.{quiet-now}
+
+-- ---- where all is flushed
+
+-- commands that lead to the state, all of them, are a prefix
+whole-prefix : (flushed s : Contents) (waiting : List Command) (file : Option (List ℕ)) → after flushed waiting ≡ Ok s → FileMeans file s → AfterPrefix flushed waiting file
+whole-prefix flushed s waiting file leads means = record {
+  count = length waiting;
+  state = s;
+  leads = ap (after flushed) (take_all (length waiting) waiting (omega arith)) ∙ leads;
+  means = means;
+}
+
+pub means-prefixes : (folder : Folder) (s : Contents) → AllImagesMean folder s → LeavesPrefixes folder s
+means-prefixes folder s means flushed waiting has image is = whole-prefix flushed s waiting image.store has.journal.leads (means image is)
+
+-- the length of a new file, as it is stored
+staged-size : (staged : Option Staged) → staged_length staged ≡ unwrap_or (option_map (λ (s : Staged). s.written + length s.left) staged) 0
+staged-size None = refl
+staged-size (Some staged) = refl
+
+-- a slice leaves the length of the new file
+slice-size : (s : Staged) → (after_slice s).written + length (after_slice s).left ≡ s.written + length s.left
+slice-size s = (let rest = length-drop (min slice_limit (length s.left)) s.left in omega (arith, rest))
+
+-- after how many bytes a checkpoint is wanted
+abbrev due_bytes : Checkpoints → ℕ
+due_bytes Asked = 0
+due_bytes (After bytes) = bytes
+
+module _ {D : Type 0} (honest : Type 0) (folder : D → Folder) (moment : D → ℕ) (since : D → ℕ → Image → Type 0) where
+  -- nothing is done
+  pub stays : (store : StoreView D) → store.reopen ≡ false
+      → ((image : Image) → honest → since store.disk (moment store.disk) image → IsImage (folder store.disk) image)
+      → (honest → HasFlushed (folder store.disk) store.state [] store.state) → (honest → AllImagesMean (folder store.disk) store.state)
+      → PerformsTurns honest folder moment since store store []
+  stays store off only flushed means = record {
+    sound = off;
+    stored = refl;
+    files = λ h. refl;
+    any_moment = λ h from waiting has. LeavesOnly-start moment since store.disk _
+        (λ image is. whole-prefix from store.state (waiting ++ []) image.store (ap (after from) (append-nil waiting) ∙ has.journal.leads) (means h image (only image h is)));
+    flushed = flushed;
+    now = means;
+  }
+
+  module _ (old new : StoreView D) (state : new.state ≡ old.state)
+      (any_moment : honest → (flushed : Contents) (waiting : List Command) → HasFlushed (folder old.disk) flushed waiting old.state → LeavesOnly moment since old.disk new.disk (λ image. AfterPrefix flushed waiting image.store))
+      (flushed : honest → HasFlushed (folder old.disk) old.state [] old.state)
+      (counts_now : (t : ℕ) (image : Image) → honest → t ≤ moment new.disk → IsImage (folder new.disk) image → since new.disk t image) where
+    moments-none : honest → (from : Contents) (waiting : List Command) → HasFlushed (folder old.disk) from waiting old.state → LeavesOnly moment since old.disk new.disk (λ image. AfterPrefix from (waiting ++ []) image.store)
+    moments-none h from waiting has =
+        subst (λ (l : List Command). LeavesOnly moment since old.disk new.disk (λ image. AfterPrefix from l image.store)) (sym (append-nil waiting)) (any_moment h from waiting has)
+
+    means-now : honest → AllImagesMean (folder new.disk) new.state
+    means-now h = subst (AllImagesMean (folder new.disk)) (sym state)
+        (quiet-now honest folder moment since old.disk new.disk old.state (any_moment h old.state [] (flushed h)) (λ t image. counts_now t image h))
+
+    -- the same is flushed
+    flushed-now : (honest → (from : Contents) (waiting : List Command) → HasFlushed (folder old.disk) from waiting old.state → HasFlushed (folder new.disk) from waiting new.state)
+        → honest → HasFlushed (folder new.disk) new.state [] new.state
+    flushed-now waits h = subst (λ (s : Contents). HasFlushed (folder new.disk) s [] new.state) (sym state) (waits h old.state [] (flushed h))
+
+    -- a checkpoint is begun
+    pub begins : Begins old new → (honest → bytes_under (folder new.disk) Store ≡ bytes_under (folder old.disk) Store)
+        → (honest → staged_text (folder new.disk) new.staged ≡ Some (base_bytes old.state))
+        → (honest → (from : Contents) (waiting : List Command) → HasFlushed (folder old.disk) from waiting old.state → HasFlushed (folder new.disk) from waiting new.state)
+        → PerformsTurns honest folder moment since old new (begun ∷ [])
+    begins is reads stages waits =
+        let length_of : Option Staged → Option ℕ = option_map (λ (s : Staged). s.written + length s.left) in
+        let base = length (base_bytes old.state) in
+        let whole : 0 + base ≡ base = omega arith in
+        let staged : length_of new.staged ≡ Some base = ap length_of is.staged ∙ ap Some whole in
+        record {
+          sound = is.reopen;
+          stored = λ i. record { state = state i; size = is.size i; staged = staged i };
+          files = λ h i. record { store = reads h i; staged = stages h i };
+          any_moment = moments-none;
+          flushed = flushed-now waits;
+          now = means-now;
+        }
+
+    -- a slice is written, and something is left
+    slices-part : (bytes : ℕ) → SlicesPart old bytes new → (honest → SliceReads folder old new (Left bytes))
+        → (honest → (from : Contents) (waiting : List Command) → HasFlushed (folder old.disk) from waiting old.state → HasFlushed (folder new.disk) from waiting new.state)
+        → PerformsTurns honest folder moment since old new []
+    slices-part bytes is reads waits =
+        let length_of : Option Staged → Option ℕ = option_map (λ (s : Staged). s.written + length s.left) in
+        let same : length_of new.staged ≡ length_of old.staged = ap length_of is.staged ∙ ap Some (slice-size is.before) ∙ ap length_of (sym is.ran) in
+        record {
+          sound = is.reopen;
+          stored = λ i. record { state = state i; size = is.size i; staged = same i };
+          files = λ h i. record { store = (reads h).0 i; staged = (reads h).1 i };
+          any_moment = moments-none;
+          flushed = flushed-now waits;
+          now = means-now;
+        }
+
+    -- the last slice is written
+    slices-last : SlicesLast old new → (honest → SliceReads folder old new Done)
+        → (honest → (from : Contents) (waiting : List Command) → HasFlushed (folder old.disk) from waiting old.state → SliceFlushes folder from waiting new Done)
+        → PerformsTurns honest folder moment since old new (finished ∷ [])
+    slices-last is reads waits =
+        let size : new.size ≡ unwrap_or (option_map (λ (s : Staged). s.written + length s.left) old.staged) 0 = is.size ∙ staged-size old.staged in
+        record {
+          sound = is.reopen;
+          stored = λ i. record { state = state i; size = size i; staged = option_map (λ (s : Staged). s.written + length s.left) (is.staged i) };
+          files = λ h i. record { store = reads h i; staged = staged_text (folder new.disk) (is.staged i) };
+          any_moment = moments-none;
+          flushed = λ h. (waits h old.state [] (flushed h)).0;
+          now = λ h. (waits h old.state [] (flushed h)).1;
+        }
+
+    -- a slice is a turn if it is the last one, and else none
+    pub slices : (p : Progress) → Slices old new p → (honest → SliceReads folder old new p)
+        → (honest → (from : Contents) (waiting : List Command) → HasFlushed (folder old.disk) from waiting old.state → SliceFlushes folder from waiting new p)
+        → TendsBySlice honest folder moment since old new (Ok tt)
+    slices (Left bytes) is reads waits = ([], refl, λ count. tt, slices-part bytes is reads waits)
+    slices Done is reads waits = (finished ∷ [], refl, λ count. (tt, tt), slices-last is reads waits)
+
+  -- ---- what is wanted
+
+  module _ (old new : StoreView D) (checkpoints : Checkpoints) (bytes : ℕ) (wanted : checkpoints ≡ After bytes) where
+    not-asked : (turns : List Turn) → checkpoints ≡ Asked → turns ≡ []
+    not-asked turns e = absurd (cc (e, wanted))
+
+    pub tends-slice : (r : Result (Unit {0}) SessionFault) → TendsBySlice honest folder moment since old new r → Tends honest folder moment since checkpoints old new r
+    tends-slice (Ok done) t = (t.0, t.1, not-asked t.0, λ h other e. t.2 other, t.3)
+    tends-slice (Err fault.Device) stops = stops
+    tends-slice (Err fault.OutOfMemory) stops = absurd stops
+    tends-slice (Err fault.Read) stops = absurd stops
+    tends-slice (Err fault.TooLong) stops = absurd stops
+    tends-slice (Err fault.SessionLong) stops = absurd stops
+    tends-slice (Err fault.Reopen) stops = absurd stops
+    tends-slice (Err (fault.Write written)) stops = absurd stops
+
+    pub tends-beginning : (grown : ℕ) → (honest → HasGrown (files_of folder old).store grown) → bytes ≤ grown
+        → (r : Result (Unit {0}) SessionFault) → TendsByBeginning honest folder moment since old new r → Tends honest folder moment since checkpoints old new r
+    tends-beginning grown has le (Ok done) t =
+        (t.0, t.1, not-asked t.0, λ h other e. (let same : other ≡ bytes = ap due_bytes (sym e ∙ wanted) in t.2 other grown (has h) (omega (arith, same, le))), t.3)
+    tends-beginning grown has le (Err fault.Device) stops = stops
+    tends-beginning grown has le (Err fault.OutOfMemory) stops = absurd stops
+    tends-beginning grown has le (Err fault.Read) stops = absurd stops
+    tends-beginning grown has le (Err fault.TooLong) stops = absurd stops
+    tends-beginning grown has le (Err fault.SessionLong) stops = absurd stops
+    tends-beginning grown has le (Err fault.Reopen) stops = absurd stops
+    tends-beginning grown has le (Err (fault.Write written)) stops = absurd stops

@@ -1,0 +1,168 @@
+-- Each turn performs and answers one group, and then makes a part of a checkpoint.
+use Rattle.std.proofs.Common.{◌≡◌, ◌++◌, [], ℕ, refl, sym, ◌∙◌, ap, subst, arith, length}
+use Rattle.std.specs.Prelude.{Ok}
+use Rattle.std.proofs.lemmas.Bool.{false≢true}
+use Rattle.std.proofs.lemmas.Result.{err_from_is_err_and}
+use Rattle.conf_session.specs.Input.{Advances, AdvancesToPiece, AdvancesToEnd, ahead, bytes_read}
+use Rattle.conf_session.specs.Gathering.{last_bytes, unwritten_bytes}
+use Rattle.conf_session.proofs.SessionLemmas.{longer-piece}
+use Rattle.conf_session.proofs.TendLemmas.{means-prefixes}
+use Rattle.conf_session.proofs.GroupLemmas.{GroupsSoFar, reopens, groups-none, groups-more, groups-tended, ends-well, ends-in_input, ends-failing, ends-tending, starts-failing, starts-without-memory}
+use Rattle.conf_session.proofs.groups.run_grouped.Goals as goal
+
+pub returns-then-needs_reopen-clause-runs : goal.returns-then-needs_reopen-clause-runs
+returns-then-needs_reopen-clause-runs g c =
+    let d = g.D.Disk in
+    let on = sym c.needs_reopen.ensures.reopen ∙ c.if-needs_reopen.true in
+    reopens d.honest d.folder d.moment d.left c.args.checkpoints (g.R.Read.remaining c.args.reader.now) (g.W.Write.contents c.args.writer.now) c.args.store.now (λ off. false≢true (sym off ∙ on))
+
+pub returns-in_err-flush_all-clause-runs : goal.returns-in_err-flush_all-clause-runs
+returns-in_err-flush_all-clause-runs g c =
+    let d = g.D.Disk in
+    let ends = starts-failing d.honest d.folder d.moment d.left c.args.checkpoints (g.R.Read.remaining c.args.reader.now) (g.W.Write.contents c.args.writer.now) c.args.store.now c.flush_all.new.store
+    c.in_err-flush_all.field-0.0 c.in_err-flush_all.ensures.flushes (λ t image h le is. g.met.D.Disk.counts_now c.flush_all.new.store.disk t image h le is) in
+    let p = err_from_is_err_and c.from_residual.result c.from_residual.ensures.1 in
+    rw (p.1, p.2) ends
+
+pub returns-in_err-input-clause-runs : goal.returns-in_err-input-clause-runs
+returns-in_err-input-clause-runs g c =
+    let d = g.D.Disk in
+    let ends = starts-without-memory d.honest d.folder d.moment d.left c.args.checkpoints (g.R.Read.remaining c.args.reader.now) (g.W.Write.contents c.args.writer.now) c.args.store.now c.flush_all.new.store
+    c.in_ok-flush_all.ensures.flushes in
+    let p = err_from_is_err_and c.from_residual-in_err-input.result c.from_residual-in_err-input.ensures.1 in
+    rw (p.1, p.2) ends
+
+pub groups-init : goal.groups-init
+groups-init g c =
+    let d = g.D.Disk in
+    let start = c.in_ok-input.ensures in
+    let zero = c.new-answers.ensures in
+    let flush = c.in_ok-flush_all.ensures.flushes in
+    let answers = c.new-answers.result in
+    let nothing : unwritten_bytes answers ≡ [] = ap (λ l. l ++ last_bytes answers.last) zero.text ∙ ap last_bytes zero.last in
+    let none = ap length start.1 in
+    let empty = ap length zero.text in
+    let unwritten = ap length nothing in
+    let limit = start.0.total in
+    record {
+      off = sym c.needs_reopen.ensures.reopen ∙ c.if-needs_reopen.false;
+      sound = flush.sound;
+      input = start.0;
+      so_far = groups-none d.honest d.folder d.moment d.left c.args.checkpoints (g.R.Read.remaining c.args.reader.now) (g.W.Write.contents c.args.writer.now) c.args.store.now c.flush_all.new.store
+          (ahead c.in_ok-input.input) answers (bytes_read c.in_ok-input.input) flush start.1 zero.documents zero.accepted zero.refused zero.written start.2;
+      no_last = zero.last;
+      none = nothing;
+      room = record {
+        within = omega (arith, empty);
+        few = omega (arith, zero.documents, none, start.2);
+        limit = limit;
+        accepted = omega (arith, zero.documents, zero.accepted);
+        refused = omega (arith, zero.documents, zero.refused);
+        out = omega (arith, zero.documents, zero.written, unwritten);
+      };
+      risen = c.flush_all.ensures.risen;
+    }
+
+pub returns-in_err-advance-clause-runs : goal.returns-in_err-advance-clause-runs
+returns-in_err-advance-clause-runs g c =
+    let d = g.D.Disk in
+    let given = g.R.Read.remaining in
+    let held = g.W.Write.contents in
+    let ends = ends-in_input d.honest d.folder d.moment d.left c.args.checkpoints (given c.args.reader.now) (given c.groups.reader) (given c.advance.new.reader)
+    (held c.args.writer.now) (held c.groups.writer) c.args.store.now c.groups.store c.groups.input c.advance.new.self c.groups.answers c.groups.invariant.so_far
+    c.in_err-advance.field-0.0 c.in_err-advance.ensures in
+    let p = err_from_is_err_and c.from_residual-in_err-advance.result c.from_residual-in_err-advance.ensures.1 in
+    rw (p.1, p.2) ends
+
+pub perform_group-requires-clause-means : goal.perform_group-requires-clause-means
+perform_group-requires-clause-means g c h = means-prefixes (g.D.Disk.folder c.groups.store.disk) c.groups.store.state (c.groups.invariant.so_far.performs.now h)
+
+pub returns-in_err-perform_group-clause-runs : goal.returns-in_err-perform_group-clause-runs
+returns-in_err-perform_group-clause-runs g c =
+    let d = g.D.Disk in
+    let given = g.R.Read.remaining in
+    let held = g.W.Write.contents in
+    let inv = c.groups.invariant in
+    let advances : AdvancesToPiece (given c.groups.reader) (given c.advance.new.reader) c.groups.input c.advance.new.self =
+    subst (λ b. Advances (given c.groups.reader) (given c.advance.new.reader) c.groups.input c.advance.new.self (Ok b)) c.if-branch.true c.in_ok-advance.ensures in
+    let out = inv.room.out in
+    let ends = ends-failing d.honest d.folder d.moment d.left c.args.checkpoints (given c.args.reader.now) (given c.groups.reader) (given c.advance.new.reader)
+    (held c.args.writer.now) (held c.groups.writer) c.args.store.now c.groups.store c.groups.input c.advance.new.self c.groups.answers inv.so_far advances
+    (held c.perform_group.new.writer) c.perform_group.new.store c.perform_group.new.input c.perform_group.new.answers c.in_err-perform_group.field-0.0 c.in_err-perform_group.ensures.performs (omega (arith, out))
+    (λ t image h le is. g.met.D.Disk.counts_now c.perform_group.new.store.disk t image h le is) in
+    let p = err_from_is_err_and c.from_residual-in_err-perform_group.result c.from_residual-in_err-perform_group.ensures.1 in
+    rw (p.1, p.2) ends
+
+pub groups-smaller : goal.groups-smaller
+groups-smaller g c =
+    let given = g.R.Read.remaining in
+    let advances : AdvancesToPiece (given c.groups.reader) (given c.advance.new.reader) c.groups.input c.advance.new.self =
+    subst (λ b. Advances (given c.groups.reader) (given c.advance.new.reader) c.groups.input c.advance.new.self (Ok b)) c.if-branch.true c.in_ok-advance.ensures in
+    let longer = longer-piece (given c.groups.reader) (given c.advance.new.reader) c.groups.input c.advance.new.self advances in
+    let within = advances.sound.total in
+    let less = c.in_ok-perform_group.ensures.less in
+    let read = c.in_ok-perform_group.ensures.read in
+    omega (arith, longer, within, less, read)
+
+pub groups-preserved : goal.groups-preserved
+groups-preserved g c =
+    let d = g.D.Disk in
+    let given = g.R.Read.remaining in
+    let held = g.W.Write.contents in
+    let inv = c.groups.invariant in
+    let advances : AdvancesToPiece (given c.groups.reader) (given c.advance.new.reader) c.groups.input c.advance.new.self =
+    subst (λ b. Advances (given c.groups.reader) (given c.advance.new.reader) c.groups.input c.advance.new.self (Ok b)) c.if-branch.true c.in_ok-advance.ensures in
+    let new = c.perform_group.new in
+    let performs = c.in_ok-perform_group.ensures.performs in
+    let so_far : GroupsSoFar d.honest d.folder d.moment d.left (given c.args.reader.now) (given c.advance.new.reader) (held c.args.writer.now) (held new.writer) c.args.checkpoints c.args.store.now new.store
+    (ahead new.input) new.answers (bytes_read new.input) =
+    subst (λ (n : ℕ). GroupsSoFar d.honest d.folder d.moment d.left (given c.args.reader.now) (given c.advance.new.reader) (held c.args.writer.now) (held new.writer) c.args.checkpoints c.args.store.now new.store
+    (ahead new.input) new.answers n) (sym c.in_ok-perform_group.ensures.read)
+    (groups-more d.honest d.folder d.moment d.left c.args.checkpoints (given c.args.reader.now) (given c.groups.reader) (given c.advance.new.reader)
+    (held c.args.writer.now) (held c.groups.writer) c.args.store.now c.groups.store c.groups.input c.advance.new.self c.groups.answers inv.so_far advances
+    (held new.writer) new.store new.answers (ahead new.input) performs.3) in
+    let tends = c.in_ok-tend_checkpoint.ensures.tends in
+    record {
+      off = inv.off;
+      sound = tends.4.sound;
+      input = performs.0;
+      so_far = groups-tended d.honest d.folder d.moment d.left c.args.checkpoints (given c.args.reader.now) (given c.advance.new.reader) (given c.advance.new.reader)
+          (held c.args.writer.now) (held new.writer) c.args.store.now new.store new.input new.input new.answers so_far c.tend_checkpoint.new.store tends.0 tends.1 tends.2 tends.3 tends.4;
+      no_last = performs.2;
+      none = performs.1;
+      room = c.in_ok-perform_group.ensures.room;
+      risen = omega (arith, inv.risen, c.perform_group.ensures.risen, c.tend_checkpoint.ensures.risen);
+    }
+
+pub returns-in_err-tend_checkpoint-clause-runs : goal.returns-in_err-tend_checkpoint-clause-runs
+returns-in_err-tend_checkpoint-clause-runs g c =
+    let d = g.D.Disk in
+    let given = g.R.Read.remaining in
+    let held = g.W.Write.contents in
+    let inv = c.groups.invariant in
+    let advances : AdvancesToPiece (given c.groups.reader) (given c.advance.new.reader) c.groups.input c.advance.new.self =
+    subst (λ b. Advances (given c.groups.reader) (given c.advance.new.reader) c.groups.input c.advance.new.self (Ok b)) c.if-branch.true c.in_ok-advance.ensures in
+    let new = c.perform_group.new in
+    let performs = c.in_ok-perform_group.ensures.performs in
+    let so_far : GroupsSoFar d.honest d.folder d.moment d.left (given c.args.reader.now) (given c.advance.new.reader) (held c.args.writer.now) (held new.writer) c.args.checkpoints c.args.store.now new.store
+    (ahead new.input) new.answers (bytes_read new.input) =
+    subst (λ (n : ℕ). GroupsSoFar d.honest d.folder d.moment d.left (given c.args.reader.now) (given c.advance.new.reader) (held c.args.writer.now) (held new.writer) c.args.checkpoints c.args.store.now new.store
+    (ahead new.input) new.answers n) (sym c.in_ok-perform_group.ensures.read)
+    (groups-more d.honest d.folder d.moment d.left c.args.checkpoints (given c.args.reader.now) (given c.groups.reader) (given c.advance.new.reader)
+    (held c.args.writer.now) (held c.groups.writer) c.args.store.now c.groups.store c.groups.input c.advance.new.self c.groups.answers inv.so_far advances
+    (held new.writer) new.store new.answers (ahead new.input) performs.3) in
+    let ends = ends-tending d.honest d.folder d.moment d.left c.args.checkpoints (given c.args.reader.now) (given c.advance.new.reader) (given c.advance.new.reader)
+    (held c.args.writer.now) (held new.writer) c.args.store.now new.store new.input new.input new.answers so_far c.tend_checkpoint.new.store
+    c.in_err-tend_checkpoint.field-0.0 c.in_err-tend_checkpoint.ensures.tends (λ t image h le is. g.met.D.Disk.counts_now c.tend_checkpoint.new.store.disk t image h le is) in
+    let p = err_from_is_err_and c.from_residual-in_err-tend_checkpoint.result c.from_residual-in_err-tend_checkpoint.ensures.1 in
+    rw (p.1, p.2) ends
+
+pub returns-clause-runs : goal.returns-clause-runs
+returns-clause-runs g c =
+    let d = g.D.Disk in
+    let given = g.R.Read.remaining in
+    let end : AdvancesToEnd (given c.groups.reader) (given c.advance.new.reader) c.groups.input c.advance.new.self =
+    subst (λ b. Advances (given c.groups.reader) (given c.advance.new.reader) c.groups.input c.advance.new.self (Ok b)) c.if-branch.false c.in_ok-advance.ensures in
+    ends-well d.honest d.folder d.moment d.left c.args.checkpoints (given c.args.reader.now) (given c.groups.reader) (given c.advance.new.reader)
+    (g.W.Write.contents c.args.writer.now) (g.W.Write.contents c.groups.writer) c.args.store.now c.groups.store c.groups.input c.advance.new.self c.groups.answers c.groups.invariant.so_far
+    _ end refl refl refl (ap length c.piece.ensures)

@@ -1,0 +1,23 @@
+-- What was read so far is pieces that were performed, flushed and answered, and bytes that are not looked at yet.
+use Rattle.std.proofs.Common.{◌≡◌, ◌≤◌, ◌+◌, ◌-◌, [], false, length}
+use Rattle.std.specs.Prelude.{None}
+use Rattle.conf_session.specs.Input.{IsSound, ahead, bytes_read, session_limit}
+use Rattle.conf_session.specs.Gathering.{HasRoomFor, unwritten_bytes}
+use Rattle.conf_session.proofs.GroupLemmas.{GroupsSoFar}
+use Rattle.conf_session.proofs.groups.run_grouped.Given as goal
+
+abbrev pub invariant-groups : goal.invariant-groups
+invariant-groups g l = let d = g.D.Disk in record {
+  off : l.fn.store.reopen ≡ false;
+  sound : l.store.reopen ≡ false;
+  input : IsSound l.input;
+  so_far : GroupsSoFar d.honest d.folder d.moment d.left (g.R.Read.remaining l.fn.reader) (g.R.Read.remaining l.reader) (g.W.Write.contents l.fn.writer) (g.W.Write.contents l.writer)
+      l.fn.checkpoints l.fn.store l.store (ahead l.input) l.answers (bytes_read l.input);
+  no_last : l.answers.last ≡ None;
+  none : unwritten_bytes l.answers ≡ [];
+  room : HasRoomFor l.answers (length (ahead l.input)) (bytes_read l.input);
+  risen : d.failure_count l.fn.store.disk ≤ d.failure_count l.store.disk;
+}
+
+abbrev pub decreases-groups : goal.decreases-groups
+decreases-groups g l = (session_limit - bytes_read l.input) + length (ahead l.input)

@@ -1,0 +1,21 @@
+-- The pieces so far are performed, and their answers are kept; a further piece is in hand.
+use Rattle.std.proofs.Common.{◌≡◌, ◌≤◌, ◌++◌, false, length}
+use Rattle.std.specs.Prelude.{None}
+use Rattle.conf_session.specs.Input.{ahead, bytes_read, piece_or_rest as piece_of}
+use Rattle.conf_session.specs.Gathering.{HasRoomFor, IsAtPiece, Submits}
+use Rattle.conf_session.proofs.groups.submit_group.Given as goal
+
+abbrev pub invariant-pieces : goal.invariant-pieces
+invariant-pieces g l = let d = g.D.Disk in record {
+  sound : l.store.reopen ≡ false;
+  piece : IsAtPiece l.input;
+  no_last : l.answers.last ≡ None;
+  room : HasRoomFor l.answers (length (piece_of l.input ++ ahead l.input)) (bytes_read l.input);
+  read : bytes_read l.input ≡ bytes_read l.fn.input;
+  less : length (ahead l.input) ≤ length (ahead l.fn.input);
+  so_far : Submits d.honest d.folder d.moment d.left (piece_of l.fn.input ++ ahead l.fn.input) (piece_of l.input ++ ahead l.input) l.fn.store l.store l.fn.answers l.answers;
+  risen : d.failure_count l.fn.store.disk ≤ d.failure_count l.store.disk;
+}
+
+abbrev pub decreases-pieces : goal.decreases-pieces
+decreases-pieces g l = length (ahead l.input)

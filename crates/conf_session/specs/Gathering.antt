@@ -1,0 +1,289 @@
+-- One group of a grouped session: the pieces that one read brought are performed, flushed and then answered.
+use Rattle.std.specs.Prelude.{◌≡◌, ℕ, ◌+◌, ◌*◌, ◌<◌, ◌≤◌, true, false, List, [], ◌++◌, length, take, Option, Some, None, Result, Ok, Err}
+use Rattle.std.specs.List.{concat}
+use Rattle.std.specs.Io.KnownBytes.{Appends, Keeps}
+use Rattle.yaml_grammar.specs.Closings.{ClosesOnce}
+use Rattle.conf_disk.specs.Folder.{Folder}
+use Rattle.conf_disk.specs.Image.{Image}
+use Rattle.conf_disk.specs.Moments.{LeavesOnly}
+use Rattle.conf_state.specs.Commands.{Command}
+use Rattle.conf_state.specs.States.{Contents}
+use Rattle.conf_store.specs.Durable.{AfterPrefix, AllImagesMean, HasFlushed}
+use Rattle.conf_store.specs.Grown.{HasGrown}
+use Rattle.conf_store.specs.View.{StoreView}
+use Rattle.conf_session.specs.Said.{piece_limit}
+use Rattle.conf_session.specs.Input.{IsSound, ahead, piece_or_rest, session_limit}
+use Rattle.conf_session.specs.declared.input.Input.{Input}
+use Rattle.conf_session.specs.Requests.{Request, Asks}
+use Rattle.conf_session.specs.Answers.{Stored, answer_limit, output, stored_after_all, accepted_commands, refusals}
+use Rattle.conf_session.specs.Runs.{ArePieces, stored_of}
+use Rattle.conf_session.specs.Replies.{Performs, Replies, accepts, refuses, reply_bytes}
+use Rattle.conf_session.specs.Progress.{PerformsAll}
+use Rattle.conf_session.specs.Groups.{AreDue, Turn, all_asked, files_after_turns, files_of, requests_of, stored_after_turns, turns_accepted}
+use Rattle.conf_session.specs.declared.groups.Checkpoints.{Checkpoints}
+use Rattle.conf_session.specs.declared.groups.Checkpoints.TheVariants.{Asked, After}
+use Rattle.conf_session.specs.declared.reply.Reply.{Reply}
+use Rattle.conf_session.specs.declared.unwritten.Unwritten.{Unwritten}
+use Rattle.conf_session.specs.declared.fault.SessionFault.{SessionFault}
+use Rattle.conf_session.specs.declared.fault.SessionFault.TheVariants as fault
+
+-- ---- answers that are not written yet
+
+-- the most bytes of answers that are kept, but for the last answer
+abbrev pub answers_limit : ℕ
+answers_limit = 65536
+
+-- the bytes of the last answer, where it is kept apart
+abbrev pub last_bytes : Option Reply → List ℕ
+last_bytes None = []
+last_bytes (Some reply) = reply_bytes reply
+
+-- the bytes of all answers that are not written yet
+abbrev pub unwritten_bytes : Unwritten → List ℕ
+unwritten_bytes answers = answers.text.items ++ last_bytes answers.last
+
+-- What keeps the counts within their types: there are no more pieces than bytes of the input, and no answer is longer
+-- than the limit.
+pub record HasRoomFor (answers : Unwritten) (left total : ℕ) : Type 0 where
+  pub within : length answers.text.items ≤ answers_limit
+  pub few : answers.tally.documents + left ≤ total
+  pub limit : total ≤ session_limit
+  pub accepted : answers.tally.accepted ≤ answers.tally.documents
+  pub refused : answers.tally.refused ≤ answers.tally.documents
+  pub out : answers.written + length (unwritten_bytes answers) ≤ answers.tally.documents * answer_limit
+
+-- one answer more is kept, and counted
+pub record KeepsAnswer (before after : Unwritten) (reply : Reply) : Type 0 where
+  pub bytes : unwritten_bytes after ≡ unwritten_bytes before ++ reply_bytes reply
+  pub within : length after.text.items ≤ answers_limit
+  pub documents : after.tally.documents ≡ before.tally.documents + 1
+  pub accepted : after.tally.accepted ≡ before.tally.accepted + accepts reply
+  pub refused : after.tally.refused ≡ before.tally.refused + refuses reply
+  pub written : after.written ≡ before.written
+
+-- all answers are written, and none is kept
+pub record WritesAnswers (held written : Option (List ℕ)) (before after : Unwritten) : Type 0 where
+  pub out : Appends held written (unwritten_bytes before)
+  pub none : after.last ≡ None
+  pub empty : after.text.items ≡ []
+  pub tally : after.tally ≡ before.tally
+  pub sent : after.written ≡ before.written + length (unwritten_bytes before)
+
+-- so many bytes were written, with those of the answers before
+pub record CutsAnswers (held written : Option (List ℕ)) (answers : Unwritten) (total : ℕ) : Type 0 where
+  pub count : ℕ
+  pub is : total ≡ answers.written + count
+  pub cut : count < length (unwritten_bytes answers)
+  pub out : Appends held written (take count (unwritten_bytes answers))
+
+-- what a write that fails says
+abbrev pub FailsToWrite : Option (List ℕ) → Option (List ℕ) → Unwritten → SessionFault → Type 0
+FailsToWrite held written answers (fault.Write total) = CutsAnswers held written answers total
+FailsToWrite held written answers fault = ⊥
+
+-- ---- turns
+
+-- The turns are performed, one after the other, and all is flushed: whatever a crash leaves now means the state.
+pub record PerformsTurns {D : Type 0} (honest : Type 0) (folder : D → Folder) (moment : D → ℕ)
+    (since : D → ℕ → Image → Type 0) (old new : StoreView D) (turns : List Turn) : Type 0 where
+  pub sound : new.reopen ≡ false
+  pub stored : stored_of new ≡ stored_after_turns (stored_of old) turns
+  pub files : honest → files_of folder new ≡ files_after_turns (files_of folder old) (stored_of old) turns
+  pub any_moment : honest → (flushed : Contents) (waiting : List Command)
+      → HasFlushed (folder old.disk) flushed waiting old.state
+      → LeavesOnly moment since old.disk new.disk
+      (λ image. AfterPrefix flushed (waiting ++ turns_accepted (stored_of old) turns) image.store)
+  pub flushed : honest → HasFlushed (folder new.disk) new.state [] new.state
+  pub now : honest → AllImagesMean (folder new.disk) new.state
+
+-- The device failed in a turn that no request asked for. A crash leaves what was flushed before.
+pub record StopsShort {D : Type 0} (honest : Type 0) (folder : D → Folder) (moment : D → ℕ)
+    (since : D → ℕ → Image → Type 0) (old new : StoreView D) : Type 0 where
+  pub broken : new.reopen ≡ true
+  pub state : new.state ≡ old.state
+  pub any_moment : honest → (flushed : Contents) (waiting : List Command)
+      → HasFlushed (folder old.disk) flushed waiting old.state
+      → LeavesOnly moment since old.disk new.disk (λ image. AfterPrefix flushed waiting image.store)
+
+-- all that waited is flushed
+abbrev pub FlushesAll : {D : Type 0} → Type 0 → (D → Folder) → (D → ℕ) → (D → ℕ → Image → Type 0) → StoreView D
+    → StoreView D → Result (Unit {0}) SessionFault → Type 0
+FlushesAll honest folder moment since old new (Ok done) = PerformsTurns honest folder moment since old new []
+FlushesAll honest folder moment since old new (Err fault.Device) = StopsShort honest folder moment since old new
+FlushesAll honest folder moment since old new (Err fault) = ⊥
+
+-- a slice is written: that is a turn if it is the last one
+abbrev pub TendsBySlice : {D : Type 0} → Type 0 → (D → Folder) → (D → ℕ) → (D → ℕ → Image → Type 0) → StoreView D
+    → StoreView D → Result (Unit {0}) SessionFault → Type 0
+TendsBySlice honest folder moment since old new (Ok done) =
+    (turns : List Turn) × (requests_of turns ≡ [])
+    × ((bytes : ℕ) → AreDue bytes (files_of folder old) (stored_of old) turns)
+    × PerformsTurns honest folder moment since old new turns
+TendsBySlice honest folder moment since old new (Err fault.Device) = StopsShort honest folder moment since old new
+TendsBySlice honest folder moment since old new (Err fault) = ⊥
+
+-- a checkpoint is begun, if there is memory for it
+abbrev pub TendsByBeginning : {D : Type 0} → Type 0 → (D → Folder) → (D → ℕ) → (D → ℕ → Image → Type 0) → StoreView D
+    → StoreView D → Result (Unit {0}) SessionFault → Type 0
+TendsByBeginning honest folder moment since old new (Ok done) =
+    (turns : List Turn) × (requests_of turns ≡ [])
+    × ((bytes grown : ℕ) → HasGrown (files_of folder old).store grown → bytes ≤ grown
+    → AreDue bytes (files_of folder old) (stored_of old) turns)
+    × PerformsTurns honest folder moment since old new turns
+TendsByBeginning honest folder moment since old new (Err fault.Device) = StopsShort honest folder moment since old new
+TendsByBeginning honest folder moment since old new (Err fault) = ⊥
+
+-- A turn that no request asked for, or none. None is made if only those are wanted that requests ask for, and a
+-- checkpoint is begun only when it is due.
+abbrev pub Tends : {D : Type 0} → Type 0 → (D → Folder) → (D → ℕ) → (D → ℕ → Image → Type 0) → Checkpoints
+    → StoreView D → StoreView D → Result (Unit {0}) SessionFault → Type 0
+Tends honest folder moment since checkpoints old new (Ok done) =
+    (turns : List Turn) × (requests_of turns ≡ []) × (checkpoints ≡ Asked → turns ≡ [])
+    × (honest → (bytes : ℕ) → checkpoints ≡ After bytes → AreDue bytes (files_of folder old) (stored_of old) turns)
+    × PerformsTurns honest folder moment since old new turns
+Tends honest folder moment since checkpoints old new (Err fault.Device) = StopsShort honest folder moment since old new
+Tends honest folder moment since checkpoints old new (Err fault) = ⊥
+
+-- ---- one piece
+
+-- the piece is performed, and its answer is kept
+pub record GathersPiece {D : Type 0} (honest : Type 0) (folder : D → Folder) (moment : D → ℕ)
+    (since : D → ℕ → Image → Type 0) (old new : StoreView D) (piece : List ℕ) (before after : Unwritten) : Type 0 where
+  pub request : Request
+  pub asks : Asks piece request
+  pub sound : new.reopen ≡ false
+  pub performs : Performs false honest folder moment since old new request
+  pub reply : Reply
+  pub replies : Replies (stored_of old) request reply
+  pub keeps : KeepsAnswer before after reply
+
+-- What became of a piece that has no answer. If memory ran out, nothing was changed.
+abbrev pub FailsInGroup : {D : Type 0} → Type 0 → (D → Folder) → (D → ℕ) → (D → ℕ → Image → Type 0) → StoreView D
+    → StoreView D → List ℕ → SessionFault → Type 0
+FailsInGroup honest folder moment since old new piece fault.OutOfMemory = new ≡ old
+FailsInGroup honest folder moment since old new piece fault.Device =
+    (request : Request) × Asks piece request × (new.reopen ≡ true)
+    × Performs false honest folder moment since old new request
+FailsInGroup honest folder moment since old new piece fault = ⊥
+
+-- ---- the pieces of a group
+
+-- a piece that was read is next, and bytes after it
+pub record IsAtPiece (input : Input) : Type 0 where
+  pub sound : IsSound input
+  pub piece : ClosesOnce (piece_or_rest input)
+  pub short : length (piece_or_rest input) ≤ piece_limit
+
+-- The bytes begin with pieces that ask for these requests. What is left after them are the further bytes.
+pub record TakesUp (bytes further : List ℕ) (requests : List Request) : Type 0 where
+  pub pieces : List (List ℕ)
+  pub joined : bytes ≡ concat pieces ++ further
+  pub are : ArePieces pieces requests
+
+-- the answers to these requests are kept, and counted
+pub record KeepsAnswers (start : Stored) (requests : List Request) (before after : Unwritten) : Type 0 where
+  pub bytes : unwritten_bytes after ≡ unwritten_bytes before ++ output start requests
+  pub within : length after.text.items ≤ answers_limit
+  pub short : length (output start requests) ≤ length requests * answer_limit
+  pub documents : after.tally.documents ≡ before.tally.documents + length requests
+  pub accepted : after.tally.accepted ≡ before.tally.accepted + length (accepted_commands start requests)
+  pub refused : after.tally.refused ≡ before.tally.refused + refusals start requests
+  pub written : after.written ≡ before.written
+
+-- pieces are performed, and their answers are kept; nothing was flushed but by a checkpoint
+pub record Submits {D : Type 0} (honest : Type 0) (folder : D → Folder) (moment : D → ℕ)
+    (since : D → ℕ → Image → Type 0) (bytes further : List ℕ) (old new : StoreView D)
+    (before after : Unwritten) : Type 0 where
+  pub requests : List Request
+  pub takes : TakesUp bytes further requests
+  pub performs : PerformsAll false honest folder moment since old new requests
+  pub keeps : KeepsAnswers (stored_of old) requests before after
+
+-- the same, and all is flushed
+pub record AnswersGroup {D : Type 0} (honest : Type 0) (folder : D → Folder) (moment : D → ℕ)
+    (since : D → ℕ → Image → Type 0) (bytes further : List ℕ) (old new : StoreView D)
+    (before after : Unwritten) : Type 0 where
+  pub requests : List Request
+  pub takes : TakesUp bytes further requests
+  pub performs : PerformsTurns honest folder moment since old new (all_asked requests)
+  pub keeps : KeepsAnswers (stored_of old) requests before after
+
+-- The device failed. The pieces are performed, maybe but for the last, and none is answered.
+pub record BreaksOff {D : Type 0} (honest : Type 0) (folder : D → Folder) (moment : D → ℕ)
+    (since : D → ℕ → Image → Type 0) (bytes : List ℕ) (old new : StoreView D) : Type 0 where
+  pub broken : new.reopen ≡ true
+  pub requests : List Request
+  pub further : List ℕ
+  pub takes : TakesUp bytes further requests
+  pub state : new.state ≡ (stored_after_all (stored_of old) requests).state
+  pub any_moment : honest → (flushed : Contents) (waiting : List Command)
+      → HasFlushed (folder old.disk) flushed waiting old.state
+      → LeavesOnly moment since old.disk new.disk
+      (λ image. AfterPrefix flushed (waiting ++ accepted_commands (stored_of old) requests) image.store)
+
+-- What became of a group whose bytes are the piece in hand and those after it. If memory ran out, the pieces before are
+-- performed.
+abbrev pub SubmitsGroup : {D : Type 0} → Type 0 → (D → Folder) → (D → ℕ) → (D → ℕ → Image → Type 0) → List ℕ → Input
+    → StoreView D → StoreView D → Unwritten → Unwritten → Result (Unit {0}) SessionFault → Type 0
+SubmitsGroup honest folder moment since bytes input old new before after (Ok done) =
+    IsSound input × Submits honest folder moment since bytes (ahead input) old new before after
+SubmitsGroup honest folder moment since bytes input old new before after (Err fault.OutOfMemory) =
+    (further : List ℕ) × Submits honest folder moment since bytes further old new before after
+SubmitsGroup honest folder moment since bytes input old new before after (Err fault.Device) =
+    BreaksOff honest folder moment since bytes old new
+SubmitsGroup honest folder moment since bytes input old new before after (Err fault) = ⊥
+
+-- the same once it is flushed
+abbrev pub EndsGroup : {D : Type 0} → Type 0 → (D → Folder) → (D → ℕ) → (D → ℕ → Image → Type 0) → List ℕ → Input
+    → StoreView D → StoreView D → Unwritten → Unwritten → Result (Unit {0}) SessionFault → Type 0
+EndsGroup honest folder moment since bytes input old new before after (Ok done) =
+    IsSound input × AnswersGroup honest folder moment since bytes (ahead input) old new before after
+EndsGroup honest folder moment since bytes input old new before after (Err fault.OutOfMemory) =
+    (further : List ℕ) × AnswersGroup honest folder moment since bytes further old new before after
+EndsGroup honest folder moment since bytes input old new before after (Err fault.Device) =
+    BreaksOff honest folder moment since bytes old new
+EndsGroup honest folder moment since bytes input old new before after (Err fault) = ⊥
+
+-- ---- a group with its answers written
+
+-- the pieces are performed, flushed and answered
+pub record PassesGroup {D : Type 0} (honest : Type 0) (folder : D → Folder) (moment : D → ℕ)
+    (since : D → ℕ → Image → Type 0) (held written : Option (List ℕ)) (bytes further : List ℕ) (old new : StoreView D)
+    (before after : Unwritten) : Type 0 where
+  pub requests : List Request
+  pub takes : TakesUp bytes further requests
+  pub performs : PerformsTurns honest folder moment since old new (all_asked requests)
+  pub out : Appends held written (output (stored_of old) requests)
+  pub short : length (output (stored_of old) requests) ≤ length requests * answer_limit
+  pub documents : after.tally.documents ≡ before.tally.documents + length requests
+  pub accepted : after.tally.accepted ≡ before.tally.accepted + length (accepted_commands (stored_of old) requests)
+  pub refused : after.tally.refused ≡ before.tally.refused + refusals (stored_of old) requests
+  pub sent : after.written ≡ before.written + length (output (stored_of old) requests)
+
+-- the pieces are performed and flushed, and so many bytes were written, with those of the answers before
+pub record CutsGroup {D : Type 0} (honest : Type 0) (folder : D → Folder) (moment : D → ℕ)
+    (since : D → ℕ → Image → Type 0) (held written : Option (List ℕ)) (bytes : List ℕ) (old new : StoreView D)
+    (sent total : ℕ) : Type 0 where
+  pub requests : List Request
+  pub further : List ℕ
+  pub takes : TakesUp bytes further requests
+  pub performs : PerformsTurns honest folder moment since old new (all_asked requests)
+  pub short : length (output (stored_of old) requests) ≤ length requests * answer_limit
+  pub count : ℕ
+  pub is : total ≡ sent + count
+  pub cut : count < length (output (stored_of old) requests)
+  pub out : Appends held written (take count (output (stored_of old) requests))
+
+abbrev pub PerformsGroup : {D : Type 0} → Type 0 → (D → Folder) → (D → ℕ) → (D → ℕ → Image → Type 0) → Option (List ℕ)
+    → Option (List ℕ) → List ℕ → Input → StoreView D → StoreView D → Unwritten → Unwritten
+    → Result (Unit {0}) SessionFault → Type 0
+PerformsGroup honest folder moment since held written bytes input old new before after (Ok done) =
+    IsSound input × (unwritten_bytes after ≡ []) × (after.last ≡ None)
+    × PassesGroup honest folder moment since held written bytes (ahead input) old new before after
+PerformsGroup honest folder moment since held written bytes input old new before after (Err fault.OutOfMemory) =
+    (further : List ℕ) × PassesGroup honest folder moment since held written bytes further old new before after
+PerformsGroup honest folder moment since held written bytes input old new before after (Err fault.Device) =
+    BreaksOff honest folder moment since bytes old new × Keeps held written
+PerformsGroup honest folder moment since held written bytes input old new before after (Err (fault.Write total)) =
+    CutsGroup honest folder moment since held written bytes old new before.written total
+PerformsGroup honest folder moment since held written bytes input old new before after (Err fault) = ⊥

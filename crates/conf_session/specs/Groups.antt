@@ -1,0 +1,200 @@
+-- What a grouped session has read, answered and stored, for each of its results.
+use Rattle.std.specs.Prelude.{◌≡◌, ℕ, ◌+◌, ◌*◌, ◌<◌, ◌≤◌, false, List, [], ◌∷◌, ◌++◌, length, take, map, Option, Some, None, unwrap_or, Result, Ok, Err}
+use Rattle.std.specs.Io.KnownBytes.{Consumes, Keeps, Appends}
+use Rattle.yaml_recognizers.specs.Closings.{framed_text_bytes}
+use Rattle.conf_disk.specs.Folder.{Folder, bytes_under}
+use Rattle.conf_disk.specs.Image.{Image, IsImage}
+use Rattle.conf_disk.specs.Moments.{LeavesOnly}
+use Rattle.conf_disk.specs.declared.disk.Name.TheVariants.{Store}
+use Rattle.conf_state.specs.BaseTexts.{base_bytes}
+use Rattle.conf_state.specs.Commands.{Command}
+use Rattle.conf_state.specs.States.{Contents}
+use Rattle.conf_store.specs.Durable.{AfterPrefix, AllImagesMean, HasFlushed, staged_text}
+use Rattle.conf_store.specs.Grown.{HasGrown}
+use Rattle.conf_store.specs.View.{StoreView}
+use Rattle.conf_session.specs.Requests.{Request}
+use Rattle.conf_session.specs.Answers.{Stored, answer, answer_limit, stored_after, file_after, staged_after, accepted_command, refused_of}
+use Rattle.conf_session.specs.Runs.{AfterAtLeast, AsksAll, BeginsWith, EndsEarly, EndsInInput, EndsWell, ShowsSessionLong, ShowsTooLong, stored_of}
+use Rattle.conf_session.specs.declared.fault.SessionFault.{SessionFault}
+use Rattle.conf_session.specs.declared.fault.SessionFault.TheVariants as fault
+use Rattle.conf_session.specs.declared.groups.Checkpoints.{Checkpoints}
+use Rattle.conf_session.specs.declared.groups.Checkpoints.TheVariants.{Asked, After}
+use Rattle.conf_session.specs.declared.session.Tally.{Tally}
+
+-- ---- turns
+
+-- A turn of a grouped session: a request is performed, or a checkpoint that no request asked for is begun or finished.
+pub data Turn : Type 0 where
+  asked : (request : Request) → Turn
+  begun : Turn
+  finished : Turn
+
+-- the requests among the turns
+abbrev pub requests_of : List Turn → List Request
+requests_of [] = []
+requests_of ((asked request) ∷ turns) = request ∷ requests_of turns
+requests_of (begun ∷ turns) = requests_of turns
+requests_of (finished ∷ turns) = requests_of turns
+
+-- these requests, one turn for each
+abbrev pub all_asked : List Request → List Turn
+all_asked requests = map asked requests
+
+-- What is stored after a turn. A checkpoint that begins has the base of the state for its new file; one that is
+-- finished puts that file in the place of `store.yaml`.
+abbrev pub stored_after_turn : Stored → Turn → Stored
+stored_after_turn now (asked request) = stored_after now request
+stored_after_turn now begun = record now { staged = Some (length (base_bytes now.state)) }
+stored_after_turn now finished = record { state = now.state; size = unwrap_or now.staged 0; staged = None }
+
+abbrev pub stored_after_turns : Stored → List Turn → Stored
+stored_after_turns now [] = now
+stored_after_turns now (turn ∷ turns) = stored_after_turns (stored_after_turn now turn) turns
+
+-- what `store.yaml` reads as, and what the new file of a running checkpoint will
+pub record Files : Type 0 where
+  pub store : Option (List ℕ)
+  pub staged : Option (List ℕ)
+
+abbrev pub files_of : {D : Type 0} → (D → Folder) → StoreView D → Files
+files_of folder seen = record {
+  store = bytes_under (folder seen.disk) Store;
+  staged = staged_text (folder seen.disk) seen.staged;
+}
+
+-- what the files read as after a turn
+abbrev pub files_after_turn : Files → Stored → Turn → Files
+files_after_turn files now (asked request) = record {
+  store = file_after files.store now request;
+  staged = staged_after files.staged now request;
+}
+files_after_turn files now begun = record { store = files.store; staged = Some (base_bytes now.state) }
+files_after_turn files now finished = record { store = files.staged; staged = None }
+
+abbrev pub files_after_turns : Files → Stored → List Turn → Files
+files_after_turns files now [] = files
+files_after_turns files now (turn ∷ turns) =
+    files_after_turns (files_after_turn files now turn) (stored_after_turn now turn) turns
+
+-- the bytes of the answer to a turn: none, if no request asked for it
+abbrev pub turn_output : Stored → Turn → List ℕ
+turn_output now (asked request) = framed_text_bytes (answer now request)
+turn_output now turn = []
+
+-- the bytes of all answers
+abbrev pub turns_output : Stored → List Turn → List ℕ
+turns_output now [] = []
+turns_output now (turn ∷ turns) = turn_output now turn ++ turns_output (stored_after_turn now turn) turns
+
+-- the command of a turn, if it is accepted
+abbrev pub turn_accepted : Stored → Turn → List Command
+turn_accepted now (asked request) = accepted_command now request
+turn_accepted now turn = []
+
+-- the accepted commands of the turns, in order
+abbrev pub turns_accepted : Stored → List Turn → List Command
+turns_accepted now [] = []
+turns_accepted now (turn ∷ turns) = turn_accepted now turn ++ turns_accepted (stored_after_turn now turn) turns
+
+-- whether a turn is answered by a refusal: 1 or 0
+abbrev pub turn_refused : Stored → Turn → ℕ
+turn_refused now (asked request) = refused_of now request
+turn_refused now turn = 0
+
+-- how many of the turns are refused
+abbrev pub turns_refused : Stored → List Turn → ℕ
+turns_refused now [] = 0
+turns_refused now (turn ∷ turns) = turn_refused now turn + turns_refused (stored_after_turn now turn) turns
+
+-- A checkpoint that begins is due: `store.yaml` has grown by so many bytes, at least, since its base was written.
+abbrev pub IsDue : ℕ → Files → Turn → Type 0
+IsDue bytes files begun = (grown : ℕ) × HasGrown files.store grown × (bytes ≤ grown)
+IsDue bytes files turn = Unit {0}
+
+abbrev pub AreDue : ℕ → Files → Stored → List Turn → Type 0
+AreDue bytes files now [] = Unit {0}
+AreDue bytes files now (turn ∷ turns) =
+    IsDue bytes files turn × AreDue bytes (files_after_turn files now turn) (stored_after_turn now turn) turns
+
+-- ---- how a grouped session ends, by its answered turns, and the requests that were performed without an answer
+
+-- Exactly so many bytes of the answers were written, at most the limit of an answer for each piece. The first request
+-- whose answer was not written whole is performed, and so are further ones.
+pub record EndsInGroup (given left held written : Option (List ℕ)) (start : Stored) (answered : List Turn)
+    (unanswered : List Request) (count : ℕ) : Type 0 where
+  pub bytes : List ℕ
+  pub taken : Consumes given left bytes
+  pub begins : BeginsWith bytes (requests_of answered ++ unanswered)
+  pub last : Request
+  pub further : List Request
+  pub is : unanswered ≡ last ∷ further
+  pub out : Appends held written (take count (turns_output start (answered ++ all_asked unanswered)))
+  pub whole : length (turns_output start answered) ≤ count
+  pub cut : count < length (turns_output start (answered ++ asked last ∷ []))
+  pub bound : count ≤ length (requests_of answered ++ unanswered) * answer_limit
+
+-- How a grouped session ends, by its result. `given` and `left` are what the reader has before and after, `held` and
+-- `written` what the writer has, where they are known.
+abbrev pub GroupedEnds : Option (List ℕ) → Option (List ℕ) → Option (List ℕ) → Option (List ℕ) → Stored → List Turn
+    → List Request → Result Tally SessionFault → Type 0
+GroupedEnds given left held written start answered unanswered (Ok tally) =
+    (unanswered ≡ []) × EndsWell given left held written (requests_of answered) (turns_output start answered)
+    (length (turns_accepted start answered)) (turns_refused start answered) tally
+GroupedEnds given left held written start answered unanswered (Err fault.Read) =
+    (unanswered ≡ [])
+    × EndsInInput given left held written (requests_of answered) (turns_output start answered) AsksAll
+GroupedEnds given left held written start answered unanswered (Err (fault.Write count)) =
+    EndsInGroup given left held written start answered unanswered count
+GroupedEnds given left held written start answered unanswered (Err fault.TooLong) =
+    (unanswered ≡ [])
+    × EndsInInput given left held written (requests_of answered) (turns_output start answered) ShowsTooLong
+GroupedEnds given left held written start answered unanswered (Err fault.SessionLong) =
+    (unanswered ≡ [])
+    × EndsInInput given left held written (requests_of answered) (turns_output start answered) ShowsSessionLong
+GroupedEnds given left held written start answered unanswered (Err fault.OutOfMemory) =
+    (unanswered ≡ []) × EndsEarly given left held written (requests_of answered) [] (turns_output start answered)
+GroupedEnds given left held written start answered unanswered (Err fault.Device) =
+    EndsEarly given left held written (requests_of answered) unanswered (turns_output start answered)
+GroupedEnds given left held written start answered unanswered (Err fault.Reopen) =
+    Keeps given left × Keeps held written × (answered ≡ []) × (unanswered ≡ [])
+
+-- ---- a grouped session
+
+-- How many commands no crash takes away once a grouped session has answered the turns: all that waited at its start, and
+-- all that it accepted. Before the first turn it may be none.
+abbrev pub acknowledged_turns : Stored → List Command → List Turn → ℕ
+acknowledged_turns now waiting [] = 0
+acknowledged_turns now waiting (turn ∷ turns) = length (waiting ++ turns_accepted now (turn ∷ turns))
+
+-- A grouped session from one value of a store to the next. `flushed` is the state that is flushed at its start, and
+-- `waiting` are the commands that were submitted since.
+pub record RunsGrouped {D : Type 0} (honest : Type 0) (folder : D → Folder) (moment : D → ℕ)
+    (since : D → ℕ → Image → Type 0) (given left held written : Option (List ℕ)) (checkpoints : Checkpoints)
+    (old new : StoreView D) (result : Result Tally SessionFault) : Type 0 where
+  pub answered : List Turn
+  pub unanswered : List Request
+  pub ends : GroupedEnds given left held written (stored_of old) answered unanswered result
+  -- a checkpoint that no request asks for is begun only if that is wanted, and only when it is due
+  pub only_asked : checkpoints ≡ Asked → answered ≡ all_asked (requests_of answered)
+  pub due : honest → (bytes : ℕ) → checkpoints ≡ After bytes
+      → AreDue bytes (files_of folder old) (stored_of old) answered
+  pub state : new.state ≡ (stored_after_turns (stored_of old) (answered ++ all_asked unanswered)).state
+  pub stored : new.reopen ≡ false
+      → stored_of new ≡ stored_after_turns (stored_of old) (answered ++ all_asked unanswered)
+  pub files : honest → new.reopen ≡ false
+      → files_of folder new
+      ≡ files_after_turns (files_of folder old) (stored_of old) (answered ++ all_asked unanswered)
+  -- a crash at any moment leaves the state after a prefix of the commands that waited and of the accepted ones
+  pub any_moment : honest → old.reopen ≡ false → (flushed : Contents) (waiting : List Command)
+      → HasFlushed (folder old.disk) flushed waiting old.state
+      → LeavesOnly moment since old.disk new.disk
+      (λ image. AfterPrefix flushed
+      (waiting ++ turns_accepted (stored_of old) (answered ++ all_asked unanswered)) image.store)
+  -- and a crash after the session leaves one that has every command that was answered
+  pub kept : honest → old.reopen ≡ false → (flushed : Contents) (waiting : List Command)
+      → HasFlushed (folder old.disk) flushed waiting old.state → (image : Image) → IsImage (folder new.disk) image
+      → AfterAtLeast flushed (acknowledged_turns (stored_of old) waiting answered)
+      (waiting ++ turns_accepted (stored_of old) (answered ++ all_asked unanswered)) image.store
+  -- after the session nothing waits
+  pub flushed : honest → new.reopen ≡ false → HasFlushed (folder new.disk) new.state [] new.state
+  pub now : honest → new.reopen ≡ false → AllImagesMean (folder new.disk) new.state

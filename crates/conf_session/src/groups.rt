@@ -1,0 +1,342 @@
+// A session in groups: all commands that one read brought are performed, flushed by one sync, and then answered.
+ghost use Rattle.std.specs.Prelude.{◌≡◌, ◌+◌, ◌^◌, ◌<◌, ◌≤◌, ◌⊎◌, ◌↔◌, ◌++◌, [], true, false, None, OnOk, IfErr, IsErrOf, IsSome, length};
+ghost use Rattle.conf_store.specs.Calls.{HasFailed};
+ghost use Rattle.conf_store.specs.Durable.{AllImagesMean, HasFlushed};
+ghost use Rattle.conf_session.specs.Input.{ahead, bytes_read, piece_or_rest, session_limit};
+ghost use Rattle.conf_session.specs.Replies.{LeavesPrefixes};
+ghost use Rattle.conf_session.specs.Gathering.{EndsGroup, FailsInGroup, FlushesAll, GathersPiece, HasRoomFor, IsAtPiece, PerformsGroup, SubmitsGroup, Tends, TendsByBeginning, TendsBySlice, unwritten_bytes};
+ghost use Rattle.conf_session.specs.Groups.{RunsGrouped};
+
+use crate::fault::SessionFault;
+use crate::input::Input;
+use crate::reply::{Way, answer_piece};
+use crate::session::Tally;
+use crate::unwritten::Unwritten;
+use conf_disk::Disk;
+use conf_state::StoreFault;
+use conf_store::Store;
+use std::alloc::Global;
+use std::io::{Read, Write};
+
+/// Which checkpoints a grouped session makes.
+#[derive(Clone, Copy, Debug, PartialEq, Eq)]
+pub enum Checkpoints {
+    /// Only those that commands ask for.
+    Asked,
+    /// Those that commands ask for, and one each time that `store.yaml` has grown by so many bytes since its base was
+    /// written. They are written in slices, one after each group.
+    After { bytes: u64 },
+}
+
+/// Flushes all commands that wait. Does nothing if none does.
+///
+/// # Errors
+/// `Device`: a crash may still take back commands that waited, and the store has to be opened again.
+fn flush_all<D: Disk>(store: &mut Store<D>) -> Result<(), SessionFault>
+    requires { store.old.reopen ≡ false }
+    ensures flushes { FlushesAll D.honest D.folder D.moment D.left store.old store.new result }
+    ensures cause { IsErrOf result SessionFault.Device →
+        HasFailed (D.failure_count store.old.disk) (D.failure_count store.new.disk) }
+    ensures risen { D.failure_count store.old.disk ≤ D.failure_count store.new.disk }
+{
+    match store.flush() {
+        Ok(()) => Ok(()),
+        Err(_) => Err(SessionFault::Device),
+    }
+}
+
+/// Performs a piece without a flush, and keeps its answer.
+///
+/// # Errors
+/// `Reopen` if the store has to be opened again. `OutOfMemory`: the piece changed nothing. `Device`: its command is
+/// performed or not, and the store has to be opened again.
+fn submit_piece<D: Disk>(
+    alloc: Global,
+    store: &mut Store<D>,
+    piece: &[u8],
+    answers: &mut Unwritten,
+) -> Result<(), SessionFault>
+    requires no_last { answers.old.last ≡ None }
+    requires room { HasRoomFor answers.old (length piece.now) session_limit }
+    ensures ok { store.old.reopen ≡ false → OnOk result
+        (GathersPiece D.honest D.folder D.moment D.left store.old store.new
+        piece.now answers.old answers.new) }
+    ensures fails { store.old.reopen ≡ false → IfErr result
+        (FailsInGroup D.honest D.folder D.moment D.left store.old store.new piece.now) }
+    ensures kept { IfErr result (λ _. answers.new ≡ answers.old) }
+    ensures cause { IsErrOf result SessionFault.Device →
+        HasFailed (D.failure_count store.old.disk) (D.failure_count store.new.disk) }
+    ensures risen { D.failure_count store.old.disk ≤ D.failure_count store.new.disk }
+{
+    if store.needs_reopen() {
+        return Err(SessionFault::Reopen);
+    }
+    let reply = answer_piece(alloc, store, piece, Way::Submitted { client: 0 })?;
+    answers.keep(reply);
+    Ok(())
+}
+
+/// Performs the piece in hand, and each further one that was read, until the answers are full. Nothing is flushed,
+/// unless a piece asks for a checkpoint.
+///
+/// # Errors
+/// `OutOfMemory`: the pieces before the current one are performed, and that one changed nothing. `Device`: the pieces
+/// before the current one are performed, and that one is or isn't; the store has to be opened again.
+fn submit_group<D: Disk>(
+    alloc: Global,
+    store: &mut Store<D>,
+    input: &mut Input,
+    answers: &mut Unwritten,
+) -> Result<(), SessionFault>
+    requires sound { store.old.reopen ≡ false }
+    requires means { D.honest → LeavesPrefixes (D.folder store.old.disk) store.old.state }
+    requires piece { IsAtPiece input.old }
+    requires no_last { answers.old.last ≡ None }
+    requires room { HasRoomFor answers.old
+        (length (piece_or_rest input.old ++ ahead input.old)) (bytes_read input.old) }
+    ensures submits { SubmitsGroup D.honest D.folder D.moment D.left
+        (piece_or_rest input.old ++ ahead input.old) input.new store.old store.new
+        answers.old answers.new result }
+    ensures small { answers.new.written + length (unwritten_bytes answers.new) < 2 ^ 64 }
+    ensures read { OnOk result (bytes_read input.new ≡ bytes_read input.old) }
+    ensures less { OnOk result (length (ahead input.new) ≤ length (ahead input.old)) }
+    ensures room { OnOk result
+        (HasRoomFor answers.new (length (ahead input.new)) (bytes_read input.new)) }
+    ensures cause { IsErrOf result SessionFault.Device →
+        HasFailed (D.failure_count store.old.disk) (D.failure_count store.new.disk) }
+    ensures risen { D.failure_count store.old.disk ≤ D.failure_count store.new.disk }
+{
+    'pieces: loop {
+        submit_piece(alloc, store, input.piece(), answers)?;
+        if answers.is_full() || !input.has_piece_ahead() {
+            return Ok(());
+        }
+        input.advance_ahead()?;
+    }
+}
+
+/// Performs a group and flushes it: the piece in hand, and each further one that was read, until the answers are full.
+/// From then on no crash takes away a command whose answer is kept, so the answers may be written.
+///
+/// # Errors
+/// `OutOfMemory`: the pieces before the current one are performed and flushed, and that one changed nothing. `Device`:
+/// the pieces before the current one are performed, and that one is or isn't; a crash may still take back all of them,
+/// and the store has to be opened again.
+fn answer_group<D: Disk>(
+    alloc: Global,
+    store: &mut Store<D>,
+    input: &mut Input,
+    answers: &mut Unwritten,
+) -> Result<(), SessionFault>
+    requires sound { store.old.reopen ≡ false }
+    requires means { D.honest → LeavesPrefixes (D.folder store.old.disk) store.old.state }
+    requires piece { IsAtPiece input.old }
+    requires no_last { answers.old.last ≡ None }
+    requires room { HasRoomFor answers.old
+        (length (piece_or_rest input.old ++ ahead input.old)) (bytes_read input.old) }
+    ensures ends { EndsGroup D.honest D.folder D.moment D.left
+        (piece_or_rest input.old ++ ahead input.old) input.new store.old store.new
+        answers.old answers.new result }
+    ensures now { D.honest → store.new.reopen ≡ false →
+        AllImagesMean (D.folder store.new.disk) store.new.state }
+    ensures small { answers.new.written + length (unwritten_bytes answers.new) < 2 ^ 64 }
+    ensures read { OnOk result (bytes_read input.new ≡ bytes_read input.old) }
+    ensures less { OnOk result (length (ahead input.new) ≤ length (ahead input.old)) }
+    ensures room { OnOk result
+        (HasRoomFor answers.new (length (ahead input.new)) (bytes_read input.new)) }
+    ensures cause { IsErrOf result SessionFault.Device →
+        HasFailed (D.failure_count store.old.disk) (D.failure_count store.new.disk) }
+    ensures risen { D.failure_count store.old.disk ≤ D.failure_count store.new.disk }
+{
+    match submit_group(alloc, store, input, answers) {
+        Ok(()) => flush_all(store),
+        Err(SessionFault::OutOfMemory) => {
+            flush_all(store)?;
+            Err(SessionFault::OutOfMemory)
+        }
+        Err(fault) => Err(fault),
+    }
+}
+
+/// Performs a group, flushes it, and then writes its answers.
+///
+/// # Errors
+/// `Write`: all pieces of the group are performed and flushed, and so many bytes of answers were written, with those of
+/// the groups before. `OutOfMemory`: the pieces before the current one are performed, flushed and answered, and that
+/// one changed nothing. `Device`: as [`answer_group`], and nothing is written.
+fn perform_group<D: Disk, W: Write>(
+    alloc: Global,
+    store: &mut Store<D>,
+    input: &mut Input,
+    writer: &mut W,
+    answers: &mut Unwritten,
+) -> Result<(), SessionFault>
+    requires sound { store.old.reopen ≡ false }
+    requires means { D.honest → LeavesPrefixes (D.folder store.old.disk) store.old.state }
+    requires piece { IsAtPiece input.old }
+    requires no_last { answers.old.last ≡ None }
+    requires room { HasRoomFor answers.old
+        (length (piece_or_rest input.old ++ ahead input.old)) (bytes_read input.old) }
+    requires none { unwritten_bytes answers.old ≡ [] }
+    ensures performs { PerformsGroup D.honest D.folder D.moment D.left
+        (W.contents writer.old) (W.contents writer.new)
+        (piece_or_rest input.old ++ ahead input.old) input.new store.old store.new
+        answers.old answers.new result }
+    ensures read { OnOk result (bytes_read input.new ≡ bytes_read input.old) }
+    ensures less { OnOk result (length (ahead input.new) ≤ length (ahead input.old)) }
+    ensures room { OnOk result
+        (HasRoomFor answers.new (length (ahead input.new)) (bytes_read input.new)) }
+    ensures cause { IsErrOf result SessionFault.Device →
+        HasFailed (D.failure_count store.old.disk) (D.failure_count store.new.disk) }
+    ensures risen { D.failure_count store.old.disk ≤ D.failure_count store.new.disk }
+{
+    match answer_group(alloc, store, input, answers) {
+        Ok(()) => answers.write(writer),
+        Err(SessionFault::OutOfMemory) => {
+            answers.write(writer)?;
+            Err(SessionFault::OutOfMemory)
+        }
+        Err(fault) => Err(fault),
+    }
+}
+
+/// Begins a checkpoint. Does nothing if there is no memory for it.
+///
+/// # Errors
+/// `Device`: the store has to be opened again.
+fn begin_checkpoint<D: Disk>(store: &mut Store<D>) -> Result<(), SessionFault>
+    requires sound { store.old.reopen ≡ false }
+    requires none { store.old.staged ≡ None }
+    requires flushed { D.honest →
+        HasFlushed (D.folder store.old.disk) store.old.state [] store.old.state }
+    requires now { D.honest → AllImagesMean (D.folder store.old.disk) store.old.state }
+    ensures tends { TendsByBeginning D.honest D.folder D.moment D.left
+        store.old store.new result }
+    ensures cause { IsErrOf result SessionFault.Device →
+        HasFailed (D.failure_count store.old.disk) (D.failure_count store.new.disk) }
+    ensures risen { D.failure_count store.old.disk ≤ D.failure_count store.new.disk }
+{
+    let Err(fault) = store.begin_checkpoint() else {
+        return Ok(());
+    };
+    match fault {
+        StoreFault::OutOfMemory => Ok(()),
+        _ => Err(SessionFault::Device),
+    }
+}
+
+/// Writes the next slice of the running checkpoint.
+///
+/// # Errors
+/// `Device`: the store has to be opened again.
+fn write_slice<D: Disk>(store: &mut Store<D>) -> Result<(), SessionFault>
+    requires sound { store.old.reopen ≡ false }
+    requires runs { IsSome store.old.staged }
+    requires flushed { D.honest →
+        HasFlushed (D.folder store.old.disk) store.old.state [] store.old.state }
+    requires now { D.honest → AllImagesMean (D.folder store.old.disk) store.old.state }
+    ensures tends { TendsBySlice D.honest D.folder D.moment D.left
+        store.old store.new result }
+    ensures cause { IsErrOf result SessionFault.Device →
+        HasFailed (D.failure_count store.old.disk) (D.failure_count store.new.disk) }
+    ensures risen { D.failure_count store.old.disk ≤ D.failure_count store.new.disk }
+{
+    match store.slice() {
+        Ok(_) => Ok(()),
+        Err(_) => Err(SessionFault::Device),
+    }
+}
+
+/// Begins a checkpoint if one is due, or writes a slice of the one that runs.
+///
+/// # Errors
+/// `Device`: the store has to be opened again.
+fn tend_checkpoint<D: Disk>(
+    store: &mut Store<D>,
+    checkpoints: Checkpoints,
+) -> Result<(), SessionFault>
+    requires sound { store.old.reopen ≡ false }
+    requires flushed { D.honest →
+        HasFlushed (D.folder store.old.disk) store.old.state [] store.old.state }
+    requires now { D.honest → AllImagesMean (D.folder store.old.disk) store.old.state }
+    ensures tends { Tends D.honest D.folder D.moment D.left checkpoints
+        store.old store.new result }
+    ensures cause { IsErrOf result SessionFault.Device →
+        HasFailed (D.failure_count store.old.disk) (D.failure_count store.new.disk) }
+    ensures risen { D.failure_count store.old.disk ≤ D.failure_count store.new.disk }
+{
+    let Checkpoints::After { bytes } = checkpoints else {
+        return Ok(());
+    };
+    if store.running() {
+        return write_slice(store);
+    }
+    if store.grown() < bytes {
+        return Ok(());
+    }
+    begin_checkpoint(store)
+}
+
+/// Performs the commands of a stream in groups, and answers each by one document. Returns what was done.
+///
+/// The input is cut into pieces, and each is answered, as by [`run`](crate::run). All whole pieces that were read
+/// already are one group: each is performed, then one sync flushes all of them, and only then are their answers
+/// written. So a client that sends many commands at once pays one sync for all that one read brought, and a client that
+/// waits for each answer pays as many as with `run`. A group ends early once its answers have 65,536 bytes, and what is
+/// kept for the output is at most that and one answer. Nothing is read while a whole piece is at hand.
+///
+/// Commands that were submitted before, and wait for a flush, are flushed first.
+///
+/// With [`Checkpoints::After`] a checkpoint is begun after a group, once `store.yaml` has grown by so many bytes, and
+/// one slice of it is written after each further group. So no answer waits for more than a slice. If there is no memory
+/// for a checkpoint the session goes on, and tries again after a later group. A checkpoint that runs when the session
+/// ends goes on running.
+///
+/// A crash at any moment leaves the state after a prefix of what waited and of the accepted commands. Once this
+/// returns, that prefix has every command whose answer was written. Unless it returns `Device` or `Reopen`, nothing
+/// waits then.
+///
+/// # Errors
+/// All pieces before the fault are performed, flushed and answered, but for `Write` and `Device`.
+///
+/// - `Read`: a read failed.
+/// - `TooLong`: a piece, or what comes after the last closing line, has more than 4,194,304 bytes.
+/// - `SessionLong`: the input has more than 1,073,741,824 bytes.
+/// - `Write`: a write failed, or took nothing. All pieces of the group are performed and flushed, also those after the
+///   one whose answer was cut. Nothing more is read.
+/// - `OutOfMemory`: the current piece changed nothing.
+/// - `Device`: any number of pieces of the last group are performed without an answer, a crash may still take them
+///   back, and the store has to be opened again.
+/// - `Reopen` comes only at the start, if the store has to be opened again. Nothing is read or written.
+pub fn run_grouped<D: Disk, R: Read, W: Write>(
+    alloc: Global,
+    store: &mut Store<D>,
+    reader: &mut R,
+    writer: &mut W,
+    checkpoints: Checkpoints,
+) -> Result<Tally, SessionFault>
+    ensures runs { RunsGrouped D.honest D.folder D.moment D.left
+        (R.remaining reader.old) (R.remaining reader.new) (W.contents writer.old)
+        (W.contents writer.new)
+        checkpoints store.old store.new result }
+    ensures reopen { IsErrOf result SessionFault.Reopen ↔ (store.old.reopen ≡ true) }
+    ensures unchanged { IsErrOf result SessionFault.Reopen → store.new ≡ store.old }
+    ensures device { (store.new.reopen ≡ true)
+        ↔ ((store.old.reopen ≡ true) ⊎ IsErrOf result SessionFault.Device) }
+    ensures cause { IsErrOf result SessionFault.Device →
+        HasFailed (D.failure_count store.old.disk) (D.failure_count store.new.disk) }
+{
+    if store.needs_reopen() {
+        return Err(SessionFault::Reopen);
+    }
+    flush_all(store)?;
+    let mut input = Input::new(alloc)?;
+    let mut answers = Unwritten::new(alloc);
+    'groups: while input.advance(reader)? {
+        perform_group(alloc, store, &mut input, writer, &mut answers)?;
+        tend_checkpoint(store, checkpoints)?;
+    }
+    let mut tally = answers.tally;
+    tally.rest = input.piece().len() as u64;
+    Ok(tally)
+}

@@ -1,0 +1,148 @@
+// The answers of a group, until they are written.
+ghost use Rattle.std.specs.Prelude.{◌≡◌, ◌+◌, ◌^◌, ◌<◌, ◌≤◌, ◌⊎◌, ◌↔◌, ◌++◌, true, [], None, if◌then◌else◌, OnOk, IfErr, IsSome, length, take};
+ghost use Rattle.std.specs.Io.KnownBytes.{Appends};
+ghost use Rattle.conf_session.specs.Gathering.{FailsToWrite, KeepsAnswer, WritesAnswers, answers_limit, last_bytes, unwritten_bytes};
+
+use crate::fault::SessionFault;
+use crate::output::write_whole;
+use crate::pieces::{bytes_of, count_accepted, count_refused};
+use crate::reply::Reply;
+use crate::session::Tally;
+use std::alloc::Global;
+use std::io::Write;
+
+/// The most bytes of answers that are kept, but for the last answer.
+const ANSWERS_LIMIT: usize = 65_536;
+
+/// Appends bytes to a text that keeps its limit. Returns whether it did: the text stays as it was if they would pass
+/// the limit, or if there is no memory.
+fn extend_within(text: &mut Vec<u8>, bytes: &[u8]) -> bool
+    requires { length text.old.items ≤ answers_limit }
+    ensures bytes { text.new.items
+        ≡ (if result then text.old.items ++ bytes.now else text.old.items) }
+    ensures within { length text.new.items ≤ answers_limit }
+{
+    if bytes.len() > ANSWERS_LIMIT - text.len() {
+        return false;
+    }
+    text.extend_from_slice(bytes).is_ok()
+}
+
+/// The bytes of an answer that is kept apart; none if there is no such answer.
+fn bytes_of_last(last: &Option<Reply>) -> &[u8]
+    ensures { result.now ≡ last_bytes last.now }
+{
+    match last {
+        None => b"",
+        Some(reply) => bytes_of(reply),
+    }
+}
+
+/// Writes a text, and then further bytes.
+///
+/// # Errors
+/// If a write fails, or takes nothing: the number of bytes that were written before. These are the first ones.
+fn write_both<W: Write>(writer: &mut W, text: &[u8], last: &[u8]) -> Result<(), u64>
+    requires { length text.now + length last.now < 2 ^ 64 }
+    ensures whole { OnOk result
+        (Appends (W.contents writer.old) (W.contents writer.new) (text.now ++ last.now)) }
+    ensures cut { IfErr result (λ count. count < length (text.now ++ last.now)) }
+    ensures prefix { IfErr result (λ count.
+        Appends (W.contents writer.old) (W.contents writer.new) (take count (text.now ++ last.now))) }
+{
+    if let Err(count) = write_whole(writer, text) {
+        return Err(count as u64);
+    }
+    match write_whole(writer, last) {
+        Ok(()) => Ok(()),
+        Err(count) => Err(text.len() as u64 + count as u64),
+    }
+}
+
+/// The answers that are not written yet, what was done so far, and how many bytes of answers were written before.
+///
+/// An answer that is made is always kept: in the text if it fits there and there is memory, and else apart, as the last
+/// one. After that none may follow before all are written.
+#[derive(Drop)]
+pub(crate) struct Unwritten {
+    pub text: Vec<u8>,
+    pub last: Option<Reply>,
+    pub tally: Tally,
+    pub written: u64,
+}
+
+impl Unwritten {
+    /// No answers: nothing was done yet.
+    pub fn new(alloc: Global) -> Unwritten
+        ensures text { result.text.items ≡ [] }
+        ensures last { result.last ≡ None }
+        ensures documents { result.tally.documents ≡ 0 }
+        ensures accepted { result.tally.accepted ≡ 0 }
+        ensures refused { result.tally.refused ≡ 0 }
+        ensures written { result.written ≡ 0 }
+    {
+        let tally = Tally {
+            documents: 0,
+            accepted: 0,
+            refused: 0,
+            rest: 0,
+        };
+        Unwritten {
+            text: Vec::new(alloc),
+            last: None,
+            tally,
+            written: 0,
+        }
+    }
+
+    /// Keeps one answer more, and counts it. None may be kept apart.
+    pub fn keep(&mut self, reply: Reply)
+        requires no_last { self.old.last ≡ None }
+        requires within { length self.old.text.items ≤ answers_limit }
+        requires room { self.old.tally.documents + 1 < 2 ^ 64 }
+        requires accepted { self.old.tally.accepted ≤ self.old.tally.documents }
+        requires refused { self.old.tally.refused ≤ self.old.tally.documents }
+        ensures { KeepsAnswer self.old self.new reply }
+    {
+        self.tally.documents += 1;
+        self.tally.accepted += count_accepted(&reply);
+        self.tally.refused += count_refused(&reply);
+        if !extend_within(&mut self.text, bytes_of(&reply)) {
+            self.last = Some(reply);
+        }
+    }
+
+    /// Whether a group has to end: an answer is kept apart, or the text has 65,536 bytes.
+    pub fn is_full(&self) -> bool
+        ensures { (result ≡ true) ↔ (IsSome self.now.last ⊎ (answers_limit ≤ length self.now.text.items)) }
+    {
+        self.last.is_some() || self.text.len() >= ANSWERS_LIMIT
+    }
+
+    /// Writes all answers, and then keeps none.
+    ///
+    /// # Errors
+    /// `Write`: a write failed, or took nothing. It counts the bytes of all answers that were written, with those
+    /// before.
+    pub fn write<W: Write>(&mut self, writer: &mut W) -> Result<(), SessionFault>
+        requires { self.old.written + length (unwritten_bytes self.old) < 2 ^ 64 }
+        ensures ok { OnOk result
+            (WritesAnswers (W.contents writer.old) (W.contents writer.new) self.old self.new) }
+        ensures fails { IfErr result
+            (FailsToWrite (W.contents writer.old) (W.contents writer.new) self.old) }
+    {
+        let last = bytes_of_last(&self.last);
+        let len = self.text.len() as u64 + last.len() as u64;
+        match write_both(writer, &self.text, last) {
+            Ok(()) => {
+                self.written += len;
+                self.text.clear();
+                self.last = None;
+                Ok(())
+            }
+            Err(count) => Err(SessionFault::Write {
+                written: self.written + count,
+            }),
+        }
+    }
+}

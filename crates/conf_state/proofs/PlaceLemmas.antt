@@ -1,0 +1,162 @@
+-- What changes of the places make of the configurations.
+use Rattle.std.proofs.Common.{◌≡◌, ℕ, Bool, true, false, cond, List, [], ◌∷◌, filter, String, Global, Option, Some, None, is_some, string_bytes, MutBor, OnSome, OnErr, Result, Ok, Err, refl, sym, ap, ◌∙◌}
+use Rattle.std.proofs.lemmas.Map.Keys.{IsDistinct-head, IsDistinct-tail}
+use Rattle.std.proofs.lemmas.Slice.Eq.{bytes_eq-Decides}
+use Rattle.std.specs.List.{AllByRecursion, IsDistinct}
+use Rattle.std.specs.Map.{keys_of, lookup, set_value}
+use Rattle.std.specs.Option.{option_copied_mut}
+use Rattle.std.specs.String.{string_eq}
+use Rattle.indexmap.specs.IndexMap.{insert_entry}
+use Rattle.conf_state.specs.Configs.{is_name, put_under, cut_from}
+use Rattle.conf_state.specs.Places.{with_place, present}
+
+-- what is found in a place
+abbrev pub in_place : {X : Type 0} → Option (Option X) → Option X
+in_place None = None
+in_place (Some place) = place
+
+module _ {X : Type 0} (q : List ℕ) where
+  -- no further place has the name of this one
+  none_further : (name : String Global) → is_name q name ≡ true → (ps : List (String Global × Option X))
+      → AllByRecursion (λ other. string_eq name other ≡ false) (keys_of ps) → lookup (is_name q) ps ≡ None
+  none_further name is [] apart = refl
+  none_further name is (p ∷ ps) apart =
+      ap (λ b. cond b (Some p.1) (lookup (is_name q) ps)) (ap (λ bs. is_name bs p.0) ((bytes_eq-Decides q (string_bytes name)).0 is) ∙ apart.0)
+      ∙ none_further name is ps apart.1
+
+  -- a configuration is found in the place of its name
+  pub lookup-present : (ps : List (String Global × Option X)) → IsDistinct string_eq (keys_of ps)
+      → lookup (is_name q) (present ps) ≡ in_place (lookup (is_name q) ps)
+  lookup-present [] distinct = refl
+  lookup-present (p ∷ ps) distinct = by p.1 (is_name q p.0) refl (lookup-present ps (IsDistinct-tail string_eq p.0 (keys_of ps) distinct))
+    where
+      by : (place : Option X) (b : Bool) → is_name q p.0 ≡ b → lookup (is_name q) (present ps) ≡ in_place (lookup (is_name q) ps)
+          → lookup (is_name q) (with_place p.0 place (present ps)) ≡ in_place (cond b (Some place) (lookup (is_name q) ps))
+      by None true is rest = rest ∙ ap in_place (none_further p.0 is ps (IsDistinct-head string_eq p.0 (keys_of ps) distinct))
+      by None false is rest = rest
+      by (Some x) true is rest = ap (λ b. cond b (Some x) (lookup (is_name q) (present ps))) is
+      by (Some x) false is rest = ap (λ b. cond b (Some x) (lookup (is_name q) (present ps))) is ∙ rest
+
+  -- another configuration in the place of one
+  pub present-set : (ps : List (String Global × Option X)) (old new : X) → lookup (is_name q) ps ≡ Some (Some old)
+      → present (set_value (is_name q) ps (Some new)) ≡ set_value (is_name q) (present ps) new
+  present-set [] old new is = cc
+  present-set (p ∷ ps) old new is = by p.1 (is_name q p.0) refl is (present-set ps old new)
+    where
+      by : (place : Option X) (b : Bool) → is_name q p.0 ≡ b → cond b (Some place) (lookup (is_name q) ps) ≡ Some (Some old)
+          → (lookup (is_name q) ps ≡ Some (Some old) → present (set_value (is_name q) ps (Some new)) ≡ set_value (is_name q) (present ps) new)
+          → present (cond b ((p.0, Some new) ∷ ps) ((p.0, place) ∷ set_value (is_name q) ps (Some new))) ≡ set_value (is_name q) (with_place p.0 place (present ps)) new
+      by None true named is rest = cc
+      by None false named is rest = rest is
+      by (Some x) true named is rest = ap (λ b. cond b ((p.0, new) ∷ present ps) ((p.0, x) ∷ set_value (is_name q) (present ps) new)) (sym named)
+      by (Some x) false named is rest =
+          ap (λ es. (p.0, x) ∷ es) (rest is)
+          ∙ ap (λ b. cond b ((p.0, new) ∷ present ps) ((p.0, x) ∷ set_value (is_name q) (present ps) new)) (sym named)
+
+  -- no configuration in the place of one
+  pub present-emptied : (ps : List (String Global × Option X)) (old : X) → lookup (is_name q) ps ≡ Some (Some old)
+      → present (set_value (is_name q) ps None) ≡ cut_from q (present ps)
+  present-emptied [] old is = cc
+  present-emptied (p ∷ ps) old is = by p.1 (is_name q p.0) refl is (present-emptied ps old)
+    where
+      by : (place : Option X) (b : Bool) → is_name q p.0 ≡ b → cond b (Some place) (lookup (is_name q) ps) ≡ Some (Some old)
+          → (lookup (is_name q) ps ≡ Some (Some old) → present (set_value (is_name q) ps None) ≡ cut_from q (present ps))
+          → present (cond b ((p.0, None) ∷ ps) ((p.0, place) ∷ set_value (is_name q) ps None)) ≡ cut_from q (with_place p.0 place (present ps))
+      by None true named is rest = cc
+      by None false named is rest = rest is
+      by (Some x) true named is rest = ap (λ b. cond b (present ps) ((p.0, x) ∷ cut_from q (present ps))) (sym named)
+      by (Some x) false named is rest =
+          ap (λ es. (p.0, x) ∷ es) (rest is) ∙ ap (λ b. cond b (present ps) ((p.0, x) ∷ cut_from q (present ps))) (sym named)
+
+  -- a name that is not there is not cut out
+  pub cut-absent : (es : List (String Global × X)) → lookup (is_name q) es ≡ None → cut_from q es ≡ es
+  cut-absent [] is = refl
+  cut-absent (e ∷ es) is = by (is_name q e.0) is (cut-absent es)
+    where
+      by : (b : Bool) → cond b (Some e.1) (lookup (is_name q) es) ≡ None → (lookup (is_name q) es ≡ None → cut_from q es ≡ es)
+          → cond b es (e ∷ cut_from q es) ≡ e ∷ es
+      by true is rest = cc
+      by false is rest = ap (λ es. e ∷ es) (rest is)
+
+  -- a name that has no configuration has no place once the empty ones are closed
+  pub closed-absent : (ps : List (String Global × Option X)) → lookup (is_name q) (present ps) ≡ None → lookup (is_name q) (filter (λ p. is_some p.1) ps) ≡ None
+  closed-absent [] is = refl
+  closed-absent (p ∷ ps) is = by p.1 is (closed-absent ps)
+    where
+      by : (place : Option X) → lookup (is_name q) (with_place p.0 place (present ps)) ≡ None
+          → (lookup (is_name q) (present ps) ≡ None → lookup (is_name q) (filter (λ p. is_some p.1) ps) ≡ None)
+          → lookup (is_name q) (cond (is_some place) ((p.0, place) ∷ filter (λ p. is_some p.1) ps) (filter (λ p. is_some p.1) ps)) ≡ None
+      by None is rest = rest is
+      by (Some x) is rest = at (is_name q p.0) is rest
+        where
+          at : (b : Bool) → cond b (Some x) (lookup (is_name q) (present ps)) ≡ None
+              → (lookup (is_name q) (present ps) ≡ None → lookup (is_name q) (filter (λ p. is_some p.1) ps) ≡ None)
+              → cond b (Some (Some x)) (lookup (is_name q) (filter (λ p. is_some p.1) ps)) ≡ None
+          at true is rest = cc
+          at false is rest = rest is
+
+module _ {X : Type 0} where
+  -- closing the empty places leaves the configurations
+  pub present-closed : (ps : List (String Global × Option X)) → present (filter (λ p. is_some p.1) ps) ≡ present ps
+  present-closed [] = refl
+  present-closed (p ∷ ps) = by p.1 (present-closed ps)
+    where
+      by : (place : Option X) → present (filter (λ p. is_some p.1) ps) ≡ present ps
+          → present (cond (is_some place) ((p.0, place) ∷ filter (λ p. is_some p.1) ps) (filter (λ p. is_some p.1) ps)) ≡ with_place p.0 place (present ps)
+      by None rest = rest
+      by (Some x) rest = ap (λ es. (p.0, x) ∷ es) rest
+
+  module _ (name : String Global) (x : X) where
+    -- a configuration at a new name's place goes last
+    pub present-insert : (ps : List (String Global × Option X)) → lookup (is_name (string_bytes name)) ps ≡ None
+        → present (insert_entry string_eq ps name (Some x)) ≡ put_under name x (present ps)
+    present-insert [] is = refl
+    present-insert (p ∷ ps) is = by p.1 (is_name (string_bytes name) p.0) refl is (present-insert ps)
+      where
+        by : (place : Option X) (b : Bool) → is_name (string_bytes name) p.0 ≡ b → cond b (Some place) (lookup (is_name (string_bytes name)) ps) ≡ None
+            → (lookup (is_name (string_bytes name)) ps ≡ None → present (insert_entry string_eq ps name (Some x)) ≡ put_under name x (present ps))
+            → present (cond b ((p.0, Some x) ∷ ps) ((p.0, place) ∷ insert_entry string_eq ps name (Some x))) ≡ put_under name x (with_place p.0 place (present ps))
+        by place true named is rest = cc
+        by None false named is rest = rest is
+        by (Some y) false named is rest =
+            ap (λ es. (p.0, y) ∷ es) (rest is)
+            ∙ ap (λ b. cond b ((p.0, x) ∷ present ps) ((p.0, y) ∷ put_under name x (present ps))) (sym named)
+
+    -- a configuration under a name that is there replaces the one that is
+    pub put-there : (es : List (String Global × X)) (old : X) → lookup (is_name (string_bytes name)) es ≡ Some old
+        → set_value (is_name (string_bytes name)) es x ≡ put_under name x es
+    put-there [] old is = cc
+    put-there (e ∷ es) old is = by (is_name (string_bytes name) e.0) is (put-there es old)
+      where
+        by : (b : Bool) → cond b (Some e.1) (lookup (is_name (string_bytes name)) es) ≡ Some old
+            → (lookup (is_name (string_bytes name)) es ≡ Some old → set_value (is_name (string_bytes name)) es x ≡ put_under name x es)
+            → cond b ((e.0, x) ∷ es) (e ∷ set_value (is_name (string_bytes name)) es x) ≡ cond b ((e.0, x) ∷ es) (e ∷ put_under name x es)
+        by true is rest = refl
+        by false is rest = ap (λ es. e ∷ es) (rest is)
+
+-- ---- options
+
+-- an option that is not some is `None`
+pub is_none : {A : Type 0} (o : Option A) → is_some o ≡ false → o ≡ None
+is_none None is = refl
+is_none (Some a) is = cc
+
+-- a reference into a place that is there, if the place has a configuration
+pub on_some : {X : Type 0} {P : Type 0} (r : Option (MutBor X)) (place : Option X) → option_copied_mut r ≡ place → ((old : X) → place ≡ Some old → P) → OnSome r P
+on_some None place is so = tt
+on_some (Some r) place is so = so r.now (sym is)
+
+-- what is some has a value
+pub some_value : {A : Type 0} (o : Option A) → is_some o ≡ true → (a : A) × (o ≡ Some a)
+some_value None is = cc
+some_value (Some a) is = (a, refl)
+
+-- what holds in any case holds after a failure
+pub on_err : {A E P : Type 0} (r : Result A E) → P → OnErr r P
+on_err (Ok a) p = tt
+on_err (Err e) p = p
+
+-- a reference is there exactly if its value is
+pub is_some-copied : {A : Type 0} (o : Option (MutBor A)) → is_some o ≡ is_some (option_copied_mut o)
+is_some-copied None = refl
+is_some-copied (Some r) = refl

@@ -1,0 +1,131 @@
+-- How long the base at the start of a file is, and by how much the file has grown.
+use Rattle.std.proofs.Common.{◌≡◌, ◌≤◌, refl, sym, ◌∙◌, ap, subst, arith, append_assoc, length-append, take-append-drop}
+use Rattle.std.specs.Prelude.{ℕ, ◌-◌, List, [], ◌++◌, length, take, drop, Option, Some, None}
+use Rattle.std.proofs.lemmas.List.{append-nil, length-take-le}
+use Rattle.std.proofs.lemmas.List.Elements.{All-head}
+use Rattle.yaml_grammar.specs.Closings.{ClosesOnce}
+use Rattle.yaml_recognizers.specs.Closings.{PieceBetween}
+use Rattle.yaml_docs.specs.NextClosing.{IsNextClosing, StartsLine}
+use Rattle.std.specs.Prelude.{Vec}
+use Rattle.std.specs.declared.alloc.Global.{Global}
+use Rattle.conf_disk.specs.Folder.{Folder, Tells, bytes_under}
+use Rattle.conf_disk.specs.declared.disk.Content.TheVariants.{Missing, Bytes}
+use Rattle.conf_disk.specs.declared.disk.Name.TheVariants.{Next}
+use Rattle.conf_journal.specs.Store.{file_with_bytes, store_limit}
+use Rattle.conf_state.specs.States.{Contents}
+use Rattle.conf_record.specs.Documents.{IsBase}
+use Rattle.conf_store.specs.Accepting.{IsBaseOf}
+use Rattle.conf_store.specs.Durable.{staged_text}
+use Rattle.conf_store.specs.Files.{HasLength}
+use Rattle.conf_store.specs.Grown.{IsGrown, HasGrown, StartsWithBase, FileStartsWithBase, StagedStartsWithBase, FoundBase}
+use Rattle.conf_store.specs.Opens.{IsFound}
+use Rattle.conf_store.specs.Staged.{Staged, with_more}
+use Rattle.conf_store.proofs.PieceLemmas.{closes-within}
+use Rattle.conf_store.proofs.RecoveryLemmas.{first-piece}
+use Rattle.conf_store.proofs.StagedLemmas.{text-more, text-same}
+
+-- ---- bytes
+
+-- the first piece that is read is the base
+pub first-base : PieceBetween → (bytes : List ℕ) (place : ℕ) (s : Contents) → StartsLine bytes 0 → IsNextClosing bytes 0 place → IsBase (take place bytes) s → StartsWithBase bytes place
+first-base piece_between bytes place s starts next is = record {
+  base = take place bytes;
+  others = drop place bytes;
+  joined = sym (take-append-drop place bytes);
+  closes = All-head ClosesOnce (take place bytes) [] (first-piece piece_between bytes place starts next).closed;
+  state = s;
+  is_base = is;
+  long = length-take-le place bytes (closes-within bytes place next.closes);
+}
+
+-- a base and nothing else
+pub base-alone : (s : Contents) (bytes : List ℕ) → IsBaseOf s bytes → StartsWithBase bytes (length bytes)
+base-alone s bytes base = record {
+  base = bytes;
+  others = [];
+  joined = sym (append-nil bytes);
+  closes = base.closes;
+  state = s;
+  is_base = base.reads;
+  long = refl;
+}
+
+starts-more : (bytes more : List ℕ) (size : ℕ) → StartsWithBase bytes size → StartsWithBase (bytes ++ more) size
+starts-more bytes more size starts = record {
+  base = starts.base;
+  others = starts.others ++ more;
+  joined = ap (λ l. l ++ more) starts.joined ∙ append_assoc starts.base starts.others more;
+  closes = starts.closes;
+  state = starts.state;
+  is_base = starts.is_base;
+  long = starts.long;
+}
+
+-- the base is no longer than the file
+pub base-within : (bytes : List ℕ) (size : ℕ) → StartsWithBase bytes size → size ≤ length bytes
+base-within bytes size starts = omega (arith, starts.long, ap length starts.joined, length-append starts.base starts.others)
+
+starts-grown : (bytes : List ℕ) (size : ℕ) → StartsWithBase bytes size → IsGrown bytes (length bytes - size)
+starts-grown bytes size starts = record {
+  base = starts.base;
+  others = starts.others;
+  joined = starts.joined;
+  closes = starts.closes;
+  state = starts.state;
+  is_base = starts.is_base;
+  long = omega (arith, starts.long, ap length starts.joined, length-append starts.base starts.others);
+}
+
+-- ---- files
+
+-- a file of so many bytes has grown by all that follow its base
+pub file-grown : (file : Option (List ℕ)) (size base : ℕ) → FileStartsWithBase file base → HasLength file size → HasGrown file (size - base)
+file-grown None size base starts long = absurd starts
+file-grown (Some bytes) size base starts long = subst (λ n. IsGrown bytes (n - base)) long (starts-grown bytes base starts)
+
+-- more bytes at its end leave the base
+pub file-more : (file : Option (List ℕ)) (more : List ℕ) (base : ℕ) → FileStartsWithBase file base → FileStartsWithBase (file_with_bytes file more) base
+file-more None more base starts = absurd starts
+file-more (Some bytes) more base starts = starts-more bytes more base starts
+
+-- a file that is there and stays as it is
+pub found-base : (file : Option (List ℕ)) (s : Contents) (records dropped n : ℕ) (size : Option ℕ) (base : ℕ) → IsFound file s records dropped size → size ≡ Some n → FoundBase file base → FileStartsWithBase file base
+found-base None s records dropped n size base found is starts = (let stays = found.stays n is in absurd (cc stays.2))
+found-base (Some bytes) s records dropped n size base found is starts = starts
+
+-- ---- the new file of a checkpoint
+
+-- one that begins
+pub staged-begins : (folder : Folder) (s : Contents) (bytes : List ℕ) → IsBaseOf s bytes → bytes_under folder Next ≡ Some []
+    → StagedStartsWithBase folder (Some (record { written = 0; left = bytes })) (length bytes)
+staged-begins folder s bytes base reads =
+    subst (λ (o : Option (List ℕ)). FileStartsWithBase o (length bytes)) (sym (ap (λ (o : Option (List ℕ)). file_with_bytes o bytes) reads)) (base-alone s bytes base)
+
+-- one whose text stays
+pub staged-stays : (old new : Folder) (before after : Staged) (base : ℕ) → staged_text new (Some after) ≡ staged_text old (Some before) → StagedStartsWithBase old (Some before) base
+    → StagedStartsWithBase new (Some after) base
+staged-stays old new before after base same starts = subst (λ (o : Option (List ℕ)). FileStartsWithBase o base) (sym same) starts
+
+-- one to which nothing is done
+pub staged-base-same : (old new : Folder) (staged : Option Staged) (base : ℕ) → bytes_under new Next ≡ bytes_under old Next → StagedStartsWithBase old staged base → StagedStartsWithBase new staged base
+staged-base-same old new None base same starts = tt
+staged-base-same old new (Some staged) base same starts = staged-stays old new staged staged base (text-same old new (Some staged) same) starts
+
+-- one with more bytes at its end
+pub staged-base-more : (old new : Folder) (more : List ℕ) (staged : Option Staged) (base : ℕ) → bytes_under new Next ≡ bytes_under old Next → StagedStartsWithBase old staged base
+    → StagedStartsWithBase new (with_more more staged) base
+staged-base-more old new more None base same starts = tt
+staged-base-more old new more (Some staged) base same starts =
+    subst (λ (o : Option (List ℕ)). FileStartsWithBase o base) (sym (text-more old new more (Some staged) same)) (file-more (staged_text old (Some staged)) more base starts)
+
+-- ---- what was read
+
+-- there was no file
+pub missing-base : (file : Option (List ℕ)) → Tells file store_limit Missing → FoundBase file 0
+missing-base None tells = refl
+missing-base (Some bytes) tells = absurd tells
+
+-- the bytes were read
+pub bytes-base : (file : Option (List ℕ)) (read : Vec ℕ Global) (base : ℕ) → Tells file store_limit (Bytes read) → StartsWithBase read.items base → FoundBase file base
+bytes-base None read base tells starts = absurd tells
+bytes-base (Some bytes) read base tells starts = subst (λ b. StartsWithBase b base) tells.0 starts

@@ -1,0 +1,61 @@
+// Reading the state of a folder without a change to it.
+ghost use Rattle.std.specs.Prelude.{◌≡◌, ◌≤◌, IfOk, IfErr, IsErrOf};
+ghost use Rattle.conf_disk.specs.Folder.{bytes_under};
+ghost use Rattle.conf_state.specs.Limits.{IsState};
+ghost use Rattle.conf_store.specs.Calls.{HasFailed};
+ghost use Rattle.conf_store.specs.Files.{FilesStay};
+ghost use Rattle.conf_store.specs.Meaning.{FileMeans};
+ghost use Rattle.conf_store.specs.Opens.{FileRecoversTo, RefusesOpening, RefusalMeans};
+
+use crate::opening::{Found, find_state};
+use crate::recovery::Opened;
+use crate::{OpenFault, bytes_mean_one_state};
+use conf_disk::{Disk, DiskFault, Name};
+use conf_journal::STORE_LIMIT;
+use conf_state::State;
+use std::alloc::Global;
+
+/// Reads the state that `store.yaml` means, and returns it with what was found. A missing file is the empty state. The
+/// only call of the disk is one read, so nothing is written or synced.
+///
+/// This is for a folder that can't be written, and for a look at a store that stays as it is. The state is the one that
+/// [`Store::open`](crate::Store::open) would return. But what was read may not be synced: a crash may take back its
+/// last commands, until the store is opened or flushed.
+///
+/// The time is linear in the length of the file, as that of an opening.
+///
+/// # Errors
+/// `NotAStore` and `Damaged` if `store.yaml` means nothing, as an opening returns them. `Device` if the read failed,
+/// and `OutOfMemory`. Both files are as they were, whatever this returns.
+pub fn read_state<D: Disk>(alloc: Global, disk: &mut D) -> Result<(State, Opened), OpenFault>
+    ensures found { D.honest → IfOk result (λ r.
+        FileRecoversTo (bytes_under (D.folder disk.old) Name.Store) r.0 r.1.commands r.1.dropped) }
+    // The state is what `store.yaml` means.
+    ensures means { D.honest → IfOk result (λ r.
+        FileMeans (bytes_under (D.folder disk.old) Name.Store) r.0) }
+    ensures limits { IfOk result (λ r. IsState r.0) }
+    ensures refused { D.honest → IfErr result (λ fault.
+        RefusesOpening fault (bytes_under (D.folder disk.old) Name.Store)) }
+    // A file that is refused means nothing.
+    ensures no_meaning { D.honest → IfErr result (λ fault.
+        RefusalMeans fault (bytes_under (D.folder disk.old) Name.Store)) }
+    ensures cause { IsErrOf result OpenFault.Device →
+        HasFailed (D.failure_count disk.old) (D.failure_count disk.new) }
+    // The number of failures never falls.
+    ensures risen { D.failure_count disk.old ≤ D.failure_count disk.new }
+    // Whatever it returns, nothing has changed, and what was to be synced still is.
+    ensures same { D.honest → D.folder disk.new ≡ D.folder disk.old }
+    // What a crash leaves, now and at any moment of the call, it could leave before.
+    ensures stays { D.honest → FilesStay D.folder D.moment D.left disk.old disk.new }
+{
+    bytes_mean_one_state();
+    let content = match disk.read(alloc, Name::Store, STORE_LIMIT) {
+        Ok(content) => content,
+        Err(DiskFault::Device) => return Err(OpenFault::Device),
+        Err(DiskFault::OutOfMemory) => return Err(OpenFault::OutOfMemory),
+    };
+    match find_state(alloc, content) {
+        Ok(Found { state, opened, .. }) => Ok((state, opened)),
+        Err(fault) => Err(fault),
+    }
+}

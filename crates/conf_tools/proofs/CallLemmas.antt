@@ -1,0 +1,163 @@
+-- What calls of the program keep, one call after the other.
+use Rattle.std.proofs.Common.{◌≡◌, ◌≤◌, ℕ, List, [], ◌∷◌, ◌++◌, take, Option, None, Some, Result, Ok, Err, refl, sym, ap, ◌∙◌, subst, ⊎_elim, arith}
+use Rattle.conf_disk.specs.Folder.{Folder, bytes_under}
+use Rattle.conf_disk.specs.Image.{Image, IsImage, image_now}
+use Rattle.conf_disk.specs.Laws.{ReadingIsAnImage}
+use Rattle.conf_disk.specs.Moments.{LeavesOnly}
+use Rattle.conf_disk.specs.declared.disk.Name.TheVariants.{Store}
+use Rattle.conf_state.specs.Commands.{Command}
+use Rattle.conf_state.specs.States.{Contents}
+use Rattle.conf_state.specs.Steps.{after, and_then}
+use Rattle.conf_state.proofs.RunLaws.{after-append}
+use Rattle.conf_store.specs.Durable.{AfterPrefix}
+use Rattle.conf_store.specs.Lives.{all_commands}
+use Rattle.conf_store.specs.Meaning.{FileMeans}
+use Rattle.conf_store.specs.Opens.{MeantAtEntry, OneMeaning}
+use Rattle.conf_session.specs.declared.fault.SessionFault.{SessionFault}
+use Rattle.conf_session.specs.declared.session.Tally.{Tally}
+use Rattle.conf_tools.specs.ProgramCalls.{AreCalls, Call, CallsHold, EachKept, Ending, Event, KeptOf, MayLeave, accepted, answered, cut_off, disk_before, disk_behind, exporting, returned, running}
+use Rattle.conf_tools.specs.Stores.{KeepsAnswered}
+use Rattle.conf_tools.specs.declared.stores.Grouping.{Grouping}
+use Rattle.conf_tools.specs.declared.stores.StoreToolFault.TheVariants.{Folder as InFolder, Open, Session, Export, Output}
+
+-- a file means one state at most
+file-one : OneMeaning → (file : Option (List ℕ)) (s t : Contents) → FileMeans file s → FileMeans file t → s ≡ t
+file-one one None s t a b = a ∙ sym b
+file-one one (Some bytes) s t a b = one bytes s t a b
+
+-- the first commands lead to a state, and the others on from there
+led-on : (from between to : Contents) (first others : List Command) → after from first ≡ Ok between → after between others ≡ Ok to → after from (first ++ others) ≡ Ok to
+led-on from between to first others one two = after-append from first others ∙ ap (λ r. and_then r (λ (s : Contents). after s others)) one ∙ two
+
+-- What is kept of a call: it leads from a state of which P holds to the state that the file means.
+record Kept (P : Contents → Type 0) (ending : Ending) (accepted : List Command) (answered : ℕ) (file : Option (List ℕ)) : Type 0 where
+  kept : List Command
+  of : KeptOf ending accepted answered kept
+  from : Contents
+  holds : P from
+  to : Contents
+  leads : after from kept ≡ Ok to
+  means : FileMeans file to
+
+-- a call that was cut off owes no answer
+none-owed : (answered count : ℕ) → cut_off ≡ returned → answered ≤ count
+none-owed answered count is = cc
+
+kept-prefix : (P : Contents → Type 0) (ending : Ending) (s : Contents) (accepted : List Command) (answered : ℕ) (file : Option (List ℕ)) → P s
+    → (after-prefix : AfterPrefix s accepted file) → (ending ≡ returned → answered ≤ after-prefix.count) → Kept P ending accepted answered file
+kept-prefix P ending s accepted answered file holds prefix enough = record {
+  kept = take prefix.count accepted;
+  of = record { count = prefix.count; are = refl; all_answered = enough };
+  from = s;
+  holds = holds;
+  to = prefix.state;
+  leads = prefix.leads;
+  means = prefix.means;
+}
+
+module _ {D : Type 0} (folder : D → Folder) (moment : D → ℕ) (since : D → ℕ → Image → Type 0)
+    (one : OneMeaning) (reading : ReadingIsAnImage) (counts : (disk : D) (t : ℕ) (image : Image) → t ≤ moment disk → IsImage (folder disk) image → since disk t image) where
+  -- whatever a crash leaves of the disk means a state of which P holds
+  abbrev Stands : D → (Contents → Type 0) → Type 0
+  Stands disk P = (image : Image) → IsImage (folder disk) image → (s : Contents) × P s × FileMeans image.store s
+
+  -- so does what is read
+  reads : (P : Contents → Type 0) (disk : D) (s : Contents) → Stands disk P → FileMeans (bytes_under (folder disk) Store) s → P s
+  reads P disk s stands means =
+      let now = stands (image_now (folder disk)) (reading (folder disk)) in
+      subst P (file-one one (bytes_under (folder disk) Store) now.0 s now.2 means) now.1
+
+  -- what was meant at entry: nothing is kept
+  kept-entry : (P : Contents → Type 0) (old : D) (ending : Ending) (accepted : List Command) (answered : ℕ) (image : Image) → Stands old P
+      → (ending ≡ returned → answered ≤ 0) → MeantAtEntry (folder old) image.store → Kept P ending accepted answered image.store
+  kept-entry P old ending accepted answered image stands none meant =
+      let entry = stands meant.entry meant.is in record {
+        kept = [];
+        of = record { count = 0; are = refl; all_answered = none };
+        from = entry.0;
+        holds = entry.1;
+        to = entry.0;
+        leads = refl;
+        means = (meant.alike entry.0).1 entry.2;
+      }
+
+  -- a call that accepts nothing
+  kept-unchanged : (P : Contents → Type 0) (old new : D) (ending : Ending) (image : Image) → Stands old P
+      → LeavesOnly moment since old new (λ image. MeantAtEntry (folder old) image.store) → MayLeave folder moment since ending old new image
+      → Kept P ending [] 0 image.store
+  kept-unchanged P old new returned image stands leaves is =
+      kept-entry P old returned [] 0 image stands (λ _. omega arith) (leaves.each image (counts new (moment old) image leaves.later is))
+  kept-unchanged P old new cut_off image stands leaves is = kept-entry P old cut_off [] 0 image stands (none-owed 0 0) (leaves.each image is)
+
+  -- a session
+  kept-session : (P : Contents → Type 0) (given left held written : Option (List ℕ)) (grouping : Grouping) (old new : D) (result : Result Tally SessionFault) (ending : Ending) (image : Image) → Stands old P
+      → (keeps : KeepsAnswered folder moment since given left held written grouping old new result) → MayLeave folder moment since ending old new image
+      → Kept P ending keeps.work.accepted keeps.work.answered image.store
+  kept-session P given left held written grouping old new result returned image stands keeps is =
+      let s = keeps.start.state in
+      let least = keeps.returned image is in
+      kept-prefix P returned s keeps.work.accepted keeps.work.answered image.store (reads P old s stands keeps.opens.means)
+      (record { count = least.count; state = least.state; leads = least.leads; means = least.means }) (λ _. least.enough)
+  kept-session P given left held written grouping old new result cut_off image stands keeps is =
+      let s = keeps.start.state in
+      ⊎_elim
+      (λ was. kept-entry P old cut_off keeps.work.accepted keeps.work.answered image stands (none-owed keeps.work.answered 0) (keeps.while_opening.each image was))
+      (λ now. kept-prefix P cut_off s keeps.work.accepted keeps.work.answered image.store (reads P old s stands keeps.opens.means) now (none-owed keeps.work.answered now.count))
+      (keeps.once_open.before (moment old) image keeps.while_opening.later is)
+
+  -- any call
+  kept-call : (P : Contents → Type 0) (ending : Ending) (call : Call folder moment since) (image : Image) → Stands (disk_before folder moment since call) P
+      → MayLeave folder moment since ending (disk_before folder moment since call) (disk_behind folder moment since call) image
+      → Kept P ending (accepted folder moment since call) (answered folder moment since call) image.store
+  kept-call P ending (running given left held written grouping old (Ok (new, tally)) keeps) image stands is =
+      kept-session P given left held written grouping old new (Ok tally) ending image stands keeps is
+  kept-call P ending (running given left held written grouping old (Err (new, Session fault)) keeps) image stands is =
+      kept-session P given left held written grouping old new (Err fault) ending image stands keeps is
+  kept-call P ending (running given left held written grouping old (Err (new, InFolder fault)) leaves) image stands is = kept-unchanged P old new ending image stands leaves is
+  kept-call P ending (running given left held written grouping old (Err (new, Open fault)) leaves) image stands is = kept-unchanged P old new ending image stands leaves is
+  kept-call P ending (running given left held written grouping old (Err (new, Export fault)) leaves) image stands is = kept-unchanged P old new ending image stands leaves is
+  kept-call P ending (running given left held written grouping old (Err (new, Output)) leaves) image stands is = kept-unchanged P old new ending image stands leaves is
+  kept-call P ending (exporting old new leaves) image stands is = kept-unchanged P old new ending image stands leaves is
+
+  -- What is kept of all calls, from a state of which P holds.
+  record KeptOfAll (P : Contents → Type 0) (events : List (Event folder moment since)) (file : Option (List ℕ)) : Type 0 where
+    kept : List (List Command)
+    each : EachKept folder moment since events kept
+    from : Contents
+    holds : P from
+    to : Contents
+    leads : after from (all_commands kept) ≡ Ok to
+    means : FileMeans file to
+
+  kept-calls : (events : List (Event folder moment since)) (P : Contents → Type 0) (first last : D) → Stands first P → AreCalls folder moment since first events last
+      → (image : Image) → IsImage (folder last) image → KeptOfAll P events image.store
+  kept-calls [] P first last stands same image is =
+      let here = stands image (subst (λ (disk : D). IsImage (folder disk) image) same is) in
+      record { kept = []; each = tt; from = here.0; holds = here.1; to = here.0; leads = refl; means = here.2 }
+  kept-calls (event ∷ events) P first last stands (same, next, follows, further) image is =
+      let stood = subst (λ (disk : D). Stands disk P) (sym same) stands in
+      let came = λ (image : Image) (is : IsImage (folder next) image). kept-call P event.ending event.call image stood
+      (subst (λ (disk : D). MayLeave folder moment since event.ending disk (disk_behind folder moment since event.call) image) (sym same) (follows image is)) in
+      let Reached : Contents → Type 0 = λ to. (kept : List Command) × KeptOf event.ending (accepted folder moment since event.call) (answered folder moment since event.call) kept
+      × (from : Contents) × P from × (after from kept ≡ Ok to) in
+      let rest = kept-calls events Reached next last (λ image is. let k = came image is in (k.to, (k.kept, k.of, k.from, k.holds, k.leads), k.means)) further image is in
+      let here = rest.holds in record {
+        kept = here.0 ∷ rest.kept;
+        each = (here.1, rest.each);
+        from = here.2;
+        holds = here.3;
+        to = rest.to;
+        leads = led-on here.2 rest.from rest.to here.0 (all_commands rest.kept) here.4 rest.leads;
+        means = rest.means;
+      }
+
+  -- no answered command is lost, and none is kept that was not accepted
+  pub calls-hold : CallsHold folder moment since
+  calls-hold s first last events all are image is =
+      let kept = kept-calls events (λ t. t ≡ s) first last (λ image is. (s, refl, all image is)) are image is in record {
+        kept = kept.kept;
+        each = kept.each;
+        state = kept.to;
+        leads = subst (λ (t : Contents). after t (all_commands kept.kept) ≡ Ok kept.to) kept.holds kept.leads;
+        means = kept.means;
+      }

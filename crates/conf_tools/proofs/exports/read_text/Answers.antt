@@ -1,0 +1,16 @@
+-- What was read is the state that the file means, and the bytes of a string are the UTF-8 of its characters.
+use Rattle.std.proofs.Common.{sym, string_bytes}
+use Rattle.std.proofs.lemmas.Str.{IsUtf8-string_bytes, encodes-chars}
+use Rattle.conf_tools.proofs.ExportLemmas.{read-finds}
+use Rattle.conf_tools.proofs.exports.read_text.Goals as goal
+
+pub returns-in-Ok-export_text-clause-ok : goal.returns-in-Ok-export_text-clause-ok
+returns-in-Ok-export_text-clause-ok g c =
+    let d = g.D.Disk in
+    let text = c.in-Ok-export_text.text in
+    record {
+      state = c.in-Ok.state;
+      finds = read-finds d.honest d.folder d.moment d.left d.failure_count c.args.disk c.read_state.new.disk c.in-Ok.state (λ h. c.in-Ok.ensures.same h) (λ h. c.in-Ok.ensures.means h);
+      exports = c.in-Ok-export_text.ensures.ok;
+      exact = sym (encodes-chars (string_bytes text) (IsUtf8-string_bytes text));
+    }

@@ -1,0 +1,133 @@
+-- Calls of the program on the store of one folder, one after the other, and what the folder keeps of their commands.
+use Rattle.std.specs.Prelude.{◌≡◌, ◌≤◌, ℕ, List, [], ◌∷◌, take, Option, Result, Ok, Err}
+use Rattle.conf_disk.specs.Folder.{Folder}
+use Rattle.conf_disk.specs.Image.{Image, IsImage}
+use Rattle.conf_disk.specs.Moments.{LeavesOnly}
+use Rattle.conf_state.specs.Commands.{Command}
+use Rattle.conf_state.specs.States.{Contents}
+use Rattle.conf_state.specs.Steps.{after}
+use Rattle.conf_store.specs.Durable.{AllImagesMean}
+use Rattle.conf_store.specs.Lives.{all_commands}
+use Rattle.conf_store.specs.Meaning.{FileMeans}
+use Rattle.conf_store.specs.Opens.{MeantAtEntry}
+use Rattle.conf_session.specs.declared.session.Tally.{Tally}
+use Rattle.conf_tools.specs.Stores.{SurvivesCrashes}
+use Rattle.conf_tools.specs.declared.stores.Grouping.{Grouping}
+use Rattle.conf_tools.specs.declared.stores.StoreToolFault.{StoreToolFault}
+use Rattle.conf_tools.specs.declared.stores.StoreToolFault.TheVariants.{Session}
+
+-- ---- one call
+
+-- A call of `run_store` or `export_store` on a disk that is honest, with what its clause `crashes` says. A call that
+-- was cut off is given by what it would have returned: an image that it left is one that this clause allows.
+pub data Call {D : Type 0} (folder : D → Folder) (moment : D → ℕ) (since : D → ℕ → Image → Type 0) : Type 0 where
+  running : (given left held written : Option (List ℕ)) (grouping : Grouping) (old : D)
+      (result : Result (D × Tally) (D × StoreToolFault))
+      (crashes : SurvivesCrashes folder moment since given left held written grouping old result)
+      → Call folder moment since
+  exporting : (old new : D)
+      (crashes : LeavesOnly moment since old new (λ image. MeantAtEntry (folder old) image.store))
+      → Call folder moment since
+
+-- Whether a call returned, or was cut off by a crash, or by the end of its process.
+pub data Ending : Type 0 where
+  returned : Ending
+  cut_off : Ending
+
+module _ {D : Type 0} (folder : D → Folder) (moment : D → ℕ) (since : D → ℕ → Image → Type 0) where
+  -- the disk before a call
+  abbrev pub disk_before : Call folder moment since → D
+  disk_before (running given left held written grouping old result crashes) = old
+  disk_before (exporting old new crashes) = old
+
+  -- the disk after a session
+  abbrev pub disk_handed_back : Result (D × Tally) (D × StoreToolFault) → D
+  disk_handed_back (Ok r) = r.0
+  disk_handed_back (Err r) = r.0
+
+  -- the disk after a call
+  abbrev pub disk_behind : Call folder moment since → D
+  disk_behind (running given left held written grouping old result crashes) = disk_handed_back result
+  disk_behind (exporting old new crashes) = new
+
+  -- the commands that a session accepted
+  abbrev pub accepted_by_run : (given left held written : Option (List ℕ)) (grouping : Grouping) (old : D)
+      (result : Result (D × Tally) (D × StoreToolFault))
+      → SurvivesCrashes folder moment since given left held written grouping old result → List Command
+  accepted_by_run given left held written grouping old (Ok (new, tally)) keeps = keeps.work.accepted
+  accepted_by_run given left held written grouping old (Err (new, Session fault)) keeps = keeps.work.accepted
+  accepted_by_run given left held written grouping old (Err (new, fault)) refused = []
+
+  -- how many of them it answered
+  abbrev pub answered_by_run : (given left held written : Option (List ℕ)) (grouping : Grouping) (old : D)
+      (result : Result (D × Tally) (D × StoreToolFault))
+      → SurvivesCrashes folder moment since given left held written grouping old result → ℕ
+  answered_by_run given left held written grouping old (Ok (new, tally)) keeps = keeps.work.answered
+  answered_by_run given left held written grouping old (Err (new, Session fault)) keeps = keeps.work.answered
+  answered_by_run given left held written grouping old (Err (new, fault)) refused = 0
+
+  -- the commands that a call accepted
+  abbrev pub accepted : Call folder moment since → List Command
+  accepted (running given left held written grouping old result crashes) =
+      accepted_by_run given left held written grouping old result crashes
+  accepted (exporting old new crashes) = []
+
+  -- how many of them it answered
+  abbrev pub answered : Call folder moment since → ℕ
+  answered (running given left held written grouping old result crashes) =
+      answered_by_run given left held written grouping old result crashes
+  answered (exporting old new crashes) = 0
+
+  -- what a call leaves that ended so: what a crash may leave once it returned, or at any moment of it
+  abbrev pub MayLeave : Ending → D → D → Image → Type 0
+  MayLeave returned old new image = IsImage (folder new) image
+  MayLeave cut_off old new image = since new (moment old) image
+
+-- ---- calls one after the other
+
+-- a call, and how it ended
+pub record Event {D : Type 0} (folder : D → Folder) (moment : D → ℕ) (since : D → ℕ → Image → Type 0) : Type 0 where
+  pub call : Call folder moment since
+  pub ending : Ending
+
+module _ {D : Type 0} (folder : D → Folder) (moment : D → ℕ) (since : D → ℕ → Image → Type 0) where
+  -- The first call finds the folder of the disk `first`. Each next one finds a folder of which a crash leaves no more
+  -- than what the call before may have left, and so does the disk `last`.
+  abbrev pub AreCalls : D → List (Event folder moment since) → D → Type 0
+  AreCalls first [] last = last ≡ first
+  AreCalls first (event ∷ events) last =
+      (disk_before folder moment since event.call ≡ first) × (next : D)
+      × ((image : Image) → IsImage (folder next) image
+      → MayLeave folder moment since event.ending first (disk_behind folder moment since event.call) image)
+      × AreCalls next events last
+
+-- ---- what they keep
+
+-- the first of the commands that were accepted, with all that were answered if the call returned
+pub record KeptOf (ending : Ending) (accepted : List Command) (answered : ℕ) (kept : List Command) : Type 0 where
+  pub count : ℕ
+  pub are : kept ≡ take count accepted
+  pub all_answered : ending ≡ returned → answered ≤ count
+
+module _ {D : Type 0} (folder : D → Folder) (moment : D → ℕ) (since : D → ℕ → Image → Type 0) where
+  abbrev pub EachKept : List (Event folder moment since) → List (List Command) → Type 0
+  EachKept [] [] = Unit {0}
+  EachKept [] (kept ∷ others) = ⊥
+  EachKept (event ∷ events) [] = ⊥
+  EachKept (event ∷ events) (kept ∷ others) =
+      KeptOf event.ending (accepted folder moment since event.call) (answered folder moment since event.call) kept
+      × EachKept events others
+
+  -- the file means the first state after what was kept of each call
+  pub record Holds (s : Contents) (events : List (Event folder moment since)) (file : Option (List ℕ)) : Type 0 where
+    pub kept : List (List Command)
+    pub each : EachKept events kept
+    pub state : Contents
+    pub leads : after s (all_commands kept) ≡ Ok state
+    pub means : FileMeans file state
+
+  -- Where whatever a crash leaves of the first folder means `s`, each image of the last one holds what was kept.
+  abbrev pub CallsHold : Type 0
+  CallsHold = (s : Contents) (first last : D) (events : List (Event folder moment since))
+      → AllImagesMean (folder first) s → AreCalls folder moment since first events last
+      → (image : Image) → IsImage (folder last) image → Holds s events image.store

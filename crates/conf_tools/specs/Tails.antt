@@ -1,0 +1,42 @@
+-- The end of what a reader gave, and why its rest has no closing line.
+use Rattle.std.specs.Prelude.{◌≡◌, ℕ, ◌+◌, ◌-◌, ◌^◌, min, nat_le, Bool, false, ◌||◌, ◌==◌, if◌then◌else◌, List, [], ◌∷◌, ◌++◌, length, drop, codes, Option, Some, None}
+use Rattle.std.specs.List.{list_any, starts_with, ends_with}
+use Rattle.conf_tools.specs.declared.tail.Tail.{Tail}
+use Rattle.conf_tools.specs.declared.rest.Cause.{Cause}
+use Rattle.conf_tools.specs.declared.rest.Cause.TheVariants.{NulBytes, CrLf, NoLineFeed, Dashes, NoClosingLine}
+
+-- whether a byte is a space, a TAB, a CR or an LF
+abbrev pub is_blank : ℕ → Bool
+is_blank byte = byte == 32 || byte == 9 || byte == 13 || byte == 10
+
+-- How many bytes were given since the last one that is not blank, where it was `blanks` before these bytes. It stops at
+-- the greatest number.
+abbrev pub blanks_after : ℕ → List ℕ → ℕ
+blanks_after blanks [] = blanks
+blanks_after blanks (byte ∷ bytes) =
+    blanks_after (if is_blank byte then min (blanks + 1) (2 ^ 64 - 1) else 0) bytes
+
+-- the tail after these bytes
+pub record Follows (old : Tail) (bytes : List ℕ) (new : Tail) : Type 0 where
+  pub kept : new.kept ≡ drop (length bytes) (old.kept ++ bytes)
+  pub blanks : new.blanks ≡ blanks_after old.blanks bytes
+
+-- the last bytes of a rest, of those that are kept; none if all of the rest is blank
+abbrev pub end_of_rest : List ℕ → ℕ → ℕ → Option (List ℕ)
+end_of_rest kept blanks rest =
+    if nat_le rest blanks then None else Some (drop (length kept - min rest (length kept)) kept)
+
+-- whether a part, which is not empty, stands somewhere in the bytes
+abbrev pub has_part : List ℕ → List ℕ → Bool
+has_part part [] = false
+has_part part (byte ∷ bytes) = starts_with ◌==◌ (byte ∷ bytes) part || has_part part bytes
+
+-- Why bytes that end an input have no closing line: the first cause that they show. NUL bytes are in UTF-16, and a line
+-- of `---` may have been meant for a closing line.
+abbrev pub cause_of : List ℕ → Cause
+cause_of end =
+    if list_any (λ byte. byte == 0) end then NulBytes
+    else if has_part (codes "\r\n") end then CrLf
+    else if ends_with ◌==◌ end (codes "...") then NoLineFeed
+    else if has_part (codes "\n---") end then Dashes
+    else NoClosingLine

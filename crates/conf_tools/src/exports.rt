@@ -1,0 +1,131 @@
+// Writing one configuration of a store, over any disk and writer.
+ghost use Rattle.std.specs.Prelude.{◌≡◌, ◌≤◌, ◌⊎◌, IfOk, IfErr, Err, string_bytes};
+ghost use Rattle.std.specs.Str.{chars};
+ghost use Rattle.conf_disk.specs.Moments.{LeavesOnly};
+ghost use Rattle.conf_store.specs.Calls.{Exports, tree_named};
+ghost use Rattle.conf_store.specs.Files.{FilesStay};
+ghost use Rattle.conf_store.specs.Opens.{MeantAtEntry};
+ghost use Rattle.conf_tools.specs.Exports.{ExportsFrom, HasText, LacksText, RefusesExport, disk_back, disk_handed_back};
+
+use crate::stores::{StoreToolFault, open_store};
+use crate::texts::write_whole;
+use conf_disk::{Disk, reading_is_an_image};
+use conf_state::{State, StoreFault, good_name};
+use conf_store::{OpenFault, read_state};
+use std::alloc::Global;
+use std::io::Write;
+use yaml_emit::style_text;
+
+/// The text of the configuration that a state has under a name, in the one style.
+///
+/// # Errors
+/// `BadName` if the name may not be used, `NoConfig` if no configuration has it, and `OutOfMemory`.
+fn export_text(alloc: Global, state: &State, name: &str) -> Result<String, StoreFault>
+    ensures ok { IfOk result (λ text.
+        Exports state.now (chars name.now) (chars (string_bytes text))) }
+    ensures refused { IfErr result (λ fault.
+        (fault ≡ StoreFault.OutOfMemory) ⊎ (tree_named state.now (chars name.now) ≡ Err fault)) }
+{
+    if !good_name(name) {
+        return Err(StoreFault::BadName);
+    }
+    match state.get(name) {
+        Some(config) => Ok(style_text(alloc, config)?),
+        None => Err(StoreFault::NoConfig),
+    }
+}
+
+/// The text of the configuration under a name, in the one style, from what `store.yaml` on `disk` means. No file
+/// changes.
+///
+/// # Errors
+/// The disk is returned with the fault: `Open` if the file can't be read or means nothing, and `Export` as
+/// [`export_store`] says.
+fn read_text<D: Disk + Drop>(
+    alloc: Global,
+    disk: D,
+    name: &str,
+) -> Result<(D, String), (D, StoreToolFault)>
+    ensures ok { IfOk result (λ r. HasText D.honest D.folder D.failure_count disk r.0
+        (chars name.now) (string_bytes r.1)) }
+    ensures refused { IfErr result (λ r. LacksText D.honest D.folder D.failure_count disk r.0
+        (chars name.now) r.1) }
+    ensures same { D.honest → D.folder (disk_back result) ≡ D.folder disk }
+    ensures stays { D.honest → FilesStay D.folder D.moment D.left disk (disk_back result) }
+    ensures risen { D.failure_count disk ≤ D.failure_count (disk_back result) }
+{
+    let mut disk = disk;
+    let state = match read_state(alloc, &mut disk) {
+        Ok((state, _)) => state,
+        Err(fault) => return Err((disk, StoreToolFault::Open(fault))),
+    };
+    match export_text(alloc, &state, name) {
+        Ok(text) => Ok((disk, text)),
+        Err(fault) => Err((disk, StoreToolFault::Export(fault))),
+    }
+}
+
+/// The same from the store on `disk`, which is opened. If the device fails then, it is read, so that a folder serves
+/// that can't be written.
+fn text_of<D: Disk + Drop>(
+    alloc: Global,
+    disk: D,
+    name: &str,
+) -> Result<(D, String), (D, StoreToolFault)>
+    ensures ok { IfOk result (λ r. HasText D.honest D.folder D.failure_count disk r.0
+        (chars name.now) (string_bytes r.1)) }
+    ensures refused { IfErr result (λ r. LacksText D.honest D.folder D.failure_count disk r.0
+        (chars name.now) r.1) }
+    ensures crashes { D.honest → LeavesOnly D.moment D.left disk (disk_back result)
+        (λ image. MeantAtEntry (D.folder disk) image.store) }
+{
+    reading_is_an_image();
+    let store = match open_store(alloc, disk) {
+        Ok(store) => store,
+        Err((disk, OpenFault::Device)) => return read_text(alloc, disk, name),
+        Err((disk, fault)) => return Err((disk, StoreToolFault::Open(fault))),
+    };
+    let exported = store.export(name);
+    let disk = store.close();
+    match exported {
+        Ok(text) => Ok((disk, text)),
+        Err(fault) => Err((disk, StoreToolFault::Export(fault))),
+    }
+}
+
+/// Opens the store on `disk`, and writes the configuration under a name to `writer`, in the one style. Returns the
+/// disk.
+///
+/// If the device fails while the store is opened, `store.yaml` is read as it stands, and nothing more is written or
+/// synced. So the configuration can be had from a folder that can't be written. But a crash may take back the last
+/// commands that were read so.
+///
+/// Whatever this returns, a crash at any moment leaves a `store.yaml` that means what it might have meant before.
+///
+/// # Errors
+/// The disk is returned with the fault. `Open` if the store can't be opened or read, with `Device` only if the device
+/// failed; `Export` if the name may not be used, no configuration has it, or memory runs out. Then nothing is written.
+/// `Output` if the writer fails: some of the text may be written.
+pub fn export_store<D: Disk + Drop, W: Write>(
+    alloc: Global,
+    disk: D,
+    name: &str,
+    writer: &mut W,
+) -> Result<D, (D, StoreToolFault)>
+    ensures ok { IfOk result (λ disk_behind. ExportsFrom D.honest D.folder D.failure_count
+        disk disk_behind (chars name.now) (W.contents writer.old) (W.contents writer.new)) }
+    ensures refused { IfErr result (λ r. RefusesExport D.honest D.folder D.failure_count
+        disk r.0 (chars name.now) (W.contents writer.old) (W.contents writer.new) r.1) }
+    // No crash loses a command that was accepted.
+    ensures crashes { D.honest → LeavesOnly D.moment D.left disk (disk_handed_back result)
+        (λ image. MeantAtEntry (D.folder disk) image.store) }
+{
+    let (disk, text) = match text_of(alloc, disk, name) {
+        Ok(found) => found,
+        Err(refused) => return Err(refused),
+    };
+    match write_whole(writer, text.as_bytes()) {
+        Ok(()) => Ok(disk),
+        Err(_) => Err((disk, StoreToolFault::Output)),
+    }
+}
