@@ -14,8 +14,6 @@ mod folder;
 mod lock;
 mod owner;
 mod plain;
-#[cfg(test)]
-mod tests;
 
 pub use disk::FolderDisk;
 pub use fault::FolderFault;

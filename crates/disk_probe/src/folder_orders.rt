@@ -12,6 +12,7 @@ pub(crate) fn answer(
         ["make", name] => folders.make(alloc, name),
         ["remove", name] => folders.remove(alloc, name),
         ["take", name] => folders.take(alloc, name),
+        ["take_for_reading", name] => folders.take_for_reading(alloc, name),
         ["close"] => folders.close(alloc),
         words => folders.call(alloc, words),
     }

@@ -1,6 +1,6 @@
 // Folders of the system, and the disk of one of them.
 use crate::calls::call;
-use conf_folder::FolderDisk;
+use conf_folder::{FolderDisk, FolderFault};
 use probe_words::{make_folder, remove_folder};
 use std::alloc::{AllocError, Global};
 
@@ -29,7 +29,24 @@ impl<'r> Folders<'r> {
 
     /// Takes the disk of a folder. Where it can't be taken, the one that was taken before stays.
     pub(crate) fn take(&mut self, alloc: Global, name: &str) -> Result<String, AllocError> {
-        match FolderDisk::new(self.rt, alloc, name) {
+        self.hold(alloc, FolderDisk::new(self.rt, alloc, name))
+    }
+
+    /// Takes the disk of a folder for reading alone. Where it can't be taken, the one that was taken before stays.
+    pub(crate) fn take_for_reading(
+        &mut self,
+        alloc: Global,
+        name: &str,
+    ) -> Result<String, AllocError> {
+        self.hold(alloc, FolderDisk::for_reading(self.rt, alloc, name))
+    }
+
+    fn hold(
+        &mut self,
+        alloc: Global,
+        taken: Result<FolderDisk<'r, HostRuntime>, FolderFault>,
+    ) -> Result<String, AllocError> {
+        match taken {
             Ok(disk) => {
                 self.taken = Some(disk);
                 String::from_str(alloc, "taken")
