@@ -49,7 +49,7 @@ at most 1,048,576 bytes, and are at most 64 deep. A command has at most 4,194,30
 
 Example:
   mkdir store
-  printf '---\\nimport: web\\ntext: \"host: example\"\\n...\\n' | confstore run store
+  printf '%s\\n' --- 'import: web' 'text: \"host: example\"' ... | confstore run store
 
 The `---` before a command may be left out. Other YAML readers want one after each `...`.";
 
