@@ -38,7 +38,7 @@ too-long (Some bytes) tells = inl tells
 pub not-read : (store : Option (List ℕ)) (read : Vec ℕ Global) (fault : OpenFault) → Tells store store_limit (Bytes read) → RefusesBytes read.items fault → RefusesOpening fault store
 not-read None read fault tells unread = absurd tells
 not-read (Some bytes) read NotAStore tells unread = inr (subst HasNoBase tells.0 unread)
-not-read (Some bytes) read (Damaged number) tells unread = subst (λ b. RefusesBytes b (Damaged number)) tells.0 unread
+not-read (Some bytes) read (Damaged number) tells unread = (tells.1, subst (λ b. RefusesBytes b (Damaged number)) tells.0 unread)
 not-read (Some bytes) read Device tells unread = tt
 not-read (Some bytes) read OutOfMemory tells unread = tt
 
@@ -128,7 +128,7 @@ refused-nothing nothing NotAStore None refused = absurd refused
 refused-nothing nothing (Damaged number) None refused = absurd refused
 refused-nothing nothing NotAStore (Some bytes) (inl long) = λ s means. (let short = means.short in omega (arith, long, short))
 refused-nothing nothing NotAStore (Some bytes) (inr none) = λ s means. (nothing bytes s means).0 none
-refused-nothing nothing (Damaged number) (Some bytes) damaged = λ s means. (nothing bytes s means).1 number damaged
+refused-nothing nothing (Damaged number) (Some bytes) damaged = λ s means. (nothing bytes s means).1 number damaged.1
 
 -- ---- failures
 
