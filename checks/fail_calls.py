@@ -110,16 +110,17 @@ OF_CALLS = {
 
 class Call:
     """A call of a session without faults: its number from 1, its name, the file that it is made on, and its place in
-    the session: whether it is the first on its file, whether input was read before, and how many bytes of output were
-    written."""
+    the session: whether it is the first on its file, how many bytes of input were read before, and how many bytes of
+    output were written."""
 
-    def __init__(self, number, name, file, size, first, begun, written):
+    def __init__(self, number, name, file, size, first, taken, written):
         self.number = number
         self.name = name
         self.file = file
         self.size = size
         self.first = first
-        self.begun = begun
+        self.taken = taken
+        self.begun = taken > 0 or self.reads_input()
         self.written = written
 
     def __str__(self):
@@ -185,13 +186,13 @@ class Trial:
         return ended, list(self.placed(lines))
 
     def placed(self, lines):
-        begun, written, files = False, 0, set()
+        taken, written, files = 0, 0, set()
         for number, line in enumerate(lines, 1):
             name, file, asked = line.split(" ")
             size = min(int(asked), self.most or int(asked))
-            begun = begun or file == "input"
-            yield Call(number, name, file, size, file not in files, begun, written)
+            yield Call(number, name, file, size, file not in files, taken, written)
             files.add(file)
+            taken = min(len(self.story.commands), taken + size) if (name, file) == ("read", "input") else taken
             written += size if (name, file) == ("write", "output") else 0
 
 
@@ -210,6 +211,17 @@ class Expected:
             self.least = self.most
         if call.reads_input() and not whole:
             self.most = self.least
+        if call.reads_input() and kind.answer == "zero":
+            self.ended = (0, dropped(story.commands[: call.taken]))
+
+
+def dropped(taken):
+    """How the line on standard error begins where the input ends after these bytes, or no line if nothing is lost."""
+    rest = taken.rpartition(b"\n...\n")[2]
+    if not rest.strip():
+        return ""
+    what = "last byte of the input was" if len(rest) == 1 else f"last {len(rest)} bytes of the input were"
+    return f"confstore: the {what} not performed: "
 
 
 def written_by(call, kind):
@@ -249,7 +261,8 @@ def try_fault(trial, call, kind):
     status, output, errors = trial.run(folder, kind.environment(call.number))
     failures = Failures()
     expected = Expected(trial, call, kind)
-    failures.expect(f"{name}: ending", (status, errors), expected.ended)
+    begun = errors[: len(expected.ended[1])] if expected.ended[1].endswith(": ") else errors
+    failures.expect(f"{name}: ending", (status, begun), expected.ended)
     failures.expect(f"{name}: output", output, trial.story.output[: expected.written])
     status, output, errors = session(folder, LOOK)
     held = trial.story.states.index(output) if output in trial.story.states else output
@@ -257,7 +270,7 @@ def try_fault(trial, call, kind):
     failures.expect(f"{name}: opened again", (status, errors), DONE)
     failures.expect(f"{name}: held {held}, of {list(allowed)}", held in allowed, True)
     shutil.rmtree(folder)
-    return failures, expected.ended
+    return failures, DONE if expected.ended[0] == 0 else expected.ended
 
 
 def try_story(top, story, most, failures):

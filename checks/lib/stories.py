@@ -86,5 +86,5 @@ LARGE = Story(
         for number in range(2, 7)
     ],
     [True] * 5,
-    [looked(1, TEXT), *(looked(number, f"{TEXT}{number}") for number in range(2, 7))],
+    [looked(1, f'"{TEXT}"'), *(looked(number, f'"{TEXT}{number}"') for number in range(2, 7))],
 ).in_groups()
