@@ -24,7 +24,7 @@ pub enum Checkpoints {
     /// Only those that commands ask for.
     Asked,
     /// Those that commands ask for, and one each time that `store.yaml` has grown by so many bytes since its base was
-    /// written. They are written in slices, one after each group.
+    /// written. That one is written in slices, one after each group.
     After { bytes: u64 },
 }
 
@@ -288,9 +288,9 @@ fn tend_checkpoint<D: Disk>(
 /// Commands that were submitted before, and wait for a flush, are flushed first.
 ///
 /// With [`Checkpoints::After`] a checkpoint is begun after a group, once `store.yaml` has grown by so many bytes, and
-/// one slice of it is written after each further group. So no answer waits for more than a slice. If there is no memory
-/// for a checkpoint the session goes on, and tries again after a later group. A checkpoint that runs when the session
-/// ends goes on running.
+/// one slice of it is written after each further group. So an answer waits for one such step at most. If there is no
+/// memory for a checkpoint the session goes on, and tries again after a later group. A checkpoint that runs when the
+/// session ends goes on running.
 ///
 /// A crash at any moment leaves the state after a prefix of what waited and of the accepted commands. Once this
 /// returns, that prefix has every command whose answer was written. Unless it returns `Device` or `Reopen`, nothing

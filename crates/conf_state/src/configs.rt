@@ -22,7 +22,8 @@ type Places = IndexMap<String, Option<Config>>;
 /// Configurations by name, in the order in which they were put. Contracts see the list of them, each with its name.
 ///
 /// A configuration that is removed leaves an empty place, so that the others needn't move. All empty places are closed
-/// at once as soon as half of the places are empty, or before a name whose place is empty is put again, last.
+/// at once as soon as half of the places, rounded down, are empty, or before a name whose place is empty is put again,
+/// last.
 #[derive(Drop)]
 pub(crate) struct Configs {
     places: Places,
