@@ -1,5 +1,5 @@
 -- A text and what is written, one character after another.
-use Rattle.std.proofs.Common.{◌≡◌, ◌≢◌, ℕ, ◌-◌, ◌<◌, ◌≤◌, suc, Some, None, Bool, true, false, ◌==◌, List, [], ◌∷◌, ◌++◌, refl, sym, ap, ◌∙◌, subst, arith, take, drop, length, length-append, inl, inr}
+use Rattle.std.proofs.Common.{◌≡◌, ◌≢◌, ℕ, ◌-◌, ◌<◌, ◌≤◌, suc, Some, None, Bool, true, false, ◌==◌, List, [], ◌∷◌, ◌++◌, refl, sym, ap, ap₂, ◌∙◌, subst, arith, take, drop, length, length-append, inl, inr}
 use lib.Utf8.{encodes}
 use Rattle.std.specs.Str.{chars, IsUtf8, IsCharBoundary}
 use Rattle.std.proofs.lemmas.Bool.{eq-eqb, eqb-true, false≢true, and_parts, cases_lt, cases_Bool}
@@ -104,6 +104,11 @@ no_prefix bytes piece utf8 piece_utf8 lacks = by_test (comparison_after (chars b
         absurd (lacks (encodes left) (sym (encodes-chars bytes utf8) ∙ ap encodes parts ∙ encodes-append (chars piece) left ∙ ap (λ xs. xs ++ encodes left) (encodes-chars piece piece_utf8)))
 
 -- ---- the line on which a text first differs
+
+-- a comparison that began with the whole text
+pub from_start : {s : List ℕ × Bool} {text rest : List ℕ} {agrees : Bool} (written : List ℕ) → rest ≡ text → agrees ≡ true
+    → s ≡ comparison_after (chars rest) agrees written → s ≡ comparison_after (chars text) true written
+from_start written same held e = e ∙ ap₂ (λ r b. comparison_after (chars r) b written) same held
 
 -- a text that agrees to the end is in the style
 pub in_style : (text written left : List ℕ) (agrees : Bool) → (left, agrees) ≡ comparison_after text true written → agrees ≡ true → left ≡ [] → style_line text written ≡ None

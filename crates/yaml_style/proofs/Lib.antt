@@ -4,3 +4,4 @@ pub mod RuleLemmas
 pub mod ComparingLemmas
 pub mod PlaceLemmas
 pub mod Examples
+pub mod CountLemmas

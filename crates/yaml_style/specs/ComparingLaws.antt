@@ -1,6 +1,7 @@
--- What is written in two pieces is compared as one.
-use Rattle.std.proofs.Common.{◌≡◌, ℕ, Bool, true, false, ◌==◌, List, [], ◌∷◌, ◌++◌, refl, sym, ap, ◌∙◌}
-use Rattle.yaml_style.specs.Comparing.{comparison_after}
+-- What is written in two pieces is compared, and counted, as one.
+use Rattle.std.proofs.Common.{◌≡◌, ℕ, Bool, true, false, ◌==◌, List, [], ◌∷◌, ◌++◌, refl, sym, ap, ◌∙◌, arith}
+use Rattle.yaml_style.specs.Comparing.{comparison_after, IsCount}
+use Rattle.yaml_writer.specs.BudgetLaws.{byte_len-append}
 
 -- nothing more is compared
 pub comparison_after-none : (left : List ℕ) (agrees : Bool) → (left, agrees) ≡ comparison_after left agrees []
@@ -33,3 +34,11 @@ pub comparison_after-both : (left : List ℕ) (agrees : Bool) (left2 : List ℕ)
 comparison_after-both left agrees left2 agrees2 last xs ys first second =
     second ∙ ap (λ (s : List ℕ × Bool). comparison_after s.0 s.1 ys) first ∙ sym
     (comparison_after-append left agrees xs ys)
+
+-- nothing more is counted
+pub IsCount-none : (n : ℕ) → IsCount n [] n
+IsCount-none n = omega arith
+
+-- what is written in two pieces is counted as one
+pub IsCount-both : (a b c : ℕ) (xs ys : List ℕ) → IsCount a xs b → IsCount b ys c → IsCount a (xs ++ ys) c
+IsCount-both a b c xs ys first second = omega (arith, byte_len-append xs ys, first, second)

@@ -4,11 +4,11 @@ ghost use Rattle.std.specs.Str.{IsCharBoundary, chars};
 ghost use Rattle.yaml_chars.specs.Places.{rest};
 ghost use Rattle.yaml_style.specs.Comparing.{comparison_after};
 
-use std::convert::Infallible;
+use std::alloc::AllocError;
 use yaml_chars::next_char;
 use yaml_tree::Sink;
 
-/// A sink that compares what is written with a text.
+/// A sink that compares what is written with a text. It takes no memory, and never fails.
 #[derive(Drop)]
 pub(crate) struct Comparison<'a> {
     /// What is left of the text after the longest prefix that it shares with what is written.
@@ -36,7 +36,7 @@ impl Sink for Comparison<'_> {
     ghost use Rattle.yaml_style.specs.Comparing.{comparison_after};
     ghost use Rattle.yaml_style.specs.ComparingLaws.{comparison_after-none, comparison_after-both};
 
-    type Fault = Infallible;
+    type Fault = AllocError;
 
     ghost Takes = { λ a cs b. (chars b.rest.now, b.agrees)
         ≡ comparison_after (chars a.rest.now) a.agrees cs };
@@ -47,7 +47,7 @@ impl Sink for Comparison<'_> {
         comparison_after-both (chars a.rest.now) a.agrees (chars b.rest.now) b.agrees
         (chars c.rest.now, c.agrees) xs ys first second };
 
-    fn put_text(&mut self, text: &str) -> Result<(), Infallible> {
+    fn put_text(&mut self, text: &str) -> Result<(), AllocError> {
         if self.agrees {
             let (rest, agrees) = compare(self.rest, text);
             self.rest = rest;
@@ -56,7 +56,7 @@ impl Sink for Comparison<'_> {
         Ok(())
     }
 
-    fn put_char(&mut self, c: char) -> Result<(), Infallible> {
+    fn put_char(&mut self, c: char) -> Result<(), AllocError> {
         if self.agrees {
             match strip_char(self.rest, c) {
                 Some(rest) => self.rest = rest,
@@ -66,11 +66,74 @@ impl Sink for Comparison<'_> {
         Ok(())
     }
 
-    fn put_spaces(&mut self, count: u64) -> Result<(), Infallible> {
+    fn put_spaces(&mut self, count: u64) -> Result<(), AllocError> {
         for _ in 0..count {
             self.put_char(' ')?;
         }
         Ok(())
+    }
+}
+
+/// A sink that compares what is written with a text, and counts it. It takes no memory, and never fails.
+#[derive(Drop)]
+pub(crate) struct CountedComparison<'a> {
+    /// The comparison.
+    pub(crate) comparison: Comparison<'a>,
+    /// How many bytes are written. The count stops at the greatest `u64`.
+    pub(crate) bytes: u64,
+}
+
+impl<'a> CountedComparison<'a> {
+    /// A comparison with a text, before anything is written.
+    pub(crate) fn new(text: &'a str) -> CountedComparison<'a>
+        ensures rest { result.comparison.rest.now ≡ text.now }
+        ensures agrees { result.comparison.agrees ≡ true }
+        ensures bytes { result.bytes ≡ 0 }
+    {
+        CountedComparison {
+            comparison: Comparison::new(text),
+            bytes: 0,
+        }
+    }
+}
+
+impl Sink for CountedComparison<'_> {
+    ghost use Rattle.std.specs.Prelude.{◌≡◌};
+    ghost use Rattle.std.specs.Str.{chars};
+    ghost use Rattle.yaml_style.specs.Comparing.{comparison_after, IsCount};
+    ghost use Rattle.yaml_style.specs.ComparingLaws.{comparison_after-none, comparison_after-both, IsCount-none, IsCount-both};
+
+    type Fault = AllocError;
+
+    ghost Takes = { λ a cs b. ((chars b.comparison.rest.now, b.comparison.agrees)
+        ≡ comparison_after (chars a.comparison.rest.now) a.comparison.agrees cs)
+        × IsCount a.bytes cs b.bytes };
+
+    ghost takes_none = { λ s. (
+      comparison_after-none (chars s.comparison.rest.now) s.comparison.agrees,
+      IsCount-none s.bytes,
+    ) };
+
+    ghost takes_both = { λ a b c xs ys first second. (
+      comparison_after-both (chars a.comparison.rest.now) a.comparison.agrees
+          (chars b.comparison.rest.now) b.comparison.agrees
+          (chars c.comparison.rest.now, c.comparison.agrees) xs ys first.0 second.0,
+      IsCount-both a.bytes b.bytes c.bytes xs ys first.1 second.1,
+    ) };
+
+    fn put_text(&mut self, text: &str) -> Result<(), AllocError> {
+        self.bytes = self.bytes.saturating_add(text.len() as u64);
+        self.comparison.put_text(text)
+    }
+
+    fn put_char(&mut self, c: char) -> Result<(), AllocError> {
+        self.bytes = self.bytes.saturating_add(c.len_utf8() as u64);
+        self.comparison.put_char(c)
+    }
+
+    fn put_spaces(&mut self, count: u64) -> Result<(), AllocError> {
+        self.bytes = self.bytes.saturating_add(count);
+        self.comparison.put_spaces(count)
     }
 }
 

@@ -1,53 +1,58 @@
 // The findings of a text.
-ghost use Rattle.std.specs.Prelude.{◌≡◌, ℕ, ◌≤◌, ◌<◌, ◌↔◌, List, ◌++◌, Err, IfOk, IfErr, OnOk, length, nat_lt};
+ghost use Rattle.std.specs.Prelude.{◌≡◌, ℕ, ◌≤◌, ◌<◌, ◌↔◌, true, List, ◌++◌, Err, IfOk, IfErr, OnOk, length, nat_lt};
 ghost use Rattle.std.specs.List.{position_or_len};
 ghost use Rattle.std.specs.Str.{chars};
-ghost use Rattle.yaml_grammar.specs.Style.{style_text};
 ghost use Rattle.yaml_grammar.specs.Texts.{is_empty};
 ghost use Rattle.yaml_style.specs.Checking.{IsChecked};
 ghost use Rattle.yaml_config.specs.Limits.{config_limits};
+ghost use Rattle.yaml_style.specs.Comparing.{comparison_after};
 ghost use Rattle.yaml_style.specs.Findings.{style_line, with_style};
 ghost use Rattle.yaml_tree.specs.Reading.{Refuses};
-ghost use Rattle.yaml_data.specs.Seen.{tree_of};
 
-use crate::comparison::Comparison;
+use crate::comparison::{Comparison, CountedComparison};
 use crate::lines::{break_count, line_findings};
 use crate::{Finding, Rule};
 use std::alloc::{AllocError, Global};
-use yaml_chars::checked;
-use yaml_tree::{Config, Limits, ReadFault, read_one, write_style};
+use yaml_tree::{Document, Limits, ReadFault};
 
 /// The findings of a text, ordered by line, and on one line by rule.
 ///
-/// The text is read as [`read_one`] reads it, within the limits of a configuration ([`Limits::CONFIGURATION`]). Its
-/// lines are looked at once. The text of its tree in the one style is compared with it piece by piece, and never held
-/// whole. A byte order mark counts as a character of the first line. Breaks are LF, CR LF and CR (YAML 1.2.2, 5.4).
+/// The text is read as [`read_one`](yaml_tree::read_one) reads it, within the limits of a configuration
+/// ([`Limits::CONFIGURATION`]). Its lines are looked at once. The text of its tree in the one style is compared with it
+/// piece by piece, and neither that text nor the tree is ever held. A byte order mark counts as a character of the first
+/// line. Breaks are LF, CR LF and CR (YAML 1.2.2, 5.4).
 ///
 /// # Errors
 ///
-/// Those of [`read_one`], within those limits; a text that is refused has no findings.
+/// Those of [`read_one`](yaml_tree::read_one), within those limits; a text that is refused has no findings.
 pub fn check(alloc: Global, bytes: &[u8]) -> Result<Vec<Finding>, ReadFault>
     ensures found { IfOk result (λ findings. IsChecked bytes.now findings.items) }
     ensures too_long { (result ≡ Err ReadFault.TooLong) ↔ (config_limits.bytes < length bytes.now) }
     ensures refused { IfErr result (Refuses bytes.now config_limits) }
 {
-    let config = read_one(alloc, bytes, &Limits::CONFIGURATION)?;
-    let text = checked(bytes).unwrap();
+    let limits = Limits::CONFIGURATION;
+    let document = Document::read(alloc, bytes, &limits)?;
+    // Bytes that were read as a document are UTF-8.
+    let text = unsafe { str::from_utf8_unchecked(bytes) };
+    let mut written = CountedComparison::new(text);
+    document.write(alloc, &limits, &mut written)?;
+    if written.bytes > limits.style {
+        return Err(ReadFault::LargeInStyle);
+    }
     let mut findings = line_findings(alloc, text)?;
-    insert_style(&mut findings, style_line(text, &config))?;
+    insert_style(&mut findings, style_line(text, &written.comparison))?;
     Ok(findings)
 }
 
-/// The line, from 1, on which a text first differs from its tree's in the one style; `None` if it doesn't.
-fn style_line(text: &str, config: &Config) -> Option<u64>
-    requires { length text.now ≤ config_limits.bytes }
-    ensures { result ≡ style_line (chars text.now) (style_text (tree_of config.now)) }
+/// The line, from 1, on which a text first differs from one that was compared with it; `None` if it doesn't.
+fn style_line(text: &str, written: &Comparison<'_>) -> Option<u64>
+    requires length { length text.now ≤ config_limits.bytes }
+    requires written { (styled : List ℕ) × ((chars written.now.rest.now, written.now.agrees)
+        ≡ comparison_after (chars text.now) true styled) }
+    ensures { (styled : List ℕ) → (chars written.now.rest.now, written.now.agrees)
+        ≡ comparison_after (chars text.now) true styled
+        → result ≡ style_line (chars text.now) styled }
 {
-    let mut written = Comparison::new(text);
-    match write_style(config.tree(), &mut written) {
-        Ok(()) => {}
-        Err(never) => match never {},
-    }
     if written.agrees && is_empty_text(written.rest) {
         return None;
     }

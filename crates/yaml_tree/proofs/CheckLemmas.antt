@@ -1,18 +1,14 @@
 -- A check of keys after one event more.
-use Rattle.std.proofs.Common.{◌≡◌, Bool, List, [], Option, Some, None, Result, MatchResult, sym, ap, subst, ◌∙◌}
+use Rattle.std.proofs.Common.{◌≡◌, Bool, List, Option, Some, None, Result, MatchResult, sym, ap, subst, ◌∙◌}
 use Rattle.std.proofs.lemmas.Result.{MatchResult-weaker}
 use Rattle.yaml_events.specs.declared.read_fault.ReadFault.{ReadFault}
 use Rattle.yaml_events.specs.declared.read_fault.ReadFault.TheVariants.{TooLong, NotUtf8, Syntax, Documents, KeyNotText, KeyTwice, TooDeep, LargeInStyle, OutOfMemory}
-use Rattle.yaml_grammar.specs.Events as grammar_events
-use Rattle.yaml_grammar.specs.Trees as grammar
 use Rattle.yaml_grammar.specs.Trees.{Shape}
-use Rattle.yaml_tree.specs.Building.{HasNone, HasNoTree}
+use Rattle.yaml_tree.specs.Building.{HasNone}
 use Rattle.yaml_tree.specs.Emptied.{Keeps, Took, emptied_frames, open_frames, frames_distinct}
-use Rattle.yaml_tree.specs.Frames.{Frame, step, finished_tree}
+use Rattle.yaml_tree.specs.Frames.{Frame, step}
 use Rattle.yaml_tree.specs.declared.key_check.KeyCheck.{KeyCheck}
-use Rattle.yaml_tree.proofs.EmptiedLemmas.{Stepped, IsInner, inner_stepped, inner_none, finished_none}
-use Rattle.yaml_tree.proofs.EventLemmas.{unfinished_refuses}
-use Rattle.yaml_tree.proofs.FrameLemmas.{run}
+use Rattle.yaml_tree.proofs.EmptiedLemmas.{Stepped, IsInner, inner_stepped, inner_none}
 
 -- what a step of the check has done, from what the step does to its frames
 pub took : (check : KeyCheck) (b : Bool) (o : Option (List Frame)) → Stepped (open_frames check.open.parts.items) b o → check.keys_differ ≡ b → Took check o
@@ -48,10 +44,3 @@ took_inner check before fs event s r is inner keeps same made =
 pub opened : (r : Result (Unit {0}) ReadFault) (gs new : List Frame) → MatchResult r (λ _. new ≡ gs) (λ fault. fault ≡ OutOfMemory)
     → MatchResult r (λ _. Some gs ≡ Some new) (HasNone (Some gs))
 opened r gs new made = MatchResult-weaker r made (λ _ e. ap Some (sym e)) (λ fault e. subst (λ f. HasNone (Some gs) f) (sym e) tt)
-
--- a check that is not finished
-pub emptied_refuses : (es : List grammar_events.Event) (fs gs : List Frame) (fault : ReadFault) → run (Some []) (grammar.shapes es) ≡ Some fs
-    → gs ≡ emptied_frames fs → HasNone (finished_tree gs) fault → HasNoTree es fault
-emptied_refuses es fs gs fault done e h =
-    unfinished_refuses es fs fault done
-    (has_none (finished_tree (emptied_frames fs)) (finished_tree fs) (finished_none fs) fault (subst (λ hs. HasNone (finished_tree hs) fault) e h))

@@ -2,7 +2,7 @@
 use Rattle.std.proofs.Common.{◌≡◌, ℕ, Bool, true, false, ◌&&◌, ◌||◌, not, List, [], ◌∷◌, Option, Some, None, refl, sym, ap, ap₂, subst, ◌∙◌}
 use Rattle.yaml_grammar.specs.Texts.{same_text}
 use Rattle.yaml_grammar.specs.Trees.{Tree, text, sequence, mapping, Elements, no_element, element, Members, no_member, member, Shape, document_from, document_to, seq_from, seq_to, map_from, map_to, scalar_of, distinct, elements_distinct, members_distinct, has_key}
-use Rattle.yaml_tree.specs.Emptied.{emptied_elements, emptied_members, emptied_frames, value_placed, scalar_placed, seq_ended, map_ended, frames_distinct}
+use Rattle.yaml_tree.specs.Emptied.{emptied_elements, emptied_members, emptied_frames, value_placed, scalar_placed, seq_ended, map_ended, frames_distinct, HasKeys}
 use Rattle.yaml_tree.specs.Frames.{Frame, awaiting, root, whole, in_seq, at_key, at_value, elements_and, members_and, innermost, frames_with, step, after_document_end, after_seq_end, after_map_end, finished_tree}
 use Rattle.yaml_data.specs.Keys.{nothing, keys_differ, values_distinct}
 use Rattle.yaml_data.proofs.KeyLemmas.{members_distinct-parts}
@@ -293,17 +293,12 @@ map_none (at_value ms key ∷ fs) e = refl
 
 -- ---- the end
 
-pub record Finished (differ : Bool) (fs : List Frame) : Type 0 where
-  pub tree : Tree
-  pub is : finished_tree fs ≡ Some tree
-  pub distinct : differ ≡ distinct tree
-
 -- where emptied frames hold a whole tree, so do the frames themselves
-pub finished_emptied : (fs : List Frame) (t : Tree) (d : Bool) → finished_tree (emptied_frames fs) ≡ Some t → d ≡ frames_distinct fs → Finished d fs
+pub finished_emptied : (fs : List Frame) (t : Tree) (d : Bool) → finished_tree (emptied_frames fs) ≡ Some t → d ≡ frames_distinct fs → HasKeys (finished_tree fs) d
 finished_emptied [] t d e h = cc
 finished_emptied (awaiting ∷ fs) t d e h = cc
 finished_emptied (root u ∷ fs) t d e h = cc
-finished_emptied (whole u ∷ []) t d e h = record { tree = u; is = refl; distinct = h ∙ and_true (distinct u) }
+finished_emptied (whole u ∷ []) t d e h = record { tree = u; is = refl; keys = h ∙ and_true (distinct u) }
 finished_emptied (whole u ∷ f ∷ fs) t d e h = cc
 finished_emptied (in_seq ts ∷ fs) t d e h = cc
 finished_emptied (at_key ms ∷ fs) t d e h = cc

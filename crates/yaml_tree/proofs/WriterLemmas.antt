@@ -1,35 +1,47 @@
 -- A writer of a document after one event more, and at the end.
-use Rattle.std.proofs.Common.{◌≡◌, ◌≢◌, ℕ, ◌-◌, ◌<◌, ◌≤◌, nat_le, Bool, true, false, if◌then◌else◌, ◌++◌, List, [], ◌∷◌, Option, Some, None, encode_utf8_all, refl, sym, ap, subst, ◌∙◌}
-use Rattle.std.proofs.lemmas.Bool.{leb-true}
-use Rattle.yaml_docs.specs.Reading.{ReadsAs}
+use Rattle.std.proofs.Common.{◌≡◌, ◌≢◌, ℕ, ◌-◌, ◌<◌, ◌≤◌, nat_le, Bool, true, false, if◌then◌else◌, ◌++◌, List, [], ◌∷◌, length, Option, Some, None, Result, Err, ◌↔◌, encode_utf8_all, refl, sym, ap, subst, ◌∙◌, arith}
+use Rattle.std.proofs.lemmas.Bool.{leb-true, leb-false}
 use Rattle.yaml_events.specs.Meant.{events_of}
-use Rattle.yaml_events.specs.declared.event.Event.{Event as CodeEvent}
+use Rattle.yaml_events.specs.declared.read_fault.ReadFault.{ReadFault}
+use Rattle.yaml_events.specs.declared.read_fault.ReadFault.TheVariants.{TooLong, KeyTwice, TooDeep, LargeInStyle}
 use Rattle.yaml_grammar.specs.Reads.{Limits, Good}
 use Rattle.yaml_grammar.specs.Style.{style_text}
 use Rattle.yaml_grammar.specs.Texts.{byte_len}
-use Rattle.yaml_grammar.specs.Trees.{Shape, depth}
+use Rattle.yaml_grammar.specs.Trees.{Shape}
+use Rattle.yaml_writer.proofs.ByteLemmas.{byte_len-chars}
 use Rattle.yaml_writer.specs.Budget.{left_after}
-use Rattle.yaml_tree.specs.Emptied.{Took, emptied_frames}
-use Rattle.yaml_tree.specs.Formatting.{IsFormatted, Writes, Wrote, HasWritten, IsWritten, indent_after}
+use Rattle.yaml_tree.specs.Documents.{IsDocument, IsWrittenTo, with_style}
+use Rattle.yaml_tree.specs.Emptied.{Keeps, Took, HasKeys, emptied_frames}
+use Rattle.yaml_tree.specs.Formatting.{IsFormatted, Writes, Wrote, IsWritten, indent_after}
 use Rattle.yaml_tree.specs.Frames.{Frame, whole, step, finished_tree}
 use Rattle.yaml_tree.specs.OpenText.{text_of, added, AreTextFrames, BringsText}
+use Rattle.yaml_tree.specs.Reading.{IsRead, Refuses, RefusesTree}
 use Rattle.yaml_writer.specs.Limited.{TakesLimited, room_left, taken}
-use Rattle.yaml_writer.specs.LimitedLaws.{TakesLimited-both}
+use Rattle.yaml_tree.specs.declared.documents.Document.{Document}
 use Rattle.yaml_tree.specs.declared.format.DocumentWriter.{DocumentWriter}
-use Rattle.yaml_tree.specs.declared.format.WrittenDocument.{WrittenDocument}
 use Rattle.yaml_writer.specs.declared.limited.LimitedText.{LimitedText}
-use Rattle.yaml_tree.proofs.EmptiedLemmas.{Finished}
-use Rattle.yaml_tree.proofs.FrameLemmas.{finished_whole}
+use Rattle.yaml_events.specs.declared.event.Event.{Event as CodeEvent}
+use Rattle.yaml_tree.proofs.EventLemmas.{run_tree}
+use Rattle.yaml_tree.proofs.FrameLemmas.{run, finished_whole}
+use Rattle.yaml_grammar.specs.Trees.{shapes}
 use Rattle.yaml_tree.proofs.ReadLemmas.{tree_read}
 use Rattle.yaml_tree.proofs.OpenTextLemmas.{IsTextOf, HasTexts, HasIndent, step_text, step_texts, step_indent, added-emptied, BringsText-emptied}
 
+-- a writer before the first event
+pub begins : {S : Type 0} (takes : S → List ℕ → S → Type 0) (start : S) (writer : DocumentWriter) → takes start [] start
+    → Keeps writer.check [] → writer.indent ≡ 0 → Writes takes start start writer []
+begins takes start writer none keeps indent =
+    record { keeps = keeps; indent = indent; room = omega (arith, indent); texts = tt; text = none }
+
 -- a writer that has taken an event
-pub wrote : (start : LimitedText) (old new : DocumentWriter) (fs : List Frame) (s : Shape) → Writes start old fs → Took new.check (step fs s)
-    → new.indent ≡ indent_after old.indent s → new.indent < 4294967296 → BringsText (emptied_frames fs) s
-    → TakesLimited old.text (added (emptied_frames fs) s) new.text → Wrote start new (step fs s)
-wrote start old new fs s writes took indent room brings takes =
-    let more = subst (λ cs. TakesLimited old.text cs new.text) (added-emptied fs s) takes in
-    let both = TakesLimited-both start old.text new.text (text_of fs) (added fs s) writes.text more in
+pub wrote : {S : Type 0} (takes : S → List ℕ → S → Type 0)
+    → ((a b c : S) (xs ys : List ℕ) → takes a xs b → takes b ys c → takes a (xs ++ ys) c)
+    → (start before after : S) (old new : DocumentWriter) (fs : List Frame) (s : Shape) → Writes takes start before old fs
+    → Took new.check (step fs s) → new.indent ≡ indent_after old.indent s → new.indent < 4294967296
+    → BringsText (emptied_frames fs) s → takes before (added (emptied_frames fs) s) after → Wrote takes start after new (step fs s)
+wrote takes takes_both start before after old new fs s writes took indent room brings put =
+    let more = subst (λ cs. takes before cs after) (added-emptied fs s) put in
+    let both = takes_both start before after (text_of fs) (added fs s) writes.text more in
     let lines = subst (λ o. IsTextOf o (text_of fs ++ added fs s)) took.are (step_text fs s) in
     let texts = subst HasTexts took.are (step_texts fs s writes.texts (BringsText-emptied fs s brings)) in
     let deeper = subst (λ o. HasIndent (indent_after old.indent s) o) took.are
@@ -42,26 +54,80 @@ wrote start old new fs s writes took indent room brings takes =
         indent = indent ∙ deeper;
         room = room;
         texts = texts;
-        text = subst (λ cs. TakesLimited start cs new.text) (sym lines) both;
+        text = subst (λ cs. takes start cs after) (sym lines) both;
       };
     }
 
 -- a document whose tree is finished
-pub has_written : (start : LimitedText) (writer : DocumentWriter) (document : WrittenDocument) (fs : List Frame) → Writes start writer fs
-    → Finished document.keys_differ fs → document.text ≡ writer.text → HasWritten start (finished_tree fs) document
-has_written start writer document fs writes done same =
-    let alone = finished_whole fs done.tree done.is in
-    let texts : AreTextFrames (whole done.tree ∷ []) = subst AreTextFrames alone writes.texts in
+pub is_written : {S : Type 0} (takes : S → List ℕ → S → Type 0) (start now : S) (writer : DocumentWriter) (es : List CodeEvent) (differ : Bool) (fs : List Frame)
+    → Writes takes start now writer fs → run (Some []) (shapes (events_of es)) ≡ Some fs → HasKeys (finished_tree fs) differ
+    → IsWritten takes start now (events_of es) differ
+is_written takes start now writer es differ fs writes done has =
+    let alone = finished_whole fs has.tree has.is in
+    let texts : AreTextFrames (whole has.tree ∷ []) = subst AreTextFrames alone writes.texts in
     record {
-      tree = done.tree;
-      is = done.is;
+      tree = has.tree;
+      is_tree = run_tree (events_of es) fs has.tree done has.is;
       texts = texts.0;
-      differ = done.distinct;
-      text = subst (λ text. TakesLimited start (text_of (whole done.tree ∷ [])) text) (sym same)
-          (subst (λ gs. TakesLimited start (text_of gs) writer.text) alone writes.text);
+      keys = has.keys;
+      text = subst (λ gs. takes start (text_of gs) now) alone writes.text;
     }
 
--- a budget that is kept was enough
+-- ---- a document that was read
+
+-- it was written
+pub written_to : {S : Type 0} (takes : S → List ℕ → S → Type 0) (bytes : List ℕ) (limits : Limits) (document : Document) (start now : S) (differ : Bool)
+    → IsDocument bytes limits document → (written : IsWritten takes start now (events_of document.events) differ) → differ ≡ true
+    → document.depth ≤ limits.depth → IsWrittenTo takes bytes limits start now
+written_to takes bytes limits document start now differ is written differs shallow =
+    let any = with_style limits (byte_len (style_text written.tree)) in
+    let good : Good written.tree any = record {
+      texts = written.texts;
+      keys = sym written.keys ∙ differs;
+      deep = subst (λ n. n ≤ limits.depth) (is.as_deep written.tree written.is_tree) shallow;
+      long = omega arith;
+    } in
+    record { tree = written.tree; reads = tree_read bytes any document.events written.tree is.reads written.is_tree good; text = written.text }
+
+-- it has equal keys in a mapping
+pub twice_refused : {S : Type 0} (takes : S → List ℕ → S → Type 0) (bytes : List ℕ) (limits : Limits) (document : Document) (start now : S) (differ : Bool)
+    → IsDocument bytes limits document → IsWritten takes start now (events_of document.events) differ → differ ≡ false
+    → RefusesTree bytes limits KeyTwice
+twice_refused takes bytes limits document start now differ is written same = record {
+  text = is.reads.text;
+  events = events_of document.events;
+  reads = is.reads.reads;
+  tree = written.tree;
+  is_tree = written.is_tree;
+  first = sym written.keys ∙ same;
+}
+
+-- its tree is too deep
+pub depth_refused : {S : Type 0} (takes : S → List ℕ → S → Type 0) (bytes : List ℕ) (limits : Limits) (document : Document) (start now : S) (differ : Bool)
+    → IsDocument bytes limits document → IsWritten takes start now (events_of document.events) differ → differ ≡ true
+    → limits.depth < document.depth → RefusesTree bytes limits TooDeep
+depth_refused takes bytes limits document start now differ is written differs deep = record {
+  text = is.reads.text;
+  events = events_of document.events;
+  reads = is.reads.reads;
+  tree = written.tree;
+  is_tree = written.is_tree;
+  first = (sym written.keys ∙ differs, subst (λ n. limits.depth < n) (is.as_deep written.tree written.is_tree) deep);
+}
+
+-- a fault of a text that is not too long says so
+pub not_too_long : {A : Type 0} (bytes : List ℕ) (limits : Limits) (document : Document) (fault : ReadFault) (r : Result A ReadFault)
+    → IsDocument bytes limits document → Refuses bytes limits fault → r ≡ Err fault
+    → (r ≡ Err TooLong) ↔ (limits.bytes < length bytes)
+not_too_long bytes limits document fault r is refused err =
+    let short = is.reads.text.short in (
+      λ e. let same : fault ≡ TooLong = cc in subst (Refuses bytes limits) same refused,
+      λ long. absurd (omega (arith, short, long)),
+    )
+
+-- ---- a text of limited length
+
+-- whether a budget is kept tells whether it was enough
 pub kept_within : (limit n : ℕ) (left : Option ℕ) → left ≡ left_after (Some limit) n → left ≢ None → n ≤ limit
 kept_within limit n left e kept = by_test (nat_le n limit) refl
   where
@@ -69,21 +135,62 @@ kept_within limit n left e kept = by_test (nat_le n limit) refl
     by_test true test = leb-true n limit test
     by_test false test = absurd (kept (e ∙ ap (λ b. if b then Some (limit - n) else None) test))
 
--- the text that was written of a document within the limits
-pub formatted : (bytes : List ℕ) (limits : Limits) (es : List CodeEvent) (start : LimitedText) (document : WrittenDocument)
-    → ReadsAs bytes limits.bytes es → (written : IsWritten start (events_of es) document) → document.keys_differ ≡ true
-    → depth written.tree ≤ limits.depth → room_left start ≡ Some limits.style → taken start ≡ []
-    → room_left document.text ≢ None → IsFormatted bytes limits (taken document.text)
-formatted bytes limits es start document reads written differ deep limit empty kept =
-    let good : Good written.tree limits = record {
-      texts = written.texts;
-      keys = sym written.differ ∙ differ;
-      deep = deep;
-      long = kept_within limits.style (byte_len (style_text written.tree)) (room_left document.text)
-          (written.text.0 ∙ ap (λ left. left_after left (byte_len (style_text written.tree))) limit) kept;
-    } in
+spent_beyond : (limit n : ℕ) (left : Option ℕ) → left ≡ left_after (Some limit) n → left ≡ None → limit < n
+spent_beyond limit n left e spent = by_test (nat_le n limit) refl
+  where
+    by_test : (b : Bool) → nat_le n limit ≡ b → limit < n
+    by_test true test =
+        let some : left ≡ Some (limit - n) = e ∙ ap (λ b. if b then Some (limit - n) else None) test in
+        absurd (none_some (sym spent ∙ some))
+      where
+        none_some : {x : ℕ} → None ≡ Some x → ⊥
+        none_some h = cc
+    by_test false test = leb-false n limit test
+
+-- a text that is given, but for its length, is given if it isn't longer
+pub read_within : {S : Type 0} {takes : S → List ℕ → S → Type 0} (bytes : List ℕ) (limits : Limits) {start now : S}
+    → (w : IsWrittenTo takes bytes limits start now) → byte_len (style_text w.tree) ≤ limits.style → IsRead bytes limits w.tree
+read_within bytes limits w long =
+    let given = w.reads.gives in
     record {
-      tree = written.tree;
-      reads = tree_read bytes limits es written.tree reads written.is_tree good;
-      style = written.text.1 kept ∙ ap (λ before. before ++ encode_utf8_all (style_text written.tree)) empty;
+      utf8 = w.reads.utf8;
+      gives = record {
+        short = given.short;
+        events = given.events;
+        reads = given.reads;
+        tree = given.tree;
+        good = record { texts = given.good.texts; keys = given.good.keys; deep = given.good.deep; long = long };
+      };
     }
+
+-- and is refused if it is longer
+pub large_refused : {S : Type 0} {takes : S → List ℕ → S → Type 0} (bytes : List ℕ) (limits : Limits) {start now : S}
+    → (w : IsWrittenTo takes bytes limits start now) → limits.style < byte_len (style_text w.tree) → RefusesTree bytes limits LargeInStyle
+large_refused bytes limits w large =
+    let given = w.reads.gives in
+    record {
+      text = record { short = subst (λ n. n ≤ limits.bytes) (byte_len-chars bytes w.reads.utf8) given.short; utf8 = w.reads.utf8 };
+      events = given.events;
+      reads = given.reads;
+      tree = w.tree;
+      is_tree = given.tree;
+      first = (given.good.keys, given.good.deep, large);
+    }
+
+-- the text that was written of a document within the limits
+pub formatted : (bytes : List ℕ) (limits : Limits) (start now : LimitedText) → IsWrittenTo TakesLimited bytes limits start now
+    → room_left start ≡ Some limits.style → taken start ≡ [] → room_left now ≢ None → IsFormatted bytes limits (taken now)
+formatted bytes limits start now w limit empty kept =
+    let n = byte_len (style_text w.tree) in
+    record {
+      tree = w.tree;
+      reads = read_within bytes limits w (kept_within limits.style n (room_left now) (w.text.0 ∙ ap (λ left. left_after left n) limit) kept);
+      style = w.text.1 kept ∙ ap (λ before. before ++ encode_utf8_all (style_text w.tree)) empty;
+    }
+
+-- what is refused where the text is too long in the one style
+pub too_large : (bytes : List ℕ) (limits : Limits) (start now : LimitedText) → IsWrittenTo TakesLimited bytes limits start now
+    → room_left start ≡ Some limits.style → room_left now ≡ None → RefusesTree bytes limits LargeInStyle
+too_large bytes limits start now w limit spent =
+    let n = byte_len (style_text w.tree) in
+    large_refused bytes limits w (spent_beyond limits.style n (room_left now) (w.text.0 ∙ ap (λ left. left_after left n) limit) spent)

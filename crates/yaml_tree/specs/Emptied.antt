@@ -1,6 +1,6 @@
 -- The open parts of a document without their values, and whether keys differ in the mappings that have ended.
 use Rattle.std.specs.Prelude.{◌≡◌, ℕ, Bool, true, false, ◌&&◌, List, [], ◌∷◌, Option, Some, None}
-use Rattle.yaml_grammar.specs.Trees.{Elements, no_element, element, Members, no_member, member, distinct, elements_distinct}
+use Rattle.yaml_grammar.specs.Trees.{Tree, Elements, no_element, element, Members, no_member, member, distinct, elements_distinct}
 use Rattle.yaml_tree.specs.declared.key_check.KeyCheck.{KeyCheck}
 use Rattle.yaml_tree.specs.declared.open_part.OpenKeys.{OpenKeys}
 use Rattle.yaml_tree.specs.declared.open_part.OpenPart.{OpenPart}
@@ -121,3 +121,9 @@ pub record Took (check : KeyCheck) (o : Option (List Frame)) : Type 0 where
   pub parts : List Frame
   pub are : o ≡ Some parts
   pub keeps : Keeps check parts
+
+-- the tree is finished, and this is whether keys differ in its mappings
+pub record HasKeys (o : Option Tree) (differ : Bool) : Type 0 where
+  pub tree : Tree
+  pub is : o ≡ Some tree
+  pub keys : differ ≡ distinct tree

@@ -1,5 +1,5 @@
 -- A document that is written while its events come, and what was written of it at the end.
-use Rattle.std.specs.Prelude.{◌≡◌, ℕ, ◌<◌, List, Option, Some, ◌-◌, ◌+◌, encode_utf8_all}
+use Rattle.std.specs.Prelude.{◌≡◌, ℕ, ◌<◌, Bool, List, Option, Some, ◌-◌, ◌+◌, encode_utf8_all}
 use Rattle.yaml_grammar.specs.Events.{Event}
 use Rattle.yaml_grammar.specs.Reads.{Limits}
 use Rattle.yaml_grammar.specs.Style.{style_text}
@@ -7,11 +7,8 @@ use Rattle.yaml_grammar.specs.Trees.{Tree, IsTreeOf, IsTextTree, distinct, Shape
 use Rattle.yaml_tree.specs.Emptied.{Keeps}
 use Rattle.yaml_tree.specs.Frames.{Frame}
 use Rattle.yaml_tree.specs.OpenText.{indent_in, text_of, AreTextFrames}
-use Rattle.yaml_writer.specs.Limited.{TakesLimited}
 use Rattle.yaml_tree.specs.Reading.{IsRead}
 use Rattle.yaml_tree.specs.declared.format.DocumentWriter.{DocumentWriter}
-use Rattle.yaml_tree.specs.declared.format.WrittenDocument.{WrittenDocument}
-use Rattle.yaml_writer.specs.declared.limited.LimitedText.{LimitedText}
 
 -- the bytes give a tree within the limits, and this is its text in the one style
 pub record IsFormatted (bytes : List ℕ) (limits : Limits) (text : List ℕ) : Type 0 where
@@ -29,32 +26,29 @@ indent_after i map_from = i + 2
 indent_after i map_to = i - 2
 indent_after i (scalar_of value) = i
 
--- a writer that began with a text, after the events that opened these parts
-pub record Writes (start : LimitedText) (writer : DocumentWriter) (fs : List Frame) : Type 0 where
+-- In what follows, a writer puts a document into a sink; `takes` says which characters lead from one sink to another.
+
+-- the writer after the events that opened these parts, and the sink before the first event and now
+pub record Writes {S : Type 0} (takes : S → List ℕ → S → Type 0) (start now : S) (writer : DocumentWriter)
+    (fs : List Frame) : Type 0 where
   pub keeps : Keeps writer.check fs
   pub indent : writer.indent ≡ indent_in fs
   pub room : writer.indent < 4294967296
   pub texts : AreTextFrames fs
-  pub text : TakesLimited start (text_of fs) writer.text
+  pub text : takes start (text_of fs) now
 
 -- the event has a place, and this is the writer after it
-pub record Wrote (start : LimitedText) (writer : DocumentWriter) (o : Option (List Frame)) : Type 0 where
+pub record Wrote {S : Type 0} (takes : S → List ℕ → S → Type 0) (start now : S) (writer : DocumentWriter)
+    (o : Option (List Frame)) : Type 0 where
   pub parts : List Frame
   pub are : o ≡ Some parts
-  pub writes : Writes start writer parts
+  pub writes : Writes takes start now writer parts
 
--- the document is finished, and this is what was written of its tree
-pub record HasWritten (start : LimitedText) (o : Option Tree) (document : WrittenDocument) : Type 0 where
-  pub tree : Tree
-  pub is : o ≡ Some tree
-  pub texts : IsTextTree tree
-  pub differ : document.keys_differ ≡ distinct tree
-  pub text : TakesLimited start (style_text tree) document.text
-
--- the events are those of one document, and this is what was written of its tree
-pub record IsWritten (start : LimitedText) (events : List Event) (document : WrittenDocument) : Type 0 where
+-- the events are those of one document; its tree was written, and this is whether its keys differ
+pub record IsWritten {S : Type 0} (takes : S → List ℕ → S → Type 0) (start now : S) (events : List Event)
+    (differ : Bool) : Type 0 where
   pub tree : Tree
   pub is_tree : IsTreeOf events tree
   pub texts : IsTextTree tree
-  pub differ : document.keys_differ ≡ distinct tree
-  pub text : TakesLimited start (style_text tree) document.text
+  pub keys : differ ≡ distinct tree
+  pub text : takes start (style_text tree) now

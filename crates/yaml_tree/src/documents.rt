@@ -1,12 +1,16 @@
 // How many documents a list of events has, how deep it is, and how large its collections are.
-ghost use Rattle.std.specs.Prelude.{◌≡◌, IfOk};
+ghost use Rattle.std.specs.Prelude.{◌≡◌, ◌<◌, ◌↔◌, Err, IfOk, IfErr, length};
 ghost use Rattle.yaml_events.specs.Meant.{events_of};
 ghost use Rattle.yaml_grammar.specs.Trees.{Tree, IsTreeOf, depth};
-ghost use Rattle.yaml_tree.specs.Reading.{document_count};
+ghost use Rattle.yaml_config.specs.Kept.{limits_of};
+ghost use Rattle.yaml_tree.specs.Documents.{IsDocument};
+ghost use Rattle.yaml_tree.specs.Reading.{Refuses, document_count};
 
+use crate::Limits;
 use crate::sizes::{SizeCounter, Sizes};
 use std::alloc::{AllocError, Global};
-use yaml_events::{EventRef, Events};
+use yaml_docs::events;
+use yaml_events::{EventRef, Events, ReadFault};
 
 /// What one pass over the events of a text finds, before a tree is built.
 #[derive(Drop)]
@@ -53,6 +57,48 @@ impl Outline {
             documents,
             depth,
             sizes: counter.sizes(),
+        })
+    }
+}
+
+/// A text that was read as one document. No tree is built of it yet.
+#[derive(Drop)]
+pub struct Document<'a> {
+    pub(crate) events: Events<'a>,
+    pub(crate) depth: u64,
+    pub(crate) sizes: Sizes,
+}
+
+impl<'a> Document<'a> {
+    /// Reads a text that is one document.
+    ///
+    /// `bytes` are UTF-8 (YAML 1.2.2, 5.2), read by the failsafe schema (10.1) without aliases, anchors and tags. Of the
+    /// limits only that of bytes is tested. The call stack doesn't grow with the text.
+    ///
+    /// # Errors
+    ///
+    /// Of those of [`read_one`](crate::read_one) the ones that need no tree: [`ReadFault::TooLong`],
+    /// [`ReadFault::NotUtf8`], [`ReadFault::Syntax`] and [`ReadFault::Documents`]. Each is returned only if it holds and
+    /// no earlier one does; [`ReadFault::OutOfMemory`] may come at any point.
+    pub fn read(alloc: Global, bytes: &'a [u8], limits: &Limits) -> Result<Document<'a>, ReadFault>
+        ensures read { IfOk result (IsDocument bytes.now (limits_of limits.now)) }
+        ensures too_long { (result ≡ Err ReadFault.TooLong)
+            ↔ (limits.now.bytes < length bytes.now) }
+        ensures refused { IfErr result (Refuses bytes.now (limits_of limits.now)) }
+    {
+        let events = events(alloc, bytes, limits.bytes)?;
+        let Outline {
+            documents,
+            depth,
+            sizes,
+        } = Outline::of(alloc, &events)?;
+        if documents != 1 {
+            return Err(ReadFault::Documents { count: documents });
+        }
+        Ok(Document {
+            events,
+            depth,
+            sizes,
         })
     }
 }

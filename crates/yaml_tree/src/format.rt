@@ -1,25 +1,24 @@
-// A text that is read and written in the one style, with no tree in between.
-ghost use Rattle.std.specs.Prelude.{◌≡◌, ◌<◌, ◌↔◌, List, [], Err, IfOk, IfErr, MatchResult, length, string_bytes};
+// A document that is written in the one style, with no tree in between.
+ghost use Rattle.std.specs.Prelude.{◌≡◌, ◌<◌, ℕ, ◌↔◌, List, [], Err, IfOk, IfErr, MatchResult, length, string_bytes};
 ghost use Rattle.yaml_events.specs.Meant.{event_of, events_of};
 ghost use Rattle.yaml_grammar.specs.Trees.{shape};
 ghost use Rattle.yaml_tree.specs.Building.{HasNone, HasNoTree};
-ghost use Rattle.yaml_tree.specs.Emptied.{open_frames};
-ghost use Rattle.yaml_tree.specs.Formatting.{IsFormatted, Writes, Wrote, HasWritten, IsWritten, indent_after};
-ghost use Rattle.yaml_tree.specs.Frames.{Frame, step, finished_tree};
+ghost use Rattle.yaml_tree.specs.Documents.{IsDocument, IsWrittenTo};
+ghost use Rattle.yaml_tree.specs.Emptied.{Keeps, open_frames};
+ghost use Rattle.yaml_tree.specs.Formatting.{IsFormatted, Writes, Wrote, IsWritten, indent_after};
+ghost use Rattle.yaml_tree.specs.Frames.{Frame, step};
 ghost use Rattle.yaml_config.specs.Kept.{limits_of};
 ghost use Rattle.yaml_tree.specs.OpenText.{indent_in};
 ghost use Rattle.yaml_tree.specs.Reading.{Refuses};
-ghost use Rattle.yaml_writer.specs.declared.limited.LimitedText.{LimitedText};
 
 use crate::Limits;
-use crate::documents::Outline;
+use crate::documents::Document;
 use crate::key_check::KeyCheck;
 use crate::open_text::write_event;
 use crate::sizes::Sizes;
 use std::alloc::{AllocError, Global};
-use yaml_docs::events;
 use yaml_events::{Event, Events, ReadFault};
-use yaml_writer::LimitedText;
+use yaml_writer::{LimitedText, Sink};
 
 /// The greatest indentation that is written. A document that needs more has more than 2,147,483,647 collections open at
 /// once, and is refused as one for which there is no memory.
@@ -41,60 +40,77 @@ pub fn format_one(alloc: Global, bytes: &[u8], limits: &Limits) -> Result<String
     ensures too_long { (result ≡ Err ReadFault.TooLong) ↔ (limits.now.bytes < length bytes.now) }
     ensures refused { IfErr result (Refuses bytes.now (limits_of limits.now)) }
 {
-    let events = events(alloc, bytes, limits.bytes)?;
-    let Outline {
-        documents,
-        depth,
-        sizes,
-    } = Outline::of(alloc, &events)?;
-    if documents != 1 {
-        return Err(ReadFault::Documents { count: documents });
-    }
-    let text = LimitedText::with_capacity(alloc, bytes.len(), limits.style)?;
-    let document = write_document(alloc, events, sizes, text)?;
-    if !document.keys_differ {
-        return Err(ReadFault::KeyTwice);
-    }
-    if depth > limits.depth {
-        return Err(ReadFault::TooDeep);
-    }
-    match document.text.into_text() {
+    let document = Document::read(alloc, bytes, limits)?;
+    let mut text = LimitedText::with_capacity(alloc, bytes.len(), limits.style)?;
+    document.write(alloc, limits, &mut text)?;
+    match text.into_text() {
         Some(text) => Ok(text),
         None => Err(ReadFault::LargeInStyle),
     }
 }
 
-/// A document that was written.
-#[derive(Drop)]
-pub(crate) struct WrittenDocument {
-    /// Whether the keys differ in each mapping.
-    pub(crate) keys_differ: bool,
-    /// Its text in the one style.
-    pub(crate) text: LimitedText,
+impl Document<'_> {
+    /// Writes the tree of the document in the one style to a sink. No tree is built: the text is written from the
+    /// events. Of the limits only that of depth is tested, so a sink has to count what it takes if the text's length
+    /// is to have a limit.
+    ///
+    /// # Errors
+    ///
+    /// The first of these faults that holds; [`ReadFault::OutOfMemory`] may come at any point. The sink may have taken
+    /// some of the text.
+    ///
+    /// - [`ReadFault::KeyNotText`] if some key is a collection.
+    /// - [`ReadFault::KeyTwice`] if a mapping holds a key twice.
+    /// - [`ReadFault::TooDeep`] if the tree is deeper than `limits.depth`.
+    pub fn write<S: Sink<Fault = AllocError>>(
+        self,
+        alloc: Global,
+        limits: &Limits,
+        sink: &mut S,
+    ) -> Result<(), ReadFault>
+        ensures { (bytes : List ℕ) → IsDocument bytes (limits_of limits.now) self.entry
+            → MatchResult result
+            (λ _. IsWrittenTo S.Takes bytes (limits_of limits.now) sink.old sink.new)
+            (Refuses bytes (limits_of limits.now)) }
+    {
+        let Document {
+            events,
+            depth,
+            sizes,
+        } = self;
+        let keys_differ = write_document(alloc, events, sizes, sink)?;
+        if !keys_differ {
+            return Err(ReadFault::KeyTwice);
+        }
+        if depth > limits.depth {
+            return Err(ReadFault::TooDeep);
+        }
+        Ok(())
+    }
 }
 
-/// Writes the one document whose events these are at the end of a text. `sizes` says how many values the collections
-/// have.
+/// Writes the one document whose events these are to a sink, and returns whether the keys differ in each mapping.
+/// `sizes` says how many values the collections have.
 ///
 /// # Errors
 ///
 /// - [`ReadFault::KeyNotText`] if some key is a collection, or the events are not those of one document.
 /// - [`ReadFault::OutOfMemory`] if there is no memory for the keys or the text.
-fn write_document(
+fn write_document<S: Sink<Fault = AllocError>>(
     alloc: Global,
     events: Events<'_>,
     sizes: Sizes,
-    text: LimitedText,
-) -> Result<WrittenDocument, ReadFault>
+    sink: &mut S,
+) -> Result<bool, ReadFault>
     ensures { MatchResult result
-        (IsWritten text (events_of events.entry))
+        (IsWritten S.Takes sink.old sink.new (events_of events.entry))
         (HasNoTree (events_of events.entry)) }
 {
-    let mut writer = DocumentWriter::new(alloc, sizes, text);
+    let mut writer = DocumentWriter::new(alloc, sizes);
     for event in events {
-        writer.take(event)?;
+        writer.take(event, sink)?;
     }
-    writer.finish()
+    writer.check.finish()
 }
 
 /// A document that is written in the one style while its events come.
@@ -103,51 +119,41 @@ pub(crate) struct DocumentWriter {
     check: KeyCheck,
     /// The indentation of a collection that is opened next.
     indent: u64,
-    text: LimitedText,
 }
 
 impl DocumentWriter {
-    /// A writer before the first event. The document comes at the end of a text.
-    fn new(alloc: Global, sizes: Sizes, text: LimitedText) -> DocumentWriter
-        ensures { Writes text result [] }
+    /// A writer before the first event.
+    fn new(alloc: Global, sizes: Sizes) -> DocumentWriter
+        ensures keeps { Keeps result.check [] }
+        ensures indent { result.indent ≡ 0 }
     {
         DocumentWriter {
             check: KeyCheck::new(alloc, sizes),
             indent: 0,
-            text,
         }
     }
 
-    /// Takes the next event of the document. Returns `KeyNotText` if the event has no place there, and `OutOfMemory` if
-    /// there is no memory for the keys or the text.
+    /// Takes the next event of the document, and writes what it adds. Returns `KeyNotText` if the event has no place
+    /// there, and `OutOfMemory` if there is no memory for the keys or the text.
     #[inline(always)]
-    fn take(&mut self, event: Event<'_>) -> Result<(), ReadFault>
+    fn take<S: Sink<Fault = AllocError>>(
+        &mut self,
+        event: Event<'_>,
+        sink: &mut S,
+    ) -> Result<(), ReadFault>
         requires indent { self.old.indent
             ≡ indent_in (open_frames self.old.check.open.parts.items) }
         requires room { self.old.indent < 4294967296 }
-        ensures { (start : LimitedText) (fs : List Frame) → Writes start self.old fs
+        ensures { (start : S) (fs : List Frame) → Writes S.Takes start sink.old self.old fs
             → MatchResult result
-            (λ _. Wrote start self.new (step fs (shape (event_of event.entry))))
+            (λ _. Wrote S.Takes start sink.new self.new (step fs (shape (event_of event.entry))))
             (HasNone (step fs (shape (event_of event.entry)))) }
     {
         let indent = indent_after(self.indent, &event)?;
-        write_event(&self.check.open.parts, self.indent, &event, &mut self.text)?;
+        write_event(&self.check.open.parts, self.indent, &event, sink)?;
         self.check.take(event)?;
         self.indent = indent;
         Ok(())
-    }
-
-    /// What was written of the document. Returns `KeyNotText` if it has not ended.
-    fn finish(self) -> Result<WrittenDocument, ReadFault>
-        ensures { (start : LimitedText) (fs : List Frame) → Writes start self fs
-            → MatchResult result
-            (HasWritten start (finished_tree fs))
-            (HasNone (finished_tree fs)) }
-    {
-        let DocumentWriter { check, text, .. } = self;
-        let KeyCheck { open, keys_differ } = check;
-        open.finish()?;
-        Ok(WrittenDocument { keys_differ, text })
     }
 }
 

@@ -6,8 +6,8 @@ ghost use Rattle.yaml_events.specs.Meant.{event_of, events_of};
 ghost use Rattle.yaml_grammar.specs.Trees as grammar;
 ghost use Rattle.yaml_grammar.specs.Trees.{IsTreeOf, distinct, shape, text};
 ghost use Rattle.yaml_tree.specs.Building.{HasNone, HasNoTree};
-ghost use Rattle.yaml_tree.specs.Emptied.{Keeps, Took};
-ghost use Rattle.yaml_tree.specs.Frames.{Frame, frames_with, step, after_seq_end, after_map_end};
+ghost use Rattle.yaml_tree.specs.Emptied.{Keeps, Took, HasKeys};
+ghost use Rattle.yaml_tree.specs.Frames.{Frame, frames_with, step, after_seq_end, after_map_end, finished_tree};
 
 use crate::open_part::OpenParts;
 use crate::sizes::Sizes;
@@ -87,6 +87,17 @@ impl KeyCheck {
         self.keys_differ = self.keys_differ && differ;
         self.open.put_collection()
     }
+
+    /// Whether the keys differ in each mapping of the document. Returns `KeyNotText` if it has not ended.
+    pub fn finish(self) -> Result<bool, ReadFault>
+        ensures { (fs : List Frame) → Keeps self fs → MatchResult result
+            (HasKeys (finished_tree fs))
+            (HasNone (finished_tree fs)) }
+    {
+        let KeyCheck { open, keys_differ } = self;
+        open.finish()?;
+        Ok(keys_differ)
+    }
 }
 
 /// Whether in each mapping of a document the keys differ from one another. The document may be of any depth: no value
@@ -105,7 +116,5 @@ pub(crate) fn document_keys_differ(alloc: Global, events: Events<'_>) -> Result<
     for event in events {
         check.take(event)?;
     }
-    let KeyCheck { open, keys_differ } = check;
-    open.finish()?;
-    Ok(keys_differ)
+    check.finish()
 }

@@ -1,8 +1,9 @@
 //! Trees of texts, the ones that may be kept, and how the one style writes them.
 //!
 //! A [`Tree`] is any tree, a [`Config`] one within limits in whose mappings no key comes twice. [`read_one`] reads a
-//! text as one, and [`format_one`] writes a text in the one style without building its tree. [`write_style`] writes a
-//! tree's text in the one style to a [`Sink`], which may be a buffer or a count; [`style_len`] is the text's length.
+//! text as one. [`write_style`] writes a tree's text in the one style to a [`Sink`], which may be a buffer or a count;
+//! [`style_len`] is the text's length. A [`Document`] is a text that was read, and writes that text to a [`Sink`]
+//! without building the tree. [`format_one`] returns it.
 //!
 //! A tree is built from the events of its document by a loop with a stack. Before that it is known how many values
 //! each collection has, so that memory for them is taken once.
@@ -18,6 +19,7 @@ mod read;
 mod read_laws;
 mod sizes;
 
+pub use documents::Document;
 pub use format::format_one;
 pub use read::read_one;
 pub use read_laws::{bytes_give_one, refused_bytes_give_none};

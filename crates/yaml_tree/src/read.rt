@@ -7,11 +7,10 @@ ghost use Rattle.yaml_tree.specs.Reading.{IsRead, Refuses};
 ghost use Rattle.yaml_data.specs.Seen.{tree_of};
 
 use crate::build::document_tree;
-use crate::documents::Outline;
+use crate::documents::Document;
 use crate::key_check::document_keys_differ;
 use crate::{Config, Limits};
 use std::alloc::Global;
-use yaml_docs::events;
 use yaml_events::{Events, ReadFault};
 
 /// Reads a text that is one document, and returns its tree, within limits.
@@ -32,17 +31,15 @@ pub fn read_one(alloc: Global, bytes: &[u8], limits: &Limits) -> Result<Config, 
     ensures too_long { (result ≡ Err ReadFault.TooLong) ↔ (limits.now.bytes < length bytes.now) }
     ensures refused { IfErr result (Refuses bytes.now (limits_of limits.now)) }
 {
-    let events = events(alloc, bytes, limits.bytes)?;
-    let outline = Outline::of(alloc, &events)?;
-    if outline.documents != 1 {
-        return Err(ReadFault::Documents {
-            count: outline.documents,
-        });
-    }
-    if outline.depth > limits.depth {
+    let Document {
+        events,
+        depth,
+        sizes,
+    } = Document::read(alloc, bytes, limits)?;
+    if depth > limits.depth {
         return Err(deep_fault(alloc, events));
     }
-    let tree = document_tree(alloc, events, outline.sizes)?;
+    let tree = document_tree(alloc, events, sizes)?;
     match Config::within(alloc, tree, limits) {
         Ok(config) => Ok(config),
         Err((_, fault)) => Err(fault),

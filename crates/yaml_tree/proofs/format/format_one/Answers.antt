@@ -1,34 +1,33 @@
-use Rattle.std.proofs.Common.{◌≡◌, ◌≤◌, true, sym, subst, ◌∙◌}
-use Rattle.std.proofs.lemmas.Bool.{not-false}
+use Rattle.std.proofs.Common.{Err, sym, subst, refl}
 use Rattle.std.proofs.lemmas.Result.{err_from_is_err_and}
-use Rattle.yaml_events.specs.Meant.{events_of}
-use Rattle.yaml_grammar.specs.Trees.{depth}
 use Rattle.yaml_config.specs.Kept.{limits_of}
 use Rattle.yaml_tree.specs.Formatting.{IsFormatted}
-use Rattle.yaml_tree.specs.Reading.{document_count}
-use Rattle.yaml_tree.proofs.ReadLemmas.{shallow_refused}
-use Rattle.yaml_tree.proofs.WriterLemmas.{formatted}
+use Rattle.yaml_tree.proofs.WriterLemmas.{formatted, too_large, not_too_long}
 use Rattle.yaml_tree.proofs.format.format_one.Goals as goal
 
-pub returns-in_err-document-clause-refused : goal.returns-in_err-document-clause-refused
-returns-in_err-document-clause-refused c =
-    let es = c.in_ok-events.events in
-    let one : document_count (events_of es) ≡ 1 =
-    sym c.in_ok-documents.ensures.0 ∙ c.if-documents-ne1.false in
-    let p = err_from_is_err_and c.from_residual-in_err-document.result c.from_residual-in_err-document.ensures.1 in
+pub returns-in_err-write-clause-too_long : goal.returns-in_err-write-clause-too_long
+returns-in_err-write-clause-too_long c =
+    let p = err_from_is_err_and c.from_residual-in_err-write.result c.from_residual-in_err-write.ensures.1 in
+    let refused = c.in_err-write.ensures c.args.bytes.now c.in_ok-document.ensures.read in
     rw (p.1, p.2)
-    (shallow_refused c.args.bytes.now (limits_of c.args.limits.now) es c.in_err-document.field-0.0 c.in_ok-events.ensures.reads one
-    c.in_err-document.ensures)
+    (not_too_long c.args.bytes.now (limits_of c.args.limits.now) c.in_ok-document.document c.in_err-write.field-0.0 (Err c.in_err-write.field-0.0)
+    c.in_ok-document.ensures.read refused refl)
+
+pub returns-in_err-write-clause-refused : goal.returns-in_err-write-clause-refused
+returns-in_err-write-clause-refused c =
+    let p = err_from_is_err_and c.from_residual-in_err-write.result c.from_residual-in_err-write.ensures.1 in
+    rw (p.1, p.2) (c.in_err-write.ensures c.args.bytes.now c.in_ok-document.ensures.read)
 
 pub returns-in-Some-clause-given : goal.returns-in-Some-clause-given
 returns-in-Some-clause-given c =
     let limits = limits_of c.args.limits.now in
-    let es = c.in_ok-events.events in
-    let document = c.in_ok-document.document in
-    let written = c.in_ok-document.ensures in
-    let differ : document.keys_differ ≡ true = not-false document.keys_differ c.if-not-document.false in
-    let same : c.in_ok-documents.field-0.depth ≡ depth written.tree = c.in_ok-documents.ensures.1 written.tree written.is_tree in
-    let deep : depth written.tree ≤ limits.depth = subst (λ n. n ≤ limits.depth) same c.if-depth-limits.false in
+    let written = c.in_ok-write.ensures c.args.bytes.now c.in_ok-document.ensures.read in
     subst (IsFormatted c.args.bytes.now limits) (sym c.in-Some.ensures.some.1)
-    (formatted c.args.bytes.now limits es c.in_ok-text.text document c.in_ok-events.ensures.reads written differ deep
+    (formatted c.args.bytes.now limits c.in_ok-text.text c.write.new.sink written
     c.in_ok-text.ensures.0 c.in_ok-text.ensures.1 c.in-Some.ensures.some.0)
+
+pub returns-in-None-clause-refused : goal.returns-in-None-clause-refused
+returns-in-None-clause-refused c =
+    let limits = limits_of c.args.limits.now in
+    let written = c.in_ok-write.ensures c.args.bytes.now c.in_ok-document.ensures.read in
+    too_large c.args.bytes.now limits c.in_ok-text.text c.write.new.sink written c.in_ok-text.ensures.0 c.in-None.ensures.none

@@ -1,50 +1,56 @@
-use Rattle.std.proofs.Common.{◌≡◌, Some, List, [], sym, ap, ◌∙◌}
+use Rattle.std.proofs.Common.{◌≡◌, Some, List, [], sym, ap, ◌∙◌, rules}
 use Rattle.std.proofs.lemmas.Result.{MatchResult-weaker, err_from_is_err_and}
 use Rattle.yaml_events.specs.Meant.{events_of}
 use Rattle.yaml_events.specs.declared.event.Event.{Event}
 use Rattle.yaml_grammar.specs.Trees.{shapes}
 use Rattle.yaml_tree.specs.OpenText.{indent_in}
-use Rattle.yaml_tree.proofs.EventLemmas.{run_on, run_ended, run_tree, stopped_refuses, unfinished_refuses}
+use Rattle.yaml_tree.proofs.EventLemmas.{run_on, run_ended, stopped_refuses, unfinished_refuses}
 use Rattle.yaml_tree.proofs.FrameLemmas.{run}
 use Rattle.yaml_tree.proofs.OpenTextLemmas.{indent_in-emptied}
+use Rattle.yaml_tree.proofs.WriterLemmas.{begins, is_written}
 use Rattle.yaml_tree.proofs.format.write_document.Goals as goal
 
+pub loop-event-init : goal.loop-event-init
+loop-event-init g c =
+    let left : List Event = c.into_iter-event-iterator.result in
+    let same : left ≡ c.args.events = search rules in (
+      [],
+      ap (λ (es : List Event). run (Some []) (shapes (events_of es))) same,
+      begins g.S.Sink.Takes c.args.sink.now c.new-writer.result (g.met.S.Sink.takes_none c.args.sink.now) c.new-writer.ensures.keeps
+          c.new-writer.ensures.indent,
+    )
+
 pub take-requires-clause-indent : goal.take-requires-clause-indent
-take-requires-clause-indent c =
+take-requires-clause-indent g c =
     let writes = c.loop-event.invariant.2 in
     writes.indent ∙ sym (indent_in-emptied c.loop-event.invariant.0) ∙ ap indent_in (sym writes.keeps.frames)
 
 pub take-requires-clause-room : goal.take-requires-clause-room
-take-requires-clause-room c = let writes = c.loop-event.invariant.2 in writes.room
+take-requires-clause-room g c = let writes = c.loop-event.invariant.2 in writes.room
 
 pub loop-event-preserved : goal.loop-event-preserved
-loop-event-preserved c =
+loop-event-preserved g c =
     let l = c.loop-event in
     let fs = l.invariant.0 in
-    let wrote = c.in_ok-take.ensures c.args.text fs l.invariant.2 in
+    let wrote = c.in_ok-take.ensures c.args.sink.now fs l.invariant.2 in
     (wrote.parts, run_on l.event-iterator c.next.new.self c.args.events c.in-Some.event fs wrote.parts c.in-Some.ensures.steps l.invariant.1 wrote.are, wrote.writes)
 
 pub returns-in_err-take : goal.returns-in_err-take
-returns-in_err-take c =
+returns-in_err-take g c =
     let l = c.loop-event in
     let fs = l.invariant.0 in
     let p = err_from_is_err_and c.from_residual.result c.from_residual.ensures.1 in
     rw (p.1, p.2)
     (stopped_refuses l.event-iterator c.next.new.self c.args.events c.in-Some.event fs _
-    c.in-Some.ensures.steps l.invariant.1 (c.in_err-take.ensures c.args.text fs l.invariant.2))
+    c.in-Some.ensures.steps l.invariant.1 (c.in_err-take.ensures c.args.sink.now fs l.invariant.2))
 
 pub returns : goal.returns
-returns c =
+returns g c =
     let l = c.loop-event in
     let fs = l.invariant.0 in
+    let writes = l.invariant.2 in
     let all : List Event = c.args.events in
     let done : run (Some []) (shapes (events_of all)) ≡ Some fs = run_ended l.event-iterator all fs c.in-None.ensures.steps.0 l.invariant.1 in
-    MatchResult-weaker c.finish.result (c.finish.ensures c.args.text fs l.invariant.2)
-    (λ document has. record {
-      tree = has.tree;
-      is_tree = run_tree (events_of all) fs has.tree done has.is;
-      texts = has.texts;
-      differ = has.differ;
-      text = has.text;
-    })
+    MatchResult-weaker c.finish.result (c.finish.ensures fs writes.keeps)
+    (λ differ has. is_written g.S.Sink.Takes c.args.sink.now l.sink l.writer all differ fs writes done has)
     (λ fault h. unfinished_refuses (events_of all) fs fault done h)

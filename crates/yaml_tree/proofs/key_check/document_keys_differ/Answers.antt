@@ -1,14 +1,9 @@
-use Rattle.std.proofs.Common.{◌≡◌, Some, List, [], sym, ap, ◌∙◌}
-use Rattle.std.proofs.lemmas.Result.{err_from_is_err_and}
+use Rattle.std.proofs.Common.{◌≡◌, Some, List, []}
+use Rattle.std.proofs.lemmas.Result.{MatchResult-weaker, err_from_is_err_and}
 use Rattle.yaml_events.specs.Meant.{events_of}
 use Rattle.yaml_events.specs.declared.event.Event.{Event}
 use Rattle.yaml_grammar.specs.Trees.{shapes}
-use Rattle.yaml_tree.specs.Emptied.{open_frames}
-use Rattle.yaml_data.specs.Keys.{nothing}
-use Rattle.yaml_tree.specs.Frames.{finished_tree}
-use Rattle.yaml_tree.proofs.CheckLemmas.{emptied_refuses}
-use Rattle.yaml_tree.proofs.EmptiedLemmas.{finished_emptied}
-use Rattle.yaml_tree.proofs.EventLemmas.{run_on, run_ended, run_tree, stopped_refuses}
+use Rattle.yaml_tree.proofs.EventLemmas.{run_on, run_ended, run_tree, stopped_refuses, unfinished_refuses}
 use Rattle.yaml_tree.proofs.FrameLemmas.{run}
 use Rattle.yaml_tree.proofs.key_check.document_keys_differ.Goals as goal
 
@@ -28,22 +23,12 @@ returns-in_err-take c =
     (stopped_refuses l.event-iterator c.next.new.self c.args.events c.in-Some.event fs _
     c.in-Some.ensures.steps l.invariant.1 (c.in_err-take.ensures fs l.invariant.2))
 
-pub returns-in_err-finish : goal.returns-in_err-finish
-returns-in_err-finish c =
-    let l = c.loop-event in
-    let fs = l.invariant.0 in
-    let all : List Event = c.args.events in
-    let done : run (Some []) (shapes (events_of all)) ≡ Some fs = run_ended l.event-iterator all fs c.in-None.ensures.steps.0 l.invariant.1 in
-    let p = err_from_is_err_and c.from_residual-in_err-finish.result c.from_residual-in_err-finish.ensures.1 in
-    rw (p.1, p.2)
-    (emptied_refuses (events_of all) fs (open_frames l.check.open.parts.items) _ done l.invariant.2.frames c.in_err-finish.ensures)
-
 pub returns : goal.returns
 returns c =
     let l = c.loop-event in
     let fs = l.invariant.0 in
     let all : List Event = c.args.events in
     let done : run (Some []) (shapes (events_of all)) ≡ Some fs = run_ended l.event-iterator all fs c.in-None.ensures.steps.0 l.invariant.1 in
-    let found = finished_emptied fs nothing l.check.keys_differ
-    (ap finished_tree (sym l.invariant.2.frames) ∙ c.in_ok-finish.ensures) l.invariant.2.differ in
-    (found.tree, run_tree (events_of all) fs found.tree done found.is, found.distinct)
+    MatchResult-weaker c.finish.result (c.finish.ensures fs l.invariant.2)
+    (λ differ has. (has.tree, run_tree (events_of all) fs has.tree done has.is, has.keys))
+    (λ fault h. unfinished_refuses (events_of all) fs fault done h)

@@ -1,9 +1,9 @@
-use Rattle.std.proofs.Common.{◌≡◌, ◌<◌, sym, subst, ◌∙◌, arith}
+use Rattle.std.proofs.Common.{◌<◌, sym, subst, arith}
 use Rattle.std.proofs.lemmas.Result.{err_from_is_err_and}
 use Rattle.yaml_events.specs.Meant.{events_of}
 use Rattle.yaml_grammar.specs.Trees.{Tree, IsTreeOf, depth}
 use Rattle.yaml_config.specs.Kept.{limits_of}
-use Rattle.yaml_tree.specs.Reading.{IsRead, document_count}
+use Rattle.yaml_tree.specs.Reading.{IsRead}
 use Rattle.yaml_data.specs.Seen.{tree_of}
 use Rattle.yaml_data.specs.declared.tree.Tree as trees
 use Rattle.yaml_tree.proofs.ReadLemmas.{tree_read, shallow_refused, deep_refused}
@@ -12,34 +12,32 @@ use Rattle.yaml_tree.proofs.read.read_one.Goals as goal
 pub returns-in-Ok-clause-given : goal.returns-in-Ok-clause-given
 returns-in-Ok-clause-given c =
     let limits = limits_of c.args.limits.now in
+    let is = c.in_ok-events.ensures.read in
     let good = c.in-Ok.ensures.ok in
     subst (λ (config : trees.Tree). IsRead c.args.bytes.now limits (tree_of config)) (sym good.0)
-    (tree_read c.args.bytes.now limits c.in_ok-events.events (tree_of c.in_ok-tree.tree) c.in_ok-events.ensures.reads c.in_ok-tree.ensures good.1)
+    (tree_read c.args.bytes.now limits c.in_ok-events.field-0.events (tree_of c.in_ok-tree.tree) is.reads c.in_ok-tree.ensures good.1)
 
-pub returns-then-outline-limits-clause-refused :
-    goal.returns-then-outline-limits-clause-refused
-returns-then-outline-limits-clause-refused c =
-    let es = c.in_ok-events.events in
-    let one : document_count (events_of es) ≡ 1 =
-    sym c.in_ok-outline.ensures.0 ∙ c.if-outline-ne1.false in
-    let deep : (t : Tree) → IsTreeOf (events_of es) t → c.args.limits.now.depth < depth t = λ t is.
-    let e = c.in_ok-outline.ensures.1 t is in
-    omega (arith, e, c.if-outline-limits.true) in
-    deep_refused c.args.bytes.now (limits_of c.args.limits.now) es c.deep_fault.result c.in_ok-events.ensures.reads one deep c.deep_fault.ensures
+pub returns-then-depth-limits-clause-refused : goal.returns-then-depth-limits-clause-refused
+returns-then-depth-limits-clause-refused c =
+    let is = c.in_ok-events.ensures.read in
+    let es = c.in_ok-events.field-0.events in
+    let deep : (t : Tree) → IsTreeOf (events_of es) t → c.args.limits.now.depth < depth t = λ t tree.
+    let e = is.as_deep t tree in
+    omega (arith, e, c.if-depth-limits.true) in
+    deep_refused c.args.bytes.now (limits_of c.args.limits.now) es c.deep_fault.result is.reads is.one deep c.deep_fault.ensures
 
 pub returns-in_err-tree-clause-refused : goal.returns-in_err-tree-clause-refused
 returns-in_err-tree-clause-refused c =
-    let es = c.in_ok-events.events in
-    let one : document_count (events_of es) ≡ 1 =
-    sym c.in_ok-outline.ensures.0 ∙ c.if-outline-ne1.false in
+    let is = c.in_ok-events.ensures.read in
     let p = err_from_is_err_and c.from_residual-in_err-tree.result c.from_residual-in_err-tree.ensures.1 in
     rw (p.1, p.2)
-    (shallow_refused c.args.bytes.now (limits_of c.args.limits.now) es _ c.in_ok-events.ensures.reads one c.in_err-tree.ensures)
+    (shallow_refused c.args.bytes.now (limits_of c.args.limits.now) c.in_ok-events.field-0.events _ is.reads is.one c.in_err-tree.ensures)
 
 pub within-requires-clause-shallow : goal.within-requires-clause-shallow
 within-requires-clause-shallow c =
-    let deep = c.in_ok-outline.ensures.1 (tree_of c.in_ok-tree.tree) c.in_ok-tree.ensures in
-    omega (arith, deep, c.if-outline-limits.false)
+    let is = c.in_ok-events.ensures.read in
+    let deep = is.as_deep (tree_of c.in_ok-tree.tree) c.in_ok-tree.ensures in
+    omega (arith, deep, c.if-depth-limits.false)
 
 pub within-requires-clause-depth : goal.within-requires-clause-depth
 within-requires-clause-depth c = c.requires.deep

@@ -1,0 +1,7 @@
+use Rattle.std.proofs.Common.{arith}
+use Rattle.std.proofs.lemmas.Result.{on_ok_weaker}
+use Rattle.yaml_writer.proofs.ByteLemmas.{byte_len-chars}
+use Rattle.yaml_style.proofs.comparison.CountedComparisonSink.put_text.Goals as goal
+
+pub returns : goal.returns
+returns c = on_ok_weaker c.put_text.result (λ compared. (compared, omega (arith, byte_len-chars c.args.text.now c.utf8.text, c.saturating_add-self.ensures))) c.put_text.ensures

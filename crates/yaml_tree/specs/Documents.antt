@@ -1,0 +1,28 @@
+-- A text that was read as one document, and the text of its tree in the one style.
+use Rattle.std.specs.Prelude.{◌≡◌, ℕ, List}
+use Rattle.yaml_docs.specs.Reading.{ReadsAs}
+use Rattle.yaml_events.specs.Meant.{events_of}
+use Rattle.yaml_grammar.specs.Reads.{Limits}
+use Rattle.yaml_grammar.specs.Style.{style_text}
+use Rattle.yaml_grammar.specs.Texts.{byte_len}
+use Rattle.yaml_grammar.specs.Trees.{Tree, IsTreeOf, depth}
+use Rattle.yaml_tree.specs.Reading.{IsRead, document_count}
+use Rattle.yaml_tree.specs.declared.documents.Document.{Document}
+
+-- the bytes read as the events of one document, which say how deep its tree is, if it has one
+pub record IsDocument (bytes : List ℕ) (limits : Limits) (document : Document) : Type 0 where
+  pub reads : ReadsAs bytes limits.bytes document.events
+  pub one : document_count (events_of document.events) ≡ 1
+  pub as_deep : (t : Tree) → IsTreeOf (events_of document.events) t → document.depth ≡ depth t
+
+-- the limits with another one of the length in the one style
+abbrev pub with_style : Limits → ℕ → Limits
+with_style limits style = record { bytes = limits.bytes; depth = limits.depth; style = style }
+
+-- The bytes give a tree within the limits, but for its length in the one style, which has no limit. A sink has taken
+-- its text in the one style; `takes` says which characters lead from one sink to another.
+pub record IsWrittenTo {S : Type 0} (takes : S → List ℕ → S → Type 0) (bytes : List ℕ) (limits : Limits)
+    (before after : S) : Type 0 where
+  pub tree : Tree
+  pub reads : IsRead bytes (with_style limits (byte_len (style_text tree))) tree
+  pub text : takes before (style_text tree) after
