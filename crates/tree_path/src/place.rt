@@ -116,7 +116,8 @@ pub fn child<'t>(tree: &'t Tree, token: &str) -> Result<&'t Tree, Miss>
     child_at(tree, token, key_in(tree, token))
 }
 
-/// The same where the place of the token as a key is known, as [`key_in`] returns it.
+/// The value to which a step leads, where the place of its token as a key is known, as [`key_in`] returns it. The misses
+/// are those of [`child`].
 pub fn child_at<'t>(tree: &'t Tree, token: &str, place: Option<usize>) -> Result<&'t Tree, Miss>
     requires { place ≡ key_in (tree_of tree.now) (chars token.now) }
     ensures ok { IfOk result (λ value. child (tree_of tree.now) (chars token.now)

@@ -3,4 +3,5 @@ pub mod DepthLemmas
 pub mod Located
 pub mod Measured
 pub mod Planned
+pub mod SizeLemmas
 pub mod TextTreeLemmas

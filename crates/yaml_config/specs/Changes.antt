@@ -77,16 +77,24 @@ abbrev pub child_size : Slot → Tree → Size
 child_size Value t = value_size t
 child_size Element t = element_size t
 
--- an element that isn't the first, with the spaces before its `- `
-abbrev pub element_row : Tree → Size
-element_row t = record { bytes = 2 + (element_size t).bytes; lines = 1 + (element_size t).lines }
+-- an element of this size that isn't the first, with the spaces before its `- `
+abbrev pub row_of_element : Size → Size
+row_of_element size = record { bytes = 2 + size.bytes; lines = 1 + size.lines }
 
--- a member that isn't the first, with the spaces before its key
-abbrev pub member_row : List ℕ → Tree → Size
-member_row key t = record {
-  bytes = (key_size key).bytes + (value_size t).bytes;
-  lines = 1 + (key_size key).lines + (value_size t).lines;
+-- the same of a tree
+abbrev pub element_row : Tree → Size
+element_row t = row_of_element (element_size t)
+
+-- a member whose value has this size and that isn't the first, with the spaces before its key
+abbrev pub row_of_member : List ℕ → Size → Size
+row_of_member key value = record {
+  bytes = (key_size key).bytes + value.bytes;
+  lines = 1 + (key_size key).lines + value.lines;
 }
+
+-- the same of a tree
+abbrev pub member_row : List ℕ → Tree → Size
+member_row key t = row_of_member key (value_size t)
 
 -- the same if it is the first: in a collection after `- ` no spaces come before it
 abbrev pub first_row : Slot → Size → Size

@@ -6,8 +6,8 @@ ghost use Rattle.yaml_grammar.specs.Trees.{depth};
 ghost use Rattle.yaml_grammar.specs.Style.{style_text};
 ghost use Rattle.yaml_data.specs.OwnLimits.{own_limits};
 ghost use Rattle.yaml_data.specs.Seen.{tree_of};
-ghost use Rattle.yaml_writer.specs.Sizes.{length_at};
-ghost use Rattle.yaml_config.specs.Changes.{growth, reversed_change, shifted_change, shifted_size, slot_in, first_row, child_size, element_row, member_row};
+ghost use Rattle.yaml_writer.specs.Sizes.{element_size, length_at};
+ghost use Rattle.yaml_config.specs.Changes.{growth, reversed_change, shifted_change, shifted_size, slot_in, first_row, child_size, row_of_element, row_of_member};
 
 use yaml_data::Tree;
 use yaml_writer::Size;
@@ -53,7 +53,7 @@ impl Change {
         }
     }
 
-    /// The same change at an indentation that is `by` spaces more.
+    /// What the edit takes out and puts in where the whole tree is indented by `by` spaces more.
     pub(crate) fn shifted(self, by: u128) -> Change
         requires removed { self.removed.bytes + by * self.removed.lines < 2 ^ 128 }
         requires added { self.added.bytes + by * self.added.lines < 2 ^ 128 }
@@ -66,7 +66,7 @@ impl Change {
     }
 }
 
-/// The same size at an indentation that is `by` spaces more.
+/// The size of a part of a tree that is indented by `by` spaces more: each of its indented lines has as many bytes more.
 fn shifted_size(size: Size, by: u128) -> Size
     requires { size.bytes + by * size.lines < 2 ^ 128 }
     ensures { result ≡ shifted_size by size }
@@ -109,31 +109,39 @@ impl Slot {
             Slot::Element => Size::of_element(tree),
         }
     }
+
+    /// The size of a value in this context, from its size as an element.
+    pub(crate) fn size_from(self, element: Size, tree: &Tree) -> Size
+        requires element { element ≡ element_size (tree_of tree.now) }
+        requires small { (element.bytes < 2 ^ 32) × (element.lines < 2 ^ 32) }
+        ensures { result ≡ child_size self (tree_of tree.now) }
+    {
+        match self {
+            Slot::Value => element.after_key(tree),
+            Slot::Element => element,
+        }
+    }
 }
 
-/// The size of an element that isn't the first, with the spaces before its `- `.
-pub(crate) fn element_row(tree: &Tree) -> Size
-    requires deep { depth (tree_of tree.now) ≤ own_limits.depth }
-    requires long { byte_len (style_text (tree_of tree.now)) ≤ own_limits.style }
-    ensures size { result ≡ element_row (tree_of tree.now) }
+/// The size of an element that isn't the first, with the spaces before its `- `, from its size after the `- `.
+pub(crate) fn element_row(element: Size) -> Size
+    requires small { (element.bytes < 2 ^ 33) × (element.lines < 2 ^ 32 + 1) }
+    ensures size { result ≡ row_of_element element }
     ensures small { (result.bytes < 2 ^ 80) × (result.lines < 2 ^ 33) }
 {
-    let element = Size::of_element(tree);
     Size {
         bytes: 2 + element.bytes,
         lines: 1 + element.lines,
     }
 }
 
-/// The size of a member that isn't the first, with the spaces before its key.
-pub(crate) fn member_row(key: &str, tree: &Tree) -> Size
-    requires deep { depth (tree_of tree.now) ≤ own_limits.depth }
-    requires long { byte_len (style_text (tree_of tree.now)) ≤ own_limits.style }
-    ensures size { result ≡ member_row (chars key.now) (tree_of tree.now) }
+/// The size of a member that isn't the first, with the spaces before its key, from the size of its value.
+pub(crate) fn member_row(key: &str, value: Size) -> Size
+    requires small { (value.bytes < 2 ^ 33) × (value.lines < 2 ^ 32 + 1) }
+    ensures size { result ≡ row_of_member (chars key.now) value }
     ensures small { (result.bytes < 2 ^ 80) × (result.lines < 2 ^ 33) }
 {
     let key = Size::of_key(key);
-    let value = Size::of_value(tree);
     Size {
         bytes: key.bytes + value.bytes,
         lines: 1 + key.lines + value.lines,

@@ -1,28 +1,33 @@
 // A tree that is good to keep.
-ghost use Rattle.std.specs.Prelude.{◌≡◌, ◌<◌, ◌≤◌, [], IfOk, OnOk, IfErr};
+ghost use Rattle.std.specs.Prelude.{◌≡◌, ◌+◌, ◌*◌, ◌^◌, ◌<◌, ◌≤◌, [], IfOk, OnOk, IfErr};
 ghost use Rattle.yaml_grammar.specs.Reads.{Good};
-ghost use Rattle.yaml_grammar.specs.Style.{style_text};
+ghost use Rattle.yaml_grammar.specs.Style.{lines_after_dash, style_text};
 ghost use Rattle.yaml_grammar.specs.Texts.{byte_len};
 ghost use Rattle.yaml_grammar.specs.Trees.{depth, text};
+ghost use Rattle.yaml_config.specs.Changes.{child_size};
 ghost use Rattle.yaml_config.specs.Kept.{IsKept, IsFirstFault, own_limits, limits_of};
 ghost use Rattle.yaml_data.specs.Seen.{tree_of};
+ghost use Rattle.yaml_writer.specs.Sizes.{element_size, indented};
 
+use crate::change::Slot;
 use crate::limits::Limits;
 use std::alloc::{AllocError, Global};
 use std::marker::Model;
 use yaml_data::{Text, Tree, has_distinct_keys};
 use yaml_events::ReadFault;
-use yaml_writer::style_len;
+use yaml_writer::{Size, style_len};
 
 /// The bytes of the empty text in the one style, `""` and a line feed.
 const EMPTY_LENGTH: u64 = 3;
 
 /// A tree in whose mappings no key comes twice, which is at most 66 deep and has at most 67,108,864 bytes in the one
-/// style. Its length in the one style is kept with it. Contracts see the tree.
+/// style. Its length in the one style is kept with it, and how many of its lines are indented, where that was counted.
+/// Contracts see the tree.
 #[derive(Debug, Drop)]
 pub struct Config {
     tree: Tree,
     length: u64,
+    lines: Option<u64>,
 }
 
 impl Model for Config {
@@ -33,16 +38,18 @@ impl Model for Config {
 
     ghost coded = { trees.the_row.coded };
 
-    ghost use Rattle.std.specs.Prelude.{◌≡◌};
+    ghost use Rattle.std.specs.Prelude.{◌≡◌, IfSome};
     ghost use Rattle.yaml_grammar.specs.Style.{style_text};
     ghost use Rattle.yaml_grammar.specs.Texts.{byte_len};
     ghost use Rattle.yaml_config.specs.Kept.{IsKept};
     ghost use Rattle.yaml_data.specs.Seen.{tree_of};
+    ghost use Rattle.yaml_writer.specs.Sizes.{indented};
 
     ghost view = { λ c. c.tree };
 
     ghost invariant = { λ c. IsKept (tree_of c.tree)
-        × (c.length ≡ byte_len (style_text (tree_of c.tree))) };
+        × (c.length ≡ byte_len (style_text (tree_of c.tree)))
+        × IfSome c.lines (λ lines. lines ≡ indented (tree_of c.tree)) };
 }
 
 impl Config {
@@ -90,7 +97,7 @@ impl Config {
             × IsFirstFault (limits_of limits.now) (tree_of tree) refused.1) }
     {
         match checked_length(alloc, &tree, limits) {
-            Ok(length) => Ok(Config { tree, length }),
+            Ok(length) => Ok(Config::from_parts(tree, length)),
             Err(fault) => Err((tree, fault)),
         }
     }
@@ -102,7 +109,26 @@ impl Config {
         requires length { length ≡ byte_len (style_text (tree_of tree)) }
         ensures { result ≡ tree }
     {
-        Config { tree, length }
+        Config {
+            tree,
+            length,
+            lines: None,
+        }
+    }
+
+    /// The configuration of a tree within the limits, whose size as an element of a sequence, after the `- `, is known
+    /// ([`Size::of_element`]). It takes no memory, and counts nothing.
+    pub fn with_size(tree: Tree, element: Size) -> Config
+        requires kept { IsKept (tree_of tree) }
+        requires size { element ≡ element_size (tree_of tree) }
+        ensures { result ≡ tree }
+    {
+        let length = length_from(element, &tree);
+        Config {
+            tree,
+            length,
+            lines: Some(element.lines as u64),
+        }
     }
 
     /// The empty text as a configuration. It takes no memory.
@@ -112,6 +138,7 @@ impl Config {
         Config {
             tree: Tree::Text(Text::empty()),
             length: EMPTY_LENGTH,
+            lines: Some(0),
         }
     }
 
@@ -139,6 +166,18 @@ impl Config {
         self.length
     }
 
+    /// The size of the tree as a value in this context. It is counted only if it isn't known: a configuration that was
+    /// made with its size, or is empty, has it.
+    pub fn size(&self, slot: Slot) -> Size
+        ensures size { result ≡ child_size slot (tree_of self.now) }
+        ensures small { (result.bytes < 2 ^ 32) × (result.lines < 2 ^ 32) }
+    {
+        match self.lines {
+            Some(lines) => slot.size_from(element_from(self.length, lines, &self.tree), &self.tree),
+            None => slot.size_of(&self.tree),
+        }
+    }
+
     /// How deep the tree is, at most 66, as [`Tree::depth`] counts.
     pub fn depth(&self) -> u64
         ensures depth { result ≡ depth (tree_of self.now) }
@@ -155,7 +194,44 @@ impl Config {
         Ok(Config {
             tree,
             length: self.length,
+            lines: self.lines,
         })
+    }
+}
+
+/// The length of a tree in the one style, from its size as an element.
+fn length_from(element: Size, tree: &Tree) -> u64
+    requires kept { IsKept (tree_of tree.now) }
+    requires element { element ≡ element_size (tree_of tree.now) }
+    ensures { result ≡ byte_len (style_text (tree_of tree.now)) }
+{
+    (element.bytes - dash_indent(tree) * element.lines) as u64
+}
+
+/// The size of a tree as an element, from its length in the one style and the number of its indented lines.
+fn element_from(length: u64, lines: u64, tree: &Tree) -> Size
+    requires kept { IsKept (tree_of tree.now) }
+    requires length { length ≡ byte_len (style_text (tree_of tree.now)) }
+    requires lines { lines ≡ indented (tree_of tree.now) }
+    ensures { result ≡ element_size (tree_of tree.now) }
+{
+    let lines = u128::from(lines);
+    Size {
+        bytes: u128::from(length) + dash_indent(tree) * lines,
+        lines,
+    }
+}
+
+/// By how many spaces more the lines of a tree are indented after a `- ` than those of the tree by itself.
+fn dash_indent(tree: &Tree) -> u128
+    ensures length { byte_len (lines_after_dash (tree_of tree.now) 0)
+        ≡ byte_len (style_text (tree_of tree.now)) + result * indented (tree_of tree.now) }
+    ensures small { result ≤ 2 }
+{
+    match tree {
+        Tree::Text(_) => 0,
+        Tree::Seq(_) => 2,
+        Tree::Map(_) => 2,
     }
 }
 

@@ -11,9 +11,10 @@ ghost use Rattle.yaml_config.specs.Edits.{tree_after_edit};
 ghost use Rattle.yaml_config.specs.Limits.{config_limits};
 ghost use Rattle.json_pointer.specs.declared.fault.PathFault.{PathFault};
 
+use crate::change::Slot;
 use crate::config::Config;
 use crate::limits::Limits;
-use crate::measure::{Plan, plan_delete, plan_set};
+use crate::measure::{Plan, plan_delete, plan_set_sized};
 use std::alloc::Global;
 use std::mem;
 use tree_path::{Path, PathFault, delete_planned, set_planned};
@@ -43,7 +44,10 @@ impl Edit {
             path.now ≡ Err fault) }
     {
         match self {
-            Edit::Set(value) => plan_set(config, path, value.tree()),
+            Edit::Set(value) => {
+                let element = value.size(Slot::Element);
+                plan_set_sized(config, path, value.tree(), element)
+            }
             Edit::Delete => plan_delete(config, path),
         }
     }

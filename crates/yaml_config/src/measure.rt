@@ -7,6 +7,7 @@ ghost use Rattle.yaml_grammar.specs.Style.{style_text};
 ghost use Rattle.yaml_config.specs.Kept.{IsKept};
 ghost use Rattle.yaml_data.specs.OwnLimits.{own_limits};
 ghost use Rattle.yaml_data.specs.Seen.{tree_of};
+ghost use Rattle.yaml_writer.specs.Sizes.{element_size};
 ghost use Rattle.yaml_config.specs.Changes.{Changes, ChangesSmall, Located};
 ghost use Rattle.tree_path.specs.Paths.{at, set, delete, child, put, cut, key_in, last_key};
 ghost use Rattle.json_pointer.specs.Tokens.{texts};
@@ -16,7 +17,7 @@ use crate::config::Config;
 use std::borrow::CowStr;
 use tree_path::{Miss, Path, PathFault, child, child_at, key_in};
 use yaml_data::Tree;
-use yaml_writer::style_len;
+use yaml_writer::{Size, style_len};
 
 /// The node that an edit changes, and its context.
 #[derive(Clone, Copy)]
@@ -51,8 +52,29 @@ pub fn plan_set(config: &Config, path: &Path, value: &Tree) -> Result<Plan, Path
     ensures refused { IfErr result (λ fault. set (tree_of config.now) path.now (tree_of value.now)
         ≡ Err fault) }
 {
+    plan_set_sized(config, path, value, Size::of_element(value))
+}
+
+/// The plan of [`plan_set`] for a value whose size as an element is known, so that it isn't measured.
+pub(crate) fn plan_set_sized(
+    config: &Config,
+    path: &Path,
+    value: &Tree,
+    element: Size,
+) -> Result<Plan, PathFault>
+    requires steps { 0 < length path.now }
+    requires kept { IsKept (tree_of value.now) }
+    requires size { element ≡ element_size (tree_of value.now) }
+    ensures ok { IfOk result (λ plan. (new : Meant)
+        × (set (tree_of config.now) path.now (tree_of value.now) ≡ Ok new)
+        × Changes plan.change (tree_of config.now) new) }
+    ensures place { IfOk result (λ plan.
+        plan.place ≡ last_key (tree_of config.now) path.now) }
+    ensures refused { IfErr result (λ fault. set (tree_of config.now) path.now (tree_of value.now)
+        ≡ Err fault) }
+{
     let tree = config.tree();
-    plan_set_at(tree, path.tokens(), value)
+    plan_set_at(tree, path.tokens(), value, element)
 }
 
 /// What [`delete`](tree_path::delete) changes in the length of a configuration, without deleting anything, and where
@@ -104,10 +126,17 @@ pub fn delete_len(config: &Config, path: &Path) -> Result<u128, PathFault>
     Ok(plan.change.length_after(config.style_length(), 0))
 }
 
-fn plan_set_at(tree: &Tree, tokens: &[CowStr<'_>], value: &Tree) -> Result<Plan, PathFault>
+/// The plan of setting a value at the end of the tokens. `element` is the value's size as an element.
+fn plan_set_at(
+    tree: &Tree,
+    tokens: &[CowStr<'_>],
+    value: &Tree,
+    element: Size,
+) -> Result<Plan, PathFault>
     requires steps { 0 < length tokens.now }
     requires tree { IsKept (tree_of tree.now) }
     requires value { IsKept (tree_of value.now) }
+    requires size { element ≡ element_size (tree_of value.now) }
     ensures ok { IfOk result (λ plan. (new : Meant)
         × (set (tree_of tree.now) (texts tokens.now) (tree_of value.now) ≡ Ok new)
         × Changes plan.change (tree_of tree.now) new) }
@@ -120,7 +149,7 @@ fn plan_set_at(tree: &Tree, tokens: &[CowStr<'_>], value: &Tree) -> Result<Plan,
     let parent = parent_at(tree, parents)?;
     let token = last.as_str();
     let place = key_in(parent.node, token);
-    match put_change(&parent, token, place, value) {
+    match put_change(&parent, token, place, value, element) {
         Ok(change) => Ok(Plan {
             change: change.shifted(2 * parents.len() as u128),
             place,
@@ -129,6 +158,7 @@ fn plan_set_at(tree: &Tree, tokens: &[CowStr<'_>], value: &Tree) -> Result<Plan,
     }
 }
 
+/// The plan of deleting what is at the end of the tokens.
 fn plan_delete_at(tree: &Tree, tokens: &[CowStr<'_>]) -> Result<Plan, PathFault>
     requires steps { 0 < length tokens.now }
     requires tree { IsKept (tree_of tree.now) }
@@ -173,18 +203,21 @@ fn parent_at<'t>(tree: &'t Tree, tokens: &[CowStr<'_>]) -> Result<Parent<'t>, Pa
     Ok(Parent { node, slot })
 }
 
-/// What putting a value into a node changes in its length, where the place of its key is known.
+/// What putting a value into a node changes in its length, where the place of its key is known. `element` is the value's
+/// size as an element.
 fn put_change(
     parent: &Parent<'_>,
     token: &str,
     place: Option<usize>,
     value: &Tree,
+    element: Size,
 ) -> Result<Change, Miss>
     requires place { place ≡ key_in (tree_of parent.now.node.now) (chars token.now) }
     requires deep { depth (tree_of parent.now.node.now) ≤ own_limits.depth }
     requires long { byte_len (style_text (tree_of parent.now.node.now)) ≤ own_limits.style }
     requires value_deep { depth (tree_of value.now) ≤ own_limits.depth }
     requires value_long { byte_len (style_text (tree_of value.now)) ≤ own_limits.style }
+    requires size { element ≡ element_size (tree_of value.now) }
     ensures ok { IfOk result (λ change. (new : Meant)
         × (put (tree_of parent.now.node.now) (chars token.now) (tree_of value.now) ≡ Ok new)
         × ChangesSmall parent.now.slot change (tree_of parent.now.node.now) new) }
@@ -197,7 +230,7 @@ fn put_change(
             let slot = Slot::in_collection(parent.node);
             return Ok(Change {
                 removed: slot.size_of(old),
-                added: slot.size_of(value),
+                added: slot.size_from(element, value),
             });
         }
         Err(miss) => miss,
@@ -206,11 +239,14 @@ fn put_change(
         Tree::Text(_) => Err(miss),
         Tree::Seq(items) => {
             if token == "-" {
-                return Ok(growth(items.len(), element_row(value), parent.slot));
+                return Ok(growth(items.len(), element_row(element), parent.slot));
             }
             Err(miss)
         }
-        Tree::Map(pairs) => Ok(growth(pairs.len(), member_row(token, value), parent.slot)),
+        Tree::Map(pairs) => {
+            let row = member_row(token, element.after_key(value));
+            Ok(growth(pairs.len(), row, parent.slot))
+        }
     }
 }
 
@@ -228,11 +264,13 @@ fn cut_change(parent: &Parent<'_>, token: &str, place: Option<usize>) -> Result<
     let old = child_at(parent.node, token, place)?;
     match parent.node {
         Tree::Text(_) => Err(Miss::Absent),
-        Tree::Seq(items) => Ok(growth(items.len() - 1, element_row(old), parent.slot).reversed()),
-        Tree::Map(pairs) => Ok(growth(
-            pairs.len() - 1,
-            member_row(token, old),
-            parent.slot,
-        ).reversed()),
+        Tree::Seq(items) => {
+            let row = element_row(Size::of_element(old));
+            Ok(growth(items.len() - 1, row, parent.slot).reversed())
+        }
+        Tree::Map(pairs) => {
+            let row = member_row(token, Size::of_value(old));
+            Ok(growth(pairs.len() - 1, row, parent.slot).reversed())
+        }
     }
 }

@@ -2,6 +2,7 @@ pub mod ByteLemmas
 pub mod LengthLemmas
 pub mod SizeLaws
 pub mod SizeBounds
+pub mod SizeSums
 pub mod StyleLemmas
 pub mod WalkLemmas
 pub mod BudgetLemmas

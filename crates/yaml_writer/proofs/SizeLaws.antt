@@ -37,7 +37,8 @@ size_from {bytes = bytes} {more = more} {n = n} p q =
 
 -- ---- scalars and keys
 
-literal_law : (j : ℕ) (fresh : Bool) (cs : List ℕ)
+-- the lines of a literal grow by one byte each for each column of indentation
+pub literal_law : (j : ℕ) (fresh : Bool) (cs : List ℕ)
     → byte_len (literal_lines j fresh cs) ≡ byte_len (literal_lines 0 fresh cs) + j * indented_literal_lines fresh cs
 literal_law j fresh [] = omega arith
 literal_law j fresh (c ∷ cs) = by (c == line_feed) fresh (literal_law j true cs) (literal_law j false cs)

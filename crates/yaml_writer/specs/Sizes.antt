@@ -59,6 +59,14 @@ abbrev mutual
   value_indented (mapping no_member) = 0
   value_indented (mapping (member key t ms)) = 1 + members_indented (member key t ms)
 
+-- whether a tree is a collection that holds something
+abbrev pub is_filled : Tree → Bool
+is_filled (text value) = false
+is_filled (sequence no_element) = false
+is_filled (sequence (element t ts)) = true
+is_filled (mapping no_member) = false
+is_filled (mapping (member key t ms)) = true
+
 -- ---- sizes
 
 -- an element after its `- `, which is at the indentation

@@ -51,7 +51,7 @@ fn run_len(text: &str) -> usize
     len
 }
 
-/// The same, counted sixteen bytes at a time: the length of the whole groups of sixteen at the start.
+/// How many bytes at the start are, in whole groups of sixteen, ASCII characters that need no escape.
 fn sixteens_len(bytes: &[u8]) -> usize
     ensures within { result ≤ length bytes.now }
     ensures alone { list_all stands_alone (take result bytes.now) ≡ true }
@@ -74,7 +74,7 @@ fn write_quoted_char<S: Sink>(c: char, sink: &mut S) -> Result<(), S::Fault>
     } else if let Some(letter) = escape_letter(c) {
         write_escape(letter, sink)
     } else {
-        write_number(c, sink)
+        write_code_escape(c, sink)
     }
 }
 
@@ -109,7 +109,7 @@ fn escape_letter(c: char) -> Option<char>
 
 /// Writes a character by its number: `\x` and two hexadecimal digits if it is below 256, else `\u` and four. All
 /// characters from x10000 on are shown, so none of them comes here.
-fn write_number<S: Sink>(c: char, sink: &mut S) -> Result<(), S::Fault>
+fn write_code_escape<S: Sink>(c: char, sink: &mut S) -> Result<(), S::Fault>
     requires { c < 2 ^ 16 }
     ensures { OnOk result (S.Takes sink.old (number_escape c) sink.new) }
 {

@@ -2,12 +2,13 @@ use Rattle.std.proofs.Common.{◌≡◌, sym, ap, subst, ◌∙◌, Err, arith}
 use Rattle.std.specs.Str.{chars}
 use Rattle.yaml_data.specs.Seen.{tree_of}
 use Rattle.yaml_data.proofs.SeenLemmas.{tree_of-Text, tree_of-Seq, tree_of-Map}
-use Rattle.yaml_config.specs.Changes.{child_size}
+use Rattle.yaml_config.specs.Changes.{child_size, row_of_element, row_of_member}
 use Rattle.tree_path.specs.Paths.{child, put}
 use Rattle.tree_path.proofs.Steps.{bytes_eq-dash, not_last}
 use Rattle.yaml_config.proofs.ChangeLaws.{put_sequence-missed, put_text-missed}
 use Rattle.yaml_config.proofs.Located.{child-within}
 use Rattle.yaml_config.proofs.Measured.{replaced, pushed, added, vec_counted, dash_index}
+use Rattle.yaml_config.proofs.SizeLemmas.{element-fits, value-fits, child-fits}
 use Rattle.yaml_config.proofs.measure.put_change.Goals as goal
 
 pub size_of-requires-clause-deep : goal.size_of-requires-clause-deep
@@ -20,16 +21,35 @@ size_of-requires-clause-long c =
     let inside = child-within (tree_of c.args.parent.now.node.now) (tree_of c.in-Ok.old.now) (chars c.args.token.now) c.in-Ok.ensures.ok in
     omega (arith, inside.0, c.requires.long)
 
+pub size_from-requires-clause-small : goal.size_from-requires-clause-small
+size_from-requires-clause-small c = element-fits (tree_of c.args.value.now) c.args.element c.requires.value_long c.requires.size
+
+pub after_key-requires-clause-small : goal.after_key-requires-clause-small
+after_key-requires-clause-small c =
+    let fits = element-fits (tree_of c.args.value.now) c.args.element c.requires.value_long c.requires.size in
+    (omega (arith, fits.0), omega (arith, fits.1))
+
+pub element_row-requires : goal.element_row-requires
+element_row-requires c =
+    let fits = element-fits (tree_of c.args.value.now) c.args.element c.requires.value_long c.requires.size in
+    record { small = (omega (arith, fits.0), omega (arith, fits.1)) }
+
+pub member_row-row-requires : goal.member_row-row-requires
+member_row-row-requires c =
+    let fits = value-fits (tree_of c.args.value.now) c.after_key.result c.requires.value_long c.after_key.ensures in
+    record { small = (omega (arith, fits.0), omega (arith, fits.1)) }
+
 pub returns-in-Ok-clause-ok : goal.returns-in-Ok-clause-ok
 returns-in-Ok-clause-ok c =
     let t = tree_of c.args.parent.now.node.now in
     let u = tree_of c.in-Ok.old.now in
     let v = tree_of c.args.value.now in
     let out = c.size_of.ensures.small in
-    let in_ = c.size_of-in-Ok.ensures.small in
-    replaced c.args.parent.now.slot t u v (chars c.args.token.now) c.size_of.result c.size_of-in-Ok.result c.in-Ok.ensures.ok
+    let added = c.size_from.ensures ∙ ap (λ s. child_size s v) c.in_collection-slot.ensures in
+    let in_ = child-fits _ v c.size_from.result c.requires.value_long added in
+    replaced c.args.parent.now.slot t u v (chars c.args.token.now) c.size_of.result c.size_from.result c.in-Ok.ensures.ok
     (c.size_of.ensures.size ∙ ap (λ s. child_size s u) c.in_collection-slot.ensures)
-    (c.size_of-in-Ok.ensures.size ∙ ap (λ s. child_size s v) c.in_collection-slot.ensures)
+    added
     (record { bytes = omega (arith, out.0); lines = omega (arith, out.1) })
     (record { bytes = omega (arith, in_.0); lines = omega (arith, in_.1) })
 
@@ -57,12 +77,12 @@ returns-then-eq-clause-ok c =
     pushed c.args.parent.now.slot (tree_of c.args.parent.now.node.now) items.items (tree_of c.args.value.now) (chars c.args.token.now) c.len.result c.element_row.result c.growth.result
     (ap tree_of c.in-Seq.is ∙ tree_of-Seq items)
     (dash_index (chars c.args.token.now) (sym (bytes_eq-dash c.args.token.now c.utf8.token) ∙ sym c.eq.ensures ∙ c.if-eq.true))
-    (vec_counted items c.len.result c.len.ensures) c.element_row.ensures.size (record { bytes = small.0; lines = small.1 }) c.growth.ensures
+    (vec_counted items c.len.result c.len.ensures) (c.element_row.ensures.size ∙ ap row_of_element c.requires.size) (record { bytes = small.0; lines = small.1 }) c.growth.ensures
 
 pub returns-in-Map-clause-ok : goal.returns-in-Map-clause-ok
 returns-in-Map-clause-ok c =
     let pairs = c.in-Map.pairs in
-    let small = c.member_row.ensures.small in
-    added c.args.parent.now.slot (tree_of c.args.parent.now.node.now) pairs.items (tree_of c.args.value.now) (chars c.args.token.now) c.in-Err.miss c.len-in-Map.result c.member_row.result c.growth-in-Map.result
+    let small = c.member_row-row.ensures.small in
+    added c.args.parent.now.slot (tree_of c.args.parent.now.node.now) pairs.items (tree_of c.args.value.now) (chars c.args.token.now) c.in-Err.miss c.len-in-Map.result c.member_row-row.result c.growth-in-Map.result
     (ap tree_of c.in-Map.is ∙ tree_of-Map pairs) c.in-Err.ensures.missed
-    (vec_counted pairs c.len-in-Map.result c.len-in-Map.ensures) c.member_row.ensures.size (record { bytes = small.0; lines = small.1 }) c.growth-in-Map.ensures
+    (vec_counted pairs c.len-in-Map.result c.len-in-Map.ensures) (c.member_row-row.ensures.size ∙ ap (row_of_member (chars c.args.token.now)) c.after_key.ensures) (record { bytes = small.0; lines = small.1 }) c.growth-in-Map.ensures

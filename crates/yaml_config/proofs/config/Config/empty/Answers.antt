@@ -9,15 +9,16 @@ use Rattle.yaml_data.specs.Seen.{tree_of}
 use Rattle.yaml_data.specs.declared.tree.Tree.{Text}
 use Rattle.yaml_data.proofs.SeenLemmas.{tree_of-Text}
 use Rattle.std.proofs.lemmas.Str.{chars-nil}
+use Rattle.yaml_writer.specs.Sizes.{indented}
 use Rattle.yaml_config.proofs.config.Config.empty.Goals as goal
 
-empty_text : Good (text []) own_limits × (3 ≡ byte_len (style_text (text [])))
-empty_text = (record { texts = refl; keys = refl; deep = omega arith; long = omega arith }, refl)
+empty_text : Good (text []) own_limits × (3 ≡ byte_len (style_text (text []))) × (0 ≡ indented (text []))
+empty_text = (record { texts = refl; keys = refl; deep = omega arith; long = omega arith }, refl, refl)
 
 pub invariant_of-result : goal.invariant_of-result
 invariant_of-result c =
     let seen : tree_of (Text c.empty.result) ≡ text [] = tree_of-Text c.empty.result ∙ ap (λ bytes. text (chars bytes)) c.empty.ensures ∙ ap text chars-nil in
-    let P : Tree → Type 0 = λ t. Good t own_limits × (3 ≡ byte_len (style_text t)) in
+    let P : Tree → Type 0 = λ t. Good t own_limits × (3 ≡ byte_len (style_text t)) × (0 ≡ indented t) in
     subst P (sym seen) empty_text
 
 pub returns : goal.returns

@@ -1,18 +1,26 @@
-use Rattle.std.proofs.Common.{◌∙◌, arith}
+use Rattle.std.proofs.Common.{ap, arith}
 use Rattle.yaml_data.specs.Seen.{tree_of}
-use Rattle.yaml_writer.proofs.SizeLaws.{value_law, size_from}
-use Rattle.yaml_writer.proofs.SizeBounds.{value_bound, value_small, small_size}
+use Rattle.yaml_writer.specs.declared.size.Size.{Size}
+use Rattle.yaml_writer.proofs.SizeBounds.{element_bound, element_small, value_bound, value_small}
 use Rattle.yaml_writer.proofs.size.Size.of_value.Goals as goal
 
-pub overflow_sub-result : goal.overflow_sub-result
-overflow_sub-result c = omega (arith, value_law (tree_of c.args.tree.now) 1)
+pub element_size-requires : goal.element_size-requires
+element_size-requires c = omega (arith, element_small (tree_of c.args.tree.now), c.requires.long)
 
-pub returns-clause-size : goal.returns-clause-size
-returns-clause-size c =
-    size_from c.value_length-bytes.ensures (c.value_length.ensures ∙ value_law (tree_of c.args.tree.now) 1)
+pub after_key-requires-clause-small : goal.after_key-requires-clause-small
+after_key-requires-clause-small c =
+    let t = tree_of c.args.tree.now in
+    let bytes = ap (λ (s : Size). s.bytes) c.element_size.ensures in
+    let lines = ap (λ (s : Size). s.lines) c.element_size.ensures in (
+      omega (arith, bytes, element_small t, c.requires.long),
+      omega (arith, lines, element_bound t, element_small t, c.requires.long),
+    )
 
 pub returns-clause-small : goal.returns-clause-small
 returns-clause-small c =
     let t = tree_of c.args.tree.now in
-    let more = c.value_length.ensures ∙ value_law t 1 in
-    small_size c.value_length-bytes.ensures more (value_bound t) (omega (arith, value_small t))
+    let bytes = ap (λ (s : Size). s.bytes) c.after_key.ensures in
+    let lines = ap (λ (s : Size). s.lines) c.after_key.ensures in (
+      omega (arith, bytes, value_small t, c.requires.long),
+      omega (arith, lines, value_bound t, value_small t, c.requires.long),
+    )

@@ -1,7 +1,7 @@
 use Rattle.std.proofs.Common.{sym, subst}
 use Rattle.std.proofs.lemmas.Result.{on_ok_weaker}
 use Rattle.yaml_writer.proofs.QuotedLemmas.{number_escape-two, number_escape-four}
-use Rattle.yaml_writer.proofs.quoted.write_number.Goals as goal
+use Rattle.yaml_writer.proofs.quoted.write_code_escape.Goals as goal
 
 pub returns-then-number-le255 : goal.returns-then-number-le255
 returns-then-number-le255 g c =
