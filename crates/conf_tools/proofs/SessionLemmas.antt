@@ -8,13 +8,14 @@ use Rattle.conf_disk.specs.declared.disk.Name.TheVariants.{Store}
 use Rattle.conf_store.specs.Durable.{staged_text}
 use Rattle.conf_store.specs.View.{StoreView}
 use Rattle.conf_session.specs.Answers.{AllAreAcknowledged, Stored, accepted_commands, file_after_all}
-use Rattle.conf_session.specs.Groups.{RunsGrouped, Turn, acknowledged_turns, all_asked, files_after_turns, turns_accepted}
+use Rattle.conf_session.specs.Groups.{AreDue, RunsGrouped, Turn, acknowledged_turns, all_asked, files_after_turns, turns_accepted}
 use Rattle.conf_session.specs.Runs.{AfterAtLeast, Runs, stored_of}
 use Rattle.conf_session.specs.declared.groups.Checkpoints.{Checkpoints}
+use Rattle.conf_session.specs.declared.groups.Checkpoints.TheVariants.{After, Asked}
 use Rattle.conf_session.specs.declared.fault.SessionFault.{SessionFault}
 use Rattle.conf_session.specs.declared.fault.SessionFault.TheVariants.{Device}
 use Rattle.conf_session.specs.declared.session.Tally.{Tally}
-use Rattle.conf_tools.specs.Stores.{Answers, AnswersOn, KeepsAnswered, OpensOn, SessionRuns, Work}
+use Rattle.conf_tools.specs.Stores.{Answers, AnswersOn, BeginsWhenDue, KeepsAnswered, OpensOn, SessionRuns, Work}
 use Rattle.conf_tools.specs.declared.stores.Grouping.{Grouping}
 use Rattle.conf_tools.specs.declared.stores.Grouping.TheVariants.{Single, Grouped}
 
@@ -57,6 +58,7 @@ module _ {D : Type 0} (honest : Type 0) (folder : D → Folder) (moment : D → 
       file = file;
       work = each-work;
       answers = each-answers;
+      due = λ h. tt;
       opens = opens.opens;
       reads = λ h other. runs.reads h (in-order store.reopen new.reopen result opens.no_reopen device other);
     }
@@ -94,12 +96,18 @@ module _ {D : Type 0} (honest : Type 0) (folder : D → Folder) (moment : D → 
     abbrev groups-answers : Answers given left held written (stored_of store) file (Grouped checkpoints) result groups-work
     groups-answers = record { answered = runs.answered; unanswered = runs.unanswered; ends = runs.ends; only_asked = runs.only_asked; does = refl }
 
+    groups-due : (wanted : Checkpoints) → checkpoints ≡ wanted → honest → BeginsWhenDue wanted (stored_of store) file runs.answered
+    groups-due Asked is h = tt
+    groups-due (After bytes) is h =
+        subst (λ staged. AreDue bytes (record { store = file; staged = staged_text (folder store.disk) staged }) (stored_of store) runs.answered) opens.no_checkpoint (runs.due h bytes is)
+
     groups-on : ((new.reopen ≡ true) ↔ ((store.reopen ≡ true) ⊎ IsErrOf result Device)) → AnswersOn honest folder given left held written (Grouped checkpoints) old new.disk result
     groups-on device = record {
       start = stored_of store;
       file = file;
       work = groups-work;
       answers = groups-answers;
+      due = λ h. groups-due checkpoints refl h;
       opens = opens.opens;
       reads = λ h other. ap (λ files. files.store) (runs.files h (in-order store.reopen new.reopen result opens.no_reopen device other))
           ∙ ap (λ staged. file-after (staged_text (folder store.disk) staged)) opens.no_checkpoint;

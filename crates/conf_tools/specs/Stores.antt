@@ -18,10 +18,10 @@ use Rattle.conf_session.specs.declared.fault.SessionFault.{SessionFault}
 use Rattle.conf_session.specs.declared.fault.SessionFault.TheVariants as SessionFaults
 use Rattle.conf_session.specs.Answers.{Stored, accepted_commands, file_after_all}
 use Rattle.conf_session.specs.Requests.{Request}
-use Rattle.conf_session.specs.Groups.{GroupedEnds, RunsGrouped, Turn, all_asked, files_after_turns, requests_of, turns_accepted}
+use Rattle.conf_session.specs.Groups.{AreDue, GroupedEnds, RunsGrouped, Turn, all_asked, files_after_turns, requests_of, turns_accepted}
 use Rattle.conf_session.specs.Runs.{AfterAtLeast, Ends, Runs, stored_of}
 use Rattle.conf_session.specs.declared.groups.Checkpoints.{Checkpoints}
-use Rattle.conf_session.specs.declared.groups.Checkpoints.TheVariants.{Asked}
+use Rattle.conf_session.specs.declared.groups.Checkpoints.TheVariants.{After, Asked}
 use Rattle.conf_session.specs.declared.session.Tally.{Tally}
 use Rattle.conf_tools.specs.declared.stores.Grouping.{Grouping}
 use Rattle.conf_tools.specs.declared.stores.Grouping.TheVariants.{Single, Grouped}
@@ -69,6 +69,20 @@ Answers given left held written start file Single result work =
     AnswersEach given left held written start file result work
 Answers given left held written start file (Grouped checkpoints) result work =
     AnswersGroups given left held written start file checkpoints result work
+
+-- Each checkpoint that no command asked for is begun only when it is due, where they are wanted by growth: `store.yaml`
+-- has grown by so many bytes since its base was written.
+abbrev pub BeginsWhenDue : Checkpoints → Stored → Option (List ℕ) → List Turn → Type 0
+BeginsWhenDue Asked start file turns = Unit {0}
+BeginsWhenDue (After bytes) start file turns = AreDue bytes (record { store = file; staged = None }) start turns
+
+-- the same of a session of either kind; in one without groups none is begun
+abbrev pub CheckpointsAreDue : (given left held written : Option (List ℕ)) (start : Stored) (file : Option (List ℕ))
+    (grouping : Grouping) (result : Result Tally SessionFault) (work : Work)
+    → Answers given left held written start file grouping result work → Type 0
+CheckpointsAreDue given left held written start file Single result work answers = Unit {0}
+CheckpointsAreDue given left held written start file (Grouped checkpoints) result work answers =
+    BeginsWhenDue checkpoints start file answers.answered
 
 -- ---- opening
 
@@ -124,6 +138,7 @@ pub record AnswersOn {D : Type 0} (honest : Type 0) (folder : D → Folder)
   pub file : Option (List ℕ)
   pub work : Work
   pub answers : Answers given left held written start file grouping result work
+  pub due : honest → CheckpointsAreDue given left held written start file grouping result work answers
   pub opens : honest → OpensTo (bytes_under (folder old) Store) start file
   pub reads : honest → result ≢ Err SessionFaults.Device → bytes_under (folder new) Store ≡ work.file
 

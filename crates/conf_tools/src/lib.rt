@@ -3,7 +3,8 @@
 //!
 //! The tools are there without the words, too. [`format_text`] writes a text's tree in the one style, and
 //! [`check_text`] reports where a text departs from it. [`run_store`] performs a session of commands, and
-//! [`export_store`] writes one configuration; the store may be on any disk.
+//! [`export_store`] writes one configuration; the store may be on any disk. [`calls_hold`] says what these calls keep over
+//! any crashes.
 #![tactic(auto)]
 
 mod exports;
