@@ -1,9 +1,9 @@
 #!/usr/bin/env python3
-"""Looks up each name that docs/RULES.md, README.md and crates.txt give, and fails if one is wrong.
+"""Looks up each name that docs/RULES.md, docs/PROVED.md and crates.txt give, and fails if one is wrong.
 
 In the lists of RULES.md `File.name` is a definition, `crate::name` a function or a test, and `crate::name` in `file.rt`
 a function and its file. `crate/name` is a must-fail edit, and a bare name a law (a public function) or a crate. In the
-tables of claims in README.md each name is looked for in the sources of the crates of its row. A library that a line of
+tables of docs/PROVED.md each name is looked for in the sources of the crates of its row. A library that a line of
 crates.txt names is looked for in the files of the line's crate, and from no crate are there more than 5,000 ways down
 through these lines: a toolchain may read the sources once for each. It takes two seconds, and the status is 1 if a
 name is not there or if there are more ways.
@@ -86,9 +86,9 @@ def missing_in_rules():
                 yield f"docs/RULES.md: `{token}`"
 
 
-def missing_in_readme():
+def missing_in_claims():
     crates = set(os.listdir(os.path.join(TOP, "crates")))
-    for row in rows_of("README.md"):
+    for row in rows_of("docs/PROVED.md"):
         named = [name for name in CODE.findall(row[-1]) if name in crates]
         if not named:
             continue
@@ -96,7 +96,7 @@ def missing_in_readme():
         for token in CODE.findall(row[1]):
             for name in token.split("::"):
                 if re.fullmatch(r"\w+", name) and not has_word(name, sources):
-                    yield f"README.md: `{token}` is not in {', '.join(named)}"
+                    yield f"docs/PROVED.md: `{token}` is not in {', '.join(named)}"
 
 
 def libraries_of_crates():
@@ -127,7 +127,7 @@ def many_ways():
 
 
 def main():
-    missing = [*missing_in_rules(), *missing_in_readme(), *unused_libraries(), *many_ways()]
+    missing = [*missing_in_rules(), *missing_in_claims(), *unused_libraries(), *many_ways()]
     for line in missing:
         print(line)
     print(f"{len(missing)} names are wrong" if missing else "every name is there")
