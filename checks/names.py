@@ -1,9 +1,10 @@
 #!/usr/bin/env python3
-"""Looks up each name that docs/RULES.md, docs/PROVED.md and crates.txt give, and fails if one is wrong.
+"""Looks up each name that docs/RULES.md, PROVED.md, FAULTS.md and crates.txt give, and fails if one is wrong.
 
 In the lists of RULES.md `File.name` is a definition, `crate::name` a function or a test, and `crate::name` in `file.rt`
 a function and its file. `crate/name` is a must-fail edit, and a bare name a law (a public function) or a crate. In the
-tables of docs/PROVED.md each name is looked for in the sources of the crates of its row. A library that a line of
+tables of docs/PROVED.md each name is looked for in the sources of the crates of its row. The first cells of the tables
+of docs/FAULTS.md have each variant of the faults that the program prints, and no other name. A library that a line of
 crates.txt names is looked for in the files of the line's crate, and from no crate are there more than 5,000 ways down
 through these lines: a toolchain may read the sources once for each. It takes two seconds, and the status is 1 if a
 name is not there or if there are more ways.
@@ -20,6 +21,9 @@ CODE = re.compile(r"`([^`]+)`")
 # The libraries that no file of a crate names, but whose types its contracts speak of.
 UNNAMED = {"example_edit": {"yaml_data"}}
 MOST_WAYS = 5000
+# The enums of faults that the program prints, and the names that it prints for what isn't a variant of that name.
+FAULTS = ["Why", "ReadFault", "StoreFault", "PathFault", "OpenFault", "FolderFault", "SessionFault"]
+PRINTED = {"BadCommand", "Input", "Output"}
 
 
 def text_of(pattern):
@@ -99,6 +103,19 @@ def missing_in_claims():
                     yield f"docs/PROVED.md: `{token}` is not in {', '.join(named)}"
 
 
+def variants_of(fault):
+    """The variants of an enum of faults, but those that only hold another fault."""
+    found = re.search(rf"^pub enum {fault} {{$(.*?)^}}$", text_of("*/src/*.rt"), re.M | re.S)
+    return re.findall(r"^    (\w+)(?:,| \{.*\},)$", found[1], re.M)
+
+
+def wrong_in_faults():
+    named = {name for row in rows_of("docs/FAULTS.md") for name in CODE.findall(row[0])}
+    there = {name for fault in FAULTS for name in variants_of(fault)} | PRINTED
+    yield from (f"docs/FAULTS.md: `{name}` is no fault" for name in sorted(named - there))
+    yield from (f"docs/FAULTS.md: `{name}` is missing" for name in sorted(there - named - {"Read", "Write"}))
+
+
 def libraries_of_crates():
     """The libraries that the line of each crate names."""
     with open(os.path.join(TOP, "crates.txt"), encoding="utf-8") as file:
@@ -127,7 +144,7 @@ def many_ways():
 
 
 def main():
-    missing = [*missing_in_rules(), *missing_in_claims(), *unused_libraries(), *many_ways()]
+    missing = [*missing_in_rules(), *missing_in_claims(), *wrong_in_faults(), *unused_libraries(), *many_ways()]
     for line in missing:
         print(line)
     print(f"{len(missing)} names are wrong" if missing else "every name is there")
