@@ -8,8 +8,8 @@ All commands go to one `confstore run --group FOLDER`, in the order in which the
 share the next sync. This program has no part in keeping what was answered: the session alone has.
 
 A client that sends more than 4,194,304 bytes without a closing line is cut off. When the session ends, all clients are
-cut off, and this program ends with the session's status. On SIGTERM the session performs what it was sent, and ends.
-The program is CONFSTORE, or `confstore` on the PATH.
+cut off, and this program ends with the session's status; a session takes 1,073,741,824 bytes of commands at most. On
+SIGTERM the session performs what it was sent, and ends. The program is CONFSTORE, or `confstore` on the PATH.
 """
 
 import os
