@@ -1,6 +1,5 @@
 use Rattle.std.proofs.Common.{◌≡◌, ◌+◌, min, ap, ap₂, sym, ◌∙◌, arith}
 use Rattle.conf_state.specs.BaseTexts.{framed_length}
-use Rattle.conf_state.specs.Rooms.{has_room}
 use Rattle.conf_state.proofs.CountLemmas.{next_state-full, next_state-long, next_state-last, next_state-new}
 use Rattle.conf_state.proofs.state.State.check_room.Goals as goal
 
@@ -9,7 +8,7 @@ pub returns-then-base_length-gt-BASE_LIMIT-clause-refused :
 returns-then-base_length-gt-BASE_LIMIT-clause-refused c = λ configs is.
     let state = c.args.self.now in
     let count : c.from.result ≡ state.count = c.from.ensures ∙ ap (λ s. s.count) c.self.view_is in
-    next_state-full state (has_room c.args.room) configs (omega arith) c.base_length.result
+    next_state-full state c.args.room configs (omega arith) c.base_length.result
     (c.base_length.ensures ∙ ap₂ (λ n l. min (framed_length (n + 1) l) 18446744073709551615) count is)
     c.if-base_length-gt-BASE_LIMIT.true
 
@@ -17,7 +16,7 @@ pub returns-then-not-is_enough-clause-refused : goal.returns-then-not-is_enough-
 returns-then-not-is_enough-clause-refused c = λ configs is.
     let state = c.args.self.now in
     let count : c.from.result ≡ state.count = c.from.ensures ∙ ap (λ s. s.count) c.self.view_is in
-    next_state-long state (has_room c.args.room) configs (omega arith) c.base_length.result
+    next_state-long state c.args.room configs (omega arith) c.base_length.result
     (c.base_length.ensures ∙ ap₂ (λ n l. min (framed_length (n + 1) l) 18446744073709551615) count is)
     c.if-base_length-gt-BASE_LIMIT.false (sym c.is_enough.ensures ∙ c.if-not-is_enough.true)
 
@@ -25,7 +24,7 @@ pub returns-then-self-clause-refused : goal.returns-then-self-clause-refused
 returns-then-self-clause-refused c = λ configs is.
     let state = c.args.self.now in
     let count : c.from.result ≡ state.count = c.from.ensures ∙ ap (λ s. s.count) c.self.view_is in
-    next_state-last state (has_room c.args.room) configs (omega arith) c.base_length.result
+    next_state-last state c.args.room configs (omega arith) c.base_length.result
     (c.base_length.ensures ∙ ap₂ (λ n l. min (framed_length (n + 1) l) 18446744073709551615) count is)
     c.if-base_length-gt-BASE_LIMIT.false (sym c.is_enough.ensures ∙ c.if-not-is_enough.false) (sym (ap (λ s. s.count) c.self.view_is) ∙ c.if-self.true)
 
@@ -33,6 +32,6 @@ pub returns-clause-ok : goal.returns-clause-ok
 returns-clause-ok c = λ configs is.
     let state = c.args.self.now in
     let count : c.from.result ≡ state.count = c.from.ensures ∙ ap (λ s. s.count) c.self.view_is in
-    next_state-new state (has_room c.args.room) configs (omega arith) c.base_length.result
+    next_state-new state c.args.room configs (omega arith) c.base_length.result
     (c.base_length.ensures ∙ ap₂ (λ n l. min (framed_length (n + 1) l) 18446744073709551615) count is)
     c.if-base_length-gt-BASE_LIMIT.false (sym c.is_enough.ensures ∙ c.if-not-is_enough.false) (omega (arith, ap (λ s. s.count) c.self.view_is))
