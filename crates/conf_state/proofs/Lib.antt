@@ -1,4 +1,5 @@
 pub mod BaseLemmas
+pub mod CopyLemmas
 pub mod CountLemmas
 pub mod EditLemmas
 pub mod EntryLemmas
