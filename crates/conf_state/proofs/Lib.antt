@@ -1,5 +1,8 @@
 pub mod BaseLemmas
 pub mod CountLemmas
+pub mod DraftLemmas
+pub mod DraftSteps
+pub mod PlanningLemmas
 pub mod EditLemmas
 pub mod EntryLemmas
 pub mod LimitLemmas
