@@ -77,7 +77,7 @@ put-put-other (e ∷ es) n m t u differ there = by (same_text n e.0) refl (same_
     by false first true second rest = rw (first, second) (rw (first, second) refl)
     by false first false second rest =
         let more = rw first at there in
-        rw (first, second) (rw (first, second) (ap (λ xs. e ∷ xs) (rest more)))
+        rw (first, second) (rw first (ap (λ xs. e ∷ xs) (rest more)))
 
 -- two puts under one name
 put-put-same : (es : List Entry) (n : List ℕ) (t u : Tree) → put_config (put_config es n u) n t ≡ put_config es n t
@@ -144,7 +144,7 @@ cut-put-other (e ∷ es) n m u differ = by (same_text n e.0) refl (same_text m e
     by true first true second rest = absurd (both_named n m e.0 differ first second)
     by true first false second rest = rw (first, second) (rw (first, second) refl)
     by false first true second rest = rw (first, second) (rw (first, second) refl)
-    by false first false second rest = rw (first, second) (rw (first, second) (ap (λ xs. e ∷ xs) rest))
+    by false first false second rest = rw (first, second) (rw first (ap (λ xs. e ∷ xs) rest))
 
 -- a put and a removal of one name
 cut-put-same : (es : List Entry) (n : List ℕ) (u : Tree) → cut_config (put_config es n u) n ≡ cut_config es n
