@@ -7,8 +7,8 @@ use Rattle.conf_state.specs.declared.room.Room.TheVariants.{Enough, LongRecord, 
 abbrev pub record_limit : ℕ
 record_limit = 67108864
 
--- the room for a record of so many bytes, behind so many of the journal, whose limit is the last number
-abbrev pub room_of : (batch : Bool) → (record size limit : ℕ) → Room
+-- the room for the record of a batch, or of a single edit, of so many bytes in a journal of this size
+abbrev pub room_of : (batch : Bool) (bytes size limit : ℕ) → Room
 room_of batch bytes size limit =
     if batch && nat_lt record_limit bytes then LongRecord
     else if nat_le (size + bytes) limit then Enough

@@ -21,15 +21,15 @@ pub enum Room {
 }
 
 impl Room {
-    /// Returns the room for a command's record of `record` bytes in a journal of `size` bytes, which may have `limit`
+    /// Returns the room for a command's record of `bytes` bytes in a journal of `size` bytes, which may have `limit`
     /// bytes.
-    pub fn of(command: &Command, record: u64, size: u64, limit: u64) -> Room
-        ensures { result ≡ room_of (is_batch (command_of command.now)) record size limit }
+    pub fn of(command: &Command, bytes: u64, size: u64, limit: u64) -> Room
+        ensures { result ≡ room_of (is_batch (command_of command.now)) bytes size limit }
     {
-        if command.is_batch() && record > RECORD_LIMIT {
+        if command.is_batch() && bytes > RECORD_LIMIT {
             return Room::LongRecord;
         }
-        if size <= limit && record <= limit - size {
+        if size <= limit && bytes <= limit - size {
             return Room::Enough;
         }
         Room::Missing

@@ -192,7 +192,12 @@ impl State {
     }
 
     /// The lengths after an edit of one of the configurations, if that then keeps its limits.
-    fn plan_edit(&self, config: &Config, path: &Path, edit: &PathEdit) -> Result<EditPlan, StoreFault>
+    fn plan_edit(
+        &self,
+        config: &Config,
+        path: &Path,
+        edit: &PathEdit,
+    ) -> Result<EditPlan, StoreFault>
         requires steps { 0 < length path.now }
         requires there { (name : List ℕ)
             × (config_named self.now.configs name ≡ Some (tree_of config.now)) }

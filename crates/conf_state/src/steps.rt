@@ -7,6 +7,7 @@ ghost use Rattle.conf_state.specs.Names.{good_name};
 ghost use Rattle.conf_state.specs.Commands.{command_of, edit_of, single, batch, text_of, import_as, set_at, delete_at};
 ghost use Rattle.yaml_config.specs.Limits.{config_limits};
 ghost use Rattle.conf_state.specs.States.{Contents};
+ghost use Rattle.conf_state.specs.declared.room.Room.{Room};
 ghost use Rattle.conf_state.specs.Steps.{and_then, checked_tree, configs_after, next_state, step};
 
 use crate::command::{Command, Edit};
@@ -47,28 +48,24 @@ pub fn step(
         Command::Delete { name, path } => {
             step_edit(alloc, state, Edit::Delete { name, path }, room)
         }
-        Command::Batch { edits } => step_batch(edits),
+        Command::Batch { edits } => Err(batch_fault(&edits)),
     }
 }
 
-/// Performs a batch.
-fn step_batch(edits: Vec<Edit>) -> Result<(), StoreFault>
-    ensures { IfErr result (λ fault. (fault ≡ StoreFault.OutOfMemory)
-        ⊎ ((s : Contents) (room : Room) → step s (batch (map edit_of edits.items)) room ≡ Err fault)) }
+/// Batches are not made yet.
+fn batch_fault(edits: &Vec<Edit>) -> StoreFault
+    ensures { (result ≡ StoreFault.OutOfMemory)
+        ⊎ ((s : Contents) (room : Room)
+        → step s (batch (map edit_of edits.now.items)) room ≡ Err result) }
 {
     if edits.is_empty() {
-        return Err(StoreFault::EmptyBatch);
+        return StoreFault::EmptyBatch;
     }
-    Err(StoreFault::OutOfMemory)
+    StoreFault::OutOfMemory
 }
 
 /// Performs the command that is this edit alone, in place.
-fn step_edit(
-    alloc: Global,
-    state: &mut State,
-    edit: Edit,
-    room: Room,
-) -> Result<(), StoreFault>
+fn step_edit(alloc: Global, state: &mut State, edit: Edit, room: Room) -> Result<(), StoreFault>
     ensures ok { OnOk result (step state.old (single (edit_of edit)) room ≡ Ok state.new) }
     ensures refused { IfErr result (λ fault. (fault ≡ StoreFault.OutOfMemory)
         ⊎ (step state.old (single (edit_of edit)) room ≡ Err fault)) }
