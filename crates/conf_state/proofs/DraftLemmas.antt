@@ -74,7 +74,7 @@ put-put-other (e ∷ es) n m t u differ there = by (same_text n e.0) refl (same_
         → put_config (put_config (e ∷ es) m u) n t ≡ put_config (put_config (e ∷ es) n t) m u
     by true first true second rest = absurd (both_named n m e.0 differ first second)
     by true first false second rest = rw (first, second) (rw (first, second) refl)
-    by false first true second rest = rw (first, second) (rw (first, second) refl)
+    by false first true second rest = rw (first, second) (rw first refl)
     by false first false second rest =
         let more = rw first at there in
         rw (first, second) (rw first (ap (λ xs. e ∷ xs) (rest more)))
@@ -143,7 +143,7 @@ cut-put-other (e ∷ es) n m u differ = by (same_text n e.0) refl (same_text m e
         → cut_config (put_config (e ∷ es) m u) n ≡ put_config (cut_config (e ∷ es) n) m u
     by true first true second rest = absurd (both_named n m e.0 differ first second)
     by true first false second rest = rw (first, second) (rw (first, second) refl)
-    by false first true second rest = rw (first, second) (rw (first, second) refl)
+    by false first true second rest = rw (first, second) (rw first refl)
     by false first false second rest = rw (first, second) (rw first (ap (λ xs. e ∷ xs) rest))
 
 -- a put and a removal of one name

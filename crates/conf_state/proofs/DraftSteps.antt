@@ -1,5 +1,5 @@
 -- What a put and a removal make of a draft.
-use Rattle.std.proofs.Common.{◌≡◌, ℕ, Bool, true, false, ◌||◌, if◌then◌else◌, List, [], ◌∷◌, ◌++◌, String, Global, Option, Some, None, option_map, is_some, IfSome, Bor, bytes_eq, string_bytes, encode_utf8_all, IsUtf8, refl, sym, ap, subst, ◌∙◌}
+use Rattle.std.proofs.Common.{◌≡◌, ◌⊎◌, inl, inr, ℕ, Bool, true, false, ◌||◌, if◌then◌else◌, List, [], ◌∷◌, ◌++◌, String, Global, Option, Some, None, option_map, is_some, IfSome, Bor, bytes_eq, string_bytes, encode_utf8_all, IsUtf8, refl, sym, ap, subst, ◌∙◌}
 use Rattle.std.proofs.lemmas.Bool.Decides.{same_from_decides}
 use Rattle.std.proofs.lemmas.Slice.Eq.{bytes_eq-Decides}
 use Rattle.std.proofs.lemmas.Str.{encodes-chars, IsUtf8-string_bytes}
@@ -64,23 +64,21 @@ cut_all-insert es keys name differ = by (list_any (is_name (string_bytes name)) 
 
 -- ---- drafts
 
--- the new draft is the old one with a tree put under a name
-pub record IsPut (old new : Draft) (name : List ℕ) (t : grammar.Tree) : Type 0 where
-  pub draft : IsDraft new
-  pub made : (es : List Entry) → drafted es new ≡ put_config (drafted es old) name t
+-- a tree is put under a name
+pub put-made : (old : Draft) (touched : List (String Global × Tree)) (name : List ℕ) (t : grammar.Tree) → IsDraft old
+    → entries_of touched ≡ put_config (entries_of old.touched) name t
+    → (es : List Entry) → drafted es (record { removed = old.removed; touched = touched }) ≡ put_config (drafted es old) name t
+put-made old touched name t kept seen es =
+    ap (put_all (cut_all es (texts_of old.removed.keys))) seen
+    ∙ put_all-put (entries_of old.touched) (cut_all es (texts_of old.removed.keys)) name t kept.distinct
 
-pub is_put : (old : Draft) (touched : List (String Global × Tree)) (name : List ℕ) (t : grammar.Tree) → IsDraft old
-    → good_name name ≡ true → Good t config_limits → ArePlain touched → entries_of touched ≡ put_config (entries_of old.touched) name t
-    → IsPut old (record { removed = old.removed; touched = touched }) name t
-is_put old touched name t kept named good plain seen = record {
-  draft = record {
-    plain = plain;
-    configs = subst AreConfigs (sym seen) (AreConfigs-put (entries_of old.touched) name t named good kept.configs);
-    distinct = ap (λ es. names_differ (names_of es)) seen ∙ names_differ-put (entries_of old.touched) name t kept.distinct;
-  };
-  made = λ es.
-      ap (put_all (cut_all es (texts_of old.removed.keys))) seen
-      ∙ put_all-put (entries_of old.touched) (cut_all es (texts_of old.removed.keys)) name t kept.distinct;
+pub put-kept : (old : Draft) (touched : List (String Global × Tree)) (name : List ℕ) (t : grammar.Tree) → IsDraft old
+    → entries_of touched ≡ put_config (entries_of old.touched) name t → ArePlain touched → good_name name ≡ true → Good t config_limits
+    → IsDraft (record { removed = old.removed; touched = touched })
+put-kept old touched name t kept seen plain named good = record {
+  plain = plain;
+  configs = subst AreConfigs (sym seen) (AreConfigs-put (entries_of old.touched) name t named good kept.configs);
+  distinct = ap (λ es. names_differ (names_of es)) seen ∙ names_differ-put (entries_of old.touched) name t kept.distinct;
 }
 
 -- the new draft is the old one with the configuration under a name removed
@@ -114,3 +112,8 @@ pub found-holds : (P : grammar.Tree → Type 0) (result : Option (Bor Tree)) (o 
     → ((t : grammar.Tree) → o ≡ Some t → P t) → IfSome result (λ config. P (tree_of config.now))
 found-holds P None o is so = tt
 found-holds P (Some config) o is so = so (tree_of config.now) (sym is)
+
+-- what follows from the second of two cases
+pub or_so : {A B C : Type 0} → (B → C) → A ⊎ B → A ⊎ C
+or_so so (inl a) = inl a
+or_so so (inr b) = inr (so b)

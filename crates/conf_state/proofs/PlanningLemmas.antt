@@ -1,5 +1,5 @@
 -- An edit inside one configuration, as an edit of all configurations.
-use Rattle.std.proofs.Common.{◌≡◌, ℕ, ◌<◌, ◌≤◌, nat_le, false, List, Some, Result, Ok, Err, refl, ap, ◌∙◌, arith}
+use Rattle.std.proofs.Common.{◌≡◌, ℕ, ◌<◌, ◌≤◌, nat_le, true, false, List, [], Option, Some, None, is_some, Result, Ok, Err, refl, ap, ◌∙◌, arith}
 use Rattle.std.proofs.lemmas.Bool.Decides.{nat_tests}
 use Rattle.yaml_grammar.specs.Style.{style_text}
 use Rattle.yaml_grammar.specs.Texts.{byte_len}
@@ -9,10 +9,11 @@ use Rattle.yaml_config.specs.Limits.{config_limits}
 use Rattle.yaml_config.specs.declared.edit.Edit.{Edit as PathEdit}
 use Rattle.json_pointer.specs.Pointers.{path_of}
 use Rattle.json_pointer.specs.declared.fault.PathFault.{PathFault}
+use Rattle.conf_state.specs.Commands.{import_as, set_at, delete_at}
 use Rattle.conf_state.specs.Edits.{configs_with_edit, configs_after_edit}
 use Rattle.conf_state.specs.Planning.{checked_edit, edited_at}
-use Rattle.conf_state.specs.States.{Entry, config_named, put_config}
-use Rattle.conf_state.specs.Steps.{and_then, found, by_path, checked_tree, with_checked_config}
+use Rattle.conf_state.specs.States.{Entry, config_named, put_config, cut_config}
+use Rattle.conf_state.specs.Steps.{and_then, found, by_path, checked_tree, with_checked_config, configs_after}
 use Rattle.conf_state.specs.declared.fault.StoreFault.{StoreFault}
 use Rattle.conf_state.specs.declared.fault.StoreFault.TheVariants.{TooDeep, ConfigLarge}
 use Rattle.conf_state.proofs.StepLemmas.{checked_tree-deep, checked_tree-large}
@@ -52,3 +53,22 @@ module _ (es : List Entry) (name : List ℕ) (edit : PathEdit) (pointer : List �
 
   pub edit-refused : (fault : StoreFault) → edited_at edit t pointer ≡ Err fault → configs_after_edit es name edit pointer ≡ Err fault
   edit-refused fault refused = edit-put es name edit pointer t there ∙ ap (λ r. and_then r (λ u. Ok (put_config es name u))) refused
+
+-- ---- at the empty path
+
+module _ (es : List Entry) (name path : List ℕ) (empty : path ≡ []) (there : is_some (config_named es name) ≡ true) where
+  -- a set is an import
+  pub set-import : (t : Tree) → configs_after es (set_at name path t) ≡ configs_after es (import_as name t)
+  set-import t = rw empty (by (config_named es name) there)
+    where
+      by : (o : Option Tree) → is_some o ≡ true → and_then (found o) (λ u. with_checked_config es name t) ≡ with_checked_config es name t
+      by (Some u) e = refl
+      by None e = cc
+
+  -- a delete removes the configuration
+  pub delete-cut : configs_after es (delete_at name path) ≡ Ok (cut_config es name)
+  delete-cut = rw empty (by (config_named es name) there)
+    where
+      by : (o : Option Tree) → is_some o ≡ true → and_then (found o) (λ u. Ok (cut_config es name)) ≡ Ok (cut_config es name)
+      by (Some u) e = refl
+      by None e = cc
