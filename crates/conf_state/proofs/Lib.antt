@@ -1,6 +1,9 @@
 pub mod BaseLemmas
 pub mod CopyLemmas
 pub mod CountLemmas
+pub mod DraftLemmas
+pub mod DraftSteps
+pub mod PlanningLemmas
 pub mod EditLemmas
 pub mod EntryLemmas
 pub mod LimitLemmas

@@ -8,9 +8,11 @@
 mod base;
 mod command;
 mod configs;
+mod draft;
 mod fault;
 mod laws;
 mod name;
+mod planning;
 mod room;
 mod state;
 mod steps;

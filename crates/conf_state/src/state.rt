@@ -119,8 +119,9 @@ impl State {
 
     /// The configuration under a name; `None` if no configuration has the name.
     pub fn get(&self, name: &str) -> Option<&Config>
-        ensures { option_map (λ config. tree_of config.now) result
+        ensures found { option_map (λ config. tree_of config.now) result
             ≡ config_named self.now.configs (chars name.now) }
+        ensures limits { IsState self.now }
     {
         self.configs.get(name)
     }
