@@ -13,5 +13,6 @@ pub mod RefusalLemmas
 pub mod RunLaws
 pub mod StateLemmas
 pub mod StepLemmas
+pub mod TakeLemmas
 pub mod NameLemmas
 pub mod PlaceLemmas
