@@ -73,7 +73,7 @@ put-put-other (e ∷ es) n m t u differ there = by (same_text n e.0) refl (same_
         → (is_some (config_named es n) ≡ true → put_config (put_config es m u) n t ≡ put_config (put_config es n t) m u)
         → put_config (put_config (e ∷ es) m u) n t ≡ put_config (put_config (e ∷ es) n t) m u
     by true first true second rest = absurd (both_named n m e.0 differ first second)
-    by true first false second rest = rw (first, second) (rw (first, second) refl)
+    by true first false second rest = rw (first, second) (rw first refl)
     by false first true second rest = rw (first, second) (rw first refl)
     by false first false second rest =
         let more = rw first at there in
@@ -142,7 +142,7 @@ cut-put-other (e ∷ es) n m u differ = by (same_text n e.0) refl (same_text m e
         → cut_config (put_config es m u) n ≡ put_config (cut_config es n) m u
         → cut_config (put_config (e ∷ es) m u) n ≡ put_config (cut_config (e ∷ es) n) m u
     by true first true second rest = absurd (both_named n m e.0 differ first second)
-    by true first false second rest = rw (first, second) (rw (first, second) refl)
+    by true first false second rest = rw (first, second) (rw first refl)
     by false first true second rest = rw (first, second) (rw first refl)
     by false first false second rest = rw (first, second) (rw first (ap (λ xs. e ∷ xs) rest))
 
