@@ -1,9 +1,10 @@
 -- A draft that is taken into a state, in the code's lists and in those of the definitions.
-use Rattle.std.proofs.Common.{◌≡◌, ℕ, true, List, [], ◌∷◌, String, Global, string_bytes, refl, ap, ◌∙◌}
+use Rattle.std.proofs.Common.{◌≡◌, ℕ, true, List, [], ◌∷◌, String, Global, string_bytes, refl, sym, ap, subst, ◌∙◌}
 use Rattle.std.proofs.lemmas.Str.{IsUtf8-string_bytes}
 use Rattle.yaml_data.specs.declared.tree.Tree.{Tree}
 use Rattle.conf_state.specs.Configs.{put_under, put_each, cut_from, cut_each}
-use Rattle.conf_state.specs.Drafts.{cut_all, put_all, texts_of}
+use Rattle.conf_state.specs.Drafts.{cut_all, put_all, texts_of, drafted, IsDraft}
+use Rattle.conf_state.specs.declared.draft.Draft.{Draft}
 use Rattle.conf_state.specs.Kept.{entries_of, ArePlain}
 use Rattle.conf_state.specs.Limits.{AreConfigs}
 use Rattle.conf_state.specs.States.{Entry, names_of, names_differ, put_config, cut_config}
@@ -53,3 +54,24 @@ names_differ-cut_all (name ∷ names) es differ = names_differ-cut_all names (cu
 pub names_differ-put_all : (ps es : List Entry) → names_differ (names_of es) ≡ true → names_differ (names_of (put_all es ps)) ≡ true
 names_differ-put_all [] es differ = differ
 names_differ-put_all (p ∷ ps) es differ = names_differ-put_all ps (put_config es p.0 p.1) (names_differ-put es p.0 p.1 differ)
+
+-- ---- a draft
+
+module _ (draft : Draft) (good : IsDraft draft) where
+  pub drafted-configs : (es : List Entry) → AreConfigs es → AreConfigs (drafted es draft)
+  drafted-configs es all =
+      AreConfigs-put_all (entries_of draft.touched) (cut_all es (texts_of draft.removed.keys)) good.configs (AreConfigs-cut_all (texts_of draft.removed.keys) es all)
+
+  pub drafted-distinct : (es : List Entry) → names_differ (names_of es) ≡ true → names_differ (names_of (drafted es draft)) ≡ true
+  drafted-distinct es differ =
+      names_differ-put_all (entries_of draft.touched) (cut_all es (texts_of draft.removed.keys)) (names_differ-cut_all (texts_of draft.removed.keys) es differ)
+
+  module _ (es new : List (String Global × Tree)) (plain : ArePlain es) (is : new ≡ put_each draft.touched (cut_each draft.removed.keys es)) where
+    -- taking out what it removes and putting in what it holds makes the draft's configurations
+    pub taken-named : entries_of new ≡ drafted (entries_of es) draft
+    taken-named =
+        ap entries_of is ∙ put_each-named draft.touched (cut_each draft.removed.keys es) good.plain (plain_cut_each draft.removed.keys es plain)
+        ∙ ap (λ xs. put_all xs (entries_of draft.touched)) (cut_each-named draft.removed.keys es plain)
+
+    pub taken-plain : ArePlain new
+    taken-plain = subst ArePlain (sym is) (plain_put_each draft.touched (cut_each draft.removed.keys es) good.plain (plain_cut_each draft.removed.keys es plain))
