@@ -1,6 +1,7 @@
 pub mod BaseLemmas
 pub mod CountLemmas
 pub mod DraftLemmas
+pub mod DraftLengths
 pub mod DraftSteps
 pub mod PlanningLemmas
 pub mod EditLemmas

@@ -267,7 +267,7 @@ impl State {
     }
 
     /// How many bytes all configurations have in the base text.
-    fn entries_length(&self) -> u64
+    pub(crate) fn entries_length(&self) -> u64
         ensures exact { result ≡ entries_length self.now.configs }
         ensures short { result ≤ BASE_LIMIT }
         ensures kept { IsState self.now }
@@ -299,7 +299,7 @@ impl State {
     }
 
     /// How many bytes the configuration under a name has in the base text; 0 if there is none.
-    fn length_of(&self, name: &str) -> u64
+    pub(crate) fn length_of(&self, name: &str) -> u64
         ensures { result + entries_length (cut_config self.now.configs (chars name.now))
             ≡ entries_length self.now.configs }
     {
