@@ -1,4 +1,5 @@
 pub mod BaseLemmas
+pub mod CopyLemmas
 pub mod CountLemmas
 pub mod DraftLemmas
 pub mod DraftLengths
@@ -13,5 +14,6 @@ pub mod RefusalLemmas
 pub mod RunLaws
 pub mod StateLemmas
 pub mod StepLemmas
+pub mod TakeLemmas
 pub mod NameLemmas
 pub mod PlaceLemmas

@@ -14,10 +14,12 @@ ghost use Rattle.yaml_grammar.specs.Trees.{mapping};
 ghost use Rattle.yaml_grammar.specs.Style.{value_at};
 ghost use Rattle.conf_state.specs.BaseTexts.{members, base_length, entry_length, entries_length};
 ghost use Rattle.conf_state.specs.Steps.{and_then, next_state};
+ghost use Rattle.conf_state.specs.Drafts.{drafted, IsDraft};
 ghost use Rattle.conf_state.specs.Edits.{configs_after_edit, configs_with_edit, IsPlan};
 
 use crate::base::{BASE_LIMIT, base_length, entry_length, write_entry};
 use crate::configs::{Configs, Entries};
+use crate::draft::Draft;
 use crate::fault::StoreFault;
 use crate::name::good_name;
 use crate::room::Room;
@@ -135,6 +137,18 @@ impl State {
         }
     }
 
+    /// A copy: the same configurations in the same order, and the same count. It fails only if memory runs out.
+    pub fn try_copy(&self, alloc: Global) -> Result<State, AllocError>
+        ensures { IfOk result (λ copy. copy ≡ self.now) }
+    {
+        let configs = self.configs.try_copy(alloc)?;
+        Ok(State {
+            configs,
+            count: self.count,
+            entries: self.entries,
+        })
+    }
+
     /// Puts a configuration under a name, if the store has room for it. A refusal changes nothing.
     pub(crate) fn put(&mut self, name: String, config: Config, room: Room) -> Result<(), StoreFault>
         requires named { good_name (text_of name) ≡ true }
@@ -240,6 +254,32 @@ impl State {
         self.entries = entries;
         self.count += 1;
         Ok(())
+    }
+
+    /// Replaces the configurations by those that a draft makes of them. A refusal changes nothing.
+    pub(crate) fn take(&mut self, draft: Draft, room: Room) -> Result<(), StoreFault>
+        requires { IsDraft draft }
+        ensures ok { OnOk result (next_state self.old room (drafted self.old.configs draft)
+            ≡ Ok self.new) }
+        ensures refused { IfErr result (λ fault. (fault ≡ StoreFault.OutOfMemory)
+            ⊎ (next_state self.old room (drafted self.old.configs draft) ≡ Err fault)) }
+        ensures unchanged { OnErr result (self.new ≡ self.old) }
+    {
+        let entries = self.length_after(&draft);
+        self.check_room(entries, room)?;
+        let Draft { removed, touched } = draft;
+        self.configs.update(&removed, touched)?;
+        self.entries = entries;
+        self.count += 1;
+        Ok(())
+    }
+
+    /// PLACEHOLDER until the draft's branch has it
+    pub(crate) fn length_after(&self, draft: &Draft) -> u64
+        requires { IsDraft draft.now }
+        ensures { result ≡ min (entries_length (drafted self.now.configs draft.now)) u64.MAX }
+    {
+        self.entries
     }
 
     /// Whether the store has room for one more command, after which the configurations have `entries` bytes in the base

@@ -10,5 +10,5 @@ mapped None = refl
 
 pub returns : goal.returns
 returns c =
-    c.is_some.ensures ∙ mapped c.get.result ∙ ap (λ o. is_some (option_map tree_of o)) c.get.ensures.found
+    c.is_some.ensures ∙ mapped c.get.result ∙ ap (λ o. is_some (option_map tree_of o)) c.get.ensures
     ∙ ap is_some (lookup-named c.args.name.now c.utf8.name c.args.configs.now c.requires)
