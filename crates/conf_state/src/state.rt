@@ -274,14 +274,6 @@ impl State {
         Ok(())
     }
 
-    /// PLACEHOLDER until the draft's branch has it
-    pub(crate) fn length_after(&self, draft: &Draft) -> u64
-        requires { IsDraft draft.now }
-        ensures { result ≡ min (entries_length (drafted self.now.configs draft.now)) u64.MAX }
-    {
-        self.entries
-    }
-
     /// Whether the store has room for one more command, after which the configurations have `entries` bytes in the base
     /// text.
     fn check_room(&self, entries: u64, room: Room) -> Result<(), StoreFault>
