@@ -1,12 +1,12 @@
 -- Configurations that are removed and put in one after the other.
 use Rattle.std.proofs.Common.{◌≡◌, ℕ, Bool, true, false, not, ◌||◌, if◌then◌else◌, List, [], ◌∷◌, ◌++◌, Option, Some, None, is_some, refl, sym, ap, ◌∙◌}
-use Rattle.std.proofs.lemmas.Bool.{and_parts}
+use Rattle.std.proofs.lemmas.Bool.{and_parts, and_from}
 use Rattle.yaml_grammar.specs.Texts.{same_text}
 use Rattle.yaml_grammar.specs.Trees.{Tree}
 use Rattle.yaml_data.proofs.CharacterLemmas.{same_text-true, same_text-self}
 use Rattle.conf_state.specs.Drafts.{cut_all, put_all}
 use Rattle.conf_state.specs.States.{Entry, names_of, config_named, put_config, cut_config, has_name, names_differ}
-use Rattle.conf_state.proofs.LimitLemmas.{names_differ-cut}
+use Rattle.conf_state.proofs.LimitLemmas.{names_differ-cut, other_way}
 use Rattle.conf_state.proofs.PlaceLemmas.{is_none}
 
 -- ---- names
@@ -34,6 +34,32 @@ named-alone e es n differ same =
 
 others-differ : (e : Entry) (es : List Entry) → names_differ (names_of (e ∷ es)) ≡ true → names_differ (names_of es) ≡ true
 others-differ e es differ = (and_parts (not (has_name e.0 (names_of es))) (names_differ (names_of es)) differ).1
+
+-- one more name that differs from the others
+pub names_differ-push : (ns : List (List ℕ)) (n : List ℕ) → names_differ ns ≡ true → has_name n ns ≡ false → names_differ (ns ++ n ∷ []) ≡ true
+names_differ-push [] n differ other = refl
+names_differ-push (m ∷ ns) n differ other = by (same_text n m) refl (names_differ-push ns n parts.1)
+  where
+    parts : (not (has_name m ns) ≡ true) × (names_differ ns ≡ true)
+    parts = and_parts (not (has_name m ns)) (names_differ ns) differ
+
+    last : (b : Bool) → b ≡ false → (b || false) ≡ false
+    last b e = e_false b e
+      where
+        e_false : (b : Bool) → b ≡ false → (b || false) ≡ false
+        e_false true e = cc
+        e_false false e = refl
+
+    has_name-push : (xs : List (List ℕ)) → same_text m n ≡ false → has_name m (xs ++ n ∷ []) ≡ has_name m xs
+    has_name-push [] apart = last (same_text m n) apart
+    has_name-push (x ∷ xs) apart = ap (λ b. same_text m x || b) (has_name-push xs apart)
+
+    by : (b : Bool) → same_text n m ≡ b → (has_name n ns ≡ false → names_differ (ns ++ n ∷ []) ≡ true) → names_differ (m ∷ (ns ++ n ∷ [])) ≡ true
+    by true same rest = let found = rw same at other in absurd (cc)
+    by false same rest =
+        let others = rw same at other in
+        let apart = has_name-push ns (other_way n m same) in
+        and_from (not (has_name m (ns ++ n ∷ []))) (names_differ (ns ++ n ∷ [])) (ap not apart ∙ parts.0) (rest others)
 
 -- ---- one put
 
@@ -92,7 +118,7 @@ put-put-same (e ∷ es) n t u = by (same_text n e.0) refl (put-put-same es n t u
 -- ---- one removal
 
 -- it changes nothing under another name
-named-cut-other : (es : List Entry) (n m : List ℕ) → same_text n m ≡ false → config_named (cut_config es m) n ≡ config_named es n
+pub named-cut-other : (es : List Entry) (n m : List ℕ) → same_text n m ≡ false → config_named (cut_config es m) n ≡ config_named es n
 named-cut-other [] n m differ = refl
 named-cut-other (e ∷ es) n m differ = by (same_text m e.0) refl (named-cut-other es n m differ)
   where

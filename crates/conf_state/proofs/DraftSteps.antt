@@ -23,7 +23,7 @@ use Rattle.conf_state.specs.Limits.{AreConfigs}
 use Rattle.conf_state.specs.Names.{good_name}
 use Rattle.conf_state.specs.States.{Entry, names_of, put_config, cut_config, has_name, names_differ}
 use Rattle.conf_state.specs.declared.draft.Draft.{Draft}
-use Rattle.conf_state.proofs.DraftLemmas.{put_all-put, cut-put_all, cut-none, cut_all-append, named-cut_all-gone}
+use Rattle.conf_state.proofs.DraftLemmas.{put_all-put, cut-put_all, cut-none, cut_all-append, named-cut_all-gone, names_differ-push}
 use Rattle.conf_state.proofs.EntryLemmas.{cut_from-named, plain_cut_from}
 use Rattle.conf_state.proofs.LimitLemmas.{names_differ-put, names_differ-cut, AreConfigs-put, AreConfigs-cut}
 
@@ -62,6 +62,16 @@ cut_all-insert es keys name differ = by (list_any (is_name (string_bytes name)) 
         sym (cut-none (cut_all es (texts_of keys)) (text_of name) (named-cut_all-gone (texts_of keys) es (text_of name) among differ))
     by false is = ap (cut_all es) (texts_of-append keys name) ∙ cut_all-append (texts_of keys) es (text_of name)
 
+differ-insert : (keys : List (String Global)) (name : String Global) → names_differ (texts_of keys) ≡ true
+    → names_differ (texts_of (insert_key string_eq keys name)) ≡ true
+differ-insert keys name differ = by (list_any (is_name (string_bytes name)) keys) refl
+  where
+    by : (b : Bool) → list_any (is_name (string_bytes name)) keys ≡ b → names_differ (texts_of (if b then keys else keys ++ name ∷ [])) ≡ true
+    by true is = differ
+    by false is =
+        let other = sym (listed (string_bytes name) (IsUtf8-string_bytes name) keys) ∙ is in
+        ap names_differ (texts_of-append keys name) ∙ names_differ-push (texts_of keys) (text_of name) differ other
+
 -- ---- drafts
 
 -- a tree is put under a name
@@ -79,6 +89,7 @@ put-kept old touched name t kept seen plain named good = record {
   plain = plain;
   configs = subst AreConfigs (sym seen) (AreConfigs-put (entries_of old.touched) name t named good kept.configs);
   distinct = ap (λ es. names_differ (names_of es)) seen ∙ names_differ-put (entries_of old.touched) name t kept.distinct;
+  removed = kept.removed;
 }
 
 -- the new draft is the old one with the configuration under a name removed
@@ -97,6 +108,7 @@ is_cut old new name kept cut keys =
         plain = subst ArePlain (sym cut) (plain_cut_from (string_bytes name) old.touched kept.plain);
         configs = subst AreConfigs (sym seen) (AreConfigs-cut touched (text_of name) kept.configs);
         distinct = ap (λ es. names_differ (names_of es)) seen ∙ names_differ-cut touched (text_of name) kept.distinct;
+        removed = ap (λ ks. names_differ (texts_of ks)) keys ∙ differ-insert old.removed.keys name kept.removed;
       };
       made = λ es differ.
           ap (λ ks. put_all (cut_all es (texts_of ks)) (entries_of new.touched)) keys

@@ -2,6 +2,7 @@ pub mod BaseLemmas
 pub mod CopyLemmas
 pub mod CountLemmas
 pub mod DraftLemmas
+pub mod DraftLengths
 pub mod DraftSteps
 pub mod PlanningLemmas
 pub mod EditLemmas

@@ -26,8 +26,9 @@ texts_of (text ∷ texts) = text_of text ∷ texts_of texts
 abbrev pub drafted : List Entry → Draft → List Entry
 drafted es draft = put_all (cut_all es (texts_of draft.removed.keys)) (entries_of draft.touched)
 
--- what a draft holds is good, and no name is in it twice
+-- what a draft holds is good, and no name comes twice
 pub record IsDraft (draft : Draft) : Type 0 where
   pub plain : ArePlain draft.touched
   pub configs : AreConfigs (entries_of draft.touched)
   pub distinct : names_differ (names_of (entries_of draft.touched)) ≡ true
+  pub removed : names_differ (texts_of draft.removed.keys) ≡ true

@@ -9,6 +9,7 @@ mod base;
 mod command;
 mod configs;
 mod draft;
+mod draft_length;
 mod fault;
 mod laws;
 mod name;

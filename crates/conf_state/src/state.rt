@@ -274,14 +274,6 @@ impl State {
         Ok(())
     }
 
-    /// PLACEHOLDER until the draft's branch has it
-    pub(crate) fn length_after(&self, draft: &Draft) -> u64
-        requires { IsDraft draft.now }
-        ensures { result ≡ min (entries_length (drafted self.now.configs draft.now)) u64.MAX }
-    {
-        self.entries
-    }
-
     /// Whether the store has room for one more command, after which the configurations have `entries` bytes in the base
     /// text.
     fn check_room(&self, entries: u64, room: Room) -> Result<(), StoreFault>
@@ -307,7 +299,7 @@ impl State {
     }
 
     /// How many bytes all configurations have in the base text.
-    fn entries_length(&self) -> u64
+    pub(crate) fn entries_length(&self) -> u64
         ensures exact { result ≡ entries_length self.now.configs }
         ensures short { result ≤ BASE_LIMIT }
         ensures kept { IsState self.now }
@@ -339,7 +331,7 @@ impl State {
     }
 
     /// How many bytes the configuration under a name has in the base text; 0 if there is none.
-    fn length_of(&self, name: &str) -> u64
+    pub(crate) fn length_of(&self, name: &str) -> u64
         ensures { result + entries_length (cut_config self.now.configs (chars name.now))
             ≡ entries_length self.now.configs }
     {
