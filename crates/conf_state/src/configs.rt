@@ -202,7 +202,8 @@ fn has_empty_place(places: &Places, name: &str) -> bool
     }
 }
 
-/// Puts configurations in the places of their names, one after the other. There is room to spare for all of them.
+/// Puts configurations in the places of their names, one after the other, as [`put_place`] does. There is room to spare
+/// for all of them.
 fn put_places(places: &mut Places, put: Places)
     requires { length put.entries ≤ spare places.old }
     ensures present { present places.new.entries
@@ -211,6 +212,7 @@ fn put_places(places: &mut Places, put: Places)
 {
     for (name, place) in put {
         if let Some(config) = place {
+            // It can't fail, since there is room to spare.
             let _ = put_place(places, name, config);
         }
     }
