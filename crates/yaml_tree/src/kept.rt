@@ -148,8 +148,7 @@ impl Kept for () {
     #[inline(always)]
     fn of_map(_pairs: Vec<(Text, ())>) -> Self
         ensures { no_tree result ≡ nothing }
-    {
-    }
+    {}
 }
 
 /// The text of a scalar. A value that has memory of its own is moved. It fails only if memory runs out.

@@ -203,7 +203,11 @@ fn write_map_end<S: Sink>(
 }
 
 /// Writes an empty collection, with a space before it after a key.
-fn write_empty<S: Sink>(brackets: &str, outer: &[Part<(), Emptiness>], sink: &mut S) -> Result<(), S::Fault>
+fn write_empty<S: Sink>(
+    brackets: &str,
+    outer: &[Part<(), Emptiness>],
+    sink: &mut S,
+) -> Result<(), S::Fault>
     ensures { OnOk result (S.Takes sink.old
         (empty_line (chars brackets.now) (open_frames outer.now)) sink.new) }
 {
