@@ -453,7 +453,7 @@ static enum confstore_status named_end(const struct confstore *store) {
     for (size_t number = 0; number < sizeof NAMES / sizeof *NAMES; number++) {
         size_t length = strlen(NAMES[number].name);
         if (end - start < length || memcmp(store->error_text + start, NAMES[number].name, length)) continue;
-        if (end - start == length || store->error_text[start + length] == ' ') return NAMES[number].status;
+        if (end - start == length || strchr(" :", store->error_text[start + length])) return NAMES[number].status;
     }
     return CONFSTORE_ENDED;
 }

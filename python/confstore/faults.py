@@ -7,6 +7,7 @@ of those that weren't, each was performed or not.
 
 from __future__ import annotations
 
+import re
 from typing import Dict, Optional, Type
 
 __all__ = [
@@ -116,7 +117,8 @@ class NoSuchCommand(Refused, LookupError):
 
 
 class SessionEnded(ConfstoreError):
-    """The session is over. What was answered stands; `reopen` starts another one.
+    """The session is over, or the run of the program that was to read. What was answered stands; `reopen` starts
+    another session.
 
     `status` is the program's, or the negative number of the signal that ended it, or None where it isn't known.
     """
@@ -243,7 +245,7 @@ def end_of(status: Optional[int], errors: bytes, cut: bool) -> SessionEnded:
     for line in errors.decode("utf-8", "replace").splitlines():
         if line.startswith("confstore: "):
             name = line[len("confstore: ") :]
-    kind = ENDS.get(name.split(" ", 1)[0] if name else "")
+    kind = ENDS.get(re.split(r"\W", name, maxsplit=1)[0])
     if kind is not None:
         return kind(name, status)
     if status is not None and status < 0:

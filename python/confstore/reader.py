@@ -14,7 +14,7 @@ from typing import List, Optional
 
 import yaml
 
-from .faults import BadAnswer, BadName, ConfstoreError, MissingFolder, MissingProgram, NotText, Refused, TimedOut
+from .faults import BadAnswer, BadName, ConfstoreError, MissingFolder, MissingProgram, NotText, TimedOut
 from .faults import REFUSALS, Unsupported, end_of, refusal
 from .records import Record, record_of
 from .style import Tree, from_text, trees_of
@@ -130,6 +130,3 @@ class View:
 
 def _at(number: Optional[int]) -> List[str]:
     return [] if number is None else ["--at", str(number)]
-
-
-__all__ = ["Reader", "Refused", "View", "find_program"]

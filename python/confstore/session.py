@@ -322,7 +322,7 @@ class Session:
     def abandon(self) -> None:
         """Has the session perform what it was sent, and end, and does not wait for that. It takes no lock, since a
         store that nobody holds any more may be collected by any thread at any place."""
-        if os.getpid() == self._owner:
+        if os.getpid() == self._owner and self._end is None:
             self._is_closing = True
             self._ring()
 

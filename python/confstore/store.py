@@ -5,13 +5,14 @@ from __future__ import annotations
 import errno
 import os
 import re
+import threading
 import weakref
 from types import TracebackType
-from typing import Any, Dict, Iterator, List, Optional, Sequence, Type
+from typing import Any, Callable, Dict, Iterator, List, Optional, Sequence, Type
 
 import yaml
 
-from .faults import BadAnswer, BadCommand, ConfstoreError, EmptyBatch, MissingFolder, NoConfig, Unsupported, refusal
+from .faults import BadAnswer, BadCommand, ConfstoreError, EmptyBatch, MissingFolder, Unsupported, refusal
 from .reader import Reader, View
 from .records import Record
 from .session import Session
@@ -40,9 +41,10 @@ def _delete(name: str, path: str) -> Dict[str, Tree]:
 
 
 class Batch:
-    """Edits that are performed together, or not at all. `Store.batch` makes one."""
+    """Edits that are performed together when its block is left, or not at all. `Store.batch` makes one."""
 
-    def __init__(self) -> None:
+    def __init__(self, perform: Callable[[List[Tree]], int]) -> None:
+        self._perform = perform
         self._edits: List[Tree] = []
         #: The count of accepted commands after the batch, once it was performed.
         self.count: Optional[int] = None
@@ -66,20 +68,12 @@ class Batch:
     def __len__(self) -> int:
         return len(self._edits)
 
-
-class _Batching:
-    """The context in which the edits of a batch are listed."""
-
-    def __init__(self, store: "Store") -> None:
-        self._store = store
-        self._batch = Batch()
-
-    def __enter__(self) -> Batch:
-        return self._batch
+    def __enter__(self) -> "Batch":
+        return self
 
     def __exit__(self, kind: Optional[Type[BaseException]], *_: object) -> None:
-        if kind is None and len(self._batch):
-            self._batch.count = self._store._perform_batch(self._batch._edits)
+        if kind is None and self._edits:
+            self.count = self._perform(self._edits)
 
 
 class Store:
@@ -107,7 +101,7 @@ class Store:
         make: bool = False,
     ) -> None:
         self._reader: Optional[Reader] = Reader(path, program=program, timeout=timeout)
-        self._timeout = timeout
+        self._timeout, self._opening = timeout, threading.Lock()
         folder = self._reader.folder
         if make:
             os.makedirs(folder, exist_ok=True)
@@ -126,7 +120,7 @@ class Store:
         there.
         """
         store = cls.__new__(cls)
-        store._reader, store._timeout = None, timeout
+        store._reader, store._timeout, store._opening = None, timeout, threading.Lock()
         store._words, store._socket = (), os.fspath(path)
         store._begin()
         return store
@@ -146,9 +140,14 @@ class Store:
             raise
 
     def reopen(self) -> None:
-        """Ends the session, if it isn't over, and starts another one over the same folder or socket."""
-        self.close()
-        self._begin()
+        """Starts another session over the same folder or socket if the last one is over, or was closed.
+
+        It does nothing while a session goes on, so each of several threads whose calls raised may call it.
+        """
+        with self._opening:
+            if self._session.end is not None or not self._forgotten.alive:
+                self.close()
+                self._begin()
 
     def close(self) -> None:
         """Ends the session. What was answered is on the disk. Does nothing the second time, and raises nothing."""
@@ -173,14 +172,13 @@ class Store:
 
     def _told(self, command: Tree, key: str) -> Tree:
         """What the answer to a command has under the key that is expected."""
-        answer = self._ask(command)
+        return self._value_in(self._ask(command), key)
+
+    def _value_in(self, answer: bytes, key: str) -> Tree:
         try:
             (tree,) = trees_of(answer)
-        except (yaml.YAMLError, ValueError, BadAnswer) as error:
+        except (yaml.YAMLError, ValueError, RecursionError, BadAnswer) as error:
             raise self._distrust(answer, f"the answer is no YAML document: {type(error).__name__}") from None
-        return self._value_in(tree, key, answer)
-
-    def _value_in(self, tree: Tree, key: str, answer: bytes) -> Tree:
         if isinstance(tree, dict) and len(tree) == 1:
             if key in tree:
                 return tree[key]
@@ -194,11 +192,7 @@ class Store:
         found = _OK.fullmatch(answer)
         if found:
             return int(found[1])
-        try:
-            (tree,) = trees_of(answer)
-        except (yaml.YAMLError, ValueError, BadAnswer) as error:
-            raise self._distrust(answer, f"the answer is no YAML document: {type(error).__name__}") from None
-        raise self._distrust(answer, f"the answer has {self._value_in(tree, 'ok', answer)!r} for a number")
+        raise self._distrust(answer, f"the answer has {self._value_in(answer, 'ok')!r} for a number")
 
     def import_text(self, name: str, text: str) -> int:
         """Reads a text of YAML and puts its tree under a name, which may be new."""
@@ -238,7 +232,7 @@ class Store:
         """Writes a new `store.yaml` of the state alone. The log begins anew with it."""
         return self._count({"checkpoint": ""})
 
-    def batch(self) -> _Batching:
+    def batch(self) -> Batch:
         """A context that lists edits, and performs them together when it is left, or not at all:
 
             with store.batch() as batch:
@@ -248,7 +242,7 @@ class Store:
         If the block raises, nothing is sent, and if one edit is refused, none of them changes anything. A batch without
         edits sends nothing. Afterwards `batch.count` is the new count.
         """
-        return _Batching(self)
+        return Batch(self._perform_batch)
 
     def _perform_batch(self, edits: List[Tree]) -> int:
         try:
@@ -296,6 +290,3 @@ class Store:
 
     def __len__(self) -> int:
         return len(self.names())
-
-
-__all__ = ["Batch", "NoConfig", "Store"]

@@ -2,6 +2,7 @@
 
 import gc
 import os
+import re
 import signal
 import threading
 import time
@@ -11,6 +12,7 @@ import confstore
 from confstore import Reader, SessionEnded, Store
 from confstore.session import LONGEST_COMMAND, Session, _Cutter
 
+from . import TOP
 from .places import StoreTest
 
 
@@ -120,6 +122,25 @@ class Ending(StoreTest):
         with self.store() as store:
             self.assertEqual(store["a"], "x")
 
+    def test_opened_again_by_many_threads(self):
+        store = self.store()
+        store["a"] = {"n": []}
+        os.kill(store._session._other.process.pid, signal.SIGKILL)
+
+        def append(number):
+            while True:
+                try:
+                    return store.set("a", "/n/-", str(number))
+                except SessionEnded:
+                    store.reopen()
+
+        threads = [threading.Thread(target=append, args=(number,)) for number in range(8)]
+        for thread in threads:
+            thread.start()
+        for thread in threads:
+            thread.join(60)
+        self.assertEqual(sorted(store["a"]["n"]), [str(number) for number in range(8)])
+
     def test_closed(self):
         store = self.store()
         store.close()
@@ -156,6 +177,20 @@ class Ending(StoreTest):
         confstore.session.LONGEST_COMMAND = LONGEST_COMMAND + 1
         with self.assertRaises(confstore.CommandLong):
             session.ask(b"#" + fitting, 60)
+
+
+class Limits(unittest.TestCase):
+    def test_one_length_of_a_command(self):
+        """The clients, the server and docs/SESSION.md say the same."""
+        rows = (
+            ("docs/SESSION.md", r"(?m)^\| a piece, with its closing line; .* \| ([0-9,]+) bytes \|$"),
+            ("clients/serve.py", r"(?m)^LONGEST = ([0-9_]+) "),
+            ("clients/c/confstore.h", r"CONFSTORE_LONGEST_COMMAND \(\(size_t\)([0-9]+)\)"),
+        )
+        for file, pattern in rows:
+            with open(os.path.join(TOP, file), encoding="utf-8") as source:
+                found = re.search(pattern, source.read())[1]
+            self.assertEqual(int(found.replace(",", "")), LONGEST_COMMAND, file)
 
 
 class WrongAnswers(StoreTest):

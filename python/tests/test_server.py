@@ -193,6 +193,57 @@ class Ends(ServerTest):
         store.reopen()
         self.assertIn(store["a"], ("x", "y"))
 
+    def test_sixteen_clients_of_sessions_that_are_killed(self):
+        """Each client appends numbers to a list of its own, and connects again when it is cut off."""
+        served = [self.serve()]
+        answered, wrong, stop = [0] * 16, [], threading.Event()
+        for number in range(16):
+            self.connect().put(f"list{number}", [])
+
+        def append(number):
+            store = Store.connect(self.path, timeout=PATIENCE)
+            while not stop.is_set():
+                try:
+                    store.set(f"list{number}", "/-", f"n{answered[number]}")
+                    answered[number] += 1
+                except confstore.SessionEnded:
+                    if not self.catch_up(store, number, answered, wrong):
+                        break
+            store.close()
+
+        threads = [threading.Thread(target=append, args=(number,)) for number in range(16)]
+        for thread in threads:
+            thread.start()
+        for _ in range(3):
+            time.sleep(0.4)
+            os.kill(session_of(served[-1]), signal.SIGKILL)
+            self.assertEqual(served[-1].wait(PATIENCE), signal.SIGKILL)
+            served.append(self.serve())
+        time.sleep(0.4)
+        stop.set()
+        for thread in threads:
+            thread.join(PATIENCE)
+        store = self.connect()
+        lists = [len(store[f"list{number}"]) for number in range(16)]
+        self.assertEqual((lists, wrong, min(answered) > 0), (answered, [], True))
+
+    def catch_up(self, store, number, answered, wrong):
+        """Connects again, and sees which commands are there: all that were answered, and at most one more."""
+        end = time.monotonic() + PATIENCE
+        while time.monotonic() < end:
+            try:
+                store.reopen()
+                found = store[f"list{number}"]
+            except confstore.SessionEnded:
+                time.sleep(0.02)
+                continue
+            if found != [f"n{turn}" for turn in range(len(found))] or len(found) - answered[number] not in (0, 1):
+                wrong.append((number, answered[number], len(found)))
+            answered[number] = len(found)
+            return True
+        wrong.append((number, "no server"))
+        return False
+
     def test_a_store_that_is_held(self):
         self.store()
         process = self.serve(errors=subprocess.PIPE)
