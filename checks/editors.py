@@ -50,7 +50,7 @@ SAID = (
     "b d.yml:2: S4",
     "flow.yaml:2:8: Syntax Flow",
     "two\nlines.yaml:2: S1",
-    "two.yaml:1: Documents ",
+    "two.yaml:1: Documents",
 )
 
 

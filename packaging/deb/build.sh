@@ -13,6 +13,7 @@ program=${2:-${CONFSTORE:-$top/crates/confstore/out/confstore}}
 [ -x "$program" ] || { echo "build.sh: the program is not built: run ./confstore --version first" >&2; exit 1; }
 
 root=$(mktemp -d)
+chmod 755 "$root"
 trap 'rm -rf "$root"' EXIT
 version=$("$program" --version | awk '{ print $2 }')
 architecture=$(dpkg --print-architecture)
@@ -57,6 +58,7 @@ Description: crash-safe store of named configuration trees
  in one file that survives a crash at any moment. The program is proved to meet
  its contracts. Its journal, commands and answers are YAML, in one style.
 CONTROL
+install -m 755 "$top/packaging/deb/postinst" "$root/DEBIAN/postinst"
 (cd "$root" && find usr -type f -print0 | LC_ALL=C sort -z | xargs -0 md5sum >DEBIAN/md5sums)
 find "$root" -exec touch -h -d "@$SOURCE_DATE_EPOCH" {} +
 

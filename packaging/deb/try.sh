@@ -49,12 +49,13 @@ works() {
         [ "$("$root/usr/bin/confstore" export "$folder/store" web)" = 'port: "80"' ]
 }
 
-mkdir -p "$root/var/lib/dpkg/info" "$root/var/lib/dpkg/updates" && : >"$root/var/lib/dpkg/status"
+mkdir -p "$root/etc" "$root/var/lib/dpkg/info" "$root/var/lib/dpkg/updates" && : >"$root/var/lib/dpkg/status"
 package=$("$top/packaging/deb/build.sh" "$folder/one" "$program") || exit 1
 again=$("$top/packaging/deb/build.sh" "$folder/two" "$program") || exit 1
 try "the same package twice" cmp "$package" "$again"
 try "install" in_root --install "$package"
 wanted=$("$program" --version)
+command -v systemd-sysusers >/dev/null && try "the user" grep -q '^confstore:' "$root/etc/passwd"
 try "the program" is_same "$root/usr/bin/confstore" --version
 try "a store" works
 for page in "$root"/usr/share/man/man*/*.gz; do

@@ -1,5 +1,6 @@
 """`clients/serve.py`: one session for many clients, and `Store.connect`."""
 
+import importlib.util
 import os
 import signal
 import socket
@@ -155,6 +156,22 @@ class Clients(ServerTest):
         slow.setblocking(True)
         slow.settimeout(PATIENCE)
         self.assertGreaterEqual(received(slow, 20).count(b"...\n"), 20)
+
+
+class Cutting(unittest.TestCase):
+    def test_pieces(self):
+        spec = importlib.util.spec_from_file_location("serve", SERVER)
+        serve = importlib.util.module_from_spec(spec)
+        spec.loader.exec_module(serve)
+        stream = b"...\na\n...\n....\n ...\n...\n\n...\nb...\nrest"
+        for step in (1, 2, 3, 5, 100):
+            pieces, found = serve.Pieces(), []
+            for place in range(0, len(stream), step):
+                pieces.add(stream[place : place + step])
+                while pieces.end:
+                    found.append(pieces.take())
+            self.assertEqual(found, [b"...\n", b"a\n...\n", b"....\n ...\n...\n", b"\n...\n"])
+            self.assertEqual(bytes(pieces.bytes), b"b...\nrest")
 
 
 class Ends(ServerTest):
