@@ -432,7 +432,7 @@ static void wrong_programs(void) {
         {"read a; echo 'confstore: Damaged 7' >&2; exit 1", PATIENCE, CONFSTORE_DAMAGED, CONFSTORE_DAMAGED},
         {"read a; yes | head -c 100000 >&2; echo 'confstore: SessionLong' >&2; exit 1", PATIENCE,
          CONFSTORE_SESSION_LONG, CONFSTORE_SESSION_LONG},
-        {"exec sleep 100", 200, CONFSTORE_TIMED_OUT, CONFSTORE_TIMED_OUT},
+        {"exec sleep 100", 3000, CONFSTORE_TIMED_OUT, CONFSTORE_TIMED_OUT},
     };
     for (size_t at = 0; at < sizeof BODIES / sizeof *BODIES; at++)
         expect_status(BODIES[at].body, with_body(BODIES[at].body, BODIES[at].timeout, BODIES[at].closed),
@@ -449,7 +449,7 @@ static void a_program_that_does_not_read(void) {
     struct confstore *store;
     write_file(path_of("script"), "#!/bin/sh\nread a; read b; printf -- '---\\nnames: []\\n...\\n'\nexec sleep 100\n",
                0700);
-    expect_status("open", confstore_open(path_of("script"), top, 1000, &store), CONFSTORE_OK);
+    expect_status("open", confstore_open(path_of("script"), top, 3000, &store), CONFSTORE_OK);
     size_t length = 4000000;
     char *large = malloc(length);
     memset(large, '#', length);

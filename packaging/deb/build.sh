@@ -4,7 +4,7 @@
 #     packaging/deb/build.sh FOLDER [PROGRAM]
 #
 # The package is put into FOLDER, and its path is printed. The program is CONFSTORE, or the one that ./confstore builds.
-# The same program and commit make the same package, byte by byte.
+# The same program and commit make the same package, byte by byte. DEBFULLNAME and DEBEMAIL name its maintainer.
 set -euo pipefail
 umask 022
 top=$(cd "$(dirname "${BASH_SOURCE[0]}")/../.." && pwd)
@@ -41,13 +41,21 @@ done
 for page in README.md CHANGELOG.md docs/SESSION.md docs/STORE.md docs/FAULTS.md docs/STYLE.md; do
     put 644 "$top/$page" "usr/share/doc/confstore/$(basename "$page")"
 done
+maintainer="${DEBFULLNAME:-the confstore authors} <${DEBEMAIL:-confstore@localhost}>"
+gzip -n9 >"$root/usr/share/doc/confstore/changelog.gz" <<CHANGES
+confstore ($version) unstable; urgency=medium
+
+  * CHANGELOG.md has what was made.
+
+ -- $maintainer  $(LC_ALL=C date -u -R -d "@$SOURCE_DATE_EPOCH")
+CHANGES
 
 mkdir "$root/DEBIAN"
 cat >"$root/DEBIAN/control" <<CONTROL
 Package: confstore
 Version: $version
 Architecture: $architecture
-Maintainer: the confstore authors <confstore@localhost>
+Maintainer: $maintainer
 Installed-Size: $(du -sk --exclude=DEBIAN "$root" | cut -f 1)
 Depends: libc6${glibc:+ (>= $glibc)}
 Suggests: python3

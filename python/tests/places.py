@@ -43,9 +43,10 @@ class StoreTest(unittest.TestCase):
         os.chmod(path, stat.S_IRWXU)
         return path
 
-    def set_fault(self, kind, body, **more):
-        """The fault of a `set` through a program with this body, which has to be of a kind."""
-        store = self.store(program=self.program(body), **more)
+    def set_fault(self, kind, body, timeout=60):
+        """The fault of a `set` through a program with this body, which has to be of a kind and come in time."""
+        store = self.store(program=self.program(body))
+        store._timeout = timeout
         with self.assertRaises(kind) as caught:
             store.set("a", "", "x")
         return caught.exception

@@ -221,7 +221,8 @@ class WrongAnswers(StoreTest):
 
     def test_a_program_that_does_not_read(self):
         """A pipe that is full: every call ends in its time, and so does closing."""
-        store = self.store(program=self.program("time.sleep(100)\n"), timeout=0.3)
+        store = self.store(program=self.program("time.sleep(100)\n"))
+        store._timeout = 0.3
         start, sent = time.monotonic(), set()
         for _ in range(5):
             with self.assertRaises(confstore.TimedOut) as caught:
