@@ -177,7 +177,7 @@ class Store:
     def _value_in(self, answer: bytes, key: str) -> Tree:
         try:
             (tree,) = trees_of(answer)
-        except (yaml.YAMLError, ValueError, RecursionError, BadAnswer) as error:
+        except (yaml.YAMLError, ValueError, BadAnswer) as error:
             raise self._distrust(answer, f"the answer is no YAML document: {type(error).__name__}") from None
         if isinstance(tree, dict) and len(tree) == 1:
             if key in tree:

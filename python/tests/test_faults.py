@@ -2,6 +2,7 @@
 
 import gc
 import os
+import random
 import re
 import signal
 import threading
@@ -252,6 +253,56 @@ class WrongAnswers(StoreTest):
         write(script, b"#!/bin/sh\necho \"error: unrecognized subcommand 'log'\" >&2; exit 2\n")
         with self.assertRaises(confstore.Unsupported):
             Reader(self.folder, program=script).log()
+
+
+class ChangedAnswers(unittest.TestCase):
+    """Bytes that are nearly answers: each is read as one, or is a fault of this package."""
+
+    ANSWERS = (
+        b'---\nok: "7"\n...\n',
+        b"---\nrefused: NoConfig\n...\n",
+        b'---\nvalue:\n  a: "1"\n  ? "k"\n  : |\n    x\n\n    y\n  l:\n    - []\n    - "\\u2028"\n...\n',
+        b"---\nnames:\n  - a\n  - b\n...\n",
+    )
+    TOKENS = (
+        b"!!int", b"!!binary", b"&a", b"*a", b"<<", b"? ", b"- ", b": ", b"{", b"}", b"[", b"]", b"|", b">", b"'", b'"',
+        b"\t", b"\n", b"%YAML 1.1\n", b"---\n", b"#", b"\0", b"\xff", b"\xc2\x85", b"\xef\xbb\xbf", b"=", b"~",
+    )  # fmt: skip
+
+    def changed(self, chance):
+        answer = bytearray(chance.choice(self.ANSWERS))
+        for _ in range(chance.randrange(1, 5)):
+            place = chance.randrange(len(answer) + 1)
+            if chance.randrange(3):
+                answer[place : place + chance.randrange(3)] = chance.choice(self.TOKENS)
+            else:
+                answer[place : place + 1] = bytes([chance.randrange(256)])
+        return bytes(answer)
+
+    def test_each_is_read_or_told(self):
+        class Silent:
+            def ask(self, document, timeout):
+                return answer
+
+            def distrust(self, fault):
+                faults.append(fault)
+
+        store, chance, faults, read = Store.__new__(Store), random.Random(3), [], 0
+        store._session, store._timeout = Silent(), 1
+        for _ in range(3_000):
+            answer = self.changed(chance)
+            for call in (store.names, store.checkpoint, lambda: store.get("a")):
+                try:
+                    call()
+                    read += 1
+                except confstore.ConfstoreError:
+                    pass
+        self.assertGreater(read, 30)
+        self.assertGreater(len(faults), 100)
+        for way in (b"[", b"{a: ", b"- ", b"? "):
+            answer = b"---\nvalue:\n  " + way * 100_000 + b"\n...\n"
+            with self.assertRaises(confstore.BadAnswer):
+                store.get("a")
 
 
 class Cutting(unittest.TestCase):
