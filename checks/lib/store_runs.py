@@ -9,7 +9,7 @@ import tempfile
 from collections import Counter
 
 TOP = os.path.dirname(os.path.dirname(os.path.dirname(os.path.abspath(__file__))))
-PROGRAM = os.path.join(TOP, "crates", "confstore", "out", "confstore")
+PROGRAM = os.environ.get("CONFSTORE") or os.path.join(TOP, "crates", "confstore", "out", "confstore")
 
 # The file of an empty state.
 EMPTY = b'---\nstore: confstore-1\nat: "0"\nconfigs: {}\n...\n'

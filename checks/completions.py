@@ -1,0 +1,171 @@
+#!/usr/bin/env python3
+"""Presses keys in bash, zsh and fish, as far as they are installed, and looks at what their completions make of them.
+
+Each shell runs in a terminal of its own with only the file of `completions/`. A line is typed up to a TAB, and the
+words that it then has are those with which `confstore` is called. Names of configurations come from a real store by
+`confstore names`; where the program lacks that word, a stand-in writes them, and a line says so. Then the words that
+`confstore --help` lists are looked up in the three files and in docs/man/confstore.1.
+
+Run it from the repository's root after the program is built; it takes some seconds:
+
+    ./confstore --version && python3 checks/completions.py
+
+The last line is 'N passed, M failed', and the status is 0 if M is 0.
+"""
+
+import os
+import pty
+import re
+import select
+import shutil
+import subprocess
+import sys
+import tempfile
+import time
+
+from lib.store_runs import PROGRAM, TOP, Failures, need_program, session, write_file
+
+FOLDER = os.path.join(TOP, "completions")
+PAGE = "docs/man/confstore.1"
+
+# How each shell is started, and what is typed first.
+SHELLS = {
+    "bash": (["bash", "--norc", "--noprofile", "-i"], f"source {FOLDER}/confstore.bash"),
+    "zsh": (["zsh", "-f", "-i"], f"fpath=({FOLDER} $fpath); autoload -Uz compinit; compinit -u -D"),
+    "fish": (["fish", "--no-config", "-i"], f"source {FOLDER}/confstore.fish"),
+}
+
+# What is typed before a TAB, and the words that confstore is called with then. The store `store` has `app` and `web`.
+LINES = [
+    ("exp", "export"),
+    ("sal", "salvage"),
+    ("run --gr", "run --group"),
+    ("run --group sto", "run --group store"),
+    ("get store w", "get store web"),
+    ("get store/ w", "get store/ web"),
+    ("export store ap", "export store app"),
+    ("delete store w", "delete store web"),
+    ("get --at 3 store w", "get --at 3 store web"),
+    ("set store w", "set store web"),
+    ("import store app fil", "import store app file.yaml"),
+    ("check fil", "check file.yaml"),
+    ("log --y", "log --yaml"),
+]
+
+# How many seconds a shell may take to start, and to say what its words are.
+START = 20
+PATIENCE = 10
+
+
+def store_with_names(top):
+    folder = os.path.join(top, "store")
+    os.mkdir(folder)
+    session(folder, b"import: web\ntext: x\n...\nimport: app\ntext: x\n...\n")
+    write_file(os.path.join(top, "file.yaml"), b"a: b\n")
+
+
+def put_program(top):
+    """A program that says its words, and has the real one say the names."""
+    has_names = subprocess.run([PROGRAM, "names", os.path.join(top, "store")], capture_output=True, check=False)
+    if has_names.returncode == 0:
+        names = f'exec {PROGRAM} "$@"'
+    else:
+        print("the program has no word `names`: a stand-in writes them")
+        names = '[ -d "$2" ] && printf "web\\napp\\n"; exit'
+    folder = os.path.join(top, "bin")
+    os.mkdir(folder)
+    path = os.path.join(folder, "confstore")
+    write_file(path, f'#!/bin/sh\nif [ "$1" = names ]; then {names}; fi\necho "called: $*."\n'.encode())
+    os.chmod(path, 0o755)
+    return folder
+
+
+class Terminal:
+    """A shell in a terminal."""
+
+    def __init__(self, words, top, programs):
+        path = f"{programs}:{os.environ['PATH']}"
+        environment = {"PATH": path, "HOME": top, "TERM": "dumb", "LANG": "C.UTF-8", "PS1": "$ "}
+        self.process, self.end = pty.fork()
+        if self.process == 0:
+            os.chdir(top)
+            os.execvpe(words[0], words, environment)
+        self.seen = ""
+
+    def type(self, text):
+        os.write(self.end, text.encode())
+
+    def await_text(self, pattern, seconds):
+        """The first match of a pattern in what comes within so many seconds."""
+        deadline = time.monotonic() + seconds
+        while not (found := re.search(pattern, self.seen)) and time.monotonic() < deadline:
+            if select.select([self.end], [], [], 0.1)[0]:
+                try:
+                    self.seen += os.read(self.end, 65_536).decode("utf-8", "replace")
+                except OSError:
+                    break
+        if found:
+            self.seen = self.seen[found.end() :]
+        return found
+
+    def close(self):
+        os.close(self.end)
+        try:
+            os.kill(self.process, 9)
+        except ProcessLookupError:
+            pass
+        os.waitpid(self.process, 0)
+
+
+def try_shell(name, top, programs, failures):
+    words, first = SHELLS[name]
+    terminal = Terminal(words, top, programs)
+    try:
+        terminal.type(f"{first}; echo rea''dy\r")
+        if not terminal.await_text(r"(?m)^ready", START):
+            failures.expect(f"{name} starts", terminal.seen, "ready")
+            return
+        for typed, wanted in LINES:
+            terminal.type(f"confstore {typed}\t")
+            time.sleep(0.5)
+            terminal.type("\r")
+            found = terminal.await_text(r"called: (.*?)\.\r?\n", PATIENCE)
+            failures.expect(f"{name}: {typed}", found and found[1].strip().removesuffix("/"), wanted)
+    finally:
+        terminal.close()
+
+
+def look_up_words(failures):
+    """Each word of the program is completed, and is in its page."""
+    printed = subprocess.run([PROGRAM, "--help"], capture_output=True, check=True).stdout.decode()
+    listed = printed.partition("Commands:\n")[2].partition("\n\n")[0]
+    words = set(re.findall(r"(?m)^  (\S+)", listed))
+    failures.expect("words in the help", bool(words), True)
+    for file in ("completions/confstore.bash", "completions/_confstore", "completions/confstore.fish", PAGE):
+        with open(os.path.join(TOP, file), encoding="utf-8") as source:
+            text = source.read()
+        lacking = {word for word in words - {"help"} if not re.search(rf"\b{word}\b", text)}
+        failures.expect(f"words that {file} lacks", lacking, set())
+    with open(os.path.join(FOLDER, "confstore.bash"), encoding="utf-8") as source:
+        completed = set(re.search(r"_confstore_words='(.*)'", source.read())[1].split())
+    if completed - words - {"help"}:
+        print(f"completed, but not in this program: {' '.join(sorted(completed - words - {'help'}))}")
+
+
+def main():
+    need_program()
+    failures = Failures()
+    with tempfile.TemporaryDirectory() as top:
+        store_with_names(top)
+        programs = put_program(top)
+        for name in SHELLS:
+            if shutil.which(name):
+                try_shell(name, top, programs, failures)
+            else:
+                print(f"left out: {name}")
+    look_up_words(failures)
+    return failures.report()
+
+
+if __name__ == "__main__":
+    sys.exit(main())

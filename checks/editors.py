@@ -1,0 +1,244 @@
+#!/usr/bin/env python3
+"""Tries the settings of docs/EDITORS.md, the hook of git, and the two examples.
+
+Vim and Emacs run in batch mode, as far as they are installed, and read lines as `confstore check FILE` prints them; the
+pattern for VS Code is tried on the same lines. Where the program's `check` takes files, its own lines are among them.
+The hook is run in a repository of its own, with files that differ between the index and the working tree.
+
+Run it from the repository's root after the program is built; it takes some seconds:
+
+    ./confstore --version && python3 checks/editors.py
+
+The last line is 'N passed, M failed', and the status is 0 if M is 0.
+"""
+
+import json
+import os
+import re
+import shutil
+import subprocess
+import sys
+import tempfile
+import time
+
+from lib.store_runs import PROGRAM, TOP, Failures, need_program, read_file, session, write_file
+
+# Lines, each with the file, the line, the column and the message that an editor has to find.
+LINES = [
+    ("web.yaml:3: S1 the line ends in a space or TAB", ("web.yaml", 3, 0, "S1 the line ends in a space or TAB")),
+    ("web.yaml:12:7: Syntax Flow", ("web.yaml", 12, 7, "Syntax Flow")),
+    ("a b.yaml:1: S4", ("a b.yaml", 1, 0, "S4")),
+]
+
+# How long anything here may take, in seconds.
+PATIENCE = 60
+
+# Three lines, one with a space at its end.
+SPACED = b"a: b\nc: d \ne: f\n"
+
+# Files that are staged, and what the hook says of them.
+STAGED = {
+    "good.yaml": b"a: b\n",
+    "b d.yml": SPACED,
+    "flow.yaml": b"a:\n  - [b,,c]\n",
+    "two\nlines.yaml": SPACED,
+    "two.yaml": b"a\n---\nb\n",
+    "other.txt": SPACED,
+}
+SAID = (
+    "b d.yml:2: S1",
+    "b d.yml:2: S4",
+    "flow.yaml:2:8: Syntax Flow",
+    "two\nlines.yaml:2: S1",
+    "two.yaml:1: Documents",
+)
+
+
+def block_of(language):
+    """What stands in docs/EDITORS.md as a block of a language."""
+    text = read_file(os.path.join(TOP, "docs", "EDITORS.md")).decode()
+    return re.search(rf"```{language}\n(.*?)```", text, re.DOTALL)[1]
+
+
+def lines_of(top, failures):
+    """The lines to be tried, those of the program among them if its `check` takes files."""
+    write_file(os.path.join(top, "own.yaml"), SPACED)
+    done = subprocess.run([PROGRAM, "check", "own.yaml"], cwd=top, capture_output=True, check=False)
+    if done.returncode == 2:
+        print("left out: this program's `check` takes no files")
+        return LINES
+    own = [line for line in done.stdout.decode().splitlines() if ": S1" in line]
+    failures.expect("the program's lines", [line.split(" ")[0] for line in own], ["own.yaml:2:"])
+    return LINES + [(line, ("own.yaml", 2, 0, line.split(": ", 1)[1])) for line in own]
+
+
+def by_vim(top, lines):
+    """What Vim reads of the lines."""
+    settings = block_of("vim").replace("setlocal", "set")
+    write_file(os.path.join(top, "settings.vim"), settings.encode())
+    write_file(os.path.join(top, "lines"), "".join(f"{line}\n" for line, _ in lines).encode())
+    entry = "[bufname(v:val.bufnr), v:val.lnum, v:val.col, v:val.text]"
+    say = f"call writefile([json_encode(map(getqflist(), '{entry}'))], 'found')"
+    words = ["vim", "-N", "-u", "NONE", "-i", "NONE", "-es"]
+    for command in ("source settings.vim", "cgetfile lines", say, "qa!"):
+        words += ["-c", command]
+    subprocess.run(words, cwd=top, stdin=subprocess.DEVNULL, capture_output=True, check=False, timeout=PATIENCE)
+    found = json.loads(read_file(os.path.join(top, "found")))
+    return [(name, line, column, text.strip()) for name, line, column, text in found]
+
+
+# Writes the file, the line and the column of each message that `compile` finds.
+BY_EMACS = """
+(require 'compile)
+(with-temp-buffer
+  (setq default-directory (file-name-as-directory "{top}"))
+  (insert "-*- mode: compilation -*-\\n\\n")
+  (insert-file-contents "lines")
+  (compilation-mode)
+  (let ((inhibit-read-only t)) (compilation-parse-errors (point-min) (point-max)))
+  (goto-char (point-min))
+  (let ((found nil))
+    (while (< (point) (point-max))
+      (let ((message (get-text-property (point) 'compilation-message)))
+        (when message
+          (let ((place (compilation--message->loc message)))
+            (push (list (car (compilation--file-struct->file-spec (compilation--loc->file-struct place)))
+                        (or (compilation--loc->line place) 0) (or (compilation--loc->col place) 0))
+                  found))))
+      (forward-line 1))
+    (dolist (one (nreverse found)) (princ (format "%s\\t%s\\t%s\\n" (nth 0 one) (nth 1 one) (nth 2 one))))))
+"""
+
+
+def by_emacs(top, lines, failures):
+    """What Emacs reads of the lines, and whether its settings can be read."""
+    write_file(os.path.join(top, "lines"), "".join(f"{line}\n" for line, _ in lines).encode())
+    write_file(os.path.join(top, "settings.el"), block_of("elisp").encode())
+    write_file(os.path.join(top, "try.el"), BY_EMACS.replace("{top}", top).encode())
+    words = ["emacs", "-Q", "--batch", "-l", "settings.el", "-l", "try.el"]
+    done = subprocess.run(words, cwd=top, stdin=subprocess.DEVNULL, capture_output=True, check=False, timeout=PATIENCE)
+    failures.expect("emacs", (done.returncode, done.stderr if done.returncode else b""), (0, b""))
+    found = [line.split("\t") for line in done.stdout.decode().splitlines()]
+    return [(name, int(line), int(column)) for name, line, column in found]
+
+
+def by_code(lines):
+    """What the pattern for VS Code finds in the lines."""
+    pattern = json.loads(block_of("json"))["tasks"][0]["problemMatcher"]["pattern"]
+    found = [re.search(pattern["regexp"], line) for line, _ in lines]
+    parts = [[match[pattern[part]] for part in ("file", "line", "column", "message")] for match in found]
+    return [(name, int(line), int(column or 0), message) for name, line, column, message in parts]
+
+
+def try_editors(top, failures):
+    lines = lines_of(top, failures)
+    wanted = [place for _, place in lines]
+    failures.expect("VS Code", by_code(lines), wanted)
+    if shutil.which("vim"):
+        failures.expect("Vim", by_vim(top, lines), wanted)
+    else:
+        print("left out: Vim")
+    if shutil.which("emacs"):
+        failures.expect("Emacs", by_emacs(top, lines, failures), [place[:3] for place in wanted])
+    else:
+        print("left out: Emacs")
+
+
+def git(folder, *words, **more):
+    names = {"GIT_AUTHOR_NAME": "a", "GIT_AUTHOR_EMAIL": "a", "GIT_COMMITTER_NAME": "a", "GIT_COMMITTER_EMAIL": "a"}
+    alone = {"GIT_CONFIG_GLOBAL": "/dev/null", "GIT_CONFIG_SYSTEM": "/dev/null", "CONFSTORE": PROGRAM}
+    environment = {**os.environ, **names, **alone, **more}
+    how = {"capture_output": True, "check": False, "timeout": PATIENCE}
+    done = subprocess.run(["git", *words], cwd=folder, env=environment, **how)
+    return done.returncode, done.stderr.decode()
+
+
+def try_hook(top, failures):
+    folder = os.path.join(top, "repository")
+    os.mkdir(folder)
+    git(folder, "init", "-q")
+    hooks = os.path.join(folder, ".git", "hooks")
+    os.makedirs(hooks, exist_ok=True)
+    os.symlink(os.path.join(TOP, "clients", "hooks", "pre-commit"), os.path.join(hooks, "pre-commit"))
+    for name, content in STAGED.items():
+        write_file(os.path.join(folder, name), content)
+    git(folder, "add", ".")
+    write_file(os.path.join(folder, "b d.yml"), b"a: b\n")  # the working tree is well, the index is not
+    status, said = git(folder, "commit", "-m", "x")
+    failures.expect("a commit of wrong files", status, 1)
+    for line in SAID:
+        failures.expect(f"the hook says {line!r}", f"{line}\n" in said, True)
+    failures.expect("files that are well", "good" in said or "other" in said, False)
+    for name in ("b d.yml", "flow.yaml", "two\nlines.yaml", "two.yaml"):
+        write_file(os.path.join(folder, name), b"a: b\n")
+    git(folder, "add", ".")
+    write_file(os.path.join(folder, "good.yaml"), SPACED)  # and the other way round
+    failures.expect("a commit of files that are well", git(folder, "commit", "-m", "x"), (0, ""))
+    write_file(os.path.join(folder, "good.yaml"), b"a: c\n")
+    git(folder, "add", ".")
+    status, said = git(folder, "commit", "-m", "x", CONFSTORE="/none")
+    failures.expect("a missing program", (status, "no program" in said), (1, True))
+
+
+def try_deployment(top, failures):
+    folder, file = os.path.join(top, "deployed"), os.path.join(top, "web.yaml")
+    os.mkdir(folder)
+    if session(folder, b"batch: []\n...\n")[1] == b"---\nrefused: BadCommand\n...\n":
+        print("left out: deploy.sh, since this program has no batches")
+        return
+    write_file(file, b"# a comment\nhost: none\nnote: |\n  a\n  ...\n  b\nlist: [1, 2]")
+    script = os.path.join(TOP, "clients", "examples", "deploy.sh")
+
+    def deploy(*words):
+        environment = {**os.environ, "CONFSTORE": PROGRAM}
+        how = {"capture_output": True, "check": False, "timeout": PATIENCE}
+        done = subprocess.run([script, *words], env=environment, **how)
+        return done.returncode, done.stdout, done.stderr
+
+    text = b'host: "a \\"b\\" \\\\c"\nnote: |\n  a\n  ...\n  b\nlist:\n  - "1"\n  - "2"\n  - x\n'
+    failures.expect("deploy", deploy(folder, "web", file, "/host", 'a "b" \\c', "/list/-", "x"), (0, text, b""))
+    refused = (1, b"", b"deploy.sh: refused: NoSuchPlace\n")
+    failures.expect("a refused edit", deploy(folder, "web", file, "/host", "z", "/no/where", "x"), refused)
+    failures.expect("what it left", session(folder, b"export: web\n...\n")[1].count(b'a \\"b\\"'), 1)
+    failures.expect("a missing folder", deploy(os.path.join(top, "none"), "web", file)[0], 3)
+    failures.expect("wrong words", deploy(folder, "web", file, "/host")[0], 2)
+
+
+def try_service(top, failures):
+    folder = os.path.join(top, "served")
+    os.mkdir(folder)
+    session(folder, b'import: web\ntext: "port: 80"\n...\n')
+    if subprocess.run([PROGRAM, "log", "--yaml", folder], capture_output=True, check=False).returncode == 2:
+        print("left out: service.py, since this program has no word `log`")
+        return
+    environment = {**os.environ, "CONFSTORE": PROGRAM, "PYTHONPATH": os.path.join(TOP, "python")}
+    words = [sys.executable, os.path.join(TOP, "clients", "examples", "service.py"), folder, "web", "0.1"]
+    service = subprocess.Popen(words, env=environment, stdout=subprocess.PIPE, text=True)
+    try:
+        failures.expect("the settings", service.stdout.readline(), "settings: {'port': '80'}\n")
+        session(folder, b"set: web\npath: /port\nvalue: 81\n...\nimport: other\ntext: x\n...\n")
+        said = [service.stdout.readline() for _ in range(2)]
+        failures.expect("after a set", said, ["command 2: set /port\n", "settings: {'port': '81'}\n"])
+        session(folder, b"checkpoint:\n...\nset: web\npath: /port\nvalue: 82\n...\n")
+        failures.expect("after a checkpoint", service.stdout.readline()[:9], "settings:")
+        time.sleep(0.5)
+        failures.expect("it goes on", service.poll(), None)
+    finally:
+        service.kill()
+        service.wait()
+        service.stdout.close()
+
+
+def main():
+    need_program()
+    failures = Failures()
+    with tempfile.TemporaryDirectory() as top:
+        try_editors(top, failures)
+        try_hook(top, failures)
+        try_deployment(top, failures)
+        try_service(top, failures)
+    return failures.report()
+
+
+if __name__ == "__main__":
+    sys.exit(main())

@@ -1,0 +1,156 @@
+/* Holds a store of confstore: starts a session of the program, sends it commands and takes its answers.
+ *
+ *     struct confstore *store;
+ *     struct confstore_bytes command = {0}, answer = {0};
+ *     struct confstore_answer said;
+ *
+ *     if (confstore_open(NULL, "store", 60000, &store) != CONFSTORE_OK) ...
+ *     confstore_begin(&command);
+ *     confstore_write_pair(&command, "set", "web", 3);
+ *     confstore_write_pair(&command, "path", "/port", 5);
+ *     confstore_write_pair(&command, "value", "81", 2);
+ *     confstore_end(&command);
+ *     confstore_ask(store, command.data, command.length, &answer);
+ *     confstore_read_answer(answer.data, answer.length, &said);       said.kind is CONFSTORE_SAID_OK
+ *     confstore_close(store, NULL);
+ *
+ * docs/SESSION.md has the commands and the answers. What this promises of the disk is the session's promise: once an
+ * `ok` was taken, its command is on the disk. When a session ends, what was answered stands; of a command that was sent
+ * and not answered, open the store again and look.
+ *
+ * Needs C11 and a POSIX system with posix_spawn, pipe2 and MSG_NOSIGNAL, as Linux. There is no global state. A handle
+ * is used by one thread at a time, and different handles by any threads. No call waits longer than `timeout`
+ * milliseconds, and 5 seconds for a program that has closed its output to be gone. No signal's disposition or mask is
+ * changed in this process, and none is raised: commands go through a socket, which tells a closed other end without
+ * SIGPIPE. The program gets an empty mask and a process group of its own, so the keys of a terminal don't end it.
+ */
+#ifndef CONFSTORE_H
+#define CONFSTORE_H
+
+#include <stddef.h>
+#include <stdint.h>
+
+#ifdef __cplusplus
+extern "C" {
+#endif
+
+/* The longest command that a session takes, with its closing line. */
+#define CONFSTORE_LONGEST_COMMAND ((size_t)4194304)
+
+/* What a call returns. */
+enum confstore_status {
+    CONFSTORE_OK,
+    /* Of this side; nothing was sent. */
+    CONFSTORE_NO_MEMORY,        /* malloc refused */
+    CONFSTORE_NO_PROGRAM,       /* there is no such program, or it can't be run */
+    CONFSTORE_NO_FOLDER,        /* there is no such folder */
+    CONFSTORE_NO_SERVER,        /* no server takes clients at the socket */
+    CONFSTORE_NO_PIPE,          /* the system gave no pipe or socket */
+    CONFSTORE_NOT_TEXT,         /* the bytes are not UTF-8, or have a surrogate: no YAML can hold them */
+    CONFSTORE_NOT_SCALAR,       /* what is read back is no scalar of the one style, as a collection */
+    CONFSTORE_NOT_DOCUMENT,     /* a command has not exactly one closing line, at its end */
+    CONFSTORE_TOO_LONG_TO_SEND, /* a command is longer than a session takes */
+    CONFSTORE_NOTHING_DUE,      /* every command that was sent is answered */
+    /* Of the session, which goes on. */
+    CONFSTORE_TIMED_OUT, /* no answer in time: take it later; or a command could not be sent whole: close the store */
+    /* Of the session, which is over. Every later call returns the same. */
+    CONFSTORE_BAD_ANSWER,    /* what came is no answer of a session */
+    CONFSTORE_ANSWER_CUT,    /* it ended in the middle of an answer */
+    CONFSTORE_ENDED,         /* it ended, and did not say why: as by a signal, or since the server closed */
+    CONFSTORE_DEVICE,        /* Device: a call of the system failed */
+    CONFSTORE_LOCKED,        /* Locked: another run holds the folder */
+    CONFSTORE_NOT_A_STORE,   /* NotAStore */
+    CONFSTORE_DAMAGED,       /* Damaged */
+    CONFSTORE_OUT_OF_MEMORY, /* OutOfMemory: the program's memory ran out; the command in hand changed nothing */
+    CONFSTORE_COMMAND_LONG,  /* TooLong: a command was longer than a session takes */
+    CONFSTORE_SESSION_LONG,  /* SessionLong: so was the whole input */
+    CONFSTORE_INPUT_FAILED,  /* Input */
+    CONFSTORE_OUTPUT_FAILED  /* Output */
+};
+
+/* The status's name, as "CONFSTORE_OK". It is never freed. */
+const char *confstore_status_name(enum confstore_status status);
+
+/* Bytes that grow. All zeros is the empty one. After CONFSTORE_NO_MEMORY it is as it was. */
+struct confstore_bytes {
+    char *data;
+    size_t length;
+    size_t room;
+};
+
+/* Frees the bytes, and makes them empty. */
+void confstore_bytes_free(struct confstore_bytes *bytes);
+
+/* A session, or a connection to a server of one. */
+struct confstore;
+
+/* Starts `PROGRAM run --group FOLDER`, and awaits its first answer, so that a store that can't be opened is told here.
+ * A NULL program is that of the environment's CONFSTORE, or else "confstore"; it is looked for on the PATH. `*store` is
+ * NULL unless this returns CONFSTORE_OK. */
+enum confstore_status confstore_open(const char *program, const char *folder, int timeout, struct confstore **store);
+
+/* The same for a server on a Unix socket, as clients/serve.py is one. */
+enum confstore_status confstore_connect(const char *path, int timeout, struct confstore **store);
+
+/* Sends a command: a YAML document with its closing line. Any number may be sent before answers are taken: those that
+ * come meanwhile are kept in memory. */
+enum confstore_status confstore_send(struct confstore *store, const char *command, size_t length);
+
+/* Takes the answer to the earliest command that was sent and whose answer was not taken. What was in `answer` goes. */
+enum confstore_status confstore_take(struct confstore *store, struct confstore_bytes *answer);
+
+/* Sends a command, and takes its answer. There may be no other answer to take. */
+enum confstore_status confstore_ask(struct confstore *store, const char *command, size_t length,
+                                    struct confstore_bytes *answer);
+
+/* Has the session perform what it was sent, and ends it, or kills it if that takes too long. Frees the store in any
+ * case. `status`, if it isn't NULL, is the program's, the negative number of the signal that ended it, or 0 of a
+ * server. Returns CONFSTORE_OK if all was performed, and otherwise what the session ended with. NULL is closed already.
+ */
+enum confstore_status confstore_close(struct confstore *store, int *status);
+
+/* Writes a text as a value in the one style of docs/STYLE.md, at the end of the bytes: a word, lines after a header, or
+ * in double quotes. Lines are indented by so many spaces. No line feed comes after it. */
+enum confstore_status confstore_write_text(struct confstore_bytes *to, const char *text, size_t length,
+                                           size_t indentation);
+
+/* Writes a text as a key: a word, or in double quotes. */
+enum confstore_status confstore_write_key(struct confstore_bytes *to, const char *text, size_t length);
+
+/* Writes a line of a command: a word as the key, and a text as its value. */
+enum confstore_status confstore_write_pair(struct confstore_bytes *to, const char *key, const char *text,
+                                           size_t length);
+
+/* Makes the bytes the start of a command, `---` and a line feed; and writes its closing line. */
+enum confstore_status confstore_begin(struct confstore_bytes *command);
+enum confstore_status confstore_end(struct confstore_bytes *command);
+
+/* Reads back a scalar of the one style, perhaps with a line feed after it, and writes its text at the end of the
+ * bytes. What is there already stays. */
+enum confstore_status confstore_read_text(const char *written, size_t length, struct confstore_bytes *to);
+
+/* What an answer says. */
+enum confstore_said {
+    CONFSTORE_SAID_OK,      /* `ok`: the command was accepted; `count` is the number of accepted commands */
+    CONFSTORE_SAID_REFUSED, /* `refused`: nothing changed; `value` is the word, as NoConfig */
+    CONFSTORE_SAID_VALUE,   /* `value`: `value` is the tree, in the one style */
+    CONFSTORE_SAID_TEXT,    /* `text`: `value` is a scalar: read it by confstore_read_text */
+    CONFSTORE_SAID_NAMES    /* `names`: `value` is a list in the one style */
+};
+
+/* An answer. `value` points into the answer's own bytes, and is what follows its key: from the same line for a scalar
+ * or an empty collection, and otherwise whole lines. Of a refusal it is the word alone; else a line feed ends it. */
+struct confstore_answer {
+    enum confstore_said kind;
+    uint64_t count;
+    const char *value;
+    size_t length;
+};
+
+/* Reads an answer. Returns CONFSTORE_BAD_ANSWER for what is none. */
+enum confstore_status confstore_read_answer(const char *answer, size_t length, struct confstore_answer *said);
+
+#ifdef __cplusplus
+}
+#endif
+#endif

@@ -1,0 +1,259 @@
+"""What can go wrong, each as an exception of its own.
+
+Every exception of this package is a `ConfstoreError`. A `Refused` is the store's answer to one command: it changed
+nothing, and the store goes on. A `SessionEnded` says why a session is over: every command that was answered stands, and
+of those that weren't, each was performed or not.
+"""
+
+from __future__ import annotations
+
+import re
+from typing import Dict, Optional, Type
+
+__all__ = [
+    "AnswerCut", "BadAnswer", "BadCommand", "BadName", "BadPath", "Closed", "CommandLong", "ConfigLarge",
+    "ConfstoreError", "CountFull", "Damaged", "Device", "Disconnected", "Documents", "EmptyBatch", "InputFailed",
+    "JournalLong", "KeyNotText", "KeyTwice", "LargeInStyle", "Locked", "MissingFolder", "MissingProgram", "NoConfig",
+    "NoSuchCommand", "NoSuchPlace", "NotAStore", "NotATree", "NotIndex", "NotText", "NotUtf8", "OutOfMemory",
+    "OutputFailed", "RecordLong", "Refused", "SessionEnded", "SessionLong", "StoreFull", "Syntax", "TimedOut",
+    "TooDeep", "TooLong", "TooLongToSend", "Unsupported",
+]  # fmt: skip
+
+
+class ConfstoreError(Exception):
+    """Anything that this package raises of its own."""
+
+
+class Refused(ConfstoreError):
+    """A command was refused by this word. It changed nothing, and the store goes on."""
+
+    def __init__(self, word: str, about: str = "") -> None:
+        super().__init__(f"{word}: {about}" if about else word)
+        self.word = word
+
+
+class BadCommand(Refused):
+    """The command is none, or its value is nested too deep for one."""
+
+
+class BadName(Refused, ValueError):
+    """A name has 1 to 64 of `a` to `z`, `0` to `9`, `_` and `-`, and begins with a letter; this one doesn't."""
+
+
+class NoConfig(Refused, LookupError):
+    """No configuration has the name."""
+
+
+class BadPath(Refused, ValueError):
+    """The pointer is none of RFC 6901."""
+
+
+class NoSuchPlace(Refused, LookupError):
+    """Nothing is at the path."""
+
+
+class NotIndex(Refused, LookupError):
+    """A step into a list is no index."""
+
+
+class TooLong(Refused):
+    """The text of an import has more bytes than a configuration may have."""
+
+
+class NotUtf8(Refused):
+    """The bytes are not UTF-8."""
+
+
+class Syntax(Refused, ValueError):
+    """YAML 1.2.2, or the profile, does not allow the text of an import."""
+
+
+class Documents(Refused, ValueError):
+    """The text of an import has no document, or more than one."""
+
+
+class KeyNotText(Refused, ValueError):
+    """A key in the text of an import is a list or a mapping."""
+
+
+class KeyTwice(Refused, ValueError):
+    """A mapping in the text of an import has a key twice."""
+
+
+class TooDeep(Refused, ValueError):
+    """Collections would be nested deeper than a configuration may be."""
+
+
+class LargeInStyle(Refused):
+    """The configuration would have too many bytes in the one style."""
+
+
+class ConfigLarge(Refused):
+    """The configuration would have too many bytes in the one style."""
+
+
+class StoreFull(Refused):
+    """All configurations together would be too long for a base."""
+
+
+class JournalLong(Refused):
+    """`store.yaml` would be too long. A checkpoint helps."""
+
+
+class CountFull(Refused):
+    """As many commands were accepted as can be counted."""
+
+
+class EmptyBatch(Refused, ValueError):
+    """A batch has no edits."""
+
+
+class RecordLong(Refused):
+    """The record of a batch would be too long."""
+
+
+class NoSuchCommand(Refused, LookupError):
+    """The file has no state of this number: it is beyond the last command, or a checkpoint dropped it."""
+
+
+class SessionEnded(ConfstoreError):
+    """The session is over, or the run of the program that was to read. What was answered stands; `reopen` starts
+    another session.
+
+    `status` is the program's, or the negative number of the signal that ended it, or None where it isn't known.
+    """
+
+    def __init__(self, about: str, status: Optional[int] = None) -> None:
+        super().__init__(about)
+        self.status = status
+
+
+class Device(SessionEnded):
+    """A call of the system failed, as on a full device. The command in hand was performed or not."""
+
+
+class Locked(SessionEnded):
+    """Another run holds the folder."""
+
+
+class NotAStore(SessionEnded):
+    """`store.yaml` does not begin with a base. It is left as it was."""
+
+
+class Damaged(SessionEnded):
+    """A piece of `store.yaml` is no record. The file is left as it was."""
+
+
+class OutOfMemory(SessionEnded):
+    """The program's memory ran out. The command in hand changed nothing."""
+
+
+class CommandLong(SessionEnded):
+    """A command was longer than the program takes. Everything before it was performed."""
+
+
+class SessionLong(SessionEnded):
+    """The session was sent as many bytes as it takes, 1,073,741,824. Everything before was performed."""
+
+
+class InputFailed(SessionEnded):
+    """The program could not read its commands."""
+
+
+class OutputFailed(SessionEnded):
+    """The program could not write an answer."""
+
+
+class AnswerCut(SessionEnded):
+    """The session ended in the middle of an answer. The command was performed or not."""
+
+
+class BadAnswer(SessionEnded):
+    """What came is no answer of a session. The session was ended, since nothing else that it says can be trusted."""
+
+
+class Disconnected(SessionEnded):
+    """The server of the socket closed the connection."""
+
+
+class NotATree(ConfstoreError, TypeError):
+    """A tree is a str, a list of trees, or a dict of str to trees; this is none. Nothing was sent."""
+
+
+class NotText(ConfstoreError, ValueError):
+    """A str that no YAML can hold, since it has a lone surrogate. Nothing was sent."""
+
+
+class TooLongToSend(ConfstoreError, ValueError):
+    """The command would have more bytes than a session takes of one. Nothing was sent."""
+
+
+class TimedOut(ConfstoreError, TimeoutError):
+    """No answer came within the time that was given. `sent` says whether the command may be performed, now or later."""
+
+    def __init__(self, about: str, sent: bool = True) -> None:
+        super().__init__(about)
+        self.sent = sent
+
+
+class MissingProgram(ConfstoreError, FileNotFoundError):
+    """There is no program `confstore` where it was looked for, or it can't be run."""
+
+
+class MissingFolder(ConfstoreError, FileNotFoundError):
+    """There is no folder of this name."""
+
+
+class Closed(ConfstoreError):
+    """The store was closed before, or it was opened by another process than this one."""
+
+
+class Unsupported(ConfstoreError):
+    """The program lacks a word or a command that this call needs."""
+
+
+REFUSALS: Dict[str, Type[Refused]] = {
+    kind.__name__: kind
+    for kind in (
+        BadCommand, BadName, NoConfig, BadPath, NoSuchPlace, NotIndex, TooLong, NotUtf8, Syntax, Documents, KeyNotText,
+        KeyTwice, TooDeep, LargeInStyle, ConfigLarge, StoreFull, JournalLong, CountFull, EmptyBatch, RecordLong,
+        NoSuchCommand,
+    )
+}  # fmt: skip
+
+ENDS: Dict[str, Type[SessionEnded]] = {
+    "Device": Device,
+    "Locked": Locked,
+    "NotAStore": NotAStore,
+    "Damaged": Damaged,
+    "OutOfMemory": OutOfMemory,
+    "TooLong": CommandLong,
+    "SessionLong": SessionLong,
+    "Input": InputFailed,
+    "Output": OutputFailed,
+}
+
+
+def refusal(word: str, about: str = "") -> Refused:
+    """The exception of a refusal's word."""
+    return REFUSALS.get(word, Refused)(word, about)
+
+
+def end_of(status: Optional[int], errors: bytes, cut: bool) -> SessionEnded:
+    """Why a program is over: by its status, by what it wrote to standard error, and by whether an answer was cut."""
+    name = ""
+    for line in errors.decode("utf-8", "replace").splitlines():
+        if line.startswith("confstore: "):
+            name = line[len("confstore: ") :]
+    kind = ENDS.get(re.split(r"\W", name, maxsplit=1)[0])
+    if kind is not None:
+        return kind(name, status)
+    if status is not None and status < 0:
+        how = f"the session was ended by signal {-status}"
+    elif status:
+        how = f"the session ended with status {status}" + (f": {name}" if name else "")
+    else:
+        how = "the session ended"
+    if cut:
+        return AnswerCut(f"{how}, in the middle of an answer", status)
+    return SessionEnded(how, status)

@@ -1,0 +1,195 @@
+"""Trees, and their texts in the one style of docs/STYLE.md.
+
+A tree is a str, a list of trees, or a dict of str to trees. What a session is sent and what it answers is in this
+style, so a text of it is exactly as long as the store counts it.
+"""
+
+from __future__ import annotations
+
+import re
+from typing import Any, Dict, List, Optional, Union
+
+import yaml
+
+from .faults import BadAnswer, NotATree, NotText, TooDeep
+
+Tree = Union[str, List["Tree"], Dict[str, "Tree"]]
+
+# How deep a tree is looked at. A store keeps less; what is deeper may be endless.
+DEEPEST = 200
+
+# How long a plain word may be, and how long a key may be as written to stand before its `:` on one line.
+LONGEST_WORD = 128
+LONGEST_KEY = 1_000
+
+_WORD = re.compile(rf"[A-Za-z][A-Za-z0-9_\-./]{{0,{LONGEST_WORD - 1}}}")
+_NO_WORDS = frozenset("null true false yes no on off y n".split())
+
+# What has to be spelled in double quotes: all that is not shown, and the two signs that are spelled there.
+_SHOWN = "\x20-\x7e\xa0-\u2027\u202a-\ud7ff\ue000-\ufefe\uff00-\ufffd\U00010000-\U0010ffff"
+_SPELLED = re.compile(rf'[^{_SHOWN}]|["\\]')
+_LINES = re.compile(rf"[{_SHOWN}\n]*")
+_ESCAPES = {
+    "\0": "\\0", "\a": "\\a", "\b": "\\b", "\t": "\\t", "\n": "\\n", "\v": "\\v", "\f": "\\f", "\r": "\\r",
+    "\x1b": "\\e", '"': '\\"', "\\": "\\\\",
+}  # fmt: skip
+
+_LOADER: Any = getattr(yaml, "CBaseLoader", yaml.BaseLoader)
+
+
+def _escape(found: re.Match[str]) -> str:
+    character = found.group()
+    if character in _ESCAPES:
+        return _ESCAPES[character]
+    code = ord(character)
+    return f"\\x{code:02X}" if code < 0x100 else f"\\u{code:04X}"
+
+
+def _check_text(text: str) -> None:
+    try:
+        text.encode()
+    except UnicodeEncodeError as error:
+        raise NotText(f"character {error.start} is a lone surrogate, which no YAML can hold") from None
+
+
+def _word_or_quoted(text: str) -> str:
+    if _WORD.fullmatch(text) and text.lower() not in _NO_WORDS:
+        return text
+    return f'"{_SPELLED.sub(_escape, text)}"'
+
+
+def scalar(text: str, indentation: int = 2) -> str:
+    """A text as a value in the one style: a word, lines after a header, or in double quotes. Lines are indented by so
+    many spaces, and no line feed is at the end unless the value's lines end in one.
+
+    Raises `NotText` for a lone surrogate.
+    """
+    _check_text(text)
+    if "\n" not in text or text[0] in " \n" or not _LINES.fullmatch(text):
+        return _word_or_quoted(text)
+    body = text.rstrip("\n")
+    ends = len(text) - len(body)
+    header = "|-" if ends == 0 else "|" if ends == 1 else "|+"
+    margin = " " * indentation
+    lines = [margin + line if line else "" for line in body.split("\n")]
+    return "\n".join([header, *lines, *[""] * max(ends - 1, 0)])
+
+
+def _is_leaf(tree: Tree) -> bool:
+    return isinstance(tree, str) or not tree
+
+
+def _leaf(tree: Tree, indentation: int) -> str:
+    if isinstance(tree, str):
+        return scalar(tree, indentation)
+    return "[]" if isinstance(tree, list) else "{}"
+
+
+def _check(tree: object, depth: int) -> None:
+    if depth > DEEPEST:
+        raise TooDeep("TooDeep", f"nested more than {DEEPEST} deep")
+    if not isinstance(tree, (str, list, dict)):
+        raise NotATree(f"a tree is a str, a list or a dict, not {type(tree).__name__}")
+
+
+def _lines(tree: Tree, indentation: int, depth: int) -> List[str]:
+    """The lines of a collection that is not empty, the first one without its indentation."""
+    lines: List[str] = []
+    margin = " " * indentation
+    if isinstance(tree, list):
+        for item in tree:
+            _check(item, depth)
+            if _is_leaf(item):
+                lines.append(f"{margin}- {_leaf(item, indentation + 2)}")
+            else:
+                lines.append(f"{margin}- " + "\n".join(_lines(item, indentation + 2, depth + 1)))
+    elif isinstance(tree, dict):
+        for key, value in tree.items():
+            if not isinstance(key, str):
+                raise NotATree(f"a key is a str, not {type(key).__name__}")
+            _check(value, depth)
+            _check_text(key)
+            written = _word_or_quoted(key)
+            start = f"{margin}{written}:" if len(written) <= LONGEST_KEY else f"{margin}? {written}\n{margin}:"
+            if _is_leaf(value):
+                lines.append(f"{start} {_leaf(value, indentation + 2)}")
+            else:
+                inner = _lines(value, indentation + 2, depth + 1)
+                lines.append(f"{start}\n{margin}  " + "\n".join(inner))
+    lines[0] = lines[0][indentation:]
+    return lines
+
+
+def to_text(tree: Tree) -> str:
+    """The text of a tree in the one style, byte by byte what `confstore format` prints for it.
+
+    Raises `NotATree` for what is no str, list or dict (a number has to be written as a str), `NotText` for a lone
+    surrogate, and `TooDeep` for a tree more than 200 deep, as one that contains itself.
+    """
+    _check(tree, 0)
+    if _is_leaf(tree):
+        return _leaf(tree, 2) + "\n"
+    return "\n".join(_lines(tree, 0, 1)) + "\n"
+
+
+class _Builder:
+    """Makes the trees of a stream of events. It keeps its own stack, so no depth of a text can end the process."""
+
+    def __init__(self) -> None:
+        self.trees: List[Tree] = []
+        self._open: List[Union[List[Tree], Dict[str, Tree]]] = []
+        self._keys: List[Optional[str]] = []  # of each open mapping, the key whose value comes next
+
+    def take(self, event: yaml.Event) -> None:
+        if isinstance(event, yaml.ScalarEvent):
+            _check_plain(event)
+            self._put(event.value)
+        elif isinstance(event, (yaml.SequenceStartEvent, yaml.MappingStartEvent)):
+            _check_plain(event)
+            if len(self._open) >= DEEPEST:
+                raise BadAnswer(f"collections are nested more than {DEEPEST} deep")
+            tree: Union[List[Tree], Dict[str, Tree]] = [] if isinstance(event, yaml.SequenceStartEvent) else {}
+            self._put(tree)
+            self._open.append(tree)
+            self._keys.append(None)
+        elif isinstance(event, (yaml.SequenceEndEvent, yaml.MappingEndEvent)):
+            self._open.pop()
+            self._keys.pop()
+        elif isinstance(event, yaml.AliasEvent):
+            raise BadAnswer("an alias is no tree")
+
+    def _put(self, tree: Tree) -> None:
+        if not self._open:
+            self.trees.append(tree)
+            return
+        around, key = self._open[-1], self._keys[-1]
+        if isinstance(around, list):
+            around.append(tree)
+        elif key is not None:
+            around[key] = tree
+            self._keys[-1] = None
+        elif isinstance(tree, str) and tree not in around:
+            self._keys[-1] = tree
+        else:
+            raise BadAnswer("a key is no text, or is there twice")
+
+
+def _check_plain(event: yaml.Event) -> None:
+    if event.anchor is not None or event.tag is not None:
+        raise BadAnswer("an anchor or a tag is part of no tree")
+
+
+def trees_of(text: Union[str, bytes]) -> List[Tree]:
+    """The trees of a stream of documents in the one style. Raises `BadAnswer`, or what PyYAML raises, for others."""
+    builder = _Builder()
+    for event in yaml.parse(text, Loader=_LOADER):
+        builder.take(event)
+    return builder.trees
+
+
+def from_text(text: Union[str, bytes]) -> Tree:
+    """The tree of a text in the one style. Texts of other styles are read by a store, with `import_text`."""
+    trees = trees_of(text)
+    if len(trees) != 1:
+        raise BadAnswer("the text has no document, or more than one")
+    return trees[0]

@@ -1,0 +1,52 @@
+"""What the tests share: folders of their own, and programs that answer wrongly."""
+
+import os
+import stat
+import sys
+import tempfile
+import unittest
+
+from confstore import Store, Unsupported
+
+
+class StoreTest(unittest.TestCase):
+    """A test with a folder of its own, which is removed after it."""
+
+    def setUp(self):
+        holder = tempfile.TemporaryDirectory()
+        self.addCleanup(holder.cleanup)
+        self.top = holder.name
+        self.folder = os.path.join(self.top, "store")
+        os.mkdir(self.folder)
+
+    def store(self, **more):
+        """A store in the folder, closed after the test."""
+        store = Store(self.folder, **more)
+        self.addCleanup(store.close)
+        return store
+
+    def supported(self, call):
+        """What a call returns; the test is skipped if the program lacks what it needs."""
+        try:
+            return call()
+        except Unsupported as lack:
+            self.skipTest(str(lack))
+
+    def program(self, body):
+        """A program in Python, which has read the first command, `names`, and answered it."""
+        path = os.path.join(self.top, "program")
+        with open(path, "w", encoding="utf-8") as target:
+            target.write(f"#!{sys.executable}\nimport os, signal, sys, time\n")
+            target.write("def heard():\n    while sys.stdin.buffer.readline() not in (b'...\\n', b''): pass\n")
+            target.write("def say(text):\n    os.write(1, text)\n")
+            target.write("heard()\nsay(b'---\\nnames: []\\n...\\n')\n" + body)
+        os.chmod(path, stat.S_IRWXU)
+        return path
+
+    def set_fault(self, kind, body, timeout=60):
+        """The fault of a `set` through a program with this body, which has to be of a kind and come in time."""
+        store = self.store(program=self.program(body))
+        store._timeout = timeout
+        with self.assertRaises(kind) as caught:
+            store.set("a", "", "x")
+        return caught.exception

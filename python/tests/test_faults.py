@@ -1,0 +1,327 @@
+"""Sessions that end, programs that answer wrongly, and folders that can't be used. Nothing here may hang."""
+
+import gc
+import os
+import random
+import re
+import signal
+import threading
+import time
+import unittest
+
+import confstore
+from confstore import Reader, SessionEnded, Store
+from confstore.session import LONGEST_COMMAND, Session, _Cutter
+
+from . import TOP
+from .places import StoreTest
+
+
+def write(path, content):
+    with open(path, "wb") as target:
+        target.write(content)
+
+
+class Opening(StoreTest):
+    def test_folders(self):
+        write(os.path.join(self.top, "file"), b"")
+        for name in ("none", "file"):
+            with self.assertRaises(confstore.MissingFolder):
+                Store(os.path.join(self.top, name))
+        with self.assertRaises(confstore.MissingFolder):
+            Reader(os.path.join(self.top, "none")).names()
+
+    def test_programs(self):
+        write(os.path.join(self.top, "plain"), b"not a program")
+        for program in ("none", "plain"):
+            with self.assertRaises(confstore.MissingProgram):
+                Store(self.folder, program=os.path.join(self.top, program))
+        os.chmod(os.path.join(self.top, "plain"), 0o700)
+        with self.assertRaises(confstore.MissingProgram):
+            Store(self.folder, program=os.path.join(self.top, "plain"))
+
+    def test_locked(self):
+        self.store()["a"] = "x"
+        with self.assertRaises(confstore.Locked) as caught:
+            Store(self.folder)
+        self.assertEqual(caught.exception.status, 3)
+
+    def test_damaged(self):
+        base = b'---\nstore: confstore-1\nat: "0"\nconfigs: {}\n...\n'
+        for kind, content in (
+            (confstore.NotAStore, b"x\n...\n"),
+            (confstore.Damaged, base + b'---\nat: "2"\nset: a\npath: ""\nvalue: x\n...\n'),
+        ):
+            write(os.path.join(self.folder, "store.yaml"), content)
+            with self.assertRaises(kind) as caught:
+                Store(self.folder)
+            self.assertEqual(caught.exception.status, 1)
+
+    def test_device(self):
+        os.mkdir(os.path.join(self.folder, "store.yaml"))
+        with self.assertRaises(confstore.Device):
+            Store(self.folder)
+
+    def test_a_program_that_says_nothing(self):
+        program = self.program("")
+        write(program, b"#!/bin/sh\nexec sleep 100\n")
+        start = time.monotonic()
+        with self.assertRaises(confstore.TimedOut):
+            Store(self.folder, program=program, timeout=0.3)
+        self.assertLess(time.monotonic() - start, 10)
+
+
+class Ending(StoreTest):
+    def test_killed(self):
+        store = self.store()
+        store["a"] = "x"
+        os.kill(store._session._other.process.pid, signal.SIGKILL)
+        for _ in range(2):
+            with self.assertRaises(SessionEnded) as caught:
+                store.set("a", "", "y")
+            self.assertEqual(caught.exception.status, -signal.SIGKILL)
+        store.reopen()
+        self.assertEqual((store["a"], store.checkpoint()), ("x", 1))
+
+    def test_killed_among_threads(self):
+        store, answered, ends = self.store(), {}, []
+
+        def append(number):
+            try:
+                for turn in range(10**6):
+                    store.set(f"list{number}", "/-", f"n{turn}")
+                    answered[number] = turn
+            except SessionEnded as end:
+                ends.append(end.status)
+
+        for number in range(8):
+            store[f"list{number}"] = []
+        threads = [threading.Thread(target=append, args=(number,)) for number in range(8)]
+        for thread in threads:
+            thread.start()
+        time.sleep(0.5)
+        os.kill(store._session._other.process.pid, signal.SIGKILL)
+        for thread in threads:
+            thread.join(60)
+        self.assertEqual(ends, [-signal.SIGKILL] * 8)
+        store.reopen()
+        for number, last in answered.items():
+            numbers = store[f"list{number}"]
+            self.assertEqual(numbers, [f"n{turn}" for turn in range(len(numbers))])
+            self.assertIn(len(numbers), (last + 1, last + 2))
+
+    def test_the_disk_is_full(self):
+        """A limit of file sizes stands for a full device."""
+        script = self.program("")
+        write(script, f'#!/bin/sh\nulimit -f 1; exec "{os.environ["CONFSTORE"]}" "$@"\n'.encode())
+        store = self.store(program=script)
+        store["a"] = "x"
+        with self.assertRaises(confstore.Device) as caught:
+            store.set("a", "", "x" * 3_000)
+        self.assertEqual(caught.exception.status, 3)
+        store.close()
+        with self.store() as store:
+            self.assertEqual(store["a"], "x")
+
+    def test_opened_again_by_many_threads(self):
+        store = self.store()
+        store["a"] = {"n": []}
+        os.kill(store._session._other.process.pid, signal.SIGKILL)
+
+        def append(number):
+            while True:
+                try:
+                    return store.set("a", "/n/-", str(number))
+                except SessionEnded:
+                    store.reopen()
+
+        threads = [threading.Thread(target=append, args=(number,)) for number in range(8)]
+        for thread in threads:
+            thread.start()
+        for thread in threads:
+            thread.join(60)
+        self.assertEqual(sorted(store["a"]["n"]), [str(number) for number in range(8)])
+
+    def test_closed(self):
+        store = self.store()
+        store.close()
+        store.close()
+        with self.assertRaises(confstore.Closed):
+            store.names()
+
+    def test_dropped(self):
+        store = Store(self.folder)
+        process = store._session._other.process
+        del store
+        gc.collect()
+        self.assertEqual(process.wait(10), 0)
+
+    def test_forked(self):
+        store = self.store()
+        child = os.fork()
+        if child == 0:
+            try:
+                store.names()
+            except confstore.Closed:
+                store.close()
+                os._exit(7)
+            os._exit(8)
+        self.assertEqual(os.waitstatus_to_exitcode(os.waitpid(child, 0)[1]), 7)
+        self.assertEqual(store.names(), [])
+
+    def test_the_length_that_a_session_takes(self):
+        """The limit that is looked at here is the program's: one byte more ends a session."""
+        session = self.store()._session
+        fitting = b"#" * (LONGEST_COMMAND - 5) + b"\n...\n"
+        self.assertEqual(session.ask(fitting, 60), b"---\nrefused: BadCommand\n...\n")
+        self.addCleanup(setattr, confstore.session, "LONGEST_COMMAND", LONGEST_COMMAND)
+        confstore.session.LONGEST_COMMAND = LONGEST_COMMAND + 1
+        with self.assertRaises(confstore.CommandLong):
+            session.ask(b"#" + fitting, 60)
+
+
+class Limits(unittest.TestCase):
+    def test_one_length_of_a_command(self):
+        """The clients, the server and docs/SESSION.md say the same."""
+        rows = (
+            ("docs/SESSION.md", r"(?m)^\| a piece, with its closing line; .* \| ([0-9,]+) bytes \|$"),
+            ("clients/serve.py", r"(?m)^LONGEST = ([0-9_]+) "),
+            ("clients/c/confstore.h", r"CONFSTORE_LONGEST_COMMAND \(\(size_t\)([0-9]+)\)"),
+        )
+        for file, pattern in rows:
+            with open(os.path.join(TOP, file), encoding="utf-8") as source:
+                found = re.search(pattern, source.read())[1]
+            self.assertEqual(int(found.replace(",", "")), LONGEST_COMMAND, file)
+
+
+class WrongAnswers(StoreTest):
+    def test_a_cut_answer(self):
+        self.set_fault(confstore.AnswerCut, "heard()\nsay(b'---\\nok: ')\n")
+        self.set_fault(confstore.AnswerCut, "heard()\nsay(b'---\\nok: ')\nos.kill(os.getpid(), signal.SIGKILL)\n")
+
+    def test_no_yaml(self):
+        for answer in (b"---\n[\n...\n", b"\xff\n...\n", b"...\n", b"---\na\n---\nb\n...\n", b"---\nvalue: x\n...\n",
+                       b"---\nok: x\n...\n", b"---\n- ok\n...\n"):  # fmt: skip
+            body = f"heard()\nsay({answer!r})\nheard()\ntime.sleep(100)\n"
+            self.assertIn("answer", str(self.set_fault(confstore.BadAnswer, body, timeout=20)))
+
+    def test_the_session_is_over_after_a_wrong_answer(self):
+        store = self.store(program=self.program("heard()\nsay(b'---\\n[\\n...\\n')\ntime.sleep(100)\n"))
+        with self.assertRaises(confstore.BadAnswer):
+            store.set("a", "", "x")
+        with self.assertRaises(confstore.BadAnswer):
+            store.names()
+
+    def test_an_unknown_refusal(self):
+        fault = self.set_fault(confstore.Refused, "heard()\nsay(b'---\\nrefused: Moonlight\\n...\\n')\nheard()\n")
+        self.assertEqual(fault.word, "Moonlight")
+
+    def test_no_answer(self):
+        fault = self.set_fault(confstore.TimedOut, "heard()\ntime.sleep(100)\n", timeout=0.5)
+        self.assertTrue(fault.sent)
+
+    def test_a_program_that_does_not_read(self):
+        """A pipe that is full: every call ends in its time, and so does closing."""
+        store = self.store(program=self.program("time.sleep(100)\n"))
+        store._timeout = 0.3
+        start, sent = time.monotonic(), set()
+        for _ in range(5):
+            with self.assertRaises(confstore.TimedOut) as caught:
+                store.import_text("a", "#" * 4_000_000)
+            sent.add(caught.exception.sent)
+        self.assertEqual(sent, {True, False})
+        store.close()
+        self.assertLess(time.monotonic() - start, 30)
+
+    def test_a_program_that_stays(self):
+        """It closes its output, and does not go: it is killed."""
+        program = self.program("os.close(1)\ntime.sleep(100)\n")
+        with self.assertRaises(SessionEnded):
+            self.store(program=program).names()
+
+    def test_much_on_standard_error(self):
+        body = "heard()\nfor _ in range(1000): os.write(2, b'x' * 1000 + b'\\n')\n"
+        body += "os.write(2, b'confstore: Device\\n')\nsys.exit(3)\n"
+        self.set_fault(confstore.Device, body)
+
+    def test_old_programs(self):
+        body = "".join("heard()\nsay(b'---\\nrefused: BadCommand\\n...\\n')\n" for _ in range(2)) + "heard()\n"
+        store = self.store(program=self.program(body))
+        with self.assertRaises(confstore.Unsupported), store.batch() as batch:
+            batch.put("a", "x")
+        script = self.program("")
+        write(script, b"#!/bin/sh\necho \"error: unrecognized subcommand 'log'\" >&2; exit 2\n")
+        with self.assertRaises(confstore.Unsupported):
+            Reader(self.folder, program=script).log()
+
+
+class ChangedAnswers(unittest.TestCase):
+    """Bytes that are nearly answers: each is read as one, or is a fault of this package."""
+
+    ANSWERS = (
+        b'---\nok: "7"\n...\n',
+        b"---\nrefused: NoConfig\n...\n",
+        b'---\nvalue:\n  a: "1"\n  ? "k"\n  : |\n    x\n\n    y\n  l:\n    - []\n    - "\\u2028"\n...\n',
+        b"---\nnames:\n  - a\n  - b\n...\n",
+    )
+    TOKENS = (
+        b"!!int", b"!!binary", b"&a", b"*a", b"<<", b"? ", b"- ", b": ", b"{", b"}", b"[", b"]", b"|", b">", b"'", b'"',
+        b"\t", b"\n", b"%YAML 1.1\n", b"---\n", b"#", b"\0", b"\xff", b"\xc2\x85", b"\xef\xbb\xbf", b"=", b"~",
+    )  # fmt: skip
+
+    def changed(self, chance):
+        answer = bytearray(chance.choice(self.ANSWERS))
+        for _ in range(chance.randrange(1, 5)):
+            place = chance.randrange(len(answer) + 1)
+            if chance.randrange(3):
+                answer[place : place + chance.randrange(3)] = chance.choice(self.TOKENS)
+            else:
+                answer[place : place + 1] = bytes([chance.randrange(256)])
+        return bytes(answer)
+
+    def test_each_is_read_or_told(self):
+        class Silent:
+            def ask(self, document, timeout):
+                return answer
+
+            def distrust(self, fault):
+                faults.append(fault)
+
+        store, chance, faults, read = Store.__new__(Store), random.Random(3), [], 0
+        store._session, store._timeout = Silent(), 1
+        for _ in range(3_000):
+            answer = self.changed(chance)
+            for call in (store.names, store.checkpoint, lambda: store.get("a")):
+                try:
+                    call()
+                    read += 1
+                except confstore.ConfstoreError:
+                    pass
+        self.assertGreater(read, 30)
+        self.assertGreater(len(faults), 100)
+        for way in (b"[", b"{a: ", b"- ", b"? "):
+            answer = b"---\nvalue:\n  " + way * 100_000 + b"\n...\n"
+            with self.assertRaises(confstore.BadAnswer):
+                store.get("a")
+
+
+class Cutting(unittest.TestCase):
+    def test_pieces(self):
+        stream = b"...\na\n...\n....\n ...\n...\n\n...\nb...\nrest"
+        pieces = [b"...\n", b"a\n...\n", b"....\n ...\n...\n", b"\n...\n"]
+        for step in (1, 2, 3, 5, 100):
+            cutter, found = _Cutter(), []
+            for place in range(0, len(stream), step):
+                found += cutter.cut(stream[place : place + step])
+            self.assertEqual((found, bytes(cutter.rest)), (pieces, b"b...\nrest"))
+
+
+class Sockets(StoreTest):
+    def test_no_server(self):
+        for path in (os.path.join(self.top, "none"), self.folder, "x" * 200):
+            with self.assertRaises(confstore.Disconnected):
+                Session.connect(path, 1)
+
+
+if __name__ == "__main__":
+    unittest.main()

@@ -1,0 +1,55 @@
+"""The examples of the pages do what they say."""
+
+import os
+import re
+import subprocess
+import sys
+import textwrap
+import unittest
+
+from confstore import Store
+
+from . import TOP
+from .places import StoreTest
+
+
+class Pages(StoreTest):
+    def run_example(self, code):
+        """What an example prints, over a store of its own in place of the one in /var/lib/app."""
+        with open(os.path.join(self.top, "dns.yaml"), "w", encoding="utf-8") as target:
+            target.write("server: a\n")
+        code = code.replace("/var/lib/app", os.path.join(self.top, "app"))
+        environment = {**os.environ, "PYTHONPATH": os.path.join(TOP, "python")}
+        done = subprocess.run(
+            [sys.executable, "-c", code], cwd=self.top, env=environment, capture_output=True, check=False, timeout=60
+        )
+        errors = done.stderr.decode()
+        if "confstore.faults.Unsupported" in errors:
+            self.skipTest(errors.splitlines()[-1])
+        self.assertEqual((done.returncode, errors), (0, ""))
+        return done.stdout.decode()
+
+    def page(self, *names):
+        with open(os.path.join(TOP, *names), encoding="utf-8") as source:
+            return source.read()
+
+    def test_readme(self):
+        code = re.search(r"(?m)^    from confstore import Store\n(?:    .*\n|\n)*", self.page("README.md"))[0]
+        self.run_example(textwrap.dedent(code))
+        with Store(os.path.join(self.top, "app")) as store:
+            self.assertEqual(store["web"], {"port": "81"})
+
+    def test_readme_of_the_package(self):
+        code = re.search(r"```python\n(.*?)```", self.page("python", "README.md"), re.DOTALL)[1]
+        self.assertEqual(self.run_example(code), "a ['web', 'dns']\n")
+        with Store(os.path.join(self.top, "app")) as store:
+            self.assertEqual(store["web"], {"port": "81", "hosts": ["a", "b", "c"]})
+
+    def test_docstring(self):
+        page = self.page("python", "confstore", "__init__.py")
+        code = re.search(r"(?m)^    from confstore import Store\n(?:    .*\n|\n)*", page)[0]
+        self.assertEqual(self.run_example(textwrap.dedent(code)), "81\n")
+
+
+if __name__ == "__main__":
+    unittest.main()

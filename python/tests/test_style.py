@@ -1,0 +1,112 @@
+"""Texts in the one style: the rows of docs/STYLE.md, and the program's own as the measure of random trees."""
+
+import os
+import random
+import subprocess
+import unittest
+
+from confstore import NotATree, NotText, TooDeep, from_text, to_text
+from confstore.style import scalar
+
+# Texts with what they are as values, indented by two, worked out by hand from docs/STYLE.md.
+SCALARS = [
+    ("", '""'),
+    ("example", "example"),
+    ("a-b_c/d.e", "a-b_c/d.e"),
+    ("80", '"80"'),
+    ("a b", '"a b"'),
+    ("True", '"True"'),
+    ("n", '"n"'),
+    ("nn", "nn"),
+    ("x" * 128, "x" * 128),
+    ("x" * 129, '"' + "x" * 129 + '"'),
+    ('"\\', '"\\"\\\\"'),
+    ("\0\a\b\t\v\f\r\x1b\x01\x7f\x85", '"\\0\\a\\b\\t\\v\\f\\r\\e\\x01\\x7F\\x85"'),
+    ("\u2028\ufeff\ufffe", '"\\u2028\\uFEFF\\uFFFE"'),
+    ("\u00e4\U0001d11e", '"\u00e4\U0001d11e"'),
+    ("a\nb", "|-\n  a\n  b"),
+    ("a\n", "|\n  a"),
+    ("a\n\n", "|+\n  a\n"),
+    ("a\n\nb\n", "|\n  a\n\n  b"),
+    ("\na", '"\\na"'),
+    (" a\n", '" a\\n"'),
+    ("a\tb\n", '"a\\tb\\n"'),
+    ("...\n", "|\n  ..."),
+]
+
+PAGE = """host: example
+port: "8080"
+motd: |
+  Welcome.
+  Be kind.
+ports:
+  - "80"
+  - name: tls
+    number: "443"
+empty: {}
+"""
+PAGE_TREE = {
+    "host": "example",
+    "port": "8080",
+    "motd": "Welcome.\nBe kind.\n",
+    "ports": ["80", {"name": "tls", "number": "443"}],
+    "empty": {},
+}
+
+CHARACTERS = "ab \n\t\"'\\:#-?[]{},&*!|>%@`~\0\x1f\x7f\x85\xa0\u00e4\u2028\u2029\ufeff\ufffd\ufffe\U0001f600."
+
+
+def random_text(chance):
+    return "".join(chance.choice(CHARACTERS) for _ in range(chance.choice((0, 1, 3, 9))))
+
+
+def random_tree(chance, depth):
+    kind = chance.randrange(4) if depth else 0
+    if kind < 2:
+        return random_text(chance)
+    if kind == 2:
+        return [random_tree(chance, depth - 1) for _ in range(chance.randrange(4))]
+    return {random_text(chance): random_tree(chance, depth - 1) for _ in range(chance.randrange(4))}
+
+
+class Style(unittest.TestCase):
+    def test_scalars(self):
+        for text, written in SCALARS:
+            self.assertEqual(scalar(text), written, repr(text))
+
+    def test_page(self):
+        self.assertEqual(to_text(PAGE_TREE), PAGE)
+        self.assertEqual(from_text(PAGE), PAGE_TREE)
+
+    def test_long_key(self):
+        for length, written in ((998, f'"{"x" * 998}": ""\n'), (999, f'? "{"x" * 999}"\n: ""\n')):
+            self.assertEqual(to_text({"x" * length: ""}), written)
+
+    def test_as_the_program(self):
+        chance = random.Random(5)
+        trees = [random_tree(chance, 4) for _ in range(60)]
+        for tree in trees:
+            text = to_text(tree)
+            done = subprocess.run(
+                [os.environ["CONFSTORE"], "format"], input=text.encode(), capture_output=True, check=False
+            )
+            self.assertEqual((done.stdout.decode(), done.stderr), (text, b""), repr(tree))
+            self.assertEqual(from_text(text), tree)
+
+    def test_refused(self):
+        endless = []
+        endless.append(endless)
+        deep = "x"
+        for _ in range(201):
+            deep = [deep]
+        for tree, kind in (
+            (80, NotATree), (None, NotATree), ({1: "a"}, NotATree), ([True], NotATree), (("a",), NotATree),
+            ("\ud800", NotText), (["a\udfffb"], NotText), ({"\ud800": ""}, NotText), (endless, TooDeep),
+            (deep, TooDeep),
+        ):  # fmt: skip
+            with self.assertRaises(kind):
+                to_text(tree)
+
+
+if __name__ == "__main__":
+    unittest.main()
