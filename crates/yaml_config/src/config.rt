@@ -1,9 +1,9 @@
 // A tree that is good to keep.
-ghost use Rattle.std.specs.Prelude.{◌≡◌, ◌+◌, ◌*◌, ◌^◌, ◌<◌, ◌≤◌, [], IfOk, OnOk, IfErr};
+ghost use Rattle.std.specs.Prelude.{◌≡◌, ◌+◌, ◌*◌, ◌^◌, ◌<◌, ◌≤◌, true, [], IfOk, IfErr};
 ghost use Rattle.yaml_grammar.specs.Reads.{Good};
 ghost use Rattle.yaml_grammar.specs.Style.{lines_after_dash, style_text};
 ghost use Rattle.yaml_grammar.specs.Texts.{byte_len};
-ghost use Rattle.yaml_grammar.specs.Trees.{depth, text};
+ghost use Rattle.yaml_grammar.specs.Trees.{depth, distinct, text};
 ghost use Rattle.yaml_config.specs.Changes.{child_size};
 ghost use Rattle.yaml_config.specs.Kept.{IsKept, IsFirstFault, own_limits, limits_of};
 ghost use Rattle.yaml_data.specs.Seen.{tree_of};
@@ -96,9 +96,32 @@ impl Config {
         ensures refused { IfErr result (λ refused. (refused.0 ≡ tree)
             × IsFirstFault (limits_of limits.now) (tree_of tree) refused.1) }
     {
-        match checked_length(alloc, &tree, limits) {
-            Ok(length) => Ok(Config::from_parts(tree, length)),
-            Err(fault) => Err((tree, fault)),
+        match has_distinct_keys(alloc, &tree) {
+            Ok(true) => Config::with_distinct_keys(tree, limits),
+            Ok(false) => Err((tree, ReadFault::KeyTwice)),
+            Err(_) => Err((tree, ReadFault::OutOfMemory)),
+        }
+    }
+
+    /// The configuration of a tree that keeps the limit of depth, and in each of whose mappings the keys differ. The
+    /// limits are at most those that every configuration keeps ([`Limits::KEPT`]). It takes no memory.
+    ///
+    /// # Errors
+    ///
+    /// The tree is returned with [`ReadFault::LargeInStyle`] if it has more than `limits.style` bytes in the one style.
+    pub fn with_distinct_keys(tree: Tree, limits: &Limits) -> Result<Config, (Tree, ReadFault)>
+        requires keys { distinct (tree_of tree) ≡ true }
+        requires shallow { depth (tree_of tree) ≤ limits.now.depth }
+        requires depth { limits.now.depth ≤ own_limits.depth }
+        requires style { limits.now.style ≤ own_limits.style }
+        ensures ok { IfOk result (λ config. (config ≡ tree)
+            × Good (tree_of tree) (limits_of limits.now)) }
+        ensures refused { IfErr result (λ refused. (refused ≡ (tree, ReadFault.LargeInStyle))
+            × (limits.now.style < byte_len (style_text (tree_of tree)))) }
+    {
+        match style_len(&tree, limits.style) {
+            None => Err((tree, ReadFault::LargeInStyle)),
+            Some(length) => Ok(Config::from_parts(tree, length)),
         }
     }
 
@@ -244,23 +267,5 @@ fn deep_fault(alloc: Global, tree: &Tree) -> ReadFault
         Ok(true) => ReadFault::TooDeep,
         Ok(false) => ReadFault::KeyTwice,
         Err(_) => ReadFault::OutOfMemory,
-    }
-}
-
-/// The length in the one style of a tree that is known to keep the limit of depth, if it keeps the other limits too;
-/// else the first fault that holds.
-fn checked_length(alloc: Global, tree: &Tree, limits: &Limits) -> Result<u64, ReadFault>
-    requires shallow { depth (tree_of tree.now) ≤ limits.now.depth }
-    requires depth { limits.now.depth ≤ own_limits.depth }
-    ensures good { OnOk result (Good (tree_of tree.now) (limits_of limits.now)) }
-    ensures length { IfOk result (λ length. length ≡ byte_len (style_text (tree_of tree.now))) }
-    ensures refused { IfErr result (IsFirstFault (limits_of limits.now) (tree_of tree.now)) }
-{
-    if !has_distinct_keys(alloc, tree)? {
-        return Err(ReadFault::KeyTwice);
-    }
-    match style_len(tree, limits.style) {
-        None => Err(ReadFault::LargeInStyle),
-        Some(length) => Ok(length),
     }
 }

@@ -11,5 +11,5 @@ pub mod FrameLemmas
 pub mod PartLemmas
 pub mod InnermostLemmas
 pub mod EventLemmas
-pub mod EmptiedLemmas
+pub mod KeptLemmas
 pub mod CheckLemmas

@@ -1,4 +1,4 @@
--- The open parts of src/open_part.rt as frames: what is next in them, and what is written before it.
+-- The open parts of src/parts.rt as frames: what is next in them, and what is written before it.
 use Rattle.std.proofs.Common.{◌≡◌, ℕ, suc, ◌+◌, ◌<◌, Bool, true, false, if◌then◌else◌, ◌==◌, List, [], ◌∷◌, ◌++◌, ◌⊎◌, inl, inr, codes, length, refl, sym, ap, ◌∙◌, arith}
 use Rattle.std.proofs.lemmas.Bool.{ne_eqb}
 use Rattle.yaml_events.specs.Meant.{event_of}
@@ -6,9 +6,9 @@ use Rattle.yaml_events.specs.declared.event.Event.{Event}
 use Rattle.yaml_events.specs.declared.event.Event.TheVariants.{DocStart, SeqStart, MapStart}
 use Rattle.yaml_grammar.specs.Texts.{spaces}
 use Rattle.yaml_grammar.specs.Trees.{Members, shape}
-use Rattle.yaml_tree.specs.Emptied.{seq_frame, frame_by_next}
+use Rattle.yaml_tree.specs.Kept.{members_by, elements_by, no_tree}
+use Rattle.yaml_tree.specs.OpenParts.{frame_by_next}
 use Rattle.yaml_tree.specs.Frames.{Frame, awaiting, root, whole, in_seq, at_key, at_value, awaits_value}
-use Rattle.yaml_data.specs.Keys.{key_members}
 use Rattle.yaml_tree.specs.OpenText.{indent_in, empty_line, line_start, dash, key_start, seq_end, map_end, added}
 use Rattle.yaml_data.specs.declared.text.Text.{Text}
 
@@ -33,29 +33,29 @@ pub empty_line-after_key : (brackets : List ℕ) (fs : List Frame) → awaits_va
 empty_line-after_key brackets fs awaited = sym (ap (λ b. if b then codes " " ++ brackets else brackets) awaited)
 
 -- what comes before an element of a sequence
-pub dash_of : (is_empty : Bool) (fs : List Frame) → line_start is_empty fs ++ codes "- " ≡ dash (seq_frame is_empty) fs
+pub dash_of : (is_empty : Bool) (fs : List Frame) → line_start is_empty fs ++ codes "- " ≡ dash (in_seq (elements_by is_empty)) fs
 dash_of true fs = refl
 dash_of false fs = refl
 
 -- what comes before a key of a list of pairs
-pub key_start_of : (ms : List Key) (n : ℕ) (fs : List Frame) → length ms ≡ n → line_start (n == 0) fs ≡ key_start (key_members ms) fs
+pub key_start_of : (ms : List Key) (n : ℕ) (fs : List Frame) → length ms ≡ n → line_start (n == 0) fs ≡ key_start (members_by no_tree ms) fs
 key_start_of [] n fs e = sym (ap (λ m. line_start (m == 0) fs) e)
 key_start_of (m ∷ ms) n fs e =
     let some : suc (length ms) ≡ n = e in
     ap (λ b. line_start b fs) (ne_eqb n 0 (λ none. omega (arith, some, none)))
 
 -- the end of a sequence without elements, and of others
-pub seq_end-empty : (is_empty : Bool) (fs : List Frame) → is_empty ≡ true → empty_line (codes "[]\n") fs ≡ seq_end (seq_frame is_empty) fs
+pub seq_end-empty : (is_empty : Bool) (fs : List Frame) → is_empty ≡ true → empty_line (codes "[]\n") fs ≡ seq_end (in_seq (elements_by is_empty)) fs
 seq_end-empty true fs e = refl
 seq_end-empty false fs e = cc
 
-pub seq_end-filled : (is_empty : Bool) (fs : List Frame) → is_empty ≡ false → [] ≡ seq_end (seq_frame is_empty) fs
+pub seq_end-filled : (is_empty : Bool) (fs : List Frame) → is_empty ≡ false → [] ≡ seq_end (in_seq (elements_by is_empty)) fs
 seq_end-filled true fs e = cc
 seq_end-filled false fs e = refl
 
 -- the end of a mapping without members, and of others
 pub map_end-empty : (ms : List Key) (awaits : Bool) (fs : List Frame) → awaits ≡ false → length ms ≡ 0
-    → empty_line (codes "{}\n") fs ≡ map_end (frame_by_next (key_members ms) awaits) fs
+    → empty_line (codes "{}\n") fs ≡ map_end (frame_by_next (members_by no_tree ms) awaits) fs
 map_end-empty [] false fs none e = refl
 map_end-empty [] true fs none e = cc
 map_end-empty (m ∷ ms) awaits fs none e = absurd (omega (arith, e))
@@ -64,7 +64,7 @@ pub map_end-key : (ms : Members) (awaits : Bool) (fs : List Frame) → awaits �
 map_end-key ms false fs some = cc
 map_end-key ms true fs some = refl
 
-pub map_end-filled : (ms : List Key) (awaits : Bool) (fs : List Frame) → (length ms ≡ 0 → ⊥) → [] ≡ map_end (frame_by_next (key_members ms) awaits) fs
+pub map_end-filled : (ms : List Key) (awaits : Bool) (fs : List Frame) → (length ms ≡ 0 → ⊥) → [] ≡ map_end (frame_by_next (members_by no_tree ms) awaits) fs
 map_end-filled [] awaits fs some = absurd (some refl)
 map_end-filled (m ∷ ms) false fs some = refl
 map_end-filled (m ∷ ms) true fs some = refl

@@ -4,7 +4,7 @@ use Rattle.std.proofs.lemmas.List.{append-nil}
 use Rattle.yaml_grammar.specs.Style.{key_lines, lines_at, elements_at, elements_after, lines_after_dash, members_at, members_after, value_at}
 use Rattle.yaml_grammar.specs.Texts.{IsText, spaces}
 use Rattle.yaml_grammar.specs.Trees.{Tree, text, sequence, mapping, Elements, no_element, element, Members, no_member, member, Shape, document_from, document_to, seq_from, seq_to, map_from, map_to, scalar_of, IsTextTree, AreTextElements, AreTextMembers}
-use Rattle.yaml_tree.specs.Emptied.{emptied_members, emptied_frame, emptied_frames}
+use Rattle.yaml_tree.specs.Kept.{keys, kept_members, kept_frame, kept_frames}
 use Rattle.yaml_tree.specs.Formatting.{indent_after}
 use Rattle.yaml_tree.specs.Frames.{Frame, awaiting, root, whole, in_seq, at_key, at_value, elements_and, members_and, frame_with, frames_with, inside, step, awaits_value}
 use Rattle.yaml_tree.specs.OpenText.{indent_in, opening, empty_line, dash, key_start, scalar_in, seq_end, map_end, added, dash_in, part_lines, text_of, AreTextFrames, BringsText}
@@ -205,85 +205,85 @@ step_text (f ∷ fs) (scalar_of value) = in_part (frame_with f (text value)) fs 
 -- ---- what an event adds doesn't go by the values in the parts
 
 -- the indentation doesn't go by the values
-pub indent_in-emptied : (fs : List Frame) → indent_in (emptied_frames fs) ≡ indent_in fs
-indent_in-emptied [] = refl
-indent_in-emptied (awaiting ∷ fs) = indent_in-emptied fs
-indent_in-emptied (root t ∷ fs) = indent_in-emptied fs
-indent_in-emptied (whole t ∷ fs) = indent_in-emptied fs
-indent_in-emptied (in_seq ts ∷ fs) = ap (λ n. n + 2) (indent_in-emptied fs)
-indent_in-emptied (at_key ms ∷ fs) = ap (λ n. n + 2) (indent_in-emptied fs)
-indent_in-emptied (at_value ms key ∷ fs) = ap (λ n. n + 2) (indent_in-emptied fs)
+pub indent_in-kept : (fs : List Frame) → indent_in (kept_frames keys fs) ≡ indent_in fs
+indent_in-kept [] = refl
+indent_in-kept (awaiting ∷ fs) = indent_in-kept fs
+indent_in-kept (root t ∷ fs) = indent_in-kept fs
+indent_in-kept (whole t ∷ fs) = indent_in-kept fs
+indent_in-kept (in_seq ts ∷ fs) = ap (λ n. n + 2) (indent_in-kept fs)
+indent_in-kept (at_key ms ∷ fs) = ap (λ n. n + 2) (indent_in-kept fs)
+indent_in-kept (at_value ms key ∷ fs) = ap (λ n. n + 2) (indent_in-kept fs)
 
-awaits_value-emptied : (fs : List Frame) → awaits_value (emptied_frames fs) ≡ awaits_value fs
-awaits_value-emptied [] = refl
-awaits_value-emptied (awaiting ∷ fs) = refl
-awaits_value-emptied (root t ∷ fs) = refl
-awaits_value-emptied (whole t ∷ fs) = refl
-awaits_value-emptied (in_seq ts ∷ fs) = refl
-awaits_value-emptied (at_key ms ∷ fs) = refl
-awaits_value-emptied (at_value ms key ∷ fs) = refl
+awaits_value-kept : (fs : List Frame) → awaits_value (kept_frames keys fs) ≡ awaits_value fs
+awaits_value-kept [] = refl
+awaits_value-kept (awaiting ∷ fs) = refl
+awaits_value-kept (root t ∷ fs) = refl
+awaits_value-kept (whole t ∷ fs) = refl
+awaits_value-kept (in_seq ts ∷ fs) = refl
+awaits_value-kept (at_key ms ∷ fs) = refl
+awaits_value-kept (at_value ms key ∷ fs) = refl
 
-opening-emptied : (fs : List Frame) → opening (emptied_frames fs) ≡ opening fs
-opening-emptied fs =
-    ap (λ b. if b then codes "\n" ++ spaces (indent_in (emptied_frames fs)) else []) (awaits_value-emptied fs)
-    ∙ ap (λ i. if awaits_value fs then codes "\n" ++ spaces i else []) (indent_in-emptied fs)
+opening-kept : (fs : List Frame) → opening (kept_frames keys fs) ≡ opening fs
+opening-kept fs =
+    ap (λ b. if b then codes "\n" ++ spaces (indent_in (kept_frames keys fs)) else []) (awaits_value-kept fs)
+    ∙ ap (λ i. if awaits_value fs then codes "\n" ++ spaces i else []) (indent_in-kept fs)
 
-empty_line-emptied : (brackets : List ℕ) (fs : List Frame) → empty_line brackets (emptied_frames fs) ≡ empty_line brackets fs
-empty_line-emptied brackets fs = ap (λ b. if b then codes " " ++ brackets else brackets) (awaits_value-emptied fs)
+empty_line-kept : (brackets : List ℕ) (fs : List Frame) → empty_line brackets (kept_frames keys fs) ≡ empty_line brackets fs
+empty_line-kept brackets fs = ap (λ b. if b then codes " " ++ brackets else brackets) (awaits_value-kept fs)
 
-dash-emptied : (f : Frame) (fs : List Frame) → dash (emptied_frame f) (emptied_frames fs) ≡ dash f fs
-dash-emptied awaiting fs = refl
-dash-emptied (root t) fs = refl
-dash-emptied (whole t) fs = refl
-dash-emptied (in_seq no_element) fs = ap (λ cs. cs ++ codes "- ") (opening-emptied fs)
-dash-emptied (in_seq (element t ts)) fs = ap (λ i. spaces i ++ codes "- ") (indent_in-emptied fs)
-dash-emptied (at_key ms) fs = refl
-dash-emptied (at_value ms key) fs = refl
+dash-kept : (f : Frame) (fs : List Frame) → dash (kept_frame keys f) (kept_frames keys fs) ≡ dash f fs
+dash-kept awaiting fs = refl
+dash-kept (root t) fs = refl
+dash-kept (whole t) fs = refl
+dash-kept (in_seq no_element) fs = ap (λ cs. cs ++ codes "- ") (opening-kept fs)
+dash-kept (in_seq (element t ts)) fs = ap (λ i. spaces i ++ codes "- ") (indent_in-kept fs)
+dash-kept (at_key ms) fs = refl
+dash-kept (at_value ms key) fs = refl
 
-key_start-emptied : (ms : Members) (fs : List Frame) → key_start (emptied_members ms) (emptied_frames fs) ≡ key_start ms fs
-key_start-emptied no_member fs = opening-emptied fs
-key_start-emptied (member key t ms) fs = ap spaces (indent_in-emptied fs)
+key_start-kept : (ms : Members) (fs : List Frame) → key_start (kept_members keys ms) (kept_frames keys fs) ≡ key_start ms fs
+key_start-kept no_member fs = opening-kept fs
+key_start-kept (member key t ms) fs = ap spaces (indent_in-kept fs)
 
-seq_end-emptied : (f : Frame) (fs : List Frame) → seq_end (emptied_frame f) (emptied_frames fs) ≡ seq_end f fs
-seq_end-emptied awaiting fs = refl
-seq_end-emptied (root t) fs = refl
-seq_end-emptied (whole t) fs = refl
-seq_end-emptied (in_seq no_element) fs = empty_line-emptied (codes "[]\n") fs
-seq_end-emptied (in_seq (element t ts)) fs = refl
-seq_end-emptied (at_key ms) fs = refl
-seq_end-emptied (at_value ms key) fs = refl
+seq_end-kept : (f : Frame) (fs : List Frame) → seq_end (kept_frame keys f) (kept_frames keys fs) ≡ seq_end f fs
+seq_end-kept awaiting fs = refl
+seq_end-kept (root t) fs = refl
+seq_end-kept (whole t) fs = refl
+seq_end-kept (in_seq no_element) fs = empty_line-kept (codes "[]\n") fs
+seq_end-kept (in_seq (element t ts)) fs = refl
+seq_end-kept (at_key ms) fs = refl
+seq_end-kept (at_value ms key) fs = refl
 
-map_end-emptied : (f : Frame) (fs : List Frame) → map_end (emptied_frame f) (emptied_frames fs) ≡ map_end f fs
-map_end-emptied awaiting fs = refl
-map_end-emptied (root t) fs = refl
-map_end-emptied (whole t) fs = refl
-map_end-emptied (in_seq ts) fs = refl
-map_end-emptied (at_key no_member) fs = empty_line-emptied (codes "{}\n") fs
-map_end-emptied (at_key (member key t ms)) fs = refl
-map_end-emptied (at_value ms key) fs = refl
+map_end-kept : (f : Frame) (fs : List Frame) → map_end (kept_frame keys f) (kept_frames keys fs) ≡ map_end f fs
+map_end-kept awaiting fs = refl
+map_end-kept (root t) fs = refl
+map_end-kept (whole t) fs = refl
+map_end-kept (in_seq ts) fs = refl
+map_end-kept (at_key no_member) fs = empty_line-kept (codes "{}\n") fs
+map_end-kept (at_key (member key t ms)) fs = refl
+map_end-kept (at_value ms key) fs = refl
 
-scalar_in-emptied : (f : Frame) (fs : List Frame) (value : List ℕ) → scalar_in (emptied_frame f) (emptied_frames fs) value ≡ scalar_in f fs value
-scalar_in-emptied awaiting fs value = ap (λ i. lines_at (text value) i) (indent_in-emptied fs)
-scalar_in-emptied (root t) fs value = refl
-scalar_in-emptied (whole t) fs value = refl
-scalar_in-emptied (in_seq ts) fs value =
-    ap (λ cs. cs ++ lines_after_dash (text value) (indent_in (emptied_frames fs))) (dash-emptied (in_seq ts) fs)
-    ∙ ap (λ i. dash (in_seq ts) fs ++ lines_after_dash (text value) i) (indent_in-emptied fs)
-scalar_in-emptied (at_key ms) fs value =
-    ap (λ cs. cs ++ key_lines (indent_in (emptied_frames fs)) value) (key_start-emptied ms fs)
-    ∙ ap (λ i. key_start ms fs ++ key_lines i value) (indent_in-emptied fs)
-scalar_in-emptied (at_value ms key) fs value = ap (value_at (text value)) (indent_in-emptied fs)
+scalar_in-kept : (f : Frame) (fs : List Frame) (value : List ℕ) → scalar_in (kept_frame keys f) (kept_frames keys fs) value ≡ scalar_in f fs value
+scalar_in-kept awaiting fs value = ap (λ i. lines_at (text value) i) (indent_in-kept fs)
+scalar_in-kept (root t) fs value = refl
+scalar_in-kept (whole t) fs value = refl
+scalar_in-kept (in_seq ts) fs value =
+    ap (λ cs. cs ++ lines_after_dash (text value) (indent_in (kept_frames keys fs))) (dash-kept (in_seq ts) fs)
+    ∙ ap (λ i. dash (in_seq ts) fs ++ lines_after_dash (text value) i) (indent_in-kept fs)
+scalar_in-kept (at_key ms) fs value =
+    ap (λ cs. cs ++ key_lines (indent_in (kept_frames keys fs)) value) (key_start-kept ms fs)
+    ∙ ap (λ i. key_start ms fs ++ key_lines i value) (indent_in-kept fs)
+scalar_in-kept (at_value ms key) fs value = ap (value_at (text value)) (indent_in-kept fs)
 
 -- nor does what an event adds
-pub added-emptied : (fs : List Frame) (s : Shape) → added (emptied_frames fs) s ≡ added fs s
-added-emptied [] s = refl
-added-emptied (f ∷ fs) document_from = dash-emptied f fs
-added-emptied (f ∷ fs) document_to = refl
-added-emptied (f ∷ fs) seq_from = dash-emptied f fs
-added-emptied (f ∷ fs) seq_to = seq_end-emptied f fs
-added-emptied (f ∷ fs) map_from = dash-emptied f fs
-added-emptied (f ∷ fs) map_to = map_end-emptied f fs
-added-emptied (f ∷ fs) (scalar_of value) = scalar_in-emptied f fs value
+pub added-kept : (fs : List Frame) (s : Shape) → added (kept_frames keys fs) s ≡ added fs s
+added-kept [] s = refl
+added-kept (f ∷ fs) document_from = dash-kept f fs
+added-kept (f ∷ fs) document_to = refl
+added-kept (f ∷ fs) seq_from = dash-kept f fs
+added-kept (f ∷ fs) seq_to = seq_end-kept f fs
+added-kept (f ∷ fs) map_from = dash-kept f fs
+added-kept (f ∷ fs) map_to = map_end-kept f fs
+added-kept (f ∷ fs) (scalar_of value) = scalar_in-kept f fs value
 
 -- ---- texts
 
@@ -340,10 +340,10 @@ step_texts (at_value ms key ∷ fs) map_to h k = tt
 step_texts [] (scalar_of value) h k = tt
 step_texts (f ∷ fs) (scalar_of value) h k = put_texts (f ∷ fs) (text value) h k
 
--- what comes into emptied parts comes into the parts
-pub BringsText-emptied : (fs : List Frame) (s : Shape) → BringsText (emptied_frames fs) s → BringsText fs s
-BringsText-emptied [] s h = tt
-BringsText-emptied (f ∷ fs) s h = h
+-- what comes into parts of which only keys are kept comes into the parts
+pub BringsText-kept : (fs : List Frame) (s : Shape) → BringsText (kept_frames keys fs) s → BringsText fs s
+BringsText-kept [] s h = tt
+BringsText-kept (f ∷ fs) s h = h
 
 -- ---- the indentation
 

@@ -7,11 +7,12 @@ use Rattle.yaml_events.specs.declared.read_fault.ReadFault.TheVariants.{TooLong,
 use Rattle.yaml_grammar.specs.Reads.{Limits, Good}
 use Rattle.yaml_grammar.specs.Style.{style_text}
 use Rattle.yaml_grammar.specs.Texts.{byte_len}
-use Rattle.yaml_grammar.specs.Trees.{Shape}
+use Rattle.yaml_grammar.specs.Trees.{Tree, Shape}
 use Rattle.yaml_writer.proofs.ByteLemmas.{byte_len-chars}
 use Rattle.yaml_writer.specs.Budget.{left_after}
 use Rattle.yaml_tree.specs.Documents.{IsDocument, IsWrittenTo, with_style}
-use Rattle.yaml_tree.specs.Emptied.{Keeps, Took, HasKeys, emptied_frames}
+use Rattle.yaml_tree.specs.Kept.{keys, elements_by, no_tree, kept_frames}
+use Rattle.yaml_tree.specs.OpenParts.{HoldsKeys, Took, Finished}
 use Rattle.yaml_tree.specs.Formatting.{IsFormatted, Writes, Wrote, IsWritten, indent_after}
 use Rattle.yaml_tree.specs.Frames.{Frame, whole, step, finished_tree}
 use Rattle.yaml_tree.specs.OpenText.{text_of, added, AreTextFrames, BringsText}
@@ -25,11 +26,11 @@ use Rattle.yaml_tree.proofs.EventLemmas.{run_tree}
 use Rattle.yaml_tree.proofs.FrameLemmas.{run, finished_whole}
 use Rattle.yaml_grammar.specs.Trees.{shapes}
 use Rattle.yaml_tree.proofs.ReadLemmas.{tree_read}
-use Rattle.yaml_tree.proofs.OpenTextLemmas.{IsTextOf, HasTexts, HasIndent, step_text, step_texts, step_indent, added-emptied, BringsText-emptied}
+use Rattle.yaml_tree.proofs.OpenTextLemmas.{IsTextOf, HasTexts, HasIndent, step_text, step_texts, step_indent, added-kept, BringsText-kept}
 
 -- a writer before the first event
 pub begins : {S : Type 0} (takes : S → List ℕ → S → Type 0) (start : S) (writer : DocumentWriter) → takes start [] start
-    → Keeps writer.check [] → writer.indent ≡ 0 → Writes takes start start writer []
+    → HoldsKeys writer.parts [] → writer.indent ≡ 0 → Writes takes start start writer []
 begins takes start writer none keeps indent =
     record { keeps = keeps; indent = indent; room = omega (arith, indent); texts = tt; text = none }
 
@@ -37,13 +38,13 @@ begins takes start writer none keeps indent =
 pub wrote : {S : Type 0} (takes : S → List ℕ → S → Type 0)
     → ((a b c : S) (xs ys : List ℕ) → takes a xs b → takes b ys c → takes a (xs ++ ys) c)
     → (start before after : S) (old new : DocumentWriter) (fs : List Frame) (s : Shape) → Writes takes start before old fs
-    → Took new.check (step fs s) → new.indent ≡ indent_after old.indent s → new.indent < 4294967296
-    → BringsText (emptied_frames fs) s → takes before (added (emptied_frames fs) s) after → Wrote takes start after new (step fs s)
+    → Took keys no_tree (λ items. elements_by items.is_empty) new.parts (step fs s) → new.indent ≡ indent_after old.indent s → new.indent < 4294967296
+    → BringsText (kept_frames keys fs) s → takes before (added (kept_frames keys fs) s) after → Wrote takes start after new (step fs s)
 wrote takes takes_both start before after old new fs s writes took indent room brings put =
-    let more = subst (λ cs. takes before cs after) (added-emptied fs s) put in
+    let more = subst (λ cs. takes before cs after) (added-kept fs s) put in
     let both = takes_both start before after (text_of fs) (added fs s) writes.text more in
     let lines = subst (λ o. IsTextOf o (text_of fs ++ added fs s)) took.are (step_text fs s) in
-    let texts = subst HasTexts took.are (step_texts fs s writes.texts (BringsText-emptied fs s brings)) in
+    let texts = subst HasTexts took.are (step_texts fs s writes.texts (BringsText-kept fs s brings)) in
     let deeper = subst (λ o. HasIndent (indent_after old.indent s) o) took.are
     (subst (λ i. HasIndent (indent_after i s) (step fs s)) (sym writes.indent) (step_indent fs s)) in
     record {
@@ -59,10 +60,10 @@ wrote takes takes_both start before after old new fs s writes took indent room b
     }
 
 -- a document whose tree is finished
-pub is_written : {S : Type 0} (takes : S → List ℕ → S → Type 0) (start now : S) (writer : DocumentWriter) (es : List CodeEvent) (differ : Bool) (fs : List Frame)
-    → Writes takes start now writer fs → run (Some []) (shapes (events_of es)) ≡ Some fs → HasKeys (finished_tree fs) differ
+pub is_written : {S : Type 0} (takes : S → List ℕ → S → Type 0) (start now : S) (writer : DocumentWriter) (es : List CodeEvent) (value : Tree) (differ : Bool) (fs : List Frame)
+    → Writes takes start now writer fs → run (Some []) (shapes (events_of es)) ≡ Some fs → Finished keys value differ (finished_tree fs)
     → IsWritten takes start now (events_of es) differ
-is_written takes start now writer es differ fs writes done has =
+is_written takes start now writer es value differ fs writes done has =
     let alone = finished_whole fs has.tree has.is in
     let texts : AreTextFrames (whole has.tree ∷ []) = subst AreTextFrames alone writes.texts in
     record {

@@ -4,7 +4,7 @@ use Rattle.yaml_grammar.specs.Events.{Event}
 use Rattle.yaml_grammar.specs.Reads.{Limits}
 use Rattle.yaml_grammar.specs.Style.{style_text}
 use Rattle.yaml_grammar.specs.Trees.{Tree, IsTreeOf, IsTextTree, distinct, Shape, document_from, document_to, seq_from, seq_to, map_from, map_to, scalar_of}
-use Rattle.yaml_tree.specs.Emptied.{Keeps}
+use Rattle.yaml_tree.specs.OpenParts.{HoldsKeys}
 use Rattle.yaml_tree.specs.Frames.{Frame}
 use Rattle.yaml_tree.specs.OpenText.{indent_in, text_of, AreTextFrames}
 use Rattle.yaml_tree.specs.Reading.{IsRead}
@@ -31,7 +31,7 @@ indent_after i (scalar_of value) = i
 -- the writer after the events that opened these parts, and the sink before the first event and now
 pub record Writes {S : Type 0} (takes : S → List ℕ → S → Type 0) (start now : S) (writer : DocumentWriter)
     (fs : List Frame) : Type 0 where
-  pub keeps : Keeps writer.check fs
+  pub keeps : HoldsKeys writer.parts fs
   pub indent : writer.indent ≡ indent_in fs
   pub room : writer.indent < 4294967296
   pub texts : AreTextFrames fs

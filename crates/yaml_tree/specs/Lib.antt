@@ -4,5 +4,6 @@ pub mod OpenText
 pub mod Documents
 pub mod Formatting
 pub mod Building
-pub mod Emptied
+pub mod Kept
+pub mod OpenParts
 pub mod Frames

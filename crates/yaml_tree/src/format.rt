@@ -4,7 +4,7 @@ ghost use Rattle.yaml_events.specs.Meant.{event_of, events_of};
 ghost use Rattle.yaml_grammar.specs.Trees.{shape};
 ghost use Rattle.yaml_tree.specs.Building.{HasNone, HasNoTree};
 ghost use Rattle.yaml_tree.specs.Documents.{IsDocument, IsWrittenTo};
-ghost use Rattle.yaml_tree.specs.Emptied.{Keeps, open_frames};
+ghost use Rattle.yaml_tree.specs.OpenParts.{HoldsKeys, open_frames};
 ghost use Rattle.yaml_tree.specs.Formatting.{IsFormatted, Writes, Wrote, IsWritten, indent_after};
 ghost use Rattle.yaml_tree.specs.Frames.{Frame, step};
 ghost use Rattle.yaml_config.specs.Kept.{limits_of};
@@ -13,8 +13,9 @@ ghost use Rattle.yaml_tree.specs.Reading.{Refuses};
 
 use crate::Limits;
 use crate::documents::Document;
-use crate::key_check::KeyCheck;
+use crate::kept::Emptiness;
 use crate::open_text::write_event;
+use crate::parts::Parts;
 use crate::sizes::Sizes;
 use std::alloc::{AllocError, Global};
 use yaml_events::{Event, Events, ReadFault};
@@ -111,13 +112,15 @@ fn write_document<S: Sink<Fault = AllocError>>(
     for event in events {
         writer.take(event, sink)?;
     }
-    writer.check.finish()
+    let (_, keys_differ) = writer.parts.finish()?;
+    Ok(keys_differ)
 }
 
 /// A document that is written in the one style while its events come.
 #[derive(Drop)]
 pub(crate) struct DocumentWriter {
-    check: KeyCheck,
+    /// The parts that are open, with their keys and no values.
+    parts: Parts<(), Emptiness>,
     /// The indentation of a collection that is opened next.
     indent: u64,
 }
@@ -125,11 +128,11 @@ pub(crate) struct DocumentWriter {
 impl DocumentWriter {
     /// A writer before the first event.
     fn new(alloc: Global, sizes: Sizes) -> DocumentWriter
-        ensures keeps { Keeps result.check [] }
+        ensures keeps { HoldsKeys result.parts [] }
         ensures indent { result.indent ≡ 0 }
     {
         DocumentWriter {
-            check: KeyCheck::new(alloc, sizes),
+            parts: Parts::new(alloc, sizes),
             indent: 0,
         }
     }
@@ -143,7 +146,7 @@ impl DocumentWriter {
         sink: &mut S,
     ) -> Result<(), ReadFault>
         requires indent { self.old.indent
-            ≡ indent_in (open_frames self.old.check.open.parts.items) }
+            ≡ indent_in (open_frames self.old.parts.parts.items) }
         requires room { self.old.indent < 4294967296 }
         ensures { (start : S) (fs : List Frame) → Writes S.Takes start sink.old self.old fs
             → MatchResult result
@@ -151,8 +154,8 @@ impl DocumentWriter {
             (HasNone (step fs (shape (event_of event.entry)))) }
     {
         let indent = indent_after(self.indent, &event)?;
-        write_event(&self.check.open.parts, self.indent, &event, sink)?;
-        self.check.take(event)?;
+        write_event(&self.parts.parts, self.indent, &event, sink)?;
+        self.parts.take(event)?;
         self.indent = indent;
         Ok(())
     }

@@ -9,12 +9,11 @@
 //! each collection has, so that memory for them is taken once.
 #![tactic(auto)]
 
-mod build;
 mod documents;
 mod format;
-mod key_check;
-mod open_part;
+mod kept;
 mod open_text;
+mod parts;
 mod read;
 mod read_laws;
 mod sizes;

@@ -4,18 +4,20 @@ ghost use Rattle.std.specs.Str.{chars};
 ghost use Rattle.yaml_events.specs.Meant.{event_of};
 ghost use Rattle.yaml_grammar.specs.Texts.{IsText};
 ghost use Rattle.yaml_grammar.specs.Trees.{shape};
-ghost use Rattle.yaml_tree.specs.Emptied.{open_frame, open_frames, keys_frame};
+ghost use Rattle.yaml_tree.specs.Kept.{no_tree};
+ghost use Rattle.yaml_tree.specs.OpenParts.{open_frame, open_frames, map_frame};
 ghost use Rattle.yaml_tree.specs.Frames.{Frame, awaits_value};
 ghost use Rattle.yaml_tree.specs.OpenText.{indent_in, line_start, empty_line, dash, scalar_in, seq_end, map_end, added, BringsText};
 
-use crate::open_part::{OpenKeys, OpenPart};
+use crate::kept::Emptiness;
+use crate::parts::{OpenMap, Part};
 use yaml_events::Event;
 use yaml_writer::{Sink, write_key, write_scalar, write_text};
 
 /// Writes what an event adds to the text of a document whose open parts are these. `indent` is the indentation of a
 /// collection that is opened inside them. An event that has no place there may add anything.
 pub(crate) fn write_event<S: Sink>(
-    parts: &[OpenPart],
+    parts: &[Part<(), Emptiness>],
     indent: u64,
     event: &Event<'_>,
     sink: &mut S,
@@ -44,23 +46,33 @@ pub(crate) fn write_event<S: Sink>(
 }
 
 /// The indentation of a part's lines, by that of a collection inside it.
-fn own_indent(part: &OpenPart, indent: u64) -> u64
+fn own_indent(part: &Part<(), Emptiness>, indent: u64) -> u64
     ensures { (fs : List Frame) → indent ≡ indent_in (open_frame part.now ∷ fs)
         → result ≡ indent_in fs }
 {
     match part {
-        OpenPart::Document | OpenPart::Root | OpenPart::Whole => indent,
-        OpenPart::Seq { .. } | OpenPart::Map(_) => indent.saturating_sub(2),
+        Part::Document | Part::Root(_) | Part::Whole(_) => indent,
+        Part::Seq(_) | Part::Map(_) => indent.saturating_sub(2),
     }
 }
 
 /// Whether the value of a key is next in the last one of these parts.
-fn awaits_value(parts: &[OpenPart]) -> bool
+fn awaits_value(parts: &[Part<(), Emptiness>]) -> bool
     ensures { result ≡ awaits_value (open_frames parts.now) }
 {
     match parts.split_last() {
-        Some((innermost, _)) => innermost.awaits_value(),
+        Some((innermost, _)) => awaits_value_in(innermost),
         None => false,
+    }
+}
+
+/// Whether a part is a mapping in which the value of a key is next.
+fn awaits_value_in(part: &Part<(), Emptiness>) -> bool
+    ensures { (fs : List Frame) → result ≡ awaits_value (open_frame part.now ∷ fs) }
+{
+    match part {
+        Part::Map(map) => map.awaits_value,
+        Part::Document | Part::Root(_) | Part::Whole(_) | Part::Seq(_) => false,
     }
 }
 
@@ -68,7 +80,7 @@ fn awaits_value(parts: &[OpenPart]) -> bool
 /// collection starts, except after a key, where it is a line of its own.
 fn write_line_start<S: Sink>(
     is_first: bool,
-    outer: &[OpenPart],
+    outer: &[Part<(), Emptiness>],
     indent: u64,
     sink: &mut S,
 ) -> Result<(), S::Fault>
@@ -88,8 +100,8 @@ fn write_line_start<S: Sink>(
 
 /// Writes what comes before an element, with its `- `, if the innermost part is a sequence; else nothing.
 fn write_dash<S: Sink>(
-    innermost: &OpenPart,
-    outer: &[OpenPart],
+    innermost: &Part<(), Emptiness>,
+    outer: &[Part<(), Emptiness>],
     indent: u64,
     sink: &mut S,
 ) -> Result<(), S::Fault>
@@ -98,19 +110,19 @@ fn write_dash<S: Sink>(
         (dash (open_frame innermost.now) (open_frames outer.now)) sink.new) }
 {
     match innermost {
-        OpenPart::Seq { is_empty } => {
-            write_line_start(*is_empty, outer, indent, sink)?;
+        Part::Seq(items) => {
+            write_line_start(items.is_empty, outer, indent, sink)?;
             sink.put_text("- ")
         }
-        OpenPart::Document | OpenPart::Root | OpenPart::Whole | OpenPart::Map(_) => Ok(()),
+        Part::Document | Part::Root(_) | Part::Whole(_) | Part::Map(_) => Ok(()),
     }
 }
 
 /// Writes a scalar that comes into the innermost part: a value, or a key.
 fn write_scalar_in<S: Sink>(
     text: &str,
-    innermost: &OpenPart,
-    outer: &[OpenPart],
+    innermost: &Part<(), Emptiness>,
+    outer: &[Part<(), Emptiness>],
     indent: u64,
     sink: &mut S,
 ) -> Result<(), S::Fault>
@@ -121,28 +133,28 @@ fn write_scalar_in<S: Sink>(
     ensures text { IsText (chars text.now) }
 {
     match innermost {
-        OpenPart::Document => write_scalar(text, indent + 2, sink),
-        OpenPart::Root | OpenPart::Whole => Ok(()),
-        OpenPart::Seq { .. } => {
+        Part::Document => write_scalar(text, indent + 2, sink),
+        Part::Root(_) | Part::Whole(_) => Ok(()),
+        Part::Seq(_) => {
             write_dash(innermost, outer, indent, sink)?;
             write_scalar(text, indent + 2, sink)
         }
-        OpenPart::Map(map) => write_in_map(text, map, outer, indent, sink),
+        Part::Map(map) => write_in_map(text, map, outer, indent, sink),
     }
 }
 
 /// Writes a scalar that comes into a mapping: a key with its `:`, or its value.
 fn write_in_map<S: Sink>(
     text: &str,
-    map: &OpenKeys,
-    outer: &[OpenPart],
+    map: &OpenMap<()>,
+    outer: &[Part<(), Emptiness>],
     indent: u64,
     sink: &mut S,
 ) -> Result<(), S::Fault>
     requires indent { indent ≡ indent_in (open_frames outer.now) }
     requires room { indent + 2 < 2 ^ 64 }
     ensures { OnOk result (S.Takes sink.old
-        (scalar_in (keys_frame map.now) (open_frames outer.now) (chars text.now)) sink.new) }
+        (scalar_in (map_frame no_tree map.now) (open_frames outer.now) (chars text.now)) sink.new) }
 {
     if map.awaits_value {
         return write_text(text, indent, sink);
@@ -153,17 +165,17 @@ fn write_in_map<S: Sink>(
 
 /// Writes what the end of a sequence adds: `[]` if it is empty, else nothing.
 fn write_seq_end<S: Sink>(
-    innermost: &OpenPart,
-    outer: &[OpenPart],
+    innermost: &Part<(), Emptiness>,
+    outer: &[Part<(), Emptiness>],
     sink: &mut S,
 ) -> Result<(), S::Fault>
     ensures { OnOk result (S.Takes sink.old
         (seq_end (open_frame innermost.now) (open_frames outer.now)) sink.new) }
 {
-    let OpenPart::Seq { is_empty } = innermost else {
+    let Part::Seq(items) = innermost else {
         return Ok(());
     };
-    if !*is_empty {
+    if !items.is_empty {
         return Ok(());
     }
     write_empty("[]\n", outer, sink)
@@ -171,14 +183,14 @@ fn write_seq_end<S: Sink>(
 
 /// Writes what the end of a mapping adds: `{}` if it is empty, else nothing.
 fn write_map_end<S: Sink>(
-    innermost: &OpenPart,
-    outer: &[OpenPart],
+    innermost: &Part<(), Emptiness>,
+    outer: &[Part<(), Emptiness>],
     sink: &mut S,
 ) -> Result<(), S::Fault>
     ensures { OnOk result (S.Takes sink.old
         (map_end (open_frame innermost.now) (open_frames outer.now)) sink.new) }
 {
-    let OpenPart::Map(map) = innermost else {
+    let Part::Map(map) = innermost else {
         return Ok(());
     };
     if map.awaits_value {
@@ -191,7 +203,11 @@ fn write_map_end<S: Sink>(
 }
 
 /// Writes an empty collection, with a space before it after a key.
-fn write_empty<S: Sink>(brackets: &str, outer: &[OpenPart], sink: &mut S) -> Result<(), S::Fault>
+fn write_empty<S: Sink>(
+    brackets: &str,
+    outer: &[Part<(), Emptiness>],
+    sink: &mut S,
+) -> Result<(), S::Fault>
     ensures { OnOk result (S.Takes sink.old
         (empty_line (chars brackets.now) (open_frames outer.now)) sink.new) }
 {

@@ -6,11 +6,12 @@ ghost use Rattle.yaml_config.specs.Kept.{limits_of, own_limits};
 ghost use Rattle.yaml_tree.specs.Reading.{IsRead, Refuses};
 ghost use Rattle.yaml_data.specs.Seen.{tree_of};
 
-use crate::build::document_tree;
 use crate::documents::Document;
-use crate::key_check::document_keys_differ;
+use crate::parts::document_value;
+use crate::sizes::Sizes;
 use crate::{Config, Limits};
 use std::alloc::Global;
+use yaml_data::Tree;
 use yaml_events::{Events, ReadFault};
 
 /// Reads a text that is one document, and returns its tree, within limits.
@@ -39,10 +40,13 @@ pub fn read_one(alloc: Global, bytes: &[u8], limits: &Limits) -> Result<Config, 
     if depth > limits.depth {
         return Err(deep_fault(alloc, events));
     }
-    let tree = document_tree(alloc, events, sizes)?;
-    match Config::within(alloc, tree, limits) {
+    let (tree, keys_differ) = document_value::<Tree>(alloc, events, sizes)?;
+    if !keys_differ {
+        return Err(ReadFault::KeyTwice);
+    }
+    match Config::with_distinct_keys(tree, limits) {
         Ok(config) => Ok(config),
-        Err((_, fault)) => Err(fault),
+        Err(_) => Err(ReadFault::LargeInStyle),
     }
 }
 
@@ -51,9 +55,9 @@ pub fn read_one(alloc: Global, bytes: &[u8], limits: &Limits) -> Result<Config, 
 fn deep_fault(alloc: Global, events: Events<'_>) -> ReadFault
     ensures { RefusesDeep (events_of events.entry) result }
 {
-    match document_keys_differ(alloc, events) {
-        Ok(true) => ReadFault::TooDeep,
-        Ok(false) => ReadFault::KeyTwice,
+    match document_value::<()>(alloc, events, Sizes::none(alloc)) {
+        Ok((_, true)) => ReadFault::TooDeep,
+        Ok((_, false)) => ReadFault::KeyTwice,
         Err(fault) => fault,
     }
 }

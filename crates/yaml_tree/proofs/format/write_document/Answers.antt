@@ -1,12 +1,13 @@
 use Rattle.std.proofs.Common.{◌≡◌, Some, List, [], sym, ap, ◌∙◌, rules}
-use Rattle.std.proofs.lemmas.Result.{MatchResult-weaker, err_from_is_err_and}
+use Rattle.std.proofs.lemmas.Result.{err_from_is_err_and}
 use Rattle.yaml_events.specs.Meant.{events_of}
 use Rattle.yaml_events.specs.declared.event.Event.{Event}
 use Rattle.yaml_grammar.specs.Trees.{shapes}
+use Rattle.yaml_data.specs.Keys.{nothing}
 use Rattle.yaml_tree.specs.OpenText.{indent_in}
 use Rattle.yaml_tree.proofs.EventLemmas.{run_on, run_ended, stopped_refuses, unfinished_refuses}
 use Rattle.yaml_tree.proofs.FrameLemmas.{run}
-use Rattle.yaml_tree.proofs.OpenTextLemmas.{indent_in-emptied}
+use Rattle.yaml_tree.proofs.OpenTextLemmas.{indent_in-kept}
 use Rattle.yaml_tree.proofs.WriterLemmas.{begins, is_written}
 use Rattle.yaml_tree.proofs.format.write_document.Goals as goal
 
@@ -23,7 +24,7 @@ loop-event-init g c =
 pub take-requires-clause-indent : goal.take-requires-clause-indent
 take-requires-clause-indent g c =
     let writes = c.loop-event.invariant.2 in
-    writes.indent ∙ sym (indent_in-emptied c.loop-event.invariant.0) ∙ ap indent_in (sym writes.keeps.frames)
+    writes.indent ∙ sym (indent_in-kept c.loop-event.invariant.0) ∙ ap indent_in (sym writes.keeps.frames)
 
 pub take-requires-clause-room : goal.take-requires-clause-room
 take-requires-clause-room g c = let writes = c.loop-event.invariant.2 in writes.room
@@ -44,6 +45,15 @@ returns-in_err-take g c =
     (stopped_refuses l.event-iterator c.next.new.self c.args.events c.in-Some.event fs _
     c.in-Some.ensures.steps l.invariant.1 (c.in_err-take.ensures c.args.sink.now fs l.invariant.2))
 
+pub returns-in_err-keys_differ : goal.returns-in_err-keys_differ
+returns-in_err-keys_differ g c =
+    let l = c.loop-event in
+    let fs = l.invariant.0 in
+    let all : List Event = c.args.events in
+    let done : run (Some []) (shapes (events_of all)) ≡ Some fs = run_ended l.event-iterator all fs c.in-None.ensures.steps.0 l.invariant.1 in
+    let p = err_from_is_err_and c.from_residual-in_err-keys_differ.result c.from_residual-in_err-keys_differ.ensures.1 in
+    rw (p.1, p.2) (unfinished_refuses (events_of all) fs c.in_err-keys_differ.field-0.0 done (c.in_err-keys_differ.ensures fs l.invariant.2.keeps))
+
 pub returns : goal.returns
 returns g c =
     let l = c.loop-event in
@@ -51,6 +61,4 @@ returns g c =
     let writes = l.invariant.2 in
     let all : List Event = c.args.events in
     let done : run (Some []) (shapes (events_of all)) ≡ Some fs = run_ended l.event-iterator all fs c.in-None.ensures.steps.0 l.invariant.1 in
-    MatchResult-weaker c.finish.result (c.finish.ensures fs writes.keeps)
-    (λ differ has. is_written g.S.Sink.Takes c.args.sink.now l.sink l.writer all differ fs writes done has)
-    (λ fault h. unfinished_refuses (events_of all) fs fault done h)
+    is_written g.S.Sink.Takes c.args.sink.now l.sink l.writer all nothing c.in_ok-keys_differ.keys_differ fs writes done (c.in_ok-keys_differ.ensures fs writes.keeps)

@@ -3,7 +3,7 @@ use Rattle.std.proofs.lemmas.Result.{on_ok_weaker}
 use Rattle.std.specs.Str.{chars}
 use Rattle.yaml_events.specs.Meant.{event_of}
 use Rattle.yaml_grammar.specs.Trees.{shape}
-use Rattle.yaml_tree.specs.Emptied.{open_frame, open_frames}
+use Rattle.yaml_tree.specs.OpenParts.{open_frame, open_frames}
 use Rattle.yaml_tree.specs.OpenText.{indent_in, scalar_in, added}
 use Rattle.yaml_tree.proofs.OpenPartLemmas.{start_added, own_room}
 use Rattle.yaml_tree.proofs.PartLemmas.{open_frames-push}

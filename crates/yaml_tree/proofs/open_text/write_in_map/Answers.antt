@@ -3,9 +3,9 @@ use Rattle.std.proofs.lemmas.Result.{on_ok_weaker}
 use Rattle.std.specs.Str.{chars}
 use Rattle.std.specs.Vec.{vec_len}
 use Rattle.yaml_grammar.specs.Style.{key_lines}
-use Rattle.yaml_tree.specs.Emptied.{frame_by_next, open_frames}
+use Rattle.yaml_tree.specs.Kept.{members_by, no_tree}
+use Rattle.yaml_tree.specs.OpenParts.{frame_by_next, open_frames}
 use Rattle.yaml_tree.specs.OpenText.{line_start, key_start, scalar_in}
-use Rattle.yaml_data.specs.Keys.{key_members}
 use Rattle.yaml_tree.proofs.OpenPartLemmas.{key_start_of}
 use Rattle.yaml_tree.proofs.open_text.write_in_map.Goals as goal
 
@@ -17,8 +17,8 @@ returns g c =
     let count : length pairs.items ≡ vec_len pairs = omega (arith, pairs.ok) in
     let line = ap (λ b. line_start b fs ++ key_lines c.args.indent key) c.is_empty.ensures
     ∙ ap (λ cs. cs ++ key_lines c.args.indent key) (key_start_of pairs.items (vec_len pairs) fs count)
-    ∙ ap (λ i. key_start (key_members pairs.items) fs ++ key_lines i key) c.requires.indent
-    ∙ sym (ap (λ k. scalar_in (frame_by_next (key_members pairs.items) k) fs key) c.if-map.false) in
+    ∙ ap (λ i. key_start (members_by no_tree pairs.items) fs ++ key_lines i key) c.requires.indent
+    ∙ sym (ap (λ k. scalar_in (frame_by_next (members_by no_tree pairs.items) k) fs key) c.if-map.false) in
     on_ok_weaker c.write_key.result
     (λ put. subst (λ cs. g.S.Sink.Takes c.args.sink.now cs c.write_key.new.sink) line
     (g.met.S.Sink.takes_both _ _ _ _ _ c.in_ok-write_line_start.ensures put))

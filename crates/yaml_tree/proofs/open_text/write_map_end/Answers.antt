@@ -1,9 +1,9 @@
 use Rattle.std.proofs.Common.{◌≡◌, codes, length, subst, refl, sym, ap, ◌∙◌, arith}
 use Rattle.std.proofs.lemmas.Bool.{eqb-true, eqb-false}
 use Rattle.std.proofs.lemmas.Result.{on_ok_weaker}
-use Rattle.yaml_tree.specs.Emptied.{open_frame, open_frames}
+use Rattle.yaml_tree.specs.OpenParts.{open_frame, open_frames}
+use Rattle.yaml_tree.specs.Kept.{members_by, no_tree}
 use Rattle.yaml_tree.specs.OpenText.{empty_line, map_end}
-use Rattle.yaml_data.specs.Keys.{key_members}
 use Rattle.yaml_data.proofs.CharacterLemmas.{chars-literal}
 use Rattle.yaml_tree.proofs.OpenPartLemmas.{map_end-key, map_end-empty, map_end-filled}
 use Rattle.yaml_tree.proofs.open_text.write_map_end.Goals as goal
@@ -13,7 +13,7 @@ returns-then-map g c =
     let fs = open_frames c.args.outer.now in
     let map = c.in-Map.map in
     subst (λ cs. g.S.Sink.Takes c.args.sink.now cs c.args.sink.now)
-    (map_end-key (key_members map.pairs.items) map.awaits_value fs (c.if-map.true) ∙ sym (ap (λ p. map_end (open_frame p) fs) c.in-Map.is))
+    (map_end-key (members_by no_tree map.pairs.items) map.awaits_value fs (c.if-map.true) ∙ sym (ap (λ p. map_end (open_frame p) fs) c.in-Map.is))
     (g.met.S.Sink.takes_none c.args.sink.now)
 
 pub returns-then-not-is_empty : goal.returns-then-not-is_empty

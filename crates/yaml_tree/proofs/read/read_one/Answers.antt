@@ -1,13 +1,23 @@
-use Rattle.std.proofs.Common.{◌<◌, sym, subst, arith}
+use Rattle.std.proofs.Common.{◌≡◌, ◌<◌, Bool, true, false, List, sym, ap, subst, ◌∙◌, arith}
 use Rattle.std.proofs.lemmas.Result.{err_from_is_err_and}
 use Rattle.yaml_events.specs.Meant.{events_of}
-use Rattle.yaml_grammar.specs.Trees.{Tree, IsTreeOf, depth}
+use Rattle.yaml_events.specs.declared.event.Event.{Event}
+use Rattle.yaml_grammar.specs.Trees.{Tree, IsTreeOf, depth, distinct}
 use Rattle.yaml_config.specs.Kept.{limits_of}
+use Rattle.yaml_tree.specs.Kept as keep
+use Rattle.yaml_tree.specs.OpenParts.{IsOutcome}
 use Rattle.yaml_tree.specs.Reading.{IsRead}
 use Rattle.yaml_data.specs.Seen.{tree_of}
 use Rattle.yaml_data.specs.declared.tree.Tree as trees
 use Rattle.yaml_tree.proofs.ReadLemmas.{tree_read, shallow_refused, deep_refused}
 use Rattle.yaml_tree.proofs.read.read_one.Goals as goal
+
+-- the tree is that of the events
+tree_built : (es : List Event) (t : trees.Tree) (differ : Bool) → IsOutcome keep.trees (tree_of t) differ (events_of es) → IsTreeOf (events_of es) (tree_of t)
+tree_built es t differ built = subst (IsTreeOf (events_of es)) (sym built.kept_is) built.is_tree
+
+keys_built : (es : List Event) (t : trees.Tree) (differ b : Bool) → IsOutcome keep.trees (tree_of t) differ (events_of es) → differ ≡ b → distinct (tree_of t) ≡ b
+keys_built es t differ b built is = ap distinct built.kept_is ∙ sym built.keys ∙ is
 
 pub returns-in-Ok-clause-given : goal.returns-in-Ok-clause-given
 returns-in-Ok-clause-given c =
@@ -15,7 +25,26 @@ returns-in-Ok-clause-given c =
     let is = c.in_ok-events.ensures.read in
     let good = c.in-Ok.ensures.ok in
     subst (λ (config : trees.Tree). IsRead c.args.bytes.now limits (tree_of config)) (sym good.0)
-    (tree_read c.args.bytes.now limits c.in_ok-events.field-0.events (tree_of c.in_ok-tree.tree) is.reads c.in_ok-tree.ensures good.1)
+    (tree_read c.args.bytes.now limits c.in_ok-events.field-0.events (tree_of c.in_ok-tree.tree) is.reads
+    (tree_built c.in_ok-events.field-0.events c.in_ok-tree.tree c.in_ok-tree.keys_differ c.in_ok-tree.ensures) good.1)
+
+pub returns-then-not-keys_differ-clause-refused : goal.returns-then-not-keys_differ-clause-refused
+returns-then-not-keys_differ-clause-refused c =
+    let is = c.in_ok-events.ensures.read in
+    let es = c.in_ok-events.field-0.events in
+    let tree = c.in_ok-tree.tree in
+    record {
+      text = is.reads.text;
+      events = events_of es;
+      reads = is.reads.reads;
+      tree = tree_of tree;
+      is_tree = tree_built es tree c.in_ok-tree.keys_differ c.in_ok-tree.ensures;
+      first = keys_built es tree c.in_ok-tree.keys_differ false c.in_ok-tree.ensures c.if-not-keys_differ.true;
+    }
+
+pub with_distinct_keys-requires-clause-keys : goal.with_distinct_keys-requires-clause-keys
+with_distinct_keys-requires-clause-keys c =
+    keys_built c.in_ok-events.field-0.events c.in_ok-tree.tree c.in_ok-tree.keys_differ true c.in_ok-tree.ensures c.if-not-keys_differ.false
 
 pub returns-then-depth-limits-clause-refused : goal.returns-then-depth-limits-clause-refused
 returns-then-depth-limits-clause-refused c =
@@ -33,14 +62,15 @@ returns-in_err-tree-clause-refused c =
     rw (p.1, p.2)
     (shallow_refused c.args.bytes.now (limits_of c.args.limits.now) c.in_ok-events.field-0.events _ is.reads is.one c.in_err-tree.ensures)
 
-pub within-requires-clause-shallow : goal.within-requires-clause-shallow
-within-requires-clause-shallow c =
+pub with_distinct_keys-requires-clause-shallow : goal.with_distinct_keys-requires-clause-shallow
+with_distinct_keys-requires-clause-shallow c =
     let is = c.in_ok-events.ensures.read in
-    let deep = is.as_deep (tree_of c.in_ok-tree.tree) c.in_ok-tree.ensures in
+    let es = c.in_ok-events.field-0.events in
+    let deep = is.as_deep (tree_of c.in_ok-tree.tree) (tree_built es c.in_ok-tree.tree c.in_ok-tree.keys_differ c.in_ok-tree.ensures) in
     omega (arith, deep, c.if-depth-limits.false)
 
-pub within-requires-clause-depth : goal.within-requires-clause-depth
-within-requires-clause-depth c = c.requires.deep
+pub with_distinct_keys-requires-clause-depth : goal.with_distinct_keys-requires-clause-depth
+with_distinct_keys-requires-clause-depth c = c.requires.deep
 
-pub within-requires-clause-style : goal.within-requires-clause-style
-within-requires-clause-style c = c.requires.long
+pub with_distinct_keys-requires-clause-style : goal.with_distinct_keys-requires-clause-style
+with_distinct_keys-requires-clause-style c = c.requires.long

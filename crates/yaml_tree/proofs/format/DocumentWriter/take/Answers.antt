@@ -1,7 +1,7 @@
 use Rattle.std.proofs.Common.{ap, subst, ◌∙◌}
 use Rattle.yaml_events.specs.Meant.{event_of}
 use Rattle.yaml_grammar.specs.Trees.{shape}
-use Rattle.yaml_tree.specs.Emptied.{open_frames}
+use Rattle.yaml_tree.specs.OpenParts.{open_frames}
 use Rattle.yaml_tree.specs.OpenText.{added, BringsText}
 use Rattle.yaml_tree.proofs.WriterLemmas.{wrote}
 use Rattle.yaml_tree.proofs.format.DocumentWriter.take.Goals as goal

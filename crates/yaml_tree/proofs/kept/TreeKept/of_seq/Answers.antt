@@ -1,0 +1,5 @@
+use Rattle.yaml_data.proofs.SeenLemmas.{tree_of-Seq}
+use Rattle.yaml_tree.proofs.kept.TreeKept.of_seq.Goals as goal
+
+pub returns : goal.returns
+returns c = tree_of-Seq c.args.items

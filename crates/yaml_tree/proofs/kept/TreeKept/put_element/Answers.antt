@@ -1,0 +1,7 @@
+use Rattle.std.proofs.Common.{ap, ◌∙◌}
+use Rattle.yaml_data.specs.Seen.{elements_of}
+use Rattle.yaml_tree.proofs.PartLemmas.{elements_of-and}
+use Rattle.yaml_tree.proofs.kept.TreeKept.put_element.Goals as goal
+
+pub returns : goal.returns
+returns c = ap elements_of c.in_ok-push.ensures.items ∙ elements_of-and c.args.items.now.items c.args.value

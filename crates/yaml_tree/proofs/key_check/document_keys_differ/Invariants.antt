@@ -1,9 +1,0 @@
-use Rattle.std.proofs.Common.{List}
-use Rattle.yaml_tree.specs.Emptied.{Keeps}
-use Rattle.yaml_tree.specs.Frames.{Frame}
-use Rattle.yaml_tree.proofs.EventLemmas.{RunsOn}
-use Rattle.yaml_tree.proofs.key_check.document_keys_differ.Given as goal
-
--- the parts that the check has come to, over the events that are left, become what all events become
-abbrev pub invariant-loop-event : goal.invariant-loop-event
-invariant-loop-event l = (fs : List Frame) × RunsOn fs l.event-iterator l.fn.events × Keeps l.check fs
