@@ -186,7 +186,7 @@ def try_deployment(top, failures):
     if session(folder, b"batch: []\n...\n")[1] == b"---\nrefused: BadCommand\n...\n":
         print("left out: deploy.sh, since this program has no batches")
         return
-    write_file(file, b"# a comment\nhost: none\nnote: |\n  a\n  ...\n  b\nlist: [1, 2]")
+    write_file(file, b"\xef\xbb\xbf# a comment\nhost: none\nnote: |\n  a\n  ...\n  b\nlist: [1, 2]")
     script = os.path.join(TOP, "clients", "examples", "deploy.sh")
 
     def deploy(*words):
@@ -200,6 +200,8 @@ def try_deployment(top, failures):
     refused = (1, b"", b"deploy.sh: refused: NoSuchPlace\n")
     failures.expect("a refused edit", deploy(folder, "web", file, "/host", "z", "/no/where", "x"), refused)
     failures.expect("what it left", session(folder, b"export: web\n...\n")[1].count(b'a \\"b\\"'), 1)
+    write_file(file, b"a: \0\n")
+    failures.expect("a file that is no text", deploy(folder, "web", file)[0], 1)
     failures.expect("a missing folder", deploy(os.path.join(top, "none"), "web", file)[0], 3)
     failures.expect("wrong words", deploy(folder, "web", file, "/host")[0], 2)
 

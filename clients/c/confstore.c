@@ -547,7 +547,8 @@ enum confstore_status confstore_send(struct confstore *store, const char *comman
     while (left > 0) {
         enum confstore_status status = turn(store, deadline, &rest, &left);
         if (status != CONFSTORE_OK) {
-            store->is_cut = store->is_cut || store->ended == CONFSTORE_OK;
+            if (left == length) store->due--; /* nothing of it was sent */
+            else store->is_cut = store->ended == CONFSTORE_OK;
             return status;
         }
     }

@@ -30,9 +30,10 @@ quoted() {
 }
 
 # The command: a list of edits. The text of the file stands behind six spaces, so nothing in it can close the command.
+# A byte order mark at its start is left out, since none may stand inside a command.
 batch() {
     printf -- '---\nbatch:\n  - import: %s\n    text: |2+\n' "$(quoted "$name")"
-    awk '{ print "      " $0 }' "$file"
+    LC_ALL=C awk 'NR == 1 { sub(/^\357\273\277/, "") } { print "      " $0 }' "$file"
     while [ $# -gt 0 ]; do
         printf '  - set: %s\n    path: %s\n    value: %s\n' "$(quoted "$name")" "$(quoted "$1")" "$(quoted "$2")"
         shift 2
@@ -42,10 +43,17 @@ batch() {
 
 answers=$(batch "$@" | "${CONFSTORE:-confstore}" run "$folder") || exit $?
 refused=$(printf '%s\n' "$answers" | sed -n 's/^refused: //p' | head -n 1)
-if [ -n "$refused" ]; then
+case $refused in
+'') ;;
+BadCommand)
+    echo "deploy.sh: refused: BadCommand, as of a file that is no text of YAML, or by a program without batches" >&2
+    exit 1
+    ;;
+*)
     echo "deploy.sh: refused: $refused" >&2
     exit 1
-fi
+    ;;
+esac
 # The text of the export is what is behind two spaces.
 printf '%s\n' "$answers" | awk '
     is_text && /^\.\.\.$/ { exit }

@@ -15,7 +15,7 @@ import os
 import sys
 import time
 
-from confstore import ConfstoreError, NoConfig, Reader
+from confstore import ConfstoreError, NoConfig, Reader, Unsupported
 
 
 class Settings:
@@ -57,12 +57,18 @@ class Settings:
 
 def main(folder, name, seconds=1.0):
     settings = Settings(folder, name)
+    told = None
     while True:
         try:
             settings.look()
+            told = None
+        except Unsupported as lack:
+            sys.exit(f"service.py: {lack}")
         except (ConfstoreError, OSError) as fault:
             settings.seen = None
-            print(f"the settings stay: {fault}", file=sys.stderr, flush=True)
+            if told != str(fault):
+                told = str(fault)
+                print(f"the settings stay: {told}", file=sys.stderr, flush=True)
         time.sleep(float(seconds))
 
 

@@ -194,6 +194,20 @@ class Limits(unittest.TestCase):
             self.assertEqual(int(found.replace(",", "")), LONGEST_COMMAND, file)
 
 
+class Names(unittest.TestCase):
+    def test_each_refusal_is_an_exception(self):
+        """The names in the tables of docs/FAULTS.md on texts and commands, without the reasons of `Syntax`."""
+        with open(os.path.join(TOP, "docs", "FAULTS.md"), encoding="utf-8") as source:
+            parts = re.split(r"(?m)^## |^\| reason ", source.read())
+        names = set()
+        for part in parts:
+            if part.startswith(("Of a text", "Of a command")):
+                for cell in re.findall(r"(?m)^\| (`.*?) \|", part):
+                    names |= set(re.findall(r"`(\w+)`", cell))
+        self.assertGreater(len(names), 15)
+        self.assertEqual(names - set(confstore.faults.REFUSALS), set())
+
+
 class WrongAnswers(StoreTest):
     def test_a_cut_answer(self):
         self.set_fault(confstore.AnswerCut, "heard()\nsay(b'---\\nok: ')\n")
@@ -227,7 +241,7 @@ class WrongAnswers(StoreTest):
         start, sent = time.monotonic(), set()
         for _ in range(5):
             with self.assertRaises(confstore.TimedOut) as caught:
-                store.import_text("a", "#" * 4_000_000)
+                store.import_text("a", "#" * (LONGEST_COMMAND - 200))
             sent.add(caught.exception.sent)
         self.assertEqual(sent, {True, False})
         store.close()
