@@ -83,7 +83,7 @@ edit-length es name old new change there is =
       entry_value name new,
     )
 
-value_fits : (t : grammar.Tree) → byte_len (style_text t) ≤ config_limits.style → byte_len (value_at t 2) ≤ 10000000
+value_fits : (t : grammar.Tree) → byte_len (style_text t) ≤ config_limits.style → byte_len (value_at t 2) ≤ 100000000
 value_fits t short = omega (arith, value_law t 2, value_bound t, value_small t)
 
 -- these bytes stay within a 64-bit number
