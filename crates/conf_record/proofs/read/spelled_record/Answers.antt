@@ -4,7 +4,7 @@ use Rattle.yaml_config.specs.Kept.{own_limits}
 use Rattle.yaml_tree.specs.Reading.{IsRead, GivesNone}
 use Rattle.yaml_data.specs.Seen.{tree_of}
 use Rattle.conf_record.proofs.TreeLemmas.{no_record, one_record}
-use Rattle.conf_record.proofs.read.read_record.Goals as goal
+use Rattle.conf_record.proofs.read.spelled_record.Goals as goal
 
 pub command_from-requires : goal.command_from-requires
 command_from-requires c =
