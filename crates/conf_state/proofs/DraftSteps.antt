@@ -1,9 +1,6 @@
 -- What a put and a removal make of a draft.
-use Rattle.std.proofs.Common.{◌≡◌, ℕ, Bool, true, false, ◌||◌, if◌then◌else◌, List, [], ◌∷◌, ◌++◌, String, Global, Option, Some, None, option_map, IfSome, Bor, bytes_eq, string_bytes, encode_utf8_all, IsUtf8, refl, sym, ap, subst, ◌∙◌}
-use Rattle.std.proofs.lemmas.Bool.Decides.{same_from_decides}
-use Rattle.std.proofs.lemmas.Slice.Eq.{bytes_eq-Decides}
-use Rattle.std.proofs.lemmas.Str.{encodes-chars, IsUtf8-string_bytes}
-use Rattle.std.specs.Bool.{Decides}
+use Rattle.std.proofs.Common.{◌≡◌, ℕ, Bool, true, false, ◌||◌, if◌then◌else◌, List, [], ◌∷◌, ◌++◌, String, Global, Option, Some, None, option_map, IfSome, Bor, string_bytes, IsUtf8, refl, sym, ap, subst, ◌∙◌}
+use Rattle.std.proofs.lemmas.Str.{IsUtf8-string_bytes}
 use Rattle.std.specs.List.{list_any}
 use Rattle.std.specs.Str.{chars}
 use Rattle.std.specs.String.{string_eq}
@@ -13,7 +10,6 @@ use Rattle.yaml_grammar.specs.Texts.{same_text}
 use Rattle.yaml_grammar.specs.Trees as grammar
 use Rattle.yaml_data.specs.Seen.{tree_of}
 use Rattle.yaml_data.specs.declared.tree.Tree.{Tree}
-use Rattle.yaml_data.proofs.CharacterLemmas.{same_text-Decides}
 use Rattle.yaml_config.specs.Limits.{config_limits}
 use Rattle.conf_state.specs.Commands.{text_of}
 use Rattle.conf_state.specs.Configs.{is_name, cut_from}
@@ -24,20 +20,10 @@ use Rattle.conf_state.specs.Names.{good_name}
 use Rattle.conf_state.specs.States.{Entry, names_of, put_config, cut_config, has_name, names_differ}
 use Rattle.conf_state.specs.declared.draft.Draft.{Draft}
 use Rattle.conf_state.proofs.DraftLemmas.{put_all-put, cut-put_all, cut-none, cut_all-append, named-cut_all-gone, names_differ-push}
-use Rattle.conf_state.proofs.EntryLemmas.{cut_from-named, plain_cut_from}
+use Rattle.conf_state.proofs.EntryLemmas.{same_key, cut_from-named, plain_cut_from}
 use Rattle.conf_state.proofs.LimitLemmas.{names_differ-put, names_differ-cut, AreConfigs-put, AreConfigs-cut}
 
 -- ---- removed names
-
-same_chars : (q k : List ℕ) → IsUtf8 q → IsUtf8 k → Decides (same_text (chars q) (chars k)) (q ≡ k)
-same_chars q k utf8 other =
-    let same = same_text-Decides (chars q) (chars k) in (
-      λ e. sym (encodes-chars q utf8) ∙ ap encode_utf8_all (same.0 e) ∙ encodes-chars k other,
-      λ e. same.1 (ap chars e),
-    )
-
-same_key : (q k : List ℕ) → IsUtf8 q → IsUtf8 k → bytes_eq q k ≡ same_text (chars q) (chars k)
-same_key q k utf8 other = same_from_decides _ _ (bytes_eq-Decides q k) (same_chars q k utf8 other)
 
 -- the set has a text if it is among the characters of the set's strings
 pub listed : (q : List ℕ) → IsUtf8 q → (keys : List (String Global)) → list_any (is_name q) keys ≡ has_name (chars q) (texts_of keys)

@@ -2,7 +2,7 @@
 use Rattle.std.proofs.Common.{◌≡◌, ℕ, Bool, true, false, cond, if◌then◌else◌, List, [], ◌∷◌, String, Global, Option, Some, option_map, string_bytes, bytes_eq, IsUtf8, IsAscii, encode_utf8_all, refl, sym, ap, ◌∙◌}
 use Rattle.std.proofs.lemmas.Bool.Decides.{same_from_decides}
 use Rattle.std.proofs.lemmas.Slice.Eq.{bytes_eq-Decides}
-use Rattle.std.proofs.lemmas.Str.{encodes-chars, IsUtf8-from_ascii}
+use Rattle.std.proofs.lemmas.Str.{encodes-chars, IsUtf8-string_bytes}
 use Rattle.std.specs.Bool.{Decides}
 use Rattle.std.specs.Map.{lookup, set_value}
 use Rattle.std.specs.Str.{chars}
@@ -16,15 +16,16 @@ use Rattle.conf_state.specs.States.{Entry, config_named, put_config, cut_config}
 use Rattle.conf_state.specs.Kept.{entries_of, ArePlain}
 
 -- texts that differ differ in a character
-same_chars : (q k : List ℕ) → IsUtf8 q → IsAscii k → Decides (same_text (chars q) (chars k)) (q ≡ k)
-same_chars q k utf8 ascii =
+same_chars : (q k : List ℕ) → IsUtf8 q → IsUtf8 k → Decides (same_text (chars q) (chars k)) (q ≡ k)
+same_chars q k utf8 other =
     let same = same_text-Decides (chars q) (chars k) in (
-      λ e. sym (encodes-chars q utf8) ∙ ap encode_utf8_all (same.0 e) ∙ encodes-chars k (IsUtf8-from_ascii k ascii),
+      λ e. sym (encodes-chars q utf8) ∙ ap encode_utf8_all (same.0 e) ∙ encodes-chars k other,
       λ e. same.1 (ap chars e),
     )
 
-same_key : (q k : List ℕ) → IsUtf8 q → IsAscii k → bytes_eq q k ≡ same_text (chars q) (chars k)
-same_key q k utf8 ascii = same_from_decides _ _ (bytes_eq-Decides q k) (same_chars q k utf8 ascii)
+-- a test of bytes is one of characters
+pub same_key : (q k : List ℕ) → IsUtf8 q → IsUtf8 k → bytes_eq q k ≡ same_text (chars q) (chars k)
+same_key q k utf8 other = same_from_decides _ _ (bytes_eq-Decides q k) (same_chars q k utf8 other)
 
 module _ (q : List ℕ) (utf8 : IsUtf8 q) where
   -- a lookup in the map finds the configuration of the name
@@ -33,7 +34,7 @@ module _ (q : List ℕ) (utf8 : IsUtf8 q) where
   lookup-named [] plain = refl
   lookup-named (e ∷ es) plain =
       by (bytes_eq q (string_bytes e.0)) _ _ (lookup-named es plain.1)
-      ∙ ap (λ b. if b then Some (tree_of e.1) else config_named (entries_of es) (chars q)) (same_key q (string_bytes e.0) utf8 plain.0)
+      ∙ ap (λ b. if b then Some (tree_of e.1) else config_named (entries_of es) (chars q)) (same_key q (string_bytes e.0) utf8 (IsUtf8-string_bytes e.0))
     where
       by : (b : Bool) (found : Option Tree) (named : Option grammar.Tree) → option_map tree_of found ≡ named
           → option_map tree_of (cond b (Some e.1) found) ≡ (if b then Some (tree_of e.1) else named)
@@ -46,7 +47,7 @@ module _ (q : List ℕ) (utf8 : IsUtf8 q) where
   cut_from-named [] plain = refl
   cut_from-named (e ∷ es) plain =
       by (bytes_eq q (string_bytes e.0)) _ _ (cut_from-named es plain.1)
-      ∙ ap (λ b. if b then entries_of es else (chars (string_bytes e.0), tree_of e.1) ∷ cut_config (entries_of es) (chars q)) (same_key q (string_bytes e.0) utf8 plain.0)
+      ∙ ap (λ b. if b then entries_of es else (chars (string_bytes e.0), tree_of e.1) ∷ cut_config (entries_of es) (chars q)) (same_key q (string_bytes e.0) utf8 (IsUtf8-string_bytes e.0))
     where
       by : (b : Bool) (rest : List (String Global × Tree)) (cut : List Entry) → entries_of rest ≡ cut
           → entries_of (cond b es (e ∷ rest)) ≡ (if b then entries_of es else (chars (string_bytes e.0), tree_of e.1) ∷ cut)
@@ -60,7 +61,7 @@ module _ (q : List ℕ) (utf8 : IsUtf8 q) where
   set_value-named (e ∷ es) old t plain is =
       by (bytes_eq q (string_bytes e.0)) refl is (set_value-named es old t plain.1)
       ∙ ap (λ b. if b then (chars (string_bytes e.0), tree_of t) ∷ entries_of es else (chars (string_bytes e.0), tree_of e.1) ∷ put_config (entries_of es) (chars q) (tree_of t))
-      (same_key q (string_bytes e.0) utf8 plain.0)
+      (same_key q (string_bytes e.0) utf8 (IsUtf8-string_bytes e.0))
     where
       by : (b : Bool) → bytes_eq q (string_bytes e.0) ≡ b → cond b (Some e.1) (lookup (is_name q) es) ≡ Some old
           → (lookup (is_name q) es ≡ Some old → entries_of (set_value (is_name q) es t) ≡ put_config (entries_of es) (chars q) (tree_of t))
@@ -77,7 +78,7 @@ module _ (name : String Global) (utf8 : IsUtf8 (string_bytes name)) (t : Tree) w
   put_under-named (e ∷ es) plain =
       by (bytes_eq (string_bytes name) (string_bytes e.0)) _ _ (put_under-named es plain.1)
       ∙ ap (λ b. if b then (chars (string_bytes e.0), tree_of t) ∷ entries_of es else (chars (string_bytes e.0), tree_of e.1) ∷ put_config (entries_of es) (chars (string_bytes name)) (tree_of t))
-      (same_key (string_bytes name) (string_bytes e.0) utf8 plain.0)
+      (same_key (string_bytes name) (string_bytes e.0) utf8 (IsUtf8-string_bytes e.0))
     where
       by : (b : Bool) (rest : List (String Global × Tree)) (put : List Entry) → entries_of rest ≡ put
           → entries_of (cond b ((e.0, t) ∷ es) (e ∷ rest)) ≡ (if b then (chars (string_bytes e.0), tree_of t) ∷ entries_of es else (chars (string_bytes e.0), tree_of e.1) ∷ put)

@@ -80,7 +80,7 @@ performed configs (batch (edit ∷ edits)) = all_edited configs (edit ∷ edits)
 
 -- ---- the state after a command
 
--- an outcome where the journal has room for the command's record
+-- an outcome, if there is room for the command's record, or the refusal for which there is none
 abbrev pub with_room : {A : Type 0} → Room → Result A StoreFault → Result A StoreFault
 with_room Enough outcome = outcome
 with_room LongRecord outcome = Err RecordLong
