@@ -390,7 +390,7 @@ impl<D: Disk> Store<D> {
         }
     }
 
-    /// Reads a text within the limits of a configuration (1,048,576 bytes, also in the one style, and 64 deep), and
+    /// Reads a text within the limits of a configuration (4,194,304 bytes, also in the one style, and 128 deep), and
     /// puts its tree under a name, in place of a tree that is there. Its record is synced, as by
     /// [`apply`](Store::apply). Returns the new count, which is one more than before.
     ///

@@ -170,10 +170,10 @@ fn has_count(alloc: Global, disk: MemoryDisk, expected: u64) -> Result<(), Wrong
 const DOTS: &[u8] = b"import: c\ntext: |\n  k: \"x\\n...\\ny\"\n...\n";
 
 /// The base of an empty state.
-const EMPTY: &[u8] = b"---\nstore: confstore-1\nat: \"0\"\nconfigs: {}\n...\n";
+const EMPTY: &[u8] = b"---\nstore: confstore-2\nat: \"0\"\nconfigs: {}\n...\n";
 
 /// The same base with the command's record, of 60 bytes.
-const DOTS_STORED: &[u8] = b"---\nstore: confstore-1\nat: \"0\"\nconfigs: {}\n...\n\
+const DOTS_STORED: &[u8] = b"---\nstore: confstore-2\nat: \"0\"\nconfigs: {}\n...\n\
 ---\nat: \"1\"\nimport: c\ntree:\n  k: |-\n    x\n    ...\n    y\n...\n";
 
 /// A session of the command's first bytes: it is performed and answered whole, or not at all.

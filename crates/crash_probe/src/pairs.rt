@@ -12,7 +12,7 @@ use yaml_tree::{Limits, read_one};
 pub(crate) type FusedStore = Store<FusedDisk<MemoryDisk>>;
 
 /// The base before the text of `a`, and after it.
-const HEAD: &[u8] = b"---\nstore: confstore-1\nat: \"0\"\nconfigs:\n  a: \"";
+const HEAD: &[u8] = b"---\nstore: confstore-2\nat: \"0\"\nconfigs:\n  a: \"";
 
 const TAIL: &[u8] = b"\"\n  b: x\n...\n";
 
