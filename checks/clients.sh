@@ -8,7 +8,8 @@
 # - C: the library and its test under the sanitizers of each compiler that is there, and under valgrind, over sessions
 #   of its own and over a socket.
 # - Sixteen clients of one session that is killed and started again.
-# - The settings for editors, the hook, the examples, the completions, the man pages, and a Debian package.
+# - The settings for editors, the hook, the examples, the page of a log, the completions, the man pages, and a Debian
+#   package.
 #
 # What isn't installed is left out, with a line that says so. Each step has a limit of time, and ends what it started.
 # The program is CONFSTORE, or the one that ./confstore builds. The last line is 'N passed, M failed', of steps, and the
@@ -103,6 +104,7 @@ server=
 
 step "sixteen clients of a session that is killed and started again" 300 "$python" checks/many_clients.py
 step "editors, the hook and the examples" 300 "$python" checks/editors.py
+step "the page of a log" 300 "$python" checks/page.py
 step "completions" 300 "$python" checks/completions.py
 no_warnings() {
     for page in docs/man/*.[1-9]; do
