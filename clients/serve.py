@@ -14,7 +14,7 @@ damaged ends this program at once, with the session's status and line. A socket 
 Each client has a queue. At most 16 of its commands are in the session, one where the answer may be long, and none are
 taken while it has answers to read; so what is kept of a client is at most a command and what was read with it, a long
 answer and some short ones. A client that reads nothing for a minute while there is something to read, or sends more
-than 4,194,304 bytes without a closing line, is cut off. At most 256 clients are connected, and others wait.
+than 16,777,216 bytes without a closing line, is cut off. At most 256 clients are connected, and others wait.
 
 When the session ends, all clients are cut off after the answers that came, and this program ends with the session's
 status. On SIGTERM or SIGINT no more commands are taken, those that the session has are performed and answered, the
@@ -34,7 +34,7 @@ import subprocess
 import sys
 import time
 
-LONGEST = 4_194_304  # bytes of a command
+LONGEST = 16_777_216  # bytes of a command
 SESSION = 1_073_741_824  # bytes that a session takes
 PART = 65_536  # bytes that are read at once
 MOST_DUE = 16  # commands of a client in the session

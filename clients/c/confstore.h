@@ -35,7 +35,7 @@ extern "C" {
 #endif
 
 /* The longest command that a session takes, with its closing line. */
-#define CONFSTORE_LONGEST_COMMAND ((size_t)4194304)
+#define CONFSTORE_LONGEST_COMMAND ((size_t)16777216)
 
 /* What a call returns. */
 enum confstore_status {

@@ -21,7 +21,7 @@ from .faults import AnswerCut, Closed, ConfstoreError, Disconnected, MissingProg
 from .faults import TooLongToSend, end_of
 
 # The longest command of a session in bytes, and how many bytes may wait here to be sent.
-LONGEST_COMMAND = 4_194_304
+LONGEST_COMMAND = 16_777_216
 MOST_UNSENT = 2 * LONGEST_COMMAND
 
 # How many bytes are read at once, and how many of standard error are kept.
@@ -182,10 +182,26 @@ class Session:
 
         Raises `TimedOut` after so many seconds, `TooLongToSend`, `Closed`, or what the session ended with.
         """
-        if len(document) > LONGEST_COMMAND:
-            raise TooLongToSend(f"a command of {len(document)} bytes, more than {LONGEST_COMMAND}")
         deadline = time.monotonic() + timeout
-        slot = self._send(document, deadline)
+        return self._answer_in(self._send(document, deadline), deadline, timeout)
+
+    def ask_all(self, documents: Sequence[bytes], timeout: float) -> List[Union[bytes, ConfstoreError]]:
+        """The answers to documents that are sent in this order, before the first is answered.
+
+        Where one got no answer, `TimedOut` or what the session ended with is in its place. Raises as `ask` does where
+        the documents can't be sent: those before were then sent, and may be performed.
+        """
+        deadline = time.monotonic() + timeout
+        slots = [self._send(document, deadline) for document in documents]
+        answers: List[Union[bytes, ConfstoreError]] = []
+        for slot in slots:
+            try:
+                answers.append(self._answer_in(slot, deadline, timeout))
+            except ConfstoreError as fault:
+                answers.append(fault)
+        return answers
+
+    def _answer_in(self, slot: _Slot, deadline: float, timeout: float) -> bytes:
         if not slot.done.wait(max(deadline - time.monotonic(), 0)):
             raise TimedOut(f"no answer within {timeout} seconds", True)
         if slot.answer is None:
@@ -201,6 +217,8 @@ class Session:
         return again
 
     def _send(self, document: bytes, deadline: float) -> _Slot:
+        if len(document) > LONGEST_COMMAND:
+            raise TooLongToSend(f"a command of {len(document)} bytes, more than {LONGEST_COMMAND}")
         if os.getpid() != self._owner:
             raise Closed("this store was opened by another process")
         slot = _Slot()

@@ -188,7 +188,9 @@ class Store:
         raise self._distrust(answer, "the answer is none to the command")
 
     def _count(self, command: Tree) -> int:
-        answer = self._ask(command)
+        return self._count_in(self._ask(command))
+
+    def _count_in(self, answer: bytes) -> int:
         found = _OK.fullmatch(answer)
         if found:
             return int(found[1])
@@ -250,6 +252,22 @@ class Store:
         except BadCommand:
             self._need_batches()
             raise
+
+    def perform_batches(self, batches: Sequence[Sequence[Tree]]) -> "List[int | ConfstoreError]":
+        """Performs many batches, one after the other, and returns the new count for each, or why it has none.
+
+        Each is a list of edits in the form of a session's `batch`, and is performed whole or not at all. All are sent
+        before the first is answered, so they share syncs; a batch that is refused keeps none of the others back. Where
+        the session ended, its end is in the place of each batch that got no answer: it was performed or not.
+        """
+        documents = [_document({"batch": list(edits)}) for edits in batches]
+        counts: List[int | ConfstoreError] = []
+        for answer in self._session.ask_all(documents, self._timeout):
+            try:
+                counts.append(answer if isinstance(answer, ConfstoreError) else self._count_in(answer))
+            except ConfstoreError as fault:
+                counts.append(fault)
+        return counts
 
     def _need_batches(self) -> None:
         """Raises `Unsupported` if the program has no batches: one that has them refuses an empty one by name."""
