@@ -23,7 +23,7 @@ UNNAMED = {"example_edit": {"yaml_data"}}
 MOST_WAYS = 5000
 # The enums of faults that the program prints, and the names that it prints for what isn't a variant of that name.
 FAULTS = ["Why", "ReadFault", "StoreFault", "PathFault", "OpenFault", "FolderFault", "SessionFault"]
-PRINTED = {"BadCommand", "Input", "Output"}
+PRINTED = {"BadCommand", "Input", "Output", "StoreExists"}
 
 
 def text_of(pattern):

@@ -6,7 +6,7 @@ use crate::FolderFault;
 use crate::folder::OpenFolder;
 use crate::lock::lock_file;
 use crate::owner::{OWNER_ALONE, take_after};
-use crate::plain::{look, open_plain};
+use crate::plain::{look, open_plain, open_to_read};
 use conf_disk::{Content, Disk, DiskFault, Name};
 use std::alloc::{AllocError, Global};
 use std::fs::{File, Metadata, OpenOptions};
@@ -19,8 +19,9 @@ use std::{fs, io};
 /// and a handle for appending to each file that it appended to, until it is dropped. Where a name has no plain file but
 /// a link, a FIFO or a folder, a call on it fails.
 ///
-/// One that was opened [`for_reading`](FolderDisk::for_reading) holds the lock on the folder alone. On it each call but
-/// `read` and `failures` fails, and changes nothing.
+/// One that was opened [`for_reading`](FolderDisk::for_reading) holds the lock on the folder alone, and one that was
+/// opened [`unlocked`](FolderDisk::unlocked) holds none. On both each call but `read` and `failures` fails, and changes
+/// nothing.
 #[derive(Drop)]
 pub struct FolderDisk<'r, R: Files<File = File>> {
     rt: &'r R,
@@ -75,19 +76,18 @@ fn read_up_to(alloc: Global, file: File, max: u64) -> io::Result<Content> {
     Ok(Content::Bytes(bytes))
 }
 
-/// Opens and locks the folder at a path, and looks at `store.yaml` and `next.yaml` in it. Returns it with the paths of
-/// its files.
-fn open_paths<R: Files<File = File>>(
+/// Locks an open folder, and looks at `store.yaml` and `next.yaml` in it. Returns the paths of its files.
+fn lock_paths<R: Files<File = File>>(
     rt: &R,
     alloc: Global,
-    folder: &str,
-) -> Result<(OpenFolder, Paths), FolderFault> {
-    let folder = OpenFolder::new(rt, alloc, folder)?;
+    folder: &OpenFolder,
+) -> Result<Paths, FolderFault> {
+    folder.lock()?;
     let paths = Paths::new(alloc, folder.path())?;
     if look(rt, paths.store.as_str()).is_err() || look(rt, paths.next.as_str()).is_err() {
         return Err(FolderFault::Device);
     }
-    Ok((folder, paths))
+    Ok(paths)
 }
 
 /// Makes an empty file under a path, for appending. If it is to replace a file, it takes after that one, and nobody but
@@ -115,7 +115,8 @@ impl<'r, R: Files<File = File>> FolderDisk<'r, R> {
     /// `Device` if there is no folder at the path, one of the names has no plain file but something else, or a call of
     /// the system fails; `Locked` if another run holds a lock; and `OutOfMemory`.
     pub fn new(rt: &'r R, alloc: Global, folder: &str) -> Result<Self, FolderFault> {
-        let (folder, paths) = open_paths(rt, alloc, folder)?;
+        let folder = OpenFolder::new(rt, alloc, folder)?;
+        let paths = lock_paths(rt, alloc, &folder)?;
         let lock = lock_file(rt, paths.lock.as_str())?;
         let access = Access::Changing { _lock: lock };
         Ok(FolderDisk::over(rt, folder, paths, access))
@@ -130,7 +131,21 @@ impl<'r, R: Files<File = File>> FolderDisk<'r, R> {
     /// a call of the system fails; `Locked` if another run holds the lock on the folder; and `OutOfMemory`. The folder
     /// is unchanged.
     pub fn for_reading(rt: &'r R, alloc: Global, folder: &str) -> Result<Self, FolderFault> {
-        let (folder, paths) = open_paths(rt, alloc, folder)?;
+        let folder = OpenFolder::new(rt, alloc, folder)?;
+        let paths = lock_paths(rt, alloc, &folder)?;
+        Ok(FolderDisk::over(rt, folder, paths, Access::Reading))
+    }
+
+    /// The disk of the folder at a path, for reading beside a run that holds the store. It opens the folder, takes no
+    /// lock, and makes no file. What another run is about to append may be read in part, and what was read may not be
+    /// synced. A file that is put in the place of `store.yaml` is read whole, or not at all.
+    ///
+    /// # Errors
+    /// `Device` if there is no folder at the path, or a call of the system fails, and `OutOfMemory`. The folder is
+    /// unchanged.
+    pub fn unlocked(rt: &'r R, alloc: Global, folder: &str) -> Result<Self, FolderFault> {
+        let folder = OpenFolder::new(rt, alloc, folder)?;
+        let paths = Paths::new(alloc, folder.path())?;
         Ok(FolderDisk::over(rt, folder, paths, Access::Reading))
     }
 
@@ -260,7 +275,7 @@ impl<'r, R: Files<File = File>> FolderDisk<'r, R> {
 
     /// Reads the file under a name, if there is one. A file of more than `max` bytes is `TooLong`.
     fn try_read(&self, alloc: Global, name: Name, max: u64) -> io::Result<Content> {
-        match open_plain(self.rt, OpenOptions::new().read(true), self.path(name)?) {
+        match open_to_read(self.rt, self.path(name)?) {
             Ok(file) => read_up_to(alloc, file, max),
             Err(error) if error.kind() == ErrorKind::NotFound => Ok(Content::Missing),
             Err(error) => Err(error),

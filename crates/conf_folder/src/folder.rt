@@ -1,4 +1,4 @@
-// The folder of a disk, open and locked.
+// The folder of a disk, open, and locked unless it is only looked at.
 use crate::FolderFault;
 use crate::lock::take_lock;
 use crate::plain::Identity;
@@ -9,7 +9,7 @@ use std::os::fd::AsRawFd;
 use std::rt::Files;
 use std::{fs, io};
 
-/// A folder that is open and locked until it is dropped, and a path to it.
+/// A folder that is open until it is dropped, and a path to it.
 ///
 /// The path is that of the open folder under /proc, which leads to it even if it is moved. Where there is no /proc, it
 /// is the path that was given, which may come to lead to another folder.
@@ -21,11 +21,10 @@ pub(crate) struct OpenFolder {
 }
 
 impl OpenFolder {
-    /// Opens the folder at a path and takes its lock without waiting.
+    /// Opens the folder at a path.
     ///
     /// # Errors
-    /// `Device` if there is no folder at the path or a call of the system fails, `Locked` if another run holds the
-    /// lock, and `OutOfMemory`.
+    /// `Device` if there is no folder at the path or a call of the system fails, and `OutOfMemory`.
     pub(crate) fn new<R: Files<File = File>>(
         rt: &R,
         alloc: Global,
@@ -34,13 +33,20 @@ impl OpenFolder {
         let Ok((file, identity)) = open_folder(rt, path) else {
             return Err(FolderFault::Device);
         };
-        take_lock(&file)?;
         let path = lasting_path(rt, alloc, &file, identity, path)?;
         Ok(OpenFolder {
             file,
             identity,
             path,
         })
+    }
+
+    /// Takes the lock on the folder without waiting. It is held until the folder is dropped.
+    ///
+    /// # Errors
+    /// `Locked` if another run holds the lock, and `Device` if a call of the system fails.
+    pub(crate) fn lock(&self) -> Result<(), FolderFault> {
+        take_lock(&self.file)
     }
 
     /// The path to the folder.

@@ -5,6 +5,9 @@ use std::os::unix::fs::MetadataExt;
 use std::rt::Files;
 use std::{fs, io};
 
+/// How often a file is looked for that is another one when it is opened.
+const MOST_LOOKS: u32 = 100;
+
 /// Which file or folder of the system it is, whatever its paths are.
 #[derive(Clone, Copy, PartialEq, Eq)]
 pub(crate) struct Identity {
@@ -35,6 +38,27 @@ pub(crate) fn look<R: Files<File = File>>(rt: &R, path: &str) -> io::Result<Opti
     }
 }
 
+/// Opens the plain file under a path, which is the one that was looked at before. Returns `None` if it is another one by
+/// now.
+///
+/// # Errors
+/// `NotFound` if nothing is there. If it is no plain file, or the system refuses.
+fn open_seen<R: Files<File = File>>(
+    rt: &R,
+    how: &OpenOptions,
+    path: &str,
+) -> io::Result<Option<File>> {
+    let Some(found) = look(rt, path)? else {
+        return Err(io::Error::from(ErrorKind::NotFound));
+    };
+    let file = how.open(rt, path)?;
+    if Identity::of(&file.metadata()?) == Identity::of(&found) {
+        Ok(Some(file))
+    } else {
+        Ok(None)
+    }
+}
+
 /// Opens the plain file under a path. It is the file that was looked at before.
 ///
 /// # Errors
@@ -44,13 +68,23 @@ pub(crate) fn open_plain<R: Files<File = File>>(
     how: &OpenOptions,
     path: &str,
 ) -> io::Result<File> {
-    let Some(found) = look(rt, path)? else {
-        return Err(io::Error::from(ErrorKind::NotFound));
-    };
-    let file = how.open(rt, path)?;
-    if Identity::of(&file.metadata()?) == Identity::of(&found) {
-        Ok(file)
-    } else {
-        Err(io::Error::from(ErrorKind::InvalidInput))
+    match open_seen(rt, how, path)? {
+        Some(file) => Ok(file),
+        None => Err(io::Error::from(ErrorKind::InvalidInput)),
     }
+}
+
+/// Opens the plain file under a path for reading. If another run puts a file in its place meanwhile, it opens that one.
+///
+/// # Errors
+/// `NotFound` if nothing is there. If it is no plain file, or another one each time, or the system refuses.
+pub(crate) fn open_to_read<R: Files<File = File>>(rt: &R, path: &str) -> io::Result<File> {
+    let mut how = OpenOptions::new();
+    how.read(true);
+    for _ in 0..MOST_LOOKS {
+        if let Some(file) = open_seen(rt, &how, path)? {
+            return Ok(file);
+        }
+    }
+    Err(io::Error::from(ErrorKind::InvalidInput))
 }

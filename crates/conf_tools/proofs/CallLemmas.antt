@@ -1,5 +1,5 @@
 -- What calls of the program keep, one call after the other.
-use Rattle.std.proofs.Common.{◌≡◌, ◌≤◌, ℕ, List, [], ◌∷◌, ◌++◌, take, Option, None, Some, Result, Ok, Err, refl, sym, ap, ◌∙◌, subst, ⊎_elim, arith}
+use Rattle.std.proofs.Common.{◌≡◌, ◌≤◌, ℕ, Bool, true, false, if◌then◌else◌, List, [], ◌∷◌, ◌++◌, length, take, Option, None, Some, Result, Ok, Err, refl, sym, ap, ◌∙◌, subst, ⊎_elim, arith}
 use Rattle.conf_disk.specs.Folder.{Folder, bytes_under}
 use Rattle.conf_disk.specs.Image.{Image, IsImage, image_now}
 use Rattle.conf_disk.specs.Laws.{ReadingIsAnImage}
@@ -15,10 +15,12 @@ use Rattle.conf_store.specs.Meaning.{FileMeans}
 use Rattle.conf_store.specs.Opens.{MeantAtEntry, OneMeaning}
 use Rattle.conf_session.specs.declared.fault.SessionFault.{SessionFault}
 use Rattle.conf_session.specs.declared.session.Tally.{Tally}
-use Rattle.conf_tools.specs.ProgramCalls.{AreCalls, Call, CallsHold, EachKept, Ending, Event, KeptOf, MayLeave, accepted, answered, cut_off, disk_before, disk_behind, exporting, returned, running}
+use Rattle.conf_tools.specs.ProgramCalls.{AreCalls, Call, CallsHold, EachKept, Ending, Event, KeptOf, MayLeave, accepted, answered, changing, cut_off, disk_before, disk_behind, exporting, returned, running}
+use Rattle.conf_tools.specs.Changes.{KeepsChange}
 use Rattle.conf_tools.specs.Stores.{KeepsAnswered}
+use Rattle.conf_tools.specs.declared.changes.Change.{Change}
 use Rattle.conf_tools.specs.declared.stores.Grouping.{Grouping}
-use Rattle.conf_tools.specs.declared.stores.StoreToolFault.TheVariants.{Folder as InFolder, Open, Session, Export, Output}
+use Rattle.conf_tools.specs.declared.stores.StoreToolFault.TheVariants.{Folder as InFolder, Open, Session, Export, Output, Refused, StoreExists}
 
 -- a file means one state at most
 file-one : OneMeaning → (file : Option (List ℕ)) (s t : Contents) → FileMeans file s → FileMeans file t → s ≡ t
@@ -105,6 +107,21 @@ module _ {D : Type 0} (folder : D → Folder) (moment : D → ℕ) (since : D �
       (λ now. kept-prefix P cut_off s keeps.work.accepted keeps.work.answered image.store (reads P old s stands keeps.opens.means) now (none-owed keeps.work.answered now.count))
       (keeps.once_open.before (moment old) image keeps.while_opening.later is)
 
+  -- a change
+  kept-change : (P : Contents → Type 0) (change : Change) (old new : D) (is_done : Bool) (ending : Ending) (image : Image) → Stands old P
+      → (keeps : KeepsChange folder moment since old change new is_done) → MayLeave folder moment since ending old new image
+      → Kept P ending keeps.accepted (if is_done then length keeps.accepted else 0) image.store
+  kept-change P change old new is_done returned image stands keeps is =
+      let least = keeps.returned image is in
+      kept-prefix P returned keeps.start keeps.accepted (if is_done then length keeps.accepted else 0) image.store (reads P old keeps.start stands keeps.means)
+      (record { count = least.count; state = least.state; leads = least.leads; means = least.means }) (λ _. least.enough)
+  kept-change P change old new is_done cut_off image stands keeps is =
+      let owed = if is_done then length keeps.accepted else 0 in
+      ⊎_elim
+      (λ was. kept-entry P old cut_off keeps.accepted owed image stands (none-owed owed 0) (keeps.while_opening.each image was))
+      (λ now. kept-prefix P cut_off keeps.start keeps.accepted owed image.store (reads P old keeps.start stands keeps.means) now (none-owed owed now.count))
+      (keeps.once_open.before (moment old) image keeps.while_opening.later is)
+
   -- any call
   kept-call : (P : Contents → Type 0) (ending : Ending) (call : Call folder moment since) (image : Image) → Stands (disk_before folder moment since call) P
       → MayLeave folder moment since ending (disk_before folder moment since call) (disk_behind folder moment since call) image
@@ -117,6 +134,16 @@ module _ {D : Type 0} (folder : D → Folder) (moment : D → ℕ) (since : D �
   kept-call P ending (running given left held written grouping old (Err (new, Open fault)) leaves) image stands is = kept-unchanged P old new ending image stands leaves is
   kept-call P ending (running given left held written grouping old (Err (new, Export fault)) leaves) image stands is = kept-unchanged P old new ending image stands leaves is
   kept-call P ending (running given left held written grouping old (Err (new, Output)) leaves) image stands is = kept-unchanged P old new ending image stands leaves is
+  kept-call P ending (running given left held written grouping old (Err (new, Refused fault)) leaves) image stands is = kept-unchanged P old new ending image stands leaves is
+  kept-call P ending (running given left held written grouping old (Err (new, StoreExists)) leaves) image stands is = kept-unchanged P old new ending image stands leaves is
+  kept-call P ending (changing change old (Ok new) keeps) image stands is = kept-change P change old new true ending image stands keeps is
+  kept-call P ending (changing change old (Err (new, Refused fault)) keeps) image stands is = kept-change P change old new false ending image stands keeps is
+  kept-call P ending (changing change old (Err (new, InFolder fault)) leaves) image stands is = kept-unchanged P old new ending image stands leaves is
+  kept-call P ending (changing change old (Err (new, Open fault)) leaves) image stands is = kept-unchanged P old new ending image stands leaves is
+  kept-call P ending (changing change old (Err (new, Session fault)) leaves) image stands is = kept-unchanged P old new ending image stands leaves is
+  kept-call P ending (changing change old (Err (new, Export fault)) leaves) image stands is = kept-unchanged P old new ending image stands leaves is
+  kept-call P ending (changing change old (Err (new, Output)) leaves) image stands is = kept-unchanged P old new ending image stands leaves is
+  kept-call P ending (changing change old (Err (new, StoreExists)) leaves) image stands is = kept-unchanged P old new ending image stands leaves is
   kept-call P ending (exporting old new leaves) image stands is = kept-unchanged P old new ending image stands leaves is
 
   -- What is kept of all calls, from a state of which P holds.

@@ -18,7 +18,7 @@ use Rattle.conf_store.specs.declared.fault.OpenFault.TheVariants.{NotAStore, Dam
 use Rattle.conf_tools.specs.Exports.{Finds, HasText, LacksText, disk_back}
 use Rattle.conf_tools.specs.Stores.{CannotOpen, OpensOn}
 use Rattle.conf_tools.specs.declared.stores.StoreToolFault.{StoreToolFault}
-use Rattle.conf_tools.specs.declared.stores.StoreToolFault.TheVariants.{Folder as InFolder, Open, Session, Export, Output}
+use Rattle.conf_tools.specs.declared.stores.StoreToolFault.TheVariants.{Folder as InFolder, Open, Session, Export, Output, Refused, StoreExists}
 
 -- a failure is still one after further calls
 failed-on : (before now later : ℕ) → HasFailed before now → now ≤ later → HasFailed before later
@@ -76,6 +76,8 @@ module _ {D : Type 0} (honest : Type 0) (folder : D → Folder) (moment : D → 
     lacks-since name new (Session fault) risen same lacks = absurd lacks
     lacks-since name new (Export fault) risen same lacks = record { state = lacks.state; finds = since-opening new lacks.state risen same lacks.finds; why = lacks.why }
     lacks-since name new Output risen same lacks = absurd lacks
+    lacks-since name new (Refused fault) risen same lacks = absurd lacks
+    lacks-since name new StoreExists risen same lacks = absurd lacks
 
     pub refused-since : {X : Type 0} (name : List ℕ) (r : Result (D × X) (D × StoreToolFault)) → failures mid ≤ failures (disk_back r) → (honest → folder (disk_back r) ≡ folder mid)
         → IfErr r (λ refused. LacksText honest folder failures mid refused.0 name refused.1) → IfErr r (λ refused. LacksText honest folder failures old refused.0 name refused.1)

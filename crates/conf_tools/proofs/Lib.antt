@@ -5,3 +5,4 @@ pub mod SessionLemmas
 pub mod TailLemmas
 pub mod CallLemmas
 pub mod ExportLemmas
+pub mod ChangeLemmas

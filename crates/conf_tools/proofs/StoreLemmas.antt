@@ -1,14 +1,14 @@
 -- What a session's end says of the program's status.
-use Rattle.std.proofs.Common.{◌⊎◌, ℕ, List, Option, Err, inl, inr, arith}
+use Rattle.std.proofs.Common.{◌⊎◌, ⊎_elim, ◌≤◌, ℕ, List, Option, None, Some, Err, inl, inr, refl, arith}
 use Rattle.std.specs.Io.KnownBytes.{Keeps}
 use Rattle.conf_disk.specs.Folder.{Folder}
 use Rattle.conf_disk.specs.Image.{Image}
 use Rattle.conf_store.specs.declared.fault.OpenFault.TheVariants as OpenFault
 use Rattle.conf_tools.specs.Stores.{RunsOn}
-use Rattle.conf_tools.specs.Statuses.{Performs, FindsSome, AnswersSome, code_of, status_of_store}
+use Rattle.conf_tools.specs.Statuses.{Performs, TakesSome, FindsSome, AnswersSome, code_of, status_of_store}
 use Rattle.conf_tools.specs.declared.stores.Grouping.{Grouping}
 use Rattle.conf_tools.specs.declared.stores.StoreToolFault.{StoreToolFault}
-use Rattle.conf_tools.specs.declared.stores.StoreToolFault.TheVariants.{Folder as InFolder, Open, Session, Export, Output as StoreOutput}
+use Rattle.conf_tools.specs.declared.stores.StoreToolFault.TheVariants.{Folder as InFolder, Open, Session, Export, Output as StoreOutput, Refused, StoreExists}
 use Rattle.conf_session.specs.declared.fault.SessionFault.TheVariants as SessionFaults
 
 at_three : {given left held written : Option (List ℕ)} → Performs given left held written 3
@@ -46,3 +46,19 @@ performs_refused honest folder moment since failures grouping old new (Session S
 performs_refused honest folder moment since failures grouping old new (Session SessionFaults.Reopen) runs = at_three
 performs_refused honest folder moment since failures grouping old new (Export fault) runs = absurd runs
 performs_refused honest folder moment since failures grouping old new StoreOutput runs = absurd runs
+performs_refused honest folder moment since failures grouping old new (Refused fault) runs = absurd runs
+performs_refused honest folder moment since failures grouping old new StoreExists runs = absurd runs
+
+-- a change, of which the text may have been taken from the input
+pub performs_change : {given left held written : Option (List ℕ)} (status : ℕ) → status ≤ 3 → TakesSome given left → Keeps held written → Performs given left held written status
+performs_change status known takes keeps = record {
+  known = known;
+  done = λ e. ⊎_elim (λ none. inr (inr (inr (inl none)))) (λ some. inr (inr (inr (inr (some, keeps))))) takes;
+  refused = λ e. inr (inr keeps);
+  wrong = λ e. keeps;
+}
+
+-- a writer that was not used
+pub keeps_same : (held : Option (List ℕ)) → Keeps held held
+keeps_same None = tt
+keeps_same (Some bytes) = refl

@@ -1,6 +1,7 @@
 pub mod Statuses
 pub mod Tools
 pub mod Stores
+pub mod Changes
 pub mod Tails
 pub mod ProgramCalls
 pub mod Exports

@@ -1,5 +1,5 @@
 -- Calls of the program on the store of one folder, one after the other, and what the folder keeps of their commands.
-use Rattle.std.specs.Prelude.{◌≡◌, ◌≤◌, ℕ, List, [], ◌∷◌, take, Option, Result, Ok, Err}
+use Rattle.std.specs.Prelude.{◌≡◌, ◌≤◌, ℕ, List, [], ◌∷◌, length, take, Option, Result, Ok, Err}
 use Rattle.conf_disk.specs.Folder.{Folder}
 use Rattle.conf_disk.specs.Image.{Image, IsImage}
 use Rattle.conf_disk.specs.Moments.{LeavesOnly}
@@ -11,20 +11,25 @@ use Rattle.conf_store.specs.Lives.{all_commands}
 use Rattle.conf_store.specs.Meaning.{FileMeans}
 use Rattle.conf_store.specs.Opens.{MeantAtEntry}
 use Rattle.conf_session.specs.declared.session.Tally.{Tally}
+use Rattle.conf_tools.specs.Changes.{ChangeSurvives}
 use Rattle.conf_tools.specs.Stores.{SurvivesCrashes}
+use Rattle.conf_tools.specs.declared.changes.Change.{Change}
 use Rattle.conf_tools.specs.declared.stores.Grouping.{Grouping}
 use Rattle.conf_tools.specs.declared.stores.StoreToolFault.{StoreToolFault}
-use Rattle.conf_tools.specs.declared.stores.StoreToolFault.TheVariants.{Session}
+use Rattle.conf_tools.specs.declared.stores.StoreToolFault.TheVariants.{Session, Refused}
 
 -- ---- one call
 
--- A call of `run_store` or `export_store` on a disk that is honest, with what its clause `crashes` says. A call that
--- was cut off is given by what it would have returned: an image that it left is one that this clause allows.
+-- A call on a disk that is honest, with what its clause `crashes` says: of `run_store`, of `change_store`, or of
+-- `export_store` or `make_store`. A call that was cut off is given by what it would have returned: an image that it left
+-- is one that this clause allows.
 pub data Call {D : Type 0} (folder : D → Folder) (moment : D → ℕ) (since : D → ℕ → Image → Type 0) : Type 0 where
   running : (given left held written : Option (List ℕ)) (grouping : Grouping) (old : D)
       (result : Result (D × Tally) (D × StoreToolFault))
       (crashes : SurvivesCrashes folder moment since given left held written grouping old result)
       → Call folder moment since
+  changing : (change : Change) (old : D) (result : Result D (D × StoreToolFault))
+      (crashes : ChangeSurvives folder moment since old change result) → Call folder moment since
   exporting : (old new : D)
       (crashes : LeavesOnly moment since old new (λ image. MeantAtEntry (folder old) image.store))
       → Call folder moment since
@@ -38,6 +43,7 @@ module _ {D : Type 0} (folder : D → Folder) (moment : D → ℕ) (since : D �
   -- the disk before a call
   abbrev pub disk_before : Call folder moment since → D
   disk_before (running given left held written grouping old result crashes) = old
+  disk_before (changing change old result crashes) = old
   disk_before (exporting old new crashes) = old
 
   -- the disk after a session
@@ -45,9 +51,15 @@ module _ {D : Type 0} (folder : D → Folder) (moment : D → ℕ) (since : D �
   disk_handed_back (Ok r) = r.0
   disk_handed_back (Err r) = r.0
 
+  -- the disk after a change
+  abbrev pub disk_back : Result D (D × StoreToolFault) → D
+  disk_back (Ok new) = new
+  disk_back (Err r) = r.0
+
   -- the disk after a call
   abbrev pub disk_behind : Call folder moment since → D
   disk_behind (running given left held written grouping old result crashes) = disk_handed_back result
+  disk_behind (changing change old result crashes) = disk_back result
   disk_behind (exporting old new crashes) = new
 
   -- the commands that a session accepted
@@ -66,16 +78,31 @@ module _ {D : Type 0} (folder : D → Folder) (moment : D → ℕ) (since : D �
   answered_by_run given left held written grouping old (Err (new, Session fault)) keeps = keeps.work.answered
   answered_by_run given left held written grouping old (Err (new, fault)) refused = 0
 
+  -- the commands that a change accepted, one at most
+  abbrev pub accepted_by_change : (change : Change) (old : D) (result : Result D (D × StoreToolFault))
+      → ChangeSurvives folder moment since old change result → List Command
+  accepted_by_change change old (Ok new) keeps = keeps.accepted
+  accepted_by_change change old (Err (new, Refused fault)) keeps = keeps.accepted
+  accepted_by_change change old (Err (new, fault)) refused = []
+
+  -- how many of them are made once it has returned
+  abbrev pub made_by_change : (change : Change) (old : D) (result : Result D (D × StoreToolFault))
+      → ChangeSurvives folder moment since old change result → ℕ
+  made_by_change change old (Ok new) keeps = length keeps.accepted
+  made_by_change change old (Err r) refused = 0
+
   -- the commands that a call accepted
   abbrev pub accepted : Call folder moment since → List Command
   accepted (running given left held written grouping old result crashes) =
       accepted_by_run given left held written grouping old result crashes
+  accepted (changing change old result crashes) = accepted_by_change change old result crashes
   accepted (exporting old new crashes) = []
 
   -- how many of them it answered
   abbrev pub answered : Call folder moment since → ℕ
   answered (running given left held written grouping old result crashes) =
       answered_by_run given left held written grouping old result crashes
+  answered (changing change old result crashes) = made_by_change change old result crashes
   answered (exporting old new crashes) = 0
 
   -- what a call leaves that ended so: what a crash may leave once it returned, or at any moment of it

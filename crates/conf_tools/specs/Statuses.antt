@@ -9,10 +9,10 @@ use Rattle.conf_session.specs.declared.fault.SessionFault.TheVariants as Session
 use Rattle.conf_session.specs.Answers.{Stored}
 use Rattle.conf_session.specs.declared.session.Tally.{Tally}
 use Rattle.conf_tools.specs.Stores.{Answers, Work}
-use Rattle.conf_tools.specs.Tools.{Checks, Formats}
+use Rattle.conf_tools.specs.Tools.{Checks, Formats, ReadsAtMost, most_input}
 use Rattle.conf_tools.specs.declared.stores.Grouping.{Grouping}
 use Rattle.conf_tools.specs.declared.stores.StoreToolFault.{StoreToolFault}
-use Rattle.conf_tools.specs.declared.stores.StoreToolFault.TheVariants.{Folder as InFolder, Open, Session, Export, Output as StoreOutput}
+use Rattle.conf_tools.specs.declared.stores.StoreToolFault.TheVariants.{Folder as InFolder, Open, Session, Export, Output as StoreOutput, Refused as RefusedChange, StoreExists}
 use Rattle.conf_tools.specs.declared.program.Status.{Status}
 use Rattle.conf_tools.specs.declared.program.Status.TheVariants.{Done, Found, Refused, WrongWords, Device}
 use Rattle.conf_tools.specs.declared.texts.ToolFault.{ToolFault}
@@ -32,7 +32,7 @@ status_of Input = Device
 status_of Output = Device
 status_of (Read fault) = Refused
 
--- the status after a fault of `run` or `export`
+-- the status after a fault of a word on a store
 abbrev pub status_of_store : StoreToolFault → Status
 status_of_store (InFolder FolderFault.Device) = Device
 status_of_store (InFolder FolderFault.Locked) = Device
@@ -48,6 +48,10 @@ status_of_store (Export StoreFault.Device) = Device
 status_of_store (Export StoreFault.Reopen) = Device
 status_of_store (Export fault) = Refused
 status_of_store StoreOutput = Device
+status_of_store (RefusedChange StoreFault.Device) = Device
+status_of_store (RefusedChange StoreFault.Reopen) = Device
+status_of_store (RefusedChange fault) = Refused
+status_of_store StoreExists = Refused
 
 -- the input was checked, and something was found in it
 abbrev pub FindsSome : Option (List ℕ) → Option (List ℕ) → Option (List ℕ) → Option (List ℕ) → Type 0
@@ -65,13 +69,21 @@ AnswersSome given left held written =
     (start : Stored) × (file : Option (List ℕ)) × (grouping : Grouping) × (fault : SessionFault) × (work : Work)
     × Answers given left held written start file grouping (Err fault) work
 
+-- what was taken from the reader, nothing or a text, is not more than a text may have and one byte
+abbrev pub TakesSome : Option (List ℕ) → Option (List ℕ) → Type 0
+TakesSome given left = Keeps given left ⊎ ReadsAtMost given left most_input
+
+-- the text of a change was taken from the input, and nothing was written
+abbrev pub TakesText : Option (List ℕ) → Option (List ℕ) → Option (List ℕ) → Option (List ℕ) → Type 0
+TakesText given left held written = ReadsAtMost given left most_input × Keeps held written
+
 -- At 0 the input was formatted, or checked and nothing found in it, or its commands were answered, or nothing of it was
--- read, as for help and `export`. At 1 the findings of the input were written, or some answers, or nothing: the input
--- was refused, or memory ran out. At 2 nothing was written. Of 3 nothing is said.
+-- read, as for help and `export`, or it was the text of a change. At 1 the findings of the input were written, or some
+-- answers, or nothing: the input was refused, or memory ran out. At 2 nothing was written. Of 3 nothing is said.
 pub record Performs (given left held written : Option (List ℕ)) (status : ℕ) : Type 0 where
   pub known : status ≤ 3
   pub done : status ≡ 0 → Formats given left held written ⊎ Checks given left held written 0
-      ⊎ AnswersAll given left held written ⊎ Keeps given left
+      ⊎ AnswersAll given left held written ⊎ Keeps given left ⊎ TakesText given left held written
   pub refused : status ≡ 1 → FindsSome given left held written ⊎ AnswersSome given left held written
       ⊎ Keeps held written
   pub wrong : status ≡ 2 → Keeps held written

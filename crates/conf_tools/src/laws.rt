@@ -7,13 +7,14 @@ use conf_store::bytes_mean_one_state;
 /// Whatever crashes happen within and between the program's calls on a folder, no command is lost that was answered,
 /// and none is kept that was not accepted.
 ///
-/// Take any list of calls of [`run_store`](crate::run_store) and [`export_store`](crate::export_store) on an honest
-/// disk. Each of them returned, whatever it returned, or was cut off. What it may have left then is what its clause
-/// `crashes` says, and the next call finds a folder of which a crash leaves no more than that. So a crash may come
-/// between two calls, or not. Let all that a crash leaves of the first folder mean one state, as a folder without
-/// `store.yaml` means the empty one. Then what a crash leaves in the end, and what is read there, means the first state
-/// after a list of commands. This list has, for each call in turn, a prefix of the commands that it accepted. If the
-/// call returned, the prefix has every command whose answer was written.
+/// Take any list of calls of [`run_store`](crate::run_store), [`change_store`](crate::change_store),
+/// [`export_store`](crate::export_store) and [`make_store`](crate::make_store) on an honest disk. Each of them returned,
+/// whatever it returned, or was cut off. What it may have left then is what its clause `crashes` says, and the next call
+/// finds a folder of which a crash leaves no more than that. So a crash may come between two calls, or not. Let all that
+/// a crash leaves of the first folder mean one state, as a folder without `store.yaml` means the empty one. Then what a
+/// crash leaves in the end, and what is read there, means the first state after a list of commands. This list has, for
+/// each call in turn, a prefix of the commands that it accepted. If the call returned, the prefix has every command
+/// whose answer was written, and that of a change that was made.
 pub fn calls_hold<D: Disk>()
     ensures { D.honest → CallsHold D.folder D.moment D.left }
 {

@@ -3,10 +3,12 @@
 //!
 //! The tools are there without the words, too. [`format_text`] writes a text's tree in the one style, and
 //! [`check_text`] reports where a text departs from it. [`run_store`] performs a session of commands, and
-//! [`export_store`] writes one configuration; the store may be on any disk. [`calls_hold`] says what these calls keep over
-//! any crashes.
+//! [`export_store`] writes one configuration. [`change_store`] makes a single change, and [`make_store`] an empty store.
+//! The store may be on any disk. [`calls_hold`] says what these calls keep over any crashes.
 #![tactic(auto)]
 
+mod change_words;
+mod changes;
 mod exports;
 mod input;
 mod laws;
@@ -17,6 +19,7 @@ mod stores;
 mod tail;
 mod texts;
 
+pub use changes::{Change, change_store, make_store};
 pub use exports::export_store;
 pub use laws::calls_hold;
 pub use program::{perform, refuse_words};

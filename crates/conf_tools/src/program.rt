@@ -3,6 +3,10 @@ ghost use Rattle.std.specs.Prelude.{◌≡◌, ◌⊎◌, ◌≤◌};
 ghost use Rattle.std.specs.Io.KnownBytes.{Keeps};
 ghost use Rattle.conf_tools.specs.Statuses.{Performs, code_of, status_of, status_of_store};
 
+use crate::change_words::{
+    change_folder, delete_in_folder, import_into_folder, init_folder, set_in_folder,
+};
+use crate::changes::Change;
 use crate::exports::export_store;
 use crate::rest::write_rest;
 use crate::stores::{Grouping, StoreToolFault, run_store};
@@ -13,7 +17,10 @@ use conf_folder::{FolderDisk, FolderFault};
 use conf_session::{Checkpoints, SessionFault};
 use conf_state::StoreFault;
 use conf_store::OpenFault;
-use conf_words::{CHECK, CHECKPOINT_AFTER, EXPORT, FOLDER, FORMAT, GROUP, NAME, RUN, command};
+use conf_words::{
+    CHECK, CHECKPOINT, CHECKPOINT_AFTER, DELETE, EXPORT, FOLDER, FORMAT, GROUP, IMPORT, INIT, NAME,
+    RUN, SET, command,
+};
 use std::alloc::{AllocError, Global};
 use std::fs::File;
 use std::io;
@@ -102,6 +109,11 @@ fn obey<F: Files<File = File>, R: Read, W: Write, E: Write>(
     match matches.subcommand() {
         Some((RUN, words)) => run_folder(rt, alloc, words, reader, writer, errors),
         Some((EXPORT, words)) => export_folder(rt, alloc, words, writer, errors),
+        Some((INIT, words)) => init_folder(rt, alloc, words, errors),
+        Some((IMPORT, words)) => import_into_folder(rt, alloc, words, reader, errors),
+        Some((SET, words)) => set_in_folder(rt, alloc, words, reader, errors),
+        Some((DELETE, words)) => delete_in_folder(rt, alloc, words, errors),
+        Some((CHECKPOINT, words)) => change_folder(rt, alloc, words, Change::Checkpoint, errors),
         Some((FORMAT, _)) => match format_text(alloc, reader, writer) {
             Ok(()) => Status::Done,
             Err(fault) => write_fault(errors, fault),
@@ -207,7 +219,7 @@ fn disk_to_read<'r, F: Files<File = File>>(
 }
 
 /// Writes a fault in one line, and returns its status.
-fn write_fault<E: Write>(errors: &mut E, fault: ToolFault) -> Status
+pub(crate) fn write_fault<E: Write>(errors: &mut E, fault: ToolFault) -> Status
     ensures { result ≡ status_of fault }
 {
     let _ = writeln!(errors, "confstore: {fault}");
@@ -218,7 +230,7 @@ fn write_fault<E: Write>(errors: &mut E, fault: ToolFault) -> Status
 }
 
 /// Writes a fault of a store in one line, and returns its status.
-fn write_store_fault<E: Write>(errors: &mut E, fault: StoreToolFault) -> Status
+pub(crate) fn write_store_fault<E: Write>(errors: &mut E, fault: StoreToolFault) -> Status
     ensures { result ≡ status_of_store fault }
 {
     let _ = writeln!(errors, "confstore: {fault}");
@@ -232,7 +244,8 @@ fn write_store_fault<E: Write>(errors: &mut E, fault: StoreToolFault) -> Status
             | SessionFault::Device
             | SessionFault::Reopen,
         ) => Status::Device,
-        StoreToolFault::Export(StoreFault::Device | StoreFault::Reopen) => Status::Device,
+        StoreToolFault::Export(StoreFault::Device | StoreFault::Reopen)
+        | StoreToolFault::Refused(StoreFault::Device | StoreFault::Reopen) => Status::Device,
         _ => Status::Refused,
     }
 }

@@ -29,6 +29,12 @@ pub enum StoreToolFault {
     /// The writer failed. Some of the text may have been written.
     #[error("Output")]
     Output,
+    /// The store refuses a change. Each but `Device` leaves it as it was.
+    #[error(transparent)]
+    Refused(StoreFault),
+    /// There is a `store.yaml` where a store is to be made. Nothing was written.
+    #[error("StoreExists")]
+    StoreExists,
 }
 
 /// How many commands of a session share one sync.

@@ -12,7 +12,7 @@ use yaml_style::check;
 use yaml_tree::{Limits, ReadFault, format_one};
 
 /// The most bytes that are read: one more than a text may have, by which a text that is too long is found.
-const MOST_INPUT: usize = Limits::CONFIGURATION.bytes as usize + 1;
+pub(crate) const MOST_INPUT: usize = Limits::CONFIGURATION.bytes as usize + 1;
 
 /// Why a tool stopped.
 #[derive(Clone, Copy, Debug, PartialEq, Eq, Error)]

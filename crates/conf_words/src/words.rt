@@ -28,6 +28,7 @@ has come, and answered by one document. `ok` comes after the change is on the di
   import: NAME   text: TEXT                reads a YAML text, and puts its tree under a name
   set: NAME      path: POINTER   value: TREE   sets the value at a JSON Pointer
   delete: NAME   path: POINTER             removes what is there; the pointer \"\" removes the name
+  batch: [EDIT, ..]                        makes all these edits, or none: each is one of the above
   get: NAME      path: POINTER             answers the value there
   export: NAME                             answers the text of the tree in the one style
   names:                                   answers the names
@@ -45,7 +46,7 @@ written, or the device fails, more than one command after the last answer may ha
 bytes. The new file is written in slices, one after each group of commands.
 
 Limits: a name has 1 to 64 of a-z, 0-9, `_` and `-`, a letter first. A text and a configuration have
-at most 1,048,576 bytes, and are at most 64 deep. A command has at most 4,194,304 bytes.
+at most 4,194,304 bytes, and are at most 128 deep. A command has at most 16,777,216 bytes.
 
 Example:
   mkdir store
@@ -73,12 +74,12 @@ const EXPORT_ABOUT: &str = "Writes a configuration of the store in a folder in t
 
 const EXPORT_HELP: &str = "Example:  confstore export store web";
 
-/// The argument of `run` and `export` that names the folder of a store.
+/// The argument that names the folder of a store.
 pub const FOLDER: &str = "FOLDER";
 
 const FOLDER_HELP: &str = "The store's folder; after `--` if it begins with `-`";
 
-/// The argument of `export` that names a configuration.
+/// The argument that names a configuration.
 pub const NAME: &str = "NAME";
 
 const NAME_HELP: &str = "The name of the configuration; after `--` if it begins with `-`";
@@ -106,6 +107,88 @@ The status is 0 where nothing is found. It is 1 where something is, and where th
 
 As a hook, for each file:  confstore check < file";
 
+/// The word of the subcommand that makes a folder with an empty store.
+pub const INIT: &str = "init";
+
+const INIT_ABOUT: &str = "Makes a folder with an empty store";
+
+const INIT_HELP: &str = "\
+A folder that is there serves too. It is refused if it has a store.yaml (StoreExists).
+
+Example:  confstore init store";
+
+/// The word of the subcommand that puts a text's tree under a name.
+pub const IMPORT: &str = "import";
+
+const IMPORT_ABOUT: &str = "Reads a YAML text, and puts its tree under a name";
+
+const IMPORT_HELP: &str = "\
+A configuration that has the name is replaced. Nothing is printed where it is done.
+
+Examples:
+  confstore import store web web.yaml
+  printf 'port: 80\\n' | confstore import store web";
+
+/// The argument of `import` that names the file of the text.
+pub const FILE: &str = "FILE";
+
+const TEXT_FILE_HELP: &str = "The file of the text; standard input if it is left out or `-`";
+
+/// The word of the subcommand that sets the value at a pointer.
+pub const SET: &str = "set";
+
+const SET_ABOUT: &str = "Sets the value at a JSON Pointer of a configuration";
+
+const SET_HELP: &str = "\
+VALUE is the text itself. With `--yaml` it is read as a YAML text, so that a list or a mapping can be
+set; then `-` stands for standard input. The pointer \"\" stands for the whole configuration. Nothing
+is printed where it is done.
+
+Examples:
+  confstore set store web /port 80
+  confstore set store web /tags '[a, b]' --yaml
+  confstore set store web /tags - --yaml < tags.yaml";
+
+/// The argument that is a JSON Pointer.
+pub const POINTER: &str = "POINTER";
+
+const POINTER_HELP: &str = "A JSON Pointer, as /port or /tags/0";
+
+const WHOLE_POINTER_HELP: &str =
+    "A JSON Pointer, as /port; the whole configuration if it is left out";
+
+/// The argument of `set` that is the value.
+pub const VALUE: &str = "VALUE";
+
+const VALUE_HELP: &str = "The value; after `--` if it begins with `-` and is no number";
+
+/// The word of `set` that has the value read as a YAML text.
+pub const YAML: &str = "yaml";
+
+const SET_YAML_HELP: &str = "Reads VALUE, or standard input if that is `-`, as a YAML text";
+
+/// The word of the subcommand that removes a value or a configuration.
+pub const DELETE: &str = "delete";
+
+const DELETE_ABOUT: &str = "Removes a configuration, or what is at a JSON Pointer of it";
+
+const DELETE_HELP: &str = "\
+Nothing is printed where it is done.
+
+Examples:
+  confstore delete store web /tags/0
+  confstore delete store web";
+
+/// The word of the subcommand that makes the store file short.
+pub const CHECKPOINT: &str = "checkpoint";
+
+const CHECKPOINT_ABOUT: &str = "Makes the store file as short as its state";
+
+const CHECKPOINT_HELP: &str = "\
+What earlier commands were is gone then.
+
+Example:  confstore checkpoint store";
+
 /// Returns the words that the program takes, with their help and the version. It fails only if memory runs out.
 pub fn command<'a>(alloc: Global) -> Result<Command<'a>, AllocError> {
     Command::new(alloc, "confstore")
@@ -113,6 +196,11 @@ pub fn command<'a>(alloc: Global) -> Result<Command<'a>, AllocError> {
         .about(ABOUT)
         .after_help(STATUSES)
         .subcommand_required(true)
+        .subcommand(init_command(alloc)?)?
+        .subcommand(import_command(alloc)?)?
+        .subcommand(set_command(alloc)?)?
+        .subcommand(delete_command(alloc)?)?
+        .subcommand(checkpoint_command(alloc)?)?
         .subcommand(run_command(alloc)?)?
         .subcommand(export_command(alloc)?)?
         .subcommand(Command::new(alloc, FORMAT).about(FORMAT_ABOUT))?
@@ -121,6 +209,68 @@ pub fn command<'a>(alloc: Global) -> Result<Command<'a>, AllocError> {
                 .about(CHECK_ABOUT)
                 .after_help(CHECK_HELP),
         )
+}
+
+/// The argument that names the folder of a store.
+fn folder_arg<'a>(alloc: Global) -> Arg<'a> {
+    Arg::new(alloc, FOLDER).required(true).help(FOLDER_HELP)
+}
+
+/// The argument that names a configuration.
+fn name_arg<'a>(alloc: Global) -> Arg<'a> {
+    Arg::new(alloc, NAME).required(true).help(NAME_HELP)
+}
+
+fn init_command<'a>(alloc: Global) -> Result<Command<'a>, AllocError> {
+    Command::new(alloc, INIT)
+        .about(INIT_ABOUT)
+        .after_help(INIT_HELP)
+        .arg(folder_arg(alloc))
+}
+
+fn import_command<'a>(alloc: Global) -> Result<Command<'a>, AllocError> {
+    Command::new(alloc, IMPORT)
+        .about(IMPORT_ABOUT)
+        .after_help(IMPORT_HELP)
+        .arg(folder_arg(alloc))?
+        .arg(name_arg(alloc))?
+        .arg(Arg::new(alloc, FILE).help(TEXT_FILE_HELP))
+}
+
+fn set_command<'a>(alloc: Global) -> Result<Command<'a>, AllocError> {
+    let value = Arg::new(alloc, VALUE)
+        .required(true)
+        .allow_negative_numbers(true)
+        .help(VALUE_HELP);
+    Command::new(alloc, SET)
+        .about(SET_ABOUT)
+        .after_help(SET_HELP)
+        .arg(
+            Arg::new(alloc, YAML)
+                .long(YAML)
+                .action(ArgAction::SetTrue)
+                .help(SET_YAML_HELP),
+        )?
+        .arg(folder_arg(alloc))?
+        .arg(name_arg(alloc))?
+        .arg(Arg::new(alloc, POINTER).required(true).help(POINTER_HELP))?
+        .arg(value)
+}
+
+fn delete_command<'a>(alloc: Global) -> Result<Command<'a>, AllocError> {
+    Command::new(alloc, DELETE)
+        .about(DELETE_ABOUT)
+        .after_help(DELETE_HELP)
+        .arg(folder_arg(alloc))?
+        .arg(name_arg(alloc))?
+        .arg(Arg::new(alloc, POINTER).help(WHOLE_POINTER_HELP))
+}
+
+fn checkpoint_command<'a>(alloc: Global) -> Result<Command<'a>, AllocError> {
+    Command::new(alloc, CHECKPOINT)
+        .about(CHECKPOINT_ABOUT)
+        .after_help(CHECKPOINT_HELP)
+        .arg(folder_arg(alloc))
 }
 
 fn run_command<'a>(alloc: Global) -> Result<Command<'a>, AllocError> {
@@ -134,7 +284,7 @@ fn run_command<'a>(alloc: Global) -> Result<Command<'a>, AllocError> {
                 .help(GROUP_HELP),
         )?
         .arg(checkpoint_after(alloc)?)?
-        .arg(Arg::new(alloc, FOLDER).required(true).help(FOLDER_HELP))
+        .arg(folder_arg(alloc))
 }
 
 fn checkpoint_after<'a>(alloc: Global) -> Result<Arg<'a>, AllocError> {
@@ -150,6 +300,6 @@ fn export_command<'a>(alloc: Global) -> Result<Command<'a>, AllocError> {
     Command::new(alloc, EXPORT)
         .about(EXPORT_ABOUT)
         .after_help(EXPORT_HELP)
-        .arg(Arg::new(alloc, FOLDER).required(true).help(FOLDER_HELP))?
-        .arg(Arg::new(alloc, NAME).required(true).help(NAME_HELP))
+        .arg(folder_arg(alloc))?
+        .arg(name_arg(alloc))
 }

@@ -1,0 +1,33 @@
+// Making a folder that is to hold a store.
+use crate::FolderFault;
+use std::fs::File;
+use std::io::ErrorKind;
+use std::path::Path;
+use std::rt::Files;
+use std::{fs, io};
+
+/// Makes a folder, and syncs the folder that it is in, so that a crash leaves it. Whatever is at the path stays as it
+/// is.
+///
+/// # Errors
+/// `Device` if a call of the system fails.
+pub fn make_folder<R: Files<File = File>>(rt: &R, path: &str) -> Result<(), FolderFault> {
+    let made = match fs::create_dir(rt, path) {
+        Ok(()) => sync_parent(rt, path),
+        Err(error) if error.kind() == ErrorKind::AlreadyExists => Ok(()),
+        Err(error) => Err(error),
+    };
+    match made {
+        Ok(()) => Ok(()),
+        Err(_) => Err(FolderFault::Device),
+    }
+}
+
+/// Syncs the folder that has the path's last part.
+fn sync_parent<R: Files<File = File>>(rt: &R, path: &str) -> io::Result<()> {
+    let parent = match Path::new(path).parent() {
+        Some(parent) if !parent.as_str().is_empty() => parent.as_str(),
+        _ => ".",
+    };
+    File::open(rt, parent)?.sync_all()
+}

@@ -1,0 +1,181 @@
+-- What a single change leaves of a store.
+use Rattle.std.proofs.Common.{◌≡◌, ◌≢◌, ◌⊎◌, ◌≤◌, ℕ, Bool, true, false, List, [], ◌∷◌, inl, inr, refl, sym, ◌∙◌, ap, subst, arith, length, take, ⊎_elim}
+use Rattle.std.specs.Prelude.{Option, None, Some, Ok, Err}
+use Rattle.std.proofs.Math.Seq.{take-length}
+use Rattle.std.proofs.lemmas.Bool.{false≢true}
+use Rattle.yaml_grammar.specs.Trees.{Tree}
+use Rattle.conf_disk.specs.Folder.{Folder, bytes_under}
+use Rattle.conf_disk.specs.Image.{Image, IsImage}
+use Rattle.conf_disk.specs.Moments.{LeavesOnly, TimeGoesOn}
+use Rattle.conf_disk.proofs.Moments.{LeavesOnly-joined, LeavesOnly-now, LeavesOnly-weaker}
+use Rattle.conf_state.specs.Commands.{Command as GivenCommand, command_of, import_as, text_of}
+use Rattle.conf_state.specs.States.{Contents}
+use Rattle.conf_state.specs.Steps.{after, step}
+use Rattle.conf_state.specs.declared.fault.StoreFault.{StoreFault}
+use Rattle.conf_state.specs.declared.fault.StoreFault.TheVariants.{BadName, NoConfig, Path, Read, TooDeep, ConfigLarge, StoreFull, JournalLong, CountFull, Reopen, Device, OutOfMemory}
+use Rattle.conf_store.specs.Calls.{has_room, journal_length, outcome}
+use Rattle.conf_store.specs.Durable.{AfterPrefix, AllImagesMean, NothingWaits}
+use Rattle.conf_store.specs.Meaning.{FileMeans}
+use Rattle.conf_store.specs.View.{StoreView}
+use Rattle.conf_store.specs.Opens.{MeantAtEntry}
+use Rattle.conf_store.proofs.FileLemmas.{read-stays}
+use Rattle.conf_store.proofs.MeaningLemmas.{after-done}
+use Rattle.conf_store.proofs.OpenLemmas.{image-meant}
+use Rattle.conf_store.proofs.StepLemmas.{StepsNeedRoom, accepted-anyway}
+use Rattle.conf_session.specs.Runs.{AfterAtLeast}
+use Rattle.conf_tools.specs.Changes.{KeepsChange, Makes, MeansOneOf, Performs, RefusesChange}
+use Rattle.conf_tools.specs.Stores.{OpensOn}
+use Rattle.conf_tools.specs.declared.changes.Change.{Change}
+use Rattle.conf_tools.specs.declared.changes.Change.TheVariants.{Import, Perform, Checkpoint}
+
+-- ---- which commands a change performs
+
+-- The commands of a change, which lead from one state to another.
+pub record Led (change : Change) (before end : Contents) : Type 0 where
+  pub commands : List GivenCommand
+  pub of : Performs change commands
+  pub leads : after before commands ≡ Ok end
+
+accepted-leads : StepsNeedRoom → (size : ℕ) (s end : Contents) (command : GivenCommand) → outcome size s command ≡ Ok end → after s (command ∷ []) ≡ Ok end
+accepted-leads room size s end command e = after-done s end command (accepted-anyway room s end command (has_room size s command) e)
+
+-- a change that was made
+pub made-led : StepsNeedRoom → {D : Type 0} (old new : StoreView D) (change : Change) → Makes old change new → Led change old.state new.state
+made-led room old new (Import name text) made = record {
+  commands = import_as (text_of name) made.tree ∷ [];
+  of = (made.tree, made.reads, refl);
+  leads = accepted-leads room (journal_length old) old.state new.state (import_as (text_of name) made.tree) made.accepts.step;
+}
+made-led room old new (Perform command) made = record {
+  commands = command_of command ∷ [];
+  of = refl;
+  leads = accepted-leads room (journal_length old) old.state new.state (command_of command) made.step;
+}
+made-led room old new Checkpoint made = record { commands = []; of = refl; leads = ap Ok (sym made.0) }
+
+-- a change in which the device failed
+device-led : StepsNeedRoom → {D : Type 0} (old new : StoreView D) (change : Change) → RefusesChange old change new Device → Led change old.state new.state
+device-led room old new (Import name text) refuses = record {
+  commands = import_as (text_of name) refuses.tree ∷ [];
+  of = (refuses.tree, refuses.reads, refl);
+  leads = accepted-leads room (journal_length old) old.state new.state (import_as (text_of name) refuses.tree) refuses.refuses;
+}
+device-led room old new (Perform command) refuses = record {
+  commands = command_of command ∷ [];
+  of = refl;
+  leads = accepted-leads room (journal_length old) old.state new.state (command_of command) refuses;
+}
+device-led room old new Checkpoint refuses = record { commands = []; of = refl; leads = ap Ok (sym refuses.0) }
+
+is-device : (fault : StoreFault) → (fault ≡ Device) ⊎ (fault ≢ Device)
+is-device Device = inl refl
+is-device BadName = inr (λ e. cc)
+is-device NoConfig = inr (λ e. cc)
+is-device (Path fault) = inr (λ e. cc)
+is-device (Read fault) = inr (λ e. cc)
+is-device TooDeep = inr (λ e. cc)
+is-device ConfigLarge = inr (λ e. cc)
+is-device StoreFull = inr (λ e. cc)
+is-device JournalLong = inr (λ e. cc)
+is-device CountFull = inr (λ e. cc)
+is-device Reopen = inr (λ e. cc)
+is-device OutOfMemory = inr (λ e. cc)
+
+-- ---- what a crash leaves
+
+-- the state before some commands, or after them, is the one after a prefix of them
+one-of-prefix : (before end : Contents) (commands : List GivenCommand) → after before commands ≡ Ok end → (file : Option (List ℕ)) → MeansOneOf before end file → AfterPrefix before commands file
+one-of-prefix before end commands leads file (inl means) = record { count = 0; state = before; leads = refl; means = means }
+one-of-prefix before end commands leads file (inr means) = record {
+  count = length commands;
+  state = end;
+  leads = ap (after before) (take-length commands) ∙ leads;
+  means = means;
+}
+
+-- what a crash leaves of a command, where nothing waited
+pub command-leaves : NothingWaits → {D : Type 0} (moment : D → ℕ) (since : D → ℕ → Image → Type 0) (old new : StoreView D)
+    → LeavesOnly moment since old.disk new.disk (λ image. AfterPrefix old.state [] image.store ⊎ FileMeans image.store new.state)
+    → LeavesOnly moment since old.disk new.disk (λ image. MeansOneOf old.state new.state image.store)
+command-leaves nothing moment since old new leaves =
+    LeavesOnly-weaker moment since old.disk new.disk (λ image. AfterPrefix old.state [] image.store ⊎ FileMeans image.store new.state) (λ image. MeansOneOf old.state new.state image.store)
+    leaves (λ image one. ⊎_elim (λ prefix. inl (nothing old.state image.store prefix)) (λ means. inr means) one)
+
+-- and of a checkpoint
+pub checkpoint-leaves : NothingWaits → {D : Type 0} (moment : D → ℕ) (since : D → ℕ → Image → Type 0) (old new : StoreView D)
+    → LeavesOnly moment since old.disk new.disk (λ image. AfterPrefix old.state [] image.store)
+    → LeavesOnly moment since old.disk new.disk (λ image. MeansOneOf old.state new.state image.store)
+checkpoint-leaves nothing moment since old new leaves =
+    LeavesOnly-weaker moment since old.disk new.disk (λ image. AfterPrefix old.state [] image.store) (λ image. MeansOneOf old.state new.state image.store)
+    leaves (λ image prefix. inl (nothing old.state image.store prefix))
+
+-- a store that needn't be opened again never says that it has to be
+pub never-reopen : (before : Bool) (fault : StoreFault) → before ≡ false → (fault ≡ Reopen → before ≡ true) → fault ≢ Reopen
+never-reopen before fault off reopen is = false≢true (sym off ∙ reopen is)
+
+-- what a crash leaves of a look at a file and an opening after it
+pub looked-leaves : {D : Type 0} (folder : D → Folder) (moment : D → ℕ) (since : D → ℕ → Image → Type 0) (old mid new : D)
+    → ((t : ℕ) (image : Image) → t ≤ moment mid → IsImage (folder mid) image → since mid t image) → ((image : Image) → since old (moment old) image → IsImage (folder old) image)
+    → TimeGoesOn folder moment since old mid → folder mid ≡ folder old → LeavesOnly moment since mid new (λ image. MeantAtEntry (folder mid) image.store)
+    → LeavesOnly moment since old new (λ image. MeantAtEntry (folder old) image.store)
+looked-leaves folder moment since old mid new counts only time same leaves =
+    LeavesOnly-joined moment since old mid new (IsImage (folder old)) (λ image. MeantAtEntry (folder mid) image.store) (λ image. MeantAtEntry (folder old) image.store)
+    (read-stays folder moment since old mid counts only time same).any_moment leaves
+    (λ image is. image-meant (folder old) image is)
+    (λ image meant. subst (λ (f : Folder). MeantAtEntry f image.store) same meant)
+
+module _ {D : Type 0} (honest : Type 0) (folder : D → Folder) (moment : D → ℕ) (since : D → ℕ → Image → Type 0)
+    (old : D) (opened closed : StoreView D) (opens : OpensOn honest folder moment since old opened) (change : Change)
+    (leaves : LeavesOnly moment since opened.disk closed.disk (λ image. MeansOneOf opened.state closed.state image.store)) where
+  once-open : (commands : List GivenCommand) → after opened.state commands ≡ Ok closed.state
+      → LeavesOnly moment since opened.disk closed.disk (λ image. AfterPrefix opened.state commands image.store)
+  once-open commands leads =
+      LeavesOnly-weaker moment since opened.disk closed.disk (λ image. MeansOneOf opened.state closed.state image.store) (λ image. AfterPrefix opened.state commands image.store)
+      leaves (λ image. one-of-prefix opened.state closed.state commands leads image.store)
+
+  -- a change that was made is on the disk
+  pub keeps-made : StepsNeedRoom → Makes opened change closed → honest → AllImagesMean (folder closed.disk) closed.state
+      → KeepsChange folder moment since old change closed.disk true
+  keeps-made room made h images =
+      let led = made-led room opened closed change made in record {
+        start = opened.state;
+        means = (opens.opens h).means;
+        opened = opened.disk;
+        accepted = led.commands;
+        of = inr led.of;
+        all = λ _. led.of;
+        while_opening = opens.at_any_moment h;
+        once_open = once-open led.commands led.leads;
+        returned = λ image is. record {
+          count = length led.commands;
+          enough = omega arith;
+          state = closed.state;
+          leads = ap (after opened.state) (take-length led.commands) ∙ led.leads;
+          means = images image is;
+        };
+      }
+
+  keeps-some : ((t : ℕ) (image : Image) → t ≤ moment closed.disk → IsImage (folder closed.disk) image → since closed.disk t image) → honest
+      → (commands : List GivenCommand) → (commands ≡ []) ⊎ Performs change commands → after opened.state commands ≡ Ok closed.state
+      → KeepsChange folder moment since old change closed.disk false
+  keeps-some counts h commands of leads = record {
+    start = opened.state;
+    means = (opens.opens h).means;
+    opened = opened.disk;
+    accepted = commands;
+    of = of;
+    all = λ e. absurd (cc e);
+    while_opening = opens.at_any_moment h;
+    once_open = once-open commands leads;
+    returned = λ image is.
+        (let prefix = LeavesOnly-now folder moment since opened.disk closed.disk (λ image. AfterPrefix opened.state commands image.store) counts (once-open commands leads) image is in
+        record { count = prefix.count; enough = omega arith; state = prefix.state; leads = prefix.leads; means = prefix.means });
+  }
+
+  -- a change that was refused keeps the state before it, or after it where the device failed
+  pub keeps-refused : StepsNeedRoom → ((t : ℕ) (image : Image) → t ≤ moment closed.disk → IsImage (folder closed.disk) image → since closed.disk t image) → honest
+      → (fault : StoreFault) → RefusesChange opened change closed fault → (fault ≢ Device → closed ≡ opened) → KeepsChange folder moment since old change closed.disk false
+  keeps-refused room counts h fault refuses same = elim (is-device fault) [
+    | inl device ↦ (let led = device-led room opened closed change (subst (λ (f : StoreFault). RefusesChange opened change closed f) device refuses) in keeps-some counts h led.commands (inr led.of) led.leads)
+    | inr other ↦ keeps-some counts h [] (inl refl) (ap (λ (s : StoreView D). Ok s.state) (sym (same other)))
+  ]
