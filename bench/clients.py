@@ -7,7 +7,8 @@ and sixteen, each a process in C that awaits each answer. SQLite is in WAL mode 
 transaction: from Python by one connection and by sixteen in threads, and from C by one.
 
 It uses a folder of the disk that holds the temporary files. The ways take turns, and the best of several runs is
-printed. Run it from the repository's root after the program is built; it needs a C compiler, and takes about a minute:
+printed. Run it from the repository's root after the program is built; it needs a C compiler, and takes one to
+four minutes, as the disk syncs:
 
     ./confstore --version && python3 bench/clients.py
 

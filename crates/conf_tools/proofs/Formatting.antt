@@ -12,18 +12,18 @@ use Rattle.conf_tools.specs.declared.texts.ToolFault.TheVariants.{Read}
 use Rattle.yaml_style.specs.Checking.{IsChecked}
 use Rattle.yaml_config.specs.Limits.{config_limits}
 use Rattle.yaml_style.specs.declared.finding.Finding.{Finding}
-use Rattle.conf_tools.specs.Tools.{HasRead, Formats, Checks, report, RefusesInput, StopsInOutput, Stops}
+use Rattle.conf_tools.specs.Tools.{HasRead, most_input, Formats, Checks, report, RefusesInput, StopsInOutput, Stops}
 
 keeps_itself : (held : Option (List ℕ)) → Keeps held held
 keeps_itself None = tt
 keeps_itself (Some bytes) = refl
 
-refused_input : (given left held : Option (List ℕ)) (bytes : List ℕ) (fault : ReadFault) → HasRead given left bytes 1048577 → Refuses bytes config_limits fault
+refused_input : (given left held : Option (List ℕ)) (bytes : List ℕ) (fault : ReadFault) → HasRead given left bytes most_input → Refuses bytes config_limits fault
     → RefusesInput given left held held fault
 refused_input given left held bytes fault read refuses = record { bytes = bytes; read = read; refuses = refuses; keeps = keeps_itself held }
 
 -- a text that is refused is one that stops in the input
-pub refused : (given left held : Option (List ℕ)) (bytes : List ℕ) (fault : ReadFault) → HasRead given left bytes 1048577 → Refuses bytes config_limits fault
+pub refused : (given left held : Option (List ℕ)) (bytes : List ℕ) (fault : ReadFault) → HasRead given left bytes most_input → Refuses bytes config_limits fault
     → Stops given left held held (Read fault)
 refused given left held bytes TooLong read refuses = refused_input given left held bytes _ read refuses
 refused given left held bytes (NotUtf8 at) read refuses = refused_input given left held bytes _ read refuses
@@ -36,11 +36,11 @@ refused given left held bytes LargeInStyle read refuses = refused_input given le
 refused given left held bytes OutOfMemory read refuses = keeps_itself held
 
 -- what is read as a tree is short, so the reader's end was reached
-short : (bytes : List ℕ) (t : Tree) → IsRead bytes config_limits t → length bytes < 1048577
+short : (bytes : List ℕ) (t : Tree) → IsRead bytes config_limits t → length bytes < most_input
 short bytes t is_read = omega (arith, is_read.gives.short, byte_len-chars bytes is_read.utf8)
 
 -- a text that is read but can't be written stops in the output
-pub stopped : (given left : Option (List ℕ)) (bytes : List ℕ) (t : Tree) → HasRead given left bytes 1048577 → IsRead bytes config_limits t → StopsInOutput given left
+pub stopped : (given left : Option (List ℕ)) (bytes : List ℕ) (t : Tree) → HasRead given left bytes most_input → IsRead bytes config_limits t → StopsInOutput given left
 stopped given left bytes t read is_read =
     record { bytes = bytes; tree = t; taken = read.taken; at_end = read.at_end (short bytes t is_read); reads = is_read }
 
@@ -52,7 +52,7 @@ then_kept (Some xs) (Some ys) None text a k = absurd k
 then_kept (Some xs) (Some ys) (Some zs) text a k = k ∙ a
 
 -- the text of the tree that the input gives is what was written
-pub formatted : (given left held written : Option (List ℕ)) (bytes text : List ℕ) → HasRead given left bytes 1048577 → IsFormatted bytes config_limits text
+pub formatted : (given left held written : Option (List ℕ)) (bytes text : List ℕ) → HasRead given left bytes most_input → IsFormatted bytes config_limits text
     → Appends held written text → Formats given left held written
 formatted given left held written bytes text read is appends = record {
   bytes = bytes;
@@ -64,7 +64,7 @@ formatted given left held written bytes text read is appends = record {
 }
 
 -- the lines of the findings of the input are what was written
-pub checks : (given left held written : Option (List ℕ)) (bytes lines : List ℕ) (found : List Finding) → HasRead given left bytes 1048577 → IsChecked bytes found
+pub checks : (given left held written : Option (List ℕ)) (bytes lines : List ℕ) (found : List Finding) → HasRead given left bytes most_input → IsChecked bytes found
     → lines ≡ report found → Appends held written lines → Checks given left held written (length found)
 checks given left held written bytes lines found read is_checked text appends = record {
   bytes = bytes;

@@ -40,7 +40,7 @@ impl From<AllocError> for ToolFault {
 }
 
 /// Reads a text from `reader` to its end, and writes its tree in the one style to `writer`. It reads at most one
-/// byte more than the 1,048,576 that a text may have.
+/// byte more than the 4,194,304 that a text may have.
 ///
 /// # Errors
 ///
@@ -56,7 +56,7 @@ pub fn format_text<R: Read, W: Write>(
         (W.contents writer.old) (W.contents writer.new)) }
     ensures stops { IfErr result (Stops (R.remaining reader.old) (R.remaining reader.new)
         (W.contents writer.old) (W.contents writer.new)) }
-    // Whatever it returns, at most 1,048,577 bytes of the input were read.
+    // Whatever it returns, at most 4,194,305 bytes of the input were read.
     ensures bounded { ReadsAtMost (R.remaining reader.old) (R.remaining reader.new) most_input }
 {
     let bytes = read_up_to(alloc, reader, MOST_INPUT)?;
@@ -70,8 +70,8 @@ pub fn format_text<R: Read, W: Write>(
 
 /// Reads a text from `reader` to its end, and writes a line to `writer` for each of its findings, in the order of
 /// [`check`]. The line has the rule's name, a space, and the number of the line, from 1. Returns how many findings
-/// there are. It reads at most one byte more than the 1,048,576 that a text may have. The lines are held in memory and
-/// written at once. They have at most some 12 MB, since a text has at most two findings more than bytes.
+/// there are. It reads at most one byte more than the 4,194,304 that a text may have. The lines are held in memory and
+/// written at once. They have at most some 50 MB, since a text has at most two findings more than bytes.
 ///
 /// # Errors
 ///
@@ -87,7 +87,7 @@ pub fn check_text<R: Read, W: Write>(
         (W.contents writer.old) (W.contents writer.new)) }
     ensures stops { IfErr result (Stops (R.remaining reader.old) (R.remaining reader.new)
         (W.contents writer.old) (W.contents writer.new)) }
-    // Whatever it returns, at most 1,048,577 bytes of the input were read.
+    // Whatever it returns, at most 4,194,305 bytes of the input were read.
     ensures bounded { ReadsAtMost (R.remaining reader.old) (R.remaining reader.new) most_input }
 {
     let bytes = read_up_to(alloc, reader, MOST_INPUT)?;
