@@ -1,31 +1,28 @@
 -- What the pieces of a session ask for. Each piece is one request; a piece that is no command is a bad one.
 use Rattle.std.specs.Prelude.{◌≡◌, ◌≢◌, ◌⊎◌, List, [], ◌∷◌, ℕ, encode_utf8_all}
-use Rattle.yaml_grammar.specs.Reads.{Gives}
-use Rattle.yaml_grammar.specs.Trees.{Tree}
-use Rattle.yaml_config.specs.Limits.{config_limits}
-use Rattle.yaml_tree.specs.Reading.{Refuses}
-use Rattle.yaml_events.specs.declared.read_fault.ReadFault.{ReadFault}
-use Rattle.yaml_events.specs.declared.read_fault.ReadFault.TheVariants.{OutOfMemory}
-use Rattle.conf_state.specs.Commands.{Command, import_as}
+use Rattle.conf_state.specs.Commands.{Command}
+use Rattle.conf_state.specs.declared.fault.StoreFault.{StoreFault}
+use Rattle.conf_state.specs.declared.fault.StoreFault.TheVariants.{OutOfMemory}
+use Rattle.conf_store.specs.Imports.{IsImportOf, RefusesText}
 use Rattle.conf_session.specs.Said.{Said, Says, import_text, change, get_at, export_of, all_names, checkpoint_now, nothing}
 
--- what a document says, with the text of an import read, or with the reason why that is refused
+-- what a document says, with the text of an import read, or with the reason why there is no command to perform
 pub data Request : Type 0 where
   changing : (command : Command) → Request
-  unread : (name : List ℕ) (fault : ReadFault) → Request
+  unread : (fault : StoreFault) → Request
   getting : (name path : List ℕ) → Request
   exporting : (name : List ℕ) → Request
   naming : Request
   checkpointing : Request
   bad : Request
 
--- Which request a document makes by what it says. Only an import asks for more reading: its text gives a tree, or is
--- refused.
+-- Which request a document makes by what it says. Only an import asks for more reading: its name is good and its text
+-- gives a tree, or one of them is refused.
 abbrev pub MeansRequest : Said → Request → Type 0
 MeansRequest (import_text name source) request =
-    ((t : Tree) × Gives source config_limits t × (request ≡ changing (import_as name t)))
-    ⊎ ((fault : ReadFault) × (fault ≢ OutOfMemory) × Refuses (encode_utf8_all source) config_limits fault
-    × (request ≡ unread name fault))
+    ((command : Command) × IsImportOf name (encode_utf8_all source) command × (request ≡ changing command))
+    ⊎ ((fault : StoreFault) × (fault ≢ OutOfMemory) × RefusesText name (encode_utf8_all source) fault
+    × (request ≡ unread fault))
 MeansRequest (change command) request = request ≡ changing command
 MeansRequest (get_at name path) request = request ≡ getting name path
 MeansRequest (export_of name) request = request ≡ exporting name

@@ -15,8 +15,9 @@ use Rattle.conf_session.proofs.reply.answer_said.Goals as goal
 pub returns-in-Import-clause-did : goal.returns-in-Import-clause-did
 returns-in-Import-clause-did g c off =
     let d = g.D.Disk in
-    let same : import_text (chars (text_bytes c.in-Import.name)) (chars c.deref.result.now) ≡ said_of c.args.said =
-    ap (λ b. import_text (chars (text_bytes c.in-Import.name)) (chars b)) c.deref.ensures ∙ sym (ap said_of c.in-Import.is) in
+    let source = chars c.deref-in-Import.result.now in
+    let same : import_text (chars c.deref.result.now) source ≡ said_of c.args.said =
+    ap (λ b. import_text (chars b) source) c.deref.ensures ∙ ap (λ b. import_text (chars (text_bytes c.in-Import.name)) (chars b)) c.deref-in-Import.ensures ∙ sym (ap said_of c.in-Import.is) in
     subst (λ s. DidSaid (is_at_once c.args.way) d.honest d.folder d.moment d.left c.args.store.now c.import.new.store s c.import.result) same (c.import.ensures.did off)
 
 pub returns-in-Import-clause-cause : goal.returns-in-Import-clause-cause
