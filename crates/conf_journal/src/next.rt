@@ -1,7 +1,7 @@
 // The procedures that replace `store.yaml` by a new file.
 ghost use Rattle.std.specs.Prelude.{◌≡◌, ◌⊎◌, [], ◌∷◌, Option, IsSome, OnOk, Some, None};
 ghost use Rattle.conf_disk.specs.Folder.{File, CreateNext, Append, Sync, RenameNext, RemoveNext, SyncFolder, after, bytes_under};
-ghost use Rattle.conf_disk.specs.Image.{IsImage};
+ghost use Rattle.conf_disk.specs.Image.{IsImage, image_now};
 ghost use Rattle.conf_disk.specs.Log.{folder_after};
 ghost use Rattle.conf_disk.specs.Moments.{LeavesOnly};
 ghost use Rattle.conf_journal.specs.Fails.{FailsAsCalls};
@@ -67,6 +67,29 @@ pub fn append_next<D: Disk>(disk: &mut D, bytes: &[u8]) -> Result<(), DiskFault>
     disk.append(Name::Next, bytes)
 }
 
+/// Syncs `next.yaml`: after `Ok` nothing of it is pending. Without a file it does nothing. `store.yaml` is unchanged.
+///
+/// # Errors
+/// `Device`: bytes of `next.yaml` may still be pending. What is read is unchanged.
+pub fn sync_next<D: Disk>(disk: &mut D) -> Result<(), DiskFault>
+    ensures folder { D.honest →
+        OnOk result (D.folder disk.new ≡ after (Sync Name.Next) (D.folder disk.old)) }
+    ensures any_moment { D.honest →
+        LeavesOnly D.moment D.left disk.old disk.new (IsImage (D.folder disk.old)) }
+    ensures fails { FailsAsCalls D.honest D.folder D.failure_count disk.old result disk.new }
+
+    // Whatever it returns, both files are read as before.
+    ensures reads { D.honest → image_now (D.folder disk.new) ≡ image_now (D.folder disk.old) }
+    ensures synced { D.honest → IsSome (D.folder disk.old).now.next →
+        OnOk result (IsSynced (D.folder disk.new) Name.Next) }
+    // A crash leaves an old store.
+    ensures store { D.honest → LeavesOldStore D.folder D.moment D.left disk.old disk.new }
+    ensures holds { D.honest → (file : Option File) → HoldsStore (D.folder disk.old) file →
+        OnOk result (HoldsStore (D.folder disk.new) file) }
+{
+    disk.sync(Name::Next)
+}
+
 /// Makes a new `next.yaml` of these bytes, in place of one that is there, and syncs it, as [`swap_next`] requires.
 /// `store.yaml` is unchanged.
 ///
@@ -100,7 +123,7 @@ pub fn stage_next<D: Disk>(disk: &mut D, bytes: &[u8]) -> Result<(), DiskFault>
 {
     begin_next(disk)?;
     append_next(disk, bytes)?;
-    disk.sync(Name::Next)
+    sync_next(disk)
 }
 
 /// Replaces `store.yaml` by `next.yaml`, which has to be there and synced whole: after `Ok`, every crash leaves it
@@ -155,6 +178,6 @@ pub fn finish_next<D: Disk>(disk: &mut D) -> Result<(), DiskFault>
     ensures holds { D.honest →
         OnOk result (HoldsStaged (D.folder disk.old) (D.folder disk.new)) }
 {
-    disk.sync(Name::Next)?;
+    sync_next(disk)?;
     swap_next(disk)
 }

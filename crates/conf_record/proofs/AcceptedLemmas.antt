@@ -14,35 +14,22 @@ use Rattle.yaml_config.specs.Limits.{config_limits}
 use Rattle.conf_state.specs.Limits.{AreConfigs, IsState}
 use Rattle.conf_state.specs.Steps.{and_then, found, by_path, checked_tree, with_checked_config, configs_after_delete, configs_after, next_state, step}
 use Rattle.conf_state.specs.declared.fault.StoreFault.TheVariants.{BadName, Path, TooDeep, ConfigLarge}
+use Rattle.conf_record.specs.SmallCommands.{IsSmallTree, IsShortPath, IsSmallCommand}
 use Rattle.conf_record.proofs.SizeLemmas.{size}
 use Rattle.conf_record.proofs.PathLemmas.{tokens_size, set_holds, delete_holds}
 use Rattle.conf_record.proofs.PointerLemmas.{pointer_bytes}
 use Rattle.conf_state.proofs.RunLaws.{and_then-Ok}
-
-pub record IsSmall (t : Tree) : Type 0 where
-  pub deep : depth t ≤ config_limits.depth
-  pub bytes : size t ≤ config_limits.style
-
-pub record IsGoodPath (path : List ℕ) : Type 0 where
-  pub parsed : is_ok (path_of path) ≡ true
-  pub bytes : byte_len path ≤ 2097152
-
--- what an accepted command keeps: a good name, a path that parses and is short, and a small tree
-abbrev pub IsAccepted : Command → Type 0
-IsAccepted (import_as name tree) = (good_name name ≡ true) × IsSmall tree
-IsAccepted (set_at name path value) = (good_name name ≡ true) × IsGoodPath path × IsSmall value
-IsAccepted (delete_at name path) = (good_name name ≡ true) × IsGoodPath path
 
 -- ---- the answers of the parts
 
 no_less : (a b : ℕ) → nat_lt a b ≡ false → b ≤ a
 no_less a b e = grind (arith, nat_tests)
 
-limited_small : (t u : Tree) → checked_tree t ≡ Ok u → IsSmall t
+limited_small : (t u : Tree) → checked_tree t ≡ Ok u → IsSmallTree t
 limited_small t u is = by (nat_lt config_limits.depth (depth t)) refl (nat_lt config_limits.style (byte_len (style_text t))) refl is
   where
     by : (d : Bool) → nat_lt config_limits.depth (depth t) ≡ d → (l : Bool) → nat_lt config_limits.style (byte_len (style_text t)) ≡ l
-        → (if d then Err TooDeep else if l then Err ConfigLarge else Ok t) ≡ Ok u → IsSmall t
+        → (if d then Err TooDeep else if l then Err ConfigLarge else Ok t) ≡ Ok u → IsSmallTree t
     by true deep l long same = cc
     by false deep true long same = cc
     by false deep false long same = record { deep = no_less _ _ deep; bytes = no_less _ _ long }
@@ -68,14 +55,14 @@ named_small (e ∷ es) name t all is = by (same_text name e.0) is (named_small e
         omega arith
     by false there rest = rest there
 
-good_path : (path : List ℕ) (tokens : List (List ℕ)) → path_of path ≡ Ok tokens → tokens_size tokens ≤ config_limits.style → IsGoodPath path
+good_path : (path : List ℕ) (tokens : List (List ℕ)) → path_of path ≡ Ok tokens → tokens_size tokens ≤ config_limits.style → IsShortPath path
 good_path path tokens is few =
     let bytes = pointer_bytes path tokens is in
     record { parsed = ap is_ok is; bytes = omega arith }
 
 -- ---- the whole
 
-placed_small : (configs : List Entry) (name : List ℕ) (t : Tree) (after : List Entry) → with_checked_config configs name t ≡ Ok after → IsSmall t
+placed_small : (configs : List Entry) (name : List ℕ) (t : Tree) (after : List Entry) → with_checked_config configs name t ≡ Ok after → IsSmallTree t
 placed_small configs name t after is =
     let done = and_then-Ok (checked_tree t) (λ u. Ok (put_config configs name u)) after is in
     limited_small t done.0 done.1
@@ -89,7 +76,7 @@ deleted_size configs name t (token ∷ tokens) after small is =
     omega arith
 
 module _ (configs after : List Entry) (all : AreConfigs configs) where
-  after_accepted : (command : Command) → good_name (name_of command) ≡ true → configs_after configs command ≡ Ok after → IsAccepted command
+  after_accepted : (command : Command) → good_name (name_of command) ≡ true → configs_after configs command ≡ Ok after → IsSmallCommand command
   after_accepted (import_as name tree) named is = (named, placed_small configs name tree after is)
   after_accepted (set_at name path value) named is =
       let config = and_then-Ok (found (config_named configs name)) _ after is in
@@ -114,11 +101,11 @@ module _ (configs after : List Entry) (all : AreConfigs configs) where
       )
 
 -- a command that some state accepts keeps that
-pub accepted : (s new : Contents) (command : Command) (fits : Bool) → IsState s → step s command fits ≡ Ok new → IsAccepted command
+pub accepted : (s new : Contents) (command : Command) (fits : Bool) → IsState s → step s command fits ≡ Ok new → IsSmallCommand command
 accepted s new command fits kept is = by (good_name (name_of command)) refl is
   where
     by : (b : Bool) → good_name (name_of command) ≡ b → (if b then and_then (configs_after s.configs command) (next_state s fits) else Err BadName) ≡ Ok new
-        → IsAccepted command
+        → IsSmallCommand command
     by true named done =
         let after = and_then-Ok (configs_after s.configs command) (next_state s fits) new done in
         after_accepted s.configs after.0 kept.configs command named after.1

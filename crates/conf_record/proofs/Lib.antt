@@ -7,3 +7,4 @@ pub mod DocumentLemmas
 pub mod FieldLemmas
 pub mod PieceLemmas
 pub mod TreeLemmas
+pub mod WrittenLemmas

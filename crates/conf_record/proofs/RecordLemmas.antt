@@ -24,7 +24,7 @@ use Rattle.conf_state.specs.Limits.{AreConfigs, IsState}
 use Rattle.conf_state.specs.BaseTexts.{members, base_tree, base_text, base_length, closed_document}
 use Rattle.conf_record.specs.Records.{command_members, record_tree}
 use Rattle.conf_record.specs.RecordsRead.{number_from_digits, record_of, entries, base_of, IsCommand}
-use Rattle.conf_record.proofs.AcceptedLemmas.{IsAccepted}
+use Rattle.conf_record.specs.SmallCommands.{IsSmallCommand}
 use Rattle.conf_state.proofs.BaseLemmas.{count_bytes}
 use Rattle.conf_record.proofs.SizeLemmas.{size, scalar_most, value_size}
 
@@ -96,7 +96,7 @@ number_from_digits-decimal n small = by (digits_value 10 (decimal n)) (decimal_i
 -- ---- records
 
 -- the tree of an accepted command's record is read as that command and number
-pub record_tells : (command : Command) (number : ℕ) → IsAccepted command → number ≤ count_limit → record_of (record_tree command number) ≡ Some (command, number)
+pub record_tells : (command : Command) (number : ℕ) → IsSmallCommand command → number ≤ count_limit → record_of (record_tree command number) ≡ Some (command, number)
 unfolding record_of
 record_tells (import_as name tree) number ok small = rw (ok.0, number_from_digits-decimal number small) refl
 record_tells (set_at name path value) number ok small = rw (ok.0, ok.1.parsed, number_from_digits-decimal number small) refl
@@ -121,7 +121,7 @@ members_bytes : (key : List ℕ) (t : Tree) (ms : Members)
 members_bytes key t ms =
     omega (arith, byte_len-append (key_lines 0 key ++ value_at t 0) (members_after ms 0), byte_len-append (key_lines 0 key) (value_at t 0))
 
-command_bytes : (command : Command) → IsAccepted command → byte_len (members_after (command_members command) 0) ≤ 67000000
+command_bytes : (command : Command) → IsSmallCommand command → byte_len (members_after (command_members command) 0) ≤ 67000000
 command_bytes (import_as name tree) ok =
     let small = ok.1.bytes in
     let value = (value_size tree).most in
@@ -162,16 +162,16 @@ command_bytes (delete_at name path) ok =
       members_bytes (codes "path") (text path) no_member,
     )
 
-record_bytes : (command : Command) (number : ℕ) → IsAccepted command → number ≤ count_limit → size (record_tree command number) ≤ 67100000
+record_bytes : (command : Command) (number : ℕ) → IsSmallCommand command → number ≤ count_limit → size (record_tree command number) ≤ 67100000
 record_bytes command number ok small =
     omega (arith, command_bytes command ok, decimal_bytes number small, members_bytes (codes "at") (text (decimal number)) (command_members command))
 
-command_texts : (command : Command) → IsCommand command → IsAccepted command → AreTextMembers (command_members command)
+command_texts : (command : Command) → IsCommand command → IsSmallCommand command → AreTextMembers (command_members command)
 command_texts (import_as name tree) is ok = (refl, name_is_text name ok.0, (refl, is.texts, tt))
 command_texts (set_at name path value) is ok = (refl, name_is_text name ok.0, (refl, is.0, (refl, is.1.texts, tt)))
 command_texts (delete_at name path) is ok = (refl, name_is_text name ok.0, (refl, is, tt))
 
-command_depth : (command : Command) → IsAccepted command → members_depth (command_members command) ≤ config_limits.depth
+command_depth : (command : Command) → IsSmallCommand command → members_depth (command_members command) ≤ config_limits.depth
 command_depth (import_as name tree) ok = let deep = ok.1.deep in omega arith
 command_depth (set_at name path value) ok = let deep = ok.2.deep in omega arith
 command_depth (delete_at name path) ok = omega arith
@@ -182,7 +182,7 @@ record_distinct (set_at name path value) number is = let keys = is.1.keys in rw 
 record_distinct (delete_at name path) number is = refl
 
 -- that tree keeps the limits of a text that is read
-pub record_good : (command : Command) (number : ℕ) → IsCommand command → IsAccepted command → number ≤ count_limit → FramedGood (record_tree command number)
+pub record_good : (command : Command) (number : ℕ) → IsCommand command → IsSmallCommand command → number ≤ count_limit → FramedGood (record_tree command number)
 record_good command number is ok small =
     let bytes = record_bytes command number ok small in
     let deep = command_depth command ok in

@@ -7,17 +7,21 @@ ghost use Rattle.conf_state.specs.Steps.{step};
 ghost use Rattle.conf_state.specs.BaseTexts.{base_text};
 ghost use Rattle.conf_record.specs.Records.{record_text};
 ghost use Rattle.conf_record.specs.RecordsRead.{IsCommand, ReadsRecord, ReadsBase};
+ghost use Rattle.conf_record.specs.SmallCommands.{IsSmallCommand};
 
 use yaml_grammar::one_tree;
 use yaml_recognizers::one_style::style_reads;
 
 /// The base text of a state reads as that state, and as no other. The record of a command that some state accepts
-/// reads as that command under its number, up to the greatest count, and as no other. Each is read within the limits
-/// of a `Config`: at most 67,108,864 bytes, also in the one style, and at most 66 deep.
+/// reads as that command under its number, up to the greatest count, and as no other. It does so too where only the
+/// name and the path are good and the parts are small, whatever the state (`small`). Each is read within the limits of
+/// a `Config`: at most 67,108,864 bytes, also in the one style, and at most 66 deep.
 pub fn records_read()
     ensures base { (s : Contents) → IsState s → ReadsBase (base_text s) s }
     ensures one_base { (s other : Contents) → IsState s → ReadsBase (base_text s) other
         → other ≡ s }
+    ensures small { (command : Command) (number : ℕ) → IsCommand command → IsSmallCommand command
+        → number ≤ count_limit → ReadsRecord (record_text command number) command number }
     ensures record { (s new : Contents) (command : Command) (fits : Bool) (number : ℕ) → IsState s
         → IsCommand command
         → step s command fits ≡ Ok new → number ≤ count_limit

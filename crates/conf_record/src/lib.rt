@@ -19,6 +19,7 @@ mod laws;
 mod parts;
 mod read;
 mod record;
+mod written;
 
 pub use base_writer::base_text;
 pub use conf_state::{Command, Names, State, good_name, step};

@@ -9,6 +9,7 @@ ghost use Rattle.conf_record.specs.Documents.{IsRecord, IsBase, IsNoRecord, IsNo
 use crate::base_reader::base_from;
 use crate::command_reader::command_from;
 use crate::parts::configurations;
+use crate::written::written_record;
 use conf_state::{Command, State};
 use std::alloc::{AllocError, Global};
 use yaml_tree::{Limits, ReadFault, Tree, bytes_give_one, read_one, refused_bytes_give_none};
@@ -24,6 +25,18 @@ use yaml_tree::{Limits, ReadFault, Tree, bytes_give_one, read_one, refused_bytes
 ///
 /// It fails only if memory runs out. It takes time linear in the bytes, and moves the texts and trees that were read.
 pub fn read_record(alloc: Global, bytes: &[u8]) -> Result<Option<(Command, u64)>, AllocError>
+    ensures some { IfOk result (λ read. IfSome read (λ r.
+        IsRecord bytes.now (command_of r.0) r.1)) }
+    ensures none { IfOk result (λ read. IfNone read (IsNoRecord bytes.now)) }
+{
+    if let Some(record) = written_record(alloc, bytes)? {
+        return Ok(Some(record));
+    }
+    spelled_record(alloc, bytes)
+}
+
+/// Reads a record in any spelling, as [`read_record`] does.
+fn spelled_record(alloc: Global, bytes: &[u8]) -> Result<Option<(Command, u64)>, AllocError>
     ensures some { IfOk result (λ read. IfSome read (λ r.
         IsRecord bytes.now (command_of r.0) r.1)) }
     ensures none { IfOk result (λ read. IfNone read (IsNoRecord bytes.now)) }

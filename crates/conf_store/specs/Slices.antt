@@ -1,11 +1,11 @@
 -- What a checkpoint does that is written in slices.
-use Rattle.std.specs.Prelude.{◌≡◌, ℕ, ◌<◌, false, List, [], length, Option, Some, None}
+use Rattle.std.specs.Prelude.{◌≡◌, ℕ, ◌<◌, true, false, List, [], length, Option, Some, None}
 use Rattle.conf_disk.specs.Folder.{File, Folder, bytes_under}
 use Rattle.conf_disk.specs.Image.{synced_file}
 use Rattle.conf_disk.specs.declared.disk.Name.TheVariants.{Store, Next}
 use Rattle.conf_journal.specs.Held.{HoldsStore}
-use Rattle.conf_journal.specs.Store.{file_with_bytes}
-use Rattle.conf_store.specs.Staged.{Staged, staged_length, next_slice, after_slice}
+use Rattle.conf_journal.specs.Store.{IsSynced, file_with_bytes}
+use Rattle.conf_store.specs.Staged.{Staged, staged_length, next_slice, after_slice, is_sync_due}
 use Rattle.conf_state.specs.Commands.{Command}
 use Rattle.conf_state.specs.States.{Contents}
 use Rattle.conf_state.specs.BaseTexts.{base_bytes}
@@ -13,6 +13,11 @@ use Rattle.conf_store.specs.Durable.{HasFlushed, AllImagesMean, staged_text}
 use Rattle.conf_store.specs.View.{StoreView}
 use Rattle.conf_store.specs.declared.slicing.Progress.{Progress}
 use Rattle.conf_store.specs.declared.slicing.Progress.TheVariants.{Left, Done}
+
+-- nothing of `next.yaml` is pending, where a sync is due
+abbrev pub SyncedWhenDue : Folder → Option Staged → Type 0
+SyncedWhenDue folder None = Unit {0}
+SyncedWhenDue folder (Some staged) = is_sync_due staged ≡ true → IsSynced folder Next
 
 -- The next slice is in `next.yaml`, and something is left.
 pub record WritesPart {D : Type 0} (honest : Type 0) (folder : D → Folder) (old : D) (staged : Staged) (bytes : ℕ)
@@ -25,6 +30,7 @@ pub record WritesPart {D : Type 0} (honest : Type 0) (folder : D → Folder) (ol
       → bytes_under (folder new) Next ≡ file_with_bytes (bytes_under (folder old) Next) (next_slice staged)
   pub store : honest → bytes_under (folder new) Store ≡ bytes_under (folder old) Store
   pub holds : honest → (file : Option File) → HoldsStore (folder old) file → HoldsStore (folder new) file
+  pub synced : honest → SyncedWhenDue (folder new) after
 
 -- All that was left is in the file, which is synced and in the place of `store.yaml`.
 pub record WritesLast {D : Type 0} (honest : Type 0) (folder : D → Folder) (old : D) (staged : Staged)

@@ -1,15 +1,17 @@
 // Writing the next slice of a checkpoint.
-ghost use Rattle.std.specs.Prelude.{◌≡◌, ◌≢◌, ◌<◌, ◌≤◌, ℕ, List, Some, IsSome, Err, IfOk, OnErr, length};
-ghost use Rattle.conf_disk.specs.Folder.{bytes_under};
-ghost use Rattle.conf_disk.specs.Moments.{CountsFailures};
-ghost use Rattle.conf_journal.specs.Store.{LeavesStoreOr};
+ghost use Rattle.std.specs.Prelude.{◌≡◌, ◌≢◌, ◌<◌, Option, IsSome, Err, IfOk, OnOk};
+ghost use Rattle.conf_disk.specs.Folder.{File};
+ghost use Rattle.conf_disk.specs.Image.{image_now};
+ghost use Rattle.conf_disk.specs.Moments.{CountsFailures, greatest};
+ghost use Rattle.conf_journal.specs.Held.{HoldsStore};
+ghost use Rattle.conf_journal.specs.Store.{LeavesOldStore, LeavesStoreOr};
 ghost use Rattle.conf_store.specs.Durable.{staged_text};
-ghost use Rattle.conf_store.specs.Slices.{WritesSlice};
+ghost use Rattle.conf_store.specs.Slices.{SyncedWhenDue, WritesSlice};
 ghost use Rattle.conf_store.specs.Staged.{staged_length};
 
 use crate::staging::Staging;
 use conf_disk::{Disk, DiskFault};
-use conf_journal::{append_next, finish_next, runs_of_calls_are_joined};
+use conf_journal::{append_next, finish_next, runs_of_calls_are_joined, sync_next};
 
 /// What a slice of a checkpoint did.
 #[derive(Clone, Copy, Debug, PartialEq, Eq)]
@@ -21,6 +23,7 @@ pub enum Progress {
 }
 
 /// Appends the next slice to `next.yaml`. If nothing is left, syncs the file and puts it in the place of `store.yaml`.
+/// Otherwise syncs it if that is due.
 ///
 /// # Errors
 /// `Device`: `store.yaml` is the old file or the whole new one.
@@ -41,8 +44,32 @@ pub fn write_slice<D: Disk>(disk: &mut D, staging: &mut Staging) -> Result<Progr
     append_next(disk, staging.next_slice())?;
     let left = staging.pass_slice();
     if left > 0 {
+        sync_if_due(disk, staging)?;
         return Ok(Progress::Left { bytes: left as u64 });
     }
     finish_next(disk)?;
     Ok(Progress::Done)
+}
+
+/// Syncs `next.yaml` if another [`SYNC_AFTER`](crate::staging::SYNC_AFTER) bytes are in it, so that the last slice has
+/// few to sync.
+///
+/// # Errors
+/// `Device`. Whatever it returns, both files are read as before, and `store.yaml` is unchanged.
+fn sync_if_due<D: Disk>(disk: &mut D, staging: &Staging) -> Result<(), DiskFault>
+    ensures reads { D.honest → image_now (D.folder disk.new) ≡ image_now (D.folder disk.old) }
+    ensures holds { D.honest → (file : Option File) → HoldsStore (D.folder disk.old) file →
+        OnOk result (HoldsStore (D.folder disk.new) file) }
+    // A crash leaves an old store.
+    ensures any_moment { D.honest → LeavesOldStore D.folder D.moment D.left disk.old disk.new }
+    ensures synced { D.honest → IsSome (D.folder disk.old).now.next →
+        OnOk result (SyncedWhenDue (D.folder disk.new) staging.now) }
+    ensures failures { D.failure_count disk.old < greatest →
+        CountsFailures (D.failure_count disk.old) (D.failure_count disk.new) result }
+    ensures fault { result ≢ Err DiskFault.OutOfMemory }
+{
+    if staging.is_sync_due() {
+        return sync_next(disk);
+    }
+    Ok(())
 }

@@ -14,7 +14,7 @@ ghost use Rattle.conf_store.specs.Meaning.{FileMeans};
 ghost use Rattle.conf_store.specs.Durable.{AllImagesMean, AllImagesAfterPrefix, AfterPrefix, HasFlushed, staged_text};
 ghost use Rattle.conf_store.specs.Grown.{HasGrown};
 ghost use Rattle.conf_store.specs.Staged.{staged_length};
-ghost use Rattle.conf_store.specs.Slices.{Begins, SliceFlushes, SliceReads, Slices, StaysTheSame};
+ghost use Rattle.conf_store.specs.Slices.{Begins, SliceFlushes, SliceReads, Slices, StaysTheSame, SyncedWhenDue};
 ghost use Rattle.conf_store.specs.Calls.{Accepts, RefusesCommand, HasFailed, next_record, Exports, tree_named, tree_at};
 ghost use Rattle.conf_store.specs.Imports.{Imports, AppendsImport, RefusesImport};
 ghost use Rattle.conf_store.specs.Files.{FilesStay, HasLength, IsOldOrBase, LeavesOldOrBase};
@@ -571,7 +571,8 @@ impl<D: Disk> Store<D> {
     }
 
     /// Writes the next slice of the running checkpoint, at most 4,096 bytes, to `next.yaml`. One has to run. Returns
-    /// how many bytes are left, without a sync: what waits still waits. Once nothing is left the new file is synced and
+    /// how many bytes are left. `store.yaml` isn't synced: what waits still waits. After each 1,048,576 bytes
+    /// `next.yaml` is synced, so that the last slice has few to sync. Once nothing is left the new file is synced and
     /// takes the place of `store.yaml`; all commands that wait are acknowledged, the checkpoint is over, and this
     /// returns `Done`. Takes no memory.
     ///
@@ -595,6 +596,9 @@ impl<D: Disk> Store<D> {
         ensures risen { D.failure_count self.old.disk ≤ D.failure_count self.new.disk }
         ensures reads { D.honest → self.old.reopen ≡ false → IfOk result
             (SliceReads D.folder self.old self.new) }
+        // After each 1,048,576 bytes of `next.yaml` none of them is pending.
+        ensures synced { D.honest → self.old.reopen ≡ false → OnOk result
+            (SyncedWhenDue (D.folder self.new.disk) self.new.staged) }
         // A crash at any moment of the call leaves the state after a prefix of the commands that wait.
         ensures any_moment { D.honest → self.old.reopen ≡ false →
             (flushed : Contents) (since : List GivenCommand)

@@ -2,7 +2,7 @@
 use conf_disk::{Content, Disk, DiskFault, Name};
 use conf_journal::{
     append_closed, append_next, append_store, begin_next, finish_next, load, stage_next, swap_next,
-    sync_store,
+    sync_next, sync_store,
 };
 use std::alloc::{AllocError, Global};
 
@@ -41,6 +41,7 @@ fn change<D: Disk>(alloc: Global, disk: &mut D, words: &[&str]) -> Result<String
         ["append_closed", bytes] => outcome_of(alloc, append_closed(disk, bytes.as_bytes())),
         ["begin_next"] => outcome_of(alloc, begin_next(disk)),
         ["append_next", bytes] => outcome_of(alloc, append_next(disk, bytes.as_bytes())),
+        ["sync_next"] => outcome_of(alloc, sync_next(disk)),
         ["stage_next", bytes] => outcome_of(alloc, stage_next(disk, bytes.as_bytes())),
         ["swap_next"] => outcome_of(alloc, swap_next(disk)),
         ["finish_next"] => outcome_of(alloc, finish_next(disk)),

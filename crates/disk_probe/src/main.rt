@@ -13,8 +13,8 @@
 //! - `crash;STAGE;KEPT;ZEROS;NEXT_KEPT;NEXT_ZEROS`: takes the disk that is such an image.
 //! - A call of the disk, `failures`, `read;NAME;LIMIT`, `create_next`, `append;NAME;BYTES`, `sync;NAME`, `rename_next`,
 //!   `remove_next` or `sync_folder`, where a `NAME` is `store` or `next`. Or a procedure of the journal, `load`,
-//!   `append_store;BYTES`, `sync_store`, `append_closed;BYTES`, `begin_next`, `append_next;BYTES`, `stage_next;BYTES`,
-//!   `swap_next` or `finish_next`.
+//!   `append_store;BYTES`, `sync_store`, `append_closed;BYTES`, `begin_next`, `append_next;BYTES`, `sync_next`,
+//!   `stage_next;BYTES`, `swap_next` or `finish_next`.
 //! - `stop;CALLS;FUSE;` before one of these: it is made on a disk of its own with the files `old` and `new` and such a
 //!   fuse. After its answer come how many calls passed, and all that `store.yaml` reads as in the images that are left.
 //!

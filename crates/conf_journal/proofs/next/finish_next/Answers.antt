@@ -1,14 +1,13 @@
-use Rattle.std.proofs.Common.{◌≡◌, ◌⊎◌, inl, inr, ⊎_elim, ℕ, List, [], ◌∷◌, Some, None, OnOk, sym, subst, rules}
+use Rattle.std.proofs.Common.{◌≡◌, ◌⊎◌, inl, inr, ⊎_elim, ℕ, List, [], ◌∷◌, Some, None, OnOk, subst, rules}
 use Rattle.conf_disk.specs.Folder.{Folder, Sync, RenameNext, SyncFolder, after}
 use Rattle.conf_disk.specs.Image.{Image, IsImage, synced_file}
 use Rattle.conf_disk.specs.declared.disk.Name.TheVariants.{Next}
 use Rattle.conf_disk.proofs.Moments.{LeavesOnly-weaker}
 use Rattle.conf_journal.specs.Held.{HoldsStore}
-use Rattle.conf_journal.specs.Store.{IsSynced, ReadsAs}
-use Rattle.conf_journal.proofs.Fails.{fails-call, fails-passed, fails-then}
-use Rattle.conf_journal.proofs.Reading.{sync-reads_same}
-use Rattle.conf_journal.proofs.Runs.{LeftDuring, left-grown, run-call, run-known, run-then}
-use Rattle.conf_journal.proofs.Stores.{synced-is_synced, finished-leaves}
+use Rattle.conf_journal.specs.Store.{ReadsAs}
+use Rattle.conf_journal.proofs.Fails.{fails-passed, fails-then}
+use Rattle.conf_journal.proofs.Runs.{LeftDuring, left-grown, run-known, run-then}
+use Rattle.conf_journal.proofs.Stores.{finished-leaves}
 use Rattle.conf_journal.proofs.next.finish_next.Goals as goal
 
 -- what is left before the first sync, or after it
@@ -16,40 +15,39 @@ before_or_after : (folder : Folder) (image : Image) → LeftDuring (Sync Next �
 before_or_after folder image is = ⊎_elim (λ was. inl was) (λ rest. inr (left-grown (RenameNext ∷ SyncFolder ∷ []) tt (after (Sync Next) folder) image rest)) is
 
 pub swap_next-requires : goal.swap_next-requires
-swap_next-requires g c h =
-    let old = c.args.disk.now in
-    subst (λ (folder : Folder). IsSynced folder Next) (sym (c.in_ok-sync.ensures.goes.change h)) (synced-is_synced Next (g.D.Disk.folder old) (g.met.D.Disk.whole old h) (c.requires h))
+swap_next-requires g c h = c.in_ok-sync_next.ensures.synced h (c.requires h)
 
-pub returns-in_err-sync-clause-any_moment : goal.returns-in_err-sync-clause-any_moment
-returns-in_err-sync-clause-any_moment g c h =
-    LeavesOnly-weaker _ _ _ _ _ _ (run-call g.D.Disk g.met.D.Disk.only_now h (RenameNext ∷ SyncFolder ∷ []) c.sync.ensures.goes).leaves (before_or_after _)
+pub returns-in_err-sync_next-clause-any_moment : goal.returns-in_err-sync_next-clause-any_moment
+returns-in_err-sync_next-clause-any_moment g c h =
+    LeavesOnly-weaker _ _ _ _ _ _ (c.sync_next.ensures.any_moment h) (λ image is. inl is)
 
 pub returns-clause-any_moment : goal.returns-clause-any_moment
 returns-clause-any_moment g c h =
     let d = g.D.Disk in
-    LeavesOnly-weaker _ _ _ _ _ _ (run-then d (c.in_ok-sync.ensures.goes.change h) (run-call d g.met.D.Disk.only_now h [] c.sync.ensures.goes)
+    LeavesOnly-weaker _ _ _ _ _ _ (run-then d (c.in_ok-sync_next.ensures.folder h)
+    (run-known d (Sync Next ∷ []) [] tt (c.sync_next.ensures.any_moment h))
     (run-known d (RenameNext ∷ SyncFolder ∷ []) [] tt (c.swap_next.ensures.any_moment h))).leaves (before_or_after _)
 
-pub returns-in_err-sync-clause-store : goal.returns-in_err-sync-clause-store
-returns-in_err-sync-clause-store g c h =
-    LeavesOnly-weaker _ _ _ _ _ _ (returns-in_err-sync-clause-any_moment g c h) (finished-leaves _ (g.met.D.Disk.whole c.args.disk.now h) (c.requires h))
+pub returns-in_err-sync_next-clause-store : goal.returns-in_err-sync_next-clause-store
+returns-in_err-sync_next-clause-store g c h =
+    LeavesOnly-weaker _ _ _ _ _ _ (returns-in_err-sync_next-clause-any_moment g c h) (finished-leaves _ (g.met.D.Disk.whole c.args.disk.now h) (c.requires h))
 
 pub returns-clause-store : goal.returns-clause-store
 returns-clause-store g c h =
     LeavesOnly-weaker _ _ _ _ _ _ (returns-clause-any_moment g c h) (finished-leaves _ (g.met.D.Disk.whole c.args.disk.now h) (c.requires h))
 
-pub returns-in_err-sync-clause-fails : goal.returns-in_err-sync-clause-fails
-returns-in_err-sync-clause-fails g c = fails-passed (fails-call c.in_err-sync.ensures.goes) (search rules)
+pub returns-in_err-sync_next-clause-fails : goal.returns-in_err-sync_next-clause-fails
+returns-in_err-sync_next-clause-fails g c = fails-passed c.in_err-sync_next.ensures.fails (search rules)
 
 pub returns-clause-fails : goal.returns-clause-fails
-returns-clause-fails g c = fails-then (fails-call c.in_ok-sync.ensures.goes) c.swap_next.ensures.fails
+returns-clause-fails g c = fails-then c.in_ok-sync_next.ensures.fails c.swap_next.ensures.fails
 
 pub returns-clause-reads : goal.returns-clause-reads
 returns-clause-reads g c h =
     subst (λ (image : Image). OnOk c.swap_next.result (ReadsAs (g.D.Disk.folder c.swap_next.new.disk) image.next None))
-    (sync-reads_same Next _ _ c.sync.result (c.sync.ensures.goes.change h)) (c.swap_next.ensures.reads h)
+    (c.sync_next.ensures.reads h) (c.swap_next.ensures.reads h)
 
 pub returns-clause-holds : goal.returns-clause-holds
 returns-clause-holds g c h =
     subst (λ (image : Image). OnOk c.swap_next.result ((bytes : List ℕ) → image.next ≡ Some bytes → HoldsStore (g.D.Disk.folder c.swap_next.new.disk) (Some (synced_file bytes))))
-    (sync-reads_same Next _ _ c.sync.result (c.sync.ensures.goes.change h)) (c.swap_next.ensures.holds h)
+    (c.sync_next.ensures.reads h) (c.swap_next.ensures.holds h)

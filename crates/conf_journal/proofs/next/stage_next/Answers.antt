@@ -3,9 +3,10 @@ use Rattle.conf_disk.specs.Folder.{CreateNext, Append, Sync, RemoveNext}
 use Rattle.conf_disk.specs.Image.{Image}
 use Rattle.conf_disk.specs.declared.disk.Name.TheVariants.{Next}
 use Rattle.conf_journal.specs.Store.{file_with_bytes}
-use Rattle.conf_journal.proofs.Reading.{sync-reads_same, OnOk-always}
-use Rattle.conf_journal.proofs.Runs.{run-call, run-known, run-then, run-grown}
-use Rattle.conf_journal.proofs.Stores.{staging-run, file_there, performed-synced}
+use Rattle.conf_journal.proofs.Reading.{OnOk-always}
+use Rattle.conf_journal.proofs.Runs.{run-known, run-then, run-grown}
+use Rattle.conf_journal.proofs.Fails.{fails-then}
+use Rattle.conf_journal.proofs.Stores.{staging-run, file_there}
 use Rattle.conf_journal.proofs.next.stage_next.Goals as goal
 
 pub returns-in_err-begin_next-clause-any_moment : goal.returns-in_err-begin_next-clause-any_moment
@@ -24,7 +25,7 @@ returns-clause-any_moment g c h =
     (run-known g.D.Disk (RemoveNext ∷ CreateNext ∷ []) [] tt (c.begin_next.ensures.any_moment h))
     (run-then g.D.Disk (c.in_ok-append_next.ensures.folder h)
     (run-known g.D.Disk (Append Next c.args.bytes.now ∷ []) [] tt (c.append_next.ensures.any_moment h))
-    (run-call g.D.Disk g.met.D.Disk.only_now h [] c.sync.ensures.goes)))
+    (run-known g.D.Disk (Sync Next ∷ []) [] tt (c.sync_next.ensures.any_moment h))))
 
 pub returns-in_err-append_next-clause-store : goal.returns-in_err-append_next-clause-store
 returns-in_err-append_next-clause-store g c h =
@@ -39,7 +40,7 @@ returns-clause-store g c h =
 pub returns-clause-reads : goal.returns-clause-reads
 returns-clause-reads g c h =
     let bytes = c.args.bytes.now in
-    OnOk-always c.sync.result (sync-reads_same Next _ _ c.sync.result (c.sync.ensures.goes.change h)
+    OnOk-always c.sync_next.result (c.sync_next.ensures.reads h
     ∙ c.in_ok-append_next.ensures.reads h
     ∙ ap (λ (image : Image). record { store = image.store; next = file_with_bytes image.next bytes }) (c.in_ok-begin_next.ensures.reads h))
 
@@ -50,4 +51,10 @@ returns-clause-synced g c h =
     let bytes = c.args.bytes.now in
     let there = ap (λ (image : Image). image.next) (c.in_ok-append_next.ensures.reads h)
     ∙ ap (λ (image : Image). file_with_bytes image.next bytes) (c.in_ok-begin_next.ensures.reads h) in
-    performed-synced Next folder _ c.sync.result (g.met.D.Disk.whole all h) (file_there folder.files folder.now.next bytes there) (c.sync.ensures.goes.change h)
+    c.sync_next.ensures.synced h (file_there folder.files folder.now.next bytes there)
+
+pub returns-clause-fails : goal.returns-clause-fails
+returns-clause-fails g c = fails-then c.in_ok-begin_next.ensures.fails (fails-then c.in_ok-append_next.ensures.fails c.sync_next.ensures.fails)
+
+pub returns-clause-left_alone : goal.returns-clause-left_alone
+returns-clause-left_alone g c h = ap (λ (image : Image). image.store) (c.sync_next.ensures.reads h) ∙ c.append_next.ensures.left_alone h ∙ c.begin_next.ensures.left_alone h
