@@ -1,6 +1,6 @@
 -- How many bytes answers have: no more than a base.
 use Rattle.std.proofs.Common.{◌≡◌, refl, ◌∙◌, ap, subst, arith, ◌≤◌, ◌<◌}
-use Rattle.std.specs.Prelude.{ℕ, suc, ◌+◌, ◌==◌, Bool, true, false, not, ◌&&◌, nat_le, nat_lt, if◌then◌else◌, List, [], ◌∷◌, ◌++◌, length, codes, decimal, Option, Some, None, Result, Ok, Err}
+use Rattle.std.specs.Prelude.{ℕ, suc, ◌+◌, ◌==◌, Bool, true, false, ◌&&◌, nat_le, nat_lt, if◌then◌else◌, List, [], ◌∷◌, ◌++◌, length, codes, decimal, Option, Some, None, Result, Ok, Err}
 use Rattle.std.proofs.lemmas.Bool.{and_parts}
 use Rattle.std.proofs.lemmas.Bool.Decides.{nat_tests}
 use Rattle.std.proofs.lemmas.Fmt.{decimal_is_IsNumeral, length-decimal-le}
@@ -21,11 +21,13 @@ use Rattle.tree_path.specs.declared.place.Miss.{Miss}
 use Rattle.tree_path.specs.Paths.{at, at_from, at_step, child, refusal as step_refusal}
 use Rattle.json_pointer.specs.Pointers.{path_of}
 use Rattle.yaml_config.proofs.Located.{child-within}
-use Rattle.conf_state.specs.Commands.{Command, name_of}
+use Rattle.conf_state.specs.Commands.{Command}
 use Rattle.conf_state.specs.Names.{small_letter, name_char, good_name}
 use Rattle.conf_state.specs.States.{Entry, Contents, names_of, config_named, base_limit, count_limit}
 use Rattle.conf_state.specs.Limits.{AreConfigs, IsState}
-use Rattle.conf_state.specs.Steps.{step, next_state, configs_after, and_then, found, by_path}
+use Rattle.conf_state.specs.Steps.{step, next_state, performed, with_room, and_then, found, by_path}
+use Rattle.conf_state.specs.declared.room.Room.{Room}
+use Rattle.conf_state.specs.declared.room.Room.TheVariants.{Enough, LongRecord, Missing}
 use Rattle.conf_state.specs.BaseTexts.{base_length, entry_length, entries_length}
 use Rattle.conf_state.specs.declared.fault.StoreFault.{StoreFault}
 use Rattle.conf_state.specs.declared.fault.StoreFault.TheVariants as store
@@ -33,10 +35,10 @@ use Rattle.conf_state.proofs.BaseLemmas.{count_bytes, base_length-framed}
 use Rattle.conf_state.proofs.RunLaws.{and_then-Ok, step-one}
 use Rattle.conf_record.proofs.SizeLemmas.{size, scalar_most, value_size}
 use Rattle.yaml_writer.proofs.ByteLemmas.{byte_len-encoded}
-use Rattle.conf_store.specs.Calls.{outcome, has_room, tree_named}
+use Rattle.conf_store.specs.Calls.{outcome, room_for, tree_named}
 use Rattle.conf_session.specs.Requests.{Request, changing, unread, getting, exporting, naming, checkpointing, bad}
 use Rattle.conf_session.specs.Answers.{Stored, longest, one, text_elements, read_word, path_word, word, refusal, answer_or_refusal, value_at_path, change_answer, answer, answer_limit}
-use Rattle.conf_session.proofs.WordLemmas.{spelled-BadName, spelled-BadPath, spelled-ConfigLarge, spelled-CountFull, spelled-Documents, spelled-JournalLong, spelled-KeyNotText, spelled-KeyTwice, spelled-LargeInStyle, spelled-NoConfig, spelled-NoSuchPlace, spelled-NotIndex, spelled-NotUtf8, spelled-StoreFull, spelled-Syntax, spelled-TooDeep, spelled-TooLong, spelled-none, spelled-BadCommand}
+use Rattle.conf_session.proofs.WordLemmas.{spelled-BadName, spelled-BadPath, spelled-ConfigLarge, spelled-CountFull, spelled-Documents, spelled-EmptyBatch, spelled-JournalLong, spelled-KeyNotText, spelled-KeyTwice, spelled-LargeInStyle, spelled-NoConfig, spelled-NoSuchPlace, spelled-NotIndex, spelled-NotUtf8, spelled-RecordLong, spelled-StoreFull, spelled-Syntax, spelled-TooDeep, spelled-TooLong, spelled-none, spelled-BadCommand}
 
 -- ---- a document of one key
 
@@ -188,26 +190,23 @@ count-value-length n small =
 le-false : (a b : ℕ) → nat_le a b ≡ false → b < a
 le-false a b e = grind (arith, nat_tests)
 
-next_state-few : (s new : Contents) (fits : Bool) (configs : List Entry) → next_state s fits configs ≡ Ok new → s.count < count_limit
-next_state-few s new fits configs e =
+next_state-few : (s new : Contents) (room : Room) (configs : List Entry) → next_state s room configs ≡ Ok new → s.count < count_limit
+next_state-few s new room configs e =
     le-false count_limit s.count
-    (by (nat_lt base_limit (base_length (record { configs = configs; count = s.count + 1 }))) fits (nat_le count_limit s.count) e)
+    (by (nat_lt base_limit (base_length (record { configs = configs; count = s.count + 1 }))) room (nat_le count_limit s.count) e)
   where
-    by : (full room last : Bool)
-        → (if full then Err store.StoreFull else if not room then Err store.JournalLong else if last then Err store.CountFull else Ok (record { configs = configs; count = s.count + 1 })) ≡ Ok new
+    by : (full : Bool) (room : Room) (last : Bool)
+        → (if full then Err store.StoreFull else with_room room (if last then Err store.CountFull else Ok (record { configs = configs; count = s.count + 1 }))) ≡ Ok new
         → last ≡ false
     by true room last is = cc
-    by false false last is = cc
-    by false true true is = cc
-    by false true false is = refl
+    by false LongRecord last is = cc
+    by false Missing last is = cc
+    by false Enough true is = cc
+    by false Enough false is = refl
 
 -- a step is accepted only below the greatest count
-pub step-few : (s new : Contents) (command : Command) (fits : Bool) → step s command fits ≡ Ok new → s.count < count_limit
-step-few s new command fits e = by (good_name (name_of command)) e
-  where
-    by : (good : Bool) → (if good then and_then (configs_after s.configs command) (next_state s fits) else Err store.BadName) ≡ Ok new → s.count < count_limit
-    by true is = (let done = and_then-Ok (configs_after s.configs command) (next_state s fits) new is in next_state-few s new fits done.0 done.2)
-    by false is = cc
+pub step-few : (s new : Contents) (command : Command) (room : Room) → step s command room ≡ Ok new → s.count < count_limit
+step-few s new command room e = let done = and_then-Ok (performed s.configs command) (next_state s room) new e in next_state-few s new room done.0 done.2
 
 -- ---- refusals
 
@@ -235,11 +234,13 @@ path_refused path.OutOfMemory = refused [] _ spelled-none (omega arith)
 pub refusal-short : (fault : StoreFault) → length (framed_text_bytes (refusal (word fault))) ≤ answer_limit
 refusal-short (store.Path fault) = path_refused fault
 refusal-short (store.Read fault) = read_refused fault
+refusal-short store.EmptyBatch = refused (codes "EmptyBatch") _ spelled-EmptyBatch (omega arith)
 refusal-short store.BadName = refused (codes "BadName") _ spelled-BadName (omega arith)
 refusal-short store.NoConfig = refused (codes "NoConfig") _ spelled-NoConfig (omega arith)
 refusal-short store.TooDeep = refused (codes "TooDeep") _ spelled-TooDeep (omega arith)
 refusal-short store.ConfigLarge = refused (codes "ConfigLarge") _ spelled-ConfigLarge (omega arith)
 refusal-short store.StoreFull = refused (codes "StoreFull") _ spelled-StoreFull (omega arith)
+refusal-short store.RecordLong = refused (codes "RecordLong") _ spelled-RecordLong (omega arith)
 refusal-short store.JournalLong = refused (codes "JournalLong") _ spelled-JournalLong (omega arith)
 refusal-short store.CountFull = refused (codes "CountFull") _ spelled-CountFull (omega arith)
 refusal-short store.Reopen = refused [] _ spelled-none (omega arith)
@@ -294,9 +295,9 @@ count-answer-short n small = omega (arith, document-length (codes "ok") (text (d
 change-answer-short : (now : Stored) (command : Command) (r : Result Contents StoreFault) → outcome (longest now) now.state command ≡ r
     → length (framed_text_bytes (change_answer r)) ≤ answer_limit
 change-answer-short now command (Ok new) is =
-    let fits = has_room (longest now) now.state command in
-    let few = step-few now.state new command fits is in
-    let counts = step-one now.state new command fits is in
+    let room = room_for (longest now) now.state command in
+    let few = step-few now.state new command room is in
+    let counts = step-one now.state new command room is in
     count-answer-short new.count (omega (arith, few, counts))
 change-answer-short now command (Err fault) is = refusal-short fault
 

@@ -14,7 +14,7 @@ use Rattle.conf_state.specs.Commands.{Command}
 use Rattle.conf_state.specs.States.{Contents}
 use Rattle.conf_state.specs.Steps.{after}
 use Rattle.conf_state.specs.declared.fault.StoreFault.{StoreFault}
-use Rattle.conf_store.specs.Calls.{outcome, has_room, tree_named}
+use Rattle.conf_store.specs.Calls.{outcome, room_for, tree_named}
 use Rattle.conf_store.specs.Durable.{AfterPrefix, HasFlushed, staged_text}
 use Rattle.conf_store.specs.View.{StoreView}
 use Rattle.conf_state.proofs.RefusalLemmas.{accepted-room}
@@ -118,7 +118,7 @@ pub leads-one : (now : Stored) (r : Request) → after now.state (accepted_comma
 leads-one now (changing command) = by (outcome (longest now) now.state command) refl
   where
     by : (j : Result Contents StoreFault) → outcome (longest now) now.state command ≡ j → after now.state (accepted_by j command) ≡ Ok (stored_after_change now command j).state
-    by (Ok new) e = after-done now.state new command (accepted-anyway accepted-room now.state new command (has_room (longest now) now.state command) e)
+    by (Ok new) e = after-done now.state new command (accepted-anyway accepted-room now.state new command (room_for (longest now) now.state command) e)
     by (Err fault) e = refl
 leads-one now (unread fault) = refl
 leads-one now (getting name path) = refl

@@ -41,6 +41,7 @@ path_word (path.NotIndex step) = codes "NotIndex"
 path_word path.OutOfMemory = []
 
 abbrev pub word : StoreFault → List ℕ
+word store.EmptyBatch = codes "EmptyBatch"
 word store.BadName = codes "BadName"
 word store.NoConfig = codes "NoConfig"
 word (store.Path fault) = path_word fault
@@ -48,6 +49,7 @@ word (store.Read fault) = read_word fault
 word store.TooDeep = codes "TooDeep"
 word store.ConfigLarge = codes "ConfigLarge"
 word store.StoreFull = codes "StoreFull"
+word store.RecordLong = codes "RecordLong"
 word store.JournalLong = codes "JournalLong"
 word store.CountFull = codes "CountFull"
 word store.Reopen = []

@@ -9,18 +9,20 @@ ghost use Rattle.conf_state.specs.States.{Contents};
 ghost use Rattle.conf_store.specs.Calls.{Accepts, HasFailed, RefusesCommand, next_record};
 ghost use Rattle.conf_store.specs.Durable.{AfterPrefix, AllImagesMean, HasFlushed, staged_text};
 ghost use Rattle.conf_store.specs.Meaning.{FileMeans};
-ghost use Rattle.conf_session.specs.Said.{import_text};
+ghost use Rattle.conf_session.specs.Said.{import_text, single_part, batch_of_parts, part_seen, parts_seen};
 ghost use Rattle.conf_session.specs.Requests.{changing, checkpointing};
 ghost use Rattle.conf_session.specs.Said.{said_of};
 ghost use Rattle.conf_session.specs.Replies.{Did, DidPiece, DidSaid, LeavesPrefixes, is_at_once};
 
 use crate::answer::{count_answer, export_answer, get_answer, names_answer};
 use crate::fault::SessionFault;
+use crate::parts::{Part, read_parts};
 use crate::said::{Said, read_said};
 use conf_disk::{Disk, Name};
 use conf_state::{Command, StoreFault};
 use conf_store::{Store, import_command};
 use std::alloc::Global;
+use yaml_tree::ReadFault;
 
 /// What is answered to a piece.
 #[derive(Drop)]
@@ -149,7 +151,7 @@ fn import<D: Disk>(
         LeavesPrefixes (D.folder store.old.disk) store.old.state }
     ensures did { store.old.reopen ≡ false →
         DidSaid (is_at_once way) D.honest D.folder D.moment D.left store.old store.new
-        (import_text (chars name.now) (chars source.now)) result }
+        (single_part (import_text (chars name.now) (chars source.now))) result }
     ensures cause { IsErrOf result SessionFault.Device →
         HasFailed (D.failure_count store.old.disk) (D.failure_count store.new.disk) }
     ensures risen { D.failure_count store.old.disk ≤ D.failure_count store.new.disk }
@@ -160,6 +162,55 @@ fn import<D: Disk>(
         Ok(command) => change(alloc, store, command, way),
         Err(StoreFault::OutOfMemory) => Err(SessionFault::OutOfMemory),
         Err(fault) => Ok(Reply::Refused(fault)),
+    }
+}
+
+/// Performs a part that is a command by itself.
+fn change_single<D: Disk>(
+    alloc: Global,
+    store: &mut Store<D>,
+    part: Part,
+    way: Way,
+) -> Result<Reply, SessionFault>
+    requires means { D.honest → store.old.reopen ≡ false →
+        LeavesPrefixes (D.folder store.old.disk) store.old.state }
+    ensures did { store.old.reopen ≡ false →
+        DidSaid (is_at_once way) D.honest D.folder D.moment D.left store.old store.new
+        (single_part (part_seen part)) result }
+    ensures cause { IsErrOf result SessionFault.Device →
+        HasFailed (D.failure_count store.old.disk) (D.failure_count store.new.disk) }
+    ensures risen { D.failure_count store.old.disk ≤ D.failure_count store.new.disk }
+    ensures now { is_at_once way ≡ true → D.honest → store.new.reopen ≡ false →
+        LeavesPrefixes (D.folder store.new.disk) store.new.state }
+{
+    match part {
+        Part::Import { name, text } => import(alloc, store, &name, &text, way),
+        Part::Plain(edit) => change(alloc, store, Command::from(edit), way),
+    }
+}
+
+/// Performs a batch. All texts in it are read first, in order; the first one that gives no tree is why it is refused.
+fn change_batch<D: Disk>(
+    alloc: Global,
+    store: &mut Store<D>,
+    parts: Vec<Part>,
+    way: Way,
+) -> Result<Reply, SessionFault>
+    requires means { D.honest → store.old.reopen ≡ false →
+        LeavesPrefixes (D.folder store.old.disk) store.old.state }
+    ensures did { store.old.reopen ≡ false →
+        DidSaid (is_at_once way) D.honest D.folder D.moment D.left store.old store.new
+        (batch_of_parts (parts_seen parts.items)) result }
+    ensures cause { IsErrOf result SessionFault.Device →
+        HasFailed (D.failure_count store.old.disk) (D.failure_count store.new.disk) }
+    ensures risen { D.failure_count store.old.disk ≤ D.failure_count store.new.disk }
+    ensures now { is_at_once way ≡ true → D.honest → store.new.reopen ≡ false →
+        LeavesPrefixes (D.folder store.new.disk) store.new.state }
+{
+    match read_parts(alloc, parts) {
+        Ok(edits) => change(alloc, store, Command::Batch { edits }, way),
+        Err(ReadFault::OutOfMemory) => Err(SessionFault::OutOfMemory),
+        Err(fault) => Ok(Reply::Refused(StoreFault::Read(fault))),
     }
 }
 
@@ -181,8 +232,8 @@ fn answer_said<D: Disk>(
         LeavesPrefixes (D.folder store.new.disk) store.new.state }
 {
     match said {
-        Said::Import { name, text } => import(alloc, store, &name, &text, way),
-        Said::Change(command) => change(alloc, store, command, way),
+        Said::Single(part) => change_single(alloc, store, part, way),
+        Said::Batch(parts) => change_batch(alloc, store, parts, way),
         Said::Checkpoint => checkpoint(alloc, store),
         Said::Get { name, path } => Ok(get_answer(alloc, store, &name, &path)?),
         Said::Export(name) => Ok(export_answer(alloc, store, &name)?),
