@@ -8,7 +8,7 @@ ghost use Rattle.yaml_data.specs.Seen.{tree_of, members_of, elements_of};
 ghost use Rattle.yaml_data.specs.TextBytes.{text_bytes};
 ghost use Rattle.conf_state.specs.Commands.{edit_of};
 ghost use Rattle.conf_record.specs.RecordsRead.{values};
-ghost use Rattle.conf_record.specs.Reading.{AreKept};
+ghost use Rattle.conf_record.specs.Reading.{AreKept, AreKeptElements};
 ghost use Rattle.conf_session.specs.Said.{part_from, part_of, parts_of, import_part, set_part, delete_part};
 ghost use Rattle.conf_session.specs.Said.{is_one, is_one_text, are_two_texts, import_text, part_seen, parts_seen};
 ghost use Rattle.conf_session.specs.Requests.{IsReadAs, AreReadAs, RefusesPart, IsFirstRefused};
@@ -142,12 +142,12 @@ fn as_strings(alloc: Global, one: Text, other: Text) -> Result<(String, String),
 
 /// The parts that the elements of a sequence are, if each of them is one. It fails only if memory runs out.
 pub(crate) fn parts_of(alloc: Global, elements: Vec<Tree>) -> Result<Option<Vec<Part>>, AllocError>
-    requires { AreKept (map tree_of elements.items) }
+    requires { AreKeptElements (elements_of elements.items) }
     ensures { IfOk result (λ parts. option_map (λ v. parts_seen v.items) parts
         ≡ parts_of (elements_of elements.items)) }
 {
     let mut parts = Vec::new(alloc);
-    'elements: for element in elements {
+    for element in elements {
         let Some(part) = part_of(alloc, element)? else {
             return Ok(None);
         };
@@ -179,7 +179,7 @@ pub(crate) fn read_parts(alloc: Global, parts: Vec<Part>) -> Result<Vec<Edit>, R
         IsFirstRefused (parts_seen parts.items) fault) }
 {
     let mut edits = Vec::with_capacity(alloc, parts.len())?;
-    'parts: for part in parts {
+    for part in parts {
         match read_part(alloc, part) {
             Ok(edit) => edits.push(edit)?,
             Err(fault) => return Err(fault),

@@ -1,11 +1,12 @@
 // What command documents say.
-ghost use Rattle.std.specs.Prelude.{◌≡◌, IfOk};
+ghost use Rattle.std.specs.Prelude.{◌≡◌, [], ◌∷◌, IfOk, MatchOption};
+ghost use Rattle.yaml_grammar.specs.Trees.{sequence};
 ghost use Rattle.yaml_config.specs.Kept.{IsKept};
-ghost use Rattle.yaml_data.specs.Seen.{tree_of, members_of};
+ghost use Rattle.yaml_data.specs.Seen.{tree_of, elements_of, members_of};
 ghost use Rattle.conf_record.specs.RecordsRead.{values};
-ghost use Rattle.conf_record.specs.Reading.{AreKept};
-ghost use Rattle.conf_session.specs.Said.{Says, said_by, part_from, part_said, batch_said, get_said};
-ghost use Rattle.conf_session.specs.Said.{export_said, names_said, checkpoint_said, is_empty_text};
+ghost use Rattle.conf_record.specs.Reading.{AreKept, AreKeptElements};
+ghost use Rattle.conf_session.specs.Said.{Says, said_by, part_from, part_said, parts_of, parts_said, batch_said};
+ghost use Rattle.conf_session.specs.Said.{get_said, export_said, names_said, checkpoint_said, is_empty_text, nothing};
 ghost use Rattle.conf_session.specs.Said.{said_of};
 
 use crate::parts::{Part, last_text, last_value, part_from, parts_of, two_texts};
@@ -86,21 +87,44 @@ fn part_said(alloc: Global, pairs: Vec<(Text, Tree)>) -> Result<Said, AllocError
     requires { AreKept (values (members_of pairs.items)) }
     ensures { IfOk result (λ said. said_of said ≡ part_said (part_from (members_of pairs.items))) }
 {
-    match part_from(alloc, pairs)? {
+    let found = part_from(alloc, pairs)?;
+    match found {
         Some(part) => Ok(Said::Single(part)),
         None => Ok(Said::Nothing),
     }
 }
 
-/// What a `batch` says: its one value is a sequence of parts, or it is no command.
+/// What a `batch` says: its one value is a sequence, or it is no command.
 fn batch_said(alloc: Global, pairs: Vec<(Text, Tree)>) -> Result<Said, AllocError>
     requires { AreKept (values (members_of pairs.items)) }
     ensures { IfOk result (λ said. said_of said ≡ batch_said (values (members_of pairs.items))) }
 {
-    let Some(Tree::Seq(elements)) = last_value(pairs.into_iter()) else {
-        return Ok(Said::Nothing);
-    };
-    match parts_of(alloc, elements)? {
+    match batch_elements(pairs) {
+        Some(elements) => elements_said(alloc, elements),
+        None => Ok(Said::Nothing),
+    }
+}
+
+/// The elements of the one value, if that is a sequence.
+fn batch_elements(pairs: Vec<(Text, Tree)>) -> Option<Vec<Tree>>
+    ensures { MatchOption result (batch_said (values (members_of pairs.items)) ≡ nothing)
+        (λ v. values (members_of pairs.items) ≡ sequence (elements_of v.items) ∷ []) }
+{
+    match last_value(pairs.into_iter())? {
+        Tree::Text(_) => None,
+        Tree::Seq(elements) => Some(elements),
+        Tree::Map(_) => None,
+    }
+}
+
+/// What the elements of a batch say: each is a part, or it is no command.
+fn elements_said(alloc: Global, elements: Vec<Tree>) -> Result<Said, AllocError>
+    requires { AreKeptElements (elements_of elements.items) }
+    ensures { IfOk result (λ said. said_of said
+        ≡ parts_said (parts_of (elements_of elements.items))) }
+{
+    let found = parts_of(alloc, elements)?;
+    match found {
         Some(parts) => Ok(Said::Batch(parts)),
         None => Ok(Said::Nothing),
     }
