@@ -1,9 +1,8 @@
 -- How many bytes configurations have after several removals and puts.
-use Rattle.std.proofs.Common.{◌≡◌, ℕ, ◌+◌, Bool, true, false, not, List, [], ◌∷◌, String, Global, Option, Some, None, refl, sym, ap, ◌∙◌, arith}
+use Rattle.std.proofs.Common.{◌≡◌, ℕ, ◌+◌, Bool, true, false, not, List, [], ◌∷◌, Option, Some, None, refl, ap, arith}
 use Rattle.std.proofs.lemmas.Bool.{and_parts}
 use Rattle.yaml_grammar.specs.Texts.{same_text}
 use Rattle.yaml_grammar.specs.Trees.{Tree}
-use Rattle.yaml_data.proofs.CharacterLemmas.{same_text-true}
 use Rattle.conf_state.specs.BaseTexts.{entry_length, entries_length}
 use Rattle.conf_state.specs.Drafts.{cut_all, put_all}
 use Rattle.conf_state.specs.States.{Entry, names_of, config_named, put_config, cut_config, has_name, names_differ}

@@ -1,5 +1,5 @@
 -- What a put and a removal make of a draft.
-use Rattle.std.proofs.Common.{◌≡◌, ◌⊎◌, inl, inr, ℕ, Bool, true, false, ◌||◌, if◌then◌else◌, List, [], ◌∷◌, ◌++◌, String, Global, Option, Some, None, option_map, is_some, IfSome, Bor, bytes_eq, string_bytes, encode_utf8_all, IsUtf8, refl, sym, ap, subst, ◌∙◌}
+use Rattle.std.proofs.Common.{◌≡◌, ℕ, Bool, true, false, ◌||◌, if◌then◌else◌, List, [], ◌∷◌, ◌++◌, String, Global, Option, Some, None, option_map, IfSome, Bor, bytes_eq, string_bytes, encode_utf8_all, IsUtf8, refl, sym, ap, subst, ◌∙◌}
 use Rattle.std.proofs.lemmas.Bool.Decides.{same_from_decides}
 use Rattle.std.proofs.lemmas.Slice.Eq.{bytes_eq-Decides}
 use Rattle.std.proofs.lemmas.Str.{encodes-chars, IsUtf8-string_bytes}
@@ -124,8 +124,3 @@ pub found-holds : (P : grammar.Tree → Type 0) (result : Option (Bor Tree)) (o 
     → ((t : grammar.Tree) → o ≡ Some t → P t) → IfSome result (λ config. P (tree_of config.now))
 found-holds P None o is so = tt
 found-holds P (Some config) o is so = so (tree_of config.now) (sym is)
-
--- what follows from the second of two cases
-pub or_so : {A B C : Type 0} → (B → C) → A ⊎ B → A ⊎ C
-or_so so (inl a) = inl a
-or_so so (inr b) = inr (so b)

@@ -13,4 +13,3 @@ pub mod Configs
 pub mod Places
 pub mod Lends
 pub mod Drafts
-pub mod Planning

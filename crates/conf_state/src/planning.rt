@@ -4,18 +4,20 @@ ghost use Rattle.std.specs.Str.{chars};
 ghost use Rattle.yaml_grammar.specs.Reads.{Good};
 ghost use Rattle.yaml_data.specs.Seen.{tree_of};
 ghost use Rattle.yaml_config.specs.Limits.{config_limits};
-ghost use Rattle.conf_state.specs.Planning.{checked_edit, edited_at, IsConfigPlan};
+ghost use Rattle.conf_state.specs.Edits.{checked_edit, edited_at, IsPlan};
 
 use crate::fault::StoreFault;
 use std::alloc::Global;
 use tree_path::Path;
-use yaml_config::{Config, Edit as PathEdit, Limits};
+use yaml_config::{Change, Config, Edit as PathEdit, Limits};
 
-/// How many bytes a configuration has in the one style after an edit, and the place of the last key of the edit's path.
+/// How many bytes a configuration has in the one style after an edit, what changes in its length, and the place of the
+/// last key of the edit's path.
 #[derive(Clone, Copy)]
-struct ConfigPlan {
-    bytes: u64,
-    place: Option<usize>,
+pub(crate) struct EditPlan {
+    pub(crate) bytes: u64,
+    pub(crate) change: Change,
+    pub(crate) place: Option<usize>,
 }
 
 /// Makes an edit inside a configuration, in place, at a pointer that is not empty. The fault is that of the pointer or
@@ -41,10 +43,14 @@ pub(crate) fn edit_config(
 }
 
 /// The plan of an edit of a configuration, if it then keeps its limits.
-fn plan_edit(config: &Config, path: &Path, edit: &PathEdit) -> Result<ConfigPlan, StoreFault>
+pub(crate) fn plan_edit(
+    config: &Config,
+    path: &Path,
+    edit: &PathEdit,
+) -> Result<EditPlan, StoreFault>
     requires within { Good (tree_of config.now) config_limits }
     requires steps { 0 < length path.now }
-    ensures ok { IfOk result (IsConfigPlan edit.now (tree_of config.now) path.now) }
+    ensures ok { IfOk result (IsPlan edit.now (tree_of config.now) path.now) }
     ensures refused { IfErr result (λ fault. (fault ≡ StoreFault.OutOfMemory)
         ⊎ (checked_edit edit.now (tree_of config.now) path.now ≡ Err fault)) }
 {
@@ -56,8 +62,9 @@ fn plan_edit(config: &Config, path: &Path, edit: &PathEdit) -> Result<ConfigPlan
     if bytes > u128::from(Limits::CONFIGURATION.style) {
         return Err(StoreFault::ConfigLarge);
     }
-    Ok(ConfigPlan {
+    Ok(EditPlan {
         bytes: bytes as u64,
+        change: plan.change,
         place: plan.place,
     })
 }

@@ -35,5 +35,6 @@ returns-clause-ok c =
           (sym (c.keeps_depth.ensures old made.0 c.requires.within.deep made.1) ∙ c.if-not-keeps_depth.false);
       long = omega (arith, alone, c.style_length.ensures, c.length_after-bytes.ensures, c.if-bytes-from.false);
       bytes = omega (arith, alone, c.style_length.ensures, c.length_after-bytes.ensures);
+      changes = made.2;
       place = c.in_ok-plan.ensures.place;
     }

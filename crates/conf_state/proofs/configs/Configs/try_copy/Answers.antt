@@ -1,4 +1,4 @@
-use Rattle.std.proofs.Common.{◌≡◌, ◌∷◌, ◌++◌, subst, ◌∙◌}
+use Rattle.std.proofs.Common.{◌≡◌, ◌++◌, subst, ◌∙◌}
 use Rattle.conf_state.specs.Kept.{entries_of, ArePlain}
 use Rattle.conf_state.proofs.CopyLemmas.{copied_more}
 use Rattle.conf_state.proofs.configs.Configs.try_copy.Goals as goal

@@ -4,9 +4,8 @@ use Rattle.std.specs.Str.{chars}
 use Rattle.conf_state.specs.Commands.{text_of}
 use Rattle.conf_state.specs.Drafts.{drafted}
 use Rattle.conf_state.specs.States.{config_named}
-use Rattle.conf_state.proofs.DraftSteps.{or_so}
 use Rattle.conf_state.proofs.EditLemmas.{empty-pointer, delete-edits}
-use Rattle.conf_state.proofs.PlanningLemmas.{delete-cut}
+use Rattle.conf_state.proofs.PlanningLemmas.{delete-cut, or_so}
 use Rattle.conf_state.proofs.StepLemmas.{some_bytes, no_bytes}
 use Rattle.conf_state.proofs.draft.Draft.delete.Goals as goal
 

@@ -1,4 +1,4 @@
-use Rattle.std.proofs.Common.{◌≡◌, inr, List, OnSome, Some, None, Ok, string_bytes, option_map, subst, sym, ap, ◌∙◌}
+use Rattle.std.proofs.Common.{◌≡◌, inr, OnSome, Some, Ok, string_bytes, option_map, subst, sym, ap, ◌∙◌}
 use Rattle.std.proofs.lemmas.Result.{on_ok_weaker, IfErr-weaker, err_from_is_err_and}
 use Rattle.std.proofs.lemmas.Str.{IsUtf8-string_bytes}
 use Rattle.std.specs.Map.{lookup, set_value}
@@ -9,13 +9,13 @@ use Rattle.conf_state.specs.Commands.{text_of}
 use Rattle.conf_state.specs.Configs.{is_name, put_under}
 use Rattle.conf_state.specs.Drafts.{cut_all, texts_of, drafted}
 use Rattle.conf_state.specs.Kept.{entries_of, ArePlain}
-use Rattle.conf_state.specs.States.{Entry, config_named, put_config}
+use Rattle.conf_state.specs.States.{config_named, put_config}
 use Rattle.conf_state.proofs.DraftLemmas.{named-put_all-some, named-put_all-none}
-use Rattle.conf_state.proofs.DraftSteps.{put-made, put-kept, or_so}
+use Rattle.conf_state.proofs.DraftSteps.{put-made, put-kept}
 use Rattle.conf_state.proofs.EditLemmas.{named-good, found-named, tree_after_edit-nothing}
 use Rattle.conf_state.proofs.EntryLemmas.{lookup-named, set_value-named, plain_set_value, put_under-named, plain_put_under}
 use Rattle.conf_state.proofs.NameLemmas.{good_name-ascii}
-use Rattle.conf_state.proofs.PlanningLemmas.{edit-made, edit-refused}
+use Rattle.conf_state.proofs.PlanningLemmas.{edit-made, edit-refused, or_so}
 use Rattle.conf_state.proofs.draft.Draft.edit.Goals as goal
 use Rattle.conf_state.proofs.draft.Draft.edit.Goals.{In-Some, After-edit_config, In_default, In-Some-untouched, In_ok-put}
 

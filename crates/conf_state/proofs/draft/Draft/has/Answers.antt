@@ -1,6 +1,5 @@
 use Rattle.std.proofs.Common.{◌≡◌, ◌||◌, Option, Some, None, Bor, is_some, option_map, option_copied, refl, sym, ap, ◌∙◌}
 use Rattle.std.specs.Str.{chars}
-use Rattle.yaml_grammar.specs.Trees as grammar
 use Rattle.yaml_data.specs.Seen.{tree_of}
 use Rattle.yaml_data.specs.declared.tree.Tree.{Tree}
 use Rattle.conf_state.specs.Drafts.{cut_all, texts_of}

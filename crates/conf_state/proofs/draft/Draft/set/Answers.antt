@@ -6,9 +6,8 @@ use Rattle.conf_state.specs.Commands.{text_of, import_as, set_at}
 use Rattle.conf_state.specs.Drafts.{drafted}
 use Rattle.conf_state.specs.States.{config_named}
 use Rattle.conf_state.specs.Steps.{configs_after}
-use Rattle.conf_state.proofs.DraftSteps.{or_so}
 use Rattle.conf_state.proofs.EditLemmas.{empty-pointer}
-use Rattle.conf_state.proofs.PlanningLemmas.{set-import}
+use Rattle.conf_state.proofs.PlanningLemmas.{set-import, or_so}
 use Rattle.conf_state.proofs.StepLemmas.{no_bytes}
 use Rattle.conf_state.proofs.draft.Draft.set.Goals as goal
 use Rattle.conf_state.proofs.draft.Draft.set.Goals.{After-import}

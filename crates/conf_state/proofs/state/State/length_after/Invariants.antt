@@ -1,4 +1,4 @@
-use Rattle.std.proofs.Common.{◌≡◌, ◌+◌, ◌≤◌, min}
+use Rattle.std.proofs.Common.{◌≡◌, ◌+◌, min}
 use Rattle.conf_state.specs.BaseTexts.{entries_length}
 use Rattle.conf_state.specs.Drafts.{cut_all, texts_of}
 use Rattle.conf_state.specs.Kept.{entries_of}

@@ -1,4 +1,4 @@
-use Rattle.std.proofs.Common.{ap, sym, ◌∙◌, arith}
+use Rattle.std.proofs.Common.{sym, ◌∙◌, arith}
 use Rattle.std.specs.Str.{chars}
 use Rattle.conf_state.specs.Drafts.{cut_all, texts_of}
 use Rattle.conf_state.proofs.DraftLemmas.{named-cut_all-gone}

@@ -1,7 +1,5 @@
-use Rattle.std.proofs.Common.{◌≡◌, ◌+◌, ap, sym, ◌∙◌, arith}
+use Rattle.std.proofs.Common.{◌≡◌, ◌+◌, ap, ◌∙◌, arith}
 use Rattle.std.specs.Str.{chars}
-use Rattle.conf_state.specs.BaseTexts.{entries_length}
-use Rattle.conf_state.specs.Commands.{text_of}
 use Rattle.conf_state.specs.Drafts.{texts_of}
 use Rattle.conf_state.proofs.DraftLengths.{named_length, all_lengths, cut_all-length, named_length-is}
 use Rattle.conf_state.proofs.state.State.length_without_removed.Goals as goal
