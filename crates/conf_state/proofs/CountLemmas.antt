@@ -1,11 +1,13 @@
 -- When a state has room for one command more.
-use Rattle.std.proofs.Common.{◌≡◌, ℕ, ◌+◌, ◌<◌, ◌≤◌, ◌^◌, Bool, true, false, not, min, nat_le, nat_lt, if◌then◌else◌, List, Result, Ok, Err, refl, ap, sym, ◌∙◌, arith}
+use Rattle.std.proofs.Common.{◌≡◌, ℕ, ◌+◌, ◌<◌, ◌≤◌, ◌^◌, Bool, true, false, min, nat_le, nat_lt, if◌then◌else◌, List, Result, Ok, Err, refl, ap, sym, ◌∙◌, arith}
 use Rattle.std.proofs.lemmas.Bool.Decides.{nat_tests}
 use Rattle.conf_state.specs.States.{Entry, Contents, base_limit, count_limit}
 use Rattle.conf_state.specs.BaseTexts.{base_length, framed_length, entries_length}
-use Rattle.conf_state.specs.Steps.{next_state}
+use Rattle.conf_state.specs.Steps.{with_room, next_state}
 use Rattle.conf_state.specs.declared.fault.StoreFault.{StoreFault}
-use Rattle.conf_state.specs.declared.fault.StoreFault.TheVariants.{StoreFull, JournalLong, CountFull}
+use Rattle.conf_state.specs.declared.fault.StoreFault.TheVariants.{StoreFull, RecordLong, JournalLong, CountFull}
+use Rattle.conf_state.specs.declared.room.Room.{Room}
+use Rattle.conf_state.specs.declared.room.Room.TheVariants.{Enough, LongRecord, Missing}
 use Rattle.conf_state.proofs.BaseLemmas.{base_length-framed}
 
 -- a smaller number passes the test
@@ -23,14 +25,14 @@ le-false : (a b : ℕ) → b < a → nat_le a b ≡ false
 le-false a b h = grind (arith, nat_tests)
 
 -- the refusals in their order
-abbrev first_fault : Bool → Bool → Bool → Contents → Result Contents StoreFault
-first_fault full fits last new = if full then Err StoreFull else if not fits then Err JournalLong else if last then Err CountFull else Ok new
+abbrev first_fault : Bool → Room → Bool → Contents → Result Contents StoreFault
+first_fault full room last new = if full then Err StoreFull else with_room room (if last then Err CountFull else Ok new)
 
 -- the frame's length passes the limit alike where lengths are cut off at the greatest number
 cut : (n l : ℕ) → nat_lt base_limit (min (framed_length n (min l 18446744073709551615)) 18446744073709551615) ≡ nat_lt base_limit (framed_length n l)
 cut n l = grind (arith, nat_tests)
 
-module _ (s : Contents) (fits : Bool) (configs : List Entry) where
+module _ (s : Contents) (room : Room) (configs : List Entry) where
   abbrev new : Contents
   new = record { configs = configs; count = s.count + 1 }
 
@@ -44,28 +46,31 @@ module _ (s : Contents) (fits : Bool) (configs : List Entry) where
     short : l ≤ base_limit → nat_lt base_limit (base_length new) ≡ false
     short h = same ∙ lt-false base_limit l h
 
-    pub next_state-full : base_limit < l → next_state s fits configs ≡ Err StoreFull
-    next_state-full h = ap (λ full. first_fault full fits (nat_le count_limit s.count) new) (same ∙ lt-true base_limit l h)
+    pub next_state-full : base_limit < l → next_state s room configs ≡ Err StoreFull
+    next_state-full h = ap (λ full. first_fault full room (nat_le count_limit s.count) new) (same ∙ lt-true base_limit l h)
 
-    pub next_state-long : l ≤ base_limit → fits ≡ false → next_state s fits configs ≡ Err JournalLong
+    pub next_state-record : l ≤ base_limit → room ≡ LongRecord → next_state s room configs ≡ Err RecordLong
+    next_state-record h no_room = rw (short h, no_room) refl
+
+    pub next_state-long : l ≤ base_limit → room ≡ Missing → next_state s room configs ≡ Err JournalLong
     next_state-long h no_room = rw (short h, no_room) refl
 
-    pub next_state-last : l ≤ base_limit → fits ≡ true → s.count ≡ count_limit → next_state s fits configs ≡ Err CountFull
-    next_state-last h room last =
+    pub next_state-last : l ≤ base_limit → room ≡ Enough → s.count ≡ count_limit → next_state s room configs ≡ Err CountFull
+    next_state-last h enough last =
         let at_limit = le-true count_limit s.count (omega arith) in
-        rw (short h, room, at_limit) refl
+        rw (short h, enough, at_limit) refl
 
-    pub next_state-new : l ≤ base_limit → fits ≡ true → s.count < count_limit → next_state s fits configs ≡ Ok new
-    next_state-new h room more =
+    pub next_state-new : l ≤ base_limit → room ≡ Enough → s.count < count_limit → next_state s room configs ≡ Ok new
+    next_state-new h enough more =
         let below = le-false count_limit s.count more in
-        rw (short h, room, below) refl
+        rw (short h, enough, below) refl
 
   -- a state with room for the command keeps its base text short
-  pub next_state-short : (after : Contents) → next_state s fits configs ≡ Ok after → base_length new ≤ base_limit
+  pub next_state-short : (after : Contents) → next_state s room configs ≡ Ok after → base_length new ≤ base_limit
   next_state-short after ok = by (nat_lt base_limit (base_length new)) refl
     where
       by : (full : Bool) → nat_lt base_limit (base_length new) ≡ full → base_length new ≤ base_limit
-      by true e = absurd (refused (ap (λ full. first_fault full fits (nat_le count_limit s.count) new) (sym e) ∙ ok))
+      by true e = absurd (refused (ap (λ full. first_fault full room (nat_le count_limit s.count) new) (sym e) ∙ ok))
         where
           refused : Err StoreFull ≡ Ok after → ⊥
           refused h = cc

@@ -1,5 +1,5 @@
 -- What a step is refused for, and that an accepted command had room in the journal.
-use Rattle.std.proofs.Common.{◌≡◌, ℕ, ◌+◌, Bool, true, false, not, nat_le, nat_lt, if◌then◌else◌, List, [], ◌∷◌, Option, Some, None, Result, Ok, Err, refl, subst}
+use Rattle.std.proofs.Common.{◌≡◌, ℕ, ◌+◌, Bool, true, false, nat_le, nat_lt, if◌then◌else◌, List, [], ◌∷◌, Option, Some, None, Result, Ok, Err, refl, subst}
 use Rattle.yaml_grammar.specs.Texts.{byte_len}
 use Rattle.yaml_grammar.specs.Style.{style_text}
 use Rattle.yaml_grammar.specs.Trees.{Tree, depth}
@@ -7,32 +7,35 @@ use Rattle.tree_path.specs.Paths.{set, delete}
 use Rattle.json_pointer.specs.Pointers.{path_of}
 use Rattle.json_pointer.specs.declared.fault.PathFault.{PathFault}
 use Rattle.conf_state.specs.BaseTexts.{base_length}
-use Rattle.conf_state.specs.Commands.{Command, import_as, set_at, delete_at, name_of}
+use Rattle.conf_state.specs.Commands.{Edit, import_as, set_at, delete_at, Command, single, batch, name_of}
 use Rattle.conf_state.specs.Names.{good_name}
 use Rattle.conf_state.specs.States.{Entry, Contents, config_named, base_limit, count_limit}
 use Rattle.yaml_config.specs.Limits.{config_limits}
-use Rattle.conf_state.specs.Steps.{IsRefusal, step, state_after_command, configs_after, next_state, and_then, checked_tree, with_checked_config, found, by_path, configs_after_delete}
+use Rattle.conf_state.specs.Steps.{IsRefusal, step, edited, all_edited, performed, configs_after, with_room, next_state, and_then, checked_tree, with_checked_config, found, by_path, configs_after_delete}
 use Rattle.conf_state.specs.declared.fault.StoreFault.{StoreFault}
-use Rattle.conf_state.specs.declared.fault.StoreFault.TheVariants.{BadName, TooDeep, ConfigLarge, StoreFull, JournalLong, CountFull}
+use Rattle.conf_state.specs.declared.fault.StoreFault.TheVariants.{BadName, TooDeep, ConfigLarge, StoreFull, CountFull}
+use Rattle.conf_state.specs.declared.room.Room.{Room}
+use Rattle.conf_state.specs.declared.room.Room.TheVariants.{Enough, LongRecord, Missing}
 use Rattle.conf_state.proofs.RunLaws.{and_then-Ok}
 
 -- ---- room in the journal
 
-next_state-room : (s new : Contents) (fits : Bool) (configs : List Entry) → next_state s fits configs ≡ Ok new → fits ≡ true
-next_state-room s new true configs e = refl
-next_state-room s new false configs e = by (nat_lt base_limit (base_length (record { configs = configs; count = s.count + 1 }))) e
+next_state-room : (s new : Contents) (room : Room) (configs : List Entry) → next_state s room configs ≡ Ok new → room ≡ Enough
+next_state-room s new room configs e =
+    by (nat_lt base_limit (base_length (record { configs = configs; count = s.count + 1 }))) room e
   where
-    by : (full : Bool) → (if full then Err StoreFull else Err JournalLong) ≡ Ok new → false ≡ true
-    by true e = cc
-    by false e = cc
+    by : (full : Bool) (r : Room)
+        → (if full then Err StoreFull else with_room r (if nat_le count_limit s.count then Err CountFull else Ok (record { configs = configs; count = s.count + 1 }))) ≡ Ok new
+        → r ≡ Enough
+    by true r is = cc
+    by false Enough is = refl
+    by false LongRecord is = cc
+    by false Missing is = cc
 
--- a command is accepted only where the journal has room
-pub accepted-room : (s new : Contents) (command : Command) (fits : Bool) → step s command fits ≡ Ok new → fits ≡ true
-accepted-room s new command fits e = by (good_name (name_of command)) e
-  where
-    by : (good : Bool) → (if good then state_after_command s command fits else Err BadName) ≡ Ok new → fits ≡ true
-    by true e = (let done = and_then-Ok (configs_after s.configs command) (next_state s fits) new e in next_state-room s new fits done.0 done.2)
-    by false e = cc
+-- a command is accepted only where there is room for its record
+pub accepted-room : (s new : Contents) (command : Command) (room : Room) → step s command room ≡ Ok new → room ≡ Enough
+accepted-room s new command room e =
+    let done = and_then-Ok (performed s.configs command) (next_state s room) new e in next_state-room s new room done.0 done.2
 
 -- ---- refusals
 
@@ -76,7 +79,7 @@ configs_after_delete-refusals configs name t [] = tt
 configs_after_delete-refusals configs name t (token ∷ tokens) =
     refusals-then (by_path (delete t (token ∷ tokens))) (with_checked_config configs name) (path-refusals (delete t (token ∷ tokens))) (with_checked_config-refusals configs name)
 
-configs-refusals : (configs : List Entry) (command : Command) → Refusals (configs_after configs command)
+configs-refusals : (configs : List Entry) (edit : Edit) → Refusals (configs_after configs edit)
 configs-refusals configs (import_as name tree) = with_checked_config-refusals configs name tree
 configs-refusals configs (set_at name path value) =
     refusals-then (found (config_named configs name)) _ (found-refusals (config_named configs name)) (λ t.
@@ -86,21 +89,42 @@ configs-refusals configs (delete_at name path) =
     refusals-then (found (config_named configs name)) _ (found-refusals (config_named configs name)) (λ t.
     refusals-then (by_path (path_of path)) (configs_after_delete configs name t) (path-refusals (path_of path)) (configs_after_delete-refusals configs name t))
 
-next_state-refusals : (s : Contents) (fits : Bool) (configs : List Entry) → Refusals (next_state s fits configs)
+edited-refusals : (configs : List Entry) (edit : Edit) → Refusals (edited configs edit)
 unfolding Refusals
-next_state-refusals s fits configs =
+edited-refusals configs edit =
+    refusals-if (good_name (name_of edit)) (configs_after configs edit) (Err BadName) (configs-refusals configs edit) tt
+
+all_edited-refusals : (configs : List Entry) (edits : List Edit) → Refusals (all_edited configs edits)
+unfolding Refusals
+all_edited-refusals configs [] = tt
+all_edited-refusals configs (edit ∷ edits) =
+    refusals-then (edited configs edit) (λ next. all_edited next edits) (edited-refusals configs edit) (λ next. all_edited-refusals next edits)
+
+performed-refusals : (configs : List Entry) (command : Command) → Refusals (performed configs command)
+unfolding Refusals
+performed-refusals configs (single edit) = edited-refusals configs edit
+performed-refusals configs (batch []) = tt
+performed-refusals configs (batch (edit ∷ edits)) = all_edited-refusals configs (edit ∷ edits)
+
+room-refusals : {A : Type 0} (room : Room) (r : Result A StoreFault) → Refusals r → Refusals (with_room room r)
+unfolding Refusals
+room-refusals Enough r is = is
+room-refusals LongRecord r is = tt
+room-refusals Missing r is = tt
+
+next_state-refusals : (s : Contents) (room : Room) (configs : List Entry) → Refusals (next_state s room configs)
+unfolding Refusals
+next_state-refusals s room configs =
     let new : Contents = record { configs = configs; count = s.count + 1 } in
     let last : Result Contents StoreFault = if nat_le count_limit s.count then Err CountFull else Ok new in
-    refusals-if {A = Contents} (nat_lt base_limit (base_length new)) (Err StoreFull) (if not fits then Err JournalLong else last) tt
-    (refusals-if {A = Contents} (not fits) (Err JournalLong) last tt (refusals-if {A = Contents} (nat_le count_limit s.count) (Err CountFull) (Ok new) tt tt))
+    refusals-if {A = Contents} (nat_lt base_limit (base_length new)) (Err StoreFull) (with_room room last) tt
+    (room-refusals {A = Contents} room last (refusals-if {A = Contents} (nat_le count_limit s.count) (Err CountFull) (Ok new) tt tt))
 
-step-refusals : (s : Contents) (command : Command) (fits : Bool) → Refusals (step s command fits)
-unfolding Refusals
-step-refusals s command fits =
-    refusals-if (good_name (name_of command)) (state_after_command s command fits) (Err BadName)
-    (refusals-then (configs_after s.configs command) (next_state s fits) (configs-refusals s.configs command) (next_state-refusals s fits)) tt
+step-refusals : (s : Contents) (command : Command) (room : Room) → Refusals (step s command room)
+step-refusals s command room =
+    refusals-then (performed s.configs command) (next_state s room) (performed-refusals s.configs command) (next_state-refusals s room)
 
 -- a fault with which a step refuses is one of a command and a state
-pub step-refusal : (s : Contents) (command : Command) (fits : Bool) (fault : StoreFault) → step s command fits ≡ Err fault → IsRefusal fault
+pub step-refusal : (s : Contents) (command : Command) (room : Room) (fault : StoreFault) → step s command room ≡ Err fault → IsRefusal fault
 unfolding Refusals
-step-refusal s command fits fault e = subst Refusals e (step-refusals s command fits)
+step-refusal s command room fault e = subst Refusals e (step-refusals s command room)

@@ -1,51 +1,49 @@
 -- Runs of commands: what they count, and that one run is two in a row.
-use Rattle.std.proofs.Common.{◌≡◌, ◌+◌, Bool, true, false, not, nat_le, nat_lt, if◌then◌else◌, List, [], ◌∷◌, ◌++◌, length, Result, Ok, Err, refl, sym, ap, arith}
-use Rattle.conf_state.specs.Names.{good_name}
-use Rattle.conf_state.specs.Commands.{Command, name_of}
+use Rattle.std.proofs.Common.{◌≡◌, ◌+◌, Bool, true, false, nat_le, nat_lt, if◌then◌else◌, List, [], ◌∷◌, ◌++◌, length, Result, Ok, Err, refl, sym, ap, arith}
+use Rattle.conf_state.specs.Commands.{Command}
 use Rattle.conf_state.specs.States.{Entry, Contents, base_limit, count_limit}
 use Rattle.conf_state.specs.BaseTexts.{base_length}
-use Rattle.conf_state.specs.Steps.{and_then, configs_after, next_state, step, after}
+use Rattle.conf_state.specs.Steps.{and_then, performed, with_room, next_state, step, after}
 use Rattle.conf_state.specs.declared.fault.StoreFault.{StoreFault}
-use Rattle.conf_state.specs.declared.fault.StoreFault.TheVariants.{BadName, StoreFull, JournalLong, CountFull}
+use Rattle.conf_state.specs.declared.fault.StoreFault.TheVariants.{StoreFull, CountFull}
+use Rattle.conf_state.specs.declared.room.Room.{Room}
+use Rattle.conf_state.specs.declared.room.Room.TheVariants.{Enough, LongRecord, Missing}
 
 -- a state that is the answer of a call and of another after it
 pub and_then-Ok : {A B : Type 0} (r : Result A StoreFault) (next : A → Result B StoreFault) (y : B) → and_then r next ≡ Ok y → (x : A) × (r ≡ Ok x) × (next x ≡ Ok y)
 and_then-Ok (Ok x) next y e = (x, refl, e)
 and_then-Ok (Err fault) next y e = let refused : Err fault ≡ Ok y = e in cc
 
-next_state-one : (s new : Contents) (fits : Bool) (configs : List Entry) → next_state s fits configs ≡ Ok new → new.count ≡ s.count + 1
-next_state-one s new fits configs e =
-    by (nat_lt base_limit (base_length (record { configs = configs; count = s.count + 1 }))) fits (nat_le count_limit s.count) e
+next_state-one : (s new : Contents) (room : Room) (configs : List Entry) → next_state s room configs ≡ Ok new → new.count ≡ s.count + 1
+next_state-one s new room configs e =
+    by (nat_lt base_limit (base_length (record { configs = configs; count = s.count + 1 }))) room (nat_le count_limit s.count) e
   where
-    by : (full room last : Bool)
-        → (if full then Err StoreFull else if not room then Err JournalLong else if last then Err CountFull else Ok (record { configs = configs; count = s.count + 1 })) ≡ Ok new
+    by : (full : Bool) (room : Room) (last : Bool)
+        → (if full then Err StoreFull else with_room room (if last then Err CountFull else Ok (record { configs = configs; count = s.count + 1 }))) ≡ Ok new
         → new.count ≡ s.count + 1
     by true room last is = cc
-    by false false last is = cc
-    by false true true is = cc
-    by false true false is = let same : record { configs = configs; count = s.count + 1 } ≡ new = cc in sym (ap (λ t. t.count) same)
+    by false LongRecord last is = cc
+    by false Missing last is = cc
+    by false Enough true is = cc
+    by false Enough false is = let same : record { configs = configs; count = s.count + 1 } ≡ new = cc in sym (ap (λ t. t.count) same)
 
 -- an accepted command counts one
-pub step-one : (s new : Contents) (command : Command) (fits : Bool) → step s command fits ≡ Ok new → new.count ≡ s.count + 1
-step-one s new command fits e = by (good_name (name_of command)) e
-  where
-    by : (good : Bool) → (if good then and_then (configs_after s.configs command) (next_state s fits) else Err BadName) ≡ Ok new → new.count ≡ s.count + 1
-    by true is =
-        let done = and_then-Ok (configs_after s.configs command) (next_state s fits) new is in
-        next_state-one s new fits done.0 done.2
-    by false is = cc
+pub step-one : (s new : Contents) (command : Command) (room : Room) → step s command room ≡ Ok new → new.count ≡ s.count + 1
+step-one s new command room e =
+    let done = and_then-Ok (performed s.configs command) (next_state s room) new e in
+    next_state-one s new room done.0 done.2
 
 -- so many commands count as many
 pub after-count : (s new : Contents) (commands : List Command) → after s commands ≡ Ok new → new.count ≡ s.count + length commands
 after-count s new [] e = let same : s ≡ new = cc in let counts = ap (λ t. t.count) same in omega (arith, counts)
 after-count s new (command ∷ commands) e =
-    let done = and_then-Ok (step s command true) (λ t. after t commands) new e in
-    omega (arith, step-one s done.0 command true done.1, after-count done.0 new commands done.2)
+    let done = and_then-Ok (step s command Enough) (λ t. after t commands) new e in
+    omega (arith, step-one s done.0 command Enough done.1, after-count done.0 new commands done.2)
 
 -- a list of commands leads where its first part and then its second lead
 pub after-append : (s : Contents) (first second : List Command) → after s (first ++ second) ≡ and_then (after s first) (λ between. after between second)
 after-append s [] second = refl
-after-append s (command ∷ commands) second = by (step s command true) (λ t. after-append t commands second)
+after-append s (command ∷ commands) second = by (step s command Enough) (λ t. after-append t commands second)
   where
     by : (r : Result Contents StoreFault)
         → ((t : Contents) → after t (commands ++ second) ≡ and_then (after t commands) (λ between. after between second))

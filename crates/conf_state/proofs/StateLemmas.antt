@@ -1,5 +1,5 @@
 -- The limits of a state stay kept: at the start, and with each configuration put in or taken out.
-use Rattle.std.proofs.Common.{◌≡◌, ℕ, ◌+◌, ◌<◌, Bool, true, List, [], String, Global, IsUtf8, Ok, ap, sym, subst, ◌∙◌, refl, arith}
+use Rattle.std.proofs.Common.{◌≡◌, ℕ, ◌+◌, ◌<◌, true, List, [], String, Global, IsUtf8, Ok, ap, sym, subst, ◌∙◌, refl, arith}
 use Rattle.std.proofs.lemmas.Fmt.{length-decimal-le}
 use Rattle.std.specs.Str.{chars}
 use Rattle.yaml_grammar.specs.Reads.{Good}
@@ -13,6 +13,7 @@ use Rattle.conf_state.specs.BaseTexts.{entries_length}
 use Rattle.conf_state.specs.States.{Entry, Contents, put_config, cut_config, count_limit}
 use Rattle.yaml_config.specs.Limits.{config_limits}
 use Rattle.conf_state.specs.Steps.{next_state}
+use Rattle.conf_state.specs.declared.room.Room.{Room}
 use Rattle.conf_state.proofs.BaseLemmas.{base_length-framed}
 use Rattle.conf_state.proofs.CountLemmas.{next_state-short}
 use Rattle.conf_state.proofs.EntryLemmas.{cut_from-named, plain_cut_from}
@@ -33,8 +34,8 @@ kept_empty = record {
 
 module _ (es : List (String Global × Tree)) (count bytes : ℕ) (kept : IsKept es count bytes) (below : count < count_limit) where
   -- with a configuration put in, or changed in its place
-  module _ (name : List ℕ) (t : grammar.Tree) (named : good_name name ≡ true) (good : Good t config_limits) (fits : Bool) (after : Contents)
-      (ok : next_state (record { configs = entries_of es; count = count }) fits (put_config (entries_of es) name t) ≡ Ok after) where
+  module _ (name : List ℕ) (t : grammar.Tree) (named : good_name name ≡ true) (good : Good t config_limits) (room : Room) (after : Contents)
+      (ok : next_state (record { configs = entries_of es; count = count }) room (put_config (entries_of es) name t) ≡ Ok after) where
     pub kept_put : (new : List (String Global × Tree)) (length : ℕ) → ArePlain new → entries_of new ≡ put_config (entries_of es) name t
         → length ≡ entries_length (put_config (entries_of es) name t) → IsKept new (count + 1) length
     kept_put new length plain seen counts = record {
@@ -42,15 +43,15 @@ module _ (es : List (String Global × Tree)) (count bytes : ℕ) (kept : IsKept 
       state = subst (λ cs. IsState (record { configs = cs; count = count + 1 })) (sym seen) (record {
         configs = AreConfigs-put (entries_of es) name t named good kept.state.configs;
         distinct = names_differ-put (entries_of es) name t kept.state.distinct;
-        short = next_state-short (record { configs = entries_of es; count = count }) fits (put_config (entries_of es) name t) after ok;
+        short = next_state-short (record { configs = entries_of es; count = count }) room (put_config (entries_of es) name t) after ok;
         numbered = omega arith;
       });
       counted = counts ∙ ap entries_length (sym seen);
     }
 
   -- with a configuration taken out
-  module _ (name : List ℕ) (utf8 : IsUtf8 name) (fits : Bool) (after : Contents)
-      (ok : next_state (record { configs = entries_of es; count = count }) fits (cut_config (entries_of es) (chars name)) ≡ Ok after) where
+  module _ (name : List ℕ) (utf8 : IsUtf8 name) (room : Room) (after : Contents)
+      (ok : next_state (record { configs = entries_of es; count = count }) room (cut_config (entries_of es) (chars name)) ≡ Ok after) where
     pub kept_cut : (new : List (String Global × Tree)) (length : ℕ) → new ≡ cut_from name es
         → length ≡ entries_length (cut_config (entries_of es) (chars name)) → IsKept new (count + 1) length
     kept_cut new length is counts =
@@ -61,7 +62,7 @@ module _ (es : List (String Global × Tree)) (count bytes : ℕ) (kept : IsKept 
           state = subst (λ cs. IsState (record { configs = cs; count = count + 1 })) (sym seen) (record {
             configs = AreConfigs-cut (entries_of es) (chars name) kept.state.configs;
             distinct = names_differ-cut (entries_of es) (chars name) kept.state.distinct;
-            short = next_state-short (record { configs = entries_of es; count = count }) fits configs after ok;
+            short = next_state-short (record { configs = entries_of es; count = count }) room configs after ok;
             numbered = omega arith;
           });
           counted = counts ∙ ap entries_length (sym seen);

@@ -7,8 +7,9 @@ use Rattle.yaml_grammar.specs.Trees.{Tree, depth}
 use Rattle.yaml_config.specs.Limits.{config_limits}
 use Rattle.conf_state.specs.Commands.{import_as, set_at, delete_at}
 use Rattle.conf_state.specs.States.{Contents, config_named, put_config, cut_config}
-use Rattle.conf_state.specs.Steps.{and_then, found, checked_tree, with_checked_config, next_state, state_after_command}
+use Rattle.conf_state.specs.Steps.{and_then, found, checked_tree, with_checked_config, configs_after, next_state}
 use Rattle.conf_state.specs.declared.fault.StoreFault.{StoreFault}
+use Rattle.conf_state.specs.declared.room.Room.{Room}
 use Rattle.conf_state.specs.declared.fault.StoreFault.TheVariants.{NoConfig, TooDeep, ConfigLarge}
 use Rattle.conf_state.proofs.CountLemmas.{lt-true, lt-false}
 
@@ -41,40 +42,40 @@ pub mapped_some : {A B : Type 0} (f : A → B) (o : Option A) (none : Bool) → 
 mapped_some f (Some x) none is e = refl
 mapped_some f None none is e = let differ : false ≡ not false = is ∙ ap not e in cc
 
--- ---- commands
+-- ---- edits whose names are good
 
-module _ (s : Contents) (fits : Bool) (name : List ℕ) where
+module _ (s : Contents) (room : Room) (name : List ℕ) where
   -- an import of a tree that keeps to the limits puts it in
-  pub import-checked : (t : Tree) → checked_tree t ≡ Ok t → state_after_command s (import_as name t) fits ≡ next_state s fits (put_config s.configs name t)
-  import-checked t is = ap (λ r. and_then (and_then r (λ u. Ok (put_config s.configs name u))) (next_state s fits)) is
+  pub import-checked : (t : Tree) → checked_tree t ≡ Ok t → and_then (configs_after s.configs (import_as name t)) (next_state s room) ≡ next_state s room (put_config s.configs name t)
+  import-checked t is = ap (λ r. and_then (and_then r (λ u. Ok (put_config s.configs name u))) (next_state s room)) is
 
   -- an import of another is refused
-  pub import-refused : (t : Tree) (fault : StoreFault) → checked_tree t ≡ Err fault → state_after_command s (import_as name t) fits ≡ Err fault
-  import-refused t fault is = ap (λ r. and_then (and_then r (λ u. Ok (put_config s.configs name u))) (next_state s fits)) is
+  pub import-refused : (t : Tree) (fault : StoreFault) → checked_tree t ≡ Err fault → and_then (configs_after s.configs (import_as name t)) (next_state s room) ≡ Err fault
+  import-refused t fault is = ap (λ r. and_then (and_then r (λ u. Ok (put_config s.configs name u))) (next_state s room)) is
 
   -- a set and a delete need a configuration of the name
-  pub set-nothing : (path : List ℕ) (t : Tree) → config_named s.configs name ≡ None → state_after_command s (set_at name path t) fits ≡ Err NoConfig
+  pub set-nothing : (path : List ℕ) (t : Tree) → config_named s.configs name ≡ None → and_then (configs_after s.configs (set_at name path t)) (next_state s room) ≡ Err NoConfig
   set-nothing path t absent = rw absent refl
 
-  pub delete-nothing : (path : List ℕ) → config_named s.configs name ≡ None → state_after_command s (delete_at name path) fits ≡ Err NoConfig
+  pub delete-nothing : (path : List ℕ) → config_named s.configs name ≡ None → and_then (configs_after s.configs (delete_at name path)) (next_state s room) ≡ Err NoConfig
   delete-nothing path absent = rw absent refl
 
   -- a set at the empty path is an import
   pub set-whole : (path : List ℕ) (t : Tree) → path ≡ [] → is_some (config_named s.configs name) ≡ true
-      → state_after_command s (set_at name path t) fits ≡ state_after_command s (import_as name t) fits
+      → and_then (configs_after s.configs (set_at name path t)) (next_state s room) ≡ and_then (configs_after s.configs (import_as name t)) (next_state s room)
   set-whole path t empty there = rw empty (by (config_named s.configs name) there)
     where
       by : (o : Option Tree) → is_some o ≡ true
-          → and_then (and_then (found o) (λ u. with_checked_config s.configs name t)) (next_state s fits) ≡ state_after_command s (import_as name t) fits
+          → and_then (and_then (found o) (λ u. with_checked_config s.configs name t)) (next_state s room) ≡ and_then (configs_after s.configs (import_as name t)) (next_state s room)
       by (Some u) e = refl
       by None e = cc
 
   -- a delete at the empty path takes the configuration out
   pub delete-whole : (path : List ℕ) → path ≡ [] → is_some (config_named s.configs name) ≡ true
-      → state_after_command s (delete_at name path) fits ≡ next_state s fits (cut_config s.configs name)
+      → and_then (configs_after s.configs (delete_at name path)) (next_state s room) ≡ next_state s room (cut_config s.configs name)
   delete-whole path empty there = rw empty (by (config_named s.configs name) there)
     where
       by : (o : Option Tree) → is_some o ≡ true
-          → and_then (and_then (found o) (λ u. Ok (cut_config s.configs name))) (next_state s fits) ≡ next_state s fits (cut_config s.configs name)
+          → and_then (and_then (found o) (λ u. Ok (cut_config s.configs name))) (next_state s room) ≡ next_state s room (cut_config s.configs name)
       by (Some u) e = refl
       by None e = cc

@@ -13,7 +13,7 @@ members (e ∷ es) = member e.0 e.1 (members es)
 -- the mapping of a base text
 abbrev pub base_tree : Contents → Tree
 base_tree s =
-    mapping (member (codes "store") (text (codes "confstore-1"))
+    mapping (member (codes "store") (text (codes "confstore-2"))
     (member (codes "at") (text (decimal s.count))
     (member (codes "configs") (mapping (members s.configs)) no_member)))
 

@@ -11,23 +11,23 @@ use Rattle.conf_state.specs.BaseTexts.{entries_length}
 use Rattle.conf_state.specs.Steps.{and_then, found, by_path, with_checked_config}
 use Rattle.conf_state.specs.declared.fault.StoreFault.{StoreFault}
 use Rattle.yaml_config.specs.Edits.{tree_after_edit}
-use Rattle.yaml_config.specs.declared.edit.Edit.{Edit}
+use Rattle.yaml_config.specs.declared.edit.Edit.{Edit as PathEdit}
 use Rattle.conf_state.specs.declared.state.EditPlan.{EditPlan}
 
 -- the configurations with an edited tree under a name, or the refusal of the edit
-abbrev pub configs_with_edit : List Entry → List ℕ → Edit → Tree → List (List ℕ) → Result (List Entry) StoreFault
+abbrev pub configs_with_edit : List Entry → List ℕ → PathEdit → Tree → List (List ℕ) → Result (List Entry) StoreFault
 configs_with_edit configs name edit t path =
     and_then (by_path (tree_after_edit edit t path)) (with_checked_config configs name)
 
 -- the configurations after an edit, at a pointer, of the one under a name
-abbrev pub configs_after_edit : List Entry → List ℕ → Edit → List ℕ → Result (List Entry) StoreFault
+abbrev pub configs_after_edit : List Entry → List ℕ → PathEdit → List ℕ → Result (List Entry) StoreFault
 configs_after_edit configs name edit pointer =
     and_then (found (config_named configs name))
     (λ t. and_then (by_path (path_of pointer)) (configs_with_edit configs name edit t))
 
 -- The edit leaves the configuration under a name within its limits. The plan has the lengths after it, and the place
 -- of the path's last key.
-pub record IsPlan (configs : List Entry) (name : List ℕ) (edit : Edit) (old : Tree) (path : List (List ℕ))
+pub record IsPlan (configs : List Entry) (name : List ℕ) (edit : PathEdit) (old : Tree) (path : List (List ℕ))
     (plan : EditPlan) : Type 0 where
   pub new : Tree
   pub made : tree_after_edit edit old path ≡ Ok new

@@ -1,9 +1,15 @@
 -- Whether the journal has room for a command's record.
-use Rattle.std.specs.Prelude.{Bool, true, false}
+use Rattle.std.specs.Prelude.{ℕ, ◌+◌, Bool, ◌&&◌, nat_le, nat_lt, if◌then◌else◌}
 use Rattle.conf_state.specs.declared.room.Room.{Room}
-use Rattle.conf_state.specs.declared.room.Room.TheVariants.{Enough, Missing}
+use Rattle.conf_state.specs.declared.room.Room.TheVariants.{Enough, LongRecord, Missing}
 
--- it has
-abbrev pub has_room : Room → Bool
-has_room Enough = true
-has_room Missing = false
+-- the most bytes of a batch's record
+abbrev pub record_limit : ℕ
+record_limit = 67108864
+
+-- the room for the record of a batch, or of a single edit, of so many bytes in a journal of this size
+abbrev pub room_of : (batch : Bool) (bytes size limit : ℕ) → Room
+room_of batch bytes size limit =
+    if batch && nat_lt record_limit bytes then LongRecord
+    else if nat_le (size + bytes) limit then Enough
+    else Missing

@@ -1,6 +1,6 @@
--- What a command makes of a state: the new state, or the first refusal that holds. They come in this order: BadName,
--- NoConfig, Path, TooDeep, ConfigLarge, StoreFull, JournalLong, CountFull.
-use Rattle.std.specs.Prelude.{ℕ, ◌+◌, Bool, true, not, nat_le, nat_lt, if◌then◌else◌, List, [], ◌∷◌, Option, Some, None, Result, Ok, Err}
+-- What a command makes of a state: the new state, or the first refusal that holds. They come in this order: EmptyBatch;
+-- for each edit in turn BadName, NoConfig, Path, TooDeep, ConfigLarge; StoreFull, RecordLong, JournalLong, CountFull.
+use Rattle.std.specs.Prelude.{ℕ, ◌+◌, nat_le, nat_lt, if◌then◌else◌, List, [], ◌∷◌, Option, Some, None, Result, Ok, Err}
 use Rattle.yaml_grammar.specs.Texts.{byte_len}
 use Rattle.yaml_grammar.specs.Trees.{Tree, depth}
 use Rattle.yaml_grammar.specs.Style.{style_text}
@@ -8,21 +8,23 @@ use Rattle.tree_path.specs.Paths.{set, delete}
 use Rattle.json_pointer.specs.Pointers.{path_of}
 use Rattle.json_pointer.specs.declared.fault.PathFault.{PathFault}
 use Rattle.conf_state.specs.Names.{good_name}
-use Rattle.conf_state.specs.Commands.{Command, import_as, set_at, delete_at, name_of}
+use Rattle.conf_state.specs.Commands.{Edit, import_as, set_at, delete_at, Command, single, batch, name_of}
 use Rattle.conf_state.specs.States.{Entry, Contents, config_named, put_config, cut_config, base_limit, count_limit}
 use Rattle.yaml_config.specs.Limits.{config_limits}
 use Rattle.conf_state.specs.BaseTexts.{base_length}
 use Rattle.conf_state.specs.declared.fault.StoreFault.{StoreFault}
-use Rattle.conf_state.specs.declared.fault.StoreFault.TheVariants.{BadName, NoConfig, Path, Read, TooDeep, ConfigLarge, StoreFull, JournalLong, CountFull, Reopen, Device, OutOfMemory}
+use Rattle.conf_state.specs.declared.fault.StoreFault.TheVariants.{EmptyBatch, BadName, NoConfig, Path, Read, TooDeep, ConfigLarge, StoreFull, RecordLong, JournalLong, CountFull, Reopen, Device, OutOfMemory}
+use Rattle.conf_state.specs.declared.room.Room.{Room}
+use Rattle.conf_state.specs.declared.room.Room.TheVariants.{Enough, LongRecord, Missing}
 
 -- the first refusal of two calls in a row, or what the second gives
 abbrev pub and_then : {A B : Type 0} → Result A StoreFault → (A → Result B StoreFault) → Result B StoreFault
 and_then (Ok x) next = next x
 and_then (Err fault) next = Err fault
 
--- ---- the configurations after a command whose name is good
+-- ---- the configurations after an edit whose name is good
 
--- the configuration that a command needs
+-- the configuration that an edit needs
 abbrev pub found : Option Tree → Result Tree StoreFault
 found (Some t) = Ok t
 found None = Err NoConfig
@@ -49,7 +51,7 @@ configs_after_delete configs name t [] = Ok (cut_config configs name)
 configs_after_delete configs name t (token ∷ tokens) =
     and_then (by_path (delete t (token ∷ tokens))) (with_checked_config configs name)
 
-abbrev pub configs_after : List Entry → Command → Result (List Entry) StoreFault
+abbrev pub configs_after : List Entry → Edit → Result (List Entry) StoreFault
 configs_after configs (import_as name tree) = with_checked_config configs name tree
 configs_after configs (set_at name path value) =
     and_then (found (config_named configs name)) (λ t.
@@ -59,24 +61,40 @@ configs_after configs (delete_at name path) =
     and_then (found (config_named configs name)) (λ t.
     and_then (by_path (path_of path)) (configs_after_delete configs name t))
 
+-- ---- the configurations after a command
+
+-- after an edit, or why it is refused
+abbrev pub edited : List Entry → Edit → Result (List Entry) StoreFault
+edited configs edit = if good_name (name_of edit) then configs_after configs edit else Err BadName
+
+-- after edits that are made one after the other, or the first refusal
+abbrev pub all_edited : List Entry → List Edit → Result (List Entry) StoreFault
+all_edited configs [] = Ok configs
+all_edited configs (edit ∷ edits) = and_then (edited configs edit) (λ next. all_edited next edits)
+
+-- after a command; a batch needs an edit
+abbrev pub performed : List Entry → Command → Result (List Entry) StoreFault
+performed configs (single edit) = edited configs edit
+performed configs (batch []) = Err EmptyBatch
+performed configs (batch (edit ∷ edits)) = all_edited configs (edit ∷ edits)
+
 -- ---- the state after a command
 
--- the state with these configurations after one more command; `fits` says whether the journal has room for the
--- command's record
-abbrev pub next_state : Contents → Bool → List Entry → Result Contents StoreFault
-next_state s fits configs =
+-- an outcome where the journal has room for the command's record
+abbrev pub with_room : {A : Type 0} → Room → Result A StoreFault → Result A StoreFault
+with_room Enough outcome = outcome
+with_room LongRecord outcome = Err RecordLong
+with_room Missing outcome = Err JournalLong
+
+-- the state with these configurations after one more command
+abbrev pub next_state : Contents → Room → List Entry → Result Contents StoreFault
+next_state s room configs =
     let new : Contents = record { configs = configs; count = s.count + 1 } in
     if nat_lt base_limit (base_length new) then Err StoreFull
-    else if not fits then Err JournalLong
-    else if nat_le count_limit s.count then Err CountFull
-    else Ok new
+    else with_room room (if nat_le count_limit s.count then Err CountFull else Ok new)
 
--- what a command whose name is good makes of a state
-abbrev pub state_after_command : Contents → Command → Bool → Result Contents StoreFault
-state_after_command s command fits = and_then (configs_after s.configs command) (next_state s fits)
-
-abbrev pub step : Contents → Command → Bool → Result Contents StoreFault
-step s command fits = if good_name (name_of command) then state_after_command s command fits else Err BadName
+abbrev pub step : Contents → Command → Room → Result Contents StoreFault
+step s command room = and_then (performed s.configs command) (next_state s room)
 
 -- A refusal of a command by a state. The other faults are those of a text that is read, of the disk and of memory.
 abbrev pub IsRefusal : StoreFault → Type 0
@@ -89,4 +107,4 @@ IsRefusal fault = Unit {0}
 -- the state after commands that are accepted one after the other, or the first refusal
 abbrev pub after : Contents → List Command → Result Contents StoreFault
 after s [] = Ok s
-after s (command ∷ commands) = and_then (step s command true) (λ new. after new commands)
+after s (command ∷ commands) = and_then (step s command Enough) (λ new. after new commands)

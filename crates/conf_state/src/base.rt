@@ -11,7 +11,7 @@ use yaml_writer::{ByteCount, Sink, write_key, write_value};
 /// The most bytes of a base text.
 pub(crate) const BASE_LIMIT: u64 = 67_108_864;
 
-/// The bytes of a base text without its count and its configurations: `---`, `store: confstore-1`, `at: ""`, `configs:`
+/// The bytes of a base text without its count and its configurations: `---`, `store: confstore-2`, `at: ""`, `configs:`
 /// and `...`, and a line feed after each but `configs:`.
 const FRAME: u64 = 42;
 

@@ -8,9 +8,12 @@ use tree_path::PathFault;
 use yaml_config::ReadFault;
 
 /// Why a command is refused. `Reopen` comes before all others; of the others the first in this list that holds is
-/// returned. `OutOfMemory` may come at any point. The message is the innermost fault's own name.
+/// returned. Of the edits of a batch the first that is refused decides: its fault, of `BadName` to `ConfigLarge`, is
+/// that of the batch. `OutOfMemory` may come at any point. The message is the innermost fault's own name.
 #[derive(Clone, Copy, Debug, PartialEq, Eq)]
 pub enum StoreFault {
+    /// The batch has no edit.
+    EmptyBatch,
     /// The name isn't 1 to 64 lowercase letters, digits, `_` and `-`, starting with a letter.
     BadName,
     /// No configuration has the name.
@@ -25,6 +28,8 @@ pub enum StoreFault {
     ConfigLarge,
     /// The base text of the state would have more than 67,108,864 bytes.
     StoreFull,
+    /// The command is a batch, and its record would have more than 67,108,864 bytes.
+    RecordLong,
     /// The journal has no room for the command's record.
     JournalLong,
     /// 18,446,744,073,709,551,615 commands were accepted, and no more can be counted.
@@ -40,6 +45,7 @@ pub enum StoreFault {
 impl fmt::Display for StoreFault {
     fn fmt<W: fmt::Write>(&self, f: &mut fmt::Formatter<W>) -> fmt::Result {
         f.write_str(match *self {
+            StoreFault::EmptyBatch => "EmptyBatch",
             StoreFault::BadName => "BadName",
             StoreFault::NoConfig => "NoConfig",
             StoreFault::Path(fault) => return fmt::Display::fmt(&fault, f),
@@ -47,6 +53,7 @@ impl fmt::Display for StoreFault {
             StoreFault::TooDeep => "TooDeep",
             StoreFault::ConfigLarge => "ConfigLarge",
             StoreFault::StoreFull => "StoreFull",
+            StoreFault::RecordLong => "RecordLong",
             StoreFault::JournalLong => "JournalLong",
             StoreFault::CountFull => "CountFull",
             StoreFault::Reopen => "Reopen",

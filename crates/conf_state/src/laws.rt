@@ -1,26 +1,28 @@
 // Laws of what commands make of states.
-ghost use Rattle.std.specs.Prelude.{◌≡◌, ◌+◌, ◌++◌, Bool, true, List, Ok, Err, length};
+ghost use Rattle.std.specs.Prelude.{◌≡◌, ◌+◌, ◌++◌, List, Ok, Err, length};
 ghost use Rattle.conf_state.specs.Commands.{Command};
 ghost use Rattle.conf_state.specs.States.{Contents};
 ghost use Rattle.conf_state.specs.Steps.{IsRefusal, step, after, and_then};
 ghost use Rattle.conf_state.specs.declared.fault.StoreFault.{StoreFault};
+ghost use Rattle.conf_state.specs.declared.room.Room.{Room};
+ghost use Rattle.conf_state.specs.declared.room.Room.TheVariants.{Enough};
 
-/// The count is the number of accepted commands.
+/// The count is the number of accepted commands. A batch is one command.
 pub fn accepted_commands_are_counted()
     ensures { (s new : Contents) (commands : List Command)
         → after s commands ≡ Ok new → new.count ≡ s.count + length commands }
 {}
 
-/// A command is accepted only if the journal has room for its record, and the count then rises by one. The fault of a
+/// A command is accepted only if there is room for its record, and the count then rises by one, for a batch too. The fault of a
 /// refused one is of the command and the state. It is never a fault of a text that is read, of the disk or of memory,
 /// nor that the store has to be opened again.
 pub fn steps_are_counted_or_refused()
-    ensures room { (s new : Contents) (command : Command) (fits : Bool)
-        → step s command fits ≡ Ok new → fits ≡ true }
-    ensures count { (s new : Contents) (command : Command) (fits : Bool)
-        → step s command fits ≡ Ok new → new.count ≡ s.count + 1 }
-    ensures refused { (s : Contents) (command : Command) (fits : Bool) (fault : StoreFault)
-        → step s command fits ≡ Err fault → IsRefusal fault }
+    ensures room { (s new : Contents) (command : Command) (room : Room)
+        → step s command room ≡ Ok new → room ≡ Enough }
+    ensures count { (s new : Contents) (command : Command) (room : Room)
+        → step s command room ≡ Ok new → new.count ≡ s.count + 1 }
+    ensures refused { (s : Contents) (command : Command) (room : Room) (fault : StoreFault)
+        → step s command room ≡ Err fault → IsRefusal fault }
 {}
 
 /// Commands performed in one run leave the same state as in two runs, one after the other.

@@ -1,35 +1,44 @@
 // Whether the journal has room for a command's record.
-ghost use Rattle.std.specs.Prelude.{◌≡◌, nat_le};
-ghost use Rattle.conf_state.specs.Rooms.{has_room};
+ghost use Rattle.std.specs.Prelude.{◌≡◌, ◌↔◌, IsTrue};
+ghost use Rattle.conf_state.specs.Commands.{command_of, is_batch};
+ghost use Rattle.conf_state.specs.Rooms.{room_of};
+
+use crate::command::Command;
+
+/// The most bytes of a batch's record.
+pub const RECORD_LIMIT: u64 = 67_108_864;
 
 /// Whether the journal has room for a command's record.
-#[derive(Clone, Copy, PartialEq, Eq)]
+#[derive(Clone, Copy, Debug, PartialEq, Eq)]
 pub enum Room {
     /// It has.
     Enough,
-    /// It hasn't, so that the command is refused.
+    /// It hasn't, however short it is: the command is a batch, and its record has more than 67,108,864 bytes. The batch
+    /// is refused with `RecordLong`.
+    LongRecord,
+    /// It hasn't: with the record it would be over its limit. The command is refused with `JournalLong`.
     Missing,
 }
 
 impl Room {
-    /// Returns whether a journal of so many bytes is within a limit.
-    pub fn within(limit: u64, bytes: u64) -> Room
-        ensures { has_room result ≡ nat_le bytes limit }
+    /// Returns the room for a command's record of `bytes` bytes in a journal of `size` bytes, which may have `limit`
+    /// bytes.
+    pub fn of(command: &Command, bytes: u64, size: u64, limit: u64) -> Room
+        ensures { result ≡ room_of (is_batch (command_of command.now)) bytes size limit }
     {
-        if bytes <= limit {
-            Room::Enough
-        } else {
-            Room::Missing
+        if command.is_batch() && bytes > RECORD_LIMIT {
+            return Room::LongRecord;
         }
+        if size <= limit && bytes <= limit - size {
+            return Room::Enough;
+        }
+        Room::Missing
     }
 
     /// Returns whether there is room.
     pub fn is_enough(self) -> bool
-        ensures { result ≡ has_room self }
+        ensures { IsTrue result ↔ (self ≡ Room.Enough) }
     {
-        match self {
-            Room::Enough => true,
-            Room::Missing => false,
-        }
+        matches!(self, Room::Enough)
     }
 }

@@ -13,7 +13,6 @@ ghost use Rattle.yaml_config.specs.Limits.{config_limits};
 ghost use Rattle.yaml_grammar.specs.Trees.{mapping};
 ghost use Rattle.yaml_grammar.specs.Style.{value_at};
 ghost use Rattle.conf_state.specs.BaseTexts.{members, base_length, entry_length, entries_length};
-ghost use Rattle.conf_state.specs.Rooms.{has_room};
 ghost use Rattle.conf_state.specs.Steps.{and_then, next_state};
 ghost use Rattle.conf_state.specs.Edits.{configs_after_edit, configs_with_edit, IsPlan};
 
@@ -26,7 +25,7 @@ use crate::steps::check_limits;
 use std::alloc::{AllocError, Global};
 use std::marker::Model;
 use tree_path::Path;
-use yaml_config::{Config, Edit, Limits};
+use yaml_config::{Config, Edit as PathEdit, Limits};
 use yaml_writer::Sink;
 
 /// The indentation of a configuration in a base text: two more than that of its name.
@@ -140,10 +139,10 @@ impl State {
         requires named { good_name (text_of name) ≡ true }
         requires within { Good (tree_of config) config_limits }
         ensures ok { OnOk result
-            (next_state self.old (has_room room)
+            (next_state self.old room
             (put_config self.old.configs (text_of name) (tree_of config)) ≡ Ok self.new) }
         ensures refused { IfErr result (λ fault. (fault ≡ StoreFault.OutOfMemory)
-            ⊎ (next_state self.old (has_room room)
+            ⊎ (next_state self.old room
             (put_config self.old.configs (text_of name) (tree_of config)) ≡ Err fault)) }
         ensures unchanged { OnErr result (self.new ≡ self.old) }
     {
@@ -163,7 +162,7 @@ impl State {
         alloc: Global,
         name: &str,
         pointer: &str,
-        edit: Edit,
+        edit: PathEdit,
         room: Room,
     ) -> Result<(), StoreFault>
         requires named { good_name (chars name.now) ≡ true }
@@ -171,11 +170,11 @@ impl State {
         ensures ok { OnOk result
             (and_then
             (configs_after_edit self.old.configs (chars name.now) edit (chars pointer.now))
-            (next_state self.old (has_room room)) ≡ Ok self.new) }
+            (next_state self.old room) ≡ Ok self.new) }
         ensures refused { IfErr result (λ fault. (fault ≡ StoreFault.OutOfMemory)
             ⊎ (and_then
             (configs_after_edit self.old.configs (chars name.now) edit (chars pointer.now))
-            (next_state self.old (has_room room)) ≡ Err fault)) }
+            (next_state self.old room) ≡ Err fault)) }
         ensures unchanged { OnErr result (self.new ≡ self.old) }
     {
         let Some(config) = self.configs.get(name) else {
@@ -192,7 +191,12 @@ impl State {
     }
 
     /// The lengths after an edit of one of the configurations, if that then keeps its limits.
-    fn plan_edit(&self, config: &Config, path: &Path, edit: &Edit) -> Result<EditPlan, StoreFault>
+    fn plan_edit(
+        &self,
+        config: &Config,
+        path: &Path,
+        edit: &PathEdit,
+    ) -> Result<EditPlan, StoreFault>
         requires steps { 0 < length path.now }
         requires there { (name : List ℕ)
             × (config_named self.now.configs name ≡ Some (tree_of config.now)) }
@@ -222,10 +226,10 @@ impl State {
 
     /// Removes the configuration under a name, if there is one. A refusal changes nothing.
     pub(crate) fn take_out(&mut self, name: &str, room: Room) -> Result<(), StoreFault>
-        ensures ok { OnOk result (next_state self.old (has_room room)
+        ensures ok { OnOk result (next_state self.old room
             (cut_config self.old.configs (chars name.now)) ≡ Ok self.new) }
         ensures refused { IfErr result
-            (λ fault. next_state self.old (has_room room)
+            (λ fault. next_state self.old room
             (cut_config self.old.configs (chars name.now)) ≡ Err fault) }
         ensures unchanged { OnErr result (self.new ≡ self.old) }
     {
@@ -242,24 +246,23 @@ impl State {
     fn check_room(&self, entries: u64, room: Room) -> Result<(), StoreFault>
         ensures ok { OnOk result ((configs : List Entry)
             → entries ≡ min (entries_length configs) u64.MAX
-            → next_state self.now (has_room room) configs
+            → next_state self.now room configs
             ≡ Ok (record { configs = configs; count = self.now.count + 1 })) }
         ensures counts { OnOk result (self.now.count < u64.MAX) }
         ensures short { OnOk result (entries ≤ BASE_LIMIT) }
         ensures refused { IfErr result (λ fault. (configs : List Entry)
             → entries ≡ min (entries_length configs) u64.MAX
-            → next_state self.now (has_room room) configs ≡ Err fault) }
+            → next_state self.now room configs ≡ Err fault) }
     {
         if base_length(u128::from(self.count) + 1, entries) > BASE_LIMIT {
             return Err(StoreFault::StoreFull);
         }
-        if !room.is_enough() {
-            return Err(StoreFault::JournalLong);
+        match room {
+            Room::LongRecord => Err(StoreFault::RecordLong),
+            Room::Missing => Err(StoreFault::JournalLong),
+            Room::Enough if self.count == u64::MAX => Err(StoreFault::CountFull),
+            Room::Enough => Ok(()),
         }
-        if self.count == u64::MAX {
-            return Err(StoreFault::CountFull);
-        }
-        Ok(())
     }
 
     /// How many bytes all configurations have in the base text.

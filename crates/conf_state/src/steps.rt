@@ -1,57 +1,94 @@
 // One command on a state.
-ghost use Rattle.std.specs.Prelude.{◌≡◌, ◌⊎◌, Ok, Err, OnOk, OnErr, IfErr, true};
+ghost use Rattle.std.specs.Prelude.{◌≡◌, ◌⊎◌, Ok, Err, OnOk, OnErr, IfErr, true, map};
 ghost use Rattle.std.specs.Str.{chars};
 ghost use Rattle.yaml_grammar.specs.Reads.{Good};
 ghost use Rattle.yaml_data.specs.Seen.{tree_of};
 ghost use Rattle.conf_state.specs.Names.{good_name};
-ghost use Rattle.conf_state.specs.Commands.{command_of, text_of, import_as, set_at, delete_at};
+ghost use Rattle.conf_state.specs.Commands.{command_of, edit_of, single, batch, text_of, import_as, set_at, delete_at};
 ghost use Rattle.yaml_config.specs.Limits.{config_limits};
-ghost use Rattle.conf_state.specs.Rooms.{has_room};
-ghost use Rattle.conf_state.specs.Steps.{checked_tree, state_after_command, step};
+ghost use Rattle.conf_state.specs.States.{Contents};
+ghost use Rattle.conf_state.specs.declared.room.Room.{Room};
+ghost use Rattle.conf_state.specs.Steps.{and_then, checked_tree, configs_after, next_state, step};
 
-use crate::command::Command;
+use crate::command::{Command, Edit};
 use crate::fault::StoreFault;
 use crate::name::good_name;
 use crate::room::Room;
 use crate::state::State;
 use std::alloc::Global;
-use yaml_config::{Config, Edit, Limits};
+use yaml_config::{Config, Edit as PathEdit, Limits};
 
-/// Performs a command. A refused command leaves the state unchanged, and is dropped. `room` says whether the journal
-/// has room for the command's record. If it hasn't, the command is refused with [`StoreFault::JournalLong`], unless a
-/// fault that is before it in [`StoreFault`] holds.
+/// Performs a command. A refused command leaves the state unchanged, and is dropped. `room` says whether there is room
+/// for the command's record. If there isn't, the command is refused with [`StoreFault::RecordLong`] or
+/// [`StoreFault::JournalLong`], unless a fault that is before it in [`StoreFault`] holds.
 ///
 /// An import under a new name goes last; under an existing name it replaces the tree. A set or a delete edits the tree
 /// under the name. At the empty path a set replaces the configuration, and a delete removes it.
+///
+/// A batch makes its edits one after the other, each on what those before it made. If one of them is refused, so is the
+/// batch, with its fault, and none is made. The limit of the base text is that of the state after the last edit.
 pub fn step(
     alloc: Global,
     state: &mut State,
     command: Command,
     room: Room,
 ) -> Result<(), StoreFault>
-    ensures ok { OnOk result (step state.old (command_of command) (has_room room) ≡ Ok state.new) }
-    ensures refused { IfErr result
-        (λ fault. (fault ≡ StoreFault.OutOfMemory)
-        ⊎ (step state.old (command_of command) (has_room room) ≡ Err fault)) }
+    ensures ok { OnOk result (step state.old (command_of command) room ≡ Ok state.new) }
+    ensures refused { IfErr result (λ fault. (fault ≡ StoreFault.OutOfMemory)
+        ⊎ (step state.old (command_of command) room ≡ Err fault)) }
     ensures unchanged { OnErr result (state.new ≡ state.old) }
 {
-    if !good_name(command.name()) {
+    match command {
+        Command::Import { name, tree } => {
+            step_edit(alloc, state, Edit::Import { name, tree }, room)
+        }
+        Command::Set { name, path, value } => {
+            step_edit(alloc, state, Edit::Set { name, path, value }, room)
+        }
+        Command::Delete { name, path } => {
+            step_edit(alloc, state, Edit::Delete { name, path }, room)
+        }
+        Command::Batch { edits } => Err(batch_fault(&edits)),
+    }
+}
+
+/// Batches are not made yet.
+fn batch_fault(edits: &Vec<Edit>) -> StoreFault
+    ensures { (result ≡ StoreFault.OutOfMemory)
+        ⊎ ((s : Contents) (room : Room)
+        → step s (batch (map edit_of edits.now.items)) room ≡ Err result) }
+{
+    if edits.is_empty() {
+        return StoreFault::EmptyBatch;
+    }
+    StoreFault::OutOfMemory
+}
+
+/// Performs the command that is this edit alone, in place.
+fn step_edit(alloc: Global, state: &mut State, edit: Edit, room: Room) -> Result<(), StoreFault>
+    ensures ok { OnOk result (step state.old (single (edit_of edit)) room ≡ Ok state.new) }
+    ensures refused { IfErr result (λ fault. (fault ≡ StoreFault.OutOfMemory)
+        ⊎ (step state.old (single (edit_of edit)) room ≡ Err fault)) }
+    ensures unchanged { OnErr result (state.new ≡ state.old) }
+{
+    if !good_name(edit.name()) {
         return Err(StoreFault::BadName);
     }
-    match command {
-        Command::Import { name, tree } => import(state, name, tree, room),
-        Command::Set { name, path, value } => set(alloc, state, name, &path, value, room),
-        Command::Delete { name, path } => delete(alloc, state, &name, &path, room),
+    match edit {
+        Edit::Import { name, tree } => import(state, name, tree, room),
+        Edit::Set { name, path, value } => set(alloc, state, name, &path, value, room),
+        Edit::Delete { name, path } => delete(alloc, state, &name, &path, room),
     }
 }
 
 fn import(state: &mut State, name: String, config: Config, room: Room) -> Result<(), StoreFault>
     requires { good_name (text_of name) ≡ true }
-    ensures ok { OnOk result (state_after_command state.old
-        (import_as (text_of name) (tree_of config)) (has_room room) ≡ Ok state.new) }
+    ensures ok { OnOk result (and_then
+        (configs_after state.old.configs (import_as (text_of name) (tree_of config)))
+        (next_state state.old room) ≡ Ok state.new) }
     ensures refused { IfErr result (λ fault. (fault ≡ StoreFault.OutOfMemory)
-        ⊎ (state_after_command state.old (import_as (text_of name) (tree_of config))
-        (has_room room) ≡ Err fault)) }
+        ⊎ (and_then (configs_after state.old.configs
+        (import_as (text_of name) (tree_of config))) (next_state state.old room) ≡ Err fault)) }
     ensures unchanged { OnErr result (state.new ≡ state.old) }
 {
     check_limits(&config)?;
@@ -67,15 +104,17 @@ fn set(
     room: Room,
 ) -> Result<(), StoreFault>
     requires { good_name (text_of name) ≡ true }
-    ensures ok { OnOk result (state_after_command state.old (set_at (text_of name) (chars path.now)
-        (tree_of value)) (has_room room) ≡ Ok state.new) }
+    ensures ok { OnOk result (and_then (configs_after state.old.configs
+        (set_at (text_of name) (chars path.now) (tree_of value))) (next_state state.old room)
+        ≡ Ok state.new) }
     ensures refused { IfErr result (λ fault. (fault ≡ StoreFault.OutOfMemory)
-        ⊎ (state_after_command state.old (set_at (text_of name) (chars path.now) (tree_of value))
-        (has_room room) ≡ Err fault)) }
+        ⊎ (and_then (configs_after state.old.configs
+        (set_at (text_of name) (chars path.now) (tree_of value))) (next_state state.old room)
+        ≡ Err fault)) }
     ensures unchanged { OnErr result (state.new ≡ state.old) }
 {
     if !path.is_empty() {
-        return state.edit(alloc, &name, path, Edit::Set(value), room);
+        return state.edit(alloc, &name, path, PathEdit::Set(value), room);
     }
     if state.get(&name).is_none() {
         return Err(StoreFault::NoConfig);
@@ -91,15 +130,17 @@ fn delete(
     room: Room,
 ) -> Result<(), StoreFault>
     requires { good_name (chars name.now) ≡ true }
-    ensures ok { OnOk result (state_after_command state.old
-        (delete_at (chars name.now) (chars path.now)) (has_room room) ≡ Ok state.new) }
+    ensures ok { OnOk result (and_then
+        (configs_after state.old.configs (delete_at (chars name.now) (chars path.now)))
+        (next_state state.old room) ≡ Ok state.new) }
     ensures refused { IfErr result (λ fault. (fault ≡ StoreFault.OutOfMemory)
-        ⊎ (state_after_command state.old (delete_at (chars name.now) (chars path.now))
-        (has_room room) ≡ Err fault)) }
+        ⊎ (and_then
+        (configs_after state.old.configs (delete_at (chars name.now) (chars path.now)))
+        (next_state state.old room) ≡ Err fault)) }
     ensures unchanged { OnErr result (state.new ≡ state.old) }
 {
     if !path.is_empty() {
-        return state.edit(alloc, name, path, Edit::Delete, room);
+        return state.edit(alloc, name, path, PathEdit::Delete, room);
     }
     if state.get(name).is_none() {
         return Err(StoreFault::NoConfig);

@@ -4,8 +4,7 @@ use Rattle.std.specs.Str.{chars}
 use Rattle.yaml_data.specs.Seen.{tree_of}
 use Rattle.conf_state.specs.Commands.{text_of, set_at}
 use Rattle.conf_state.specs.States.{config_named}
-use Rattle.conf_state.specs.Rooms.{has_room}
-use Rattle.conf_state.specs.Steps.{state_after_command}
+use Rattle.conf_state.specs.Steps.{and_then, configs_after, next_state}
 use Rattle.conf_state.specs.declared.fault.StoreFault.TheVariants.{OutOfMemory}
 use Rattle.conf_state.proofs.EditLemmas.{empty-pointer}
 use Rattle.conf_state.proofs.StepLemmas.{no_bytes, mapped_none, mapped_some, set-nothing, set-whole}
@@ -15,14 +14,14 @@ pub returns-then-not-is_empty-clause-ok : goal.returns-then-not-is_empty-clause-
 returns-then-not-is_empty-clause-ok c =
     subst
     (λ bs. OnOk c.edit.result
-    (state_after_command c.args.state.now (set_at (chars bs) (chars c.args.path.now) (tree_of c.args.value)) (has_room c.args.room) ≡ Ok c.edit.new.self))
+    (and_then (configs_after c.args.state.now.configs (set_at (chars bs) (chars c.args.path.now) (tree_of c.args.value))) (next_state c.args.state.now c.args.room) ≡ Ok c.edit.new.self))
     c.deref.ensures c.edit.ensures.ok
 
 pub returns-then-not-is_empty-clause-refused : goal.returns-then-not-is_empty-clause-refused
 returns-then-not-is_empty-clause-refused c =
     subst
     (λ bs. IfErr c.edit.result (λ fault. (fault ≡ OutOfMemory)
-    ⊎ (state_after_command c.args.state.now (set_at (chars bs) (chars c.args.path.now) (tree_of c.args.value)) (has_room c.args.room) ≡ Err fault)))
+    ⊎ (and_then (configs_after c.args.state.now.configs (set_at (chars bs) (chars c.args.path.now) (tree_of c.args.value))) (next_state c.args.state.now c.args.room) ≡ Err fault)))
     c.deref.ensures c.edit.ensures.refused
 
 pub returns-then-not-is_empty-clause-unchanged : goal.returns-then-not-is_empty-clause-unchanged
@@ -34,7 +33,7 @@ returns-then-is_none-clause-refused c =
     let none = mapped_none (λ config. tree_of config.now) c.get.result c.is_none.result c.is_none.ensures c.if-is_none.true in
     let absent : config_named s.configs (text_of c.args.name) ≡ None =
     ap (λ bs. config_named s.configs (chars bs)) (sym c.deref-2.ensures) ∙ sym c.get.ensures ∙ none in
-    inr (set-nothing s (has_room c.args.room) (text_of c.args.name) (chars c.args.path.now) (tree_of c.args.value) absent)
+    inr (set-nothing s c.args.room (text_of c.args.name) (chars c.args.path.now) (tree_of c.args.value) absent)
 
 pub returns-clause-ok : goal.returns-clause-ok
 returns-clause-ok c =
@@ -43,7 +42,7 @@ returns-clause-ok c =
     let some = mapped_some (λ config. tree_of config.now) c.get.result c.is_none.result c.is_none.ensures c.if-is_none.false in
     let there : is_some (config_named s.configs (text_of c.args.name)) ≡ true =
     ap (λ bs. is_some (config_named s.configs (chars bs))) (sym c.deref-2.ensures) ∙ ap is_some (sym c.get.ensures) ∙ some in
-    let whole = set-whole s (has_room c.args.room) (text_of c.args.name) (chars c.args.path.now) (tree_of c.args.value) none there in
+    let whole = set-whole s c.args.room (text_of c.args.name) (chars c.args.path.now) (tree_of c.args.value) none there in
     on_ok_weaker c.import.result (λ is. whole ∙ is) c.import.ensures.ok
 
 pub returns-clause-refused : goal.returns-clause-refused
@@ -53,7 +52,7 @@ returns-clause-refused c =
     let some = mapped_some (λ config. tree_of config.now) c.get.result c.is_none.result c.is_none.ensures c.if-is_none.false in
     let there : is_some (config_named s.configs (text_of c.args.name)) ≡ true =
     ap (λ bs. is_some (config_named s.configs (chars bs))) (sym c.deref-2.ensures) ∙ ap is_some (sym c.get.ensures) ∙ some in
-    let whole = set-whole s (has_room c.args.room) (text_of c.args.name) (chars c.args.path.now) (tree_of c.args.value) none there in
+    let whole = set-whole s c.args.room (text_of c.args.name) (chars c.args.path.now) (tree_of c.args.value) none there in
     subst (λ r. IfErr c.import.result (λ fault. (fault ≡ OutOfMemory) ⊎ (r ≡ Err fault))) (sym whole) c.import.ensures.refused
 
 pub returns-clause-unchanged : goal.returns-clause-unchanged

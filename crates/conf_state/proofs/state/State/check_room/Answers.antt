@@ -1,7 +1,6 @@
 use Rattle.std.proofs.Common.{◌≡◌, ◌+◌, min, ap, ap₂, sym, ◌∙◌, arith}
 use Rattle.conf_state.specs.BaseTexts.{framed_length}
-use Rattle.conf_state.specs.Rooms.{has_room}
-use Rattle.conf_state.proofs.CountLemmas.{next_state-full, next_state-long, next_state-last, next_state-new}
+use Rattle.conf_state.proofs.CountLemmas.{next_state-full, next_state-record, next_state-long, next_state-last, next_state-new}
 use Rattle.conf_state.proofs.state.State.check_room.Goals as goal
 
 pub returns-then-base_length-gt-BASE_LIMIT-clause-refused :
@@ -9,30 +8,38 @@ pub returns-then-base_length-gt-BASE_LIMIT-clause-refused :
 returns-then-base_length-gt-BASE_LIMIT-clause-refused c = λ configs is.
     let state = c.args.self.now in
     let count : c.from.result ≡ state.count = c.from.ensures ∙ ap (λ s. s.count) c.self.view_is in
-    next_state-full state (has_room c.args.room) configs (omega arith) c.base_length.result
+    next_state-full state c.args.room configs (omega arith) c.base_length.result
     (c.base_length.ensures ∙ ap₂ (λ n l. min (framed_length (n + 1) l) 18446744073709551615) count is)
     c.if-base_length-gt-BASE_LIMIT.true
 
-pub returns-then-not-is_enough-clause-refused : goal.returns-then-not-is_enough-clause-refused
-returns-then-not-is_enough-clause-refused c = λ configs is.
+pub returns-in-LongRecord-clause-refused : goal.returns-in-LongRecord-clause-refused
+returns-in-LongRecord-clause-refused c = λ configs is.
     let state = c.args.self.now in
     let count : c.from.result ≡ state.count = c.from.ensures ∙ ap (λ s. s.count) c.self.view_is in
-    next_state-long state (has_room c.args.room) configs (omega arith) c.base_length.result
+    next_state-record state c.args.room configs (omega arith) c.base_length.result
     (c.base_length.ensures ∙ ap₂ (λ n l. min (framed_length (n + 1) l) 18446744073709551615) count is)
-    c.if-base_length-gt-BASE_LIMIT.false (sym c.is_enough.ensures ∙ c.if-not-is_enough.true)
+    c.if-base_length-gt-BASE_LIMIT.false c.in-LongRecord.is
 
-pub returns-then-self-clause-refused : goal.returns-then-self-clause-refused
-returns-then-self-clause-refused c = λ configs is.
+pub returns-in-Missing-clause-refused : goal.returns-in-Missing-clause-refused
+returns-in-Missing-clause-refused c = λ configs is.
     let state = c.args.self.now in
     let count : c.from.result ≡ state.count = c.from.ensures ∙ ap (λ s. s.count) c.self.view_is in
-    next_state-last state (has_room c.args.room) configs (omega arith) c.base_length.result
+    next_state-long state c.args.room configs (omega arith) c.base_length.result
     (c.base_length.ensures ∙ ap₂ (λ n l. min (framed_length (n + 1) l) 18446744073709551615) count is)
-    c.if-base_length-gt-BASE_LIMIT.false (sym c.is_enough.ensures ∙ c.if-not-is_enough.false) (sym (ap (λ s. s.count) c.self.view_is) ∙ c.if-self.true)
+    c.if-base_length-gt-BASE_LIMIT.false c.in-Missing.is
 
-pub returns-clause-ok : goal.returns-clause-ok
-returns-clause-ok c = λ configs is.
+pub returns-in-Enough-clause-refused : goal.returns-in-Enough-clause-refused
+returns-in-Enough-clause-refused c = λ configs is.
     let state = c.args.self.now in
     let count : c.from.result ≡ state.count = c.from.ensures ∙ ap (λ s. s.count) c.self.view_is in
-    next_state-new state (has_room c.args.room) configs (omega arith) c.base_length.result
+    next_state-last state c.args.room configs (omega arith) c.base_length.result
     (c.base_length.ensures ∙ ap₂ (λ n l. min (framed_length (n + 1) l) 18446744073709551615) count is)
-    c.if-base_length-gt-BASE_LIMIT.false (sym c.is_enough.ensures ∙ c.if-not-is_enough.false) (omega (arith, ap (λ s. s.count) c.self.view_is))
+    c.if-base_length-gt-BASE_LIMIT.false c.in-Enough.is (sym (ap (λ s. s.count) c.self.view_is) ∙ c.if-self.true)
+
+pub returns-in-Enough-2-clause-ok : goal.returns-in-Enough-2-clause-ok
+returns-in-Enough-2-clause-ok c = λ configs is.
+    let state = c.args.self.now in
+    let count : c.from.result ≡ state.count = c.from.ensures ∙ ap (λ s. s.count) c.self.view_is in
+    next_state-new state c.args.room configs (omega arith) c.base_length.result
+    (c.base_length.ensures ∙ ap₂ (λ n l. min (framed_length (n + 1) l) 18446744073709551615) count is)
+    c.if-base_length-gt-BASE_LIMIT.false c.in-Enough-2.is (omega (arith, ap (λ s. s.count) c.self.view_is))

@@ -10,7 +10,6 @@ use Rattle.conf_state.specs.BaseTexts.{entries_length}
 use Rattle.conf_state.specs.Configs.{is_name}
 use Rattle.conf_state.specs.Edits.{configs_with_edit}
 use Rattle.conf_state.specs.Kept.{entries_of, ArePlain}
-use Rattle.conf_state.specs.Rooms.{has_room}
 use Rattle.conf_state.specs.States.{Entry, config_named, put_config}
 use Rattle.conf_state.specs.Steps.{and_then, next_state}
 use Rattle.conf_state.proofs.EditLemmas.{found-named, same_value, same_edit, parsed-Ok, parsed-Err, pointer-steps, edited-unread, edited-refused, tree_after_edit-nothing, edited-at, tree_after_edit-new}
@@ -26,7 +25,7 @@ returns-in_default-clause-refused c =
     let missing =
     ap (λ s. config_named s.configs name) (sym c.self.view_is) ∙ sym (lookup-named c.args.name.now c.utf8.name c.self.inside.configs c.self.invariant.plain)
     ∙ ap (option_map tree_of) (sym c.in_default.ensures) in
-    inr (ap (λ r. and_then r (next_state c.args.self.now (has_room c.args.room))) (tree_after_edit-nothing c.args.self.now.configs name c.args.edit (chars c.args.pointer.now) missing))
+    inr (ap (λ r. and_then r (next_state c.args.self.now c.args.room)) (tree_after_edit-nothing c.args.self.now.configs name c.args.edit (chars c.args.pointer.now) missing))
 
 -- the configuration under the name
 there : (c : In-Some) → config_named (entries_of c.self.inside.configs) (chars c.args.name.now) ≡ Some (tree_of c.in-Some.config.now)
@@ -39,7 +38,7 @@ pub returns-in_err-path-clause-refused : goal.returns-in_err-path-clause-refused
 returns-in_err-path-clause-refused c =
     let p = err_from_is_err_and c.from_residual.result c.from_residual.ensures.1 in
     rw (p.1, p.2)
-    (edited-unread c.args.self.now.configs (chars c.args.name.now) c.args.edit (chars c.args.pointer.now) (next_state c.args.self.now (has_room c.args.room)) (tree_of c.in-Some.config.now) _
+    (edited-unread c.args.self.now.configs (chars c.args.name.now) c.args.edit (chars c.args.pointer.now) (next_state c.args.self.now c.args.room) (tree_of c.in-Some.config.now) _
     (seen (goal.at.returns-in_err-path-clause-refused c).In-Some)
     (parsed-Err (chars c.args.pointer.now) c.in_err-path.field-0.0 c.in_err-path.ensures.met))
 
@@ -58,7 +57,7 @@ returns-in_err-plan-clause-refused c =
     let parsed = parsed-Ok (chars c.args.pointer.now) c.in_ok-path.path c.in_ok-path.ensures.met in
     let p = err_from_is_err_and c.from_residual-in_err-plan.result c.from_residual-in_err-plan.ensures.1 in
     rw (p.1, p.2)
-    (edited-refused c.args.self.now.configs (chars c.args.name.now) c.args.edit (chars c.args.pointer.now) (next_state c.args.self.now (has_room c.args.room)) (tree_of c.in-Some.config.now)
+    (edited-refused c.args.self.now.configs (chars c.args.name.now) c.args.edit (chars c.args.pointer.now) (next_state c.args.self.now c.args.room) (tree_of c.in-Some.config.now)
     c.in_ok-path.path c.in_err-plan.field-0.0 (seen (goal.at.returns-in_err-plan-clause-refused c).In-Some) parsed c.in_err-plan.ensures.refused)
 
 pub returns-in_err-check_room-clause-refused : goal.returns-in_err-check_room-clause-refused
@@ -72,7 +71,7 @@ returns-in_err-check_room-clause-refused c =
     ∙ tree_after_edit-new c.args.self.now.configs name c.args.edit c.in_ok-path.path old l.new l.made l.deep l.long in
     let p = err_from_is_err_and c.from_residual-in_err-check_room.result c.from_residual-in_err-check_room.ensures.1 in
     rw (p.1, p.2)
-    (inr (ap (λ r. and_then r (next_state c.args.self.now (has_room c.args.room))) made
+    (inr (ap (λ r. and_then r (next_state c.args.self.now c.args.room)) made
     ∙ c.in_err-check_room.ensures.refused (put_config c.args.self.now.configs name l.new) (omega (arith, l.entries))))
 
 -- the configuration that is changed in its place, which is the one that the edit was planned for
@@ -144,7 +143,7 @@ edited c = put_config c.args.self.now.configs (chars c.args.name.now) (tree_of c
 record IsMade (c : In_ok-perform) : Type 0 where
   made : configs_with_edit c.args.self.now.configs (chars c.args.name.now) c.args.edit (tree_of c.in-Some.config.now) c.in_ok-path.path ≡ Ok (edited c)
   counts : c.in_ok-plan.plan.entries ≡ entries_length (edited c)
-  room : next_state c.args.self.now (has_room c.args.room) (edited c) ≡ Ok (record { configs = edited c; count = c.args.self.now.count + 1 })
+  room : next_state c.args.self.now c.args.room (edited c) ≡ Ok (record { configs = edited c; count = c.args.self.now.count + 1 })
 
 is_made : (c : In_ok-perform) → config_named c.args.self.now.configs (chars c.args.name.now) ≡ Some (tree_of c.in-Some.config.now)
     → c.in-Some.config.now ≡ c.unwrap-config.result.now → IsMade c
@@ -171,8 +170,8 @@ invariant_of-self-2 c =
     let t = tree_of c.perform.new.config in
     kept_put c.self.inside.configs c.self.inside.count c.self.inside.entries c.self.invariant
     (omega (arith, ap (λ s. s.count) c.self.view_is, c.in_ok-check_room.ensures.counts))
-    name t c.requires.named c.in_ok-perform.ensures.within (has_room c.args.room) _
-    (subst (λ s. next_state s (has_room c.args.room) (put_config s.configs name t) ≡ Ok (record { configs = put_config s.configs name t; count = s.count + 1 }))
+    name t c.requires.named c.in_ok-perform.ensures.within c.args.room _
+    (subst (λ s. next_state s c.args.room (put_config s.configs name t) ≡ Ok (record { configs = put_config s.configs name t; count = s.count + 1 }))
     (sym c.self.view_is) edit.room)
     _ c.in_ok-plan.plan.entries placed.plain placed.entries
     (edit.counts ∙ ap (λ s. entries_length (put_config s.configs name t)) (sym c.self.view_is))
@@ -185,7 +184,7 @@ returns-clause-ok c =
     let name = chars c.args.name.now in
     let t = tree_of c.perform.new.config in
     let parsed = parsed-Ok (chars c.args.pointer.now) c.in_ok-path.path c.in_ok-path.ensures.met in
-    ap (λ r. and_then r (next_state c.args.self.now (has_room c.args.room)))
+    ap (λ r. and_then r (next_state c.args.self.now c.args.room))
     (edited-at c.args.self.now.configs name c.args.edit (chars c.args.pointer.now) (tree_of c.in-Some.config.now) c.in_ok-path.path (seen at.In-Some) parsed ∙ edit.made)
     ∙ edit.room ∙ ap (λ s. Ok (record { configs = put_config s.configs name t; count = s.count + 1 })) (sym c.self.view_is)
     ∙ ap (λ cs. Ok (record { configs = cs; count = c.self.inside.count + 1 })) (sym placed.entries)

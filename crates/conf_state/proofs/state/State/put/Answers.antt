@@ -4,7 +4,6 @@ use Rattle.yaml_data.specs.Seen.{tree_of}
 use Rattle.conf_state.specs.States.{put_config}
 use Rattle.conf_state.specs.BaseTexts.{entries_length}
 use Rattle.conf_state.specs.Kept.{entries_of, ArePlain}
-use Rattle.conf_state.specs.Rooms.{has_room}
 use Rattle.conf_state.specs.Steps.{next_state}
 use Rattle.conf_state.proofs.EntryLemmas.{put_under-named, plain_put_under}
 use Rattle.conf_state.proofs.NameLemmas.{good_name-ascii}
@@ -26,8 +25,8 @@ invariant_of-self-2 c =
     (plain_put_under c.args.name c.args.config es (good_name-ascii name utf8 c.requires.named) c.self.invariant.plain) in
     kept_put es c.self.inside.count c.self.inside.entries c.self.invariant
     (omega (arith, ap (λ s. s.count) c.self.view_is, c.in_ok-check_room.ensures.counts))
-    (chars name) tree c.requires.named c.requires.within (has_room c.args.room) _
-    (subst (λ s. next_state s (has_room c.args.room) (put_config s.configs (chars name) tree) ≡ Ok (record { configs = put_config s.configs (chars name) tree; count = s.count + 1 }))
+    (chars name) tree c.requires.named c.requires.within c.args.room _
+    (subst (λ s. next_state s c.args.room (put_config s.configs (chars name) tree) ≡ Ok (record { configs = put_config s.configs (chars name) tree; count = s.count + 1 }))
     (sym c.self.view_is) room)
     c.put.new.self c.length_with-entries.result plain seen
     (exact ∙ ap (λ s. entries_length (put_config s.configs (chars name) tree)) (sym c.self.view_is))

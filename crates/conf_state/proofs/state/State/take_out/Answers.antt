@@ -3,7 +3,6 @@ use Rattle.std.specs.Str.{chars}
 use Rattle.conf_state.specs.BaseTexts.{entries_length}
 use Rattle.conf_state.specs.States.{cut_config}
 use Rattle.conf_state.specs.Kept.{entries_of}
-use Rattle.conf_state.specs.Rooms.{has_room}
 use Rattle.conf_state.specs.Steps.{next_state}
 use Rattle.conf_state.proofs.EntryLemmas.{cut_from-named}
 use Rattle.conf_state.proofs.StateLemmas.{kept_cut}
@@ -15,8 +14,8 @@ invariant_of-self c =
     let room = c.in_ok-check_room.ensures.ok (cut_config c.args.self.now.configs name) (omega (arith, c.length_without-entries.ensures)) in
     kept_cut c.self.inside.configs c.self.inside.count c.self.inside.entries c.self.invariant
     (omega (arith, ap (λ s. s.count) c.self.view_is, c.in_ok-check_room.ensures.counts))
-    c.args.name.now c.utf8.name (has_room c.args.room) _
-    (subst (λ s. next_state s (has_room c.args.room) (cut_config s.configs name) ≡ Ok (record { configs = cut_config s.configs name; count = s.count + 1 }))
+    c.args.name.now c.utf8.name c.args.room _
+    (subst (λ s. next_state s c.args.room (cut_config s.configs name) ≡ Ok (record { configs = cut_config s.configs name; count = s.count + 1 }))
     (sym c.self.view_is) room)
     c.remove.new.self c.length_without-entries.result c.remove.ensures
     (c.length_without-entries.ensures ∙ ap (λ s. entries_length (cut_config s.configs name)) (sym c.self.view_is))
