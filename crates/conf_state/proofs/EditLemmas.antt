@@ -188,17 +188,6 @@ module _ (es : List Entry) (name : List ℕ) (edit : Edit) where
         inr (ap (λ r. and_then r next) (edited-at pointer old path there parsed ∙ refused name))
 
   module _ (path : List (List ℕ)) (old new : grammar.Tree) (made : tree_after_edit edit old path ≡ Ok new) where
-    pub tree_after_edit-deep : nat_le (depth new) config_limits.depth ≡ false → configs_with_edit es name edit old path ≡ Err TooDeep
-    tree_after_edit-deep deep =
-        let more : nat_lt config_limits.depth (depth new) ≡ true = grind (arith, nat_tests, deep) in
-        rw (made, more) refl
-
-    pub tree_after_edit-large : nat_le (depth new) config_limits.depth ≡ true → config_limits.style < byte_len (style_text new) → configs_with_edit es name edit old path ≡ Err ConfigLarge
-    tree_after_edit-large deep long =
-        let fits : nat_lt config_limits.depth (depth new) ≡ false = grind (arith, nat_tests, deep) in
-        let more : nat_lt config_limits.style (byte_len (style_text new)) ≡ true = grind (arith, nat_tests) in
-        rw (made, fits, more) refl
-
     pub tree_after_edit-new : depth new ≤ config_limits.depth → byte_len (style_text new) ≤ config_limits.style → configs_with_edit es name edit old path ≡ Ok (put_config es name new)
     tree_after_edit-new deep long =
         let fits : nat_lt config_limits.depth (depth new) ≡ false = grind (arith, nat_tests) in

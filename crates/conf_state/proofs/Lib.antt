@@ -1,5 +1,10 @@
 pub mod BaseLemmas
+pub mod CopyLemmas
 pub mod CountLemmas
+pub mod DraftLemmas
+pub mod DraftLengths
+pub mod DraftSteps
+pub mod PlanningLemmas
 pub mod EditLemmas
 pub mod EntryLemmas
 pub mod LimitLemmas
@@ -9,5 +14,6 @@ pub mod RefusalLemmas
 pub mod RunLaws
 pub mod StateLemmas
 pub mod StepLemmas
+pub mod TakeLemmas
 pub mod NameLemmas
 pub mod PlaceLemmas

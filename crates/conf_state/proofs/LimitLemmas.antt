@@ -56,7 +56,7 @@ entries_length-put (e ∷ es) name t = by (same_text name e.0) refl (entries_len
 
 -- ---- names
 
-other_way : (a b : List ℕ) → same_text a b ≡ false → same_text b a ≡ false
+pub other_way : (a b : List ℕ) → same_text a b ≡ false → same_text b a ≡ false
 other_way a b differ = false_from_ne_true (same_text b a) (λ same. by (same_text-true b a same))
   where
     by : b ≡ a → ⊥

@@ -22,7 +22,7 @@ use Rattle.conf_state.specs.Kept.{entries_of, ArePlain, IsKept, Appended, IsUnfi
 use Rattle.conf_state.proofs.LimitLemmas.{entries_length-put, entries_length-absent, names_differ-put, AreConfigs-put}
 
 -- a new name goes last
-put_absent : (es : List Entry) (name : List ℕ) (t : grammar.Tree) → config_named es name ≡ None → put_config es name t ≡ es ++ (name, t) ∷ []
+pub put_absent : (es : List Entry) (name : List ℕ) (t : grammar.Tree) → config_named es name ≡ None → put_config es name t ≡ es ++ (name, t) ∷ []
 put_absent [] name t absent = refl
 put_absent (e ∷ es) name t absent = by (same_text name e.0) absent (put_absent es name t)
   where
@@ -71,7 +71,7 @@ has_name-after (e ∷ es) name t left = by (same_text name e.0) (has_name-after 
     by true rest = refl
     by false rest = rest
 
-twice : (es : List Entry) (name : List ℕ) (t : grammar.Tree) (left : List Entry) → is_some (config_named es name) ≡ true
+pub twice : (es : List Entry) (name : List ℕ) (t : grammar.Tree) (left : List Entry) → is_some (config_named es name) ≡ true
     → names_differ (names_of (es ++ (name, t) ∷ left)) ≡ true → ⊥
 twice [] name t left found differ = cc
 twice (e ∷ es) name t left found differ =

@@ -1,5 +1,6 @@
 -- What changes of the places make of the configurations.
 use Rattle.std.proofs.Common.{◌≡◌, ℕ, Bool, true, false, cond, List, [], ◌∷◌, filter, String, Global, Option, Some, None, is_some, string_bytes, MutBor, OnSome, OnErr, Result, Ok, Err, refl, sym, ap, ◌∙◌}
+use Rattle.std.proofs.lemmas.Map.Steps.{set_value_same}
 use Rattle.std.proofs.lemmas.Map.Keys.{IsDistinct-head, IsDistinct-tail}
 use Rattle.std.proofs.lemmas.Slice.Eq.{bytes_eq-Decides}
 use Rattle.std.specs.List.{AllByRecursion, IsDistinct}
@@ -78,22 +79,26 @@ module _ {X : Type 0} (q : List ℕ) where
       by true is rest = cc
       by false is rest = ap (λ es. e ∷ es) (rest is)
 
-  -- a name that has no configuration has no place once the empty ones are closed
-  pub closed-absent : (ps : List (String Global × Option X)) → lookup (is_name q) (present ps) ≡ None → lookup (is_name q) (filter (λ p. is_some p.1) ps) ≡ None
-  closed-absent [] is = refl
-  closed-absent (p ∷ ps) is = by p.1 is (closed-absent ps)
+  -- emptying a place takes its configuration out, if it has one
+  pub present-cut : (ps : List (String Global × Option X)) (place : Option X) → IsDistinct string_eq (keys_of ps) → lookup (is_name q) ps ≡ Some place
+      → present (set_value (is_name q) ps None) ≡ cut_from q (present ps)
+  present-cut ps (Some old) distinct is = present-emptied ps old is
+  present-cut ps None distinct is =
+      ap present (set_value_same (is_name q) ps None is) ∙ sym (cut-absent (present ps) (lookup-present ps distinct ∙ ap in_place is))
+
+  -- no place is empty once the empty ones are closed
+  pub closed-filled : (ps : List (String Global × Option X)) → lookup (is_name q) (filter (λ p. is_some p.1) ps) ≡ Some None → ⊥
+  closed-filled [] is = cc
+  closed-filled (p ∷ ps) is = by p.1 is (closed-filled ps)
     where
-      by : (place : Option X) → lookup (is_name q) (with_place p.0 place (present ps)) ≡ None
-          → (lookup (is_name q) (present ps) ≡ None → lookup (is_name q) (filter (λ p. is_some p.1) ps) ≡ None)
-          → lookup (is_name q) (cond (is_some place) ((p.0, place) ∷ filter (λ p. is_some p.1) ps) (filter (λ p. is_some p.1) ps)) ≡ None
+      by : (place : Option X) → lookup (is_name q) (cond (is_some place) ((p.0, place) ∷ filter (λ p. is_some p.1) ps) (filter (λ p. is_some p.1) ps)) ≡ Some None
+          → (lookup (is_name q) (filter (λ p. is_some p.1) ps) ≡ Some None → ⊥) → ⊥
       by None is rest = rest is
-      by (Some x) is rest = at (is_name q p.0) is rest
+      by (Some x) is rest = at (is_name q p.0) is
         where
-          at : (b : Bool) → cond b (Some x) (lookup (is_name q) (present ps)) ≡ None
-              → (lookup (is_name q) (present ps) ≡ None → lookup (is_name q) (filter (λ p. is_some p.1) ps) ≡ None)
-              → cond b (Some (Some x)) (lookup (is_name q) (filter (λ p. is_some p.1) ps)) ≡ None
-          at true is rest = cc
-          at false is rest = rest is
+          at : (b : Bool) → cond b (Some (Some x)) (lookup (is_name q) (filter (λ p. is_some p.1) ps)) ≡ Some None → ⊥
+          at true is = cc
+          at false is = rest is
 
 module _ {X : Type 0} where
   -- closing the empty places leaves the configurations
@@ -107,32 +112,22 @@ module _ {X : Type 0} where
       by (Some x) rest = ap (λ es. (p.0, x) ∷ es) rest
 
   module _ (name : String Global) (x : X) where
-    -- a configuration at a new name's place goes last
-    pub present-insert : (ps : List (String Global × Option X)) → lookup (is_name (string_bytes name)) ps ≡ None
+    -- a configuration in the place of its name, which is not empty, or last
+    pub present-put : (ps : List (String Global × Option X)) → (lookup (is_name (string_bytes name)) ps ≡ Some None → ⊥)
         → present (insert_entry string_eq ps name (Some x)) ≡ put_under name x (present ps)
-    present-insert [] is = refl
-    present-insert (p ∷ ps) is = by p.1 (is_name (string_bytes name) p.0) refl is (present-insert ps)
+    present-put [] filled = refl
+    present-put (p ∷ ps) filled = by p.1 (is_name (string_bytes name) p.0) refl filled (present-put ps)
       where
-        by : (place : Option X) (b : Bool) → is_name (string_bytes name) p.0 ≡ b → cond b (Some place) (lookup (is_name (string_bytes name)) ps) ≡ None
-            → (lookup (is_name (string_bytes name)) ps ≡ None → present (insert_entry string_eq ps name (Some x)) ≡ put_under name x (present ps))
+        by : (place : Option X) (b : Bool) → is_name (string_bytes name) p.0 ≡ b → (cond b (Some place) (lookup (is_name (string_bytes name)) ps) ≡ Some None → ⊥)
+            → ((lookup (is_name (string_bytes name)) ps ≡ Some None → ⊥) → present (insert_entry string_eq ps name (Some x)) ≡ put_under name x (present ps))
             → present (cond b ((p.0, Some x) ∷ ps) ((p.0, place) ∷ insert_entry string_eq ps name (Some x))) ≡ put_under name x (with_place p.0 place (present ps))
-        by place true named is rest = cc
-        by None false named is rest = rest is
-        by (Some y) false named is rest =
-            ap (λ es. (p.0, y) ∷ es) (rest is)
+        by None true named filled rest = absurd (filled refl)
+        by None false named filled rest = rest filled
+        by (Some y) true named filled rest =
+            ap (λ b. cond b ((p.0, x) ∷ present ps) ((p.0, y) ∷ put_under name x (present ps))) (sym named)
+        by (Some y) false named filled rest =
+            ap (λ es. (p.0, y) ∷ es) (rest filled)
             ∙ ap (λ b. cond b ((p.0, x) ∷ present ps) ((p.0, y) ∷ put_under name x (present ps))) (sym named)
-
-    -- a configuration under a name that is there replaces the one that is
-    pub put-there : (es : List (String Global × X)) (old : X) → lookup (is_name (string_bytes name)) es ≡ Some old
-        → set_value (is_name (string_bytes name)) es x ≡ put_under name x es
-    put-there [] old is = cc
-    put-there (e ∷ es) old is = by (is_name (string_bytes name) e.0) is (put-there es old)
-      where
-        by : (b : Bool) → cond b (Some e.1) (lookup (is_name (string_bytes name)) es) ≡ Some old
-            → (lookup (is_name (string_bytes name)) es ≡ Some old → set_value (is_name (string_bytes name)) es x ≡ put_under name x es)
-            → cond b ((e.0, x) ∷ es) (e ∷ set_value (is_name (string_bytes name)) es x) ≡ cond b ((e.0, x) ∷ es) (e ∷ put_under name x es)
-        by true is rest = refl
-        by false is rest = ap (λ es. e ∷ es) (rest is)
 
 -- ---- options
 

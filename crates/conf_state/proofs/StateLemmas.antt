@@ -8,9 +8,9 @@ use Rattle.yaml_data.specs.declared.tree.Tree.{Tree}
 use Rattle.conf_state.specs.Configs.{cut_from}
 use Rattle.conf_state.specs.Names.{good_name}
 use Rattle.conf_state.specs.Kept.{entries_of, ArePlain, IsKept}
-use Rattle.conf_state.specs.Limits.{IsState}
+use Rattle.conf_state.specs.Limits.{AreConfigs, IsState}
 use Rattle.conf_state.specs.BaseTexts.{entries_length}
-use Rattle.conf_state.specs.States.{Entry, Contents, put_config, cut_config, count_limit}
+use Rattle.conf_state.specs.States.{Entry, Contents, names_of, names_differ, put_config, cut_config, count_limit}
 use Rattle.yaml_config.specs.Limits.{config_limits}
 use Rattle.conf_state.specs.Steps.{next_state}
 use Rattle.conf_state.specs.declared.room.Room.{Room}
@@ -33,21 +33,30 @@ kept_empty = record {
 }
 
 module _ (es : List (String Global × Tree)) (count bytes : ℕ) (kept : IsKept es count bytes) (below : count < count_limit) where
+  -- with other configurations
+  module _ (configs : List Entry) (all : AreConfigs configs) (distinct : names_differ (names_of configs) ≡ true) (room : Room) (after : Contents)
+      (ok : next_state (record { configs = entries_of es; count = count }) room configs ≡ Ok after) where
+    pub kept_new : (new : List (String Global × Tree)) (length : ℕ) → ArePlain new → entries_of new ≡ configs
+        → length ≡ entries_length configs → IsKept new (count + 1) length
+    kept_new new length plain seen counts = record {
+      plain = plain;
+      state = subst (λ cs. IsState (record { configs = cs; count = count + 1 })) (sym seen) (record {
+        configs = all;
+        distinct = distinct;
+        short = next_state-short (record { configs = entries_of es; count = count }) room configs after ok;
+        numbered = omega arith;
+      });
+      counted = counts ∙ ap entries_length (sym seen);
+    }
+
   -- with a configuration put in, or changed in its place
   module _ (name : List ℕ) (t : grammar.Tree) (named : good_name name ≡ true) (good : Good t config_limits) (room : Room) (after : Contents)
       (ok : next_state (record { configs = entries_of es; count = count }) room (put_config (entries_of es) name t) ≡ Ok after) where
     pub kept_put : (new : List (String Global × Tree)) (length : ℕ) → ArePlain new → entries_of new ≡ put_config (entries_of es) name t
         → length ≡ entries_length (put_config (entries_of es) name t) → IsKept new (count + 1) length
-    kept_put new length plain seen counts = record {
-      plain = plain;
-      state = subst (λ cs. IsState (record { configs = cs; count = count + 1 })) (sym seen) (record {
-        configs = AreConfigs-put (entries_of es) name t named good kept.state.configs;
-        distinct = names_differ-put (entries_of es) name t kept.state.distinct;
-        short = next_state-short (record { configs = entries_of es; count = count }) room (put_config (entries_of es) name t) after ok;
-        numbered = omega arith;
-      });
-      counted = counts ∙ ap entries_length (sym seen);
-    }
+    kept_put =
+        kept_new (put_config (entries_of es) name t) (AreConfigs-put (entries_of es) name t named good kept.state.configs)
+        (names_differ-put (entries_of es) name t kept.state.distinct) room after ok
 
   -- with a configuration taken out
   module _ (name : List ℕ) (utf8 : IsUtf8 name) (room : Room) (after : Contents)
@@ -55,18 +64,9 @@ module _ (es : List (String Global × Tree)) (count bytes : ℕ) (kept : IsKept 
     pub kept_cut : (new : List (String Global × Tree)) (length : ℕ) → new ≡ cut_from name es
         → length ≡ entries_length (cut_config (entries_of es) (chars name)) → IsKept new (count + 1) length
     kept_cut new length is counts =
-        let configs : List Entry = cut_config (entries_of es) (chars name) in
-        let seen : entries_of new ≡ configs = ap entries_of is ∙ cut_from-named name utf8 es kept.plain in
-        record {
-          plain = subst ArePlain (sym is) (plain_cut_from name es kept.plain);
-          state = subst (λ cs. IsState (record { configs = cs; count = count + 1 })) (sym seen) (record {
-            configs = AreConfigs-cut (entries_of es) (chars name) kept.state.configs;
-            distinct = names_differ-cut (entries_of es) (chars name) kept.state.distinct;
-            short = next_state-short (record { configs = entries_of es; count = count }) room configs after ok;
-            numbered = omega arith;
-          });
-          counted = counts ∙ ap entries_length (sym seen);
-        }
+        kept_new (cut_config (entries_of es) (chars name)) (AreConfigs-cut (entries_of es) (chars name) kept.state.configs)
+        (names_differ-cut (entries_of es) (chars name) kept.state.distinct) room after ok new length
+        (subst ArePlain (sym is) (plain_cut_from name es kept.plain)) (ap entries_of is ∙ cut_from-named name utf8 es kept.plain) counts
 
 -- the same configurations keep the limits
 pub kept_same : (es : List (String Global × Tree)) (count bytes : ℕ) → IsKept es count bytes

@@ -1,13 +1,13 @@
 -- What a command makes of a state that puts in or takes out a whole configuration, or is refused before any edit.
-use Rattle.std.proofs.Common.{◌≡◌, ℕ, ◌<◌, ◌≤◌, ◌==◌, Bool, true, false, not, List, [], Option, Some, None, option_map, is_some, Ok, Err, refl, ap, ◌∙◌, arith}
+use Rattle.std.proofs.Common.{◌≡◌, ℕ, ◌<◌, ◌≤◌, ◌==◌, Bool, true, false, not, List, [], ◌∷◌, ◌++◌, length, Option, Some, None, option_map, option_to_list, is_some, Result, Ok, Err, length-append, refl, ap, ◌∙◌, arith}
 use Rattle.std.proofs.lemmas.Bool.Decides.{nat_tests}
 use Rattle.yaml_grammar.specs.Style.{style_text}
 use Rattle.yaml_grammar.specs.Texts.{byte_len}
 use Rattle.yaml_grammar.specs.Trees.{Tree, depth}
 use Rattle.yaml_config.specs.Limits.{config_limits}
-use Rattle.conf_state.specs.Commands.{import_as, set_at, delete_at}
-use Rattle.conf_state.specs.States.{Contents, config_named, put_config, cut_config}
-use Rattle.conf_state.specs.Steps.{and_then, found, checked_tree, with_checked_config, configs_after, next_state}
+use Rattle.conf_state.specs.Commands.{Edit, import_as, set_at, delete_at, single, batch}
+use Rattle.conf_state.specs.States.{Entry, Contents, config_named, put_config, cut_config}
+use Rattle.conf_state.specs.Steps.{and_then, found, checked_tree, with_checked_config, configs_after, edited, all_edited, next_state, step}
 use Rattle.conf_state.specs.declared.fault.StoreFault.{StoreFault}
 use Rattle.conf_state.specs.declared.room.Room.{Room}
 use Rattle.conf_state.specs.declared.fault.StoreFault.TheVariants.{NoConfig, TooDeep, ConfigLarge}
@@ -79,3 +79,26 @@ module _ (s : Contents) (room : Room) (name : List ℕ) where
           → and_then (and_then (found o) (λ u. Ok (cut_config s.configs name))) (next_state s room) ≡ next_state s room (cut_config s.configs name)
       by (Some u) e = refl
       by None e = cc
+
+-- ---- batches
+
+-- a batch with an edit makes all of its edits
+pub batch-all : (s : Contents) (edits : List Edit) (room : Room) → 0 < length edits
+    → step s (batch edits) room ≡ and_then (all_edited s.configs edits) (next_state s room)
+batch-all s [] room some = absurd (omega arith)
+batch-all s (edit ∷ edits) room some = refl
+
+-- a batch of one edit is that edit
+pub batch-one : (s : Contents) (edit : Edit) (room : Room) → step s (batch (edit ∷ [])) room ≡ step s (single edit) room
+batch-one s edit room = by (edited s.configs edit)
+  where
+    by : (r : Result (List Entry) StoreFault) → and_then (and_then r (λ next. Ok next)) (next_state s room) ≡ and_then r (next_state s room)
+    by (Ok next) = refl
+    by (Err fault) = refl
+
+-- the one element of a list is its last
+pub one_item : {A : Type 0} (items rest : List A) (popped : Option A) (last : A) → length items ≡ 1 → items ≡ rest ++ option_to_list popped
+    → popped ≡ Some last → items ≡ last ∷ []
+one_item items [] popped last one is some = is ∙ ap option_to_list some
+one_item items (x ∷ rest) popped last one is some =
+    absurd (omega (arith, one, ap length (is ∙ ap (λ o. x ∷ rest ++ option_to_list o) some), length-append (x ∷ rest) (last ∷ [])))

@@ -18,3 +18,13 @@ module _ {X : Type 0} where
   abbrev pub cut_from : List ℕ → List (String Global × X) → List (String Global × X)
   cut_from name [] = []
   cut_from name (e ∷ es) = cond (is_name name e.0) es (e ∷ cut_from name es)
+
+  -- with configurations put in, one after the other
+  abbrev pub put_each : List (String Global × X) → List (String Global × X) → List (String Global × X)
+  put_each [] es = es
+  put_each (p ∷ ps) es = put_each ps (put_under p.0 p.1 es)
+
+  -- without the configurations under these names
+  abbrev pub cut_each : List (String Global) → List (String Global × X) → List (String Global × X)
+  cut_each [] es = es
+  cut_each (name ∷ names) es = cut_each names (cut_from (string_bytes name) es)

@@ -5,14 +5,14 @@ use Rattle.yaml_grammar.specs.Trees.{Tree, depth}
 use Rattle.yaml_grammar.specs.Style.{style_text}
 use Rattle.tree_path.specs.Paths.{last_key}
 use Rattle.json_pointer.specs.Pointers.{path_of}
-use Rattle.conf_state.specs.States.{Entry, config_named, put_config}
+use Rattle.conf_state.specs.States.{Entry, config_named}
 use Rattle.yaml_config.specs.Limits.{config_limits}
-use Rattle.conf_state.specs.BaseTexts.{entries_length}
-use Rattle.conf_state.specs.Steps.{and_then, found, by_path, with_checked_config}
+use Rattle.conf_state.specs.Steps.{and_then, found, by_path, checked_tree, with_checked_config}
 use Rattle.conf_state.specs.declared.fault.StoreFault.{StoreFault}
+use Rattle.yaml_config.specs.Changes.{Changes}
 use Rattle.yaml_config.specs.Edits.{tree_after_edit}
 use Rattle.yaml_config.specs.declared.edit.Edit.{Edit as PathEdit}
-use Rattle.conf_state.specs.declared.state.EditPlan.{EditPlan}
+use Rattle.conf_state.specs.declared.planning.EditPlan.{EditPlan}
 
 -- the configurations with an edited tree under a name, or the refusal of the edit
 abbrev pub configs_with_edit : List Entry → List ℕ → PathEdit → Tree → List (List ℕ) → Result (List Entry) StoreFault
@@ -25,14 +25,23 @@ configs_after_edit configs name edit pointer =
     and_then (found (config_named configs name))
     (λ t. and_then (by_path (path_of pointer)) (configs_with_edit configs name edit t))
 
--- The edit leaves the configuration under a name within its limits. The plan has the lengths after it, and the place
--- of the path's last key.
-pub record IsPlan (configs : List Entry) (name : List ℕ) (edit : PathEdit) (old : Tree) (path : List (List ℕ))
-    (plan : EditPlan) : Type 0 where
+-- ---- one configuration
+
+-- the tree after an edit at a path, if it is within the limits
+abbrev pub checked_edit : PathEdit → Tree → List (List ℕ) → Result Tree StoreFault
+checked_edit edit t path = and_then (by_path (tree_after_edit edit t path)) checked_tree
+
+-- the same at a pointer
+abbrev pub edited_at : PathEdit → Tree → List ℕ → Result Tree StoreFault
+edited_at edit t pointer = and_then (by_path (path_of pointer)) (checked_edit edit t)
+
+-- The edit leaves the configuration within its limits. The plan has its length then, what changes in its length, and
+-- the place of the path's last key.
+pub record IsPlan (edit : PathEdit) (old : Tree) (path : List (List ℕ)) (plan : EditPlan) : Type 0 where
   pub new : Tree
   pub made : tree_after_edit edit old path ≡ Ok new
   pub deep : depth new ≤ config_limits.depth
   pub long : byte_len (style_text new) ≤ config_limits.style
-  pub config : plan.config ≡ byte_len (style_text new)
-  pub entries : plan.entries ≡ entries_length (put_config configs name new)
+  pub bytes : plan.bytes ≡ byte_len (style_text new)
+  pub changes : Changes plan.change old new
   pub place : plan.place ≡ last_key old path

@@ -12,3 +12,4 @@ pub mod Rooms
 pub mod Configs
 pub mod Places
 pub mod Lends
+pub mod Drafts

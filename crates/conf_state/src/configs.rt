@@ -1,17 +1,20 @@
 // Configurations by name, in the order in which they were put.
-ghost use Rattle.std.specs.Prelude.{◌≡◌, ◌↔◌, IsTrue, [], filter, is_some, length, None, OnOk, OnErr, string_bytes};
+ghost use Rattle.std.specs.Prelude.{◌≡◌, ◌+◌, ◌<◌, ◌≤◌, ◌↔◌, IsTrue, [], filter, is_some, length, true, Some, None, IsOk, IfOk, OnOk, OnErr};
 ghost use Rattle.std.specs.Borrow.{sem};
 ghost use Rattle.std.specs.Iterator.{at_most};
 ghost use Rattle.std.specs.Map.{lookup};
 ghost use Rattle.std.specs.Map.Iter.{TakesFirst, deref_pair};
 ghost use Rattle.std.specs.Option.{option_copied, option_copied_mut};
 ghost use Rattle.std.specs.String.{string_eq};
-ghost use Rattle.indexmap.specs.IndexMap.{IsUnique};
-ghost use Rattle.conf_state.specs.Configs.{is_name, put_under, cut_from};
+ghost use Rattle.indexmap.specs.IndexMap.{IsUnique, spare};
+ghost use Rattle.conf_state.specs.Configs.{is_name, put_under, put_each, cut_from, cut_each};
+ghost use Rattle.conf_state.specs.Kept.{entries_of, ArePlain};
 ghost use Rattle.conf_state.specs.Lends.{lends_config};
+ghost use Rattle.conf_state.specs.Places.{present};
+ghost use Rattle.conf_state.specs.States.{names_of, names_differ};
 
-use indexmap::IndexMap;
 use indexmap::map::Iter;
+use indexmap::{IndexMap, IndexSet};
 use std::alloc::{AllocError, Global};
 use std::marker::Model;
 use yaml_config::Config;
@@ -27,7 +30,7 @@ type Places = IndexMap<String, Option<Config>>;
 #[derive(Drop)]
 pub(crate) struct Configs {
     places: Places,
-    /// How many configurations were removed since the empty places were closed.
+    /// How many configurations were removed since the empty places were last closed for their number.
     removed: usize,
 }
 
@@ -103,40 +106,66 @@ impl Configs {
         ensures ok { OnOk result (self.new ≡ put_under name config self.old) }
         ensures unchanged { OnErr result (self.new ≡ self.old) }
     {
-        if let Some(old) = self.get_mut(&name) {
-            *old = config;
-            return Ok(());
-        }
-        self.push(name, config)
-    }
-
-    /// Puts a configuration under a new name, last. It fails only if memory runs out, and then leaves the
-    /// configurations as they were.
-    fn push(&mut self, name: String, config: Config) -> Result<(), AllocError>
-        requires { lookup (is_name (string_bytes name)) self.old ≡ None }
-        ensures ok { OnOk result (self.new ≡ put_under name config self.old) }
-        ensures unchanged { OnErr result (self.new ≡ self.old) }
-    {
-        // The name would go back to its empty place.
-        if self.places.contains_key(&name) {
-            close_empty(&mut self.places);
-            self.removed = 0;
-        }
-        self.places.insert(name, Some(config))?;
-        Ok(())
+        put_place(&mut self.places, name, config)
     }
 
     /// Removes the configuration under a name, if there is one. The others keep their order.
     pub fn remove(&mut self, name: &str)
         ensures { self.new ≡ cut_from name.now self.old }
     {
-        let Some(place) = self.places.get_mut(name) else {
-            return;
-        };
-        if place.take().is_none() {
-            return;
+        if empty_place(&mut self.places, name) {
+            self.removed = self.removed.saturating_add(1);
+            self.close_if_sparse();
         }
-        self.removed = self.removed.saturating_add(1);
+    }
+
+    /// Removes the configurations under some names, as [`Configs::remove`] does, and then puts others in, one after the
+    /// other, as [`Configs::put`] does.
+    ///
+    /// # Errors
+    /// `AllocError` if memory runs out. The configurations are then as they were.
+    pub fn update(&mut self, removed: &IndexSet<String>, put: Configs) -> Result<(), AllocError>
+        ensures ok { OnOk result (self.new ≡ put_each put (cut_each removed.now.keys self.old)) }
+        ensures unchanged { OnErr result (self.new ≡ self.old) }
+    {
+        let put = put.into_places();
+        self.places.reserve(put.len())?;
+        empty_places(&mut self.places, removed);
+        put_places(&mut self.places, put);
+        self.removed = self.removed.saturating_add(removed.len());
+        self.close_if_sparse();
+        Ok(())
+    }
+
+    /// Returns a copy. It fails only if memory runs out.
+    pub fn try_copy(&self, alloc: Global) -> Result<Configs, AllocError>
+        requires plain { ArePlain self.now }
+        requires distinct { names_differ (names_of (entries_of self.now)) ≡ true }
+        ensures same { IfOk result (λ copy. entries_of copy ≡ entries_of self.now) }
+        ensures plain { IfOk result ArePlain }
+    {
+        let mut copy = Configs {
+            places: IndexMap::with_capacity(alloc, self.places.len())?,
+            removed: 0,
+        };
+        for (name, config) in self.iter() {
+            copy.put(String::from_str(alloc, name)?, config.try_copy(alloc)?)?;
+        }
+        Ok(copy)
+    }
+
+    /// The places, some of which may be empty.
+    fn into_places(self) -> Places
+        ensures { present result.entries ≡ self }
+    {
+        let Configs { places, .. } = self;
+        places
+    }
+
+    /// Closes the empty places if half of the places, rounded down, are empty.
+    fn close_if_sparse(&mut self)
+        ensures { self.new ≡ self.old }
+    {
         if self.removed >= self.places.len() / 2 {
             close_empty(&mut self.places);
             self.places.shrink_to(2 * self.places.len());
@@ -145,10 +174,79 @@ impl Configs {
     }
 }
 
+/// Puts a configuration in the place of its name; last, if that place is empty or there is none. It fails only if memory
+/// runs out, and not where there is room to spare.
+fn put_place(places: &mut Places, name: String, config: Config) -> Result<(), AllocError>
+    ensures ok { OnOk result (present places.new.entries
+        ≡ put_under name config (present places.old.entries)) }
+    ensures unchanged { OnErr result (present places.new.entries ≡ present places.old.entries) }
+    ensures succeeds { 0 < spare places.old → IsOk result }
+    ensures room { spare places.old ≤ spare places.new + 1 }
+    ensures distinct { IsUnique string_eq places.new }
+{
+    // The name would go back to its empty place.
+    if has_empty_place(places, &name) {
+        close_empty(places);
+    }
+    places.insert(name, Some(config))?;
+    Ok(())
+}
+
+/// Whether the place of a name is there, and empty.
+fn has_empty_place(places: &Places, name: &str) -> bool
+    ensures { IsTrue result ↔ (lookup (is_name name.now) places.now.entries ≡ Some None) }
+{
+    match places.get(name) {
+        Some(place) => place.is_none(),
+        None => false,
+    }
+}
+
+/// Puts configurations in the places of their names, one after the other, as [`put_place`] does. There is room to spare
+/// for all of them.
+fn put_places(places: &mut Places, put: Places)
+    requires { length put.entries ≤ spare places.old }
+    ensures present { present places.new.entries
+        ≡ put_each (present put.entries) (present places.old.entries) }
+    ensures distinct { IsUnique string_eq places.old → IsUnique string_eq places.new }
+{
+    for (name, place) in put {
+        if let Some(config) = place {
+            // It can't fail, since there is room to spare.
+            let _ = put_place(places, name, config);
+        }
+    }
+}
+
+/// Empties the place of a name. Returns whether it had a configuration.
+fn empty_place(places: &mut Places, name: &str) -> bool
+    ensures present { present places.new.entries ≡ cut_from name.now (present places.old.entries) }
+    ensures room { spare places.old ≤ spare places.new }
+    ensures distinct { IsUnique string_eq places.new }
+{
+    match places.get_mut(name) {
+        Some(place) => place.take().is_some(),
+        None => false,
+    }
+}
+
+/// Empties the places of some names.
+fn empty_places(places: &mut Places, names: &IndexSet<String>)
+    ensures present { present places.new.entries
+        ≡ cut_each names.now.keys (present places.old.entries) }
+    ensures room { spare places.old ≤ spare places.new }
+    ensures distinct { IsUnique string_eq places.old → IsUnique string_eq places.new }
+{
+    for name in names {
+        empty_place(places, name);
+    }
+}
+
 /// Closes the empty places. The others keep their order.
 fn close_empty(places: &mut Places)
     ensures distinct { IsUnique string_eq places.new }
     ensures entries { places.new.entries ≡ filter (λ p. is_some p.1) places.old.entries }
+    ensures room { spare places.old ≤ spare places.new }
 {
     places.retain(
         |_name: &String, place: &mut Option<Config>| -> bool

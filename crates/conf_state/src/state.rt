@@ -10,35 +10,31 @@ ghost use Rattle.conf_state.specs.Kept.{entries_of, ArePlain, Appended, IsFit, I
 ghost use Rattle.conf_state.specs.Limits.{IsState};
 ghost use Rattle.conf_state.specs.States.{Entry, names_of, config_named, put_config, cut_config};
 ghost use Rattle.yaml_config.specs.Limits.{config_limits};
-ghost use Rattle.yaml_grammar.specs.Trees.{mapping};
-ghost use Rattle.yaml_grammar.specs.Style.{value_at};
+ghost use Rattle.yaml_config.specs.Changes.{Changes};
+ghost use Rattle.yaml_grammar.specs.Texts.{byte_len};
+ghost use Rattle.yaml_grammar.specs.Trees.{Tree as Meant, mapping};
+ghost use Rattle.yaml_grammar.specs.Style.{style_text, value_at};
 ghost use Rattle.conf_state.specs.BaseTexts.{members, base_length, entry_length, entries_length};
 ghost use Rattle.conf_state.specs.Steps.{and_then, next_state};
-ghost use Rattle.conf_state.specs.Edits.{configs_after_edit, configs_with_edit, IsPlan};
+ghost use Rattle.conf_state.specs.Drafts.{drafted, IsDraft};
+ghost use Rattle.conf_state.specs.Edits.{configs_after_edit};
 
 use crate::base::{BASE_LIMIT, base_length, entry_length, write_entry};
 use crate::configs::{Configs, Entries};
+use crate::draft::Draft;
 use crate::fault::StoreFault;
 use crate::name::good_name;
+use crate::planning::plan_edit;
 use crate::room::Room;
 use crate::steps::check_limits;
 use std::alloc::{AllocError, Global};
 use std::marker::Model;
 use tree_path::Path;
-use yaml_config::{Config, Edit as PathEdit, Limits};
+use yaml_config::{Change, Config, Edit as PathEdit};
 use yaml_writer::Sink;
 
 /// The indentation of a configuration in a base text: two more than that of its name.
 const ENTRY_INDENT: u64 = 4;
-
-/// How many bytes there are after an edit: of the configuration in the one style, and of all configurations in the base
-/// text. And the place of the last key of the edit's path.
-#[derive(Clone, Copy)]
-struct EditPlan {
-    config: u64,
-    entries: u64,
-    place: Option<usize>,
-}
 
 /// The configurations of a store by name, in order, and how many commands were accepted. The number of bytes that the
 /// configurations have in the base text is kept with them. Contracts see the list of configurations, with each name as
@@ -119,8 +115,9 @@ impl State {
 
     /// The configuration under a name; `None` if no configuration has the name.
     pub fn get(&self, name: &str) -> Option<&Config>
-        ensures { option_map (λ config. tree_of config.now) result
+        ensures found { option_map (λ config. tree_of config.now) result
             ≡ config_named self.now.configs (chars name.now) }
+        ensures limits { IsState self.now }
     {
         self.configs.get(name)
     }
@@ -132,6 +129,18 @@ impl State {
         Names {
             configs: self.configs.iter(),
         }
+    }
+
+    /// A copy: the same configurations in the same order, and the same count. It fails only if memory runs out.
+    pub fn try_copy(&self, alloc: Global) -> Result<State, AllocError>
+        ensures { IfOk result (λ copy. copy ≡ self.now) }
+    {
+        let configs = self.configs.try_copy(alloc)?;
+        Ok(State {
+            configs,
+            count: self.count,
+            entries: self.entries,
+        })
     }
 
     /// Puts a configuration under a name, if the store has room for it. A refusal changes nothing.
@@ -181,47 +190,29 @@ impl State {
             return Err(StoreFault::NoConfig);
         };
         let path = Path::parse(alloc, pointer)?;
-        let plan = self.plan_edit(config, &path, &edit)?;
-        self.check_room(plan.entries, room)?;
+        let plan = plan_edit(config, &path, &edit)?;
+        let entries = self.length_changed(plan.change);
+        self.check_room(entries, room)?;
         let config = self.configs.get_mut(name).unwrap();
-        edit.perform(alloc, config, &path, plan.place, plan.config)?;
-        self.entries = plan.entries;
+        edit.perform(alloc, config, &path, plan.place, plan.bytes)?;
+        self.entries = entries;
         self.count += 1;
         Ok(())
     }
 
-    /// The lengths after an edit of one of the configurations, if that then keeps its limits.
-    fn plan_edit(
-        &self,
-        config: &Config,
-        path: &Path,
-        edit: &PathEdit,
-    ) -> Result<EditPlan, StoreFault>
-        requires steps { 0 < length path.now }
-        requires there { (name : List ℕ)
-            × (config_named self.now.configs name ≡ Some (tree_of config.now)) }
-        ensures ok { IfOk result (λ plan. (name : List ℕ)
-            → config_named self.now.configs name ≡ Some (tree_of config.now)
-            → IsPlan self.now.configs name edit.now (tree_of config.now) path.now plan) }
-        ensures refused { IfErr result (λ fault. (fault ≡ StoreFault.OutOfMemory)
-            ⊎ ((name : List ℕ)
-            → configs_with_edit self.now.configs name edit.now (tree_of config.now) path.now
-            ≡ Err fault)) }
+    /// How many bytes all configurations have in the base text after a change of one of them, which then is within its
+    /// limits.
+    fn length_changed(&self, change: Change) -> u64
+        requires { (name : List ℕ) × (old new : Meant)
+            × (config_named self.now.configs name ≡ Some old)
+            × Changes change old new
+            × (byte_len (style_text new) ≤ config_limits.style) }
+        ensures { (name : List ℕ) (old new : Meant)
+            → config_named self.now.configs name ≡ Some old
+            → Changes change old new
+            → result ≡ entries_length (put_config self.now.configs name new) }
     {
-        let entries = self.entries_length();
-        let plan = edit.plan(config, path)?;
-        if !edit.keeps_depth(path) {
-            return Err(StoreFault::TooDeep);
-        }
-        let bytes = plan.change.length_after(config.style_length(), 0);
-        if bytes > u128::from(Limits::CONFIGURATION.style) {
-            return Err(StoreFault::ConfigLarge);
-        }
-        Ok(EditPlan {
-            config: bytes as u64,
-            entries: plan.change.length_after(entries, ENTRY_INDENT) as u64,
-            place: plan.place,
-        })
+        change.length_after(self.entries_length(), ENTRY_INDENT) as u64
     }
 
     /// Removes the configuration under a name, if there is one. A refusal changes nothing.
@@ -236,6 +227,24 @@ impl State {
         let entries = self.length_without(name);
         self.check_room(entries, room)?;
         self.configs.remove(name);
+        self.entries = entries;
+        self.count += 1;
+        Ok(())
+    }
+
+    /// Replaces the configurations by those that a draft makes of them. A refusal changes nothing.
+    pub(crate) fn take(&mut self, draft: Draft, room: Room) -> Result<(), StoreFault>
+        requires { IsDraft draft }
+        ensures ok { OnOk result (next_state self.old room (drafted self.old.configs draft)
+            ≡ Ok self.new) }
+        ensures refused { IfErr result (λ fault. (fault ≡ StoreFault.OutOfMemory)
+            ⊎ (next_state self.old room (drafted self.old.configs draft) ≡ Err fault)) }
+        ensures unchanged { OnErr result (self.new ≡ self.old) }
+    {
+        let entries = self.length_after(&draft);
+        self.check_room(entries, room)?;
+        let Draft { removed, touched } = draft;
+        self.configs.update(&removed, touched)?;
         self.entries = entries;
         self.count += 1;
         Ok(())
@@ -266,7 +275,7 @@ impl State {
     }
 
     /// How many bytes all configurations have in the base text.
-    fn entries_length(&self) -> u64
+    pub(crate) fn entries_length(&self) -> u64
         ensures exact { result ≡ entries_length self.now.configs }
         ensures short { result ≤ BASE_LIMIT }
         ensures kept { IsState self.now }
@@ -298,7 +307,7 @@ impl State {
     }
 
     /// How many bytes the configuration under a name has in the base text; 0 if there is none.
-    fn length_of(&self, name: &str) -> u64
+    pub(crate) fn length_of(&self, name: &str) -> u64
         ensures { result + entries_length (cut_config self.now.configs (chars name.now))
             ≡ entries_length self.now.configs }
     {

@@ -1,16 +1,16 @@
 // One command on a state.
-ghost use Rattle.std.specs.Prelude.{◌≡◌, ◌⊎◌, Ok, Err, OnOk, OnErr, IfErr, true, map};
+ghost use Rattle.std.specs.Prelude.{◌≡◌, ◌⊎◌, Ok, Err, IfOk, OnOk, OnErr, IfErr, true, map};
 ghost use Rattle.std.specs.Str.{chars};
 ghost use Rattle.yaml_grammar.specs.Reads.{Good};
 ghost use Rattle.yaml_data.specs.Seen.{tree_of};
+ghost use Rattle.conf_state.specs.Drafts.{drafted, IsDraft};
 ghost use Rattle.conf_state.specs.Names.{good_name};
 ghost use Rattle.conf_state.specs.Commands.{command_of, edit_of, single, batch, text_of, import_as, set_at, delete_at};
 ghost use Rattle.yaml_config.specs.Limits.{config_limits};
-ghost use Rattle.conf_state.specs.States.{Contents};
-ghost use Rattle.conf_state.specs.declared.room.Room.{Room};
-ghost use Rattle.conf_state.specs.Steps.{and_then, checked_tree, configs_after, next_state, step};
+ghost use Rattle.conf_state.specs.Steps.{and_then, all_edited, checked_tree, configs_after, next_state, step};
 
 use crate::command::{Command, Edit};
+use crate::draft::Draft;
 use crate::fault::StoreFault;
 use crate::name::good_name;
 use crate::room::Room;
@@ -48,20 +48,46 @@ pub fn step(
         Command::Delete { name, path } => {
             step_edit(alloc, state, Edit::Delete { name, path }, room)
         }
-        Command::Batch { edits } => Err(batch_fault(&edits)),
+        Command::Batch { edits } => step_batch(alloc, state, edits, room),
     }
 }
 
-/// Batches are not made yet.
-fn batch_fault(edits: &Vec<Edit>) -> StoreFault
-    ensures { (result ≡ StoreFault.OutOfMemory)
-        ⊎ ((s : Contents) (room : Room)
-        → step s (batch (map edit_of edits.now.items)) room ≡ Err result) }
+/// Performs a batch. If it has one edit alone, that is made in place.
+fn step_batch(
+    alloc: Global,
+    state: &mut State,
+    mut edits: Vec<Edit>,
+    room: Room,
+) -> Result<(), StoreFault>
+    ensures ok { OnOk result (step state.old (batch (map edit_of edits.items)) room
+        ≡ Ok state.new) }
+    ensures refused { IfErr result (λ fault. (fault ≡ StoreFault.OutOfMemory)
+        ⊎ (step state.old (batch (map edit_of edits.items)) room ≡ Err fault)) }
+    ensures unchanged { OnErr result (state.new ≡ state.old) }
 {
-    if edits.is_empty() {
-        return StoreFault::EmptyBatch;
+    match edits.len() {
+        0 => Err(StoreFault::EmptyBatch),
+        1 => step_edit(alloc, state, edits.pop().unwrap(), room),
+        _ => {
+            let draft = draft_edits(alloc, state, edits)?;
+            state.take(draft, room)
+        }
     }
-    StoreFault::OutOfMemory
+}
+
+/// What edits make of a state, one after the other.
+fn draft_edits(alloc: Global, state: &State, edits: Vec<Edit>) -> Result<Draft, StoreFault>
+    ensures draft { IfOk result IsDraft }
+    ensures ok { IfOk result (λ draft. all_edited state.now.configs (map edit_of edits.items)
+        ≡ Ok (drafted state.now.configs draft)) }
+    ensures refused { IfErr result (λ fault. (fault ≡ StoreFault.OutOfMemory)
+        ⊎ (all_edited state.now.configs (map edit_of edits.items) ≡ Err fault)) }
+{
+    let mut draft = Draft::new(alloc);
+    for edit in edits {
+        draft.perform(alloc, state, edit)?;
+    }
+    Ok(draft)
 }
 
 /// Performs the command that is this edit alone, in place.

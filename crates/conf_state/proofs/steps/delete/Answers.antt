@@ -26,18 +26,18 @@ returns-then-not-is_empty-clause-refused c =
 pub returns-then-is_none-clause-refused : goal.returns-then-is_none-clause-refused
 returns-then-is_none-clause-refused c =
     let none = mapped_none (λ config. tree_of config.now) c.get.result c.is_none.result c.is_none.ensures c.if-is_none.true in
-    inr (delete-nothing c.args.state.now c.args.room (chars c.args.name.now) (chars c.args.path.now) (sym c.get.ensures ∙ none))
+    inr (delete-nothing c.args.state.now c.args.room (chars c.args.name.now) (chars c.args.path.now) (sym c.get.ensures.found ∙ none))
 
 pub returns-clause-ok : goal.returns-clause-ok
 returns-clause-ok c =
     let none = empty-pointer c.args.path.now (no_bytes (length c.args.path.now) c.is_empty.result c.is_empty.ensures c.if-not-is_empty.false) in
     let some = mapped_some (λ config. tree_of config.now) c.get.result c.is_none.result c.is_none.ensures c.if-is_none.false in
-    let whole = delete-whole c.args.state.now c.args.room (chars c.args.name.now) (chars c.args.path.now) none (ap is_some (sym c.get.ensures) ∙ some) in
+    let whole = delete-whole c.args.state.now c.args.room (chars c.args.name.now) (chars c.args.path.now) none (ap is_some (sym c.get.ensures.found) ∙ some) in
     on_ok_weaker c.take_out.result (λ is. whole ∙ is) c.take_out.ensures.ok
 
 pub returns-clause-refused : goal.returns-clause-refused
 returns-clause-refused c =
     let none = empty-pointer c.args.path.now (no_bytes (length c.args.path.now) c.is_empty.result c.is_empty.ensures c.if-not-is_empty.false) in
     let some = mapped_some (λ config. tree_of config.now) c.get.result c.is_none.result c.is_none.ensures c.if-is_none.false in
-    let whole = delete-whole c.args.state.now c.args.room (chars c.args.name.now) (chars c.args.path.now) none (ap is_some (sym c.get.ensures) ∙ some) in
+    let whole = delete-whole c.args.state.now c.args.room (chars c.args.name.now) (chars c.args.path.now) none (ap is_some (sym c.get.ensures.found) ∙ some) in
     IfErr-weaker c.take_out.result _ _ (λ fault is. inr (whole ∙ is)) c.take_out.ensures.refused

@@ -32,7 +32,7 @@ returns-then-is_none-clause-refused c =
     let s = c.args.state.now in
     let none = mapped_none (λ config. tree_of config.now) c.get.result c.is_none.result c.is_none.ensures c.if-is_none.true in
     let absent : config_named s.configs (text_of c.args.name) ≡ None =
-    ap (λ bs. config_named s.configs (chars bs)) (sym c.deref-2.ensures) ∙ sym c.get.ensures ∙ none in
+    ap (λ bs. config_named s.configs (chars bs)) (sym c.deref-2.ensures) ∙ sym c.get.ensures.found ∙ none in
     inr (set-nothing s c.args.room (text_of c.args.name) (chars c.args.path.now) (tree_of c.args.value) absent)
 
 pub returns-clause-ok : goal.returns-clause-ok
@@ -41,7 +41,7 @@ returns-clause-ok c =
     let none = empty-pointer c.args.path.now (no_bytes (length c.args.path.now) c.is_empty.result c.is_empty.ensures c.if-not-is_empty.false) in
     let some = mapped_some (λ config. tree_of config.now) c.get.result c.is_none.result c.is_none.ensures c.if-is_none.false in
     let there : is_some (config_named s.configs (text_of c.args.name)) ≡ true =
-    ap (λ bs. is_some (config_named s.configs (chars bs))) (sym c.deref-2.ensures) ∙ ap is_some (sym c.get.ensures) ∙ some in
+    ap (λ bs. is_some (config_named s.configs (chars bs))) (sym c.deref-2.ensures) ∙ ap is_some (sym c.get.ensures.found) ∙ some in
     let whole = set-whole s c.args.room (text_of c.args.name) (chars c.args.path.now) (tree_of c.args.value) none there in
     on_ok_weaker c.import.result (λ is. whole ∙ is) c.import.ensures.ok
 
@@ -51,7 +51,7 @@ returns-clause-refused c =
     let none = empty-pointer c.args.path.now (no_bytes (length c.args.path.now) c.is_empty.result c.is_empty.ensures c.if-not-is_empty.false) in
     let some = mapped_some (λ config. tree_of config.now) c.get.result c.is_none.result c.is_none.ensures c.if-is_none.false in
     let there : is_some (config_named s.configs (text_of c.args.name)) ≡ true =
-    ap (λ bs. is_some (config_named s.configs (chars bs))) (sym c.deref-2.ensures) ∙ ap is_some (sym c.get.ensures) ∙ some in
+    ap (λ bs. is_some (config_named s.configs (chars bs))) (sym c.deref-2.ensures) ∙ ap is_some (sym c.get.ensures.found) ∙ some in
     let whole = set-whole s c.args.room (text_of c.args.name) (chars c.args.path.now) (tree_of c.args.value) none there in
     subst (λ r. IfErr c.import.result (λ fault. (fault ≡ OutOfMemory) ⊎ (r ≡ Err fault))) (sym whole) c.import.ensures.refused
 

@@ -12,9 +12,10 @@ use Rattle.conf_state.specs.Edits.{configs_with_edit}
 use Rattle.conf_state.specs.Kept.{entries_of, ArePlain}
 use Rattle.conf_state.specs.States.{Entry, config_named, put_config}
 use Rattle.conf_state.specs.Steps.{and_then, next_state}
-use Rattle.conf_state.proofs.EditLemmas.{found-named, same_value, same_edit, parsed-Ok, parsed-Err, pointer-steps, edited-unread, edited-refused, tree_after_edit-nothing, edited-at, tree_after_edit-new}
+use Rattle.conf_state.proofs.EditLemmas.{named-good, found-named, same_value, same_edit, parsed-Ok, parsed-Err, pointer-steps, edited-unread, edited-refused, tree_after_edit-nothing, edited-at, tree_after_edit-new}
 use Rattle.conf_state.proofs.EntryLemmas.{lookup-named, set_value-named, plain_set_value, put_config-same}
 use Rattle.conf_state.proofs.PlaceLemmas.{is_some-copied}
+use Rattle.conf_state.proofs.PlanningLemmas.{with-edit-refused, or_so}
 use Rattle.conf_state.proofs.StateLemmas.{kept_put, kept_same}
 use Rattle.conf_state.proofs.state.State.edit.Goals as goal
 use Rattle.conf_state.proofs.state.State.edit.Goals.{In-Some, After-unwrap-config, After-perform, In_ok-perform}
@@ -49,8 +50,15 @@ pub plan_edit-requires-clause-steps : goal.plan_edit-requires-clause-steps
 plan_edit-requires-clause-steps c =
     pointer-steps c.args.pointer.now c.in_ok-path.path c.utf8.pointer c.requires.steps c.in_ok-path.ensures.ok
 
-pub plan_edit-requires-clause-there : goal.plan_edit-requires-clause-there
-plan_edit-requires-clause-there c = (chars c.args.name.now, seen (goal.at.plan_edit-requires-clause-there c).In-Some)
+pub plan_edit-requires-clause-within : goal.plan_edit-requires-clause-within
+plan_edit-requires-clause-within c =
+    named-good (entries_of c.self.inside.configs) (chars c.args.name.now) (tree_of c.in-Some.config.now) c.self.invariant.state.configs
+    (there (goal.at.plan_edit-requires-clause-within c).In-Some)
+
+pub length_changed-entries-requires : goal.length_changed-entries-requires
+length_changed-entries-requires c =
+    let l = c.in_ok-plan.ensures.ok in
+    (chars c.args.name.now, tree_of c.in-Some.config.now, l.new, seen (goal.at.length_changed-entries-requires c).In-Some, l.changes, l.long)
 
 pub returns-in_err-plan-clause-refused : goal.returns-in_err-plan-clause-refused
 returns-in_err-plan-clause-refused c =
@@ -58,7 +66,9 @@ returns-in_err-plan-clause-refused c =
     let p = err_from_is_err_and c.from_residual-in_err-plan.result c.from_residual-in_err-plan.ensures.1 in
     rw (p.1, p.2)
     (edited-refused c.args.self.now.configs (chars c.args.name.now) c.args.edit (chars c.args.pointer.now) (next_state c.args.self.now c.args.room) (tree_of c.in-Some.config.now)
-    c.in_ok-path.path c.in_err-plan.field-0.0 (seen (goal.at.returns-in_err-plan-clause-refused c).In-Some) parsed c.in_err-plan.ensures.refused)
+    c.in_ok-path.path c.in_err-plan.field-0.0 (seen (goal.at.returns-in_err-plan-clause-refused c).In-Some) parsed
+    (or_so (λ is n. with-edit-refused c.args.self.now.configs n c.args.edit (tree_of c.in-Some.config.now) c.in_ok-path.path c.in_err-plan.field-0.0 is)
+    c.in_err-plan.ensures.refused))
 
 pub returns-in_err-check_room-clause-refused : goal.returns-in_err-check_room-clause-refused
 returns-in_err-check_room-clause-refused c =
@@ -66,13 +76,14 @@ returns-in_err-check_room-clause-refused c =
     let old = tree_of c.in-Some.config.now in
     let found = seen (goal.at.returns-in_err-check_room-clause-refused c).In-Some in
     let parsed = parsed-Ok (chars c.args.pointer.now) c.in_ok-path.path c.in_ok-path.ensures.met in
-    let l = c.in_ok-plan.ensures.ok name found in
+    let l = c.in_ok-plan.ensures.ok in
+    let entries = c.length_changed-entries.ensures name old l.new found l.changes in
     let made = edited-at c.args.self.now.configs name c.args.edit (chars c.args.pointer.now) old c.in_ok-path.path found parsed
     ∙ tree_after_edit-new c.args.self.now.configs name c.args.edit c.in_ok-path.path old l.new l.made l.deep l.long in
     let p = err_from_is_err_and c.from_residual-in_err-check_room.result c.from_residual-in_err-check_room.ensures.1 in
     rw (p.1, p.2)
     (inr (ap (λ r. and_then r (next_state c.args.self.now c.args.room)) made
-    ∙ c.in_err-check_room.ensures.refused (put_config c.args.self.now.configs name l.new) (omega (arith, l.entries))))
+    ∙ c.in_err-check_room.ensures.refused (put_config c.args.self.now.configs name l.new) (omega (arith, entries))))
 
 -- the configuration that is changed in its place, which is the one that the edit was planned for
 held : (c : After-unwrap-config) → lookup (is_name c.args.name.now) c.self.inside.configs ≡ Some c.unwrap-config.result.now
@@ -88,13 +99,13 @@ perform-requires-clause-steps c =
 pub perform-requires-clause-place : goal.perform-requires-clause-place
 perform-requires-clause-place c =
     let at = goal.at.perform-requires-clause-place c in
-    (c.in_ok-plan.ensures.ok (chars c.args.name.now) (seen at.In-Some)).place ∙ ap (λ t. last_key (tree_of t) c.in_ok-path.path) (same at.After-unwrap-config)
+    c.in_ok-plan.ensures.ok.place ∙ ap (λ t. last_key (tree_of t) c.in_ok-path.path) (same at.After-unwrap-config)
 
 pub perform-requires-clause-leaves : goal.perform-requires-clause-leaves
 perform-requires-clause-leaves c =
     let at = goal.at.perform-requires-clause-leaves c in
-    let l = c.in_ok-plan.ensures.ok (chars c.args.name.now) (seen at.In-Some) in
-    (l.new, subst (λ t. tree_after_edit c.args.edit (tree_of t) c.in_ok-path.path ≡ Ok l.new) (same at.After-unwrap-config) l.made, l.deep, l.long, l.config)
+    let l = c.in_ok-plan.ensures.ok in
+    (l.new, subst (λ t. tree_after_edit c.args.edit (tree_of t) c.in_ok-path.path ≡ Ok l.new) (same at.After-unwrap-config) l.made, l.deep, l.long, l.bytes)
 
 -- the configurations once the changed one is back in its place
 record IsPlaced (c : After-perform) : Type 0 where
@@ -142,7 +153,7 @@ edited c = put_config c.args.self.now.configs (chars c.args.name.now) (tree_of c
 -- what holds once the edit is made: it makes what was planned, and the store has room for it
 record IsMade (c : In_ok-perform) : Type 0 where
   made : configs_with_edit c.args.self.now.configs (chars c.args.name.now) c.args.edit (tree_of c.in-Some.config.now) c.in_ok-path.path ≡ Ok (edited c)
-  counts : c.in_ok-plan.plan.entries ≡ entries_length (edited c)
+  counts : c.length_changed-entries.result ≡ entries_length (edited c)
   room : next_state c.args.self.now c.args.room (edited c) ≡ Ok (record { configs = edited c; count = c.args.self.now.count + 1 })
 
 is_made : (c : In_ok-perform) → config_named c.args.self.now.configs (chars c.args.name.now) ≡ Some (tree_of c.in-Some.config.now)
@@ -150,10 +161,11 @@ is_made : (c : In_ok-perform) → config_named c.args.self.now.configs (chars c.
 is_made c found one =
     let name = chars c.args.name.now in
     let old = tree_of c.in-Some.config.now in
-    let l = c.in_ok-plan.ensures.ok name found in
+    let l = c.in_ok-plan.ensures.ok in
+    let entries = c.length_changed-entries.ensures name old l.new found l.changes in
     let made = subst (λ t. tree_after_edit c.args.edit (tree_of t) c.in_ok-path.path ≡ Ok (tree_of c.perform.new.config)) (sym one) c.in_ok-perform.ensures.ok in
     let new = same_edit (tree_after_edit c.args.edit old c.in_ok-path.path) l.new (tree_of c.perform.new.config) l.made made in
-    let counts = l.entries ∙ ap (λ u. entries_length (put_config c.args.self.now.configs name u)) new in
+    let counts = entries ∙ ap (λ u. entries_length (put_config c.args.self.now.configs name u)) new in
     record {
       made = tree_after_edit-new c.args.self.now.configs name c.args.edit c.in_ok-path.path old l.new l.made l.deep l.long
           ∙ ap (λ u. Ok (put_config c.args.self.now.configs name u)) new;
@@ -173,7 +185,7 @@ invariant_of-self-2 c =
     name t c.requires.named c.in_ok-perform.ensures.within c.args.room _
     (subst (λ s. next_state s c.args.room (put_config s.configs name t) ≡ Ok (record { configs = put_config s.configs name t; count = s.count + 1 }))
     (sym c.self.view_is) edit.room)
-    _ c.in_ok-plan.plan.entries placed.plain placed.entries
+    _ c.length_changed-entries.result placed.plain placed.entries
     (edit.counts ∙ ap (λ s. entries_length (put_config s.configs name t)) (sym c.self.view_is))
 
 pub returns-clause-ok : goal.returns-clause-ok

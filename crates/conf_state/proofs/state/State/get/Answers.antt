@@ -1,7 +1,8 @@
-use Rattle.std.proofs.Common.{Option, Some, None, Bor, option_map, option_copied, ◌≡◌, refl, ap, ◌∙◌}
+use Rattle.std.proofs.Common.{Option, Some, None, Bor, option_map, option_copied, ◌≡◌, refl, ap, subst, ◌∙◌}
 use Rattle.std.specs.Str.{chars}
 use Rattle.yaml_data.specs.Seen.{tree_of}
 use Rattle.yaml_data.specs.declared.tree.Tree.{Tree}
+use Rattle.conf_state.specs.Limits.{IsState}
 use Rattle.conf_state.specs.States.{config_named}
 use Rattle.conf_state.proofs.EntryLemmas.{lookup-named}
 use Rattle.conf_state.proofs.state.State.get.Goals as goal
@@ -10,8 +11,11 @@ seen : (found : Option (Bor Tree)) → option_map (λ config. tree_of config.now
 seen (Some config) = refl
 seen None = refl
 
-pub returns : goal.returns
-returns c =
+pub returns-clause-found : goal.returns-clause-found
+returns-clause-found c =
     seen c.get.result ∙ ap (option_map tree_of) c.get.ensures
     ∙ lookup-named c.args.name.now c.utf8.name c.self.inside.configs c.self.invariant.plain
     ∙ ap (λ s. config_named s.configs (chars c.args.name.now)) c.self.view_is
+
+pub returns-clause-limits : goal.returns-clause-limits
+returns-clause-limits c = subst IsState c.self.view_is c.self.invariant.state

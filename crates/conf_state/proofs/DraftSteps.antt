@@ -1,0 +1,126 @@
+-- What a put and a removal make of a draft.
+use Rattle.std.proofs.Common.{◌≡◌, ℕ, Bool, true, false, ◌||◌, if◌then◌else◌, List, [], ◌∷◌, ◌++◌, String, Global, Option, Some, None, option_map, IfSome, Bor, bytes_eq, string_bytes, encode_utf8_all, IsUtf8, refl, sym, ap, subst, ◌∙◌}
+use Rattle.std.proofs.lemmas.Bool.Decides.{same_from_decides}
+use Rattle.std.proofs.lemmas.Slice.Eq.{bytes_eq-Decides}
+use Rattle.std.proofs.lemmas.Str.{encodes-chars, IsUtf8-string_bytes}
+use Rattle.std.specs.Bool.{Decides}
+use Rattle.std.specs.List.{list_any}
+use Rattle.std.specs.Str.{chars}
+use Rattle.std.specs.String.{string_eq}
+use Rattle.indexmap.specs.IndexSet.{insert_key}
+use Rattle.yaml_grammar.specs.Reads.{Good}
+use Rattle.yaml_grammar.specs.Texts.{same_text}
+use Rattle.yaml_grammar.specs.Trees as grammar
+use Rattle.yaml_data.specs.Seen.{tree_of}
+use Rattle.yaml_data.specs.declared.tree.Tree.{Tree}
+use Rattle.yaml_data.proofs.CharacterLemmas.{same_text-Decides}
+use Rattle.yaml_config.specs.Limits.{config_limits}
+use Rattle.conf_state.specs.Commands.{text_of}
+use Rattle.conf_state.specs.Configs.{is_name, cut_from}
+use Rattle.conf_state.specs.Drafts.{cut_all, put_all, texts_of, drafted, IsDraft}
+use Rattle.conf_state.specs.Kept.{entries_of, ArePlain}
+use Rattle.conf_state.specs.Limits.{AreConfigs}
+use Rattle.conf_state.specs.Names.{good_name}
+use Rattle.conf_state.specs.States.{Entry, names_of, put_config, cut_config, has_name, names_differ}
+use Rattle.conf_state.specs.declared.draft.Draft.{Draft}
+use Rattle.conf_state.proofs.DraftLemmas.{put_all-put, cut-put_all, cut-none, cut_all-append, named-cut_all-gone, names_differ-push}
+use Rattle.conf_state.proofs.EntryLemmas.{cut_from-named, plain_cut_from}
+use Rattle.conf_state.proofs.LimitLemmas.{names_differ-put, names_differ-cut, AreConfigs-put, AreConfigs-cut}
+
+-- ---- removed names
+
+same_chars : (q k : List ℕ) → IsUtf8 q → IsUtf8 k → Decides (same_text (chars q) (chars k)) (q ≡ k)
+same_chars q k utf8 other =
+    let same = same_text-Decides (chars q) (chars k) in (
+      λ e. sym (encodes-chars q utf8) ∙ ap encode_utf8_all (same.0 e) ∙ encodes-chars k other,
+      λ e. same.1 (ap chars e),
+    )
+
+same_key : (q k : List ℕ) → IsUtf8 q → IsUtf8 k → bytes_eq q k ≡ same_text (chars q) (chars k)
+same_key q k utf8 other = same_from_decides _ _ (bytes_eq-Decides q k) (same_chars q k utf8 other)
+
+-- the set has a text if it is among the characters of the set's strings
+pub listed : (q : List ℕ) → IsUtf8 q → (keys : List (String Global)) → list_any (is_name q) keys ≡ has_name (chars q) (texts_of keys)
+listed q utf8 [] = refl
+listed q utf8 (key ∷ keys) =
+    ap (λ b. b || list_any (is_name q) keys) (same_key q (string_bytes key) utf8 (IsUtf8-string_bytes key))
+    ∙ ap (λ b. same_text (chars q) (text_of key) || b) (listed q utf8 keys)
+
+texts_of-append : (keys : List (String Global)) (key : String Global) → texts_of (keys ++ key ∷ []) ≡ texts_of keys ++ text_of key ∷ []
+texts_of-append [] key = refl
+texts_of-append (k ∷ keys) key = ap (λ ns. text_of k ∷ ns) (texts_of-append keys key)
+
+-- one more name that is removed
+cut_all-insert : (es : List Entry) (keys : List (String Global)) (name : String Global) → names_differ (names_of es) ≡ true
+    → cut_all es (texts_of (insert_key string_eq keys name)) ≡ cut_config (cut_all es (texts_of keys)) (text_of name)
+cut_all-insert es keys name differ = by (list_any (is_name (string_bytes name)) keys) refl
+  where
+    by : (b : Bool) → list_any (is_name (string_bytes name)) keys ≡ b
+        → cut_all es (texts_of (if b then keys else keys ++ name ∷ [])) ≡ cut_config (cut_all es (texts_of keys)) (text_of name)
+    by true is =
+        let among = sym (listed (string_bytes name) (IsUtf8-string_bytes name) keys) ∙ is in
+        sym (cut-none (cut_all es (texts_of keys)) (text_of name) (named-cut_all-gone (texts_of keys) es (text_of name) among differ))
+    by false is = ap (cut_all es) (texts_of-append keys name) ∙ cut_all-append (texts_of keys) es (text_of name)
+
+differ-insert : (keys : List (String Global)) (name : String Global) → names_differ (texts_of keys) ≡ true
+    → names_differ (texts_of (insert_key string_eq keys name)) ≡ true
+differ-insert keys name differ = by (list_any (is_name (string_bytes name)) keys) refl
+  where
+    by : (b : Bool) → list_any (is_name (string_bytes name)) keys ≡ b → names_differ (texts_of (if b then keys else keys ++ name ∷ [])) ≡ true
+    by true is = differ
+    by false is =
+        let other = sym (listed (string_bytes name) (IsUtf8-string_bytes name) keys) ∙ is in
+        ap names_differ (texts_of-append keys name) ∙ names_differ-push (texts_of keys) (text_of name) differ other
+
+-- ---- drafts
+
+-- a tree is put under a name
+pub put-made : (old : Draft) (touched : List (String Global × Tree)) (name : List ℕ) (t : grammar.Tree) → IsDraft old
+    → entries_of touched ≡ put_config (entries_of old.touched) name t
+    → (es : List Entry) → drafted es (record { removed = old.removed; touched = touched }) ≡ put_config (drafted es old) name t
+put-made old touched name t kept seen es =
+    ap (put_all (cut_all es (texts_of old.removed.keys))) seen
+    ∙ put_all-put (entries_of old.touched) (cut_all es (texts_of old.removed.keys)) name t kept.distinct
+
+pub put-kept : (old : Draft) (touched : List (String Global × Tree)) (name : List ℕ) (t : grammar.Tree) → IsDraft old
+    → entries_of touched ≡ put_config (entries_of old.touched) name t → ArePlain touched → good_name name ≡ true → Good t config_limits
+    → IsDraft (record { removed = old.removed; touched = touched })
+put-kept old touched name t kept seen plain named good = record {
+  plain = plain;
+  configs = subst AreConfigs (sym seen) (AreConfigs-put (entries_of old.touched) name t named good kept.configs);
+  distinct = ap (λ es. names_differ (names_of es)) seen ∙ names_differ-put (entries_of old.touched) name t kept.distinct;
+  removed = kept.removed;
+}
+
+-- the new draft is the old one with the configuration under a name removed
+pub record IsCut (old new : Draft) (name : List ℕ) : Type 0 where
+  pub draft : IsDraft new
+  pub made : (es : List Entry) → names_differ (names_of es) ≡ true → drafted es new ≡ cut_config (drafted es old) name
+
+pub is_cut : (old new : Draft) (name : String Global) → IsDraft old → new.touched ≡ cut_from (string_bytes name) old.touched
+    → new.removed.keys ≡ insert_key string_eq old.removed.keys name → IsCut old new (text_of name)
+is_cut old new name kept cut keys =
+    let touched = entries_of old.touched in
+    let seen : entries_of new.touched ≡ cut_config touched (text_of name) =
+    ap entries_of cut ∙ cut_from-named (string_bytes name) (IsUtf8-string_bytes name) old.touched kept.plain in
+    record {
+      draft = record {
+        plain = subst ArePlain (sym cut) (plain_cut_from (string_bytes name) old.touched kept.plain);
+        configs = subst AreConfigs (sym seen) (AreConfigs-cut touched (text_of name) kept.configs);
+        distinct = ap (λ es. names_differ (names_of es)) seen ∙ names_differ-cut touched (text_of name) kept.distinct;
+        removed = ap (λ ks. names_differ (texts_of ks)) keys ∙ differ-insert old.removed.keys name kept.removed;
+      };
+      made = λ es differ.
+          ap (λ ks. put_all (cut_all es (texts_of ks)) (entries_of new.touched)) keys
+          ∙ ap (λ b. put_all b (entries_of new.touched)) (cut_all-insert es old.removed.keys name differ)
+          ∙ ap (put_all (cut_config (cut_all es (texts_of old.removed.keys)) (text_of name))) seen
+          ∙ sym (cut-put_all touched (cut_all es (texts_of old.removed.keys)) (text_of name) kept.distinct);
+    }
+
+-- ---- options
+
+-- what holds of a tree that is found holds of the configuration that has it
+pub found-holds : (P : grammar.Tree → Type 0) (result : Option (Bor Tree)) (o : Option grammar.Tree) → option_map (λ config. tree_of config.now) result ≡ o
+    → ((t : grammar.Tree) → o ≡ Some t → P t) → IfSome result (λ config. P (tree_of config.now))
+found-holds P None o is so = tt
+found-holds P (Some config) o is so = so (tree_of config.now) (sym is)

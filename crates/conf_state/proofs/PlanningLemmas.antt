@@ -1,0 +1,88 @@
+-- An edit inside one configuration, as an edit of all configurations.
+use Rattle.std.proofs.Common.{◌≡◌, ◌⊎◌, inl, inr, ℕ, ◌<◌, ◌≤◌, nat_le, true, false, List, [], Option, Some, None, is_some, Result, Ok, Err, refl, ap, ◌∙◌, arith}
+use Rattle.std.proofs.lemmas.Bool.Decides.{nat_tests}
+use Rattle.yaml_grammar.specs.Style.{style_text}
+use Rattle.yaml_grammar.specs.Texts.{byte_len}
+use Rattle.yaml_grammar.specs.Trees.{Tree, depth}
+use Rattle.yaml_config.specs.Edits.{tree_after_edit}
+use Rattle.yaml_config.specs.Limits.{config_limits}
+use Rattle.yaml_config.specs.declared.edit.Edit.{Edit as PathEdit}
+use Rattle.json_pointer.specs.Pointers.{path_of}
+use Rattle.json_pointer.specs.declared.fault.PathFault.{PathFault}
+use Rattle.conf_state.specs.Commands.{import_as, set_at, delete_at}
+use Rattle.conf_state.specs.Edits.{configs_with_edit, configs_after_edit, checked_edit, edited_at}
+use Rattle.conf_state.specs.States.{Entry, config_named, put_config, cut_config}
+use Rattle.conf_state.specs.Steps.{and_then, found, by_path, checked_tree, with_checked_config, configs_after}
+use Rattle.conf_state.specs.declared.fault.StoreFault.{StoreFault}
+use Rattle.conf_state.specs.declared.fault.StoreFault.TheVariants.{TooDeep, ConfigLarge}
+use Rattle.conf_state.proofs.StepLemmas.{checked_tree-deep, checked_tree-large}
+
+-- ---- the limits, in their order
+
+module _ (edit : PathEdit) (path : List (List ℕ)) (old new : Tree) (made : tree_after_edit edit old path ≡ Ok new) where
+  pub checked_edit-deep : nat_le (depth new) config_limits.depth ≡ false → checked_edit edit old path ≡ Err TooDeep
+  checked_edit-deep deep =
+      let more : config_limits.depth < depth new = grind (arith, nat_tests, deep) in
+      ap (λ r. and_then (by_path r) checked_tree) made ∙ checked_tree-deep new more
+
+  pub checked_edit-large : depth new ≤ config_limits.depth → config_limits.style < byte_len (style_text new)
+      → checked_edit edit old path ≡ Err ConfigLarge
+  checked_edit-large deep long = ap (λ r. and_then (by_path r) checked_tree) made ∙ checked_tree-large new deep long
+
+-- ---- one configuration among others
+
+-- an edit at a path puts the edited configuration there
+with-edit-put : (es : List Entry) (name : List ℕ) (edit : PathEdit) (t : Tree) (path : List (List ℕ))
+    → configs_with_edit es name edit t path ≡ and_then (checked_edit edit t path) (λ u. Ok (put_config es name u))
+with-edit-put es name edit t path = by (tree_after_edit edit t path)
+  where
+    by : (r : Result Tree PathFault) → and_then (by_path r) (with_checked_config es name) ≡ and_then (and_then (by_path r) checked_tree) (λ u. Ok (put_config es name u))
+    by (Ok u) = refl
+    by (Err fault) = refl
+
+pub with-edit-refused : (es : List Entry) (name : List ℕ) (edit : PathEdit) (t : Tree) (path : List (List ℕ)) (fault : StoreFault)
+    → checked_edit edit t path ≡ Err fault → configs_with_edit es name edit t path ≡ Err fault
+with-edit-refused es name edit t path fault refused =
+    with-edit-put es name edit t path ∙ ap (λ r. and_then r (λ u. Ok (put_config es name u))) refused
+
+-- so does one at a pointer
+pub edit-put : (es : List Entry) (name : List ℕ) (edit : PathEdit) (pointer : List ℕ) (t : Tree) → config_named es name ≡ Some t
+    → configs_after_edit es name edit pointer ≡ and_then (edited_at edit t pointer) (λ u. Ok (put_config es name u))
+edit-put es name edit pointer t there =
+    ap (λ o. and_then (found o) (λ t. and_then (by_path (path_of pointer)) (configs_with_edit es name edit t))) there ∙ by (path_of pointer)
+  where
+    by : (r : Result (List (List ℕ)) PathFault)
+        → and_then (by_path r) (configs_with_edit es name edit t) ≡ and_then (and_then (by_path r) (checked_edit edit t)) (λ u. Ok (put_config es name u))
+    by (Ok path) = with-edit-put es name edit t path
+    by (Err fault) = refl
+
+module _ (es : List Entry) (name : List ℕ) (edit : PathEdit) (pointer : List ℕ) (t : Tree) (there : config_named es name ≡ Some t) where
+  pub edit-made : (u : Tree) → edited_at edit t pointer ≡ Ok u → configs_after_edit es name edit pointer ≡ Ok (put_config es name u)
+  edit-made u made = edit-put es name edit pointer t there ∙ ap (λ r. and_then r (λ u. Ok (put_config es name u))) made
+
+  pub edit-refused : (fault : StoreFault) → edited_at edit t pointer ≡ Err fault → configs_after_edit es name edit pointer ≡ Err fault
+  edit-refused fault refused = edit-put es name edit pointer t there ∙ ap (λ r. and_then r (λ u. Ok (put_config es name u))) refused
+
+-- ---- at the empty path
+
+module _ (es : List Entry) (name path : List ℕ) (empty : path ≡ []) (there : is_some (config_named es name) ≡ true) where
+  -- a set is an import
+  pub set-import : (t : Tree) → configs_after es (set_at name path t) ≡ configs_after es (import_as name t)
+  set-import t = rw empty (by (config_named es name) there)
+    where
+      by : (o : Option Tree) → is_some o ≡ true → and_then (found o) (λ u. with_checked_config es name t) ≡ with_checked_config es name t
+      by (Some u) e = refl
+      by None e = cc
+
+  -- a delete removes the configuration
+  pub delete-cut : configs_after es (delete_at name path) ≡ Ok (cut_config es name)
+  delete-cut = rw empty (by (config_named es name) there)
+    where
+      by : (o : Option Tree) → is_some o ≡ true → and_then (found o) (λ u. Ok (cut_config es name)) ≡ Ok (cut_config es name)
+      by (Some u) e = refl
+      by None e = cc
+
+-- what follows from the second of two cases
+pub or_so : {A B C : Type 0} → (B → C) → A ⊎ B → A ⊎ C
+or_so so (inl a) = inl a
+or_so so (inr b) = inr (so b)

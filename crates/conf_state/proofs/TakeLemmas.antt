@@ -1,0 +1,77 @@
+-- A draft that is taken into a state, in the code's lists and in those of the definitions.
+use Rattle.std.proofs.Common.{◌≡◌, ℕ, true, List, [], ◌∷◌, String, Global, string_bytes, refl, sym, ap, subst, ◌∙◌}
+use Rattle.std.proofs.lemmas.Str.{IsUtf8-string_bytes}
+use Rattle.yaml_data.specs.declared.tree.Tree.{Tree}
+use Rattle.conf_state.specs.Configs.{put_under, put_each, cut_from, cut_each}
+use Rattle.conf_state.specs.Drafts.{cut_all, put_all, texts_of, drafted, IsDraft}
+use Rattle.conf_state.specs.declared.draft.Draft.{Draft}
+use Rattle.conf_state.specs.Kept.{entries_of, ArePlain}
+use Rattle.conf_state.specs.Limits.{AreConfigs}
+use Rattle.conf_state.specs.States.{Entry, names_of, names_differ, put_config, cut_config}
+use Rattle.conf_state.proofs.EntryLemmas.{cut_from-named, plain_cut_from, put_under-named, plain_put_under}
+use Rattle.conf_state.proofs.LimitLemmas.{AreConfigs-put, AreConfigs-cut, names_differ-put, names_differ-cut}
+
+-- ---- the code's lists
+
+pub plain_cut_each : (names : List (String Global)) (es : List (String Global × Tree)) → ArePlain es → ArePlain (cut_each names es)
+plain_cut_each [] es plain = plain
+plain_cut_each (name ∷ names) es plain = plain_cut_each names (cut_from (string_bytes name) es) (plain_cut_from (string_bytes name) es plain)
+
+pub plain_put_each : (ps es : List (String Global × Tree)) → ArePlain ps → ArePlain es → ArePlain (put_each ps es)
+plain_put_each [] es put plain = plain
+plain_put_each (p ∷ ps) es put plain = plain_put_each ps (put_under p.0 p.1 es) put.1 (plain_put_under p.0 p.1 es put.0 plain)
+
+-- names that are taken out take their configurations out
+pub cut_each-named : (names : List (String Global)) (es : List (String Global × Tree)) → ArePlain es
+    → entries_of (cut_each names es) ≡ cut_all (entries_of es) (texts_of names)
+cut_each-named [] es plain = refl
+cut_each-named (name ∷ names) es plain =
+    cut_each-named names (cut_from (string_bytes name) es) (plain_cut_from (string_bytes name) es plain)
+    ∙ ap (λ xs. cut_all xs (texts_of names)) (cut_from-named (string_bytes name) (IsUtf8-string_bytes name) es plain)
+
+-- configurations that are put in are put under their names
+pub put_each-named : (ps es : List (String Global × Tree)) → ArePlain ps → ArePlain es
+    → entries_of (put_each ps es) ≡ put_all (entries_of es) (entries_of ps)
+put_each-named [] es put plain = refl
+put_each-named (p ∷ ps) es put plain =
+    put_each-named ps (put_under p.0 p.1 es) put.1 (plain_put_under p.0 p.1 es put.0 plain)
+    ∙ ap (λ xs. put_all xs (entries_of ps)) (put_under-named p.0 (IsUtf8-string_bytes p.0) p.1 es plain)
+
+-- ---- limits and names
+
+pub AreConfigs-cut_all : (names : List (List ℕ)) (es : List Entry) → AreConfigs es → AreConfigs (cut_all es names)
+AreConfigs-cut_all [] es all = all
+AreConfigs-cut_all (name ∷ names) es all = AreConfigs-cut_all names (cut_config es name) (AreConfigs-cut es name all)
+
+pub AreConfigs-put_all : (ps es : List Entry) → AreConfigs ps → AreConfigs es → AreConfigs (put_all es ps)
+AreConfigs-put_all [] es put all = all
+AreConfigs-put_all (p ∷ ps) es put all = AreConfigs-put_all ps (put_config es p.0 p.1) put.2 (AreConfigs-put es p.0 p.1 put.0 put.1 all)
+
+pub names_differ-cut_all : (names : List (List ℕ)) (es : List Entry) → names_differ (names_of es) ≡ true → names_differ (names_of (cut_all es names)) ≡ true
+names_differ-cut_all [] es differ = differ
+names_differ-cut_all (name ∷ names) es differ = names_differ-cut_all names (cut_config es name) (names_differ-cut es name differ)
+
+pub names_differ-put_all : (ps es : List Entry) → names_differ (names_of es) ≡ true → names_differ (names_of (put_all es ps)) ≡ true
+names_differ-put_all [] es differ = differ
+names_differ-put_all (p ∷ ps) es differ = names_differ-put_all ps (put_config es p.0 p.1) (names_differ-put es p.0 p.1 differ)
+
+-- ---- a draft
+
+module _ (draft : Draft) (good : IsDraft draft) where
+  pub drafted-configs : (es : List Entry) → AreConfigs es → AreConfigs (drafted es draft)
+  drafted-configs es all =
+      AreConfigs-put_all (entries_of draft.touched) (cut_all es (texts_of draft.removed.keys)) good.configs (AreConfigs-cut_all (texts_of draft.removed.keys) es all)
+
+  pub drafted-distinct : (es : List Entry) → names_differ (names_of es) ≡ true → names_differ (names_of (drafted es draft)) ≡ true
+  drafted-distinct es differ =
+      names_differ-put_all (entries_of draft.touched) (cut_all es (texts_of draft.removed.keys)) (names_differ-cut_all (texts_of draft.removed.keys) es differ)
+
+  module _ (es new : List (String Global × Tree)) (plain : ArePlain es) (is : new ≡ put_each draft.touched (cut_each draft.removed.keys es)) where
+    -- taking out what it removes and putting in what it holds makes the draft's configurations
+    pub taken-named : entries_of new ≡ drafted (entries_of es) draft
+    taken-named =
+        ap entries_of is ∙ put_each-named draft.touched (cut_each draft.removed.keys es) good.plain (plain_cut_each draft.removed.keys es plain)
+        ∙ ap (λ xs. put_all xs (entries_of draft.touched)) (cut_each-named draft.removed.keys es plain)
+
+    pub taken-plain : ArePlain new
+    taken-plain = subst ArePlain (sym is) (plain_put_each draft.touched (cut_each draft.removed.keys es) good.plain (plain_cut_each draft.removed.keys es plain))

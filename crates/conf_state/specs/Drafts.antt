@@ -1,0 +1,34 @@
+-- What a batch has made of a state's configurations so far.
+use Rattle.std.specs.Prelude.{◌≡◌, ℕ, true, List, [], ◌∷◌, String}
+use Rattle.std.specs.declared.alloc.Global.{Global}
+use Rattle.conf_state.specs.Commands.{text_of}
+use Rattle.conf_state.specs.Kept.{entries_of, ArePlain}
+use Rattle.conf_state.specs.Limits.{AreConfigs}
+use Rattle.conf_state.specs.States.{Entry, names_of, names_differ, put_config, cut_config}
+use Rattle.conf_state.specs.declared.draft.Draft.{Draft}
+
+-- without the configurations under these names
+abbrev pub cut_all : List Entry → List (List ℕ) → List Entry
+cut_all es [] = es
+cut_all es (name ∷ names) = cut_all (cut_config es name) names
+
+-- with these configurations put in, one after the other
+abbrev pub put_all : List Entry → List Entry → List Entry
+put_all es [] = es
+put_all es (put ∷ puts) = put_all (put_config es put.0 put.1) puts
+
+-- the characters of each string
+abbrev pub texts_of : List (String Global) → List (List ℕ)
+texts_of [] = []
+texts_of (text ∷ texts) = text_of text ∷ texts_of texts
+
+-- the configurations that a draft makes of those of a state
+abbrev pub drafted : List Entry → Draft → List Entry
+drafted es draft = put_all (cut_all es (texts_of draft.removed.keys)) (entries_of draft.touched)
+
+-- what a draft holds is good, and no name comes twice
+pub record IsDraft (draft : Draft) : Type 0 where
+  pub plain : ArePlain draft.touched
+  pub configs : AreConfigs (entries_of draft.touched)
+  pub distinct : names_differ (names_of (entries_of draft.touched)) ≡ true
+  pub removed : names_differ (texts_of draft.removed.keys) ≡ true

@@ -1,0 +1,70 @@
+// Edits inside one configuration, within its limits.
+ghost use Rattle.std.specs.Prelude.{◌≡◌, ◌⊎◌, ◌<◌, Ok, Err, OnOk, IfOk, IfErr, length};
+ghost use Rattle.std.specs.Str.{chars};
+ghost use Rattle.yaml_grammar.specs.Reads.{Good};
+ghost use Rattle.yaml_data.specs.Seen.{tree_of};
+ghost use Rattle.yaml_config.specs.Limits.{config_limits};
+ghost use Rattle.conf_state.specs.Edits.{checked_edit, edited_at, IsPlan};
+
+use crate::fault::StoreFault;
+use std::alloc::Global;
+use tree_path::Path;
+use yaml_config::{Change, Config, Edit as PathEdit, Limits};
+
+/// How many bytes a configuration has in the one style after an edit, what changes in its length, and the place of the
+/// last key of the edit's path.
+#[derive(Clone, Copy)]
+pub(crate) struct EditPlan {
+    pub(crate) bytes: u64,
+    pub(crate) change: Change,
+    pub(crate) place: Option<usize>,
+}
+
+/// Makes an edit inside a configuration, in place, at a pointer that is not empty. The fault is that of the pointer or
+/// the path, `TooDeep` or `ConfigLarge`.
+pub(crate) fn edit_config(
+    alloc: Global,
+    config: &mut Config,
+    pointer: &str,
+    edit: PathEdit,
+) -> Result<(), StoreFault>
+    requires within { Good (tree_of config.old) config_limits }
+    requires steps { 0 < length pointer.now }
+    ensures ok { OnOk result (edited_at edit (tree_of config.old) (chars pointer.now)
+        ≡ Ok (tree_of config.new)) }
+    ensures within { OnOk result (Good (tree_of config.new) config_limits) }
+    ensures refused { IfErr result (λ fault. (fault ≡ StoreFault.OutOfMemory)
+        ⊎ (edited_at edit (tree_of config.old) (chars pointer.now) ≡ Err fault)) }
+{
+    let path = Path::parse(alloc, pointer)?;
+    let plan = plan_edit(config, &path, &edit)?;
+    edit.perform(alloc, config, &path, plan.place, plan.bytes)?;
+    Ok(())
+}
+
+/// The plan of an edit of a configuration, if it then keeps its limits.
+pub(crate) fn plan_edit(
+    config: &Config,
+    path: &Path,
+    edit: &PathEdit,
+) -> Result<EditPlan, StoreFault>
+    requires within { Good (tree_of config.now) config_limits }
+    requires steps { 0 < length path.now }
+    ensures ok { IfOk result (IsPlan edit.now (tree_of config.now) path.now) }
+    ensures refused { IfErr result (λ fault. (fault ≡ StoreFault.OutOfMemory)
+        ⊎ (checked_edit edit.now (tree_of config.now) path.now ≡ Err fault)) }
+{
+    let plan = edit.plan(config, path)?;
+    if !edit.keeps_depth(path) {
+        return Err(StoreFault::TooDeep);
+    }
+    let bytes = plan.change.length_after(config.style_length(), 0);
+    if bytes > u128::from(Limits::CONFIGURATION.style) {
+        return Err(StoreFault::ConfigLarge);
+    }
+    Ok(EditPlan {
+        bytes: bytes as u64,
+        change: plan.change,
+        place: plan.place,
+    })
+}
