@@ -19,7 +19,6 @@ import tempfile
 TOP = os.path.dirname(os.path.dirname(os.path.abspath(__file__)))
 PROGRAM = os.path.join(TOP, "crates", "confstore", "out", "confstore")
 SIZES = [64 * 1024, 256 * 1024, 1024 * 1024]
-# In the one style some texts grow: the inputs are cut so that the style's limit of 1 MiB isn't passed.
 FORMS = {
     "plain words": lambda i: f"key-{i:07}: value/of.{i:07}\n",
     "double quotes": lambda i: f'key-{i:07}: "the value of key {i}, as text"\n',

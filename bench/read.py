@@ -164,7 +164,7 @@ def compare(work, path, peers, counts_instructions):
 
 
 def style_limited(folder, make):
-    """A file with a text of a corpus whose text in the one style is within the limit of 1 MiB."""
+    """A file with a text of a corpus whose text in the one style has at most 1 MiB."""
     size = MIB
     while True:
         path = written(folder, make(size))

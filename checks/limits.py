@@ -3,7 +3,7 @@
 
 - A session of exactly 1,073,741,824 bytes is answered whole. With one byte more it ends with `SessionLong`, after all
   answers.
-- A store is filled by records of nearly 1 MiB until `store.yaml` has exactly 1,073,741,824 bytes. Before and after
+- A store is filled by records of nearly 4 MiB until `store.yaml` has exactly 1,073,741,824 bytes. Before and after
   that, a command that would make it longer is refused by `JournalLong`, and changes nothing. The file is opened, a
   checkpoint makes it short, and commands go on.
 - The same file with one byte more is no store, and stays as it is.
@@ -24,8 +24,8 @@ import tempfile
 from lib.store_runs import EMPTY, PROGRAM, Failures, need_program, read_file, session
 
 SESSION_LIMIT = STORE_LIMIT = 1_073_741_824
-PIECE_LIMIT = 4_194_304
-CONFIG_LIMIT = 1_048_576
+PIECE_LIMIT = 16_777_216
+CONFIG_LIMIT = 4_194_304
 
 CLOSING = b"...\n"
 BAD_COMMAND = b"---\nrefused: BadCommand\n...\n"

@@ -7,3 +7,5 @@ pub mod DocumentLemmas
 pub mod FieldLemmas
 pub mod PieceLemmas
 pub mod TreeLemmas
+pub mod WrittenLemmas
+pub mod EditLines

@@ -1,4 +1,6 @@
 pub mod Records
 pub mod RecordsRead
+pub mod SmallCommands
 pub mod Documents
 pub mod Reading
+pub mod Written

@@ -7,19 +7,16 @@ ghost use Rattle.conf_record.specs.RecordsRead.{entries};
 ghost use Rattle.conf_record.specs.Reading.{AreKept, trees_of};
 
 use std::alloc::{AllocError, Global};
-use yaml_tree::{ByteCount, Config, Text, Tree, write_style};
+use yaml_tree::{Config, Size, Text, Tree};
 
-/// A part of a configuration's tree as a configuration of its own, which keeps all limits of a [`Config`] too. Its
-/// length is counted. It takes no memory.
+/// A part of a configuration's tree as a configuration of its own, which keeps all limits of a [`Config`] too. Its size
+/// is counted, and kept with it. It takes no memory.
 pub fn part(tree: Tree) -> Config
     requires { IsKept (tree_of tree) }
     ensures { result ≡ tree }
 {
-    let mut bytes = ByteCount::new();
-    match write_style(&tree, &mut bytes) {
-        Ok(()) => Config::from_parts(tree, bytes.total() as u64),
-        Err(never) => match never {},
-    }
+    let size = Size::of_element(&tree);
+    Config::with_size(tree, size)
 }
 
 /// The same for the values of a mapping, under their keys. It fails only if memory runs out.

@@ -147,7 +147,7 @@ accepted need_room counts are_read close s new command room bytes size kept kept
     let fits = room-fits (is_batch command) (length (next_record s command)) size (sym is_room ∙ enough) in
     let number : next_number s ≡ s.count + 1 = accepted-number counts s new command room done kept_new in
     let small : next_number s ≤ count_limit = omega arith in
-    let one = are_read s new command room (next_number s) kept (made enough).0 done (fits-record command (next_number s) fits.1) small in
+    let one = are_read s new command room (next_number s) kept (made enough).0 done small (fits-record command (next_number s) fits.1) in
     record {
       outcome = ap (step s command) (sym is_room) ∙ done;
       done = accepted-anyway need_room s new command room done;

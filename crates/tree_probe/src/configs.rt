@@ -3,7 +3,7 @@ use crate::builds::{build_nested, build_pairs, build_sequences, build_text, buil
 use crate::faults::{check_fault, fault_of, sentence_of};
 use probe_words::{no_order, no_place, shown, text_of};
 use std::alloc::{AllocError, Global};
-use yaml_tree::{Config, Size, Text, Tree, style_len};
+use yaml_tree::{Config, Limits, Size, Text, Tree, style_len};
 
 /// The answer to an order of the group.
 pub(crate) fn answer(alloc: Global, tree: &mut Tree, order: &str) -> Result<String, AllocError> {
@@ -58,7 +58,10 @@ fn is_deeper(alloc: Global, tree: &Tree, depth: &str) -> Result<String, AllocErr
 /// The length of the tree in the one style, if it is at most `most`.
 fn length_to(alloc: Global, tree: &Tree, most: &str) -> Result<String, AllocError> {
     match most.parse::<u64>() {
-        Ok(most) if !tree.is_deeper_than(66) => shown(alloc, &style_len(tree, most)),
+        Ok(most) if !tree.is_deeper_than(Limits::KEPT.depth as u8) => shown(
+            alloc,
+            &style_len(tree, most),
+        ),
         _ => no_place(alloc),
     }
 }
@@ -81,7 +84,7 @@ fn configured(alloc: Global, tree: &mut Tree) -> Result<String, AllocError> {
 
 /// The length of the configuration that a copy of the tree is, and what a copy of that is.
 fn copied(alloc: Global, tree: &Tree) -> Result<String, AllocError> {
-    if tree.is_deeper_than(66) {
+    if tree.is_deeper_than(Limits::KEPT.depth as u8) {
         return no_place(alloc);
     }
     let Ok(config) = Config::new(alloc, tree.try_copy(alloc)?) else {

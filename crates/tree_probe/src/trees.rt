@@ -107,7 +107,7 @@ fn reading_of(alloc: Global, depth: &str, text: &str) -> Result<String, AllocErr
     let text = meant(alloc, text)?;
     let depth = depth.parse::<u64>().unwrap_or(0);
     let limits = Limits {
-        depth: depth.min(66),
+        depth: depth.min(Limits::KEPT.depth),
         ..Limits::CONFIGURATION
     };
     match read_one(alloc, text.as_bytes(), &limits) {

@@ -198,7 +198,7 @@ pub delete-shallow : (t w : Tree) (path : List (List ℕ)) → delete t path ≡
 delete-shallow t w [] is = let same : t ≡ w = cc in let deep = ap depth same in omega arith
 delete-shallow t w (token ∷ tokens) is = delete_from-shallow tokens 1 t w token is
 
--- ---- whether it is at most 64 deep
+-- ---- whether it keeps the limit of depth
 
 -- the depth of the path and the value decides whether a set keeps the limit
 pub set-fits : (t v w : Tree) (path : List (List ℕ)) → depth t ≤ config_limits.depth → set t path v ≡ Ok w → nat_le (length path + depth v) config_limits.depth ≡ nat_le (depth w) config_limits.depth

@@ -20,7 +20,7 @@ use yaml_writer::{Size, style_len};
 /// The bytes of the empty text in the one style, `""` and a line feed.
 const EMPTY_LENGTH: u64 = 3;
 
-/// A tree in whose mappings no key comes twice, which is at most 66 deep and has at most 67,108,864 bytes in the one
+/// A tree in whose mappings no key comes twice, which is at most 131 deep and has at most 67,108,864 bytes in the one
 /// style. Its length in the one style is kept with it, and how many of its lines are indented, where that was counted.
 /// Contracts see the tree.
 #[derive(Debug, Drop)]
@@ -60,7 +60,7 @@ impl Config {
     /// The tree is returned with the first of these faults that holds:
     ///
     /// - [`ReadFault::KeyTwice`] if a mapping holds a key twice.
-    /// - [`ReadFault::TooDeep`] if the tree is more than 66 deep.
+    /// - [`ReadFault::TooDeep`] if the tree is more than 131 deep.
     /// - [`ReadFault::LargeInStyle`] if it has more than 67,108,864 bytes in the one style.
     ///
     /// [`ReadFault::OutOfMemory`] may come at any point: keys are looked up in memory.
@@ -178,7 +178,7 @@ impl Config {
         }
     }
 
-    /// How deep the tree is, at most 66, as [`Tree::depth`] counts.
+    /// How deep the tree is, at most 131, as [`Tree::depth`] counts.
     pub fn depth(&self) -> u64
         ensures depth { result ≡ depth (tree_of self.now) }
         ensures kept { IsKept (tree_of self.now) }

@@ -52,7 +52,7 @@ impl Edit {
         }
     }
 
-    /// Whether a configuration that is at most 64 deep is so after the edit too.
+    /// Whether a configuration that keeps the limit of depth ([`Limits::CONFIGURATION`]) keeps it after the edit too.
     pub fn keeps_depth(&self, path: &Path) -> bool
         ensures { (t new : Meant) → depth t ≤ config_limits.depth
             → tree_after_edit self.now t path.now ≡ Ok new

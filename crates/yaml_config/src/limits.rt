@@ -15,19 +15,19 @@ pub struct Limits {
 }
 
 impl Limits {
-    /// The limits of a configuration: as a text, and in the one style, it has at most 1,048,576 bytes, and it is at
-    /// most 64 deep.
+    /// The limits of a configuration: as a text, and in the one style, it has at most 4,194,304 bytes, and it is at
+    /// most 128 deep.
     pub const CONFIGURATION: Limits = Limits {
-        bytes: 1_048_576,
-        depth: 64,
-        style: 1_048_576,
+        bytes: 4_194_304,
+        depth: 128,
+        style: 4_194_304,
     };
 
-    /// The limits that every [`Config`](crate::Config) keeps: it is at most 66 deep, and has at most 67,108,864 bytes
+    /// The limits that every [`Config`](crate::Config) keeps: it is at most 131 deep, and has at most 67,108,864 bytes
     /// in the one style. A text that is read within them has at most 67,108,864 bytes too.
     pub const KEPT: Limits = Limits {
         bytes: 67_108_864,
-        depth: 66,
+        depth: 131,
         style: 67_108_864,
     };
 }

@@ -41,7 +41,7 @@ impl Tree {
     }
 
     /// How deep the tree is: a text has 1, a collection 1 more than its deepest value, or 1 if it is empty. Keys
-    /// don't count. The call stack grows with the depth, which therefore is at most 66;
+    /// don't count. The call stack grows with the depth, which therefore is at most 131;
     /// [`is_deeper_than`](Tree::is_deeper_than) tests that.
     pub fn depth(&self) -> u64
         requires { depth (tree_of self.now) ≤ own_limits.depth }
@@ -51,7 +51,7 @@ impl Tree {
     }
 
     /// A copy: a tree of the same texts in the same order. It fails only if memory runs out. The call stack grows with
-    /// the depth, which therefore is at most 66; [`is_deeper_than`](Tree::is_deeper_than) tests that.
+    /// the depth, which therefore is at most 131; [`is_deeper_than`](Tree::is_deeper_than) tests that.
     pub fn try_copy(&self, alloc: Global) -> Result<Tree, AllocError>
         requires { depth (tree_of self.now) ≤ own_limits.depth }
         ensures { IfOk result (λ copy. tree_of copy ≡ tree_of self.now) }

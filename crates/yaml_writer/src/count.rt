@@ -184,7 +184,7 @@ impl Sink for ByteBudget {
 }
 
 /// How many bytes a tree has in the one style; `None` if it has more than `max`. It takes no memory. The call
-/// stack grows with the depth, which therefore is at most 66; [`is_deeper_than`](Tree::is_deeper_than) tests that.
+/// stack grows with the depth, which therefore is at most 131; [`is_deeper_than`](Tree::is_deeper_than) tests that.
 pub fn style_len(tree: &Tree, max: u64) -> Option<u64>
     requires { depth (tree_of tree.now) ≤ own_limits.depth }
     ensures { SomeIff result

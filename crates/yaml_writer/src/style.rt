@@ -16,7 +16,7 @@ use crate::sink::Sink;
 use yaml_data::{Text, Tree};
 
 /// Writes a tree in the one style: the text, with the end of its last line. It fails only if the sink does. The call
-/// stack grows with the depth, which therefore is at most 66; [`is_deeper_than`](Tree::is_deeper_than) tests that.
+/// stack grows with the depth, which therefore is at most 131; [`is_deeper_than`](Tree::is_deeper_than) tests that.
 pub fn write_style<S: Sink>(tree: &Tree, sink: &mut S) -> Result<(), S::Fault>
     requires { depth (tree_of tree.now) ≤ own_limits.depth }
     ensures { OnOk result (S.Takes sink.old (style_text (tree_of tree.now)) sink.new) }
@@ -161,11 +161,11 @@ fn write_members<S: Sink>(pairs: &[(Text, Tree)], indent: u64, sink: &mut S) -> 
 }
 
 /// Writes a value after the `:` of its key, with the end of its last line. The key's line is indented by `indent`
-/// spaces, and 132 more fit in a `u64`. It fails only if the sink does. The call stack grows with the depth, which
-/// therefore is at most 66; [`is_deeper_than`](Tree::is_deeper_than) tests that.
+/// spaces, and 262 more fit in a `u64`. It fails only if the sink does. The call stack grows with the depth, which
+/// therefore is at most 131; [`is_deeper_than`](Tree::is_deeper_than) tests that.
 pub fn write_value<S: Sink>(tree: &Tree, indent: u64, sink: &mut S) -> Result<(), S::Fault>
     requires deep { depth (tree_of tree.now) ≤ own_limits.depth }
-    requires room { indent + 132 < 2 ^ 64 }
+    requires room { indent + 2 * own_limits.depth < 2 ^ 64 }
     ensures { OnOk result (S.Takes sink.old (value_at (tree_of tree.now) indent) sink.new) }
 {
     write_value_lines(tree, indent, sink)

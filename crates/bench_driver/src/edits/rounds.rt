@@ -4,13 +4,13 @@ use crate::failed::Failed;
 use conf_state::{Command, Room, State, step};
 use std::alloc::{AllocError, Global};
 use tree_path::{Path, delete, set};
-use yaml_tree::{Config, Text, Tree, style_len};
+use yaml_tree::{Config, Limits, Text, Tree, style_len};
 
 /// The greatest depth of a tree whose length is printed.
-const DEEPEST: u8 = 66;
+const DEEPEST: u8 = Limits::KEPT.depth as u8;
 
 /// How many bytes the tree of an order has in the one style, before its edits.
-/// It fails if the tree is deeper than 66 or longer than 2^64 - 1 bytes, or memory runs out.
+/// It fails if the tree is deeper than 131 or longer than 2^64 - 1 bytes, or memory runs out.
 pub(crate) fn length_in_style(alloc: Global, order: &Order) -> Result<u64, Failed> {
     let tree = order.shape.tree(alloc)?;
     if tree.is_deeper_than(DEEPEST) {

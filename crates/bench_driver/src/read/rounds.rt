@@ -8,8 +8,8 @@ use yaml_tree::{Limits, read_one};
 /// The limits of a text that is read to its tree: any length, and the greatest limits of a tree.
 const LIMITS: Limits = Limits {
     bytes: u64::MAX,
-    depth: 66,
-    style: 67_108_864,
+    depth: Limits::KEPT.depth,
+    style: Limits::KEPT.style,
 };
 
 /// Reads a file `rounds` times, at least once, and prints what the last reading gave.
